@@ -1,0 +1,4 @@
+pub mod Faults
+pub mod Taking
+pub mod Writing
+pub mod Memory

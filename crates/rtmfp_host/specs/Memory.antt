@@ -1,0 +1,20 @@
+-- What the sources and sinks in memory hold.
+use Rattle.std.specs.Prelude.{ℕ, List, drop, Option, Some, None, if◌then◌else◌}
+use Rattle.rtmfp_host.specs.declared.memory_source.MemorySource.{MemorySource}
+use Rattle.rtmfp_host.specs.declared.memory_source.FaultySource.{FaultySource}
+use Rattle.rtmfp_host.specs.declared.memory_sink.MemorySink.{MemorySink}
+use Rattle.rtmfp_host.specs.declared.memory_sink.FaultySink.{FaultySink}
+
+-- the bytes that are left
+abbrev pub source_left : MemorySource → List ℕ
+source_left s = drop s.at s.bytes.items
+
+abbrev pub faulty_source_left : FaultySource → List ℕ
+faulty_source_left s = source_left s.source
+
+-- the bytes that were taken, as long as they were all kept
+abbrev pub sink_written : MemorySink → Option (List ℕ)
+sink_written s = if s.whole then Some s.bytes.items else None
+
+abbrev pub faulty_sink_written : FaultySink → Option (List ℕ)
+faulty_sink_written s = sink_written s.sink

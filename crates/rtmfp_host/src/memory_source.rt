@@ -1,0 +1,100 @@
+//! Sources over bytes in memory.
+ghost use Rattle.std.specs.Prelude.{◌≡◌, ◌+◌, ◌-◌, ◌^◌, ◌<◌, ◌≤◌, [], length, take, drop, min, Some, None};
+
+use crate::{Source, Taken};
+
+/// Bytes in memory. It never fails: its count of faults is 0.
+#[derive(Drop)]
+pub struct MemorySource {
+    bytes: Vec<u8>,
+    at: usize,
+    piece: usize,
+    ghost within: { at ≤ length bytes.items },
+    ghost some_piece: { 0 < piece },
+}
+
+impl MemorySource {
+    ghost use Rattle.rtmfp_host.specs.Memory.{source_left};
+
+    /// A source that gives these bytes, as many at a time as the reader asks for.
+    pub fn new(bytes: Vec<u8>) -> MemorySource
+        ensures { source_left result ≡ bytes.items }
+    {
+        MemorySource::in_pieces(bytes, usize::MAX)
+    }
+
+    /// A source that gives these bytes, at most `piece` at a time.
+    pub fn in_pieces(bytes: Vec<u8>, piece: usize) -> MemorySource
+        requires { 0 < piece }
+        ensures { source_left result ≡ bytes.items }
+    {
+        MemorySource {
+            bytes,
+            at: 0,
+            piece,
+        }
+    }
+}
+
+impl Source for MemorySource {
+    ghost use Rattle.rtmfp_host.specs.Memory.{source_left};
+
+    ghost left = { λ s. Some (source_left s) };
+
+    ghost faults = { λ _. 0 };
+
+    fn read(&mut self, buf: &mut [u8]) -> Taken {
+        let rest = &self.bytes[self.at..];
+        let count = rest.len().min(self.piece).min(buf.len());
+        if count == 0 {
+            return Taken::End;
+        }
+        buf[..count].copy_from_slice(&rest[..count]);
+        self.at += count;
+        Taken::Done(count)
+    }
+}
+
+/// Bytes in memory, and a list of calls that are to fail, counted from 1.
+#[derive(Drop)]
+pub struct FaultySource {
+    source: MemorySource,
+    failing: Vec<u64>,
+    calls: u64,
+    faults: u64,
+}
+
+impl FaultySource {
+    ghost use Rattle.rtmfp_host.specs.Memory.{source_left, faulty_source_left};
+
+    /// A source that gives what `source` gives, and whose calls with these numbers fail.
+    pub fn new(source: MemorySource, failing: Vec<u64>) -> FaultySource
+        ensures left { faulty_source_left result ≡ source_left source }
+        ensures calls { result.calls ≡ 0 }
+        ensures faults { result.faults ≡ 0 }
+    {
+        FaultySource {
+            source,
+            failing,
+            calls: 0,
+            faults: 0,
+        }
+    }
+}
+
+impl Source for FaultySource {
+    ghost use Rattle.rtmfp_host.specs.Memory.{faulty_source_left};
+
+    ghost left = { λ s. Some (faulty_source_left s) };
+
+    ghost faults = { λ s. s.faults };
+
+    fn read(&mut self, buf: &mut [u8]) -> Taken {
+        self.calls = self.calls.saturating_add(1);
+        if self.failing.contains(&self.calls) {
+            self.faults = self.faults.saturating_add(1);
+            return Taken::Failed;
+        }
+        self.source.read(buf)
+    }
+}

@@ -1,0 +1,38 @@
+//! Where bytes go.
+ghost use Rattle.std.specs.Prelude.{◌≡◌, ◌≤◌, List, ℕ, Option, []};
+ghost use Rattle.rtmfp_host.specs.Faults.{Rose};
+ghost use Rattle.rtmfp_host.specs.Writing.{Writes, Appends};
+
+/// What one write did.
+#[derive(Clone, Copy, Debug, PartialEq, Eq)]
+pub enum Wrote {
+    /// All the bytes were taken.
+    Done,
+    /// The outside failed after a prefix of the bytes, and its count of faults has risen.
+    Failed,
+}
+
+/// A sink of bytes (own).
+pub trait Sink {
+    /// The bytes that were taken, where the sink tells them. A sink that has told them may stop
+    /// telling; it doesn't begin again.
+    ghost written: { Self → Option (List ℕ) };
+
+    /// How often the sink has failed. The count stands still at the end of a `u64`.
+    ghost faults: { Self → ℕ };
+
+    /// Takes the bytes, all of them or a prefix.
+    fn write(&mut self, bytes: &[u8]) -> Wrote
+        ensures bytes { Writes (written self.old) (written self.new) result bytes.now }
+        ensures later { faults self.old ≤ faults self.new }
+        ensures failed { result ≡ Wrote.Failed → Rose (faults self.old) (faults self.new) };
+
+    /// Passes on what a buffer of the sink may still hold. What was taken stays taken.
+    fn flush(&mut self) -> Wrote
+        ensures bytes { Appends (written self.old) (written self.new) [] }
+        ensures later { faults self.old ≤ faults self.new }
+        ensures failed { result ≡ Wrote.Failed → Rose (faults self.old) (faults self.new) }
+    {
+        Wrote::Done
+    }
+}

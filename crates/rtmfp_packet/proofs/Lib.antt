@@ -1,0 +1,4 @@
+pub mod Walking
+pub mod Heads
+pub mod Bodies
+pub mod Readings
