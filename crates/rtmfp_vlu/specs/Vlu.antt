@@ -1,7 +1,7 @@
 -- Variable-length unsigned integers (RFC 7016 section 2.1.2): seven bits of the number in each byte, the
 -- most significant first, and the high bit set on every byte but the last. Own: at most ten bytes, and
 -- numbers below 2 ^ 64.
-use Rattle.std.specs.Prelude.{◌≡◌, ◌≢◌, ℕ, ◌+◌, ◌*◌, ◌%◌, ◌^◌, ◌<◌, ◌≤◌, ◌⊎◌, List, [], ◌∷◌, length, take}
+use Rattle.std.specs.Prelude.{◌≡◌, ◌≢◌, ℕ, zero, suc, ◌+◌, ◌++◌, ◌*◌, ◌/◌, ◌%◌, ◌^◌, ◌<◌, ◌≤◌, ◌⊎◌, List, [], ◌∷◌, length, take}
 use Rattle.std.specs.List.{AllByRecursion}
 
 -- the low seven bits of each byte, times 128 to the power of the number of bytes after it
@@ -52,3 +52,13 @@ abbrev pub IsLarge : List ℕ → Type 0
 IsLarge b =
     ((10 ≤ length b) × AllContinued (take 10 b))
     ⊎ ((n : ℕ) × EndsAt n b × (2 ^ 64 ≤ value (take n b)))
+
+-- the groups of a number before the last one, of which there are at most count, and none before the first that counts
+unfoldable pub groups_before : ℕ → ℕ → List ℕ
+groups_before zero v = []
+groups_before (suc count) zero = []
+groups_before (suc count) (suc v) = groups_before count (suc v / 128) ++ (128 + suc v % 128) ∷ []
+
+-- the shortest spelling of a number below 2 ^ 64
+unfoldable pub vlu : ℕ → List ℕ
+vlu v = groups_before 9 (v / 128) ++ (v % 128) ∷ []

@@ -2,5 +2,10 @@
 #![tactic(auto)]
 
 mod reading;
+mod writing;
 
 pub use reading::{VluFault, read_vlu};
+pub use writing::{vlu_len, write_vlu};
+
+#[cfg(test)]
+mod tests;
