@@ -1,0 +1,6 @@
+pub mod Values
+pub mod Spellings
+pub mod Groups
+pub mod Shortest
+pub mod Tails
+pub mod Fields

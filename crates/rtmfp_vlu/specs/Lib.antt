@@ -1,0 +1,2 @@
+pub mod Vlu
+pub mod Decoding
