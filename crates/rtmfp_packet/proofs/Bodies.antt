@@ -1,11 +1,11 @@
 -- A walk finds the chunks and the padding that the bytes spell, and no others.
-use Rattle.std.proofs.Common.{◌≡◌, ℕ, suc, zero, ◌+◌, ◌-◌, ◌*◌, ◌^◌, ◌<◌, ◌≤◌, ◌/◌, ◌%◌, ◌⊎◌, inl, inr, List, [], ◌∷◌, ◌++◌, length, take, drop, refl, sym, ap, ◌∙◌, arith, length-drop, append_assoc, subst}
+use Rattle.std.proofs.Common.{◌≡◌, ℕ, suc, zero, ◌+◌, ◌*◌, ◌^◌, ◌<◌, ◌≤◌, ◌/◌, ◌%◌, inl, inr, List, [], ◌∷◌, ◌++◌, length, take, drop, refl, sym, ap, ◌∙◌, arith, length-drop, append_assoc, subst}
 use Rattle.std.proofs.lemmas.Bool.{cases_lt}
 use Rattle.std.proofs.lemmas.List.{length-take-le, take-append-drop, drop_at, take_at, length-append}
 use Rattle.std.specs.List.{AllByRecursion, flat_map}
 use Rattle.std.specs.Int.{to_be_bytes, w16}
 use Rattle.rtmfp_packet.specs.Spelling.{Chunk, IsChunk, IsPadding, chunk_bytes}
-use Rattle.rtmfp_packet.specs.Walk.{Body, walk, body_of, then_body, only_padding}
+use Rattle.rtmfp_packet.specs.Walk.{Body, body_of, then_body}
 use Rattle.rtmfp_packet.proofs.Walking.{body_of-chunk, body_of-padding}
 
 abbrev pub AreBytes : List ℕ → Type 0
@@ -47,14 +47,14 @@ chunk_is_body k h l rest kind high low le later =
     let size : length payload ≡ len = length-take-le len rest le in
     let head : to_be_bytes w16 (length payload) ≡ h ∷ l ∷ [] = ap (to_be_bytes w16) size ∙ be16_of h l high low in
     let whole : rest ≡ payload ++ (flat_map chunk_bytes body.chunks ++ body.padding) =
-      sym (take-append-drop len rest) ∙ ap (λ xs. payload ++ xs) later.joined in
+    sym (take-append-drop len rest) ∙ ap (λ xs. payload ++ xs) later.joined in
     let P : Body → Type 0 = λ b. IsBodyOf b (k ∷ h ∷ l ∷ rest) in
     subst P (sym (body_of-chunk k h l rest le)) record {
       joined =
-        ap (λ xs. k ∷ h ∷ l ∷ xs) whole
-        ∙ ap (λ xs. k ∷ (xs ++ (payload ++ (flat_map chunk_bytes body.chunks ++ body.padding)))) (sym head)
-        ∙ ap (λ xs. k ∷ xs) (sym (append_assoc (to_be_bytes w16 (length payload)) payload (flat_map chunk_bytes body.chunks ++ body.padding)))
-        ∙ sym (append_assoc (k ∷ (to_be_bytes w16 (length payload) ++ payload)) (flat_map chunk_bytes body.chunks) body.padding);
+          ap (λ xs. k ∷ h ∷ l ∷ xs) whole
+          ∙ ap (λ xs. k ∷ (xs ++ (payload ++ (flat_map chunk_bytes body.chunks ++ body.padding)))) (sym head)
+          ∙ ap (λ xs. k ∷ xs) (sym (append_assoc (to_be_bytes w16 (length payload)) payload (flat_map chunk_bytes body.chunks ++ body.padding)))
+          ∙ sym (append_assoc (k ∷ (to_be_bytes w16 (length payload) ++ payload)) (flat_map chunk_bytes body.chunks) body.padding);
       each = (record { kind = kind; size = omega (arith, size) }, later.each);
       is_padding = later.is_padding;
     }
@@ -68,7 +68,7 @@ bytes_are_body (suc n) (k ∷ h ∷ l ∷ rest) le all =
     elim (cases_lt (length rest) (h * 256 + l)) [
       | inl short ↦ padding_is_body (k ∷ h ∷ l ∷ rest) short
       | inr whole ↦ chunk_is_body k h l rest all.0 all.1.0 all.1.1.0 whole
-        (bytes_are_body n (drop (h * 256 + l) rest) (omega (arith, length-drop (h * 256 + l) rest)) (dropped (λ x. x < 256) (h * 256 + l) rest all.1.1.1))
+          (bytes_are_body n (drop (h * 256 + l) rest) (omega (arith, length-drop (h * 256 + l) rest)) (dropped (λ x. x < 256) (h * 256 + l) rest all.1.1.1))
     ]
 
 -- the walk over bytes finds a body that they spell

@@ -1,5 +1,5 @@
 -- The parts of a head make a spelling of it.
-use Rattle.std.proofs.Common.{◌≡◌, ℕ, ◌+◌, ◌/◌, ◌%◌, ◌^◌, ◌<◌, Bool, List, ◌∷◌, ◌++◌, length, Option, Some, None, is_some, refl, sym, ap, ◌∙◌, append_assoc, arith, subst}
+use Rattle.std.proofs.Common.{◌≡◌, ℕ, ◌+◌, ◌/◌, ◌%◌, ◌<◌, Bool, List, ◌∷◌, ◌++◌, length, Option, Some, None, is_some, refl, sym, ap, ◌∙◌, append_assoc, arith, subst}
 use Rattle.std.proofs.lemmas.List.{length-append}
 use Rattle.rtmfp_packet.specs.declared.head.Mode.{Mode}
 use Rattle.rtmfp_packet.specs.declared.head.Mode.TheVariants.{Initiator, Responder, Startup}
@@ -9,10 +9,11 @@ use Rattle.rtmfp_packet.specs.Head.{HeadSpells, FlagsTell, IsModeZero, IsShortSt
 pub head_spelled : (flags : ℕ) (head : PacketHead) (b after rest : List ℕ) → FlagsTell flags head → IsStamp head.stamp → IsStamp head.echo →
     b ≡ stamp_bytes head.stamp ++ after → after ≡ stamp_bytes head.echo ++ rest →
     (front : List ℕ) × HeadSpells head front × (flags ∷ b ≡ front ++ rest)
-head_spelled flags head b after rest tell stamp echo first second =
-    (flags ∷ (stamp_bytes head.stamp ++ stamp_bytes head.echo),
-      record { flags = flags; tell = tell; stamp = stamp; echo = echo; joined = refl },
-      ap (λ xs. flags ∷ xs) (first ∙ ap (λ xs. stamp_bytes head.stamp ++ xs) second ∙ sym (append_assoc (stamp_bytes head.stamp) (stamp_bytes head.echo) rest)))
+head_spelled flags head b after rest tell stamp echo first second = (
+  flags ∷ (stamp_bytes head.stamp ++ stamp_bytes head.echo),
+  record { flags = flags; tell = tell; stamp = stamp; echo = echo; joined = refl },
+  ap (λ xs. flags ∷ xs) (first ∙ ap (λ xs. stamp_bytes head.stamp ++ xs) second ∙ sym (append_assoc (stamp_bytes head.stamp) (stamp_bytes head.echo) rest)),
+)
 
 stamp_same : (a b : Option ℕ) (r s : List ℕ) → is_some a ≡ is_some b → IsStamp a → IsStamp b → stamp_bytes a ++ r ≡ stamp_bytes b ++ s → (a ≡ b) × (r ≡ s)
 stamp_same None None r s i p q e = (refl, e)
@@ -69,7 +70,7 @@ stamps_not_short flags stamp echo r p q short =
 pub head_same : (a b : PacketHead) (front back r s : List ℕ) → HeadSpells a front → HeadSpells b back → front ++ r ≡ back ++ s → (a ≡ b) × (r ≡ s)
 head_same a b front back r s p q e =
     let heads : p.flags ∷ ((stamp_bytes a.stamp ++ stamp_bytes a.echo) ++ r) ≡ q.flags ∷ ((stamp_bytes b.stamp ++ stamp_bytes b.echo) ++ s) =
-      ap (λ xs. xs ++ r) (sym p.joined) ∙ e ∙ ap (λ xs. xs ++ s) q.joined in
+    ap (λ xs. xs ++ r) (sym p.joined) ∙ e ∙ ap (λ xs. xs ++ s) q.joined in
     let flags : p.flags ≡ q.flags = cc in
     let rest : (stamp_bytes a.stamp ++ stamp_bytes a.echo) ++ r ≡ (stamp_bytes b.stamp ++ stamp_bytes b.echo) ++ s = cc in
     let T : ℕ → Type 0 = λ x. FlagsTell x a in

@@ -1,8 +1,8 @@
 -- One step of a walk over chunks.
-use Rattle.std.proofs.Common.{◌≡◌, ℕ, suc, zero, ◌+◌, ◌-◌, ◌*◌, ◌≤◌, ◌<◌, List, [], ◌∷◌, length, take, drop, get_or, if◌then◌else◌, nat_le, refl, sym, ap, ◌∙◌, arith, length-drop}
+use Rattle.std.proofs.Common.{◌≡◌, ℕ, suc, zero, ◌+◌, ◌*◌, ◌≤◌, ◌<◌, List, [], ◌∷◌, length, take, drop, get_or, if◌then◌else◌, nat_le, refl, sym, ap, ◌∙◌, arith, length-drop}
 use Rattle.std.proofs.lemmas.Bool.Decides.{nat_tests}
 use Rattle.rtmfp_packet.specs.Spelling.{IsPadding}
-use Rattle.rtmfp_packet.specs.Walk.{Body, walk, body_of, then_body, only_padding}
+use Rattle.rtmfp_packet.specs.Walk.{walk, body_of, then_body, only_padding}
 
 -- steps beyond the bytes change nothing
 pub walk_enough : (n m : ℕ) (b : List ℕ) → length b ≤ n → length b ≤ m → walk n b ≡ walk m b
@@ -32,7 +32,7 @@ body_of-chunk k h l rest le =
     let len = h * 256 + l in
     yes len (length rest) _ _ le
     ∙ ap (then_body (record { kind = k; payload = take len rest }))
-      (walk_enough (length (h ∷ l ∷ rest)) (length (drop len rest)) (drop len rest) (omega (arith, length-drop len rest)) (omega arith))
+    (walk_enough (length (h ∷ l ∷ rest)) (length (drop len rest)) (drop len rest) (omega (arith, length-drop len rest)) (omega arith))
 
 -- the same, with the bytes and the length as code has them
 pub body_of-first : (n : ℕ) (b : List ℕ) → 3 ≤ length b → n ≡ get_or b 1 0 * 256 + get_or b 2 0 → n ≤ length (drop 3 b) →

@@ -1,5 +1,5 @@
 -- What is left of a walk over chunks.
-use Rattle.std.specs.Prelude.{◌≡◌, ℕ, ◌+◌, List, length}
+use Rattle.std.specs.Prelude.{◌≡◌, ◌+◌, List, length}
 use Rattle.rtmfp_packet.specs.declared.chunks.RawChunk.{RawChunk}
 use Rattle.rtmfp_packet.specs.declared.chunks.Chunks.{Chunks}
 use Rattle.rtmfp_packet.specs.Walk.{Placed, body_of, then_body, all_placed_from, visible}

@@ -1,12 +1,12 @@
 -- What reading a packet gave.
-use Rattle.std.specs.Prelude.{◌≡◌, ℕ, ◌+◌, List, [], ◌∷◌, ◌++◌, length, Result, Ok, Err, IsOkAnd}
+use Rattle.std.specs.Prelude.{◌≡◌, ℕ, ◌+◌, List, [], ◌∷◌, ◌++◌, length, Result, Ok, Err}
 use Rattle.std.specs.List.{flat_map}
 use Rattle.std.specs.Borrow.{Bor}
 use Rattle.rtmfp_packet.specs.declared.head.PacketHead.{PacketHead}
 use Rattle.rtmfp_packet.specs.declared.head.PacketFault.{PacketFault}
 use Rattle.rtmfp_packet.specs.declared.head.PacketFault.TheVariants.{Empty, ModeZero, ShortStamp}
 use Rattle.rtmfp_packet.specs.Head.{HeadSpells, IsModeZero, IsShortStamp}
-use Rattle.rtmfp_packet.specs.Spelling.{Chunk, PacketSpells, chunk_bytes}
+use Rattle.rtmfp_packet.specs.Spelling.{PacketSpells, chunk_bytes}
 use Rattle.rtmfp_packet.specs.Whole.{Whole}
 
 -- these flags and the bytes behind them begin with the head, or have the fault
@@ -21,10 +21,9 @@ pub record Reads (packet : Whole) (b : List ℕ) : Type 0 where
   pub spells : PacketSpells packet.head packet.chunks packet.padding b
   pub start : packet.start + length (flat_map chunk_bytes packet.chunks ++ packet.padding) ≡ length b
 
--- a packet of this head, these chunks and this padding was read
-pub record IsOkWith (result : Result Whole PacketFault) (head : PacketHead) (chunks : List Chunk) (padding : List ℕ) : Type 0 where
-  pub packet : Whole
-  pub ok : result ≡ Ok packet
-  pub same_head : packet.head ≡ head
-  pub same_chunks : packet.chunks ≡ chunks
-  pub same_padding : packet.padding ≡ padding
+-- how bytes read: as a packet that they spell, or with the fault of their head
+abbrev pub PacketReading : List ℕ → Result Whole PacketFault → Type 0
+PacketReading b (Ok packet) = Reads packet b
+PacketReading b (Err Empty) = b ≡ []
+PacketReading b (Err ModeZero) = IsModeZero b
+PacketReading b (Err ShortStamp) = IsShortStamp b

@@ -1,5 +1,5 @@
 -- A plain packet (RFC 7016 section 2.2.4): its head, then chunk after chunk, then padding.
-use Rattle.std.specs.Prelude.{◌≡◌, ℕ, ◌+◌, ◌*◌, ◌^◌, ◌<◌, List, [], ◌∷◌, ◌++◌, length}
+use Rattle.std.specs.Prelude.{◌≡◌, ℕ, ◌+◌, ◌*◌, ◌^◌, ◌<◌, List, ◌∷◌, ◌++◌, length}
 use Rattle.std.specs.List.{AllByRecursion, flat_map}
 use Rattle.std.specs.Int.{to_be_bytes, w16}
 use Rattle.rtmfp_packet.specs.declared.head.PacketHead.{PacketHead}

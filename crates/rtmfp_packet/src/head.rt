@@ -47,8 +47,11 @@ pub enum PacketFault {
 
 /// The bits of the flags, counted from the lowest.
 const CRITICAL: u32 = 7;
+
 const REVERSE: u32 = 6;
+
 const STAMP: u32 = 3;
+
 const ECHO: u32 = 2;
 
 /// Reads the head of these flags from what follows them, and gives it with what follows it.

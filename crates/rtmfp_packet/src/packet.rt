@@ -1,8 +1,7 @@
 //! A plain packet, read in place.
-ghost use Rattle.std.specs.Prelude.{◌≡◌, ℕ, ◌↔◌, List, [], IfOk};
-ghost use Rattle.rtmfp_packet.specs.Head.{IsModeZero, IsShortStamp};
-ghost use Rattle.rtmfp_packet.specs.Spelling.{Chunk, PacketSpells};
-ghost use Rattle.rtmfp_packet.specs.Reading.{Reads, IsOkWith};
+ghost use Rattle.std.specs.Prelude.{◌≡◌, Result};
+ghost use Rattle.rtmfp_packet.specs.Whole.{Whole};
+ghost use Rattle.rtmfp_packet.specs.Reading.{PacketReading};
 
 use crate::chunks::Chunks;
 use crate::head::{PacketFault, PacketHead, read_head};
@@ -60,15 +59,15 @@ impl<'a> Packet<'a> {
 
 /// Reads a plain packet. The slices of what it gives are parts of `bytes`; nothing is copied.
 pub fn read_packet(bytes: &[u8]) -> Result<Packet<'_>, PacketFault>
-    // What is read is spelled by the bytes.
-    ensures ok { IfOk result (λ packet. Reads packet bytes.now) }
-    // What the bytes spell is read.
-    ensures complete { (head : PacketHead) (chunks : List Chunk) (padding : List ℕ) →
-        PacketSpells head chunks padding bytes.now → IsOkWith result head chunks padding }
+    // The bytes read so, and in no other way.
+    ensures reads { PacketReading bytes.now result }
+    ensures only { (other : Result Whole PacketFault) → PacketReading bytes.now other → other ≡ result }
+{
+    read_whole(bytes)
+}
 
-    ensures empty { (result ≡ Err PacketFault.Empty) ↔ (bytes.now ≡ []) }
-    ensures mode_zero { (result ≡ Err PacketFault.ModeZero) ↔ IsModeZero bytes.now }
-    ensures short_stamp { (result ≡ Err PacketFault.ShortStamp) ↔ IsShortStamp bytes.now }
+fn read_whole(bytes: &[u8]) -> Result<Packet<'_>, PacketFault>
+    ensures { PacketReading bytes.now result }
 {
     let [flags, rest @ ..] = bytes else {
         return Err(PacketFault::Empty);

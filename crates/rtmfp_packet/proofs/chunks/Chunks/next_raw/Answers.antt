@@ -1,6 +1,6 @@
 use Rattle.std.proofs.Common.{arith}
 use Rattle.std.proofs.lemmas.Grind.{common_steps}
-use Rattle.rtmfp_packet.proofs.Walking.{body_of-first, body_of-padding, padding_short, padding_cut}
+use Rattle.rtmfp_packet.proofs.Walking.{body_of-first}
 use Rattle.rtmfp_packet.proofs.chunks.Chunks.next_raw.Goals as goal
 
 pub returns-clause-some : goal.returns-clause-some

@@ -1,0 +1,3 @@
+pub mod Fields
+pub mod Chunk
+pub mod Reading
