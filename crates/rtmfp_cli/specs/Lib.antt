@@ -1,0 +1,11 @@
+pub mod Pending
+pub mod Lines
+pub mod Reading
+pub mod Words
+pub mod ShowText
+pub mod ShowLine
+pub mod Adding
+pub mod Outside
+pub mod Show
+pub mod Turning
+pub mod Status

@@ -1,0 +1,26 @@
+-- The words that texts are made of.
+use Rattle.std.specs.Prelude.{ℕ, Bool, true, false, List, [], ◌∷◌, ◌++◌, codes, decimal, Option, Some, None}
+use Rattle.hex.specs.Hex.{encode_lower}
+
+-- bytes in hexadecimal, and a hyphen for none
+abbrev pub bytes_text : List ℕ → List ℕ
+bytes_text [] = codes "-"
+bytes_text (b ∷ bs) = encode_lower (b ∷ bs)
+
+-- a field: its name, and its bytes
+abbrev pub field_text : List ℕ → List ℕ → List ℕ
+field_text name bytes = name ++ bytes_text bytes
+
+-- parts of a text, one after another
+abbrev pub text_of : List (List ℕ) → List ℕ
+text_of [] = []
+text_of (part ∷ parts) = part ++ text_of parts
+
+abbrev pub bit_text : Bool → List ℕ
+bit_text true = codes "1"
+bit_text false = codes "0"
+
+-- a number in decimal, and a hyphen for none
+abbrev pub number_text : Option ℕ → List ℕ
+number_text None = codes "-"
+number_text (Some n) = decimal n

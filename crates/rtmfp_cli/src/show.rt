@@ -1,0 +1,171 @@
+//! What `show` prints of a packet.
+ghost use Rattle.std.specs.Prelude.{◌≡◌, ◌++◌, ◌≤◌, length, OnOk, IfOk, MatchBool};
+ghost use Rattle.rtmfp_packet.specs.Head.{mode_number};
+ghost use Rattle.rtmfp_chunks.specs.Chunk.{IHello, chunk_of};
+ghost use Rattle.rtmfp_chunks.specs.Reading.{shown};
+ghost use Rattle.rtmfp_cli.specs.Words.{bit_text, number_text};
+ghost use Rattle.rtmfp_cli.specs.ShowText.{PacketText, WholeText, chunk_text, head_text, kind_text, padding_text, reading_text};
+ghost use Rattle.rtmfp_cli.specs.ShowLine.{IsBadLine, ShowsLine};
+ghost use Rattle.rtmfp_cli.specs.Adding.{Adds, AddsChunk};
+
+use crate::text::Text;
+use rtmfp_chunks::{ChunkFault, ChunkView, read_chunk};
+use rtmfp_packet::{Mode, Packet, PacketFault, PacketHead, RawChunk, read_packet};
+use std::alloc::AllocError;
+
+/// The longest line, in bytes without its LF.
+pub(crate) const LIMIT: usize = 4096;
+
+/// The longest packet that a line can have.
+const PACKET: usize = LIMIT / 2;
+
+/// Makes the text of a line. It is `false`, with no text, where the line is outside the grammar.
+pub(crate) fn show_line(line: &[u8], text: &mut Text) -> Result<bool, AllocError>
+    requires { length line.now ≤ LIMIT }
+    ensures { IfOk result (λ good. MatchBool good (ShowsLine line.now text.new) (IsBadLine line.now)) }
+{
+    text.clear();
+    let mut packet = [0; PACKET];
+    let packet = &mut packet[..line.len() / 2];
+    if hex::decode_to_slice(line, packet).is_err() {
+        return Ok(false);
+    }
+    show_packet(packet, text)?;
+    Ok(true)
+}
+
+/// Adds the text of a packet.
+fn show_packet(bytes: &[u8], text: &mut Text) -> Result<(), AllocError>
+    ensures { OnOk result (Adds (PacketText bytes.now) text.old text.new) }
+{
+    match read_packet(bytes) {
+        Ok(packet) => show_whole(&packet, text),
+        Err(PacketFault::Empty) => text.push("bad empty\n"),
+        Err(PacketFault::ModeZero) => text.push("bad mode-zero\n"),
+        Err(PacketFault::ShortStamp) => text.push("bad short-stamp\n"),
+    }
+}
+
+/// Adds the text of a packet that has a head.
+fn show_whole(packet: &Packet<'_>, text: &mut Text) -> Result<(), AllocError>
+    ensures { OnOk result (Adds (WholeText packet.now) text.old text.new) }
+{
+    show_head(packet.head(), text)?;
+    for chunk in packet.chunks() {
+        show_chunk(&chunk, text)?;
+    }
+    show_padding(packet.padding(), text)?;
+    Ok(())
+}
+
+/// Adds the line of a padding of so many bytes.
+fn show_padding(count: usize, text: &mut Text) -> Result<(), AllocError>
+    ensures { OnOk result (text.new ≡ text.old ++ padding_text count) }
+{
+    text.push("padding ")?;
+    text.push_number(count as u64)?;
+    text.push("\n")?;
+    Ok(())
+}
+
+/// Adds the line of a head.
+fn show_head(head: &PacketHead, text: &mut Text) -> Result<(), AllocError>
+    ensures { OnOk result (text.new ≡ text.old ++ head_text head.now) }
+{
+    text.push("packet mode=")?;
+    text.push_number(u64::from(mode_number(head.mode)))?;
+    text.push(" critical=")?;
+    text.push(bit_digit(head.critical))?;
+    text.push(" reverse=")?;
+    text.push(bit_digit(head.reverse))?;
+    text.push(" stamp=")?;
+    show_stamp(head.stamp, text)?;
+    text.push(" echo=")?;
+    show_stamp(head.echo, text)?;
+    text.push("\n")?;
+    Ok(())
+}
+
+fn mode_number(mode: Mode) -> u8
+    ensures { result ≡ mode_number mode }
+{
+    match mode {
+        Mode::Initiator => 1,
+        Mode::Responder => 2,
+        Mode::Startup => 3,
+    }
+}
+
+fn bit_digit(bit: bool) -> &'static str
+    ensures { result.now ≡ bit_text bit }
+{
+    if bit { "1" } else { "0" }
+}
+
+fn show_stamp(stamp: Option<u16>, text: &mut Text) -> Result<(), AllocError>
+    ensures { OnOk result (text.new ≡ text.old ++ number_text stamp) }
+{
+    match stamp {
+        Some(stamp) => text.push_number(u64::from(stamp)),
+        None => text.push("-"),
+    }
+}
+
+/// Adds the line of a chunk, as it reads.
+fn show_chunk(chunk: &RawChunk<'_>, text: &mut Text) -> Result<(), AllocError>
+    ensures { OnOk result (AddsChunk chunk.now text.old text.new) }
+{
+    text.push_number(chunk.at as u64)?;
+    show_reading(chunk.kind, &read_chunk(chunk.kind, chunk.payload), text)?;
+    text.push("\n")?;
+    Ok(())
+}
+
+/// Adds what stands behind the place of a chunk.
+fn show_reading(
+    kind: u8,
+    reading: &Result<ChunkView<'_>, ChunkFault>,
+    text: &mut Text,
+) -> Result<(), AllocError>
+    ensures { OnOk result (text.new ≡ text.old ++ reading_text kind (shown reading.now)) }
+{
+    match reading {
+        Ok(view) => show_view(view, text),
+        Err(ChunkFault::Unknown(told)) => {
+            text.push(" unknown ")?;
+            text.push_hex(&[*told])?;
+            Ok(())
+        }
+        Err(ChunkFault::Malformed(at)) => {
+            text.push(" malformed ")?;
+            text.push(kind_name(kind))?;
+            text.push(" ")?;
+            text.push_number(*at as u64)?;
+            Ok(())
+        }
+    }
+}
+
+/// The name of the chunks of this type.
+fn kind_name(_kind: u8) -> &'static str
+    ensures { result.now ≡ kind_text _kind }
+{
+    "ihello"
+}
+
+/// Adds the name and the fields of a chunk.
+fn show_view(view: &ChunkView<'_>, text: &mut Text) -> Result<(), AllocError>
+    ensures { OnOk result (text.new ≡ text.old ++ chunk_text (chunk_of view.now)) }
+{
+    match view {
+        ChunkView::IHello { epd, tag } => show_ihello(epd, tag, text),
+    }
+}
+
+fn show_ihello(epd: &[u8], tag: &[u8], text: &mut Text) -> Result<(), AllocError>
+    ensures { OnOk result (text.new ≡ text.old ++ chunk_text (IHello epd.now tag.now)) }
+{
+    text.push_field(" ihello epd=", epd)?;
+    text.push_field(" tag=", tag)?;
+    Ok(())
+}
