@@ -4,3 +4,7 @@ pub mod Streams
 pub mod HexTexts
 pub mod Pushes
 pub mod ChunkLines
+pub mod LinesLaws
+pub mod Turns
+pub mod Shown
+pub mod Flushed

@@ -9,3 +9,4 @@ pub mod Outside
 pub mod Show
 pub mod Turning
 pub mod Status
+pub mod Run

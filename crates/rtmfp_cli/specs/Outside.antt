@@ -7,3 +7,7 @@ pub record Outside : Type 0 where
   pub source_faults : ℕ
   pub written : Option (List ℕ)
   pub sink_faults : ℕ
+
+abbrev pub outside : Option (List ℕ) → ℕ → Option (List ℕ) → ℕ → Outside
+outside left source_faults written sink_faults =
+    record { left = left; source_faults = source_faults; written = written; sink_faults = sink_faults }

@@ -1,5 +1,5 @@
 -- What `show` has printed of the lines of a source.
-use Rattle.std.specs.Prelude.{◌≡◌, ◌≢◌, ℕ, ◌+◌, ◌≤◌, ◌⊎◌, List, [], ◌∷◌, ◌++◌, length, take, Option, Some, None, IfSome}
+use Rattle.std.specs.Prelude.{◌≡◌, ℕ, ◌+◌, ◌≤◌, ◌⊎◌, List, [], ◌∷◌, ◌++◌, length, take, Some, IfSome}
 use Rattle.rtmfp_host.specs.Writing.{Appends}
 use Rattle.rtmfp_host.specs.Faults.{Rose}
 use Rattle.rtmfp_cli.specs.declared.status.Status.{Status}

@@ -1,15 +1,15 @@
 -- What one turn of `show` does: one line is read and shown.
-use Rattle.std.specs.Prelude.{◌≡◌, ℕ, ◌+◌, ◌≤◌, ◌⊎◌, List, [], ◌∷◌, ◌++◌, length, take, Option, Some, None, IfSome}
+use Rattle.std.specs.Prelude.{◌≡◌, ℕ, ◌≤◌, ◌⊎◌, List, [], ◌∷◌, ◌++◌, length, take, Option, IfSome}
 use Rattle.rtmfp_host.specs.Taking.{Consumes, IsAtEnd}
 use Rattle.rtmfp_host.specs.Writing.{Appends}
-use Rattle.rtmfp_cli.specs.declared.status.Status.{Status}
+use Rattle.rtmfp_cli.specs.declared.status.Status.{Status as RunStatus}
 use Rattle.rtmfp_cli.specs.declared.status.Status.TheVariants as status
 use Rattle.rtmfp_cli.specs.declared.show_run.Turn.{Turn}
 use Rattle.rtmfp_cli.specs.declared.show_run.Turn.TheVariants.{Went, Ended}
 use Rattle.rtmfp_cli.specs.Outside.{Outside}
 use Rattle.rtmfp_cli.specs.Lines.{NoLf, lines_of}
 use Rattle.rtmfp_cli.specs.ShowLine.{ShowsLine, IsBadLine}
-use Rattle.rtmfp_cli.specs.Show.{ShowsLines, IsPartOfNext}
+use Rattle.rtmfp_cli.specs.Show.{ShowsLines}
 
 -- more bytes of the source are taken, behind those that were not handled yet
 pub record Takes (before after : Outside) (old bytes : List ℕ) : Type 0 where
@@ -32,6 +32,7 @@ pub record ShowsRest (before after : Outside) (old : List ℕ) : Type 0 where
   pub text : List ℕ
   pub takes : Takes before after old bytes
   pub end : IsAtEnd after.left
+  pub count : length (lines_of bytes) ≤ 1
   pub shown : ShowsLines (lines_of bytes) text
   pub written : Appends before.written after.written text
 
@@ -72,3 +73,11 @@ Printed (Ended status.SinkFault) n line before after =
     (text : List ℕ) × (k : ℕ) × ShowsLine line text × Appends before after (take k text)
 Printed (Ended status.Memory) n line before after = after ≡ before
 Printed (Ended other) n line before after = ⊥
+
+-- how a source ends of which as many lines were shown as it may have
+abbrev pub Closed : RunStatus → Outside → Outside → List ℕ → Type 0
+Closed status.Done before after old = ShowsNone before after old [] × IsAtEnd after.left
+Closed status.ScriptLong before after old = (bytes : List ℕ) × ShowsNone before after old bytes × NextLine (λ line. Unit {0}) after bytes
+Closed status.SourceFault before after old = (bytes : List ℕ) × ShowsNone before after old bytes × NoLf bytes
+Closed status.SinkFault before after old = (bytes : List ℕ) × ShowsNone before after old bytes
+Closed other before after old = ⊥
