@@ -4,3 +4,4 @@ pub mod Groups
 pub mod Shortest
 pub mod Tails
 pub mod Fields
+pub mod Places
