@@ -1,0 +1,8 @@
+//! Addresses and options of RFC 7016 section 2.1, read and written exactly, and a packer of plain packets.
+#![tactic(auto)]
+
+mod address;
+mod fault;
+
+pub use address::{Address, read_address, write_address};
+pub use fault::FormFault;
