@@ -3,6 +3,10 @@
 
 mod address;
 mod fault;
+mod options;
+mod outgoing;
 
 pub use address::{Address, read_address, write_address};
 pub use fault::FormFault;
+pub use options::{OptionView, Options};
+pub use outgoing::{NoRoom, Outgoing};
