@@ -13,7 +13,7 @@ use Rattle.rtmfp_forms.specs.declared.fault.FormFault.TheVariants.{Short}
 use Rattle.rtmfp_forms.specs.Address.{AddressParts, host_len, IsAddress, AddressSpells, IsCutAddress, address_bytes}
 use Rattle.rtmfp_forms.specs.AddressReading.{address_at}
 use Rattle.rtmfp_vlu.proofs.Fields.{front}
-use Rattle.rtmfp_forms.proofs.Bytes.{IsBytes, IsBytes-drop, IsBytes-take, IsBytes-tail, take-add}
+use Rattle.rtmfp_vlu.proofs.Bytes.{IsBytes, IsBytes-drop, IsBytes-take, IsBytes-tail, take-add}
 
 -- what is read after the flags
 abbrev pub parts : ℕ → List ℕ → AddressParts

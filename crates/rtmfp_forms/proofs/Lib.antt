@@ -1,2 +1,3 @@
-pub mod Bytes
 pub mod Addresses
+pub mod Pieces
+pub mod Lists

@@ -1,5 +1,5 @@
 -- Options and lists of them (RFC 7016 sections 2.1.3 and 2.1.4).
-use Rattle.std.specs.Prelude.{◌≡◌, ℕ, ◌<◌, ◌≤◌, ◌⊎◌, List, [], ◌∷◌, ◌++◌, length, take}
+use Rattle.std.specs.Prelude.{◌≡◌, ℕ, ◌<◌, ◌≤◌, ◌⊎◌, List, [], ◌∷◌, ◌++◌, length, take, Result, Ok, Err}
 use Rattle.std.specs.List.{flat_map}
 use Rattle.rtmfp_vlu.specs.Vlu.{VluSpells, IsCut, IsLarge, vlu}
 use Rattle.rtmfp_forms.specs.declared.fault.FormFault.{FormFault}
@@ -61,6 +61,11 @@ pub record HasFault (fault : FormFault) (bytes : List ℕ) : Type 0 where
   pub whole : bytes ≡ pieces ++ rest
   pub each : PiecesSpell options pieces
   pub is_fault : IsFaultAt fault rest
+
+-- what a reader found, or why it found nothing
+abbrev pub Lists : List ℕ → Result (List OptionParts × ℕ) FormFault → Type 0
+Lists bytes (Ok found) = (found.1 ≤ length bytes) × OptionsSpell found.0 (take found.1 bytes)
+Lists bytes (Err fault) = HasFault fault bytes
 
 -- ---- the one spelling that is written
 

@@ -8,5 +8,5 @@ mod outgoing;
 
 pub use address::{Address, read_address, write_address};
 pub use fault::FormFault;
-pub use options::{OptionView, Options};
+pub use options::{OptionView, Options, read_options};
 pub use outgoing::{NoRoom, Outgoing};

@@ -1,5 +1,7 @@
 ghost use Rattle.std.specs.Prelude.{◌≡◌, ℕ, ◌+◌, ◌<◌, ◌≤◌, ◌↔◌, ◌++◌, [], ◌∷◌, List, length, take, drop, Option, Some, None, Ok, Err, IfOk, IfErr};
-ghost use Rattle.rtmfp_forms.specs.Options.{OptionParts, OptionsSpell, HasFault};
+ghost use Rattle.std.specs.Iterator.{YieldsFirstBy, item_count};
+ghost use Rattle.rtmfp_forms.specs.declared.fault.FormFault.{FormFault};
+ghost use Rattle.rtmfp_forms.specs.Options.{OptionParts, OptionsSpell, HasFault, Lists};
 ghost use Rattle.rtmfp_forms.specs.OptionReading.{option_parts, Shows, number_of, piece_of, number_then, counted_then, piece_then, options_then};
 
 use crate::fault::FormFault;
@@ -14,20 +16,82 @@ pub struct OptionView<'a> {
 }
 
 /// The options of a list that was checked, one after another, as parts of the bytes that it was read from.
+#[derive(Drop)]
 pub struct Options<'a> {
     rest: &'a [u8],
 }
 
 impl<'a> Model for Options<'a> {
-    ghost use Rattle.std.specs.Prelude.{◌≡◌, [], List, Ok};
-    ghost use Rattle.rtmfp_forms.specs.Options.{OptionParts};
-    ghost use Rattle.rtmfp_forms.specs.OptionReading.{options_in, options_then};
+    ghost use Rattle.std.specs.Prelude.{List};
+    ghost use Rattle.rtmfp_forms.specs.Options.{OptionParts, OptionsSpell};
+    ghost use Rattle.rtmfp_forms.specs.OptionReading.{options_in};
 
     ghost Value = { List OptionParts };
 
     ghost view = { λ o. options_in o.rest.now };
 
-    ghost invariant = { λ o. options_then o.rest.now ≡ Ok (options_in o.rest.now, []) };
+    ghost invariant = { λ o. OptionsSpell (options_in o.rest.now) o.rest.now };
+}
+
+impl<'a> Options<'a> {
+    /// The same options again, from the one that is next here.
+    pub fn iter(&self) -> Options<'a>
+        ensures { result ≡ self.now }
+    {
+        Options { rest: self.rest }
+    }
+}
+
+impl<'a> Iterator for Options<'a> {
+    type Item = OptionView<'a>;
+
+    ghost next_gives = { YieldsFirstBy option_parts (λ s. s) };
+
+    ghost remaining = { item_count (λ s. s) };
+
+    fn next(&mut self) -> Option<OptionView<'a>> {
+        match piece(self.rest) {
+            Ok((Some(option), after)) => {
+                self.rest = after;
+                Some(option)
+            }
+            Ok((None, _)) => None,
+            Err(_) => None,
+        }
+    }
+}
+
+/// Reads the options that the bytes begin with, up to the marker, and the number of bytes that they take, the
+/// marker included.
+pub fn read_options(bytes: &[u8]) -> Result<(Options<'_>, usize), FormFault>
+    // What is read stands there.
+    ensures ok { IfOk result (λ found. (found.1 ≤ length bytes.now) × OptionsSpell found.0 (take found.1 bytes.now)) }
+    // What stands there is read.
+    ensures complete { (os : List OptionParts) (n : ℕ) → n ≤ length bytes.now → OptionsSpell os (take n bytes.now) → result ≡ Ok (os, n) }
+
+    // Each fault is the first one from the left.
+    ensures faults { (fault : FormFault) → (result ≡ Err fault) ↔ HasFault fault bytes.now }
+
+    // All of this as one function.
+    ensures exact { Shows (λ found. (found.0, drop found.1 bytes.now)) result (options_then bytes.now) }
+{
+    listed(bytes)
+}
+
+fn listed(bytes: &[u8]) -> Result<(Options<'_>, usize), FormFault>
+    ensures { Lists bytes.now result }
+{
+    let mut rest = bytes;
+    loop {
+        match piece(rest)? {
+            (Some(_), after) => rest = after,
+            (None, after) => {
+                let used = bytes.len() - after.len();
+                let rest = &bytes[..used];
+                return Ok((Options { rest }, used));
+            }
+        }
+    }
 }
 
 /// A number in front, and the bytes after it.

@@ -1,3 +1,4 @@
+pub mod Bytes
 pub mod Values
 pub mod Spellings
 pub mod Groups

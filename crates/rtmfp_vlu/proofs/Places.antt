@@ -2,10 +2,13 @@
 use Rattle.std.proofs.Common.{◌≡◌, ℕ, zero, suc, ◌^◌, ◌<◌, ◌≤◌, List, [], ◌∷◌, length, take, ltb, true, false, Result, Ok, Err, refl, sym, inl, inr, arith}
 use Rattle.std.proofs.lemmas.Bool.{lt-ltb, le-ltb}
 use Rattle.std.proofs.lemmas.List.{length-take}
+use Rattle.std.proofs.lemmas.Bool.{cases_lt}
+use Rattle.rtmfp_vlu.proofs.Bytes.{IsBytes, IsBytes-tail}
+use Rattle.rtmfp_vlu.proofs.Tails.{IsEnded-cons}
 use Rattle.rtmfp_vlu.specs.declared.reading.VluFault.{VluFault}
 use Rattle.rtmfp_vlu.specs.declared.reading.VluFault.TheVariants.{Short, Large}
-use Rattle.rtmfp_vlu.specs.Vlu.{value, AllContinued, IsEnded, VluSpells, IsCut, IsLarge}
-use Rattle.rtmfp_vlu.specs.Reading.{end_within, number_at}
+use Rattle.rtmfp_vlu.specs.Vlu.{value, IsContinued, AllContinued, IsEnded, VluSpells, IsCut, IsLarge}
+use Rattle.rtmfp_vlu.specs.Reading.{one_more, end_within, fitting, number_at}
 use Rattle.rtmfp_vlu.specs.Decoding.{Decodes}
 
 ends_at : (most n : ℕ) (b : List ℕ) → n ≤ most → n ≤ length b → IsEnded (take n b) → end_within most b ≡ Ok n
@@ -52,3 +55,39 @@ pub exact_from : (b : List ℕ) (r : Result (ℕ × ℕ) VluFault) → Decodes b
 exact_from b (Ok found) d = sym (reads_number b found.0 found.1 d.0 d.1)
 exact_from b (Err Short) d = sym (reads_cut b d)
 exact_from b (Err Large) d = sym (reads_large b d)
+
+-- ---- and the other way round
+
+abbrev EndIs : ℕ → List ℕ → Result ℕ VluFault → Type 0
+EndIs most b (Ok n) = (n ≤ length b) × (n ≤ most) × IsEnded (take n b)
+EndIs most b (Err Short) = (length b < most) × AllContinued b
+EndIs most b (Err Large) = (most ≤ length b) × AllContinued (take most b)
+
+end_more : (most x : ℕ) (bs : List ℕ) (r : Result ℕ VluFault) → IsContinued x → EndIs most bs r → EndIs (suc most) (x ∷ bs) (one_more r)
+end_more most x bs (Ok n) c e = (omega (arith, e.0), omega (arith, e.1), IsEnded-cons x (take n bs) c e.2)
+end_more most x bs (Err Short) c e = (omega (arith, e.0), (c, e.1))
+end_more most x bs (Err Large) c e = (omega (arith, e.0), (c, e.1))
+
+end_is : (most : ℕ) (b : List ℕ) → IsBytes b → EndIs most b (end_within most b)
+unfolding end_within
+end_is zero b fits = (omega arith, tt)
+end_is (suc most) [] fits = (omega arith, tt)
+end_is (suc most) (x ∷ bs) fits =
+    elim (cases_lt x 128) [
+      | inl lt ↦ rw (lt-ltb x 128 lt) (omega arith, omega arith, lt)
+      | inr ge ↦ rw (le-ltb x 128 ge) (end_more most x bs (end_within most bs) (ge, fits 0) (end_is most bs (IsBytes-tail x bs fits)))
+    ]
+
+fitting_is : (b : List ℕ) (r : Result ℕ VluFault) → EndIs 10 b r → Decodes b (fitting b r)
+fitting_is b (Ok n) e =
+    elim (cases_lt (value (take n b)) (2 ^ 64)) [
+      | inl lt ↦ rw (lt-ltb (value (take n b)) (2 ^ 64) lt) (e.0, record { size = omega (arith, length-take n b, e.1); ended = e.2; sum = refl; fits = lt })
+      | inr ge ↦ rw (le-ltb (value (take n b)) (2 ^ 64) ge) (inr (n, (e.0, e.1, e.2), ge))
+    ]
+fitting_is b (Err Short) e = e
+fitting_is b (Err Large) e = inl e
+
+-- what is read stands there, and what isn't is cut off or large
+pub decodes_number : (b : List ℕ) → IsBytes b → Decodes b (number_at b)
+unfolding number_at
+decodes_number b fits = fitting_is b (end_within 10 b) (end_is 10 b fits)
