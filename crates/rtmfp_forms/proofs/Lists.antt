@@ -3,7 +3,8 @@ use Rattle.std.proofs.Common.{◌≡◌, ℕ, zero, suc, ◌-◌, ◌<◌, ◌�
 use Rattle.std.proofs.lemmas.List.{length-append, append-nil, take-append-drop, length-drop}
 use Rattle.rtmfp_vlu.specs.Vlu.{VluSpells}
 use Rattle.rtmfp_vlu.proofs.Bytes.{IsBytes, IsBytes-drop}
-use Rattle.rtmfp_vlu.proofs.Fields.{front, behind, IsEnded-some}
+use Rattle.rtmfp_vlu.proofs.Fields.{front, behind}
+use Rattle.rtmfp_vlu.proofs.Spellings.{IsEnded-some}
 use Rattle.rtmfp_forms.specs.declared.fault.FormFault.{FormFault}
 use Rattle.std.specs.Borrow.{Bor}
 use Rattle.std.specs.Option.{option_map}

@@ -8,7 +8,8 @@ use Rattle.rtmfp_vlu.specs.Vlu.{VluSpells, IsCut, IsLarge}
 use Rattle.rtmfp_vlu.specs.Reading.{number_at}
 use Rattle.rtmfp_vlu.specs.Decoding.{Decodes}
 use Rattle.rtmfp_vlu.proofs.Bytes.{IsBytes, IsBytes-take, IsBytes-drop}
-use Rattle.rtmfp_vlu.proofs.Fields.{behind, within, stands, IsEnded-some}
+use Rattle.rtmfp_vlu.proofs.Fields.{behind, within, stands}
+use Rattle.rtmfp_vlu.proofs.Spellings.{IsEnded-some}
 use Rattle.rtmfp_vlu.proofs.Places.{decodes_number, reads_number, reads_cut, reads_large}
 use Rattle.rtmfp_forms.specs.declared.fault.FormFault.{FormFault}
 use Rattle.rtmfp_forms.specs.declared.fault.FormFault.TheVariants.{Short, Large, NoMarker}
