@@ -69,8 +69,12 @@ Lists bytes (Err fault) = HasFault fault bytes
 
 -- ---- the one spelling that is written
 
+-- what the length counts
+abbrev pub counted_bytes : OptionParts → List ℕ
+counted_bytes o = vlu o.kind ++ o.value
+
 abbrev pub option_bytes : OptionParts → List ℕ
-option_bytes o = vlu (length (vlu o.kind ++ o.value)) ++ (vlu o.kind ++ o.value)
+option_bytes o = vlu (length (counted_bytes o)) ++ counted_bytes o
 
 abbrev pub options_bytes : List OptionParts → List ℕ
 options_bytes os = flat_map option_bytes os ++ vlu 0

@@ -40,6 +40,13 @@ impl<'a> Options<'a> {
     {
         Options { rest: self.rest }
     }
+
+    /// The bytes that spell these options, as they were read.
+    pub fn bytes(&self) -> &'a [u8]
+        ensures { OptionsSpell self.now result.now }
+    {
+        self.rest
+    }
 }
 
 impl<'a> Iterator for Options<'a> {

@@ -1,6 +1,10 @@
 ghost use Rattle.std.specs.Prelude.{◌≡◌, ◌+◌, ◌<◌, ◌≤◌, ◌↔◌, ◌++◌, [], ◌∷◌, length, OnOk, OnErr, IsErr};
+ghost use Rattle.rtmfp_vlu.specs.Vlu.{vlu};
+ghost use Rattle.rtmfp_forms.specs.Address.{address_bytes};
 ghost use Rattle.rtmfp_forms.specs.Outgoing.{packet_limit};
 
+use crate::address::{Address, write_address};
+use rtmfp_vlu::write_vlu;
 use std::marker::Model;
 use thiserror::Error;
 
@@ -48,10 +52,38 @@ impl Outgoing {
         if bytes.len() > self.room() {
             return Err(NoRoom);
         }
+        self.append(bytes);
+        Ok(())
+    }
+
+    /// Puts bytes at the end for which there is room.
+    pub fn append(&mut self, bytes: &[u8])
+        requires { length self.old + length bytes.now ≤ packet_limit }
+        ensures { self.new ≡ self.old ++ bytes.now }
+    {
         let end = self.len + bytes.len();
         self.packed[self.len..end].copy_from_slice(bytes);
         self.len = end;
-        Ok(())
+    }
+
+    /// Puts a number's shortest spelling at the end, for which there is room.
+    pub fn append_vlu(&mut self, value: u64)
+        requires { length self.old + length (vlu value) ≤ packet_limit }
+        ensures { self.new ≡ self.old ++ vlu value }
+    {
+        let mut spelling = [0; 10];
+        let len = write_vlu(value, &mut spelling);
+        self.append(&spelling[..len]);
+    }
+
+    /// Puts an address at the end, for which there is room.
+    pub fn append_address(&mut self, address: &Address)
+        requires { length self.old + length (address_bytes address.now) ≤ packet_limit }
+        ensures { self.new ≡ self.old ++ address_bytes address.now }
+    {
+        let mut spelling = [0; 19];
+        let len = write_address(address, &mut spelling);
+        self.append(&spelling[..len]);
     }
 
     pub fn bytes(&self) -> &[u8]
