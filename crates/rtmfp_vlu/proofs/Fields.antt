@@ -1,9 +1,9 @@
 -- A number's spelling, and then the rest: what readers and writers of longer forms cite.
 use Rattle.std.proofs.Common.{◌≡◌, ℕ, ◌/◌, ◌%◌, ◌^◌, ◌<◌, ◌≤◌, List, [], ◌∷◌, ◌++◌, length, take, drop, Result, Ok, refl, sym, ap, ◌∙◌, arith}
 use Rattle.std.proofs.lemmas.List.{take_at, drop_at, length-append, append_cancel_left}
-use Rattle.rtmfp_vlu.specs.Vlu.{IsEnded, VluSpells, IsCut, IsLarge, groups_before, vlu}
+use Rattle.rtmfp_vlu.specs.Vlu.{VluSpells, IsCut, IsLarge, groups_before, vlu}
 use Rattle.rtmfp_vlu.specs.declared.reading.VluFault.{VluFault}
-use Rattle.rtmfp_vlu.proofs.Spellings.{prefix_code, not_cut, not_large}
+use Rattle.rtmfp_vlu.proofs.Spellings.{IsEnded-some, prefix_code, not_cut, not_large}
 use Rattle.rtmfp_vlu.proofs.Shortest.{Shortest-vlu}
 
 -- ---- any list in front of another
@@ -57,10 +57,6 @@ same_field v w s t x y p q e =
 
 pub vlu-spells : (v : ℕ) → v < 2 ^ 64 → VluSpells v (vlu v)
 vlu-spells v h = (Shortest-vlu v h).spells
-
-pub IsEnded-some : (s : List ℕ) → IsEnded s → 1 ≤ length s
-IsEnded-some [] e = absurd e
-IsEnded-some (b ∷ s) e = omega arith
 
 -- one to ten bytes
 pub length-vlu_within : (v : ℕ) → v < 2 ^ 64 → (1 ≤ length (vlu v)) × (length (vlu v) ≤ 10)

@@ -6,7 +6,7 @@ use Rattle.std.proofs.lemmas.Nat.{div_below, same_from_place, mul-le, pow-add}
 use Rattle.std.proofs.Math.Nat.{pow-suc, pow-le-pow_right}
 use Rattle.rtmfp_vlu.specs.Vlu.{value, AllContinued, IsEnded, IsUnpadded, VluSpells, Shortest, groups_before, vlu}
 use Rattle.rtmfp_vlu.proofs.Values.{value-push, value-below}
-use Rattle.rtmfp_vlu.proofs.Spellings.{AllContinued-push, IsEnded-push}
+use Rattle.rtmfp_vlu.proofs.Spellings.{IsEnded-some, AllContinued-push, IsEnded-push}
 
 -- ---- the function gives one
 
@@ -134,3 +134,12 @@ Needs-highest_bit v w bit e low high = record {
       let one : 128 ^ 1 ≤ 128 ^ (bit / 7) = pow-le-pow_right {n = 128} (omega arith) {i = 1} {j = bit / 7} (omega arith) in
       rw fewer (omega (arith, one, e, low, pow_128 (bit / 7), pow-le-pow_right {n = 2} (omega arith) {i = 7 * (bit / 7)} {j = bit} (omega arith)));
 }
+
+-- no spelling of a number is shorter than the shortest one of a number that is no larger
+pub length-vlu_le : (a b : ℕ) (s : List ℕ) → a ≤ b → VluSpells b s → length (vlu a) ≤ length s
+length-vlu_le a b s le h =
+    let need = Needs-shortest a (vlu a) (Shortest-vlu a (omega (arith, le, h.fits))) in
+    elim (cases_lt (length s) (length (vlu a))) [
+      | inl lt ↦ absurd (omega (arith, le, h.sum, value-below s, need.least (omega (arith, IsEnded-some s h.ended, lt)), pow-le-pow_right {n = 128} (omega arith) {i = length s} {j = length (vlu a) - 1} (omega (arith, lt))))
+      | inr ge ↦ ge
+    ]

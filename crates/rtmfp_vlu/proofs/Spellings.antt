@@ -15,6 +15,10 @@ IsEnded-push [] b h lt = lt
 IsEnded-push (x ∷ []) b h lt = (h.0, lt)
 IsEnded-push (x ∷ y ∷ xs) b h lt = (h.0, IsEnded-push (y ∷ xs) b h.1 lt)
 
+pub IsEnded-some : (s : List ℕ) → IsEnded s → 1 ≤ length s
+IsEnded-some [] e = absurd e
+IsEnded-some (b ∷ s) e = omega arith
+
 -- what goes on to the end of the bytes has not ended before
 pub not_ended : (s x : List ℕ) → AllContinued (s ++ x) → IsEnded s → ⊥
 not_ended [] x h e = e

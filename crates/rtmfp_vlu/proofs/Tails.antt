@@ -26,7 +26,7 @@ written_more len at b out lt le =
     let one : len - at ≡ suc (len - (at + 1)) = omega arith in
     rw (drop-set out at b here, one) refl
 
-IsEnded-cons : (b : ℕ) (s : List ℕ) → IsContinued b → IsEnded s → IsEnded (b ∷ s)
+pub IsEnded-cons : (b : ℕ) (s : List ℕ) → IsContinued b → IsEnded s → IsEnded (b ∷ s)
 IsEnded-cons b [] c e = absurd e
 IsEnded-cons b (x ∷ s) c e = (c, e)
 

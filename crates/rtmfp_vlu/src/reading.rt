@@ -1,5 +1,6 @@
 ghost use Rattle.std.specs.Prelude.{◌≡◌, ℕ, ◌<◌, ◌≤◌, ◌↔◌, length, take, IfOk, Ok};
 ghost use Rattle.rtmfp_vlu.specs.Vlu.{VluSpells, IsCut, IsLarge};
+ghost use Rattle.rtmfp_vlu.specs.Reading.{number_at};
 ghost use Rattle.rtmfp_vlu.specs.Decoding.{Decodes};
 
 use thiserror::Error;
@@ -28,6 +29,9 @@ pub fn read_vlu(bytes: &[u8]) -> Result<(u64, usize), VluFault>
 
     ensures short { (result ≡ Err VluFault.Short) ↔ IsCut bytes.now }
     ensures large { (result ≡ Err VluFault.Large) ↔ IsLarge bytes.now }
+
+    // All of this as one function.
+    ensures exact { result ≡ number_at bytes.now }
 {
     decode(bytes)
 }

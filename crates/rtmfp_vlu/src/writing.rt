@@ -5,6 +5,7 @@ ghost use Rattle.rtmfp_vlu.specs.Vlu.{Shortest, vlu};
 pub fn vlu_len(value: u64) -> usize
     ensures shortest { (s : List ℕ) → Shortest value s → result ≡ length s }
     ensures length { result ≡ length (vlu value) }
+    ensures within { result ≤ 10 }
 {
     (value.max(1).ilog2() / 7 + 1) as usize
 }
