@@ -44,9 +44,9 @@ flushed status.BadWords start mid after flushes ends = ends
 flushed (status.BadScript n) start mid after flushes ends =
     told_map start.left (λ script. BadAt script n start mid) (λ script. BadAt script n start after)
     (λ script bad. record { lines = bad.lines; line = bad.line; stops = bad.stops; within = bad.within; bad = bad.bad; shown = flushed_lines start mid after bad.lines flushes bad.shown }) ends
-flushed status.SinkFault start mid after flushes ends =
-    (rose_after start.sink_faults mid.sink_faults after.sink_faults flushes.sink ends.0,
-      told_map start.left (λ script. CutShort script start mid) (λ script. CutShort script start after)
+flushed status.SinkFault start mid after flushes ends = (
+  rose_after start.sink_faults mid.sink_faults after.sink_faults flushes.sink ends.0,
+  told_map start.left (λ script. CutShort script start mid) (λ script. CutShort script start after)
       (λ script cut. record {
         lines = cut.lines;
         more = cut.more;
@@ -56,20 +56,22 @@ flushed status.SinkFault start mid after flushes ends =
         part = cut.part;
         next = cut.next;
         written = flushed_text start mid after (cut.text ++ cut.part) flushes cut.written;
-      }) ends.1)
-flushed status.SourceFault start mid after flushes ends =
-    (let P : ℕ → Type 0 = λ n. Rose start.source_faults n in subst P (sym flushes.source) ends.0,
-      told_map start.left (λ script. TakenShown script start mid) (λ script. TakenShown script start after)
-      (λ script some. record { taken = some.taken; rest = some.rest; split = some.split; left = flushes.left ∙ some.left; shown = flushed_lines start mid after _ flushes some.shown }) ends.1)
+      }) ends.1,
+)
+flushed status.SourceFault start mid after flushes ends = (
+  let P : ℕ → Type 0 = λ n. Rose start.source_faults n in subst P (sym flushes.source) ends.0,
+  told_map start.left (λ script. TakenShown script start mid) (λ script. TakenShown script start after)
+      (λ script some. record { taken = some.taken; rest = some.rest; split = some.split; left = flushes.left ∙ some.left; shown = flushed_lines start mid after _ flushes some.shown }) ends.1,
+)
 flushed status.ScriptLong start mid after flushes ends =
     told_map start.left (λ script. TooMany script start mid) (λ script. TooMany script start after)
     (λ script many. record { lines = many.lines; line = many.line; stops = many.stops; shown = flushed_lines start mid after many.lines flushes many.shown }) ends
 
 -- all was shown, and the last bytes were not passed on
 not_flushed : (start mid after : Outside) → Flushes mid after → Rose start.sink_faults after.sink_faults → ShowEnds status.Done start mid → ShowEnds status.SinkFault start after
-not_flushed start mid after flushes rose ends =
-    (rose,
-      told_map start.left (λ script. AllShown script start mid) (λ script. CutShort script start after)
+not_flushed start mid after flushes rose ends = (
+  rose,
+  told_map start.left (λ script. AllShown script start mid) (λ script. CutShort script start after)
       (λ script all. record {
         lines = lines_of script;
         more = [];
@@ -79,7 +81,8 @@ not_flushed start mid after flushes rose ends =
         part = [];
         next = inl refl;
         written = (let P : List ℕ → Type 0 = λ xs. Appends start.written after.written xs in subst P (sym (append-nil all.shown.text)) (flushed_text start mid after all.shown.text flushes all.shown.written));
-      }) ends)
+      }) ends,
+)
 
 rose_from : (a b c : ℕ) → a ≤ b → Rose b c → Rose a c
 rose_from a b c le rose = omega arith

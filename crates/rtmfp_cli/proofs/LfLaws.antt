@@ -53,9 +53,9 @@ found_line limit scanned i bs none first fits within =
       no_lf = no_lf-further scanned i bs none first.1;
       size = length-take-le (scanned + i) bs (omega (arith, lt));
       joined =
-        sym (take-append-drop (scanned + i) bs)
-        ∙ ap (λ xs. take (scanned + i) bs ++ xs) ((let e : suc (scanned + i) ≡ scanned + i + 1 = omega arith in drop-cons bs (scanned + i) 0 lt ∙ ap (λ n. get_or bs (scanned + i) 0 ∷ drop n bs) e))
-        ∙ ap (λ x. take (scanned + i) bs ++ (x ∷ drop (scanned + i + 1) bs)) lf;
+          sym (take-append-drop (scanned + i) bs)
+          ∙ ap (λ xs. take (scanned + i) bs ++ xs) ((let e : suc (scanned + i) ≡ scanned + i + 1 = omega arith in drop-cons bs (scanned + i) 0 lt ∙ ap (λ n. get_or bs (scanned + i) 0 ∷ drop n bs) e))
+          ∙ ap (λ x. take (scanned + i) bs ++ (x ∷ drop (scanned + i + 1) bs)) lf;
     }
 
 pub found_long : (limit scanned i : ℕ) (bs : List ℕ) → NoLf (take scanned bs) → IsFirstLf (drop scanned bs) (Some i) → limit < scanned + i → scanned ≤ length bs → IsTooLong limit bs

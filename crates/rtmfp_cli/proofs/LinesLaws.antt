@@ -53,8 +53,8 @@ first_line b (c ∷ front) rest free =
       tail = later.tail;
       more = later.more;
       lines =
-        other b ([] ∷ lines_of ((c ∷ front) ++ rest)) (put_first b (lines_of ((c ∷ front) ++ rest))) free.0
-        ∙ ap (put_first b) later.lines;
+          other b ([] ∷ lines_of ((c ∷ front) ++ rest)) (put_first b (lines_of ((c ∷ front) ++ rest))) free.0
+          ∙ ap (put_first b) later.lines;
     }
 
 -- lines, each with its LF

@@ -56,9 +56,9 @@ ahead start now after n old bytes going takes = record {
   taken = going.taken ++ takes.got;
   consumed = consumes_more start.left now.left after.left going.taken takes.got going.consumed takes.consumed;
   split =
-    ap (λ xs. xs ++ takes.got) going.split
-    ∙ append_assoc (with_ends going.handled) old takes.got
-    ∙ ap (λ xs. with_ends going.handled ++ xs) (sym takes.joined);
+      ap (λ xs. xs ++ takes.got) going.split
+      ∙ append_assoc (with_ends going.handled) old takes.got
+      ∙ ap (λ xs. with_ends going.handled ++ xs) (sym takes.joined);
 }
 
 pub going_more : (start now after : Outside) (n : ℕ) (old new : List ℕ) → Going start now n old → ShowsOne now after old new → Going start after (n + 1) new
@@ -101,8 +101,8 @@ script_of script start after handled bytes e free ahead =
       left = found.2;
       split = ahead.split;
       lines =
-        ap lines_of (found.1 ∙ ap (λ xs. xs ++ found.0) ahead.split ∙ append_assoc (with_ends handled) bytes found.0)
-        ∙ lines_of-with_ends handled (bytes ++ found.0) free;
+          ap lines_of (found.1 ∙ ap (λ xs. xs ++ found.0) ahead.split ∙ append_assoc (with_ends handled) bytes found.0)
+          ∙ lines_of-with_ends handled (bytes ++ found.0) free;
     }
 
 -- the next line, where the source tells what is left
@@ -128,81 +128,81 @@ shown_none start now after n old bytes going none =
 all_shown : (start now after : Outside) (n : ℕ) (old : List ℕ) → Going start now n old → (rest : ShowsRest now after old) → n + length (lines_of rest.bytes) ≤ max_lines → Told start (λ script. AllShown script start after)
 all_shown start now after n old going rest fits =
     told_from start.left (λ script. AllShown script start after) (λ script e.
-      let known = script_of script start after going.handled rest.bytes e going.free (ahead start now after n old rest.bytes going rest.takes) in
-      let none = at_end after known.rest known.left rest.end in
-      let lines : lines_of script ≡ going.handled ++ lines_of rest.bytes =
-        known.lines ∙ ap (λ xs. going.handled ++ lines_of (rest.bytes ++ xs)) none ∙ ap (λ xs. going.handled ++ lines_of xs) (append-nil rest.bytes) in
-      let P : List (List ℕ) → Type 0 = λ ls. HasShown start after ls in
-      record {
-        read = known.left ∙ ap Some none;
-        count = omega (arith, ap (λ (ls : List (List ℕ)). length ls) lines, length-append going.handled (lines_of rest.bytes), going.count, fits);
-        shown = subst P (sym lines) record {
-          text = going.text ++ rest.text;
-          shown = shows_append going.handled (lines_of rest.bytes) going.text rest.text going.shown rest.shown;
-          written = appends_more start.written now.written after.written going.text rest.text going.written rest.written;
-        };
-      })
+    let known = script_of script start after going.handled rest.bytes e going.free (ahead start now after n old rest.bytes going rest.takes) in
+    let none = at_end after known.rest known.left rest.end in
+    let lines : lines_of script ≡ going.handled ++ lines_of rest.bytes =
+    known.lines ∙ ap (λ xs. going.handled ++ lines_of (rest.bytes ++ xs)) none ∙ ap (λ xs. going.handled ++ lines_of xs) (append-nil rest.bytes) in
+    let P : List (List ℕ) → Type 0 = λ ls. HasShown start after ls in
+    record {
+      read = known.left ∙ ap Some none;
+      count = omega (arith, ap (λ (ls : List (List ℕ)). length ls) lines, length-append going.handled (lines_of rest.bytes), going.count, fits);
+      shown = subst P (sym lines) record {
+        text = going.text ++ rest.text;
+        shown = shows_append going.handled (lines_of rest.bytes) going.text rest.text going.shown rest.shown;
+        written = appends_more start.written now.written after.written going.text rest.text going.written rest.written;
+      };
+    })
 
 some_shown : (start now after : Outside) (n : ℕ) (old bytes : List ℕ) → Going start now n old → ShowsNone now after old bytes → Told start (λ script. SomeShown script start after)
 some_shown start now after n old bytes going none =
     told_from start.left (λ script. SomeShown script start after) (λ script e.
-      let known = script_of script start after going.handled bytes e going.free (ahead start now after n old bytes going none.takes) in
-      record { lines = going.handled; more = lines_of (bytes ++ known.rest); split = known.lines; shown = shown_none start now after n old bytes going none })
+    let known = script_of script start after going.handled bytes e going.free (ahead start now after n old bytes going none.takes) in
+    record { lines = going.handled; more = lines_of (bytes ++ known.rest); split = known.lines; shown = shown_none start now after n old bytes going none })
 
 bad_at : (start now after : Outside) (n : ℕ) (old bytes : List ℕ) → Going start now n old → ShowsNone now after old bytes → NextLine IsBadLine after bytes → n + 1 ≤ max_lines →
     Told start (λ script. BadAt script (n + 1) start after)
 bad_at start now after n old bytes going none next fits =
     told_from start.left (λ script. BadAt script (n + 1) start after) (λ script e.
-      let known = script_of script start after going.handled bytes e going.free (ahead start now after n old bytes going none.takes) in
-      let line = next_of IsBadLine after bytes known.rest known.left next in
-      record {
-        lines = going.handled;
-        line = line.0;
-        stops = record { more = line.1; split = known.lines ∙ ap (λ ls. going.handled ++ ls) line.2; place = omega (arith, going.count) };
-        within = fits;
-        bad = line.3;
-        shown = shown_none start now after n old bytes going none;
-      })
+    let known = script_of script start after going.handled bytes e going.free (ahead start now after n old bytes going none.takes) in
+    let line = next_of IsBadLine after bytes known.rest known.left next in
+    record {
+      lines = going.handled;
+      line = line.0;
+      stops = record { more = line.1; split = known.lines ∙ ap (λ ls. going.handled ++ ls) line.2; place = omega (arith, going.count) };
+      within = fits;
+      bad = line.3;
+      shown = shown_none start now after n old bytes going none;
+    })
 
 too_many : (start now after : Outside) (old bytes : List ℕ) → Going start now max_lines old → ShowsNone now after old bytes → NextLine (λ line. Unit {0}) after bytes → Told start (λ script. TooMany script start after)
 too_many start now after old bytes going none next =
     told_from start.left (λ script. TooMany script start after) (λ script e.
-      let known = script_of script start after going.handled bytes e going.free (ahead start now after max_lines old bytes going none.takes) in
-      let line = next_of (λ line. Unit {0}) after bytes known.rest known.left next in
-      record {
-        lines = going.handled;
-        line = line.0;
-        stops = record { more = line.1; split = known.lines ∙ ap (λ ls. going.handled ++ ls) line.2; place = ap (λ k. k + 1) going.count };
-        shown = shown_none start now after max_lines old bytes going none;
-      })
+    let known = script_of script start after going.handled bytes e going.free (ahead start now after max_lines old bytes going none.takes) in
+    let line = next_of (λ line. Unit {0}) after bytes known.rest known.left next in
+    record {
+      lines = going.handled;
+      line = line.0;
+      stops = record { more = line.1; split = known.lines ∙ ap (λ ls. going.handled ++ ls) line.2; place = ap (λ k. k + 1) going.count };
+      shown = shown_none start now after max_lines old bytes going none;
+    })
 
 taken_shown : (start now after : Outside) (n : ℕ) (old bytes : List ℕ) → Going start now n old → ShowsNone now after old bytes → NoLf bytes → Told start (λ script. TakenShown script start after)
 taken_shown start now after n old bytes going none free =
     told_from start.left (λ script. TakenShown script start after) (λ script e.
-      let known = script_of script start after going.handled bytes e going.free (ahead start now after n old bytes going none.takes) in
-      let P : List (List ℕ) → Type 0 = λ ls. HasShown start after ls in
-      let whole : whole_lines known.taken ≡ going.handled = ap whole_lines known.split ∙ whole_lines-with_ends going.handled bytes going.free free in
-      record { taken = known.taken; rest = known.rest; split = known.whole; left = known.left; shown = subst P (sym whole) (shown_none start now after n old bytes going none) })
+    let known = script_of script start after going.handled bytes e going.free (ahead start now after n old bytes going none.takes) in
+    let P : List (List ℕ) → Type 0 = λ ls. HasShown start after ls in
+    let whole : whole_lines known.taken ≡ going.handled = ap whole_lines known.split ∙ whole_lines-with_ends going.handled bytes going.free free in
+    record { taken = known.taken; rest = known.rest; split = known.whole; left = known.left; shown = subst P (sym whole) (shown_none start now after n old bytes going none) })
 
 cut_short : (start now after : Outside) (n : ℕ) (old : List ℕ) → Going start now n old → ShowsPart now after old → Told start (λ script. CutShort script start after)
 cut_short start now after n old going short =
     told_from start.left (λ script. CutShort script start after) (λ script e.
-      let known = script_of script start after going.handled short.bytes e going.free (ahead start now after n old short.bytes going short.takes) in
-      record {
-        lines = going.handled;
-        more = lines_of (short.bytes ++ known.rest);
-        split = known.lines;
-        text = going.text;
-        shown = going.shown;
-        part = short.part;
-        next = elim short.next [
-          | inl none ↦ inl none
-          | inr some ↦ (
-              let line = next_of (λ line. ShowsLine line some.0) after short.bytes known.rest known.left some.3 in
-              inr (line.0, line.1, some.0, some.1, line.2, line.3, some.2))
-        ];
-        written = appends_more start.written now.written after.written going.text short.part going.written short.written;
-      })
+    let known = script_of script start after going.handled short.bytes e going.free (ahead start now after n old short.bytes going short.takes) in
+    record {
+      lines = going.handled;
+      more = lines_of (short.bytes ++ known.rest);
+      split = known.lines;
+      text = going.text;
+      shown = going.shown;
+      part = short.part;
+      next = elim short.next [
+        | inl none ↦ inl none
+        | inr some ↦ (
+            let line = next_of (λ line. ShowsLine line some.0) after short.bytes known.rest known.left some.3 in
+            inr (line.0, line.1, some.0, some.1, line.2, line.3, some.2))
+      ];
+      written = appends_more start.written now.written after.written going.text short.part going.written short.written;
+    })
 
 part_none : (now after : Outside) (old bytes : List ℕ) → ShowsNone now after old bytes → ShowsPart now after old
 part_none now after old bytes none = record { bytes = bytes; part = []; takes = none.takes; next = inl refl; written = none.written }

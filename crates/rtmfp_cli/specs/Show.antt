@@ -71,7 +71,7 @@ pub record TakenShown (script : List ℕ) (before after : Outside) : Type 0 wher
 abbrev pub IsPartOfNext : List (List ℕ) → List ℕ → Type 0
 IsPartOfNext more part =
     (part ≡ []) ⊎ ((line : List ℕ) × (later : List (List ℕ)) × (text : List ℕ) × (k : ℕ)
-      × (more ≡ line ∷ later) × ShowsLine line text × (part ≡ take k text))
+    × (more ≡ line ∷ later) × ShowsLine line text × (part ≡ take k text))
 
 -- the text of the first lines was written, and perhaps a part of that of the next
 pub record CutShort (script : List ℕ) (before after : Outside) : Type 0 where

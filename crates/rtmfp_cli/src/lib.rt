@@ -3,13 +3,14 @@
 
 mod buffer;
 mod lines;
-
 mod show;
 mod show_run;
 mod status;
 mod text;
 mod top_call;
 
-pub use top_call::run;
 pub use status::Status;
+pub use top_call::run;
 
+#[cfg(test)]
+mod tests;

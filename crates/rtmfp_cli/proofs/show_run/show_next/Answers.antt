@@ -40,10 +40,10 @@ returns-in-Line-clause-turned g c =
     let mid = g.K.Sink.written c.next_line.new.sink in
     let before = outside (g.S.Source.left c.args.source.now) (g.S.Source.faults c.args.source.now) (g.K.Sink.written c.args.sink.now) (g.K.Sink.faults c.args.sink.now) in
     let after =
-      outside (g.S.Source.left c.next_line.new.source) (g.S.Source.faults c.next_line.new.source) (g.K.Sink.written c.print_line-turn.new.sink) (g.K.Sink.faults c.print_line-turn.new.sink) in
+    outside (g.S.Source.left c.next_line.new.source) (g.S.Source.faults c.next_line.new.source) (g.K.Sink.written c.print_line-turn.new.sink) (g.K.Sink.faults c.print_line-turn.new.sink) in
     let P : List ℕ → Type 0 = λ bytes. Printed c.print_line-turn.result c.args.number (take c.in-Line.len bytes) mid after.written in
     let Q : List ℕ → Type 0 = λ bytes. Turned c.print_line-turn.result c.args.number before after c.args.buffer.now.bytes bytes in
     let between : Between before after c.args.buffer.now.bytes c.next_line.new.buffer.bytes mid = record { read = read.0; kept = c.in-Line.ensures.written } in
     subst Q (sym c.consume.ensures.bytes)
     (line_turned c.print_line-turn.result c.args.number c.in-Line.len before after c.args.buffer.now.bytes c.next_line.new.buffer.bytes mid between read.1
-      (subst P c.bytes.ensures c.print_line-turn.ensures.printed))
+    (subst P c.bytes.ensures c.print_line-turn.ensures.printed))

@@ -25,7 +25,7 @@ tested words word text result one bytes is =
     let words_are = λ (e : IsShow words). only_bytes (string_bytes word) (sym (ap (map string_bytes) one) ∙ e) in
     let P : Bool → Type 0 = λ b. IsTrue b ↔ IsShow words in
     subst P (sym is) (decided (bytes_eq text (codes "show")) (text ≡ codes "show") (IsShow words) (bytes_eq-Decides text (codes "show"))
-      (λ e. word_is (sym bytes ∙ e)) (λ e. bytes ∙ words_are e))
+    (λ e. word_is (sym bytes ∙ e)) (λ e. bytes ∙ words_are e))
 
 pub returns-in-len1 : goal.returns-in-len1
 returns-in-len1 c =

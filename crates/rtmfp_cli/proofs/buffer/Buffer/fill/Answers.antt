@@ -8,7 +8,7 @@ returns-in-Done-clause-filled g c =
     let i = c.self.inside in
     let seen = ap (λ (p : Pending). p.bytes) c.self.view_is ∙ c.compact.ensures.bytes in
     let lent : IsLent i.storage.len i.start i.end i.storage.items c.deref_mut.result.now c.args.self.now.bytes =
-      record { size = i.storage.ok.0; value = c.deref_mut.ensures.value; ordered = c.self.invariant.0; within = c.self.invariant.1; seen = seen } in
+    record { size = i.storage.ok.0; value = c.deref_mut.ensures.value; ordered = c.self.invariant.0; within = c.self.invariant.1; seen = seen } in
     fill_done _ _ i.storage.len i.start i.end c.in-Done.count i.storage.items c.deref_mut.result.now c.args.self.now.bytes c.read_behind.new.bytes lent c.read_behind.ensures.length c.in-Done.ensures.behind
 
 pub returns-in-End-clause-filled : goal.returns-in-End-clause-filled
@@ -16,7 +16,7 @@ returns-in-End-clause-filled g c =
     let i = c.self.inside in
     let seen = ap (λ (p : Pending). p.bytes) c.self.view_is ∙ c.compact.ensures.bytes in
     let lent : IsLent i.storage.len i.start i.end i.storage.items c.deref_mut.result.now c.args.self.now.bytes =
-      record { size = i.storage.ok.0; value = c.deref_mut.ensures.value; ordered = c.self.invariant.0; within = c.self.invariant.1; seen = seen } in
+    record { size = i.storage.ok.0; value = c.deref_mut.ensures.value; ordered = c.self.invariant.0; within = c.self.invariant.1; seen = seen } in
     let behind = c.in-End.ensures.behind in
     (behind.0, behind.1, fill_kept i.storage.len i.start i.end i.storage.items c.deref_mut.result.now c.args.self.now.bytes c.read_behind.new.bytes lent c.read_behind.ensures.length behind.2)
 
@@ -25,6 +25,6 @@ returns-in-Failed-clause-filled g c =
     let i = c.self.inside in
     let seen = ap (λ (p : Pending). p.bytes) c.self.view_is ∙ c.compact.ensures.bytes in
     let lent : IsLent i.storage.len i.start i.end i.storage.items c.deref_mut.result.now c.args.self.now.bytes =
-      record { size = i.storage.ok.0; value = c.deref_mut.ensures.value; ordered = c.self.invariant.0; within = c.self.invariant.1; seen = seen } in
+    record { size = i.storage.ok.0; value = c.deref_mut.ensures.value; ordered = c.self.invariant.0; within = c.self.invariant.1; seen = seen } in
     let behind = c.in-Failed.ensures.behind in
     (behind.0, fill_kept i.storage.len i.start i.end i.storage.items c.deref_mut.result.now c.args.self.now.bytes c.read_behind.new.bytes lent c.read_behind.ensures.length behind.1)

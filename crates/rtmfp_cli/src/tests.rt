@@ -1,0 +1,129 @@
+use crate::{Status, run};
+use rtmfp_host::{FaultySink, FaultySource, MemorySource};
+use std::alloc::Global;
+use std::test::Fail;
+
+const HEAD: &str = "packet mode=3 critical=0 reverse=0 stamp=- echo=-\n";
+
+/// Runs `show` over pieces of the input, with reads and writes that fail, and gives what was written.
+fn shown(
+    alloc: Global,
+    input: &str,
+    piece: usize,
+    failing_reads: &[u64],
+    failing_writes: &[u64],
+) -> Result<(Status, String), Fail>
+    requires { 0 < piece }
+{
+    let words = vec![in alloc; String::from_str(alloc, "show")?]?;
+    let bytes = MemorySource::in_pieces(Vec::from_slice(alloc, input.as_bytes())?, piece);
+    let mut source = FaultySource::new(bytes, Vec::from_slice(alloc, failing_reads)?);
+    let mut sink = FaultySink::new(alloc, Vec::from_slice(alloc, failing_writes)?);
+    let status = run(alloc, words.as_slice(), &mut source, &mut sink);
+    let written = sink.written().ok_or("a sink that kept all")?;
+    let text = std::str::from_utf8(written).ok().ok_or("text")?;
+    Ok((status, String::from_str(alloc, text)?))
+}
+
+#[test]
+fn shows_each_line_in_whatever_pieces_it_comes(rt: HostRuntime) -> Result<(), Fail> {
+    let table = [
+        ("0330000100\n", "1 ihello epd=- tag=-\npadding 0\n"),
+        ("0330000401414243", "1 ihello epd=41 tag=4243\npadding 0\n"),
+        ("03", "padding 0\n"),
+        (
+            "03300001000100034142\n",
+            "1 ihello epd=- tag=-\npadding 5\n",
+        ),
+        ("03AbCdEf\n", "padding 3\n"),
+        ("0300000000\n", "padding 1\n"),
+        ("03 ff", ""),
+    ];
+    for (input, rest) in table {
+        for piece in [1, 3, 4096] {
+            let (status, text) = shown(rt.alloc(), input, piece, &[], &[])?;
+            if rest.is_empty() {
+                assert_eq!(rt; status, Status::BadScript(1), "{input}");
+                assert_eq!(rt; text.as_str(), "", "{input}");
+            } else {
+                let whole = format!(in rt.alloc(); "{HEAD}{rest}")?;
+                assert_eq!(rt; status, Status::Done, "{input}");
+                assert_eq!(rt; text.as_str(), whole.as_str(), "{input}");
+            }
+        }
+    }
+    Ok(())
+}
+
+#[test]
+fn shows_heads(rt: HostRuntime) -> Result<(), Fail> {
+    let table = [
+        ("00\n", "bad mode-zero\n"),
+        ("0b12\n", "bad short-stamp\n"),
+        ("\n", "bad empty\n"),
+        (
+            "4e1234567800\n",
+            "packet mode=2 critical=0 reverse=1 stamp=4660 echo=22136\npadding 1\n",
+        ),
+        ("", ""),
+    ];
+    for (input, text) in table {
+        let (status, written) = shown(rt.alloc(), input, 4096, &[], &[])?;
+        assert_eq!(rt; status, Status::Done, "{input}");
+        assert_eq!(rt; written.as_str(), text, "{input}");
+    }
+    Ok(())
+}
+
+#[test]
+fn stops_at_bad_lines_and_faults(rt: HostRuntime) -> Result<(), Fail> {
+    let table: [(&str, &[u64], &[u64], Status, &str); 8] = [
+        ("03zz\n", &[], &[], Status::BadScript(1), ""),
+        ("-\n", &[], &[], Status::BadScript(1), ""),
+        ("030\n", &[], &[], Status::BadScript(1), ""),
+        ("\n03\r\n", &[], &[], Status::BadScript(2), "bad empty\n"),
+        ("0330000100\n", &[], &[1], Status::SinkFault, ""),
+        ("0330000100\n", &[1], &[], Status::SourceFault, ""),
+        ("00\n", &[2], &[], Status::SourceFault, "bad mode-zero\n"),
+        ("00\n\n", &[], &[2], Status::SinkFault, "bad mode-zero\n"),
+    ];
+    for (input, reads, writes, status, text) in table {
+        let (ended, written) = shown(rt.alloc(), input, 4096, reads, writes)?;
+        assert_eq!(rt; ended, status, "{input}");
+        assert_eq!(rt; written.as_str(), text, "{input}");
+    }
+    Ok(())
+}
+
+#[test]
+fn takes_the_one_word_show(rt: HostRuntime) -> Result<(), Fail> {
+    let alloc = rt.alloc();
+    let table: [&[&str]; 4] = [&["play"], &[], &["show", "show"], &["Show"]];
+    for words in table {
+        let mut owned = Vec::new(alloc);
+        for word in words {
+            owned.push(String::from_str(alloc, word)?)?;
+        }
+        let mut source = MemorySource::new(Vec::from_slice(alloc, b"00\n")?);
+        let mut sink = FaultySink::new(alloc, Vec::new(alloc));
+        let status = run(alloc, owned.as_slice(), &mut source, &mut sink);
+        assert_eq!(rt; status, Status::BadWords);
+    }
+    Ok(())
+}
+
+#[test]
+fn names_each_status(rt: HostRuntime) -> Result<(), Fail> {
+    let table = [
+        (Status::Memory, "out of memory"),
+        (Status::BadWords, "bad command line"),
+        (Status::BadScript(12), "bad line 12"),
+        (Status::SinkFault, "write fault"),
+        (Status::SourceFault, "read fault"),
+        (Status::ScriptLong, "more than 1000000 lines"),
+    ];
+    for (status, text) in table {
+        assert_eq!(rt; format!(in rt.alloc(); "{status}")?.as_str(), text);
+    }
+    Ok(())
+}
