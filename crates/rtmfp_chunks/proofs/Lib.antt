@@ -1,2 +1,4 @@
 pub mod FieldLaws
+pub mod AddressLists
+pub mod RowLaws
 pub mod ReadingLaws

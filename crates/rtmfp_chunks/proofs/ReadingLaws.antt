@@ -1,23 +1,121 @@
 -- A payload reads in one way.
-use Rattle.std.proofs.Common.{◌≡◌, ℕ, List, Result, Ok, Err, sym, ap, ◌∙◌}
+use Rattle.std.proofs.Common.{◌≡◌, ℕ, ◌-◌, ◌≤◌, List, length, Option, Some, None, Result, Ok, Err, refl, sym, ap, subst, ◌∙◌, arith}
+use Rattle.rtmfp_vlu.proofs.Bytes.{IsBytes}
+use Rattle.rtmfp_chunks.specs.declared.view.ChunkView.{ChunkView}
 use Rattle.rtmfp_chunks.specs.declared.reading.ChunkFault.{ChunkFault}
 use Rattle.rtmfp_chunks.specs.declared.reading.ChunkFault.TheVariants.{Unknown, Malformed}
-use Rattle.rtmfp_chunks.specs.Chunk.{Chunk, IHello, PayloadSpells, is_known, kind_of}
-use Rattle.rtmfp_chunks.specs.Reading.{Reading}
-use Rattle.rtmfp_chunks.proofs.FieldLaws.{same_counted, counted_whole, breaks_same}
+use Rattle.rtmfp_chunks.specs.Fields.{Parts, Row, PartsSpell, RowBreaks}
+use Rattle.rtmfp_chunks.specs.Chunk.{Chunk, IHello, FIHello, RHello, Redirect, CookieChange, IIKeying, RIKeying, Ping, PingReply, Close, CloseAck, Fragment, chunk_of, kind_of, parts_of, row_of, Spells, Breaks}
+use Rattle.rtmfp_chunks.specs.Reading.{Reading, shown}
+use Rattle.rtmfp_chunks.specs.FieldReading.{row_at, typed, typed_row, chunk_at, described}
+use Rattle.rtmfp_chunks.proofs.RowLaws.{RowIs, row_is, row_of_parts, row_again, row_broken, row_within}
 
-chunk_same : (a b : Chunk) (p : List ℕ) → kind_of a ≡ kind_of b → PayloadSpells a p → PayloadSpells b p → a ≡ b
-chunk_same (IHello epd tag) (IHello epd' tag') p e x y =
-    let same = same_counted epd epd' x.0 y.0 tag tag' x.1 y.1 (sym x.2 ∙ y.2) in
-    ap (λ z. IHello z tag) same.bytes ∙ ap (λ z. IHello epd' z) same.rest
+-- the type and the fields are those of one chunk
+same_chunk : (a b : Chunk) → kind_of a ≡ kind_of b → parts_of a ≡ parts_of b → a ≡ b
+same_chunk (IHello epd tag) (IHello epd' tag') e p = cc
+same_chunk (FIHello epd reply tag) (FIHello epd' reply' tag') e p = cc
+same_chunk (RHello tag cookie cert) (RHello tag' cookie' cert') e p = cc
+same_chunk (Redirect tag list) (Redirect tag' list') e p = cc
+same_chunk (CookieChange old new) (CookieChange old' new') e p = cc
+same_chunk (IIKeying near cookie cert part sign) (IIKeying near' cookie' cert' part' sign') e p = cc
+same_chunk (RIKeying near part sign) (RIKeying near' part' sign') e p = cc
+same_chunk (Ping bytes) (Ping bytes') e p = cc
+same_chunk (PingReply bytes) (PingReply bytes') e p = cc
+same_chunk Close Close e p = refl
+same_chunk CloseAck CloseAck e p = refl
+same_chunk (Fragment more id number bytes) (Fragment more' id' number' bytes') e p = cc
+same_chunk a b e p = absurd (omega (arith, e))
 
-pub reading_same : (kind : ℕ) (p : List ℕ) (a b : Result Chunk ChunkFault) → Reading kind p a → Reading kind p b → a ≡ b
-reading_same kind p (Ok a) (Ok b) x y = ap Ok (chunk_same a b p (sym x.0 ∙ y.0) x.1 y.1)
-reading_same kind p (Ok (IHello epd tag)) (Err (Unknown told)) x y = absurd (cc (ap is_known x.0))
-reading_same kind p (Ok (IHello epd tag)) (Err (Malformed at)) x y = absurd (counted_whole epd x.1.0 tag p at x.1.1 x.1.2 y.1)
-reading_same kind p (Err (Unknown told)) (Ok (IHello epd tag)) x y = absurd (cc (ap is_known y.0))
-reading_same kind p (Err (Malformed at)) (Ok (IHello epd tag)) x y = absurd (counted_whole epd y.1.0 tag p at y.1.1 y.1.2 x.1)
-reading_same kind p (Err (Unknown told)) (Err (Unknown other)) x y = ap (λ z. Err (Unknown z)) (x.0 ∙ sym y.0)
-reading_same kind p (Err (Unknown told)) (Err (Malformed at)) x y = absurd (cc (ap is_known y.0))
-reading_same kind p (Err (Malformed at)) (Err (Unknown told)) x y = absurd (cc (ap is_known x.0))
-reading_same kind p (Err (Malformed at)) (Err (Malformed other)) x y = ap (λ z. Err (Malformed z)) (breaks_same p at other x.1 y.1)
+-- each chunk has the fields of its type
+row_known : (chunk : Chunk) → row_of (kind_of chunk) ≡ Some (row_of_parts (parts_of chunk))
+unfolding row_of
+row_known (IHello epd tag) = refl
+row_known (FIHello epd reply tag) = refl
+row_known (RHello tag cookie cert) = refl
+row_known (Redirect tag list) = refl
+row_known (CookieChange old new) = refl
+row_known (IIKeying near cookie cert part sign) = refl
+row_known (RIKeying near part sign) = refl
+row_known (Ping bytes) = refl
+row_known (PingReply bytes) = refl
+row_known Close = refl
+row_known CloseAck = refl
+row_known (Fragment more id number bytes) = refl
+
+-- ---- what reads so is what the function gives
+
+spelled_at : (chunk : Chunk) (kind : ℕ) (b : List ℕ) → Spells chunk kind b → chunk_at kind b ≡ Some (Ok (kind, parts_of chunk))
+unfolding chunk_at
+spelled_at chunk kind b h =
+    let row : row_of kind ≡ Some (row_of_parts (parts_of chunk)) = ap row_of h.0 ∙ row_known chunk in
+    rw (row, row_again (parts_of chunk) b h.1) refl
+
+broken_at : (kind : ℕ) (b : List ℕ) (at : ℕ) → Breaks kind b at → chunk_at kind b ≡ Some (Err (length b - at))
+unfolding chunk_at
+broken_at kind b at (row, is, h) = rw (is, row_broken row b at h) refl
+
+unknown_at : (kind : ℕ) (b : List ℕ) → row_of kind ≡ None → chunk_at kind b ≡ None
+unfolding chunk_at
+unknown_at kind b e = rw e refl
+
+-- ---- and the other way round
+
+pub record Found (kind : ℕ) (b : List ℕ) (k : ℕ) (parts : Parts) : Type 0 where
+  pub is_kind : kind ≡ k
+  pub spells : PartsSpell parts b
+
+found_row : (kind : ℕ) (b : List ℕ) (r : Result Parts ℕ) (row : Row) (k : ℕ) (parts : Parts) → RowIs row b r → Some (typed kind r) ≡ Some (Ok (k, parts)) → Found kind b k parts
+found_row kind b (Ok found) row k parts h e =
+    let pair : (kind, found) ≡ (k, parts) = cc in
+    record { is_kind = ap (λ (x : ℕ × Parts). x.0) pair; spells = subst (λ (p : Parts). PartsSpell p b) (ap (λ (x : ℕ × Parts). x.1) pair) h }
+found_row kind b (Err left) row k parts h e = absurd (cc)
+
+found_in : (kind : ℕ) (b : List ℕ) (o : Option Row) (k : ℕ) (parts : Parts) → IsBytes b → typed_row kind b o ≡ Some (Ok (k, parts)) → Found kind b k parts
+found_in kind b None k parts fits e = absurd (cc)
+found_in kind b (Some row) k parts fits e = found_row kind b (row_at row b) row k parts (row_is row b fits) e
+
+pub found_reads : (kind : ℕ) (b : List ℕ) (chunk : Chunk) → IsBytes b → chunk_at kind b ≡ Some (Ok (kind_of chunk, parts_of chunk)) → Spells chunk kind b
+unfolding chunk_at
+found_reads kind b chunk fits e = let h = found_in kind b (row_of kind) (kind_of chunk) (parts_of chunk) fits e in (h.is_kind, h.spells)
+
+fault_row : (kind : ℕ) (b : List ℕ) (r : Result Parts ℕ) (row : Row) (left : ℕ) → RowIs row b r → Some (typed kind r) ≡ Some (Err left) → (left ≤ length b) × RowBreaks row b (length b - left)
+fault_row kind b (Ok found) row left h e = absurd (cc)
+fault_row kind b (Err there) row left h e =
+    let same : there ≡ left = cc in
+    subst (λ (n : ℕ). (n ≤ length b) × RowBreaks row b (length b - n)) same h
+
+fault_in : (kind : ℕ) (b : List ℕ) (o : Option Row) (left : ℕ) → IsBytes b → typed_row kind b o ≡ Some (Err left) → (left ≤ length b) × ((row : Row) × (o ≡ Some row) × RowBreaks row b (length b - left))
+fault_in kind b None left fits e = absurd (cc)
+fault_in kind b (Some row) left fits e = let h = fault_row kind b (row_at row b) row left (row_is row b fits) e in (h.0, (row, refl, h.1))
+
+pub fault_reads : (kind : ℕ) (b : List ℕ) (left : ℕ) → IsBytes b → chunk_at kind b ≡ Some (Err left) → (left ≤ length b) × Breaks kind b (length b - left)
+unfolding chunk_at
+fault_reads kind b left fits e = fault_in kind b (row_of kind) left fits e
+
+none_in : (kind : ℕ) (b : List ℕ) (o : Option Row) → typed_row kind b o ≡ None → o ≡ None
+none_in kind b None e = refl
+none_in kind b (Some row) e = absurd (cc)
+
+pub none_reads : (kind : ℕ) (b : List ℕ) → chunk_at kind b ≡ None → row_of kind ≡ None
+unfolding chunk_at
+none_reads kind b e = none_in kind b (row_of kind) e
+
+-- ---- so there is one reading
+
+pub reading_same : (kind : ℕ) (b : List ℕ) (x y : Result Chunk ChunkFault) → Reading kind b x → Reading kind b y → x ≡ y
+reading_same kind b (Ok p) (Ok q) x y =
+    let both = sym (spelled_at p kind b x) ∙ spelled_at q kind b y in
+    let pair : (kind, parts_of p) ≡ (kind, parts_of q) = cc in
+    ap Ok (same_chunk p q (sym x.0 ∙ y.0) (ap (λ (z : ℕ × Parts). z.1) pair))
+reading_same kind b (Ok p) (Err (Unknown told)) x y = let both = sym (spelled_at p kind b x) ∙ unknown_at kind b y.1 in absurd (cc)
+reading_same kind b (Ok p) (Err (Malformed at)) x y = let both = sym (spelled_at p kind b x) ∙ broken_at kind b at y in absurd (cc)
+reading_same kind b (Err (Unknown told)) (Ok q) x y = let both = sym (spelled_at q kind b y) ∙ unknown_at kind b x.1 in absurd (cc)
+reading_same kind b (Err (Malformed at)) (Ok q) x y = let both = sym (spelled_at q kind b y) ∙ broken_at kind b at x in absurd (cc)
+reading_same kind b (Err (Unknown told)) (Err (Unknown other)) x y = ap (λ (n : ℕ). Err (Unknown n)) (x.0 ∙ sym y.0)
+reading_same kind b (Err (Unknown told)) (Err (Malformed at)) x y = let both = sym (broken_at kind b at y) ∙ unknown_at kind b x.1 in absurd (cc)
+reading_same kind b (Err (Malformed at)) (Err (Unknown told)) x y = let both = sym (broken_at kind b at x) ∙ unknown_at kind b y.1 in absurd (cc)
+reading_same kind b (Err (Malformed at)) (Err (Malformed other)) x y =
+    let both = sym (broken_at kind b at x) ∙ broken_at kind b other y in
+    let left : length b - at ≡ length b - other = cc in
+    let same : at ≡ other = omega (arith, left, row_within x.0 b at x.2, row_within y.0 b other y.2) in
+    ap (λ (n : ℕ). Err (Malformed n)) same

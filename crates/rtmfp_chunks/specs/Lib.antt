@@ -1,3 +1,4 @@
 pub mod Fields
 pub mod Chunk
 pub mod Reading
+pub mod FieldReading

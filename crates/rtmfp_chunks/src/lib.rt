@@ -1,7 +1,10 @@
-//! The chunks of session startup of RFC 7016 section 2.3, read in place.
+//! The chunks of RFC 7016 section 2.3, those of flows aside, read in place and written exactly.
 #![tactic(auto)]
 
 mod fields;
 mod reading;
+mod rows;
+mod view;
 
-pub use reading::{ChunkFault, ChunkView, read_chunk};
+pub use reading::{ChunkFault, read_chunk};
+pub use view::ChunkView;

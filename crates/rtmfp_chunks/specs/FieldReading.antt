@@ -1,0 +1,109 @@
+-- Fields from left to right. Where one can't be read, the number of bytes from there to the end is told.
+use Rattle.std.specs.Borrow.{Bor}
+use Rattle.std.specs.Prelude.{◌≡◌, ℕ, zero, suc, Bool, List, [], ◌∷◌, length, take, drop, Option, Some, None, Result, Ok, Err, nat_lt, nat_le, if◌then◌else◌}
+use Rattle.std.specs.Int.{w32, from_be_bytes}
+use Rattle.rtmfp_vlu.specs.declared.reading.VluFault.{VluFault}
+use Rattle.rtmfp_vlu.specs.Reading.{number_at}
+use Rattle.rtmfp_forms.specs.declared.fault.FormFault.{FormFault}
+use Rattle.rtmfp_forms.specs.Address.{AddressParts}
+use Rattle.rtmfp_forms.specs.AddressReading.{address_at}
+use Rattle.rtmfp_forms.specs.OptionReading.{◌>>=◌}
+use Rattle.rtmfp_chunks.specs.declared.view.ChunkView.{ChunkView}
+use Rattle.rtmfp_chunks.specs.Fields.{Field, Counted, Number, SessionId, More, Place, Parts, Then, Rest, Places, Ignored}
+use Rattle.rtmfp_chunks.specs.Fields.{Form, CountedForm, NumberForm, SessionIdForm, MoreForm, PlaceForm, Row, ThenRow, RestRow, PlacesRow, IgnoredRow}
+use Rattle.rtmfp_chunks.specs.Chunk.{chunk_of, kind_of, parts_of, row_of}
+
+-- what a function returned, seen by view, is what reading gives
+abbrev pub Shows : {X Y : Type 0} → (X → Y) → Result X ℕ → Result Y ℕ → Type 0
+Shows view (Ok x) read = read ≡ Ok (view x)
+Shows view (Err left) read = read ≡ Err left
+
+abbrev pub split_number : List ℕ → Result (ℕ × ℕ) VluFault → Result (ℕ × List ℕ) ℕ
+split_number b (Ok found) = Ok (found.0, drop found.1 b)
+split_number b (Err fault) = Err (length b)
+
+-- a VLU in front, and what follows it
+unfoldable pub number_then : List ℕ → Result (ℕ × List ℕ) ℕ
+number_then b = split_number b (number_at b)
+
+-- so many bytes, and what follows them
+unfoldable pub bytes_then : ℕ → List ℕ → Result (List ℕ × List ℕ) ℕ
+bytes_then size b = if nat_lt (length b) size then Err (length b) else Ok (take size b, drop size b)
+
+unfoldable pub counted_then : List ℕ → Result (List ℕ × List ℕ) ℕ
+counted_then b = do
+  size ← number_then b
+  bytes_then size.0 size.1
+
+unfoldable pub id_then : List ℕ → Result (ℕ × List ℕ) ℕ
+id_then b = if nat_lt (length b) 4 then Err (length b) else Ok (from_be_bytes w32 (take 4 b), drop 4 b)
+
+unfoldable pub more_then : List ℕ → Result (Bool × List ℕ) ℕ
+more_then [] = Err 0
+more_then (flags ∷ rest) = Ok (nat_le 128 flags, rest)
+
+abbrev pub split_address : List ℕ → Result (AddressParts × ℕ) FormFault → Result (AddressParts × List ℕ) ℕ
+split_address b (Ok found) = Ok (found.0, drop found.1 b)
+split_address b (Err fault) = Err (length b)
+
+unfoldable pub address_then : List ℕ → Result (AddressParts × List ℕ) ℕ
+address_then b = split_address b (address_at b)
+
+-- addresses up to the end, in so many steps
+unfoldable pub addresses_within : ℕ → List ℕ → Result (List AddressParts) ℕ
+addresses_within zero b = Ok []
+addresses_within (suc steps) [] = Ok []
+addresses_within (suc steps) (x ∷ xs) = do
+  first ← address_then (x ∷ xs)
+  others ← addresses_within steps first.1
+  Ok (first.0 ∷ others)
+
+-- each address has at least a byte
+unfoldable pub addresses_at : List ℕ → Result (List AddressParts) ℕ
+addresses_at b = addresses_within (suc (length b)) b
+
+-- the bytes of addresses up to the end
+unfoldable pub list_at : List ℕ → Result (List ℕ) ℕ
+list_at b = addresses_at b >>= λ addresses. Ok b
+
+-- a field of a form, and what follows it
+unfoldable pub field_then : Form → List ℕ → Result (Field × List ℕ) ℕ
+field_then CountedForm b = counted_then b >>= λ found. Ok (Counted found.0, found.1)
+field_then NumberForm b = number_then b >>= λ found. Ok (Number found.0, found.1)
+field_then SessionIdForm b = id_then b >>= λ found. Ok (SessionId found.0, found.1)
+field_then MoreForm b = more_then b >>= λ found. Ok (More found.0, found.1)
+field_then PlaceForm b = address_then b >>= λ found. Ok (Place found.0, found.1)
+
+unfoldable pub row_at : Row → List ℕ → Result Parts ℕ
+row_at (ThenRow first others) b = do
+  field ← field_then first b
+  parts ← row_at others field.1
+  Ok (Then field.0 parts)
+row_at RestRow b = Ok (Rest b)
+row_at PlacesRow b = list_at b >>= λ list. Ok (Places list)
+row_at IgnoredRow b = Ok Ignored
+
+abbrev pub typed : ℕ → Result Parts ℕ → Result (ℕ × Parts) ℕ
+typed kind (Ok parts) = Ok (kind, parts)
+typed kind (Err left) = Err left
+
+abbrev pub typed_row : ℕ → List ℕ → Option Row → Option (Result (ℕ × Parts) ℕ)
+typed_row kind b None = None
+typed_row kind b (Some row) = Some (typed kind (row_at row b))
+
+-- the type and the fields of a payload of this type; none where no chunk has it
+unfoldable pub chunk_at : ℕ → List ℕ → Option (Result (ℕ × Parts) ℕ)
+chunk_at kind b = typed_row kind b (row_of kind)
+
+-- what a reader of payloads returned, in its type and fields
+abbrev pub described : Result ChunkView ℕ → Result (ℕ × Parts) ℕ
+described (Ok view) = Ok (kind_of (chunk_of view), parts_of (chunk_of view))
+described (Err left) = Err left
+
+-- two parts of a list
+abbrev pub split_of : Bor (List ℕ) × Bor (List ℕ) → List ℕ × List ℕ
+split_of found = (found.0.now, found.1.now)
+
+-- a value, and what follows it
+abbrev pub value_of : {X : Type 0} → X × Bor (List ℕ) → X × List ℕ
+value_of found = (found.0, found.1.now)
