@@ -5,6 +5,8 @@ mod fields;
 mod reading;
 mod rows;
 mod view;
+mod writing;
 
 pub use reading::{ChunkFault, read_chunk};
 pub use view::ChunkView;
+pub use writing::write_chunk;
