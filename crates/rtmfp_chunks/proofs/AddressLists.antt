@@ -1,9 +1,8 @@
 -- Addresses up to the end: the list that is read is the one that is spelled, and each fault is where it breaks.
-use Rattle.std.proofs.Common.{◌≡◌, ℕ, zero, suc, ◌+◌, ◌-◌, ◌<◌, ◌≤◌, List, [], ◌∷◌, ◌++◌, length, take, drop, Result, Ok, Err, refl, sym, ap, subst, ◌∙◌, append_assoc, append-nil, arith}
-use Rattle.std.proofs.lemmas.List.{length-append, length-take, take-append-drop, drop_at}
+use Rattle.std.proofs.Common.{◌≡◌, ℕ, zero, suc, ◌-◌, ◌<◌, ◌≤◌, List, [], ◌∷◌, ◌++◌, length, Result, Ok, Err, refl, sym, ap, subst, ◌∙◌, append_assoc, append-nil, arith}
+use Rattle.std.proofs.lemmas.List.{length-append}
 use Rattle.rtmfp_vlu.proofs.Bytes.{IsBytes, IsBytes-drop}
 use Rattle.rtmfp_vlu.proofs.Fields.{behind}
-use Rattle.rtmfp_forms.specs.declared.fault.FormFault.{FormFault}
 use Rattle.rtmfp_forms.specs.Address.{AddressParts, AddressSpells, IsCutAddress}
 use Rattle.rtmfp_forms.specs.OptionReading.{◌>>=◌}
 use Rattle.rtmfp_chunks.specs.Fields.{AddressesSpell, AreAddresses, AddressesBreak, PlaceForm, Place}

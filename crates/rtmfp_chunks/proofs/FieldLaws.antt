@@ -1,15 +1,15 @@
 -- A field that is read is the one that is spelled, and each fault is where it breaks.
-use Rattle.std.proofs.Common.{◌≡◌, ℕ, suc, ◌+◌, ◌-◌, ◌^◌, ◌<◌, ◌≤◌, Bool, true, false, leb, ltb, List, [], ◌∷◌, ◌++◌, length, take, drop, Result, Ok, Err, refl, sym, ap, subst, ◌∙◌, append_assoc, inl, inr, arith}
+use Rattle.std.proofs.Common.{◌≡◌, ℕ, ◌-◌, ◌^◌, ◌<◌, ◌≤◌, Bool, false, ltb, List, [], ◌∷◌, ◌++◌, length, take, drop, Result, Ok, Err, refl, sym, ap, subst, ◌∙◌, append_assoc, inl, inr, arith}
 use Rattle.std.specs.Int.{w32, to_be_bytes, from_be_bytes}
 use Rattle.std.proofs.lemmas.Bool.{cases_lt, lt-ltb, le-ltb}
-use Rattle.std.proofs.lemmas.List.{take_at, drop_at, length-append, length-take, length-take-le, length-drop, take-append-drop}
+use Rattle.std.proofs.lemmas.List.{take_at, drop_at, length-append, length-take-le, take-append-drop}
 use Rattle.std.proofs.lemmas.Nat.{be_bytes_4, from_be_bytes-to_be_bytes_4}
 use Rattle.rtmfp_vlu.specs.declared.reading.VluFault.{VluFault}
 use Rattle.rtmfp_vlu.specs.declared.reading.VluFault.TheVariants as vlu
 use Rattle.rtmfp_vlu.specs.Vlu.{VluSpells}
 use Rattle.rtmfp_vlu.specs.Reading.{number_at}
 use Rattle.rtmfp_vlu.specs.Decoding.{Decodes}
-use Rattle.rtmfp_vlu.proofs.Bytes.{IsBytes, IsBytes-take, IsBytes-drop}
+use Rattle.rtmfp_vlu.proofs.Bytes.{IsBytes, IsBytes-take}
 use Rattle.rtmfp_vlu.proofs.Fields.{stands}
 use Rattle.rtmfp_vlu.proofs.Places.{decodes_number, reads_number, reads_cut, reads_large}
 use Rattle.rtmfp_forms.specs.declared.fault.FormFault.{FormFault}
@@ -60,11 +60,11 @@ counted_from b size count rest e h =
         inr record { size = size; count = count; rest = rest; spells = h; joined = e; cut = lt; place = omega (arith, ap length e, length-append count rest) },
       )
       | inr fits ↦ rw (le-ltb (length rest) size fits) (
-        let P : ℕ → Type 0 = λ n. VluSpells n count in (
-          count ++ take size rest,
-          e ∙ ap (λ (xs : List ℕ). count ++ xs) (sym (take-append-drop size rest)) ∙ sym (append_assoc count (take size rest) (drop size rest)),
-          record { count = count; spells = subst P (sym (length-take-le size rest fits)) h; joined = refl },
-        ))
+          let P : ℕ → Type 0 = λ n. VluSpells n count in (
+            count ++ take size rest,
+            e ∙ ap (λ (xs : List ℕ). count ++ xs) (sym (take-append-drop size rest)) ∙ sym (append_assoc count (take size rest) (drop size rest)),
+            record { count = count; spells = subst P (sym (length-take-le size rest fits)) h; joined = refl },
+          ))
     ]
 
 counted_size : (b : List ℕ) (r : Result (ℕ × List ℕ) ℕ) → Is NumberForm Number b r → Is CountedForm Counted b (r >>= λ size. bytes_then size.0 size.1)
@@ -98,12 +98,12 @@ id_is b fits =
     elim (cases_lt (length b) 4) [
       | inl lt ↦ rw (lt-ltb (length b) 4 lt) (omega arith, (lt, omega arith))
       | inr ge ↦ rw (le-ltb (length b) 4 ge) (
-        let four : length (take 4 b) ≡ 4 = length-take-le 4 b ge in
-        let bytes = IsBytes-take 4 b fits in (
-          take 4 b,
-          sym (take-append-drop 4 b),
-          (omega (arith, bytes 0, bytes 1, bytes 2, bytes 3), sym (be_bytes_4 (take 4 b) (from_be_bytes w32 (take 4 b)) four bytes refl)),
-        ))
+          let four : length (take 4 b) ≡ 4 = length-take-le 4 b ge in
+          let bytes = IsBytes-take 4 b fits in (
+            take 4 b,
+            sym (take-append-drop 4 b),
+            (omega (arith, bytes 0, bytes 1, bytes 2, bytes 3), sym (be_bytes_4 (take 4 b) (from_be_bytes w32 (take 4 b)) four bytes refl)),
+          ))
     ]
 
 id_again : (id : ℕ) (s rest : List ℕ) → id < 2 ^ 32 → s ≡ to_be_bytes w32 id → id_then (s ++ rest) ≡ Ok (id, rest)

@@ -1,13 +1,12 @@
 -- A payload reads in one way.
 use Rattle.std.proofs.Common.{◌≡◌, ℕ, ◌-◌, ◌≤◌, List, length, Option, Some, None, Result, Ok, Err, refl, sym, ap, subst, ◌∙◌, arith}
 use Rattle.rtmfp_vlu.proofs.Bytes.{IsBytes}
-use Rattle.rtmfp_chunks.specs.declared.view.ChunkView.{ChunkView}
 use Rattle.rtmfp_chunks.specs.declared.reading.ChunkFault.{ChunkFault}
 use Rattle.rtmfp_chunks.specs.declared.reading.ChunkFault.TheVariants.{Unknown, Malformed}
 use Rattle.rtmfp_chunks.specs.Fields.{Parts, Row, PartsSpell, RowBreaks}
-use Rattle.rtmfp_chunks.specs.Chunk.{Chunk, IHello, FIHello, RHello, Redirect, CookieChange, IIKeying, RIKeying, Ping, PingReply, Close, CloseAck, Fragment, chunk_of, kind_of, parts_of, row_of, Spells, Breaks}
-use Rattle.rtmfp_chunks.specs.Reading.{Reading, shown}
-use Rattle.rtmfp_chunks.specs.FieldReading.{row_at, typed, typed_row, chunk_at, described}
+use Rattle.rtmfp_chunks.specs.Chunk.{Chunk, IHello, FIHello, RHello, Redirect, CookieChange, IIKeying, RIKeying, Ping, PingReply, Close, CloseAck, Fragment, kind_of, parts_of, row_of, Spells, Breaks}
+use Rattle.rtmfp_chunks.specs.Reading.{Reading}
+use Rattle.rtmfp_chunks.specs.FieldReading.{row_at, typed, typed_row, chunk_at}
 use Rattle.rtmfp_chunks.proofs.RowLaws.{RowIs, row_is, row_of_parts, row_again, row_broken, row_within}
 
 -- the type and the fields are those of one chunk

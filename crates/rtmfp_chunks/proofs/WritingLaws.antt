@@ -1,10 +1,12 @@
 -- What is written spells the same fields.
-use Rattle.std.proofs.Common.{◌≡◌, ℕ, ◌^◌, ◌<◌, ◌≤◌, Bool, true, false, cond, leb, List, ◌++◌, length, refl, sym, arith}
+use Rattle.std.proofs.Common.{◌≡◌, ℕ, ◌<◌, Bool, true, false, cond, leb, List, length, Ok, refl, subst, arith}
 use Rattle.rtmfp_vlu.proofs.Fields.{vlu-spells}
 use Rattle.rtmfp_vlu.specs.Vlu.{vlu}
 use Rattle.rtmfp_forms.proofs.Addresses.{address_bytes-spell}
-use Rattle.rtmfp_chunks.specs.Fields.{Field, Counted, Number, SessionId, More, Place, Parts, Then, Rest, Places, Ignored, FieldSpells, PartsSpell}
-use Rattle.rtmfp_chunks.specs.Writing.{field_bytes, parts_bytes, FieldFits, PartsFit}
+use Rattle.rtmfp_chunks.specs.Fields.{Field, Counted, Number, SessionId, More, Place, Parts, Then, Rest, Places, Ignored, FieldSpells, PartsSpell, AreAddresses}
+use Rattle.rtmfp_chunks.specs.Chunk.{Chunk, IHello, FIHello, RHello, Redirect, CookieChange, IIKeying, RIKeying, Ping, PingReply, Close, CloseAck, Fragment, parts_of}
+use Rattle.rtmfp_chunks.specs.Reading.{Reading}
+use Rattle.rtmfp_chunks.specs.Writing.{field_bytes, parts_bytes, FieldFits, PartsFit, IsWritable}
 
 flags_fit : (more : Bool) → cond more 128 0 < 256
 flags_fit true = omega arith
@@ -26,3 +28,21 @@ parts_bytes-spell (Then first others) h = (field_bytes first, parts_bytes others
 parts_bytes-spell (Rest bytes) h = refl
 parts_bytes-spell (Places list) h = (refl, h)
 parts_bytes-spell Ignored h = tt
+
+writable_parts : (chunk : Chunk) (b : List ℕ) → PartsSpell (parts_of chunk) b → IsWritable chunk
+writable_parts (IHello epd tag) b h = tt
+writable_parts (FIHello epd reply tag) b h = tt
+writable_parts (RHello tag cookie cert) b h = tt
+writable_parts (Redirect tag list) b h = let P : List ℕ → Type 0 = λ xs. AreAddresses xs in subst P h.4.0 h.4.1
+writable_parts (CookieChange old new) b h = tt
+writable_parts (IIKeying near cookie cert part sign) b h = tt
+writable_parts (RIKeying near part sign) b h = tt
+writable_parts (Ping bytes) b h = tt
+writable_parts (PingReply bytes) b h = tt
+writable_parts Close b h = tt
+writable_parts CloseAck b h = tt
+writable_parts (Fragment more id number bytes) b h = tt
+
+-- what was read can be written
+pub writable : (chunk : Chunk) (kind : ℕ) (b : List ℕ) → Reading kind b (Ok chunk) → IsWritable chunk
+writable chunk kind b h = writable_parts chunk b h.1

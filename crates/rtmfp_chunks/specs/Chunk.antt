@@ -3,7 +3,7 @@ use Rattle.std.specs.Prelude.{◌≡◌, ℕ, ◌==◌, if◌then◌else◌, Boo
 use Rattle.rtmfp_forms.specs.Address.{AddressParts}
 use Rattle.rtmfp_chunks.specs.declared.view.ChunkView.{ChunkView}
 use Rattle.rtmfp_chunks.specs.declared.view.ChunkView.TheVariants as view
-use Rattle.rtmfp_chunks.specs.Fields.{Field, Counted, Number, SessionId, More, Place, Parts, Then, Rest, Places, Ignored, PartsSpell}
+use Rattle.rtmfp_chunks.specs.Fields.{Counted, Number, SessionId, More, Place, Parts, Then, Rest, Places, Ignored, PartsSpell}
 use Rattle.rtmfp_chunks.specs.Fields.{Row, ThenRow, RestRow, PlacesRow, IgnoredRow, CountedForm, NumberForm, SessionIdForm, MoreForm, PlaceForm, RowBreaks}
 
 -- a chunk as contracts see it; the list of a redirect is its addresses' bytes

@@ -125,8 +125,7 @@ abbrev pub RowBreaks : Row → List ℕ → ℕ → Type 0
 RowBreaks (ThenRow first others) b at =
     FieldBreaks first b at
     ⊎ ((field : Field) × (front : List ℕ) × (rest : List ℕ) × (later : ℕ) × (form_of field ≡ first) × (b ≡ front ++ rest) × FieldSpells field front
-      × RowBreaks others rest later × (at ≡ length front + later))
+    × RowBreaks others rest later × (at ≡ length front + later))
 RowBreaks RestRow b at = ⊥
 RowBreaks PlacesRow b at = AddressesBreak b at
 RowBreaks IgnoredRow b at = ⊥
-

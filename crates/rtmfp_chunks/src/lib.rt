@@ -10,3 +10,6 @@ mod writing;
 pub use reading::{ChunkFault, read_chunk};
 pub use view::ChunkView;
 pub use writing::write_chunk;
+
+#[cfg(test)]
+mod tests;
