@@ -1,12 +1,18 @@
 -- Addresses up to the end: the list that is read is the one that is spelled, and each fault is where it breaks.
-use Rattle.std.proofs.Common.{◌≡◌, ℕ, zero, suc, ◌-◌, ◌<◌, ◌≤◌, List, [], ◌∷◌, ◌++◌, length, Result, Ok, Err, refl, sym, ap, subst, ◌∙◌, append_assoc, append-nil, arith}
-use Rattle.std.proofs.lemmas.List.{length-append}
+use Rattle.std.proofs.Common.{◌≡◌, ℕ, zero, suc, ◌+◌, ◌-◌, ◌<◌, ◌≤◌, leb, List, [], ◌∷◌, ◌++◌, length, take, drop, Result, Ok, Err, refl, sym, ap, subst, ◌∙◌, append_assoc, append-nil, inl, inr, arith}
+use Rattle.std.proofs.lemmas.List.{length-append, length-drop, take_all}
 use Rattle.rtmfp_vlu.proofs.Bytes.{IsBytes, IsBytes-drop}
 use Rattle.rtmfp_vlu.proofs.Fields.{behind}
 use Rattle.rtmfp_forms.specs.Address.{AddressParts, AddressSpells, IsCutAddress}
+use Rattle.rtmfp_forms.specs.declared.fault.FormFault.{FormFault}
+use Rattle.rtmfp_forms.specs.declared.fault.FormFault.TheVariants.{Short}
+use Rattle.rtmfp_forms.specs.Address.{host_len}
+use Rattle.rtmfp_forms.specs.AddressReading.{address_at}
+use Rattle.rtmfp_forms.proofs.Addresses.{parts, short_address, whole_address}
+use Rattle.std.proofs.lemmas.Bool.{cases_lt}
 use Rattle.rtmfp_forms.specs.OptionReading.{◌>>=◌}
 use Rattle.rtmfp_chunks.specs.Fields.{AddressesSpell, AreAddresses, AddressesBreak, PlaceForm, Place}
-use Rattle.rtmfp_chunks.specs.FieldReading.{address_then, addresses_within, addresses_at, list_at}
+use Rattle.rtmfp_chunks.specs.FieldReading.{split_address, address_then, addresses_within, addresses_at, list_at, found_or_none, first_addresses, addresses_in}
 use Rattle.rtmfp_chunks.proofs.FieldLaws.{Is, address_is, address_then-again, address_then-cut}
 
 -- an address has at least a byte
@@ -140,3 +146,86 @@ list_is b fits = list_within (suc (length b)) b fits (omega arith)
 
 pub addresses_within_length : (b : List ℕ) (at : ℕ) → AddressesBreak b at → at ≤ length b
 addresses_within_length b at h = omega (arith, ap length h.joined, length-append h.front h.rest, h.place)
+
+-- ---- one after another
+
+ok_same : {A : Type 0} (x y : A) → let read : Result A ℕ = Ok x in read ≡ Ok y → x ≡ y
+ok_same x y e = cc
+
+address-shorter : (b : List ℕ) (a : AddressParts) (after : List ℕ) → address_then b ≡ Ok (a, after) → length after < length b
+unfolding address_then address_at
+address-shorter [] a after e = absurd (cc)
+address-shorter (flags ∷ rest) a after e =
+    let n = host_len (leb 128 flags) in
+    elim (cases_lt (length rest) (n + 2)) [
+      | inl lt ↦ (let cut : split_address (flags ∷ rest) (Err Short) ≡ Ok (a, after) = sym (ap (split_address (flags ∷ rest)) (short_address flags rest lt)) ∙ e in absurd (cc))
+      | inr le ↦ (
+          let whole : split_address (flags ∷ rest) (Ok (parts flags rest, n + 3)) ≡ Ok (a, after) = sym (ap (split_address (flags ∷ rest)) (whole_address flags rest le)) ∙ e in
+          let same = ok_same (parts flags rest, drop (n + 3) (flags ∷ rest)) (a, after) whole in
+          omega (arith, ap (λ (x : AddressParts × List ℕ). length x.1) same, length-drop (n + 3) (flags ∷ rest)))
+    ]
+
+same_first : (m n : ℕ) (b : List ℕ) (r : Result (AddressParts × List ℕ) ℕ) → address_then b ≡ r → ((rest : List ℕ) → length rest ≤ m → length rest ≤ n → first_addresses m rest ≡ first_addresses n rest)
+    → length b ≤ suc m → length b ≤ suc n
+    → found_or_none (r >>= λ first. Ok (first.0 ∷ first_addresses m first.1)) ≡ found_or_none (r >>= λ first. Ok (first.0 ∷ first_addresses n first.1))
+same_first m n b (Ok first) e later few less =
+    let shorter = address-shorter b first.0 first.1 e in
+    ap (λ (xs : List AddressParts). first.0 ∷ xs) (later first.1 (omega (arith, few, shorter)) (omega (arith, less, shorter)))
+same_first m n b (Err left) e later few less = refl
+
+none_first : (n : ℕ) (b : List ℕ) → length b ≤ 0 → first_addresses n b ≡ []
+unfolding first_addresses
+none_first zero b few = refl
+none_first (suc n) [] few = rw (address_then-cut [] tt) refl
+none_first (suc n) (x ∷ xs) few = absurd (omega (arith, few))
+
+-- so many steps as there are bytes suffice
+enough_first : (m n : ℕ) (b : List ℕ) → length b ≤ m → length b ≤ n → first_addresses m b ≡ first_addresses n b
+unfolding first_addresses
+enough_first zero n b few less = sym (none_first n b few)
+enough_first (suc m) zero b few less = none_first (suc m) b less
+enough_first (suc m) (suc n) b few less = same_first m n b (address_then b) refl (λ rest f l. enough_first m n rest f l) few less
+
+first_whole : (n : ℕ) (b : List ℕ) (a : AddressParts) (after : List ℕ) → address_then b ≡ Ok (a, after) → first_addresses (suc n) b ≡ a ∷ first_addresses n after
+unfolding first_addresses
+first_whole n b a after e = rw e refl
+
+next_address : (b : List ℕ) (a : AddressParts) (after : List ℕ) → address_then b ≡ Ok (a, after) → addresses_in b ≡ a ∷ addresses_in after
+unfolding addresses_in
+next_address b a after e =
+    let shorter = address-shorter b a after e in
+    enough_first (length b) (suc (length b)) b (omega arith) (omega arith) ∙ first_whole (length b) b a after e
+    ∙ ap (λ (xs : List AddressParts). a ∷ xs) (enough_first (length b) (length after) after (omega (arith, shorter)) (omega arith))
+
+none_within : (n : ℕ) (b : List ℕ) (left : ℕ) → address_then b ≡ Err left → first_addresses n b ≡ []
+unfolding first_addresses
+none_within zero b left e = refl
+none_within (suc n) b left e = rw e refl
+
+no_address : (b : List ℕ) (left : ℕ) → address_then b ≡ Err left → addresses_in b ≡ []
+unfolding addresses_in
+no_address b left e = none_within (length b) b left e
+
+all_within : (addresses : List AddressParts) (b : List ℕ) (n : ℕ) → AddressesSpell addresses b → length b ≤ n → first_addresses n b ≡ addresses
+unfolding first_addresses
+all_within [] b n h le = none_first n b (omega (arith, ap length h))
+all_within (a ∷ addresses) b zero (front, rest, e, first, others) le = absurd (omega (arith, le, ap length e, length-append front rest, address-some a front first))
+all_within (a ∷ addresses) b (suc n) (front, rest, e, first, others) le =
+    let read : address_then b ≡ Ok (a, rest) = ap address_then e ∙ address_then-again a front rest first in
+    let fewer : length rest ≤ n = omega (arith, le, ap length e, length-append front rest, address-some a front first) in
+    rw (read, all_within addresses rest n others fewer) refl
+
+pub addresses_in-whole : (addresses : List AddressParts) (b : List ℕ) → AddressesSpell addresses b → addresses_in b ≡ addresses
+unfolding addresses_in
+addresses_in-whole addresses b h = all_within addresses b (length b) h (omega arith)
+
+-- what the reader of one address found
+pub address_read : (b : List ℕ) (found : AddressParts × ℕ) → address_at b ≡ Ok found → addresses_in b ≡ found.0 ∷ addresses_in (take (length b - found.1) (drop found.1 b))
+unfolding address_then
+address_read b found e =
+    let all : take (length b - found.1) (drop found.1 b) ≡ drop found.1 b = take_all (length b - found.1) (drop found.1 b) (omega (arith, length-drop found.1 b)) in
+    rw all (next_address b found.0 (drop found.1 b) (ap (split_address b) e))
+
+pub address_unread : (b : List ℕ) (fault : FormFault) → address_at b ≡ Err fault → addresses_in b ≡ []
+unfolding address_then
+address_unread b fault e = no_address b (length b) (ap (split_address b) e)

@@ -66,6 +66,19 @@ addresses_at b = addresses_within (suc (length b)) b
 unfoldable pub list_at : List ℕ → Result (List ℕ) ℕ
 list_at b = addresses_at b >>= λ addresses. Ok b
 
+abbrev pub found_or_none : Result (List AddressParts) ℕ → List AddressParts
+found_or_none (Ok addresses) = addresses
+found_or_none (Err left) = []
+
+-- the whole addresses that the bytes begin with, at most so many
+unfoldable pub first_addresses : ℕ → List ℕ → List AddressParts
+first_addresses zero b = []
+first_addresses (suc most) b = found_or_none (address_then b >>= λ first. Ok (first.0 ∷ first_addresses most first.1))
+
+-- the whole addresses that the bytes begin with
+unfoldable pub addresses_in : List ℕ → List AddressParts
+addresses_in b = first_addresses (length b) b
+
 -- a field of a form, and what follows it
 unfoldable pub field_then : Form → List ℕ → Result (Field × List ℕ) ℕ
 field_then CountedForm b = counted_then b >>= λ found. Ok (Counted found.0, found.1)

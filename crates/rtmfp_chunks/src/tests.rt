@@ -190,3 +190,17 @@ fn a_chunk_is_written_whole_or_not_at_all(rt: HostRuntime) {
     assert_eq!(rt; write_chunk(&fits, &mut out), Ok(()));
     assert_eq!(rt; out.bytes().len(), 1164);
 }
+
+#[test]
+fn the_addresses_of_a_list_come_one_after_another(rt: HostRuntime) {
+    let mut addresses = Addresses::new(&TWO_ADDRESSES[..25]);
+    assert_eq!(rt; addresses.next(), Some(Address::v4([10, 0, 0, 1], 1935)));
+    assert_eq!(rt; addresses.next(), None);
+    let families = [false, true];
+    let mut count = 0;
+    for address in Addresses::new(&TWO_ADDRESSES) {
+        assert_eq!(rt; families.get(count), Some(&address.v6));
+        count += 1;
+    }
+    assert_eq!(rt; count, 2);
+}
