@@ -1,12 +1,12 @@
 -- Passing on the last bytes changes nothing of what was shown.
-use Rattle.std.proofs.Common.{◌≡◌, ℕ, ◌+◌, ◌-◌, ◌^◌, ◌≤◌, ◌⊎◌, inl, inr, min, List, [], ◌++◌, refl, sym, ap, ◌∙◌, arith, append-nil, subst, Option, Some, None, IfSome}
+use Rattle.std.proofs.Common.{◌≡◌, ℕ, ◌≤◌, inl, inr, List, [], ◌++◌, refl, sym, ◌∙◌, arith, append-nil, subst, Option, Some, None, IfSome}
 use Rattle.rtmfp_host.specs.Faults.{Rose}
 use Rattle.rtmfp_host.specs.Writing.{Appends}
 use Rattle.rtmfp_cli.specs.declared.status.Status.{Status as RunStatus}
 use Rattle.rtmfp_cli.specs.declared.status.Status.TheVariants as status
 use Rattle.rtmfp_cli.specs.Outside.{Outside}
 use Rattle.rtmfp_cli.specs.Lines.{lines_of}
-use Rattle.rtmfp_cli.specs.Show.{HasShown, AllShown, SomeShown, BadAt, TooMany, TakenShown, CutShort, Told, ShowEnds}
+use Rattle.rtmfp_cli.specs.Show.{HasShown, AllShown, SomeShown, BadAt, TooMany, TakenShown, CutShort, ShowEnds}
 use Rattle.rtmfp_cli.proofs.Streams.{appends_more}
 use Rattle.rtmfp_cli.specs.Run.{Finishes}
 

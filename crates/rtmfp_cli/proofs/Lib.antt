@@ -3,6 +3,7 @@ pub mod LfLaws
 pub mod Streams
 pub mod HexTexts
 pub mod Pushes
+pub mod AddressTexts
 pub mod ChunkLines
 pub mod LinesLaws
 pub mod Turns

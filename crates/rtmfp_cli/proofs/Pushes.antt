@@ -13,3 +13,10 @@ pushed {old} {mid} {new} {part} {rest} p q =
 -- the last part
 pub pushed_last : {old new part : List ℕ} → Pushed old new part → Pushed old new (part ++ [])
 pushed_last {old} {new} {part} p = record { joined = p.joined ∙ ap (λ xs. old ++ xs) (sym (append-nil part)) }
+
+-- the same of what was added
+pub push_then : {old mid new rest : List ℕ} (part : List ℕ) → mid ≡ old ++ part → Pushed mid new rest → Pushed old new (part ++ rest)
+push_then {old} {mid} {new} {rest} part e q = let p : Pushed old mid part = record { joined = e } in pushed p q
+
+pub push_end : {old new : List ℕ} (part : List ℕ) → new ≡ old ++ part → Pushed old new (part ++ [])
+push_end {old} {new} part e = let p : Pushed old new part = record { joined = e } in pushed_last p

@@ -1,5 +1,5 @@
 -- What `show` has printed, line by line, and how it ends.
-use Rattle.std.proofs.Common.{◌≡◌, ◌≢◌, ℕ, ◌+◌, ◌-◌, ◌^◌, ◌<◌, ◌≤◌, ◌⊎◌, inl, inr, min, List, [], ◌∷◌, ◌++◌, length, take, refl, sym, ap, ◌∙◌, arith, append_assoc, append-nil, subst, lit≤, Option, Some, None, IfSome}
+use Rattle.std.proofs.Common.{◌≡◌, ℕ, ◌+◌, ◌≤◌, inl, inr, List, [], ◌∷◌, ◌++◌, length, refl, sym, ap, ◌∙◌, arith, append_assoc, append-nil, subst, lit≤, Option, Some, None, IfSome}
 use Rattle.std.proofs.lemmas.List.{length-append}
 use Rattle.rtmfp_host.specs.Faults.{Rose}
 use Rattle.rtmfp_host.specs.Taking.{Consumes, IsAtEnd}
@@ -10,7 +10,7 @@ use Rattle.rtmfp_cli.specs.declared.show_run.Turn.TheVariants.{Ended}
 use Rattle.rtmfp_cli.specs.Outside.{Outside}
 use Rattle.rtmfp_cli.specs.Lines.{NoLf, lines_of, whole_lines}
 use Rattle.rtmfp_cli.specs.ShowLine.{ShowsLine, IsBadLine}
-use Rattle.rtmfp_cli.specs.Show.{ShowsLines, HasShown, StopsAt, AllShown, SomeShown, BadAt, TooMany, TakenShown, CutShort, Told, ShowEnds, max_lines}
+use Rattle.rtmfp_cli.specs.Show.{ShowsLines, HasShown, AllShown, SomeShown, BadAt, TooMany, TakenShown, CutShort, Told, ShowEnds, max_lines}
 use Rattle.rtmfp_cli.specs.Turning.{Takes, ShowsOne, ShowsRest, ShowsNone, ShowsPart, NextLine, Turned, Closed}
 use Rattle.rtmfp_cli.proofs.LinesLaws.{with_ends, NoneHasLf, lines_of-with_ends, whole_lines-with_ends, with_ends-more, none_has_lf-more}
 use Rattle.rtmfp_cli.proofs.Streams.{consumes_none, consumes_more, appends_none, appends_more}

@@ -2,6 +2,8 @@ pub mod Pending
 pub mod Lines
 pub mod Reading
 pub mod Words
+pub mod AddressText
+pub mod ChunkText
 pub mod ShowText
 pub mod ShowLine
 pub mod Adding

@@ -10,9 +10,10 @@ use Rattle.rtmfp_packet.specs.Whole.{Whole}
 use Rattle.rtmfp_packet.specs.Reading.{PacketReading}
 use Rattle.rtmfp_chunks.specs.declared.reading.ChunkFault.{ChunkFault}
 use Rattle.rtmfp_chunks.specs.declared.reading.ChunkFault.TheVariants.{Unknown, Malformed}
-use Rattle.rtmfp_chunks.specs.Chunk.{Chunk, IHello}
+use Rattle.rtmfp_chunks.specs.Chunk.{Chunk}
 use Rattle.rtmfp_chunks.specs.Reading.{Reading}
-use Rattle.rtmfp_cli.specs.Words.{bit_text, number_text, field_text, text_of}
+use Rattle.rtmfp_cli.specs.Words.{bit_text, number_text, text_of}
+use Rattle.rtmfp_cli.specs.ChunkText.{chunk_text, kind_text}
 
 unfoldable pub head_text : PacketHead → List ℕ
 head_text head = text_of (
@@ -22,14 +23,6 @@ head_text head = text_of (
     ∷ codes " stamp=" ∷ number_text head.stamp
     ∷ codes " echo=" ∷ number_text head.echo
     ∷ codes "\n" ∷ [])
-
--- the name and the fields of a chunk
-unfoldable pub chunk_text : Chunk → List ℕ
-chunk_text (IHello epd tag) = text_of (field_text (codes " ihello epd=") epd ∷ field_text (codes " tag=") tag ∷ [])
-
--- the name of a chunk type
-abbrev pub kind_text : ℕ → List ℕ
-kind_text kind = codes "ihello"
 
 -- what stands behind the place of a chunk of this type that reads so
 abbrev pub reading_text : ℕ → Result Chunk ChunkFault → List ℕ

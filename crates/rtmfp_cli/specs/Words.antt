@@ -11,14 +11,22 @@ bytes_text (b ∷ bs) = encode_lower (b ∷ bs)
 abbrev pub field_text : List ℕ → List ℕ → List ℕ
 field_text name bytes = name ++ bytes_text bytes
 
--- parts of a text, one after another
-abbrev pub text_of : List (List ℕ) → List ℕ
-text_of [] = []
-text_of (part ∷ parts) = part ++ text_of parts
+-- a field: its name, and its number
+abbrev pub number_field_text : List ℕ → ℕ → List ℕ
+number_field_text name number = name ++ decimal number
 
 abbrev pub bit_text : Bool → List ℕ
 bit_text true = codes "1"
 bit_text false = codes "0"
+
+-- a field: its name, and its bit
+abbrev pub bit_field_text : List ℕ → Bool → List ℕ
+bit_field_text name bit = name ++ bit_text bit
+
+-- parts of a text, one after another
+abbrev pub text_of : List (List ℕ) → List ℕ
+text_of [] = []
+text_of (part ∷ parts) = part ++ text_of parts
 
 -- a number in decimal, and a hyphen for none
 abbrev pub number_text : Option ℕ → List ℕ

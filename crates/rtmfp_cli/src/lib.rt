@@ -1,9 +1,11 @@
 //! The texts and the top call of `rtmfp`.
 #![tactic(auto)]
 
+mod address_text;
 mod buffer;
 mod lines;
 mod show;
+mod show_chunk;
 mod show_run;
 mod status;
 mod text;

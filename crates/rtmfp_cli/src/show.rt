@@ -1,14 +1,14 @@
 //! What `show` prints of a packet.
 ghost use Rattle.std.specs.Prelude.{◌≡◌, ◌++◌, ◌≤◌, length, OnOk, IfOk, MatchBool};
 ghost use Rattle.rtmfp_packet.specs.Head.{mode_number};
-ghost use Rattle.rtmfp_chunks.specs.Chunk.{IHello, chunk_of};
 ghost use Rattle.rtmfp_chunks.specs.Reading.{shown};
-ghost use Rattle.rtmfp_cli.specs.Words.{bit_text, number_text};
-ghost use Rattle.rtmfp_cli.specs.ShowText.{PacketText, WholeText, chunk_text, head_text, kind_text, padding_text, reading_text};
+ghost use Rattle.rtmfp_cli.specs.Words.{number_text};
+ghost use Rattle.rtmfp_cli.specs.ShowText.{PacketText, WholeText, head_text, padding_text, reading_text};
 ghost use Rattle.rtmfp_cli.specs.ShowLine.{IsBadLine, ShowsLine};
 ghost use Rattle.rtmfp_cli.specs.Adding.{Adds, AddsChunk};
 
-use crate::text::Text;
+use crate::show_chunk::{kind_name, show_view};
+use crate::text::{Text, bit_digit};
 use rtmfp_chunks::{ChunkFault, ChunkView, read_chunk};
 use rtmfp_packet::{Mode, Packet, PacketFault, PacketHead, RawChunk, read_packet};
 use std::alloc::AllocError;
@@ -96,12 +96,6 @@ fn mode_number(mode: Mode) -> u8
     }
 }
 
-fn bit_digit(bit: bool) -> &'static str
-    ensures { result.now ≡ bit_text bit }
-{
-    if bit { "1" } else { "0" }
-}
-
 fn show_stamp(stamp: Option<u16>, text: &mut Text) -> Result<(), AllocError>
     ensures { OnOk result (text.new ≡ text.old ++ number_text stamp) }
 {
@@ -144,28 +138,4 @@ fn show_reading(
             Ok(())
         }
     }
-}
-
-/// The name of the chunks of this type.
-fn kind_name(_kind: u8) -> &'static str
-    ensures { result.now ≡ kind_text _kind }
-{
-    "ihello"
-}
-
-/// Adds the name and the fields of a chunk.
-fn show_view(view: &ChunkView<'_>, text: &mut Text) -> Result<(), AllocError>
-    ensures { OnOk result (text.new ≡ text.old ++ chunk_text (chunk_of view.now)) }
-{
-    match view {
-        ChunkView::IHello { epd, tag } => show_ihello(epd, tag, text),
-    }
-}
-
-fn show_ihello(epd: &[u8], tag: &[u8], text: &mut Text) -> Result<(), AllocError>
-    ensures { OnOk result (text.new ≡ text.old ++ chunk_text (IHello epd.now tag.now)) }
-{
-    text.push_field(" ihello epd=", epd)?;
-    text.push_field(" tag=", tag)?;
-    Ok(())
 }

@@ -1,3 +1,5 @@
+ghost use Rattle.std.specs.Prelude.{◌<◌};
+
 use crate::{Status, run};
 use rtmfp_host::{FaultySink, FaultySource, MemorySource};
 use std::alloc::Global;
@@ -51,6 +53,51 @@ fn shows_each_line_in_whatever_pieces_it_comes(rt: HostRuntime) -> Result<(), Fa
                 assert_eq!(rt; text.as_str(), whole.as_str(), "{input}");
             }
         }
+    }
+    Ok(())
+}
+
+#[test]
+fn shows_each_chunk(rt: HostRuntime) -> Result<(), Fail> {
+    let table = [
+        (
+            "0f000b0141020a000001078f4344",
+            "fihello epd=41 reply=10.0.0.1:1935 tag=4344",
+        ),
+        ("7000060141024243ff", "rhello tag=41 cookie=4243 cert=ff"),
+        (
+            "71001c0141000a000001078f8220010db80000000000000000000000011234",
+            "redirect tag=41 to=10.0.0.1:1935,[20010db8000000000000000000000001]:4660",
+        ),
+        ("71000100", "redirect tag=- to=-"),
+        ("790003014142", "cookiechange old=41 new=42"),
+        (
+            "38000c010203040141014202434445",
+            "iikeying near=16909060 cookie=41 cert=42 part=4344 sign=45",
+        ),
+        (
+            "78000701020304014142",
+            "rikeying near=16909060 part=41 sign=42",
+        ),
+        ("0100026162", "ping bytes=6162"),
+        ("410000", "pingreply bytes=-"),
+        ("0c0001ff", "close"),
+        ("4c0000", "closeack"),
+        (
+            "7f0006808100054142",
+            "fragment more=1 id=128 number=5 bytes=4142",
+        ),
+        ("7f0003400000", "fragment more=0 id=0 number=0 bytes=-"),
+        ("380003010203", "malformed iikeying 0"),
+        ("0f000401410200", "malformed fihello 2"),
+        ("220000", "unknown 22"),
+    ];
+    for (chunk, line) in table {
+        let input = format!(in rt.alloc(); "03{chunk}\n")?;
+        let (status, text) = shown(rt.alloc(), input.as_str(), 4096, &[], &[])?;
+        let whole = format!(in rt.alloc(); "{HEAD}1 {line}\npadding 0\n")?;
+        assert_eq!(rt; status, Status::Done, "{chunk}");
+        assert_eq!(rt; text.as_str(), whole.as_str(), "{chunk}");
     }
     Ok(())
 }

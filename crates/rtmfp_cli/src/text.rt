@@ -1,7 +1,7 @@
 //! Text that is being made: numbers, bytes in hexadecimal, and words.
 ghost use Rattle.std.specs.Prelude.{◌≡◌, ◌≤◌, ◌++◌, [], length, decimal, OnOk};
 ghost use Rattle.hex.specs.Hex.{encode_lower};
-ghost use Rattle.rtmfp_cli.specs.Words.{bytes_text, field_text};
+ghost use Rattle.rtmfp_cli.specs.Words.{bit_field_text, bit_text, bytes_text, field_text, number_field_text};
 
 use itoa::Buffer;
 use std::alloc::{AllocError, Global};
@@ -104,4 +104,27 @@ impl Text {
         self.push(name)?;
         self.push_bytes(bytes)
     }
+
+    /// Adds a field: its name, and its number in decimal.
+    pub(crate) fn push_number_field(&mut self, name: &str, number: u64) -> Result<(), AllocError>
+        ensures { OnOk result (self.new ≡ self.old ++ number_field_text name.now number) }
+    {
+        self.push(name)?;
+        self.push_number(number)
+    }
+
+    /// Adds a field: its name, and its bit.
+    pub(crate) fn push_bit_field(&mut self, name: &str, bit: bool) -> Result<(), AllocError>
+        ensures { OnOk result (self.new ≡ self.old ++ bit_field_text name.now bit) }
+    {
+        self.push(name)?;
+        self.push(bit_digit(bit))
+    }
+}
+
+/// The digit of a bit.
+pub(crate) fn bit_digit(bit: bool) -> &'static str
+    ensures { result.now ≡ bit_text bit }
+{
+    if bit { "1" } else { "0" }
 }
