@@ -8,3 +8,4 @@ pub mod LinesLaws
 pub mod Turns
 pub mod Shown
 pub mod Flushed
+pub mod Texts

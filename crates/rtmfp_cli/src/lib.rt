@@ -2,6 +2,7 @@
 #![tactic(auto)]
 
 mod buffer;
+pub mod laws;
 mod lines;
 mod show;
 mod show_run;
