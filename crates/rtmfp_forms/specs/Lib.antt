@@ -1,0 +1,5 @@
+pub mod Address
+pub mod AddressReading
+pub mod Options
+pub mod OptionReading
+pub mod Outgoing

@@ -1,0 +1,3 @@
+pub mod Vlu
+pub mod Decoding
+pub mod Reading
