@@ -5,15 +5,17 @@
 //! No call takes memory.
 #![tactic(auto)]
 
+mod comparing;
+mod keys;
+pub mod laws;
+mod mac;
+mod sealing;
+#[cfg(test)]
+mod tests;
+mod window;
+
+pub use comparing::same_bytes;
 pub use keys::{Context, Keys, sign_key};
 pub use mac::hmac;
 pub use sealing::{SealFault, open_in_place, seal_in_place};
 pub use window::{ReplayWindow, Seen};
-
-pub mod keys;
-pub mod laws;
-pub mod mac;
-pub mod sealing;
-#[cfg(test)]
-mod tests;
-pub mod window;

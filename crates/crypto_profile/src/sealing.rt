@@ -10,6 +10,7 @@ ghost use Rattle.crypto_profile.specs.Macs.{HoldsText};
 ghost use Rattle.crypto_profile.specs.Opening.{open_refusal, plain_of};
 ghost use Rattle.crypto_profile.specs.Sealing.{ciphered, sealed, stream_block, tag_of, number_of, xored};
 
+use crate::comparing::same_bytes;
 use crate::keys::Keys;
 use crate::mac::RunningHmac;
 use std::ops::Range;
@@ -55,7 +56,7 @@ pub fn open_in_place(keys: &Keys, sid: u32, buf: &mut [u8]) -> Result<Range<usiz
         return Err(SealFault::Short);
     }
     let right = tag(&keys.mac, sid, &buf[TAG_LEN..]);
-    if !is_same(&buf[..TAG_LEN], &right) {
+    if !same_bytes(&buf[..TAG_LEN], &right) {
         return Err(SealFault::BadTag);
     }
     let mut carried = [0u8; 16];
@@ -74,19 +75,6 @@ fn tag(mac: &[u8; 32], sid: u32, rest: &[u8]) -> [u8; 16]
     let mut tag = [0u8; 16];
     tag.copy_from_slice(&whole[..TAG_LEN]);
     tag
-}
-
-// Whether two tags are the same. Each byte is looked at, whatever those before it were, so that the
-// time tells nobody how much of a forged tag is right. No clause can say so.
-fn is_same(tag: &[u8], other: &[u8; 16]) -> bool
-    requires { length tag.now ≡ 16 }
-    ensures { IsTrue result ↔ (tag.now ≡ other.now) }
-{
-    let mut differing = 0u8;
-    for i in 0..TAG_LEN {
-        differing |= tag[i] ^ other[i];
-    }
-    differing == 0
 }
 
 // XORs the keystream of a number into bytes, in place. The hash states after the key and the number
