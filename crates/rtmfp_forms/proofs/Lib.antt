@@ -1,4 +1,4 @@
 pub mod Addresses
 pub mod Pieces
 pub mod Lists
-pub mod Lengths
+pub mod Respelling

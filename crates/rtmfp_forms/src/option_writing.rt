@@ -1,5 +1,5 @@
 ghost use Rattle.std.specs.Prelude.{◌≡◌, ◌+◌, ◌^◌, ◌<◌, ◌≤◌, ◌↔◌, ◌++◌, length, OnOk, OnErr, IsErr};
-ghost use Rattle.rtmfp_forms.specs.Options.{counted_bytes, option_bytes, options_bytes};
+ghost use Rattle.rtmfp_forms.specs.Options.{OptionsSpell, counted_bytes, option_bytes, options_bytes};
 ghost use Rattle.rtmfp_forms.specs.OptionReading.{option_parts};
 ghost use Rattle.rtmfp_forms.specs.Outgoing.{packet_limit};
 
@@ -11,6 +11,7 @@ use rtmfp_vlu::vlu_len;
 pub fn options_len(options: &Options<'_>) -> usize
     ensures length { result ≡ length (options_bytes options.now) }
     ensures fits { result < 2 ^ 63 }
+    ensures spells { OptionsSpell options.now (options_bytes options.now) }
 {
     // No longer than what was read.
     let _bytes = options.bytes();
@@ -26,6 +27,9 @@ pub fn write_options(options: &Options<'_>, out: &mut Outgoing) -> Result<(), No
     ensures ok { OnOk result (out.new ≡ out.old ++ options_bytes options.now) }
     ensures no_room { IsErr result ↔ (packet_limit < length out.old + length (options_bytes options.now)) }
     ensures err { OnErr result (out.new ≡ out.old) }
+
+    // What is written reads as the same options.
+    ensures spells { OptionsSpell options.now (options_bytes options.now) }
 {
     if options_len(options) > out.room() {
         return Err(NoRoom);

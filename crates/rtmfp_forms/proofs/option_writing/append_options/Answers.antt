@@ -3,7 +3,7 @@ use Rattle.std.specs.List.{flat_map}
 use Rattle.std.proofs.lemmas.List.{length-append}
 use Rattle.rtmfp_forms.specs.Options.{option_bytes}
 use Rattle.rtmfp_forms.specs.OptionReading.{option_parts}
-use Rattle.rtmfp_forms.proofs.Lengths.{length-options_bytes, length-first}
+use Rattle.rtmfp_forms.proofs.Respelling.{length-options_bytes, length-first}
 use Rattle.rtmfp_forms.proofs.option_writing.append_options.Goals as goal
 
 pub append_option-requires : goal.append_option-requires

@@ -1,6 +1,6 @@
 use Rattle.std.proofs.Common.{◌∙◌, arith}
 use Rattle.rtmfp_forms.specs.OptionReading.{option_parts}
-use Rattle.rtmfp_forms.proofs.Lengths.{length-options_bytes_le, length-first, length-start}
+use Rattle.rtmfp_forms.proofs.Respelling.{OptionsSpell-shortest, length-options_bytes_le, length-first, length-start}
 use Rattle.rtmfp_forms.proofs.option_writing.options_len.Goals as goal
 
 pub loop-option-init : goal.loop-option-init
@@ -16,3 +16,6 @@ pub returns-clause-fits : goal.returns-clause-fits
 returns-clause-fits c =
     let fits = length-options_bytes_le c.args.options.now c.bytes-bytes.result.now c.bytes-bytes.ensures in
     omega (arith, fits, c.loop-option.invariant)
+
+pub returns-clause-spells : goal.returns-clause-spells
+returns-clause-spells c = OptionsSpell-shortest c.args.options.now c.bytes-bytes.result.now c.bytes-bytes.ensures
