@@ -115,22 +115,28 @@ with_above kept n above = ap (λ b. if b then raised kept n (n - kept.highest) e
 with_below : (kept : Kept) (n : ℕ) → n ≤ kept.highest → with_taken kept n ≡ marked kept (kept.highest - n)
 with_below kept n low = ap (λ b. if b then raised kept n (n - kept.highest) else marked kept (kept.highest - n)) (let t : nat_lt kept.highest n ≡ false = grind (arith, nat_tests) in t)
 
+not_old : (a b : Bool) → a ≡ true → pick a b ≡ Ok tt → ⊥
+not_old true b e h = cc
+not_old false b e h = cc
+
+-- an answer is Ok only near the highest
+pub near_where_ok : (kept : Kept) (n : ℕ) → kept_answer kept n ≡ Ok tt → kept.highest < n + 1024
+near_where_ok kept n ok =
+    elim (cases_lt kept.highest (n + 1024)) [
+      | inl near ↦ near
+      | inr old ↦ absurd (not_old (nat_le (n + 1024) kept.highest) (is_kept kept n) (grind (arith, nat_tests)) ok)
+    ]
+
 pub takes_above : (h n : ℕ) (p q : ℕ → Bool) → h < n → q n ≡ true
     → ((m : ℕ) → h < m → m < n → n < m + 1024 → q m ≡ false)
     → ((m : ℕ) → m ≤ h → n < m + 1024 → q m ≡ p m)
-    → kept_where n q ≡ kept_after (kept_where h p) n
-takes_above h n p q above top middle rest =
-    let kept : Kept = kept_where h p in
-    let ok : kept_answer kept n ≡ Ok tt = kept_answer_near kept n false (omega arith) (is_kept_above kept n above) in
-    raised_where h n p q above top middle rest ∙ sym (kept_after_taken kept n ok ∙ with_above kept n above)
+    → kept_where n q ≡ with_taken (kept_where h p) n
+takes_above h n p q above top middle rest = raised_where h n p q above top middle rest ∙ sym (with_above (kept_where h p) n above)
 
-pub takes_below : (h n : ℕ) (p q : ℕ → Bool) → n ≤ h → h < n + 1024 → p n ≡ false → q n ≡ true
+pub takes_below : (h n : ℕ) (p q : ℕ → Bool) → n ≤ h → q n ≡ true
     → ((m : ℕ) → m ≢ n → m ≤ h → h < m + 1024 → q m ≡ p m)
-    → kept_where h q ≡ kept_after (kept_where h p) n
-takes_below h n p q low near fresh top rest =
-    let kept : Kept = kept_where h p in
-    let ok : kept_answer kept n ≡ Ok tt = kept_answer_near kept n false near (is_kept_where h n p low near ∙ fresh) in
-    marked_where h n p q low top rest ∙ sym (kept_after_taken kept n ok ∙ with_below kept n low)
+    → kept_where h q ≡ with_taken (kept_where h p) n
+takes_below h n p q low top rest = marked_where h n p q low top rest ∙ sym (with_below (kept_where h p) n low)
 
 -- ---- the whole list
 
@@ -166,12 +172,9 @@ only_fresh : (b : Bool) → pick false b ≡ Ok tt → b ≡ false
 only_fresh true h = absurd (cc)
 only_fresh false h = refl
 
-not_old : (a b : Bool) → a ≡ true → pick a b ≡ Ok tt → ⊥
-not_old true b e h = cc
-not_old false b e h = cc
-
-goes_on : (taken : List ℕ) (n : ℕ) → answer taken n ≡ Ok tt → kept_after (kept_of taken) n ≡ kept_of (n ∷ taken)
-goes_on taken n ok =
+-- one number more is taken of the whole list
+goes_on : (taken : List ℕ) (n : ℕ) → with_taken (kept_of taken) n ≡ kept_of (n ∷ taken)
+goes_on taken n =
     let h : ℕ = highest_of taken in
     elim (cases_lt h n) [
       | inl above ↦
@@ -180,17 +183,13 @@ goes_on taken n ok =
           (λ m high low near. first_isnt n m (was_taken taken m) (λ e. omega arith) ∙ none_above taken m high)
           (λ m low near. first_isnt n m (was_taken taken m) (λ e. omega arith)))
       | inr low ↦
-          elim (cases_lt h (n + 1024)) [
-            | inl near ↦
-                sym (ap (λ x. kept_where x (was_taken (n ∷ taken))) (let e : max n h ≡ h = omega arith in e)
-                ∙ takes_below h n (was_taken taken) (was_taken (n ∷ taken)) low near (only_fresh (was_taken taken n) (sym (answer_near taken n near) ∙ ok)) (first_is n n (was_taken taken n) refl)
-                (λ m apart within near_m. first_isnt n m (was_taken taken m) apart))
-            | inr old ↦ absurd (not_old (nat_le (n + 1024) h) (was_taken taken n) (grind (arith, nat_tests)) ok)
-          ]
+          sym (ap (λ x. kept_where x (was_taken (n ∷ taken))) (let e : max n h ≡ h = omega arith in e)
+          ∙ takes_below h n (was_taken taken) (was_taken (n ∷ taken)) low (first_is n n (was_taken taken n) refl)
+          (λ m apart within near. first_isnt n m (was_taken taken m) apart))
     ]
 
 after_alike : (taken : List ℕ) (n : ℕ) (r : Result (Unit {0}) Seen) → answer taken n ≡ r → kept_after (kept_of taken) n ≡ kept_of (taken_by taken r n)
-after_alike taken n (Ok done) is = goes_on taken n is
+after_alike taken n (Ok done) is = kept_after_taken (kept_of taken) n (answers_alike taken n ∙ is) ∙ goes_on taken n
 after_alike taken n (Err why) is = kept_after_refused (kept_of taken) n why (answers_alike taken n ∙ is)
 
 pub kept_stands : KeptStandsForTaken
@@ -228,7 +227,7 @@ pub marks_above : (h n : ℕ) (words cleared now : List ℕ) → IsClearAbove h 
     → ((m : ℕ) → m / 64 ≤ h / 64 → n / 64 < m / 64 + 17 → bit_of cleared m ≡ bit_of words m)
     → bit_of now n ≡ true
     → ((m : ℕ) → m ≢ n → m < n + 1088 → n < m + 1088 → bit_of now m ≡ bit_of cleared m)
-    → kept_in n now ≡ kept_after (kept_in h words) n
+    → kept_in n now ≡ with_taken (kept_in h words) n
 marks_above h n words cleared now clear_above above gone stay top others =
     takes_above h n (bit_of words) (bit_of now) above top
     (λ m high low near.
@@ -240,11 +239,11 @@ marks_above h n words cleared now clear_above above gone stay top others =
     (λ m low near. others m (λ e. omega arith) (omega arith) (omega arith) ∙ stay m (omega arith) (omega arith))
 
 -- a number below the highest is marked
-pub marks_below : (h n : ℕ) (words now : List ℕ) → n ≤ h → h < n + 1024 → bit_of words n ≡ false → bit_of now n ≡ true
+pub marks_below : (h n : ℕ) (words now : List ℕ) → n ≤ h → h < n + 1024 → bit_of now n ≡ true
     → ((m : ℕ) → m ≢ n → m < n + 1088 → n < m + 1088 → bit_of now m ≡ bit_of words m)
-    → kept_in h now ≡ kept_after (kept_in h words) n
-marks_below h n words now low near fresh top others =
-    takes_below h n (bit_of words) (bit_of now) low near fresh top (λ m apart within near_m. others m apart (omega arith) (omega arith))
+    → kept_in h now ≡ with_taken (kept_in h words) n
+marks_below h n words now low near top others =
+    takes_below h n (bit_of words) (bit_of now) low top (λ m apart within near_m. others m apart (omega arith) (omega arith))
 
 pub answers_by_bit : (h n : ℕ) (words : List ℕ) (b : Bool) → n ≤ h → h < n + 1024 → bit_of words n ≡ b → kept_answer (kept_in h words) n ≡ (if b then Err Repeated else Ok tt)
 answers_by_bit h n words b low near is = kept_answer_near (kept_in h words) n b near (is_kept_where h n (bit_of words) low near ∙ is)

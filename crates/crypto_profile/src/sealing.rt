@@ -42,6 +42,21 @@ pub fn seal_in_place(keys: &Keys, sid: u32, number: [u8; 16], buf: &mut [u8])
     buf[..TAG_LEN].copy_from_slice(&tag);
 }
 
+/// Why a sealed part would not open under the keys and the session ID; `None` exactly where it would.
+pub fn open_refusal(keys: &Keys, sid: u32, part: &[u8]) -> Option<SealFault>
+    ensures { result ≡ open_refusal keys.now sid part.now }
+{
+    if part.len() < HEAD_LEN {
+        return Some(SealFault::Short);
+    }
+    let right = tag(&keys.mac, sid, &part[TAG_LEN..]);
+    if same_bytes(&part[..TAG_LEN], &right) {
+        None
+    } else {
+        Some(SealFault::BadTag)
+    }
+}
+
 /// Opens a sealed part in place, under the keys and the session ID: its plain packet then stands at
 /// the place that is given, from byte 32 to the end. `buf` stays as it was on both faults.
 pub fn open_in_place(keys: &Keys, sid: u32, buf: &mut [u8]) -> Result<Range<usize>, SealFault>
@@ -52,12 +67,8 @@ pub fn open_in_place(keys: &Keys, sid: u32, buf: &mut [u8]) -> Result<Range<usiz
     ensures refused { IfSome (open_refusal keys.now sid buf.old) (λ fault. result ≡ Err fault) }
     ensures err { OnErr result (buf.new ≡ buf.old) }
 {
-    if buf.len() < HEAD_LEN {
-        return Err(SealFault::Short);
-    }
-    let right = tag(&keys.mac, sid, &buf[TAG_LEN..]);
-    if !same_bytes(&buf[..TAG_LEN], &right) {
-        return Err(SealFault::BadTag);
+    if let Some(fault) = open_refusal(keys, sid, buf) {
+        return Err(fault);
     }
     let mut carried = [0u8; 16];
     carried.copy_from_slice(&buf[TAG_LEN..HEAD_LEN]);

@@ -44,8 +44,8 @@ impl Model for ReplayWindow {
 }
 
 impl ReplayWindow {
-    ghost use Rattle.std.specs.Prelude.{◌≡◌, ℕ, List, [], OnErr};
-    ghost use Rattle.crypto_profile.specs.Kept.{kept_of, kept_answer, kept_after};
+    ghost use Rattle.std.specs.Prelude.{◌≡◌, ◌<◌, ◌+◌, ℕ, List, [], OnErr};
+    ghost use Rattle.crypto_profile.specs.Kept.{kept_of, kept_answer, kept_after, with_taken};
     ghost use Rattle.crypto_profile.specs.Taken.{answer, taken_after};
 
     /// A window that has taken number 0 alone.
@@ -57,18 +57,11 @@ impl ReplayWindow {
         ReplayWindow { highest: 0, words }
     }
 
-    /// Takes a number, if it is not 1,024 or more below the highest and was not taken before.
-    pub fn take(&mut self, n: u64) -> Result<(), Seen>
-        ensures answer { result ≡ kept_answer self.old n }
-        ensures kept { self.new ≡ kept_after self.old n }
-        ensures taken { (taken : List ℕ) → self.old ≡ kept_of taken
-            → (result ≡ answer taken n) × (self.new ≡ kept_of (taken_after taken n)) }
-        ensures err { OnErr result (self.new ≡ self.old) }
+    /// What `take` would answer to a number. It changes nothing.
+    pub fn answer(&self, n: u64) -> Result<(), Seen>
+        ensures { result ≡ kept_answer self.now n }
     {
         if n > self.highest {
-            clear(&mut self.words, self.highest / WORD_BITS, n / WORD_BITS);
-            mark(&mut self.words, n);
-            self.highest = n;
             return Ok(());
         }
         if self.highest - n >= WINDOW {
@@ -77,8 +70,38 @@ impl ReplayWindow {
         if is_marked(&self.words, n) {
             return Err(Seen::Repeated);
         }
-        mark(&mut self.words, n);
         Ok(())
+    }
+
+    /// Takes a number, if it is not 1,024 or more below the highest and was not taken before.
+    pub fn take(&mut self, n: u64) -> Result<(), Seen>
+        ensures answer { result ≡ kept_answer self.old n }
+        ensures kept { self.new ≡ kept_after self.old n }
+        ensures taken { (taken : List ℕ) → self.old ≡ kept_of taken
+            → (result ≡ answer taken n) × (self.new ≡ kept_of (taken_after taken n)) }
+        ensures err { OnErr result (self.new ≡ self.old) }
+    {
+        match self.answer(n) {
+            Ok(()) => {
+                self.add(n);
+                Ok(())
+            }
+            Err(seen) => Err(seen),
+        }
+    }
+
+    // Adds a number that is not 1,024 or more below the highest.
+    fn add(&mut self, n: u64)
+        requires { self.old.highest < n + 1024 }
+        ensures { self.new ≡ with_taken self.old n }
+    {
+        if n > self.highest {
+            clear(&mut self.words, self.highest / WORD_BITS, n / WORD_BITS);
+            mark(&mut self.words, n);
+            self.highest = n;
+        } else {
+            mark(&mut self.words, n);
+        }
     }
 }
 
