@@ -1,11 +1,15 @@
 -- The order of fingerprints.
-use Rattle.std.specs.Prelude.{ℕ, List, [], ◌∷◌, ◌≡◌, ◌≢◌, ◌<◌, ◌⊎◌}
+use Rattle.std.specs.Prelude.{ℕ, List, [], ◌∷◌, ◌≢◌, ◌⊎◌, Bool, true, false, ◌||◌, ◌&&◌, nat_lt, ◌==◌, IsTrue}
 
--- The list x is above the list y in byte order: at the first place where they differ x has the greater byte, or y ends there.
+-- Whether the list x is above the list y in byte order: at the first place where they differ x has the greater byte, or y ends there.
+abbrev pub is_above : List ℕ → List ℕ → Bool
+is_above [] ys = false
+is_above (x ∷ xs) [] = true
+is_above (x ∷ xs) (y ∷ ys) = nat_lt y x || ((x == y) && is_above xs ys)
+
+-- An end prevails over another where its fingerprint is above the other's.
 abbrev pub Prevails : List ℕ → List ℕ → Type 0
-Prevails [] ys = ⊥
-Prevails (x ∷ xs) [] = Unit {0}
-Prevails (x ∷ xs) (y ∷ ys) = (y < x) ⊎ ((x ≡ y) × Prevails xs ys)
+Prevails x y = IsTrue (is_above x y)
 
 -- none is above itself
 abbrev pub IsIrreflexive : (List ℕ → List ℕ → Type 0) → Type 0
