@@ -1,0 +1,15 @@
+pub mod Tails
+pub mod Views
+pub mod Sound
+pub mod Standings
+pub mod Causes
+pub mod Births
+pub mod Agreement
+pub mod Since
+pub mod Late
+pub mod Crossed
+pub mod Moments
+pub mod Maps
+pub mod Tables
+pub mod Accounts
+pub mod Giving

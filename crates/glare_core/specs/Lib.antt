@@ -1,0 +1,10 @@
+pub mod Standing
+pub mod Tells
+pub mod Steps
+pub mod Table
+pub mod Told
+pub mod Agreed
+pub mod Ledger
+pub mod Calls
+pub mod Account
+pub mod Rows
