@@ -11,7 +11,7 @@ use Rattle.glare_core.specs.declared.facts.Fact.TheVariants.{Started, Born, Open
 use Rattle.glare_core.specs.declared.facts.Held.{Held}
 use Rattle.glare_core.specs.declared.facts.Held.TheVariants.{Opening, HalfOpen}
 use Rattle.glare_core.specs.Standing.{peer_of, opened, confirmed, after, held, seen_in, seen, count, with_peer, peers_in}
-use Rattle.glare_core.specs.Table.{Stands}
+use Rattle.glare_core.specs.Stands.{Stands}
 use Rattle.glare_core.specs.Ledger.{PeerRow, PeerRows, Ledger, new_ledger, row_or_blank, row_in, held_with, floor_of, knows, row_count, row_after, rows_after, left_by}
 use Rattle.glare_core.specs.Account.{AreLawful, StandsFor}
 use Rattle.glare_core.proofs.Tails.{same_end}

@@ -13,3 +13,6 @@ pub mod Maps
 pub mod Tables
 pub mod Accounts
 pub mod Giving
+pub mod Witness
+pub mod Counter
+pub mod PerEnd

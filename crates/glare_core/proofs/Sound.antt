@@ -6,7 +6,8 @@ use Rattle.glare_core.specs.declared.facts.Fact.TheVariants.{Started, Born, Open
 use Rattle.glare_core.specs.Standing.{seen}
 use Rattle.glare_core.specs.Tells.{Tell, Keying}
 use Rattle.glare_core.specs.Steps.{Item, Told, Did, Sends, Step, step, Among, view, facts, IsTail, Happened}
-use Rattle.glare_core.specs.Table.{FactFits, SentFits, IsBornOf, NextBorn, Followed}
+use Rattle.glare_core.specs.Stands.{IsBornOf}
+use Rattle.glare_core.specs.Table.{FactFits, SentFits, NextBorn, Followed}
 use Rattle.glare_core.specs.Told.{Event, onto, onto_told, steps, DoneLawful, told_to, IsLawful, WasSent, AllSent, IsHonest, with_nonce, nonces, AllDifferent, IsFresh}
 use Rattle.glare_core.proofs.Views.{view_same, seen_item}
 

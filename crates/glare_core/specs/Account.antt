@@ -2,7 +2,7 @@
 use Rattle.std.specs.Prelude.{ℕ, List, [], ◌∷◌, ◌++◌, ◌≡◌, ◌+◌}
 use Rattle.glare_core.specs.declared.facts.Fact.{Fact}
 use Rattle.glare_core.specs.Standing.{peer_of, count}
-use Rattle.glare_core.specs.Table.{Stands, MakesWay, IsBornOf}
+use Rattle.glare_core.specs.Stands.{Stands, MakesWay, IsBornOf}
 use Rattle.glare_core.specs.Ledger.{Ledger, new_ledger, left_by}
 
 -- The facts are listed with the newest first. A fact that comes after one that makes way for a Born is that Born.

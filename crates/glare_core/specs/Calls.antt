@@ -17,7 +17,7 @@ use Rattle.glare_core.specs.declared.answers.Heard.TheVariants.{Again, Birth}
 use Rattle.glare_core.specs.declared.answers.HearRefusal.{HearRefusal}
 use Rattle.glare_core.specs.declared.answers.HearRefusal.TheVariants.{Stale, Glare, PeersFull, SessionsFull}
 use Rattle.glare_core.specs.Standing.{peer_of, starts_in}
-use Rattle.glare_core.specs.Table.{IsAttempt, IsHalfOpen, IsSession, IsKept, near_of}
+use Rattle.glare_core.specs.Things.{IsAttempt, IsHalfOpen, IsSession, IsKept, near_of}
 use Rattle.glare_core.specs.Ledger.{noted, Ledger, held_with, floor_of, knows, row_count}
 
 -- this answer where the test passes

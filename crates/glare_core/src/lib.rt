@@ -2,11 +2,12 @@
 #![tactic(auto)]
 
 mod answers;
+mod checks;
 mod facts;
+mod given;
 pub mod laws;
 mod peers;
 mod rows;
-mod things;
 
 pub use answers::{HearRefusal, Heard, Keying, StartRefusal};
 pub use facts::{Fact, Held, Joined, Why};

@@ -13,7 +13,7 @@ ghost use Rattle.glare_core.specs.Account.{StandsFor, Gave};
 use crate::answers::{HearRefusal, Heard, Keying, StartRefusal};
 use crate::facts::{Fact, Held, Joined, Why};
 use crate::rows::{Row, Seat, note_after, note_if, place_of, seat_of};
-use crate::things::{again, confirmed_fact, ended_fact, glare, near_of, opened_fact, way_made};
+use crate::given::{again, confirmed_fact, ended_fact, glare, near_of, opened_fact, way_made};
 use std::alloc::Global;
 use std::marker::Model;
 

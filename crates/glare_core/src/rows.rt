@@ -7,7 +7,7 @@ ghost use Rattle.glare_core.specs.Ledger.{row_in, rows_after, rows_after_if};
 ghost use Rattle.glare_core.specs.Rows.{is_of, table_of, IsTable, IsRoom};
 
 use crate::facts::{Fact, Held};
-use crate::things::{held_after, number_in, peer_of};
+use crate::given::{held_after, number_in, peer_of};
 use std::alloc::AllocError;
 
 /// What is held with a peer, and the greatest number seen of it.
