@@ -12,8 +12,8 @@ ghost use Rattle.glare_core.specs.Account.{StandsFor, Gave};
 
 use crate::answers::{HearRefusal, Heard, Keying, StartRefusal};
 use crate::facts::{Fact, Held, Joined, Why};
-use crate::rows::{Row, Seat, note_after, note_if, place_of, seat_of};
 use crate::given::{again, confirmed_fact, ended_fact, glare, near_of, opened_fact, way_made};
+use crate::rows::{Row, Seat, note_after, note_if, place_of, seat_of};
 use std::alloc::Global;
 use std::marker::Model;
 
@@ -97,6 +97,7 @@ impl Peers {
         ensures refused { IfSome (start_refusal self.old peer.now) (λ refusal. result ≡ Err refusal) }
         ensures memory { IfNone (start_refusal self.old peer.now) (IfErr result (λ refusal. (refusal ≡ StartRefusal.Memory) × (knows self.old peer.now ≡ false))) }
         ensures err { OnErr result (self.new ≡ self.old) }
+        ensures own { self.new.own ≡ self.old.own }
         ensures gave { IfOk result (λ fact. Gave self.old (fact ∷ []) self.new) }
     {
         let seat = seat_of(&self.rows, peer);
@@ -157,6 +158,7 @@ impl Peers {
         ensures refused { IfSome (hear_refusal self.old keying.now free) (λ refusal. result ≡ Err refusal) }
         ensures memory { IfNone (hear_refusal self.old keying.now free) (IfErr result (λ refusal. (refusal ≡ HearRefusal.Memory) × (knows self.old keying.now.peer ≡ false))) }
         ensures err { OnErr result (self.new ≡ self.old) }
+        ensures own { self.new.own ≡ self.old.own }
         ensures gave { IfOk result (λ answer. Gave self.old (heard_facts answer) self.new) }
     {
         let seat = seat_of(&self.rows, &keying.peer);
@@ -187,6 +189,7 @@ impl Peers {
     pub fn answer(&mut self, peer: &[u8; 32], nr: [u8; 16], far: u32, k: u64) -> Option<Fact>
         ensures fact { result ≡ opened_fact (held_with self.old peer.now) peer.now nr far k }
         ensures ledger { self.new ≡ noted_if self.old result }
+        ensures own { self.new.own ≡ self.old.own }
         ensures gave { Gave self.old (option_to_list result) self.new }
     {
         let seat = seat_of(&self.rows, peer);
@@ -199,6 +202,7 @@ impl Peers {
     pub fn confirm(&mut self, peer: &[u8; 32]) -> Option<Fact>
         ensures fact { result ≡ confirmed_fact (held_with self.old peer.now) peer.now }
         ensures ledger { self.new ≡ noted_if self.old result }
+        ensures own { self.new.own ≡ self.old.own }
         ensures gave { Gave self.old (option_to_list result) self.new }
     {
         let seat = seat_of(&self.rows, peer);
@@ -212,6 +216,7 @@ impl Peers {
         requires { IfSome (held_with self.old peer.now) (MayEnd why) }
         ensures fact { result ≡ ended_fact (held_with self.old peer.now) peer.now why }
         ensures ledger { self.new ≡ noted_if self.old result }
+        ensures own { self.new.own ≡ self.old.own }
         ensures gave { Gave self.old (option_to_list result) self.new }
     {
         let seat = seat_of(&self.rows, peer);

@@ -26,15 +26,15 @@ greater_byte : (x y : ℕ) (rest : Bool) → y < x → (nat_lt y x || (nat_eq x 
 greater_byte x y rest gt = grind (arith, nat_tests)
 
 -- std's comparison of two lists of bytes answers the same
-pub gt-is_above : (a b : List ℕ) → partial_gt (slice_partial_cmp (λ x y. Some (nat_cmp x y))) a b ≡ is_above a b
-gt-is_above [] [] = refl
-gt-is_above [] (y ∷ ys) = refl
-gt-is_above (x ∷ xs) [] = refl
-gt-is_above (x ∷ xs) (y ∷ ys) =
+pub gt_is_above : (a b : List ℕ) → partial_gt (slice_partial_cmp (λ x y. Some (nat_cmp x y))) a b ≡ is_above a b
+gt_is_above [] [] = refl
+gt_is_above [] (y ∷ ys) = refl
+gt_is_above (x ∷ xs) [] = refl
+gt_is_above (x ∷ xs) (y ∷ ys) =
     let Answers : Ordering → Type 0 = λ o.
     is_some_and is_gt (partial_ordering_then (Some o) (slice_partial_cmp (λ x y. Some (nat_cmp x y)) xs ys)) ≡ is_above (x ∷ xs) (y ∷ ys) in
     elim (cases_order x y) [
-      | inl same ↦ subst Answers (nat_cmp_is x y Equal same) (gt-is_above xs ys ∙ sym (same_bytes x y (is_above xs ys) same))
+      | inl same ↦ subst Answers (nat_cmp_is x y Equal same) (gt_is_above xs ys ∙ sym (same_bytes x y (is_above xs ys) same))
       | inr (inl lt) ↦ subst Answers (nat_cmp_is x y Less lt) (sym (lower_byte x y (is_above xs ys) lt))
       | inr (inr gt) ↦ subst Answers (nat_cmp_is x y Greater gt) (sym (greater_byte x y (is_above xs ys) gt))
     ]
