@@ -36,6 +36,7 @@ pub record HasOneBirth (now before : List Step) (x : List ℕ) (s : Joined) (gen
   pub values : as_responder s.peer t ≡ as_initiator x s
   pub only : (t' : Joined) (g : ℕ) (early' : List Step) → Happened s.peer (Did (Born t') g) early' now → t'.n ≡ s.n → t'.ni ≡ s.ni → (t' ≡ t) × (early' ≡ early)
 
+-- Each Opened of x towards a peer has exactly one Born there with its n and ni.
 abbrev pub EachOpenedHasOneBirth : List Step → Type 0
 EachOpenedHasOneBirth now =
     (x : List ℕ) (s : Joined) (generation : ℕ) (before : List Step) → Happened x (Did (Opened s) generation) before now → HasOneBirth now before x s generation
@@ -49,11 +50,13 @@ NoStartedHasTwoBirths now =
     Happened y' (Did (Born t') h') early' now → t'.peer ≡ x → t'.n ≡ n → t'.ni ≡ ni →
     (y ≡ y') × (t ≡ t') × (early ≡ early')
 
+-- an attempt, as its end has it
 pub record Attempt : Type 0 where
   pub n : ℕ
   pub near : ℕ
   pub ni : List ℕ
 
+-- The end holds this attempt towards the peer as opening.
 abbrev pub Attempts : List ℕ → List ℕ → Attempt → List Step → Type 0
 Attempts who peer a now = holding who peer now ≡ Some (Opening a.n a.near a.ni)
 
@@ -61,7 +64,7 @@ Attempts who peer a now = holding who peer now ≡ Some (Opening a.n a.near a.ni
 abbrev pub IsNotBorn : List ℕ → List ℕ → Attempt → List Step → Type 0
 IsNotBorn x y a now = (t : Joined) (g : ℕ) (early : List Step) → Happened y (Did (Born t) g) early now → t.peer ≡ x → t.n ≡ a.n → t.ni ≡ a.ni → ⊥
 
--- The attempts a of x and b of y are crossed at this moment.
+-- The attempts a of x and b of y are crossed at this moment: each end holds its own, and neither is born at the other.
 pub record AreCrossed (x y : List ℕ) (a b : Attempt) (now : List Step) : Type 0 where
   pub attempts_x : Attempts x y a now
   pub attempts_y : Attempts y x b now
@@ -76,10 +79,12 @@ Opens x y a before now = (s : Joined) × (g : ℕ) × Happened x (Did (Opened s)
 abbrev pub IsOver : List ℕ → List ℕ → Attempt → List Step → Type 0
 IsOver y x b now = (near : ℕ) × (why : Why) × (g : ℕ) × (early : List Step) × Happened y (Did (Ended x near why) g) early now × Attempts y x b early
 
+-- Of two attempts that were crossed at some moment, where one opens, the other was ended before.
 abbrev pub CrossedIsOver : List Step → Type 0
 CrossedIsOver now =
     (x y : List ℕ) (a b : Attempt) (then before : List Step) → IsTail then now → AreCrossed x y a b then → Opens x y a before now → IsOver y x b before
 
+-- Of two attempts that were crossed at some moment at most one opens.
 abbrev pub OneOpens : List Step → Type 0
 OneOpens now =
     (x y : List ℕ) (a b : Attempt) (then before before' : List Step) → IsTail then now → AreCrossed x y a b then → Opens x y a before now → Opens y x b before' now → ⊥

@@ -68,7 +68,7 @@ again_of (Some (HalfOpen j)) keying = where_true (is_born_of j keying) j.near
 again_of (Some (KeptAsResponder j)) keying = where_true (is_born_of j keying) j.near
 again_of (Some (KeptAsInitiator j)) keying = None
 
--- the number of the held attempt, where the own fingerprint prevails over the peer's
+-- Glare, with the number of the held attempt, where the own fingerprint prevails over the peer's
 abbrev pub glare_of : List ℕ → List ℕ → Option Held → Option HearRefusal
 glare_of own peer None = None
 glare_of own peer (Some (Opening n near ni)) = where_true (is_above own peer) (Glare n)
@@ -86,7 +86,7 @@ birth_refusal l keying free =
     ∷ where_true (is_none (held_with l keying.peer) && not free) SessionsFull
     ∷ [])
 
--- why a Keying is refused, but for want of memory
+-- Why a Keying is refused, but for want of memory: a Keying whose session is held never is.
 abbrev pub hear_refusal : Ledger → Keying → Bool → Option HearRefusal
 hear_refusal l keying free = if is_some (again_of (held_with l keying.peer) keying) then None else birth_refusal l keying free
 
@@ -103,6 +103,7 @@ abbrev pub born_fact : Ledger → Keying → ℕ → List ℕ → Fact
 born_fact l keying near nr =
     Born (record { peer = keying.peer; n = keying.n; near = near; far = keying.far; ni = keying.ni; nr = nr; k = l.started })
 
+-- Again where there is such a session
 abbrev pub again_or : Option ℕ → Heard → Heard
 again_or None birth = birth
 again_or (Some near) birth = Again near

@@ -32,7 +32,7 @@ confirmed (Some (HalfOpen j)) = Some (KeptAsResponder j)
 confirmed (Some (KeptAsResponder j)) = Some (KeptAsResponder j)
 confirmed (Some (KeptAsInitiator j)) = Some (KeptAsInitiator j)
 
--- what is held with the peer of a fact after it, by what was held before it
+-- What is held with the peer of a fact after it, by what was held before it: from its Started or Born until its Ended.
 abbrev pub after : Fact → Option Held → Option Held
 after (Started peer n near ni) before = Some (Opening n near ni)
 after (Born j) before = Some (HalfOpen j)
@@ -40,7 +40,7 @@ after (Opened j) before = opened j before
 after (Confirmed peer near) before = confirmed before
 after (Ended peer near why) before = None
 
--- what is held with a peer
+-- what is held with a peer after these facts
 abbrev pub held : List ℕ → List Fact → Option Held
 held peer [] = None
 held peer (fact ∷ earlier) = cond (bytes_eq (peer_of fact) peer) (after fact (held peer earlier)) (held peer earlier)
@@ -58,6 +58,7 @@ abbrev pub seen : List ℕ → List Fact → ℕ
 seen peer [] = 0
 seen peer (fact ∷ earlier) = cond (bytes_eq (peer_of fact) peer) (max (seen_in fact) (seen peer earlier)) (seen peer earlier)
 
+-- 1 for a Started
 abbrev pub starts_in : Fact → ℕ
 starts_in (Started peer n near ni) = 1
 starts_in (Born j) = 0

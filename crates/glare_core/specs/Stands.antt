@@ -22,7 +22,6 @@ Ends own peer Near h = IsSession h
 Ends own peer Far h = IsSession h
 Ends own peer Idle h = IsKept h
 
--- What a fact of an end asks of its facts before, the newest first, where it has started so many attempts.
 pub record StartedStands (own : List ℕ) (attempts : ℕ) (before : List Fact) (peer : List ℕ) (n : ℕ) : Type 0 where
   pub other : peer ≢ own
   pub free : held peer before ≡ None
@@ -44,6 +43,7 @@ pub record EndedStands (own : List ℕ) (before : List Fact) (peer : List ℕ) (
   pub id : near ≡ near_of h
   pub ends : Ends own peer why h
 
+-- What a fact of an end asks of its facts before, the newest first, where it has started so many attempts.
 abbrev pub Stands : List ℕ → ℕ → List Fact → Fact → Type 0
 Stands own attempts before (Started peer n near ni) = StartedStands own attempts before peer n
 Stands own attempts before (Born j) = BornStands attempts before j

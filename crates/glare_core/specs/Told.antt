@@ -18,10 +18,12 @@ abbrev pub onto : List ℕ → List Item → List Step → List Step
 onto who [] before = before
 onto who (item ∷ items) before = onto who items (step who item ∷ before)
 
+-- what a datagram told an end, on top of the steps before
 abbrev pub onto_told : List ℕ → List Tell → List Step → List Step
 onto_told who [] before = before
 onto_told who (t ∷ ts) before = onto_told who ts (step who (Told t) ∷ before)
 
+-- An event is what its datagram told, and then what the end did.
 abbrev pub steps : List Event → List Step
 steps [] = []
 steps (e ∷ earlier) = onto e.who e.done (onto_told e.who e.told (steps earlier))
@@ -31,10 +33,12 @@ abbrev pub DoneLawful : List ℕ → List Item → List Item → Type 0
 DoneLawful own log [] = Unit {0}
 DoneLawful own log (item ∷ rest) = Meets own log item × Followed item rest × DoneLawful own (item ∷ log) rest
 
+-- the log of an end, after a datagram told it these
 abbrev pub told_to : List Tell → List Item → List Item
 told_to [] log = log
 told_to (t ∷ ts) log = told_to ts (Told t ∷ log)
 
+-- Each fact, and each tell that was sent, meets the table, judged by what its end was told and did before.
 abbrev pub IsLawful : List Event → Type 0
 IsLawful [] = Unit {0}
 IsLawful (e ∷ earlier) = DoneLawful e.who (told_to e.told (view e.who (steps earlier))) e.done × IsLawful earlier
@@ -67,6 +71,7 @@ abbrev pub nonces : List Step → List (List ℕ)
 nonces [] = []
 nonces (s ∷ earlier) = with_nonce s.item (nonces earlier)
 
+-- no two of them are the same
 abbrev pub AllDifferent : {A : Type 0} → List A → Type 0
 AllDifferent [] = Unit {0}
 AllDifferent (x ∷ xs) = (Among x xs → ⊥) × AllDifferent xs

@@ -20,6 +20,7 @@ use std::marker::Model;
 /// What an end holds with its peers: at most one attempt or session with each.
 ///
 /// Contracts see it as a ledger: the own fingerprint, the limit on rows, the count of attempts, and a finite map from peers to what is held and to the greatest number seen.
+/// A ledger stands for the list of the facts that it gave: `new` stands for none, and each call brings it from any list to that list and the facts of the call, each of which meets the table of lawful facts.
 #[derive(Drop)]
 pub struct Peers {
     own: [u8; 32],
@@ -92,6 +93,8 @@ impl Peers {
     }
 
     /// Starts an attempt towards the peer, whose near id and nonce are given; it gives Started, numbered one above the count.
+    ///
+    /// It takes memory only for the row of a peer that has none. Where it is refused, all is as before; `StartRefusal` has the reasons in their order.
     pub fn start(&mut self, peer: &[u8; 32], near: u32, ni: [u8; 16]) -> Result<Fact, StartRefusal>
         ensures ok { IfOk result (λ fact. (fact ≡ started_fact self.old peer.now near ni) × (self.new ≡ noted self.old fact)) }
         ensures refused { IfSome (start_refusal self.old peer.now) (λ refusal. result ≡ Err refusal) }
@@ -146,6 +149,7 @@ impl Peers {
     /// Hears a keying of a peer that isn't this end, whose near id and responder nonce for a session are given; `free` says whether there is a place for one.
     ///
     /// It gives Again exactly where the held session was born of this very keying, and else, where nothing refuses it, the birth of a session: a held attempt ends with Glare, a held session with Override.
+    /// It takes memory only for the row of a peer that has none. Where it is refused, all is as before; `HearRefusal` has the reasons in their order.
     pub fn hear(
         &mut self,
         keying: &Keying,
@@ -185,7 +189,7 @@ impl Peers {
         }
     }
 
-    /// Opens the held attempt towards the peer: it gives Opened; None exactly where no attempt is held.
+    /// Opens the held attempt towards the peer: it gives Opened; None exactly where no attempt is held. It takes no memory.
     pub fn answer(&mut self, peer: &[u8; 32], nr: [u8; 16], far: u32, k: u64) -> Option<Fact>
         ensures fact { result ≡ opened_fact (held_with self.old peer.now) peer.now nr far k }
         ensures ledger { self.new ≡ noted_if self.old result }
@@ -198,7 +202,7 @@ impl Peers {
         fact
     }
 
-    /// Confirms the held half-open session with the peer; None exactly where nothing half-open is held.
+    /// Confirms the held half-open session with the peer: it gives Confirmed; None exactly where nothing half-open is held. It takes no memory.
     pub fn confirm(&mut self, peer: &[u8; 32]) -> Option<Fact>
         ensures fact { result ≡ confirmed_fact (held_with self.old peer.now) peer.now }
         ensures ledger { self.new ≡ noted_if self.old result }
@@ -211,7 +215,9 @@ impl Peers {
         fact
     }
 
-    /// Ends what is held with the peer; None exactly where nothing is held.
+    /// Ends what is held with the peer: it gives Ended; None exactly where nothing is held. It takes no memory.
+    ///
+    /// An attempt ends here with Cancelled or Expired, a half-open session with Unconfirmed, Near or Far, a kept one with Near, Far or Idle.
     pub fn end(&mut self, peer: &[u8; 32], why: Why) -> Option<Fact>
         requires { IfSome (held_with self.old peer.now) (MayEnd why) }
         ensures fact { result ≡ ended_fact (held_with self.old peer.now) peer.now why }
@@ -260,7 +266,7 @@ impl Peers {
         seat_of(&self.rows, peer).place.is_some()
     }
 
-    /// The number of rows.
+    /// The number of rows. Rows are kept for good.
     pub fn rows(&self) -> u32
         ensures rows { result ≡ row_count self.now }
         ensures within { result ≤ self.now.max_peers }
