@@ -9,3 +9,4 @@ pub mod LinesLaws
 pub mod Turns
 pub mod Shown
 pub mod Flushed
+pub mod Texts

@@ -12,3 +12,4 @@ pub mod Show
 pub mod Turning
 pub mod Status
 pub mod Run
+pub mod OneText

@@ -3,6 +3,7 @@
 
 mod address_text;
 mod buffer;
+pub mod laws;
 mod lines;
 mod show;
 mod show_chunk;

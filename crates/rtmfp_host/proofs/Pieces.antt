@@ -14,7 +14,7 @@ takes_piece bytes buf got at count some e le fits =
     let whole : length got ≡ count = ap length e ∙ length-take-le count (drop at bytes) le in
     let front : take count (got ++ drop count buf) ≡ take count (drop at bytes) = take_at got (drop count buf) count whole ∙ e in
     let joined : drop at bytes ≡ take count (got ++ drop count buf) ++ drop (at + count) bytes =
-      sym (take-append-drop count (drop at bytes))
-      ∙ ap (λ xs. xs ++ drop count (drop at bytes)) (sym front)
-      ∙ ap (λ xs. take count (got ++ drop count buf) ++ xs) (drop-drop count at bytes) in
+    sym (take-append-drop count (drop at bytes))
+    ∙ ap (λ xs. xs ++ drop count (drop at bytes)) (sym front)
+    ∙ ap (λ xs. take count (got ++ drop count buf) ++ xs) (drop-drop count at bytes) in
     (some, room got buf count whole, (drop (at + count) bytes, joined, refl))

@@ -2,3 +2,4 @@ pub mod Faults
 pub mod Taking
 pub mod Writing
 pub mod Memory
+pub mod Plan

@@ -1,5 +1,6 @@
 -- What the sources and sinks in memory hold.
 use Rattle.std.specs.Prelude.{ℕ, List, drop, Option, Some, None, if◌then◌else◌}
+use Rattle.rtmfp_host.specs.Plan.{Planned}
 use Rattle.rtmfp_host.specs.declared.memory_source.MemorySource.{MemorySource}
 use Rattle.rtmfp_host.specs.declared.memory_source.FaultySource.{FaultySource}
 use Rattle.rtmfp_host.specs.declared.memory_sink.MemorySink.{MemorySink}
@@ -18,3 +19,15 @@ sink_written s = if s.whole then Some s.bytes.items else None
 
 abbrev pub faulty_sink_written : FaultySink → Option (List ℕ)
 faulty_sink_written s = sink_written s.sink
+
+abbrev pub source_plan : FaultySource → Planned
+source_plan s = s.plan
+
+abbrev pub source_faults : FaultySource → ℕ
+source_faults s = s.faults
+
+abbrev pub sink_plan : FaultySink → Planned
+sink_plan s = s.plan
+
+abbrev pub sink_faults : FaultySink → ℕ
+sink_faults s = s.faults

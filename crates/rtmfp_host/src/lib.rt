@@ -5,6 +5,7 @@
 
 mod memory_sink;
 mod memory_source;
+mod plan;
 mod sink;
 mod source;
 mod stream_sink;
@@ -17,3 +18,5 @@ pub use source::{Source, Taken};
 pub use stream_sink::StreamSink;
 pub use stream_source::StreamSource;
 
+#[cfg(test)]
+mod tests;

@@ -1,7 +1,10 @@
 //! Sinks that keep the bytes in memory.
-ghost use Rattle.std.specs.Prelude.{◌≡◌, [], Some};
+ghost use Rattle.std.specs.Prelude.{◌≡◌, ◌≤◌, ◌↔◌, [], IsTrue, Some};
+ghost use Rattle.rtmfp_host.specs.Faults.{Rose};
+ghost use Rattle.rtmfp_host.specs.Writing.{Writes};
 ghost use Rattle.std.specs.Option.{option_map};
 
+use crate::plan::Plan;
 use crate::{Sink, Wrote};
 use std::alloc::Global;
 
@@ -55,24 +58,22 @@ impl Sink for MemorySink {
 #[derive(Drop)]
 pub struct FaultySink {
     sink: MemorySink,
-    failing: Vec<u64>,
-    calls: u64,
+    plan: Plan,
     faults: u64,
 }
 
 impl FaultySink {
-    ghost use Rattle.rtmfp_host.specs.Memory.{sink_written, faulty_sink_written};
+    ghost use Rattle.rtmfp_host.specs.Memory.{faulty_sink_written, sink_plan, sink_faults};
 
     /// A sink that has taken nothing, and whose writes with these numbers fail.
     pub fn new(alloc: Global, failing: Vec<u64>) -> FaultySink
         ensures written { faulty_sink_written result ≡ Some [] }
-        ensures calls { result.calls ≡ 0 }
-        ensures faults { result.faults ≡ 0 }
+        ensures plan { sink_plan result ≡ record { failing = failing.items; calls = 0 } }
+        ensures faults { sink_faults result ≡ 0 }
     {
         FaultySink {
             sink: MemorySink::new(alloc),
-            failing,
-            calls: 0,
+            plan: Plan::new(failing),
             faults: 0,
         }
     }
@@ -86,15 +87,24 @@ impl FaultySink {
 }
 
 impl Sink for FaultySink {
-    ghost use Rattle.rtmfp_host.specs.Memory.{faulty_sink_written};
+    ghost use Rattle.rtmfp_host.specs.Memory.{faulty_sink_written, sink_plan, sink_faults};
+    ghost use Rattle.rtmfp_host.specs.Plan.{fails_now, after_call};
 
     ghost written = { faulty_sink_written };
 
-    ghost faults = { λ s. s.faults };
+    ghost faults = { sink_faults };
 
-    fn write(&mut self, bytes: &[u8]) -> Wrote {
-        self.calls = self.calls.saturating_add(1);
-        if self.failing.contains(&self.calls) {
+    fn write(&mut self, bytes: &[u8]) -> Wrote
+        ensures bytes { Writes (faulty_sink_written self.old) (faulty_sink_written self.new) result bytes.now }
+        ensures later { sink_faults self.old ≤ sink_faults self.new }
+        ensures failed { result ≡ Wrote.Failed → Rose (sink_faults self.old) (sink_faults self.new) }
+
+        // It fails exactly where it was to, and takes nothing then.
+        ensures fails { (result ≡ Wrote.Failed) ↔ IsTrue (fails_now (sink_plan self.old)) }
+        ensures nothing { result ≡ Wrote.Failed → faulty_sink_written self.new ≡ faulty_sink_written self.old }
+        ensures plan { sink_plan self.new ≡ after_call (sink_plan self.old) }
+    {
+        if self.plan.next_fails() {
             self.faults = self.faults.saturating_add(1);
             return Wrote::Failed;
         }

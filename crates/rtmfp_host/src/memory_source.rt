@@ -1,6 +1,9 @@
 //! Sources over bytes in memory.
-ghost use Rattle.std.specs.Prelude.{◌≡◌, ◌+◌, ◌-◌, ◌^◌, ◌<◌, ◌≤◌, [], length, take, drop, min, Some, None};
+ghost use Rattle.std.specs.Prelude.{◌≡◌, ◌<◌, ◌≤◌, ◌↔◌, length, IsTrue, Some};
+ghost use Rattle.rtmfp_host.specs.Faults.{Rose};
+ghost use Rattle.rtmfp_host.specs.Taking.{Takes};
 
+use crate::plan::Plan;
 use crate::{Source, Taken};
 
 /// Bytes in memory. It never fails: its count of faults is 0.
@@ -59,39 +62,46 @@ impl Source for MemorySource {
 #[derive(Drop)]
 pub struct FaultySource {
     source: MemorySource,
-    failing: Vec<u64>,
-    calls: u64,
+    plan: Plan,
     faults: u64,
 }
 
 impl FaultySource {
-    ghost use Rattle.rtmfp_host.specs.Memory.{source_left, faulty_source_left};
+    ghost use Rattle.rtmfp_host.specs.Memory.{source_left, faulty_source_left, source_plan, source_faults};
 
     /// A source that gives what `source` gives, and whose calls with these numbers fail.
     pub fn new(source: MemorySource, failing: Vec<u64>) -> FaultySource
         ensures left { faulty_source_left result ≡ source_left source }
-        ensures calls { result.calls ≡ 0 }
-        ensures faults { result.faults ≡ 0 }
+        ensures plan { source_plan result ≡ record { failing = failing.items; calls = 0 } }
+        ensures faults { source_faults result ≡ 0 }
     {
         FaultySource {
             source,
-            failing,
-            calls: 0,
+            plan: Plan::new(failing),
             faults: 0,
         }
     }
 }
 
 impl Source for FaultySource {
-    ghost use Rattle.rtmfp_host.specs.Memory.{faulty_source_left};
+    ghost use Rattle.rtmfp_host.specs.Memory.{faulty_source_left, source_plan, source_faults};
+    ghost use Rattle.rtmfp_host.specs.Plan.{fails_now, after_call};
 
     ghost left = { λ s. Some (faulty_source_left s) };
 
-    ghost faults = { λ s. s.faults };
+    ghost faults = { source_faults };
 
-    fn read(&mut self, buf: &mut [u8]) -> Taken {
-        self.calls = self.calls.saturating_add(1);
-        if self.failing.contains(&self.calls) {
+    fn read(&mut self, buf: &mut [u8]) -> Taken
+        requires { 0 < length buf.old }
+        ensures bytes { Takes (Some (faulty_source_left self.old)) (Some (faulty_source_left self.new)) result buf.new }
+        ensures later { source_faults self.old ≤ source_faults self.new }
+        ensures failed { result ≡ Taken.Failed → Rose (source_faults self.old) (source_faults self.new) }
+
+        // It fails exactly where it was to.
+        ensures fails { (result ≡ Taken.Failed) ↔ IsTrue (fails_now (source_plan self.old)) }
+        ensures plan { source_plan self.new ≡ after_call (source_plan self.old) }
+    {
+        if self.plan.next_fails() {
             self.faults = self.faults.saturating_add(1);
             return Taken::Failed;
         }

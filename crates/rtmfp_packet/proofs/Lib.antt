@@ -2,3 +2,4 @@ pub mod Walking
 pub mod Heads
 pub mod Bodies
 pub mod Readings
+pub mod Flags

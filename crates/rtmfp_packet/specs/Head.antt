@@ -53,3 +53,17 @@ flagged_len is_flagged = if is_flagged then 2 else 0
 abbrev pub IsShortStamp : List ℕ → Type 0
 IsShortStamp [] = ⊥
 IsShortStamp (flags ∷ rest) = (flags % 4 ≢ 0) × (length rest < flagged_len (flag flags 3) + flagged_len (flag flags 2))
+
+-- ---- the one spelling that is written
+
+abbrev pub flag_value : Bool → ℕ → ℕ
+flag_value is_set bit = if is_set then bit else 0
+
+-- the flags of a head: bits that say nothing are 0
+abbrev pub head_flags : PacketHead → ℕ
+head_flags head =
+    flag_value head.critical 128 + flag_value head.reverse 64 + flag_value (is_some head.stamp) 8 + flag_value (is_some head.echo) 4
+    + mode_number head.mode
+
+abbrev pub head_bytes : PacketHead → List ℕ
+head_bytes head = head_flags head ∷ (stamp_bytes head.stamp ++ stamp_bytes head.echo)

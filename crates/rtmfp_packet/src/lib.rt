@@ -4,7 +4,9 @@
 mod chunks;
 mod head;
 mod packet;
+mod writing;
 
 pub use chunks::{Chunks, RawChunk};
 pub use head::{Mode, PacketFault, PacketHead};
 pub use packet::{Packet, read_packet};
+pub use writing::begin_packet;

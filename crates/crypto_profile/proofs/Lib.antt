@@ -1,0 +1,7 @@
+pub mod Bitmap
+pub mod Buffers
+pub mod Ciphers
+pub mod KeptLaws
+pub mod Opened
+pub mod Streams
+pub mod Tags

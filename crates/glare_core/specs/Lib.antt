@@ -1,0 +1,15 @@
+pub mod Standing
+pub mod Tells
+pub mod Steps
+pub mod Things
+pub mod Stands
+pub mod Table
+pub mod Told
+pub mod Agreed
+pub mod Witness
+pub mod Counterexample
+pub mod PerEnd
+pub mod Ledger
+pub mod Calls
+pub mod Account
+pub mod Rows

@@ -1,0 +1,16 @@
+//! What an end holds with its peers, the facts that it states of it, and the laws that hold over the facts of every history.
+#![tactic(auto)]
+
+mod answers;
+mod checks;
+mod facts;
+mod given;
+pub mod laws;
+mod peers;
+mod rows;
+#[cfg(test)]
+mod tests;
+
+pub use answers::{HearRefusal, Heard, Keying, StartRefusal};
+pub use facts::{Fact, Held, Joined, Why};
+pub use peers::Peers;

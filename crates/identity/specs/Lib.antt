@@ -1,0 +1,4 @@
+pub mod Certificates
+pub mod Discriminators
+pub mod Kept
+pub mod Order

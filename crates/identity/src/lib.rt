@@ -1,0 +1,13 @@
+//! What names an end: its certificate, the discriminator that selects a certificate, and the order of fingerprints.
+#![tactic(auto)]
+
+mod cert;
+mod discriminator;
+pub mod laws;
+mod order;
+#[cfg(test)]
+mod tests;
+
+pub use cert::{CertFault, Certificate};
+pub use discriminator::Epd;
+pub use order::prevails;
