@@ -19,7 +19,8 @@ use Rattle.rtmfp_chunks.proofs.FieldLaws.{Is, address_is, address_then-again, ad
 address-some : (a : AddressParts) (s : List ℕ) → AddressSpells a s → 0 < length s
 address-some a s h = omega (arith, ap length h.whole)
 
-addresses-push : (addresses : List AddressParts) (b : List ℕ) (a : AddressParts) (s : List ℕ) → AddressesSpell addresses b → AddressSpells a s → AddressesSpell (addresses ++ a ∷ []) (b ++ s)
+-- one more address
+pub addresses-push : (addresses : List AddressParts) (b : List ℕ) (a : AddressParts) (s : List ℕ) → AddressesSpell addresses b → AddressSpells a s → AddressesSpell (addresses ++ a ∷ []) (b ++ s)
 addresses-push [] b a s h one = (s, [], ap (λ (xs : List ℕ). xs ++ s) h ∙ sym (append-nil s), one, refl)
 addresses-push (x ∷ addresses) b a s (front, rest, e, first, others) one =
     (front, rest ++ s, ap (λ (xs : List ℕ). xs ++ s) e ∙ append_assoc front rest s, first, addresses-push addresses rest a s others one)

@@ -6,24 +6,24 @@ use Rattle.rtmfp_chunks.specs.declared.reading.ChunkFault.TheVariants.{Unknown, 
 use Rattle.rtmfp_chunks.specs.Fields.{Parts, Row, PartsSpell, RowBreaks}
 use Rattle.rtmfp_chunks.specs.Chunk.{Chunk, IHello, FIHello, RHello, Redirect, CookieChange, IIKeying, RIKeying, Ping, PingReply, Close, CloseAck, Fragment, kind_of, parts_of, row_of, Spells, Breaks}
 use Rattle.rtmfp_chunks.specs.Reading.{Reading}
-use Rattle.rtmfp_chunks.specs.FieldReading.{row_at, typed, typed_row, chunk_at}
+use Rattle.rtmfp_chunks.specs.FieldReading.{row_at, typed, typed_row, chunk_at, chunk_with, known_chunk, chunk_or_fault, chunk_reading}
 use Rattle.rtmfp_chunks.proofs.RowLaws.{RowIs, row_is, row_of_parts, row_again, row_broken, row_within}
 
 -- the type and the fields are those of one chunk
-same_chunk : (a b : Chunk) → kind_of a ≡ kind_of b → parts_of a ≡ parts_of b → a ≡ b
-same_chunk (IHello epd tag) (IHello epd' tag') e p = cc
-same_chunk (FIHello epd reply tag) (FIHello epd' reply' tag') e p = cc
-same_chunk (RHello tag cookie cert) (RHello tag' cookie' cert') e p = cc
-same_chunk (Redirect tag list) (Redirect tag' list') e p = cc
-same_chunk (CookieChange old new) (CookieChange old' new') e p = cc
-same_chunk (IIKeying near cookie cert part sign) (IIKeying near' cookie' cert' part' sign') e p = cc
-same_chunk (RIKeying near part sign) (RIKeying near' part' sign') e p = cc
-same_chunk (Ping bytes) (Ping bytes') e p = cc
-same_chunk (PingReply bytes) (PingReply bytes') e p = cc
-same_chunk Close Close e p = refl
-same_chunk CloseAck CloseAck e p = refl
-same_chunk (Fragment more id number bytes) (Fragment more' id' number' bytes') e p = cc
-same_chunk a b e p = absurd (omega (arith, e))
+chunk_known : (chunk : Chunk) → chunk_with (kind_of chunk) (parts_of chunk) ≡ Some chunk
+unfolding chunk_with
+chunk_known (IHello epd tag) = refl
+chunk_known (FIHello epd reply tag) = refl
+chunk_known (RHello tag cookie cert) = refl
+chunk_known (Redirect tag list) = refl
+chunk_known (CookieChange old new) = refl
+chunk_known (IIKeying near cookie cert part sign) = refl
+chunk_known (RIKeying near part sign) = refl
+chunk_known (Ping bytes) = refl
+chunk_known (PingReply bytes) = refl
+chunk_known Close = refl
+chunk_known CloseAck = refl
+chunk_known (Fragment more id number bytes) = refl
 
 -- each chunk has the fields of its type
 row_known : (chunk : Chunk) → row_of (kind_of chunk) ≡ Some (row_of_parts (parts_of chunk))
@@ -101,20 +101,15 @@ none_reads kind b e = none_in kind b (row_of kind) e
 
 -- ---- so there is one reading
 
+pub reading_is : (kind : ℕ) (b : List ℕ) (r : Result Chunk ChunkFault) → Reading kind b r → r ≡ chunk_reading kind b
+unfolding chunk_reading
+reading_is kind b (Ok chunk) h =
+    let found : chunk_with kind (parts_of chunk) ≡ Some chunk = ap (λ (k : ℕ). chunk_with k (parts_of chunk)) h.0 ∙ chunk_known chunk in
+    sym (ap (chunk_or_fault kind b) (spelled_at chunk kind b h) ∙ ap (known_chunk kind) found)
+reading_is kind b (Err (Unknown told)) h = ap (λ (k : ℕ). Err (Unknown k)) h.0 ∙ sym (ap (chunk_or_fault kind b) (unknown_at kind b h.1))
+reading_is kind b (Err (Malformed at)) h =
+    let same : at ≡ length b - (length b - at) = omega (arith, row_within h.0 b at h.2) in
+    ap (λ (n : ℕ). Err (Malformed n)) same ∙ sym (ap (chunk_or_fault kind b) (broken_at kind b at h))
+
 pub reading_same : (kind : ℕ) (b : List ℕ) (x y : Result Chunk ChunkFault) → Reading kind b x → Reading kind b y → x ≡ y
-reading_same kind b (Ok p) (Ok q) x y =
-    let both = sym (spelled_at p kind b x) ∙ spelled_at q kind b y in
-    let pair : (kind, parts_of p) ≡ (kind, parts_of q) = cc in
-    ap Ok (same_chunk p q (sym x.0 ∙ y.0) (ap (λ (z : ℕ × Parts). z.1) pair))
-reading_same kind b (Ok p) (Err (Unknown told)) x y = let both = sym (spelled_at p kind b x) ∙ unknown_at kind b y.1 in absurd (cc)
-reading_same kind b (Ok p) (Err (Malformed at)) x y = let both = sym (spelled_at p kind b x) ∙ broken_at kind b at y in absurd (cc)
-reading_same kind b (Err (Unknown told)) (Ok q) x y = let both = sym (spelled_at q kind b y) ∙ unknown_at kind b x.1 in absurd (cc)
-reading_same kind b (Err (Malformed at)) (Ok q) x y = let both = sym (spelled_at q kind b y) ∙ broken_at kind b at x in absurd (cc)
-reading_same kind b (Err (Unknown told)) (Err (Unknown other)) x y = ap (λ (n : ℕ). Err (Unknown n)) (x.0 ∙ sym y.0)
-reading_same kind b (Err (Unknown told)) (Err (Malformed at)) x y = let both = sym (broken_at kind b at y) ∙ unknown_at kind b x.1 in absurd (cc)
-reading_same kind b (Err (Malformed at)) (Err (Unknown told)) x y = let both = sym (broken_at kind b at x) ∙ unknown_at kind b y.1 in absurd (cc)
-reading_same kind b (Err (Malformed at)) (Err (Malformed other)) x y =
-    let both = sym (broken_at kind b at x) ∙ broken_at kind b other y in
-    let left : length b - at ≡ length b - other = cc in
-    let same : at ≡ other = omega (arith, left, row_within x.0 b at x.2, row_within y.0 b other y.2) in
-    ap (λ (n : ℕ). Err (Malformed n)) same
+reading_same kind b x y p q = reading_is kind b x p ∙ sym (reading_is kind b y q)

@@ -1,6 +1,6 @@
 -- Fields from left to right. Where one can't be read, the number of bytes from there to the end is told.
 use Rattle.std.specs.Borrow.{Bor}
-use Rattle.std.specs.Prelude.{◌≡◌, ℕ, zero, suc, Bool, List, [], ◌∷◌, length, take, drop, Option, Some, None, Result, Ok, Err, nat_lt, nat_le, if◌then◌else◌}
+use Rattle.std.specs.Prelude.{◌≡◌, ℕ, ◌-◌, ◌==◌, zero, suc, Bool, List, [], ◌∷◌, length, take, drop, Option, Some, None, Result, Ok, Err, nat_lt, nat_le, if◌then◌else◌}
 use Rattle.std.specs.Int.{w32, from_be_bytes}
 use Rattle.rtmfp_vlu.specs.declared.reading.VluFault.{VluFault}
 use Rattle.rtmfp_vlu.specs.Reading.{number_at}
@@ -11,7 +11,9 @@ use Rattle.rtmfp_forms.specs.OptionReading.{◌>>=◌}
 use Rattle.rtmfp_chunks.specs.declared.view.ChunkView.{ChunkView}
 use Rattle.rtmfp_chunks.specs.Fields.{Field, Counted, Number, SessionId, More, Place, Parts, Then, Rest, Places, Ignored}
 use Rattle.rtmfp_chunks.specs.Fields.{Form, CountedForm, NumberForm, SessionIdForm, MoreForm, PlaceForm, Row, ThenRow, RestRow, PlacesRow, IgnoredRow}
-use Rattle.rtmfp_chunks.specs.Chunk.{chunk_of, kind_of, parts_of, row_of}
+use Rattle.rtmfp_chunks.specs.declared.reading.ChunkFault.{ChunkFault}
+use Rattle.rtmfp_chunks.specs.declared.reading.ChunkFault.TheVariants.{Unknown, Malformed}
+use Rattle.rtmfp_chunks.specs.Chunk.{Chunk, IHello, FIHello, RHello, Redirect, CookieChange, IIKeying, RIKeying, Ping, PingReply, Close, CloseAck, Fragment, chunk_of, kind_of, parts_of, row_of}
 
 -- what a function returned, seen by view, is what reading gives
 abbrev pub Shows : {X Y : Type 0} → (X → Y) → Result X ℕ → Result Y ℕ → Type 0
@@ -120,3 +122,32 @@ split_of found = (found.0.now, found.1.now)
 -- a value, and what follows it
 abbrev pub value_of : {X : Type 0} → X × Bor (List ℕ) → X × List ℕ
 value_of found = (found.0, found.1.now)
+
+-- ---- all of it as one function
+
+-- the chunk of this type that has these fields
+unfoldable pub chunk_with : ℕ → Parts → Option Chunk
+chunk_with kind (Then (Counted x) (Rest y)) = if kind == 0x30 then Some (IHello x y) else if kind == 0x79 then Some (CookieChange x y) else None
+chunk_with kind (Then (Counted epd) (Then (Place reply) (Rest tag))) = if kind == 0x0f then Some (FIHello epd reply tag) else None
+chunk_with kind (Then (Counted tag) (Then (Counted cookie) (Rest cert))) = if kind == 0x70 then Some (RHello tag cookie cert) else None
+chunk_with kind (Then (Counted tag) (Places list)) = if kind == 0x71 then Some (Redirect tag list) else None
+chunk_with kind (Then (SessionId near) (Then (Counted cookie) (Then (Counted cert) (Then (Counted part) (Rest sign))))) =
+    if kind == 0x38 then Some (IIKeying near cookie cert part sign) else None
+chunk_with kind (Then (SessionId near) (Then (Counted part) (Rest sign))) = if kind == 0x78 then Some (RIKeying near part sign) else None
+chunk_with kind (Rest bytes) = if kind == 0x01 then Some (Ping bytes) else if kind == 0x41 then Some (PingReply bytes) else None
+chunk_with kind Ignored = if kind == 0x0c then Some Close else if kind == 0x4c then Some CloseAck else None
+chunk_with kind (Then (More more) (Then (Number id) (Then (Number number) (Rest bytes)))) = if kind == 0x7f then Some (Fragment more id number bytes) else None
+chunk_with kind parts = None
+
+abbrev pub known_chunk : ℕ → Option Chunk → Result Chunk ChunkFault
+known_chunk kind (Some chunk) = Ok chunk
+known_chunk kind None = Err (Unknown kind)
+
+abbrev pub chunk_or_fault : ℕ → List ℕ → Option (Result (ℕ × Parts) ℕ) → Result Chunk ChunkFault
+chunk_or_fault kind b (Some (Ok found)) = known_chunk kind (chunk_with found.0 found.1)
+chunk_or_fault kind b (Some (Err left)) = Err (Malformed (length b - left))
+chunk_or_fault kind b None = Err (Unknown kind)
+
+-- how a payload of this type reads
+unfoldable pub chunk_reading : ℕ → List ℕ → Result Chunk ChunkFault
+chunk_reading kind b = chunk_or_fault kind b (chunk_at kind b)

@@ -2,6 +2,7 @@
 ghost use Rattle.std.specs.Prelude.{◌≡◌, Result};
 ghost use Rattle.rtmfp_chunks.specs.Chunk.{Chunk};
 ghost use Rattle.rtmfp_chunks.specs.Reading.{Reading, shown};
+ghost use Rattle.rtmfp_chunks.specs.FieldReading.{chunk_reading};
 
 use crate::rows::read_payload;
 use crate::view::ChunkView;
@@ -23,6 +24,9 @@ pub fn read_chunk(kind: u8, payload: &[u8]) -> Result<ChunkView<'_>, ChunkFault>
     // The payload reads so, and in no other way.
     ensures reads { Reading kind payload.now (shown result) }
     ensures only { (other : Result Chunk ChunkFault) → Reading kind payload.now other → other ≡ shown result }
+
+    // All of this as one function.
+    ensures exact { shown result ≡ chunk_reading kind payload.now }
 {
     read_kind(kind, payload)
 }

@@ -7,7 +7,7 @@ const TWO_ADDRESSES: [u8; 26] = [
     0x01, 0x12, 0x34,
 ];
 
-/// What stands in a packet after the chunk is written.
+/// Whether the payload reads as this chunk, which is then put into the packet.
 #[tactic(auto, using(crate::proofs::WritingLaws::writable))]
 fn write(view: &ChunkView<'_>, kind: u8, payload: &[u8], out: &mut Outgoing) -> bool {
     match read_chunk(kind, payload) {

@@ -3,10 +3,11 @@ pub mod LfLaws
 pub mod Streams
 pub mod HexTexts
 pub mod Pushes
-pub mod AddressTexts
+pub mod Lists
 pub mod ChunkLines
 pub mod LinesLaws
 pub mod Turns
 pub mod Shown
 pub mod Flushed
+pub mod Payloads
 pub mod Texts

@@ -1,17 +1,15 @@
 -- Adding to a text.
-use Rattle.std.specs.Prelude.{◌≡◌, ℕ, List, ◌++◌, Result}
+use Rattle.std.specs.Prelude.{◌≡◌, ℕ, List, ◌++◌, Option}
 use Rattle.rtmfp_packet.specs.declared.chunks.RawChunk.{RawChunk}
-use Rattle.rtmfp_chunks.specs.declared.reading.ChunkFault.{ChunkFault}
-use Rattle.rtmfp_chunks.specs.Chunk.{Chunk}
-use Rattle.rtmfp_chunks.specs.Reading.{Reading}
-use Rattle.rtmfp_cli.specs.ShowText.{chunk_line}
+use Rattle.rtmfp_data_chunks.specs.declared.user_data.Numbers.{Numbers}
+use Rattle.rtmfp_cli.specs.ShowText.{FieldsText, chunk_line}
 
 -- some text of this kind was added
 abbrev pub Adds : (List ℕ → Type 0) → List ℕ → List ℕ → Type 0
 Adds P old new = (text : List ℕ) × P text × (new ≡ old ++ text)
 
--- the line of a chunk was added, as it reads
-pub record AddsChunk (chunk : RawChunk) (old new : List ℕ) : Type 0 where
-  pub result : Result Chunk ChunkFault
-  pub reads : Reading chunk.kind chunk.payload.now result
-  pub joined : new ≡ old ++ chunk_line chunk.at chunk.kind result
+-- the line of a chunk was added
+pub record AddsChunk (before : Option Numbers) (chunk : RawChunk) (old new : List ℕ) (after : Option Numbers) : Type 0 where
+  pub fields : List ℕ
+  pub told : FieldsText before chunk.kind chunk.payload.now fields after
+  pub joined : new ≡ old ++ chunk_line chunk.at fields

@@ -19,13 +19,3 @@ host_text address = if address.v6 then v6_host_text address.host else v4_host_te
 -- host, colon and port
 unfoldable pub address_text : AddressParts → List ℕ
 address_text address = text_of (host_text address ∷ codes ":" ∷ decimal address.port ∷ [])
-
--- further addresses, each behind a comma
-abbrev pub more_addresses_text : List AddressParts → List ℕ
-more_addresses_text [] = []
-more_addresses_text (address ∷ addresses) = text_of (codes "," ∷ address_text address ∷ more_addresses_text addresses ∷ [])
-
--- addresses with commas between them, and a hyphen for none
-abbrev pub addresses_text : List AddressParts → List ℕ
-addresses_text [] = codes "-"
-addresses_text (address ∷ addresses) = text_of (address_text address ∷ more_addresses_text addresses ∷ [])

@@ -4,6 +4,7 @@ pub mod Reading
 pub mod Words
 pub mod AddressText
 pub mod ChunkText
+pub mod DataText
 pub mod ShowText
 pub mod ShowLine
 pub mod Adding

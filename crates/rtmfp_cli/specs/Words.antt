@@ -32,3 +32,13 @@ text_of (part ∷ parts) = part ++ text_of parts
 abbrev pub number_text : Option ℕ → List ℕ
 number_text None = codes "-"
 number_text (Some n) = decimal n
+
+-- items, each behind a comma
+abbrev pub behind_commas : List (List ℕ) → List ℕ
+behind_commas [] = []
+behind_commas (item ∷ items) = codes "," ++ (item ++ behind_commas items)
+
+-- items with commas between them, and a hyphen for none
+abbrev pub list_text : List (List ℕ) → List ℕ
+list_text [] = codes "-"
+list_text (item ∷ items) = item ++ behind_commas items

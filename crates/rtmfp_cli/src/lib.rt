@@ -7,6 +7,7 @@ pub mod laws;
 mod lines;
 mod show;
 mod show_chunk;
+mod show_data;
 mod show_run;
 mod status;
 mod text;

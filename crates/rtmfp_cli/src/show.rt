@@ -1,15 +1,17 @@
 //! What `show` prints of a packet.
 ghost use Rattle.std.specs.Prelude.{◌≡◌, ◌++◌, ◌≤◌, length, OnOk, IfOk, MatchBool};
 ghost use Rattle.rtmfp_packet.specs.Head.{mode_number};
-ghost use Rattle.rtmfp_chunks.specs.Reading.{shown};
+ghost use Rattle.rtmfp_data_chunks.specs.Spelling.{shown};
 ghost use Rattle.rtmfp_cli.specs.Words.{number_text};
-ghost use Rattle.rtmfp_cli.specs.ShowText.{PacketText, WholeText, head_text, padding_text, reading_text};
+ghost use Rattle.rtmfp_cli.specs.ShowText.{FieldsText, FlowText, PacketText, WholeText, flow_text, head_text, malformed_text, padding_text, unknown_text};
 ghost use Rattle.rtmfp_cli.specs.ShowLine.{IsBadLine, ShowsLine};
 ghost use Rattle.rtmfp_cli.specs.Adding.{Adds, AddsChunk};
 
 use crate::show_chunk::{kind_name, show_view};
+use crate::show_data::show_data_view;
 use crate::text::{Text, bit_digit};
-use rtmfp_chunks::{ChunkFault, ChunkView, read_chunk};
+use rtmfp_chunks::{ChunkFault, read_chunk};
+use rtmfp_data_chunks::{DataCursor, DataFault, DataView};
 use rtmfp_packet::{Mode, Packet, PacketFault, PacketHead, RawChunk, read_packet};
 use std::alloc::AllocError;
 
@@ -51,8 +53,9 @@ fn show_whole(packet: &Packet<'_>, text: &mut Text) -> Result<(), AllocError>
     ensures { OnOk result (Adds (WholeText packet.now) text.old text.new) }
 {
     show_head(packet.head(), text)?;
+    let mut flows = DataCursor::new();
     for chunk in packet.chunks() {
-        show_chunk(&chunk, text)?;
+        show_chunk(&chunk, &mut flows, text)?;
     }
     show_padding(packet.padding(), text)?;
     Ok(())
@@ -106,36 +109,83 @@ fn show_stamp(stamp: Option<u16>, text: &mut Text) -> Result<(), AllocError>
 }
 
 /// Adds the line of a chunk, as it reads.
-fn show_chunk(chunk: &RawChunk<'_>, text: &mut Text) -> Result<(), AllocError>
-    ensures { OnOk result (AddsChunk chunk.now text.old text.new) }
+fn show_chunk(
+    chunk: &RawChunk<'_>,
+    flows: &mut DataCursor,
+    text: &mut Text,
+) -> Result<(), AllocError>
+    ensures { OnOk result (AddsChunk flows.old chunk.now text.old text.new flows.new) }
 {
     text.push_number(chunk.at as u64)?;
-    show_reading(chunk.kind, &read_chunk(chunk.kind, chunk.payload), text)?;
+    show_fields(chunk.kind, chunk.payload, flows, text)?;
     text.push("\n")?;
     Ok(())
 }
 
-/// Adds what stands behind the place of a chunk.
-fn show_reading(
+/// Adds what stands behind the place of a chunk. One that can't be of a flow ends a run of user data.
+fn show_fields(
     kind: u8,
-    reading: &Result<ChunkView<'_>, ChunkFault>,
+    payload: &[u8],
+    flows: &mut DataCursor,
     text: &mut Text,
 ) -> Result<(), AllocError>
-    ensures { OnOk result (text.new ≡ text.old ++ reading_text kind (shown reading.now)) }
+    ensures { OnOk result (Adds (λ fields. FieldsText flows.old kind payload.now fields flows.new) text.old text.new) }
 {
-    match reading {
-        Ok(view) => show_view(view, text),
-        Err(ChunkFault::Unknown(told)) => {
-            text.push(" unknown ")?;
-            text.push_hex(&[*told])?;
-            Ok(())
+    match read_chunk(kind, payload) {
+        Ok(view) => {
+            flows.other();
+            show_view(&view, text)
         }
         Err(ChunkFault::Malformed(at)) => {
-            text.push(" malformed ")?;
-            text.push(kind_name(kind))?;
-            text.push(" ")?;
-            text.push_number(*at as u64)?;
-            Ok(())
+            flows.other();
+            show_malformed(kind, at, text)
         }
+        Err(ChunkFault::Unknown(_)) => show_flow(kind, payload, flows, text),
     }
+}
+
+/// The same of a chunk of a flow, or of no type that is known.
+fn show_flow(
+    kind: u8,
+    payload: &[u8],
+    flows: &mut DataCursor,
+    text: &mut Text,
+) -> Result<(), AllocError>
+    ensures { OnOk result (Adds (λ fields. FlowText flows.old kind payload.now fields flows.new) text.old text.new) }
+{
+    let read = flows.read(kind, payload);
+    show_flow_reading(kind, &read, text)
+}
+
+fn show_flow_reading(
+    kind: u8,
+    read: &Result<DataView<'_>, DataFault>,
+    text: &mut Text,
+) -> Result<(), AllocError>
+    ensures { OnOk result (text.new ≡ text.old ++ flow_text kind (shown read.now)) }
+{
+    match read {
+        Ok(view) => show_data_view(view, text),
+        Err(DataFault::Unknown(told)) => show_unknown(*told, text),
+        Err(DataFault::Malformed(at)) => show_malformed(kind, *at, text),
+        Err(DataFault::BadOffset(at)) => show_malformed(kind, *at, text),
+    }
+}
+
+fn show_unknown(kind: u8, text: &mut Text) -> Result<(), AllocError>
+    ensures { OnOk result (text.new ≡ text.old ++ unknown_text kind) }
+{
+    text.push(" unknown ")?;
+    text.push_hex(&[kind])?;
+    Ok(())
+}
+
+fn show_malformed(kind: u8, at: usize, text: &mut Text) -> Result<(), AllocError>
+    ensures { OnOk result (text.new ≡ text.old ++ malformed_text kind at) }
+{
+    text.push(" malformed ")?;
+    text.push(kind_name(kind))?;
+    text.push(" ")?;
+    text.push_number(at as u64)?;
+    Ok(())
 }

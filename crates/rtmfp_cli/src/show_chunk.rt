@@ -1,8 +1,9 @@
 //! What `show` prints of a chunk: its name and its fields.
-ghost use Rattle.std.specs.Prelude.{◌≡◌, ◌++◌, OnOk};
+ghost use Rattle.std.specs.Prelude.{◌≡◌, ◌++◌, OnOk, map};
 ghost use Rattle.rtmfp_chunks.specs.Chunk.{Fragment, FIHello, IHello, IIKeying, CookieChange, RHello, RIKeying, Redirect, chunk_of};
 ghost use Rattle.rtmfp_chunks.specs.FieldReading.{addresses_in};
-ghost use Rattle.rtmfp_cli.specs.AddressText.{addresses_text, more_addresses_text};
+ghost use Rattle.rtmfp_cli.specs.Words.{behind_commas, list_text};
+ghost use Rattle.rtmfp_cli.specs.AddressText.{address_text};
 ghost use Rattle.rtmfp_cli.specs.ChunkText.{chunk_text, kind_text};
 
 use crate::address_text::push_address;
@@ -29,6 +30,12 @@ pub(crate) fn kind_name(kind: u8) -> &'static str
         0x0c => "close",
         0x4c => "closeack",
         0x7f => "fragment",
+        0x10 => "data",
+        0x11 => "next",
+        0x18 => "probe",
+        0x50 => "ackbits",
+        0x51 => "ackranges",
+        0x5e => "exception",
         _ => "",
     }
 }
@@ -159,7 +166,7 @@ fn show_fragment(
 
 /// Adds addresses with commas between them, or `-` where there are none.
 fn show_addresses(list: &[u8], text: &mut Text) -> Result<(), AllocError>
-    ensures { OnOk result (text.new ≡ text.old ++ addresses_text (addresses_in list.now)) }
+    ensures { OnOk result (text.new ≡ text.old ++ list_text (map address_text (addresses_in list.now))) }
 {
     let mut addresses = Addresses::new(list);
     match addresses.next() {
@@ -173,7 +180,7 @@ fn show_addresses(list: &[u8], text: &mut Text) -> Result<(), AllocError>
 
 /// Adds addresses, each behind a comma.
 fn show_more_addresses(addresses: Addresses<'_>, text: &mut Text) -> Result<(), AllocError>
-    ensures { OnOk result (text.new ≡ text.old ++ more_addresses_text addresses.entry) }
+    ensures { OnOk result (text.new ≡ text.old ++ behind_commas (map address_text addresses.entry)) }
 {
     for address in addresses {
         text.push(",")?;

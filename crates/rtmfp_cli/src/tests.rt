@@ -103,6 +103,57 @@ fn shows_each_chunk(rt: HostRuntime) -> Result<(), Fail> {
 }
 
 #[test]
+fn shows_chunks_of_flows(rt: HostRuntime) -> Result<(), Fail> {
+    let table = [
+        (
+            "10000b8002030102006d00686921110003006f6b",
+            "1 data part=whole abandon=0 final=0 flow=2 seq=3 forward=2 opts=0:6d bytes=686921\n15 next part=whole abandon=0 final=0 flow=2 seq=4 forward=2 opts=- bytes=6f6b",
+        ),
+        (
+            "10000a8002030102006d010500",
+            "1 data part=whole abandon=0 final=0 flow=2 seq=3 forward=2 opts=0:6d,5:- bytes=-",
+        ),
+        (
+            "10000533020300411100021041",
+            "1 data part=middle abandon=1 final=1 flow=2 seq=3 forward=3 opts=- bytes=41\n9 next part=begin abandon=0 final=0 flow=2 seq=4 forward=3 opts=- bytes=41",
+        ),
+        (
+            "10000400020301010000110003006f6b",
+            "1 data part=whole abandon=0 final=0 flow=2 seq=3 forward=2 opts=- bytes=-\n8 ping bytes=-\n11 malformed next 0",
+        ),
+        ("10000400020300", "1 malformed data 3"),
+        ("110003006f6b", "1 malformed next 0"),
+        (
+            "50000402010505",
+            "1 ackbits flow=2 blocks=1 upto=5 also=7,9",
+        ),
+        (
+            "500005020105ff01",
+            "1 ackbits flow=2 blocks=1 upto=5 also=7,8,9,10,11,12,13,14,15",
+        ),
+        ("500003020105", "1 ackbits flow=2 blocks=1 upto=5 also=-"),
+        (
+            "51000702010500010200",
+            "1 ackranges flow=2 blocks=1 upto=5 also=7-8,12-12",
+        ),
+        ("510003020105", "1 ackranges flow=2 blocks=1 upto=5 also=-"),
+        ("51000402010500", "1 malformed ackranges 4"),
+        ("18000102", "1 probe flow=2"),
+        ("5e00020263", "1 exception flow=2 code=99"),
+    ];
+    for (chunks, lines) in table {
+        let input = format!(in rt.alloc(); "01{chunks}\n")?;
+        let (status, text) = shown(rt.alloc(), input.as_str(), 4096, &[], &[])?;
+        let whole = format!(in rt.alloc();
+            "packet mode=1 critical=0 reverse=0 stamp=- echo=-\n{lines}\npadding 0\n"
+        )?;
+        assert_eq!(rt; status, Status::Done, "{chunks}");
+        assert_eq!(rt; text.as_str(), whole.as_str(), "{chunks}");
+    }
+    Ok(())
+}
+
+#[test]
 fn shows_heads(rt: HostRuntime) -> Result<(), Fail> {
     let table = [
         ("00\n", "bad mode-zero\n"),

@@ -21,11 +21,11 @@ first_and_rest (x ∷ b) h =
     let e : length (x ∷ b) - 1 ≡ length b = omega arith in
     ap (λ n. x ∷ take n b) e ∙ ap (λ xs. x ∷ xs) (take-length b)
 
-are_bytes : (b : List ℕ) → ((i : ℕ) → get_or b i 0 < 256) → AreBytes b
+pub are_bytes : (b : List ℕ) → ((i : ℕ) → get_or b i 0 < 256) → AreBytes b
 are_bytes [] h = tt
 are_bytes (x ∷ b) h = (h 0, are_bytes b (λ i. h (suc i)))
 
-back_are : (P : ℕ → Type 0) (front back : List ℕ) → AllByRecursion P (front ++ back) → AllByRecursion P back
+pub back_are : (P : ℕ → Type 0) (front back : List ℕ) → AllByRecursion P (front ++ back) → AllByRecursion P back
 back_are P [] back all = all
 back_are P (x ∷ front) back all = back_are P front back all.1
 

@@ -6,9 +6,9 @@ use Rattle.rtmfp_cli.proofs.show.show_whole.Goals as goal
 pub loop-chunk-preserved : goal.loop-chunk-preserved
 loop-chunk-preserved c =
     let added = c.in_ok-show_chunk.ensures in
-    more_lines _ _ _ _ added.result _ _ _ c.loop-chunk.invariant c.in-Some.ensures.steps added.reads added.joined
+    more_lines _ _ _ _ _ _ added.fields _ _ _ c.loop-chunk.invariant c.in-Some.ensures.steps added.told added.joined
 
 pub returns : goal.returns
 returns c =
     let padded = c.in_ok-show_padding.ensures ∙ ap (λ n. c.loop-chunk.text ++ padding_text n) c.padding.ensures in
-    whole_shown c.args.packet.now _ _ _ _ c.loop-chunk.invariant c.in-None.ensures.steps.0 padded
+    whole_shown c.args.packet.now _ _ _ _ _ c.loop-chunk.invariant c.in-None.ensures.steps.0 padded

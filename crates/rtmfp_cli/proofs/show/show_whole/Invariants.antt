@@ -6,4 +6,4 @@ use Rattle.rtmfp_cli.proofs.ChunkLines.{LinesSoFar}
 use Rattle.rtmfp_cli.proofs.show.show_whole.Given as goal
 
 abbrev pub invariant-loop-chunk : goal.invariant-loop-chunk
-invariant-loop-chunk l = LinesSoFar (visible (all_placed_from l.packet.start l.packet.chunks)) (left l.chunk-iterator) (l.fn.text ++ head_text l.packet.head) l.text
+invariant-loop-chunk l = LinesSoFar (visible (all_placed_from l.packet.start l.packet.chunks)) (left l.chunk-iterator) l.flows (l.fn.text ++ head_text l.packet.head) l.text

@@ -1,0 +1,17 @@
+pub mod Fragments
+pub mod Ends
+pub mod Runs
+pub mod Wholes
+pub mod Stretches
+pub mod Kept
+pub mod Ready
+pub mod Handing
+pub mod Growing
+pub mod Spreading
+pub mod Dropping
+pub mod Standing
+pub mod Handed
+pub mod Following
+pub mod Speaking
+pub mod Pairing
+pub mod Samples

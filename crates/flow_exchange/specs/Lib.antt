@@ -1,0 +1,5 @@
+pub mod Exchange
+pub mod Stands
+pub mod Receiving
+pub mod Sending
+pub mod Pair

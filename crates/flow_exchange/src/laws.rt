@@ -1,0 +1,34 @@
+//! Laws of flows, each the contract of a function without arguments.
+
+ghost use Rattle.std.specs.Prelude.{ℕ, List, ◌≤◌, true, false, Bool};
+ghost use Rattle.rtmfp_data_chunks.specs.HandsOver.{HandsOver, HandsOnce};
+ghost use Rattle.flow_exchange.specs.Pair.{Happening, exchanged, pair};
+ghost use Rattle.flow_exchange.specs.Sending.{Act, all_acts, begun, SpeaksTrue};
+ghost use Rattle.flow_exchange.specs.Stands.{StandsFor};
+ghost use Rattle.flow_exchange.specs.Receiving.{Call, AllProper, all_calls, at_first, HandsInOrder, AllHanded};
+
+/// Whatever chunks a receiver takes and however often it hands over, what it keeps stands for them.
+/// In queueing order it hands over what is to be handed over, one message after another.
+/// In arrival order each whole run was handed over where no message is next.
+pub fn receiving()
+    ensures stands { (arriving : Bool) (events : List Call) → AllProper events
+        → StandsFor (all_calls (at_first arriving) events).receiver (all_calls (at_first arriving) events).chunks (all_calls (at_first arriving) events).handed }
+    ensures in_order { (events : List Call) → AllProper events → HandsInOrder (all_calls (at_first false) events) }
+    ensures arriving { (events : List Call) → AllProper events → AllHanded (all_calls (at_first true) events) }
+{}
+
+/// Whatever calls a sender gets, each chunk that it gives next has its number's fragment, or is a notice of the
+/// forward number or the end of the flow, and all at or below its forward number is acknowledged or abandoned.
+pub fn sending()
+    ensures { (first : ℕ) (events : List Act) → 1 ≤ first → SpeaksTrue (all_acts (begun first) events) }
+{}
+
+/// Every exchange of one sender and one receiver, whatever is lost, repeated or comes in another order.
+/// In queueing order messages are handed over whole, once, in that order, and only abandoned ones are skipped.
+/// In arrival order each message handed over is a queued one, and none is handed over twice.
+pub fn exchange()
+    ensures in_order { (first : ℕ) (events : List Happening) → 1 ≤ first
+        → HandsOver (exchanged (pair first false) events).world.queued (exchanged (pair first false) events).world.abandoned (exchanged (pair first false) events).world.handed }
+    ensures arriving { (first : ℕ) (events : List Happening) → 1 ≤ first
+        → HandsOnce (exchanged (pair first true) events).world.queued (exchanged (pair first true) events).world.handed }
+{}

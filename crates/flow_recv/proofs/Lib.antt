@@ -1,0 +1,12 @@
+pub mod Knowing
+pub mod Adding
+pub mod Holding
+pub mod Putting
+pub mod Joining
+pub mod Forward
+pub mod Bounds
+pub mod Taking
+pub mod Ready
+pub mod Windows
+pub mod Beside
+pub mod Sounds

@@ -1,0 +1,5 @@
+pub mod Receiver
+pub mod Outcome
+pub mod Window
+pub mod Merging
+pub mod Sound

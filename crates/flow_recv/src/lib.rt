@@ -1,0 +1,11 @@
+//! The receiver of a flow (RFC 7016 section 3.6.3): it puts fragments together and hands messages over.
+#![tactic(auto)]
+
+mod outcome;
+mod receiver;
+mod run;
+mod runs;
+mod spans;
+
+pub use outcome::{FlowRefusal, Took};
+pub use receiver::FlowReceiver;

@@ -1,0 +1,249 @@
+//! The receiver of a flow.
+
+ghost use Rattle.std.specs.Prelude.{◌≡◌, ◌≢◌, ◌+◌, ◌<◌, ◌≤◌, ◌∷◌, ◌++◌, ℕ, IfOk, IsOk, OnOk, OnErr, IfErr, MatchOption, List, length, Some, None, Ok, Err, vec_len, false, true, ◌==◌, ◌^◌, ◌&&◌, ◌||◌, not, nat_lt, nat_le, max, if◌then◌else◌};
+ghost use Rattle.std.specs.List.{filter};
+ghost use Rattle.std.specs.Vec.{vec_capacity};
+ghost use Rattle.std.specs.Option.{option_map};
+ghost use Rattle.rtmfp_data_chunks.specs.Runs.{single, message_of};
+ghost use Rattle.rtmfp_data_chunks.specs.Taken.{chunk_of};
+ghost use Rattle.flow_recv.specs.Receiver.{Receiver, Apart, fresh, span, lacks, living, held_in, after_last, passes_buffer, add_run, beyond_buffer, taken, next_run, handed_next, is_alive, is_beside};
+ghost use Rattle.flow_recv.specs.Outcome.{refusal, took, message};
+ghost use Rattle.flow_recv.specs.Sound.{AllAlive, Sound};
+
+use crate::outcome::{FlowRefusal, Took};
+use crate::run::HeldRun;
+use crate::runs::{add_run, bytes_in, drop_dead, drop_dead_beside, living_bytes, ready_at};
+use crate::spans::{Span, lacks, mark, raised};
+use rtmfp_base::{Memory, Message};
+use rtmfp_data_chunks::UserData;
+use std::alloc::{AllocError, Global};
+use std::marker::Model;
+
+/// The first byte of the metadata of a flow whose messages are handed over as they arrive, an `a`.
+const ARRIVING: u8 = 0x61;
+
+/// The receiver of a flow. Contracts see the numbers that aren't missing as spans, the runs of fragments that can
+/// still become messages with their bytes, the last number where it is known, and the highest one taken.
+#[derive(Drop)]
+pub struct FlowReceiver {
+    alloc: Global,
+    arriving: bool,
+    through: u64,
+    above: Vec<Span>,
+    runs: Vec<HeldRun>,
+    last: Option<u64>,
+    highest: u64,
+}
+
+impl Model for FlowReceiver {
+    ghost use Rattle.std.specs.Prelude.{◌∷◌};
+    ghost use Rattle.flow_recv.specs.Receiver.{Receiver, span};
+    ghost use Rattle.flow_recv.specs.Sound.{Sound};
+
+    ghost Value = { Receiver };
+
+    ghost view = { λ r. record { arriving = r.arriving; spans = span 0 r.through ∷ r.above.items; runs = r.runs.items; last = r.last; highest = r.highest } };
+
+    ghost invariant = { λ r. Sound (record { arriving = r.arriving; spans = span 0 r.through ∷ r.above.items; runs = r.runs.items; last = r.last; highest = r.highest }) };
+}
+
+impl FlowReceiver {
+    /// A receiver that has taken nothing, for a flow whose metadata begins with this byte.
+    pub fn new(alloc: Global, first_metadata: u8) -> FlowReceiver
+        ensures { result ≡ fresh (first_metadata == 97) }
+    {
+        FlowReceiver {
+            alloc,
+            arriving: first_metadata == ARRIVING,
+            through: 0,
+            above: Vec::new(alloc),
+            runs: Vec::new(alloc),
+            last: None,
+            highest: 0,
+        }
+    }
+
+    /// Takes a user data chunk. The number of a chunk without abandon is held where it was missing.
+    pub fn take(&mut self, chunk: &UserData<'_>) -> Result<Took, FlowRefusal>
+        requires low { chunk.now.forward ≤ chunk.now.seq }
+        requires below { chunk.now.abandon ≡ false → chunk.now.forward < chunk.now.seq }
+        ensures took { IfOk result (λ t. t ≡ took self.old (chunk_of chunk.now)) }
+        ensures taken { OnOk result (self.new ≡ taken self.old (chunk_of chunk.now)) }
+        ensures refused { MatchOption (refusal self.old (chunk_of chunk.now)) (IfErr result (λ e. e ≡ FlowRefusal.Memory)) (λ e. result ≡ Err e) }
+        ensures err { OnErr result (self.new ≡ self.old) }
+        // A chunk whose number isn't missing takes no memory.
+        ensures again { lacks self.old.spans chunk.now.seq ≡ false → result ≢ Err FlowRefusal.Memory }
+        // At most 3,145,728 bytes are held, and at most 65,536 numbers above the lowest missing one aren't missing.
+        ensures sound { Sound self.new }
+    {
+        if let Some(refusal) = self.refusal(chunk) {
+            return Err(refusal);
+        }
+        let missing = lacks(self.through, &self.above, u128::from(chunk.seq));
+        if hold(self.alloc, &mut self.above, &mut self.runs, missing, chunk).is_err() {
+            return Err(FlowRefusal::Memory);
+        }
+        let near = chunk.forward <= self.through;
+        self.through = mark(self.through, &mut self.above, chunk.forward, chunk.seq);
+        drop_after(&mut self.runs, near, chunk.seq, self.through, &self.above);
+        self.last = last_after(self.last, chunk);
+        self.highest = chunk.seq.max(self.highest);
+        Ok(took_by(missing, chunk))
+    }
+
+    /// Hands over the next message, with the number of its first fragment. None where no message is ready.
+    /// It takes no memory.
+    pub fn next_message(&mut self) -> Result<Option<(u64, Message)>, Memory>
+        ensures next { IfOk result (λ found. option_map (λ p. message p.0 p.1) found ≡ option_map message_of (next_run self.old)) }
+        ensures rest { self.new ≡ handed_next self.old }
+        ensures no_memory { IsOk result }
+    {
+        let at = ready_at(&self.runs, self.arriving, self.through);
+        if at == self.runs.len() {
+            return Ok(None);
+        }
+        let run = self.runs.remove(at);
+        let number = run.first();
+        Ok(Some((number, Message::of(run.into_bytes()))))
+    }
+
+    /// The refusal of a chunk that isn't want of memory.
+    fn refusal(&self, chunk: &UserData<'_>) -> Option<FlowRefusal>
+        ensures { result ≡ refusal self.now (chunk_of chunk.now) }
+    {
+        if let Some(number) = after_last(self.last, self.highest, chunk) {
+            return Some(FlowRefusal::AfterFinal(number));
+        }
+        match self.beyond_buffer(chunk) {
+            Some(held) => Some(FlowRefusal::BeyondBuffer(held)),
+            None => None,
+        }
+    }
+
+    /// The bytes held, where the chunk is refused for them.
+    fn beyond_buffer(&self, chunk: &UserData<'_>) -> Option<u64>
+        ensures { result ≡ beyond_buffer self.now (chunk_of chunk.now) }
+    {
+        let lowest = u128::from(raised(self.through, &self.above, chunk.forward)) + 1;
+        let held = held_after(&self.runs, self.through, &self.above, chunk.forward);
+        let missing = lacks(self.through, &self.above, u128::from(chunk.seq));
+        let passes = passes_buffer(lowest, held, chunk);
+        if_tested(missing, chunk, passes, held)
+    }
+}
+
+/// The bytes held as if a forward number were taken.
+fn held_after(runs: &[HeldRun], through: u64, above: &[Span], forward: u64) -> u64
+    requires few { held_in runs.now < 2 ^ 32 }
+    requires alive { AllAlive (span 0 through ∷ above.now) runs.now }
+    ensures { result ≡ held_in (living (span 0 (max through forward) ∷ above.now) runs.now) }
+{
+    if forward <= through {
+        return bytes_in(runs);
+    }
+    living_bytes(runs, forward, above)
+}
+
+/// Drops the runs that can't become messages any more after a chunk, near where only those beside it can be such.
+fn drop_after(runs: &mut Vec<HeldRun>, near: bool, number: u64, through: u64, above: &[Span])
+    ensures { runs.new.items ≡ (if near then filter (λ y. not (is_beside number y) || is_alive (span 0 through ∷ above.now) y) runs.old.items else living (span 0 through ∷ above.now) runs.old.items) }
+{
+    if near {
+        drop_dead_beside(runs, number, through, above);
+    } else {
+        drop_dead(runs, through, above);
+    }
+}
+
+/// Makes room for one more span where a number is missing, and holds its fragment where the chunk has no abandon.
+fn hold(
+    alloc: Global,
+    above: &mut Vec<Span>,
+    runs: &mut Vec<HeldRun>,
+    missing: bool,
+    chunk: &UserData<'_>,
+) -> Result<(), AllocError>
+    ensures spans { above.new.items ≡ above.old.items }
+    ensures room { OnOk result (missing ≡ true → vec_len above.new < vec_capacity above.new) }
+    ensures held { OnOk result (runs.new.items ≡ (if not chunk.now.abandon && missing then add_run (single chunk.now.seq chunk.now.part chunk.now.bytes.now) runs.old.items else runs.old.items)) }
+    ensures unchanged { OnErr result (runs.new.items ≡ runs.old.items) }
+    ensures quiet { missing ≡ false → IsOk result }
+{
+    if !missing {
+        return Ok(());
+    }
+    above.reserve(1)?;
+    if chunk.abandon {
+        return Ok(());
+    }
+    add_run(alloc, runs, chunk.seq, chunk.part, chunk.bytes)
+}
+
+fn last_after(last: Option<u64>, chunk: &UserData<'_>) -> Option<u64>
+    ensures { result ≡ (if chunk.now.last then Some chunk.now.seq else last) }
+{
+    if chunk.last { Some(chunk.seq) } else { last }
+}
+
+fn took_by(missing: bool, chunk: &UserData<'_>) -> Took
+    ensures { result ≡ (if chunk.now.abandon then Took.ForwardOnly else if missing then Took.New else Took.Again) }
+{
+    if chunk.abandon {
+        return Took::ForwardOnly;
+    }
+    if missing { Took::New } else { Took::Again }
+}
+
+/// The number after which the chunk comes too late, where it does.
+fn after_last(last: Option<u64>, highest: u64, chunk: &UserData<'_>) -> Option<u64>
+    ensures { result ≡ after_last last highest (chunk_of chunk.now) }
+{
+    match last {
+        Some(number) => {
+            if number < chunk.seq || (chunk.last && chunk.seq < number) {
+                Some(number)
+            } else {
+                None
+            }
+        }
+        None => {
+            if chunk.last && chunk.seq < highest {
+                Some(highest)
+            } else {
+                None
+            }
+        }
+    }
+}
+
+/// The bytes held, where a chunk that is tested passes the limits.
+fn if_tested(missing: bool, chunk: &UserData<'_>, passes: bool, held: u64) -> Option<u64>
+    ensures { result ≡ (if missing && nat_lt chunk.now.forward chunk.now.seq && passes then Some held else None) }
+{
+    if missing && chunk.forward < chunk.seq && passes {
+        Some(held)
+    } else {
+        None
+    }
+}
+
+/// Whether the chunk passes the limits of the buffer: 3,145,728 bytes for the lowest missing number, else 2,097,152
+/// and 65,536 numbers.
+fn passes_buffer(lowest: u128, held: u64, chunk: &UserData<'_>) -> bool
+    requires low { lowest ≤ 2 ^ 64 }
+    requires few { held ≤ 3145728 }
+    ensures { result ≡ passes_buffer lowest held (chunk_of chunk.now) }
+{
+    let counted = if chunk.abandon {
+        0
+    } else {
+        chunk.bytes.len() as u128
+    };
+    let sum = u128::from(held) + counted;
+    let number = u128::from(chunk.seq);
+    if number == lowest {
+        sum > 3_145_728
+    } else {
+        sum > 2_097_152 || number > lowest + 65_536
+    }
+}

@@ -1,0 +1,186 @@
+//! A run: a stretch of held fragments that fit, with its bytes.
+
+ghost use Rattle.std.specs.Prelude.{◌≡◌, ◌+◌, ◌<◌, ◌≤◌, ◌^◌, ◌∷◌, [], IfOk, OnOk, OnErr, List, ◌++◌, length, nat_lt, ◌||◌};
+ghost use Rattle.rtmfp_data_chunks.specs.Runs.{fits, joined, single, is_whole, has_front, has_rear};
+ghost use Rattle.flow_recv.specs.Merging.{over};
+ghost use Rattle.flow_recv.specs.Receiver.{is_alive, is_beside, span, lacks, hands};
+
+use crate::spans::{Span, lacks};
+use rtmfp_data_chunks::Part;
+use std::alloc::{AllocError, Global};
+use std::marker::Model;
+
+/// A run with its bytes. It has its front where its first fragment begins a message, its rear where its last one
+/// ends it.
+#[derive(Drop)]
+pub struct HeldRun {
+    first: u64,
+    last: u64,
+    front: bool,
+    rear: bool,
+    bytes: Vec<u8>,
+}
+
+impl Model for HeldRun {
+    ghost use Rattle.rtmfp_data_chunks.specs.Runs.{Run};
+
+    ghost Value = { Run };
+
+    ghost view = { λ y. record { first = y.first; last = y.last; front = y.front; rear = y.rear; bytes = y.bytes.items } };
+}
+
+/// Whether a part begins a message.
+fn has_front(part: Part) -> bool
+    ensures { result ≡ has_front part }
+{
+    match part {
+        Part::Whole | Part::Begin => true,
+        Part::End | Part::Middle => false,
+    }
+}
+
+/// Whether a part ends a message.
+fn has_rear(part: Part) -> bool
+    ensures { result ≡ has_rear part }
+{
+    match part {
+        Part::Whole | Part::End => true,
+        Part::Begin | Part::Middle => false,
+    }
+}
+
+impl HeldRun {
+    /// The run of one fragment.
+    pub fn single(
+        alloc: Global,
+        number: u64,
+        part: Part,
+        bytes: &[u8],
+    ) -> Result<HeldRun, AllocError>
+        ensures { IfOk result (λ y. y ≡ single number part bytes.now) }
+    {
+        Ok(HeldRun {
+            first: number,
+            last: number,
+            front: has_front(part),
+            rear: has_rear(part),
+            bytes: Vec::from_slice(alloc, bytes)?,
+        })
+    }
+
+    /// The run of one fragment and the run that follows it and fits.
+    pub fn single_before(
+        alloc: Global,
+        number: u64,
+        part: Part,
+        bytes: &[u8],
+        later: &HeldRun,
+    ) -> Result<HeldRun, AllocError>
+        ensures { IfOk result (λ y. y ≡ joined (single number part bytes.now) later.now) }
+    {
+        let mut both = Vec::with_capacity(alloc, bytes.len().saturating_add(later.bytes.len()))?;
+        both.extend_from_slice(bytes)?;
+        both.extend_from_slice(&later.bytes)?;
+        Ok(HeldRun {
+            first: number,
+            last: later.last,
+            front: has_front(part),
+            rear: later.rear,
+            bytes: both,
+        })
+    }
+
+    /// Whether a fragment follows this run and fits.
+    pub fn is_followed_by(&self, number: u64, part: Part) -> bool
+        ensures { result ≡ fits self.now (single number part []) }
+    {
+        self.last < number && number - self.last == 1 && !self.rear && !has_front(part)
+    }
+
+    /// Whether this run follows a fragment and fits.
+    pub fn follows(&self, number: u64, part: Part) -> bool
+        ensures { result ≡ fits (single number part []) self.now }
+    {
+        number < self.first && self.first - number == 1 && !has_rear(part) && !self.front
+    }
+
+    /// Joins a fragment to the rear.
+    pub fn append(&mut self, number: u64, part: Part, bytes: &[u8]) -> Result<(), AllocError>
+        ensures joined { OnOk result (self.new ≡ joined self.old (single number part bytes.now)) }
+        ensures unchanged { OnErr result (self.new ≡ self.old) }
+    {
+        self.bytes.extend_from_slice(bytes)?;
+        self.last = number;
+        self.rear = has_rear(part);
+        Ok(())
+    }
+
+    /// Joins a fragment and the run that follows it to the rear.
+    pub fn append_both(&mut self, bytes: &[u8], later: &HeldRun) -> Result<(), AllocError>
+        ensures joined { OnOk result (self.new ≡ over self.old bytes.now later.now) }
+        ensures unchanged { OnErr result (self.new ≡ self.old) }
+    {
+        self.bytes
+            .reserve(bytes.len().saturating_add(later.bytes.len()))?;
+        self.bytes.extend_from_slice(bytes)?;
+        self.bytes.extend_from_slice(&later.bytes)?;
+        self.last = later.last;
+        self.rear = later.rear;
+        Ok(())
+    }
+
+    /// Whether all lies before a number.
+    pub fn is_before(&self, number: u64) -> bool
+        ensures { result ≡ nat_lt self.now.last number }
+    {
+        self.last < number
+    }
+
+    /// Whether it is a whole message.
+    fn is_whole(&self) -> bool
+        ensures { result ≡ is_whole self.now }
+    {
+        self.front && self.rear
+    }
+
+    /// Whether it may be handed over, where no number through one is missing.
+    pub fn is_ready(&self, arriving: bool, through: u64) -> bool
+        ensures { result ≡ hands arriving through self.now }
+    {
+        self.is_whole() && (arriving || self.first <= through)
+    }
+
+    pub fn first(&self) -> u64
+        ensures { result ≡ self.now.first }
+    {
+        self.first
+    }
+
+    /// How many bytes it holds.
+    pub fn len(&self) -> usize
+        ensures { result ≡ length self.now.bytes }
+    {
+        self.bytes.len()
+    }
+
+    pub fn into_bytes(self) -> Vec<u8>
+        ensures { result.items ≡ self.bytes }
+    {
+        self.bytes
+    }
+
+    /// Whether it has a number or lies directly before or after it.
+    pub fn is_beside(&self, number: u64) -> bool
+        ensures { result ≡ is_beside number self.now }
+    {
+        self.first.saturating_sub(1) <= number && u128::from(number) <= u128::from(self.last) + 1
+    }
+
+    /// Whether it can still become a message: at an end that it lacks the next number is missing.
+    pub fn is_alive(&self, through: u64, above: &[Span]) -> bool
+        ensures { result ≡ is_alive (span 0 through ∷ above.now) self.now }
+    {
+        (self.front || lacks(through, above, u128::from(self.first.saturating_sub(1))))
+            && (self.rear || lacks(through, above, u128::from(self.last) + 1))
+    }
+}

@@ -1,0 +1,11 @@
+pub mod Between
+pub mod Summing
+pub mod Numbered
+pub mod Keeping
+pub mod Steadies
+pub mod Lining
+pub mod Sendings
+pub mod Ends
+pub mod Tellings
+pub mod Queuings
+pub mod Chosen

@@ -1,0 +1,33 @@
+use Rattle.std.proofs.Common.{◌≡◌, ◌<◌, ◌≤◌, length, refl, ap, sym, ◌∙◌, arith}
+use Rattle.flow_send.specs.Sender.{lost_if_late, is_late}
+use Rattle.flow_send.specs.Rows.{Row, any_between, row_at}
+use Rattle.std.proofs.Common.{List, ◌||◌}
+use Rattle.flow_send.specs.Rows.{between}
+use Rattle.flow_send.proofs.Between.{between_none, between_length, between_step, between_get, any_none, any_step}
+use Rattle.flow_send.proofs.rows.Rows.lose_late.Goals as goal
+
+pub loop-at-init : goal.loop-at-init
+loop-at-init c = record { rows = sym (between_none (lost_if_late c.args.moment c.args.resend_after) 0 0 c.args.self.now.rows (omega arith)); room = refl; late = sym (any_none (is_late c.args.moment c.args.resend_after) 0 0 c.args.self.now.rows (omega arith)) }
+
+pub is_late-late-requires : goal.is_late-late-requires
+is_late-late-requires c = omega (arith, ap length c.loop-at.invariant.rows, between_length (lost_if_late c.args.moment c.args.resend_after) 0 c.loop-at.at c.args.self.now.rows)
+
+pub lose_at-requires : goal.lose_at-requires
+lose_at-requires c = omega (arith, ap length c.loop-at.invariant.rows, between_length (lost_if_late c.args.moment c.args.resend_after) 0 c.loop-at.at c.args.self.now.rows)
+
+pub loop-at-preserved : goal.loop-at-preserved
+loop-at-preserved c =
+    let rows = c.args.self.now.rows in
+    let at = c.loop-at.at in
+    let lt : at < length rows = omega arith in
+    let le : 0 ≤ at = omega arith in
+    record {
+      rows = c.lose_at.ensures.rows ∙ between_step (lost_if_late c.args.moment c.args.resend_after) 0 at rows c.loop-at.self.rows le lt c.loop-at.invariant.rows;
+      room = c.lose_at.ensures.room ∙ c.loop-at.invariant.room;
+      late =
+          let same : row_at c.loop-at.self.rows at ≡ row_at rows at = ap (λ (xs : List Row). row_at xs at) c.loop-at.invariant.rows ∙ between_get (lost_if_late c.args.moment c.args.resend_after) 0 at at rows (omega arith) in
+          ap (λ b. b || c.is_late-late.result) c.loop-at.invariant.late ∙ (ap (λ b. any_between (is_late c.args.moment c.args.resend_after) 0 at rows || b) (c.is_late-late.ensures ∙ ap (is_late c.args.moment c.args.resend_after) same) ∙ sym (any_step (is_late c.args.moment c.args.resend_after) 0 at rows le lt));
+    }
+
+pub returns-clause-rows : goal.returns-clause-rows
+returns-clause-rows c = let e : c.loop-at.at ≡ c.args.to = omega arith in c.loop-at.invariant.rows ∙ ap (λ i. between (lost_if_late c.args.moment c.args.resend_after) 0 i c.args.self.now.rows) e

@@ -1,0 +1,56 @@
+use Rattle.std.proofs.Common.{◌≡◌, ℕ, List, [], ◌∷◌, ◌++◌, length, None, ap, sym, ◌∙◌, subst, arith}
+use Rattle.std.specs.List.{sum_by}
+use Rattle.rtmfp_data_chunks.specs.Fragments.{Message, fragments_of_length}
+use Rattle.rtmfp_forms.specs.OptionReading.{options_in}
+use Rattle.flow_send.specs.declared.waiting.Waiting.{Waiting}
+use Rattle.flow_send.specs.Rows.{Row, stored_of}
+use Rattle.flow_send.specs.Sender.{Sender, next_of, rows_of, waiting_of, queued}
+use Rattle.flow_send.specs.Steady.{Steady}
+use Rattle.flow_send.specs.Flow.{Flow, queue_refusal, next_message, with_sender}
+use Rattle.flow_send.proofs.Ends.{sender}
+use Rattle.flow_send.proofs.Steadies.{steady_queued}
+use Rattle.flow_send.proofs.Queuings.{rows_stored, allowed}
+use Rattle.flow_send.proofs.sender.FlowSender.hold.Goals as goal
+use Rattle.flow_send.proofs.sender.FlowSender.hold.Goals.{After-append}
+
+pub append-requires-clause-fits : goal.append-requires-clause-fits
+append-requires-clause-fits c =
+    let m : Message = record { number = 0; bytes = c.args.message.now } in
+    let old : c.reserve.new.self.rows ≡ c.self.inside.rows.rows = c.reserve.ensures.rows in
+    let new : c.in_ok-fragments.fragments.items ≡ rows_of m 0 c.fragments_of-count.result = c.in_ok-fragments.ensures.rows 0 in
+    let few = rows_stored m 0 c.fragments_of-count.result in
+    let left = ap (λ (rs : List Row). sum_by stored_of rs) old in
+    let right = ap (λ (rs : List Row). sum_by stored_of rs) new in
+    omega (arith, c.stored.ensures, few, left, right, c.if-size-stored.false)
+
+abbrev At : After-append → Sender
+At c = let i = c.self.inside in sender i.forward i.rows.rows i.waiting i.finish i.sent i.upto i.told i.notice i.order
+
+after : (c : After-append) → sender c.self.inside.forward c.append.new.self.rows c.push.new.self c.self.inside.finish c.self.inside.sent c.self.inside.upto c.self.inside.told c.self.inside.notice c.self.inside.order ≡ queued (next_message (At c) c.args.message.now) c.args.options (At c)
+after c =
+    let i = c.self.inside in
+    let s = At c in
+    let m = next_message s c.args.message.now in
+    let number : c.args.number ≡ next_of s = c.requires.number ∙ ap (λ (f : Flow). next_of f.sender) (sym c.self.view_is) in
+    let count : c.fragments_of-count.result ≡ fragments_of_length (length c.args.message.now) = c.fragments_of-count.ensures in
+    let rows : c.append.new.self.rows ≡ i.rows.rows ++ rows_of m m.number (fragments_of_length (length c.args.message.now)) =
+    c.append.ensures.rows ∙ (ap (λ (rs : List Row). rs ++ c.in_ok-fragments.fragments.items) c.reserve.ensures.rows ∙ (ap (λ (rs : List Row). i.rows.rows ++ rs) (c.in_ok-fragments.ensures.rows (next_of s)) ∙ ap (λ k. i.rows.rows ++ rows_of m m.number k) count)) in
+    let W : ℕ → ℕ → Waiting = λ n k. record { number = n; count = k; size = length c.args.message.now; options = c.args.options } in
+    let waiting : c.push.new.self ≡ i.waiting ++ waiting_of m c.args.options ∷ [] = c.in_ok-push.ensures.pushed ∙ (ap (λ k. i.waiting ++ W k c.fragments_of-count.result ∷ []) number ∙ ap (λ k. i.waiting ++ W (next_of s) k ∷ []) count) in
+    ap (λ (rs : List Row). sender i.forward rs c.push.new.self i.finish i.sent i.upto i.told i.notice i.order) rows
+    ∙ ap (λ (ws : List Waiting). sender i.forward (i.rows.rows ++ rows_of m m.number (fragments_of_length (length c.args.message.now))) ws i.finish i.sent i.upto i.told i.notice i.order) waiting
+
+pub invariant_of-self-2 : goal.invariant_of-self-2
+invariant_of-self-2 c =
+    let s = At c in
+    let a = allowed s (length c.args.message.now) (subst (λ (f : Flow). queue_refusal f.sender (length c.args.message.now) ≡ None) (sym c.self.view_is) c.requires.allowed) in (
+      subst Steady (sym (after c)) (steady_queued s c.args.message.now c.args.options c.self.invariant.0 a.unfinished a.bytes a.fragments a.numbers),
+      c.self.invariant.1,
+      λ none. omega (arith, c.append.ensures.room, c.in_ok-reserve.ensures.room, c.len.ensures),
+    )
+
+pub returns-clause-queued : goal.returns-clause-queued
+returns-clause-queued c =
+    let i = c.self.inside in
+    let F : Sender → Flow = λ t. record { id = i.id; options = options_in i.options.items; priority = i.priority; sender = t } in
+    subst (λ (f : Flow). F (sender i.forward c.append.new.self.rows c.push.new.self i.finish i.sent i.upto i.told i.notice i.order) ≡ with_sender f (queued (next_message f.sender c.args.message.now) c.args.options f.sender)) c.self.view_is (ap F (after c))

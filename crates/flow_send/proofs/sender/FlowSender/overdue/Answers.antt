@@ -1,0 +1,7 @@
+use Rattle.flow_send.proofs.Ends.{sender, line_rows}
+use Rattle.flow_send.proofs.sender.FlowSender.overdue.Goals as goal
+
+pub first_overdue-requires : goal.first_overdue-requires
+first_overdue-requires c =
+    let i = c.self.inside in
+    line_rows (sender i.forward i.rows.rows i.waiting i.finish i.sent i.upto i.told i.notice i.order) c.self.invariant.0

@@ -1,0 +1,23 @@
+//! The sender of a flow.
+#![tactic(auto)]
+
+mod acking;
+mod backlog;
+mod fragments;
+mod outcome;
+mod pick;
+mod row;
+mod rows;
+mod sender;
+mod state;
+mod told;
+mod totals;
+mod waiting;
+
+pub use outcome::{AckFault, Acked, NoChunk, NotQueued, QueueRefusal};
+pub use pick::Pick;
+pub use sender::FlowSender;
+pub use waiting::MessageOptions;
+
+#[cfg(test)]
+mod tests;

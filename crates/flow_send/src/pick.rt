@@ -1,0 +1,8 @@
+//! Which chunk a sender sends.
+
+/// A fragment, by the place of its row, or a notice of the forward number.
+#[derive(Clone, Copy, Debug, PartialEq, Eq)]
+pub enum Pick {
+    Row(usize),
+    Notice,
+}

@@ -1,0 +1,193 @@
+//! A number with its fragment.
+
+ghost use Rattle.std.specs.Prelude.{◌≡◌, ◌+◌, ◌<◌, ◌≤◌, IfOk, length, true, false};
+ghost use Rattle.flow_send.specs.Rows.{let_go, end_row, row_totals, is_settled, is_flying};
+ghost use Rattle.flow_send.specs.Sender.{lost_if_late, is_late, give_up_row, is_spent_row, fresh_row};
+ghost use Rattle.flow_send.specs.Choice.{sent_row};
+ghost use Rattle.flow_send.specs.Acks.{acknowledge_row, count_ack, is_third};
+
+use crate::state::State;
+use crate::totals::Totals;
+use rtmfp_data_chunks::Part;
+use std::alloc::{AllocError, Global};
+use std::marker::Model;
+
+/// A number above the forward number.
+#[derive(Drop)]
+pub struct HeldRow {
+    ends: bool,
+    part: Part,
+    bytes: Vec<u8>,
+    state: State,
+    moment: u64,
+    place: u64,
+    resends: u32,
+    acks: u8,
+}
+
+impl Model for HeldRow {
+    ghost use Rattle.flow_send.specs.Rows.{Row};
+
+    ghost Value = { Row };
+
+    ghost view = { λ r. record { ends = r.ends; fragment = record { part = r.part; bytes = r.bytes.items }; state = r.state; moment = r.moment; place = r.place; resends = r.resends; acks = r.acks } };
+}
+
+impl HeldRow {
+    /// A fragment that was never sent.
+    pub fn fragment(alloc: Global, part: Part, bytes: &[u8]) -> Result<HeldRow, AllocError>
+        ensures { IfOk result (λ r. r ≡ fresh_row part bytes.now) }
+    {
+        Ok(HeldRow {
+            ends: false,
+            part,
+            bytes: Vec::from_slice(alloc, bytes)?,
+            state: State::Unsent,
+            moment: 0,
+            place: 0,
+            resends: 0,
+            acks: 0,
+        })
+    }
+
+    /// The number of finish.
+    pub fn end(alloc: Global) -> HeldRow
+        ensures { result ≡ end_row }
+    {
+        HeldRow {
+            ends: true,
+            part: Part::Whole,
+            bytes: Vec::new(alloc),
+            state: State::Unsent,
+            moment: 0,
+            place: 0,
+            resends: 0,
+            acks: 0,
+        }
+    }
+
+    pub fn ends(&self) -> bool
+        ensures { result ≡ self.now.ends }
+    {
+        self.ends
+    }
+
+    pub fn part(&self) -> Part
+        ensures { result ≡ self.now.fragment.part }
+    {
+        self.part
+    }
+
+    pub fn bytes(&self) -> &[u8]
+        ensures { result.now ≡ self.now.fragment.bytes }
+    {
+        self.bytes.as_slice()
+    }
+
+    pub fn state(&self) -> State
+        ensures { result ≡ self.now.state }
+    {
+        self.state
+    }
+
+    pub fn place(&self) -> u64
+        ensures { result ≡ self.now.place }
+    {
+        self.place
+    }
+
+    /// What it gives to the sums.
+    pub fn totals(&self) -> Totals
+        ensures { result ≡ row_totals self.now }
+    {
+        let stored = self.bytes.len() as u64;
+        let flies = self.state == State::Flying;
+        Totals {
+            flight: if flies { stored } else { 0 },
+            flying: if flies { 1 } else { 0 },
+            stored,
+            lost: if self.state == State::Lost { 1 } else { 0 },
+        }
+    }
+
+    /// Settles it and lets its bytes go.
+    fn let_go(&mut self, state: State)
+        ensures { self.new ≡ let_go state self.old }
+    {
+        let alloc = *self.bytes.allocator();
+        self.bytes = Vec::new(alloc);
+        self.state = state;
+    }
+
+    /// Abandons it, unless it is acknowledged.
+    pub fn give_up(&mut self)
+        ensures { self.new ≡ give_up_row self.old }
+    {
+        if self.state != State::Acknowledged {
+            self.let_go(State::Abandoned);
+        }
+    }
+
+    pub fn acknowledge(&mut self)
+        ensures { self.new ≡ acknowledge_row self.old }
+    {
+        if self.state != State::Acknowledged {
+            self.let_go(State::Acknowledged);
+        }
+    }
+
+    /// It is sent, again where it was lost.
+    pub fn send(&mut self, moment: u64, place: u64)
+        ensures { self.new ≡ sent_row moment place self.old }
+    {
+        if self.state == State::Lost {
+            self.resends = self.resends.saturating_add(1);
+        }
+        self.state = State::Flying;
+        self.moment = moment;
+        self.place = place;
+        self.acks = 0;
+    }
+
+    /// Whether it is in flight and its resend time has passed.
+    pub fn is_late(&self, moment: u64, resend_after: u64) -> bool
+        ensures { result ≡ is_late moment resend_after self.now }
+    {
+        self.state == State::Flying && self.moment <= moment && resend_after <= moment - self.moment
+    }
+
+    pub fn lose_if_late(&mut self, moment: u64, resend_after: u64)
+        ensures { self.new ≡ lost_if_late moment resend_after self.old }
+    {
+        if self.is_late(moment, resend_after) {
+            self.state = State::Lost;
+        }
+    }
+
+    /// Whether it is lost and was sent again as often as a limit allows.
+    pub fn is_spent(&self, limit: u32) -> bool
+        ensures { result ≡ is_spent_row limit self.now }
+    {
+        self.state == State::Lost && limit <= self.resends
+    }
+
+    /// Whether an ack that newly acknowledges the sending at a place makes it lost, by being the third.
+    pub fn is_third(&self, place: u64) -> bool
+        ensures { result ≡ is_third place self.now }
+    {
+        self.state == State::Flying && self.place < place && 2 <= self.acks
+    }
+
+    /// Counts an ack that newly acknowledges the sending at a place.
+    pub fn count_ack(&mut self, place: u64)
+        ensures { self.new ≡ count_ack place self.old }
+    {
+        if self.state == State::Flying && self.place < place {
+            if self.acks < 2 {
+                self.acks += 1;
+            } else {
+                self.state = State::Lost;
+            }
+        }
+    }
+}

@@ -1,0 +1,353 @@
+//! The numbers of a sending flow above its forward number.
+
+ghost use Rattle.std.specs.Prelude.{◌≡◌, ◌+◌, ◌-◌, ◌<◌, ◌≤◌, ◌^◌, ◌∷◌, ◌++◌, [], IfOk, OnOk, OnErr, IfSome, IfNone, List, length, slice_set, drop, map, max, not, true, false, MatchOption, Some, None, position};
+ghost use Rattle.std.specs.List.{sum_by, list_any};
+ghost use Rattle.std.specs.VecDeque.{deque_len, deque_capacity};
+ghost use Rattle.flow_send.specs.Rows.{Row, row_at, stored_of, totals_of, in_flight, any_flying, between, any_between, most_between, settled_front, front_settled, first_place, is_lost, is_unsent, is_settled, is_acknowledged};
+ghost use Rattle.flow_send.specs.Sender.{give_up_row, lost_if_late, is_late, is_spent_row};
+ghost use Rattle.flow_send.specs.Choice.{sent_row};
+ghost use Rattle.flow_send.specs.Acks.{acknowledge_row, new_place, count_ack, is_third};
+
+use crate::row::HeldRow;
+use crate::state::State;
+use crate::totals::Totals;
+use std::alloc::{AllocError, Global};
+use std::collections::VecDeque;
+use std::marker::Model;
+
+/// The rows in order, with sums over them. Contracts see them as their list and the number of rows for which there
+/// is room.
+#[derive(Drop)]
+pub struct Rows {
+    rows: VecDeque<HeldRow>,
+    totals: Totals,
+}
+
+impl Model for Rows {
+    ghost use Rattle.std.specs.Prelude.{◌≡◌, ◌-◌};
+    ghost use Rattle.std.specs.VecDeque.{deque_len, deque_capacity};
+    ghost use Rattle.flow_send.specs.Rows.{Places, totals_of};
+
+    ghost Value = { Places };
+
+    ghost view = { λ q. record { rows = q.rows.items; room = deque_capacity q.rows - deque_len q.rows } };
+
+    ghost invariant = { λ q. q.totals ≡ totals_of q.rows.items };
+}
+
+impl Rows {
+    /// No row, and room for one.
+    pub fn new(alloc: Global) -> Result<Rows, AllocError>
+        ensures none { IfOk result (λ q. q.rows ≡ []) }
+        ensures room { IfOk result (λ q. 1 ≤ q.room) }
+    {
+        Ok(Rows {
+            rows: VecDeque::with_capacity(alloc, 1)?,
+            totals: Totals::NONE,
+        })
+    }
+
+    pub fn len(&self) -> usize
+        ensures { result ≡ length self.now.rows }
+    {
+        self.rows.len()
+    }
+
+    /// Makes room for so many more rows.
+    pub fn reserve(&mut self, more: usize) -> Result<(), AllocError>
+        ensures rows { self.new.rows ≡ self.old.rows }
+        ensures room { OnOk result (more ≤ self.new.room) }
+        ensures kept { self.old.room ≤ self.new.room }
+    {
+        self.rows.reserve(more)
+    }
+
+    /// The bytes that the rows hold.
+    pub fn stored(&self) -> u64
+        ensures { result ≡ sum_by stored_of self.now.rows }
+    {
+        self.totals.stored
+    }
+
+    /// The bytes in flight.
+    pub fn flight(&self) -> u64
+        ensures { result ≡ in_flight self.now.rows }
+    {
+        self.totals.flight
+    }
+
+    /// Adds a row at the end.
+    pub fn push(&mut self, row: HeldRow)
+        requires room { 1 ≤ self.old.room }
+        requires fits { sum_by stored_of self.old.rows + stored_of row < 2 ^ 64 }
+        ensures rows { self.new.rows ≡ self.old.rows ++ row ∷ [] }
+        ensures room { self.new.room + 1 ≡ self.old.room }
+    {
+        let added = row.totals();
+        self.rows.push_back_reserved(row);
+        self.totals = self.totals.moved(Totals::NONE, added);
+    }
+
+    /// Adds rows at the end.
+    pub fn append(&mut self, mut more: VecDeque<HeldRow>)
+        requires room { length more.items ≤ self.old.room }
+        requires fits { sum_by stored_of self.old.rows + sum_by stored_of more.items < 2 ^ 64 }
+        ensures rows { self.new.rows ≡ self.old.rows ++ more.items }
+        ensures room { self.new.room + length more.items ≡ self.old.room }
+    {
+        while let Some(row) = more.pop_front() {
+            self.push(row);
+        }
+    }
+
+    fn give_up_at(&mut self, at: usize)
+        requires { at < length self.old.rows }
+        ensures rows { self.new.rows ≡ slice_set self.old.rows at (give_up_row (row_at self.old.rows at)) }
+        ensures room { self.new.room ≡ self.old.room }
+    {
+        let row = &mut self.rows[at];
+        let before = row.totals();
+        row.give_up();
+        let after = row.totals();
+        self.totals = self.totals.moved(before, after);
+    }
+
+    /// Abandons the rows from one place to before another that aren't acknowledged.
+    pub fn give_up(&mut self, from: usize, to: usize)
+        requires order { from ≤ to }
+        requires inside { to ≤ length self.old.rows }
+        ensures rows { self.new.rows ≡ between give_up_row from to self.old.rows }
+        ensures room { self.new.room ≡ self.old.room }
+    {
+        for at in from..to {
+            self.give_up_at(at);
+        }
+    }
+
+    fn acknowledge_at(&mut self, at: usize)
+        requires { at < length self.old.rows }
+        ensures rows { self.new.rows ≡ slice_set self.old.rows at (acknowledge_row (row_at self.old.rows at)) }
+        ensures room { self.new.room ≡ self.old.room }
+    {
+        let row = &mut self.rows[at];
+        let before = row.totals();
+        row.acknowledge();
+        let after = row.totals();
+        self.totals = self.totals.moved(before, after);
+    }
+
+    /// The place of the last sending of a row that isn't acknowledged, else 0.
+    fn new_place(&self, at: usize) -> u64
+        requires { at < length self.now.rows }
+        ensures { result ≡ new_place (row_at self.now.rows at) }
+    {
+        let row = &self.rows[at];
+        if row.state() == State::Acknowledged {
+            return 0;
+        }
+        row.place()
+    }
+
+    /// Acknowledges the rows from one place to before another. The answer is the last place, in the order of
+    /// sendings, of those that weren't acknowledged before.
+    pub fn acknowledge(&mut self, from: usize, to: usize) -> u64
+        requires order { from ≤ to }
+        requires inside { to ≤ length self.old.rows }
+        ensures rows { self.new.rows ≡ between acknowledge_row from to self.old.rows }
+        ensures room { self.new.room ≡ self.old.room }
+        ensures place { result ≡ most_between new_place from to self.old.rows }
+    {
+        let mut place: u64 = 0;
+        for at in from..to {
+            place = place.max(self.new_place(at));
+            self.acknowledge_at(at);
+        }
+        place
+    }
+
+    fn count_ack_at(&mut self, at: usize, place: u64)
+        requires { at < length self.old.rows }
+        ensures rows { self.new.rows ≡ slice_set self.old.rows at (count_ack place (row_at self.old.rows at)) }
+        ensures room { self.new.room ≡ self.old.room }
+    {
+        let row = &mut self.rows[at];
+        let before = row.totals();
+        row.count_ack(place);
+        let after = row.totals();
+        self.totals = self.totals.moved(before, after);
+    }
+
+    /// Whether an ack of the sending at a place makes a row lost.
+    fn is_third(&self, at: usize, place: u64) -> bool
+        requires { at < length self.now.rows }
+        ensures { result ≡ is_third place (row_at self.now.rows at) }
+    {
+        self.rows[at].is_third(place)
+    }
+
+    /// Counts an ack of the sending at a place against the rows before a place. True where it makes one lost.
+    pub fn count_acks(&mut self, to: usize, place: u64) -> bool
+        requires { to ≤ length self.old.rows }
+        ensures rows { self.new.rows ≡ between (count_ack place) 0 to self.old.rows }
+        ensures room { self.new.room ≡ self.old.room }
+        ensures lost { result ≡ any_between (is_third place) 0 to self.old.rows }
+    {
+        let mut lost = false;
+        for at in 0..to {
+            lost |= self.is_third(at, place);
+            self.count_ack_at(at, place);
+        }
+        lost
+    }
+
+    fn lose_at(&mut self, at: usize, moment: u64, resend_after: u64)
+        requires { at < length self.old.rows }
+        ensures rows { self.new.rows ≡ slice_set self.old.rows at (lost_if_late moment resend_after (row_at self.old.rows at)) }
+        ensures room { self.new.room ≡ self.old.room }
+    {
+        let row = &mut self.rows[at];
+        let before = row.totals();
+        row.lose_if_late(moment, resend_after);
+        let after = row.totals();
+        self.totals = self.totals.moved(before, after);
+    }
+
+    fn is_late(&self, at: usize, moment: u64, resend_after: u64) -> bool
+        requires { at < length self.now.rows }
+        ensures { result ≡ is_late moment resend_after (row_at self.now.rows at) }
+    {
+        self.rows[at].is_late(moment, resend_after)
+    }
+
+    /// Marks as lost the rows before a place that are late. True where there is one.
+    pub fn lose_late(&mut self, to: usize, moment: u64, resend_after: u64) -> bool
+        requires { to ≤ length self.old.rows }
+        ensures rows { self.new.rows ≡ between (lost_if_late moment resend_after) 0 to self.old.rows }
+        ensures room { self.new.room ≡ self.old.room }
+        ensures late { result ≡ any_between (is_late moment resend_after) 0 to self.old.rows }
+    {
+        let mut late = false;
+        for at in 0..to {
+            late |= self.is_late(at, moment, resend_after);
+            self.lose_at(at, moment, resend_after);
+        }
+        late
+    }
+
+    /// A row is sent.
+    pub fn send(&mut self, at: usize, moment: u64, place: u64)
+        requires { at < length self.old.rows }
+        ensures rows { self.new.rows ≡ slice_set self.old.rows at (sent_row moment place (row_at self.old.rows at)) }
+        ensures room { self.new.room ≡ self.old.room }
+    {
+        let row = &mut self.rows[at];
+        let before = row.totals();
+        row.send(moment, place);
+        let after = row.totals();
+        self.totals = self.totals.moved(before, after);
+    }
+
+    /// Whether a row is in flight.
+    pub fn any_flying(&self) -> bool
+        ensures { result ≡ any_flying self.now.rows }
+    {
+        self.totals.flying > 0
+    }
+
+    pub fn row(&self, at: usize) -> &HeldRow
+        requires { at < length self.now.rows }
+        ensures { result.now ≡ row_at self.now.rows at }
+    {
+        &self.rows[at]
+    }
+
+    /// Whether a row from one place to before another isn't settled.
+    pub fn waits(&self, from: usize, to: usize) -> bool
+        requires order { from ≤ to }
+        requires inside { to ≤ length self.now.rows }
+        ensures { result ≡ any_between (λ r. not (is_settled r.state)) from to self.now.rows }
+    {
+        for at in from..to {
+            if !self.rows[at].state().is_settled() {
+                return true;
+            }
+        }
+        false
+    }
+
+    /// Whether a lost row from one place to before another was sent again as often as a limit allows.
+    pub fn is_spent(&self, from: usize, to: usize, limit: u32) -> bool
+        requires order { from ≤ to }
+        requires inside { to ≤ length self.now.rows }
+        ensures { result ≡ any_between (is_spent_row limit) from to self.now.rows }
+    {
+        if self.totals.lost == 0 {
+            return false;
+        }
+        for at in from..to {
+            if self.rows[at].is_spent(limit) {
+                return true;
+            }
+        }
+        false
+    }
+
+    /// The place of the first lost row.
+    pub fn first_lost(&self) -> Option<usize>
+        ensures { result ≡ first_place is_lost 0 self.now.rows }
+    {
+        if self.totals.lost == 0 {
+            return None;
+        }
+        for at in 0..self.rows.len() {
+            if self.rows[at].state() == State::Lost {
+                return Some(at);
+            }
+        }
+        None
+    }
+
+    /// The place of the first unsent row, where none before a place is unsent.
+    pub fn first_unsent(&self, from: usize) -> Option<usize>
+        requires { first_place is_unsent 0 self.now.rows ≡ first_place is_unsent from (drop from self.now.rows) }
+        ensures { result ≡ first_place is_unsent 0 self.now.rows }
+    {
+        for at in from..self.rows.len() {
+            if self.rows[at].state() == State::Unsent {
+                return Some(at);
+            }
+        }
+        None
+    }
+
+    fn front_settled(&self) -> bool
+        ensures { result ≡ front_settled self.now.rows }
+    {
+        self.rows.len() > 0 && self.rows[0].state().is_settled()
+    }
+
+    fn pop(&mut self)
+        requires { 0 < length self.old.rows }
+        ensures rows { self.new.rows ≡ drop 1 self.old.rows }
+        ensures room { self.old.room ≤ self.new.room }
+    {
+        let before = self.rows[0].totals();
+        let _ = self.rows.pop_front();
+        self.totals = self.totals.moved(before, Totals::NONE);
+    }
+
+    /// Takes away the rows at the front that are settled. The answer is their number.
+    pub fn settle(&mut self) -> u64
+        ensures count { result ≡ settled_front self.old.rows }
+        ensures rows { self.new.rows ≡ drop (settled_front self.old.rows) self.old.rows }
+        ensures room { self.old.room ≤ self.new.room }
+    {
+        let all = self.len();
+        let mut count = 0;
+        while count < all && self.front_settled() {
+            self.pop();
+            count += 1;
+        }
+        count as u64
+    }
+}

@@ -1,0 +1,548 @@
+//! The sender of a flow.
+
+ghost use Rattle.std.specs.Prelude.{◌≡◌, ◌≢◌, ◌+◌, ◌-◌, ◌<◌, ◌≤◌, ◌^◌, ◌∷◌, ◌++◌, [], IfOk, IsOk, OnOk, OnErr, IfErr, IfSome, IfNone, List, length, Some, None, Ok, Err, nat_lt, MatchOption, MatchResult, true, false, if◌then◌else◌, ◌↔◌};
+ghost use Rattle.std.specs.Option.{is_some};
+ghost use Rattle.std.specs.List.{list_any};
+ghost use Rattle.rtmfp_data_chunks.specs.Fragments.{fragments_of_length};
+ghost use Rattle.rtmfp_data_chunks.specs.Taken.{chunk_of};
+ghost use Rattle.flow_send.specs.Rows.{any_row, in_flight};
+ghost use Rattle.flow_send.specs.Sender.{Sender, new_sender, next_of, queued, waits, abandoned, abandoned_if, first_number, overdue, finish_by, lost_late, is_late};
+ghost use Rattle.flow_send.specs.Acks.{told, beyond, new_bytes, makes_lost, told_by};
+ghost use Rattle.flow_send.specs.Steady.{Steady};
+ghost use Rattle.flow_send.specs.Choice.{Nothing, Notify, choice, next_choice, notice_due, choice_bytes, chunk_for, within_limit, is_quiet, sent_after};
+ghost use Rattle.flow_send.specs.Picked.{picked, picked_if, IsThere};
+ghost use Rattle.flow_send.specs.Flow.{Flow, flow_options, with_sender, is_finished, queue_refusal, next_message, data_length, chunk_options, chunk_refusal};
+
+use crate::acking::{acknowledge, greatest};
+use crate::backlog::Backlog;
+use crate::fragments::{cut, fragments_of};
+use crate::outcome::{AckFault, Acked, NoChunk, NotQueued, QueueRefusal};
+use crate::pick::Pick;
+use crate::row::HeldRow;
+use crate::rows::Rows;
+use crate::told::spelled;
+use crate::waiting::{MessageOptions, Waiting};
+use rtmfp_base::Memory;
+use rtmfp_data_chunks::{AckedRanges, Part, UserData};
+use rtmfp_forms::{Options, options_len, read_options};
+use rtmfp_vlu::vlu_len;
+use std::alloc::{AllocError, Global};
+use std::marker::Model;
+
+/// The most bytes of a message (own).
+const LONGEST: u64 = 1_048_576;
+
+/// The most bytes and fragments of messages that wait (own).
+const MOST_BYTES: u64 = 2_097_152;
+
+const MOST_FRAGMENTS: u64 = 65_536;
+
+/// The sender of a flow. Contracts see its id, options and priority, and what it keeps of its messages: the rows of
+/// the numbers above the forward number, and the messages that wait.
+#[derive(Drop)]
+pub struct FlowSender {
+    alloc: Global,
+    id: u64,
+    options: Vec<u8>,
+    priority: u8,
+    forward: u64,
+    rows: Rows,
+    waiting: Backlog,
+    finish: Option<u64>,
+    sent: u64,
+    upto: u64,
+    told: Option<u64>,
+    notice: Option<u64>,
+    order: u64,
+}
+
+impl Model for FlowSender {
+    ghost use Rattle.std.specs.Prelude.{◌≡◌, ◌≤◌, None};
+    ghost use Rattle.rtmfp_forms.specs.Options.{OptionsSpell};
+    ghost use Rattle.rtmfp_forms.specs.OptionReading.{options_in};
+    ghost use Rattle.flow_send.specs.Steady.{Steady};
+    ghost use Rattle.flow_send.specs.Flow.{Flow};
+
+    ghost Value = { Flow };
+
+    ghost view = { λ f. record { id = f.id; options = options_in f.options.items; priority = f.priority; sender = record { forward = f.forward; rows = f.rows.rows; waiting = f.waiting; finish = f.finish; sent = f.sent; upto = f.upto; told = f.told; notice = f.notice; order = f.order } } };
+
+    ghost invariant = { λ f.
+        Steady (record { forward = f.forward; rows = f.rows.rows; waiting = f.waiting; finish = f.finish; sent = f.sent; upto = f.upto; told = f.told; notice = f.notice; order = f.order })
+        × OptionsSpell (options_in f.options.items) f.options.items
+        × (f.finish ≡ None → 1 ≤ f.rows.room) };
+}
+
+impl FlowSender {
+    /// A sender that has sent nothing. Its options are the metadata, and the flow that it answers where there is one.
+    pub fn new(
+        alloc: Global,
+        id: u64,
+        metadata: &[u8],
+        answers: Option<u64>,
+        priority: u8,
+        first: u64,
+    ) -> Result<FlowSender, Memory>
+        requires { 1 ≤ first }
+        ensures { IfOk result (λ f. f ≡ record { id = id; options = flow_options metadata.now answers; priority = priority; sender = new_sender first }) }
+    {
+        Ok(FlowSender {
+            alloc,
+            id,
+            options: spelled(alloc, metadata, answers)?,
+            priority,
+            forward: first - 1,
+            rows: Rows::new(alloc)?,
+            waiting: Backlog::new(alloc),
+            finish: None,
+            sent: first - 1,
+            upto: first - 1,
+            told: None,
+            notice: None,
+            order: 0,
+        })
+    }
+
+    pub fn id(&self) -> u64
+        ensures { result ≡ self.now.id }
+    {
+        self.id
+    }
+
+    pub fn priority(&self) -> u8
+        ensures { result ≡ self.now.priority }
+    {
+        self.priority
+    }
+
+    /// Queues a message, and gives the number of its first fragment.
+    pub fn queue(&mut self, message: &[u8], options: MessageOptions) -> Result<u64, QueueRefusal>
+        ensures number { IfOk result (λ n. n ≡ next_of self.old.sender) }
+        ensures queued { OnOk result (self.new ≡ with_sender self.old (queued (next_message self.old.sender message.now) options self.old.sender)) }
+        ensures refused { MatchOption (queue_refusal self.old.sender (length message.now)) (IfErr result (λ e. e ≡ QueueRefusal.Memory)) (λ e. result ≡ Err e) }
+        ensures err { OnErr result (self.new ≡ self.old) }
+    {
+        let size = message.len() as u64;
+        if let Some(refusal) = self.refusal(size) {
+            return Err(refusal);
+        }
+        let number = self.next() as u64;
+        if self.hold(message, number, options).is_err() {
+            return Err(QueueRefusal::Memory);
+        }
+        Ok(number)
+    }
+
+    /// Holds a message that isn't refused.
+    fn hold(
+        &mut self,
+        message: &[u8],
+        number: u64,
+        options: MessageOptions,
+    ) -> Result<(), AllocError>
+        requires allowed { queue_refusal self.old.sender (length message.now) ≡ None }
+        requires number { number ≡ next_of self.old.sender }
+        ensures queued { OnOk result (self.new ≡ with_sender self.old (queued (next_message self.old.sender message.now) options self.old.sender)) }
+        ensures err { OnErr result (self.new ≡ self.old) }
+    {
+        let size = message.len() as u64;
+        let count = fragments_of(size);
+        if size > u64::MAX - self.rows.stored() {
+            return Err(AllocError);
+        }
+        let fragments = cut(self.alloc, message, count)?;
+        self.rows.reserve(fragments.len() + 1)?;
+        self.waiting.push(Waiting {
+            number,
+            count,
+            size,
+            options,
+        })?;
+        self.rows.append(fragments);
+        Ok(())
+    }
+
+    /// The refusal of a message of a length, but want of memory.
+    pub fn refusal(&self, length: u64) -> Option<QueueRefusal>
+        ensures { result ≡ queue_refusal self.now.sender length }
+    {
+        if self.finish.is_some() {
+            return Some(QueueRefusal::Finished);
+        }
+        if length > LONGEST {
+            return Some(QueueRefusal::TooLong(LONGEST));
+        }
+        let count = fragments_of(length);
+        let held = self.waiting.bytes();
+        if held + length > MOST_BYTES || self.waiting.fragments() + count > MOST_FRAGMENTS {
+            return Some(QueueRefusal::Backlog(held));
+        }
+        if self.next() + u128::from(count) - 1 > u128::from(u64::MAX - 1) {
+            return Some(QueueRefusal::SequenceSpent);
+        }
+        None
+    }
+
+    /// The next number to be given.
+    fn next(&self) -> u128
+        ensures { result ≡ next_of self.now.sender }
+    {
+        u128::from(self.forward) + 1 + self.rows.len() as u128
+    }
+
+    /// Whether a message that waits begins at a number.
+    pub fn waits(&self, seq: u64) -> bool
+        ensures { result ≡ waits self.now.sender seq }
+    {
+        self.waiting.find(seq).is_some()
+    }
+
+    /// The number of messages that wait.
+    pub fn waiting(&self) -> u64
+        ensures { result ≡ length self.now.sender.waiting }
+    {
+        self.waiting.len() as u64
+    }
+
+    /// Whether it was finished.
+    pub fn finished(&self) -> bool
+        ensures { result ≡ is_finished self.now.sender.finish }
+    {
+        self.finish.is_some()
+    }
+
+    /// The bytes in flight.
+    pub fn flight(&self) -> u64
+        ensures { result ≡ in_flight self.now.sender.rows }
+    {
+        self.rows.flight()
+    }
+
+    /// Abandons the message that begins at a number. True where there is one that waits.
+    fn give_up(&mut self, seq: u64) -> bool
+        ensures waits { result ≡ waits self.old.sender seq }
+        ensures after { self.new ≡ with_sender self.old (abandoned seq self.old.sender) }
+    {
+        let Some(message) = self.waiting.find(seq) else {
+            return false;
+        };
+        message.give_up(&mut self.rows, self.forward);
+        self.waiting.remove(seq);
+        self.forward += self.rows.settle();
+        true
+    }
+
+    /// Abandons the message that begins at a number.
+    pub fn abandon(&mut self, seq: u64) -> Result<(), NotQueued>
+        ensures queued { IsOk result ↔ (waits self.old.sender seq ≡ true) }
+        ensures after { self.new ≡ with_sender self.old (abandoned seq self.old.sender) }
+        ensures err { OnErr result (self.new ≡ self.old) }
+    {
+        if self.give_up(seq) {
+            Ok(())
+        } else {
+            Err(NotQueued)
+        }
+    }
+
+    /// Abandons the first message that waits, and gives its number.
+    pub fn abandon_first(&mut self) -> Option<u64>
+        ensures first { result ≡ first_number self.old.sender.waiting }
+        ensures after { self.new ≡ with_sender self.old (abandoned_if (first_number self.old.sender.waiting) self.old.sender) }
+    {
+        let number = self.waiting.first()?;
+        self.give_up(number);
+        Some(number)
+    }
+
+    /// Abandons the first message whose deadline or limit of resends is passed, and gives its number.
+    pub fn overdue(&mut self, moment: u64) -> Option<u64>
+        ensures overdue { result ≡ overdue moment self.old.sender }
+        ensures after { self.new ≡ with_sender self.old (abandoned_if (overdue moment self.old.sender) self.old.sender) }
+    {
+        let number = self
+            .waiting
+            .first_overdue(&self.rows, self.forward, moment)?;
+        self.give_up(number);
+        Some(number)
+    }
+
+    /// Takes one further number for the end of the flow, and gives it. None where it was finished before.
+    pub fn finish(&mut self) -> Option<u64>
+        ensures last { result ≡ (if is_finished self.old.sender.finish then None else Some (next_of self.old.sender)) }
+        ensures after { self.new ≡ with_sender self.old (finish_by self.old.sender self.old.sender.finish) }
+    {
+        if self.finish.is_some() {
+            return None;
+        }
+        let number = self.next() as u64;
+        let _stored = self.rows.stored();
+        self.rows.push(HeldRow::end(self.alloc));
+        self.finish = Some(number);
+        Some(number)
+    }
+
+    /// How many rows at the front have numbers up to the highest one sent.
+    fn sent_rows(&self) -> usize
+        ensures count { result ≡ self.now.sender.sent - self.now.sender.forward }
+        ensures inside { result ≤ length self.now.sender.rows }
+    {
+        let _all = self.rows.len();
+        self.sent.saturating_sub(self.forward) as usize
+    }
+
+    /// Marks as lost each number in flight that was sent so long ago, in milliseconds. True where there is one.
+    pub fn find_lost(&mut self, moment: u64, resend_after: u64) -> bool
+        ensures late { result ≡ list_any (is_late moment resend_after) self.old.sender.rows }
+        ensures after { self.new ≡ with_sender self.old (lost_late moment resend_after self.old.sender) }
+        ensures none_late { list_any (is_late moment resend_after) self.new.sender.rows ≡ false }
+    {
+        let to = self.sent_rows();
+        self.rows.lose_late(to, moment, resend_after)
+    }
+
+    /// Takes an ack: the blocks of 1,024 bytes that the receiver has free, the number at or below which all is
+    /// acknowledged, and the stretches above it.
+    pub fn take_ack(
+        &mut self,
+        blocks: u64,
+        upto: u64,
+        ranges: AckedRanges<'_>,
+    ) -> Result<Acked, AckFault>
+        ensures beyond { MatchOption (beyond self.old.sender (told blocks upto ranges.entry)) (IsOk result) (λ n. result ≡ Err (AckFault.AckBeyond n)) }
+        ensures bytes { IfOk result (λ a. a.bytes ≡ new_bytes (told blocks upto ranges.entry) (self.old.sender.forward + 1) self.old.sender.rows) }
+        ensures lost { IfOk result (λ a. a.lost ≡ makes_lost (told blocks upto ranges.entry) self.old.sender) }
+        ensures ok { OnOk result (self.new ≡ with_sender self.old (told_by (told blocks upto ranges.entry) self.old.sender)) }
+        ensures err { OnErr result (self.new ≡ self.old) }
+    {
+        let greatest = greatest(upto, &ranges);
+        if greatest > self.sent {
+            return Err(AckFault::AckBeyond(greatest));
+        }
+        let to = self.sent_rows();
+        let before = self.rows.stored();
+        let place = acknowledge(&mut self.rows, self.forward, upto, &ranges);
+        let bytes = before - self.rows.stored();
+        let lost = self.rows.count_acks(to, place);
+        self.waiting.drop_done(&self.rows, self.forward, greatest);
+        self.forward += self.rows.settle();
+        self.upto = upto;
+        self.told = Some(blocks);
+        Ok(Acked { bytes, lost })
+    }
+
+    /// Chooses the next chunk, and keeps that it is sent.
+    pub fn next_chunk(
+        &mut self,
+        first: bool,
+        room: usize,
+        flight: u64,
+        window: u64,
+        moment: u64,
+        resend_after: u64,
+    ) -> Result<Pick, NoChunk>
+        ensures refused { MatchOption (chunk_refusal self.old first room flight window (choice moment resend_after self.old.sender)) (IsOk result) (λ e. result ≡ Err e) }
+        ensures chunk { IfOk result (λ p. chunk_for self.new.sender (picked self.new.sender p) ≡ chunk_for self.old.sender (choice moment resend_after self.old.sender)) }
+        ensures there { IfOk result (λ p. IsThere self.new.sender p) }
+        ensures sent { OnOk result (self.new ≡ with_sender self.old (sent_after moment (choice moment resend_after self.old.sender) self.old.sender)) }
+        ensures err { OnErr result (self.new ≡ self.old) }
+    {
+        let Some(pick) = self.pick(moment, resend_after) else {
+            return Err(NoChunk::Nothing);
+        };
+        if let Some(refusal) = self.chunk_refusal(pick, first, room, flight, window) {
+            return Err(refusal);
+        }
+        self.send(pick, moment);
+        Ok(pick)
+    }
+
+    /// The chunk that may be sent next.
+    fn pick(&self, moment: u64, resend_after: u64) -> Option<Pick>
+        ensures picked { choice moment resend_after self.now.sender ≡ picked_if self.now.sender result }
+        ensures there { IfSome result (λ p. IsThere self.now.sender p) }
+        ensures steady { Steady self.now.sender }
+    {
+        let next = self.next_pick(moment, resend_after)?;
+        if self.within_limit(self.pick_bytes(next)) {
+            Some(next)
+        } else {
+            None
+        }
+    }
+
+    /// The chunk that is next, whatever the flow's limit.
+    fn next_pick(&self, moment: u64, resend_after: u64) -> Option<Pick>
+        ensures picked { next_choice moment resend_after self.now.sender ≡ picked_if self.now.sender result }
+        ensures there { IfSome result (λ p. IsThere self.now.sender p) }
+        ensures steady { Steady self.now.sender }
+    {
+        if let Some(at) = self.rows.first_lost() {
+            return Some(Pick::Row(at));
+        }
+        if let Some(at) = self.rows.first_unsent(self.sent_rows()) {
+            return Some(Pick::Row(at));
+        }
+        if self.notice_due(moment, resend_after) {
+            return Some(Pick::Notice);
+        }
+        None
+    }
+
+    /// Whether the forward number is to be told without a fragment.
+    fn notice_due(&self, moment: u64, resend_after: u64) -> bool
+        ensures { notice_due moment resend_after self.now.sender ≡ (if result then Notify else Nothing) }
+    {
+        self.upto < self.forward && self.is_quiet(moment, resend_after)
+    }
+
+    /// Whether no notice was sent within the resend time.
+    fn is_quiet(&self, moment: u64, resend_after: u64) -> bool
+        ensures { result ≡ is_quiet self.now.sender.notice moment resend_after }
+    {
+        match self.notice {
+            Some(last) => last <= moment && resend_after <= moment - last,
+            None => true,
+        }
+    }
+
+    /// The bytes that a chunk counts.
+    fn pick_bytes(&self, pick: Pick) -> u64
+        requires { IsThere self.now.sender pick }
+        ensures { result ≡ choice_bytes (picked self.now.sender pick) }
+    {
+        match pick {
+            Pick::Row(at) => self.rows.row(at).bytes().len() as u64,
+            Pick::Notice => 0,
+        }
+    }
+
+    /// Whether so many bytes more are within the flow's own limit.
+    fn within_limit(&self, bytes: u64) -> bool
+        ensures { result ≡ within_limit self.now.sender bytes }
+    {
+        if !self.rows.any_flying() {
+            return true;
+        }
+        let limit = match self.told {
+            Some(blocks) => u128::from(blocks) * 1024,
+            None => 65536,
+        };
+        u128::from(self.rows.flight()) + u128::from(bytes) <= limit
+    }
+
+    /// Why a chunk isn't sent.
+    fn chunk_refusal(
+        &self,
+        pick: Pick,
+        first: bool,
+        room: usize,
+        flight: u64,
+        window: u64,
+    ) -> Option<NoChunk>
+        requires { IsThere self.now.sender pick }
+        ensures { result ≡ chunk_refusal self.now first room flight window (picked self.now.sender pick) }
+    {
+        let chunk = self.chunk(pick, first);
+        if u128::from(flight) + self.pick_bytes(pick) as u128 > u128::from(window) {
+            return Some(NoChunk::Window);
+        }
+        if data_len(&chunk) > room as u128 {
+            return Some(NoChunk::Room);
+        }
+        None
+    }
+
+    /// A chunk that was chosen, with the options of the flow where it is the first one of the flow in a datagram and
+    /// there was no ack yet.
+    pub fn chunk(&self, pick: Pick, first: bool) -> UserData<'_>
+        requires { IsThere self.now.sender pick }
+        ensures chunk { chunk_for self.now.sender (picked self.now.sender pick) ≡ Some (chunk_of result) }
+        ensures options { result.options ≡ chunk_options self.now first }
+        ensures flow { result.flow ≡ self.now.id }
+    {
+        match pick {
+            Pick::Row(at) => {
+                let row = self.rows.row(at);
+                UserData {
+                    part: row.part(),
+                    abandon: row.ends(),
+                    last: row.ends(),
+                    flow: self.id,
+                    seq: self.forward + 1 + at as u64,
+                    forward: self.forward,
+                    options: self.chunk_options(first),
+                    bytes: row.bytes(),
+                }
+            }
+            Pick::Notice => UserData {
+                part: Part::Whole,
+                abandon: true,
+                last: false,
+                flow: self.id,
+                seq: self.forward,
+                forward: self.forward,
+                options: self.chunk_options(first),
+                bytes: &[],
+            },
+        }
+    }
+
+    /// The options of a chunk.
+    fn chunk_options(&self, first: bool) -> Option<Options<'_>>
+        ensures { result ≡ chunk_options self.now first }
+    {
+        if !first || self.told.is_some() {
+            return None;
+        }
+        match read_options(&self.options) {
+            Ok((options, _)) => Some(options),
+            Err(_) => None,
+        }
+    }
+
+    /// Keeps that a chunk was sent.
+    fn send(&mut self, pick: Pick, moment: u64)
+        requires there { IsThere self.old.sender pick }
+        requires steady { Steady (sent_after moment (picked self.old.sender pick) self.old.sender) }
+        ensures { self.new ≡ with_sender self.old (sent_after moment (picked self.old.sender pick) self.old.sender) }
+    {
+        match pick {
+            Pick::Row(at) => self.send_row(at, moment),
+            Pick::Notice => self.send_notice(moment),
+        }
+    }
+
+    fn send_row(&mut self, at: usize, moment: u64)
+        requires there { at < length self.old.sender.rows }
+        requires steady { Steady (sent_after moment (picked self.old.sender (Pick.Row at)) self.old.sender) }
+        ensures { self.new ≡ with_sender self.old (sent_after moment (picked self.old.sender (Pick.Row at)) self.old.sender) }
+    {
+        let number = self.forward + 1 + at as u64;
+        self.order = self.order.saturating_add(1);
+        self.rows.send(at, moment, self.order);
+        self.sent = self.sent.max(number);
+    }
+
+    fn send_notice(&mut self, moment: u64)
+        requires { Steady (sent_after moment (picked self.old.sender Pick.Notice) self.old.sender) }
+        ensures { self.new ≡ with_sender self.old (sent_after moment (picked self.old.sender Pick.Notice) self.old.sender) }
+    {
+        self.order = self.order.saturating_add(1);
+        self.notice = Some(moment);
+        self.sent = self.sent.max(self.forward);
+    }
+}
+
+/// The length of a user data chunk with its type and length.
+fn data_len(chunk: &UserData<'_>) -> u128
+    requires { chunk.now.forward ≤ chunk.now.seq }
+    ensures { result ≡ data_length chunk.now.flow chunk.now.options (chunk_of chunk.now) }
+{
+    let numbers = vlu_len(chunk.flow) + vlu_len(chunk.seq) + vlu_len(chunk.seq - chunk.forward);
+    let options = match &chunk.options {
+        Some(options) => options_len(options),
+        None => 0,
+    };
+    4 + numbers as u128 + options as u128 + chunk.bytes.len() as u128
+}

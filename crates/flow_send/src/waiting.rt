@@ -1,0 +1,94 @@
+//! A message that waits to be acknowledged.
+
+ghost use Rattle.std.specs.Prelude.{◌≡◌, ◌+◌, ◌-◌, ◌<◌, ◌≤◌, ◌^◌, length};
+ghost use Rattle.flow_send.specs.Sender.{is_past, is_spent, is_overdue, give_up};
+ghost use Rattle.flow_send.specs.Acks.{still_waits};
+ghost use Rattle.flow_send.specs.Rows.{map_rows};
+
+use crate::rows::Rows;
+
+/// How long a message is sent.
+#[derive(Clone, Copy, Debug, PartialEq, Eq)]
+pub struct MessageOptions {
+    /// The moment in milliseconds after which the message is abandoned.
+    pub deadline: Option<u64>,
+    /// How often a lost fragment of it is sent again at most.
+    pub resends: Option<u32>,
+}
+
+/// A message that is neither abandoned nor wholly acknowledged.
+#[derive(Clone, Copy, Debug, PartialEq, Eq)]
+pub struct Waiting {
+    /// The number of its first fragment.
+    pub number: u64,
+    /// How many fragments it has.
+    pub count: u64,
+    /// How many bytes it has.
+    pub size: u64,
+    pub options: MessageOptions,
+}
+
+impl Waiting {
+    /// Where its rows begin, above a forward number.
+    fn from(&self, forward: u64) -> usize
+        ensures { result ≡ self.now.number - (forward + 1) }
+    {
+        self.number.saturating_sub(forward).saturating_sub(1) as usize
+    }
+
+    /// Where they end.
+    fn to(&self, forward: u64) -> usize
+        requires { self.now.number + self.now.count - (forward + 1) < 2 ^ 64 }
+        ensures { result ≡ self.now.number + self.now.count - (forward + 1) }
+    {
+        let end = u128::from(self.number) + u128::from(self.count);
+        end.saturating_sub(u128::from(forward) + 1) as usize
+    }
+
+    /// Whether one of its numbers isn't settled.
+    pub fn waits(&self, rows: &Rows, forward: u64) -> bool
+        requires { self.now.number + self.now.count ≤ forward + 1 + length rows.now.rows }
+        ensures { result ≡ still_waits (forward + 1) rows.now.rows self.now }
+    {
+        let _all = rows.len();
+        rows.waits(self.from(forward), self.to(forward))
+    }
+
+    /// Abandons those of its numbers that aren't acknowledged.
+    pub fn give_up(&self, rows: &mut Rows, forward: u64)
+        requires { self.now.number + self.now.count ≤ forward + 1 + length rows.old.rows }
+        ensures rows { rows.new.rows ≡ map_rows (give_up self.now) (forward + 1) rows.old.rows }
+        ensures room { rows.new.room ≡ rows.old.room }
+    {
+        let _all = rows.len();
+        rows.give_up(self.from(forward), self.to(forward));
+    }
+
+    /// Whether its deadline is passed, or a lost fragment of it was sent again as often as its limit allows.
+    pub fn is_overdue(&self, rows: &Rows, forward: u64, moment: u64) -> bool
+        requires { self.now.number + self.now.count ≤ forward + 1 + length rows.now.rows }
+        ensures { result ≡ is_overdue moment (forward + 1) rows.now.rows self.now }
+    {
+        self.is_past(moment) || self.is_spent(rows, forward)
+    }
+
+    fn is_past(&self, moment: u64) -> bool
+        ensures { result ≡ is_past self.now.options.deadline moment }
+    {
+        match self.options.deadline {
+            Some(deadline) => deadline < moment,
+            None => false,
+        }
+    }
+
+    fn is_spent(&self, rows: &Rows, forward: u64) -> bool
+        requires { self.now.number + self.now.count ≤ forward + 1 + length rows.now.rows }
+        ensures { result ≡ is_spent self.now.options.resends self.now (forward + 1) rows.now.rows }
+    {
+        let _all = rows.len();
+        match self.options.resends {
+            Some(limit) => rows.is_spent(self.from(forward), self.to(forward), limit),
+            None => false,
+        }
+    }
+}

@@ -1,0 +1,12 @@
+pub mod Stretching
+pub mod Numbers
+pub mod OptionLists
+pub mod Pairs
+pub mod Bits
+pub mod UserLaws
+pub mod AckLaws
+pub mod ReadingLaws
+pub mod Respelling
+pub mod RunLaws
+pub mod PairsTold
+pub mod Ahead

@@ -1,0 +1,12 @@
+pub mod Fragments
+pub mod Runs
+pub mod HandsOver
+pub mod Taken
+pub mod Acked
+pub mod Chunk
+pub mod Fields
+pub mod Acks
+pub mod Spelling
+pub mod Reader
+pub mod Writing
+pub mod AckedLeft

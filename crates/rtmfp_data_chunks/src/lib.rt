@@ -1,0 +1,20 @@
+//! The chunks of flows (RFC 7016 sections 2.3.11 to 2.3.16), read in place and written, and what numbers, fragments
+//! and runs of a flow are.
+#![tactic(auto)]
+
+mod acked;
+mod cursor;
+mod fields;
+mod reading;
+mod user_data;
+mod view;
+mod writing;
+
+pub use acked::AckedRanges;
+pub use cursor::DataCursor;
+pub use user_data::{Part, UserData};
+pub use view::{DataFault, DataView};
+pub use writing::write_data;
+
+#[cfg(test)]
+mod tests;
