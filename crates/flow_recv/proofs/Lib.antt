@@ -10,3 +10,4 @@ pub mod Ready
 pub mod Windows
 pub mod Beside
 pub mod Sounds
+pub mod Pairs

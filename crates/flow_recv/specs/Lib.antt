@@ -1,5 +1,6 @@
 pub mod Receiver
 pub mod Outcome
+pub mod Acking
 pub mod Window
 pub mod Merging
 pub mod Sound

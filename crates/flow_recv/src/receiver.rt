@@ -1,21 +1,26 @@
 //! The receiver of a flow.
 
-ghost use Rattle.std.specs.Prelude.{◌≡◌, ◌≢◌, ◌+◌, ◌<◌, ◌≤◌, ◌∷◌, ◌++◌, ℕ, IfOk, IsOk, OnOk, OnErr, IfErr, MatchOption, List, length, Some, None, Ok, Err, vec_len, false, true, ◌==◌, ◌^◌, ◌&&◌, ◌||◌, not, nat_lt, nat_le, max, if◌then◌else◌};
+ghost use Rattle.std.specs.Prelude.{◌≡◌, ◌≢◌, ◌+◌, ◌-◌, ◌<◌, ◌≤◌, ◌∷◌, ◌++◌, ◌↔◌, ℕ, IfOk, IsOk, IsErr, OnOk, OnErr, IfErr, MatchOption, List, length, Some, None, Ok, Err, vec_len, false, true, ◌==◌, ◌^◌, ◌&&◌, ◌||◌, not, nat_lt, nat_le, max, if◌then◌else◌};
 ghost use Rattle.std.specs.List.{filter};
 ghost use Rattle.std.specs.Vec.{vec_capacity};
 ghost use Rattle.std.specs.Option.{option_map};
 ghost use Rattle.rtmfp_data_chunks.specs.Runs.{single, message_of};
 ghost use Rattle.rtmfp_data_chunks.specs.Taken.{chunk_of};
 ghost use Rattle.flow_recv.specs.Receiver.{Receiver, Apart, fresh, span, lacks, living, held_in, after_last, passes_buffer, add_run, beyond_buffer, taken, next_run, handed_next, is_alive, is_beside};
+ghost use Rattle.flow_recv.specs.Acking.{free_blocks, ack_head, ack_bytes};
+ghost use Rattle.rtmfp_forms.specs.Outgoing.{packet_limit};
 ghost use Rattle.flow_recv.specs.Outcome.{refusal, took, message};
 ghost use Rattle.flow_recv.specs.Sound.{AllAlive, Sound};
 
+use crate::acking::{pairs_len, put_pairs};
 use crate::outcome::{FlowRefusal, Took};
 use crate::run::HeldRun;
 use crate::runs::{add_run, bytes_in, drop_dead, drop_dead_beside, living_bytes, ready_at};
 use crate::spans::{Span, lacks, mark, raised};
 use rtmfp_base::{Memory, Message};
 use rtmfp_data_chunks::UserData;
+use rtmfp_forms::{NoRoom, Outgoing};
+use rtmfp_vlu::vlu_len;
 use std::alloc::{AllocError, Global};
 use std::marker::Model;
 
@@ -105,6 +110,36 @@ impl FlowReceiver {
         let run = self.runs.remove(at);
         let number = run.first();
         Ok(Some((number, Message::of(run.into_bytes()))))
+    }
+
+    /// Puts an ack at the end, for the flow of an id: what is free in the buffer, the number at or below which none is
+    /// missing, and as many of the stretches above it as fit. All or nothing of it but these.
+    pub fn ack_into(&self, flow: u64, out: &mut Outgoing) -> Result<(), NoRoom>
+        ensures ok { OnOk result (out.new ≡ out.old ++ ack_bytes flow (packet_limit - length out.old - 3) self.now) }
+        ensures no_room { IsErr result ↔ (packet_limit < length out.old + 3 + length (ack_head flow self.now)) }
+        ensures err { OnErr result (out.new ≡ out.old) }
+    {
+        let blocks = self.free_blocks();
+        let head = vlu_len(flow) + vlu_len(blocks) + vlu_len(self.through);
+        if out.room() < head + 3 {
+            return Err(NoRoom);
+        }
+        let room = out.room() - 3 - head;
+        let length = head + pairs_len(room, self.through, &self.above);
+        out.append(&[0x51]);
+        out.append(&(length as u16).to_be_bytes());
+        out.append_vlu(flow);
+        out.append_vlu(blocks);
+        out.append_vlu(self.through);
+        put_pairs(room, self.through, &self.above, out);
+        Ok(())
+    }
+
+    /// The blocks of 1,024 bytes that are free.
+    fn free_blocks(&self) -> u64
+        ensures { result ≡ free_blocks (held_in self.now.runs) }
+    {
+        2_097_152u64.saturating_sub(bytes_in(&self.runs)) / 1024
     }
 
     /// The refusal of a chunk that isn't want of memory.

@@ -1,0 +1,24 @@
+use Rattle.std.proofs.Common.{◌≡◌, ◌+◌, ◌-◌, length, drop, get_or, ap, arith, length-append}
+use Rattle.flow_recv.specs.declared.spans.Span.{Span}
+use Rattle.flow_recv.specs.Receiver.{span}
+use Rattle.flow_recv.specs.Acking.{pair_bytes, pairs_in}
+use Rattle.flow_recv.proofs.Pairs.{apart_at, more_at}
+use Rattle.flow_recv.proofs.acking.pairs_len.Goals as goal
+
+pub pair_len-len-requires-clause-above : goal.pair_len-len-requires-clause-above
+pair_len-len-requires-clause-above c = (apart_at c.loop-at.after c.args.above.now c.loop-at.at (span 0 0) c.loop-at-test.true c.loop-at.invariant.0).above
+
+pub loop-at-preserved : goal.loop-at-preserved
+loop-at-preserved c =
+    let i = c.loop-at.invariant in
+    let here : Span = get_or c.args.above.now c.loop-at.at (span 0 0) in
+    let next = apart_at c.loop-at.after c.args.above.now c.loop-at.at (span 0 0) c.loop-at-test.true i.0 in
+    let len : c.pair_len-len.result ≡ length (pair_bytes c.loop-at.after here) = c.pair_len-len.ensures in
+    let more = more_at c.loop-at.left c.loop-at.after c.args.above.now c.loop-at.at (span 0 0) c.loop-at-test.true (omega (arith, len, c.if-len-left.false)) in
+    let sum = ap length more in
+    let two = length-append (pair_bytes c.loop-at.after here) (pairs_in (c.loop-at.left - length (pair_bytes c.loop-at.after here)) here.last (drop (c.loop-at.at + 1) c.args.above.now)) in
+    let same = ap (λ n. length (pairs_in (c.loop-at.left - n) here.last (drop (c.loop-at.at + 1) c.args.above.now))) len in (
+      next.rest,
+      omega (arith, i.1),
+      omega (arith, i.1, i.2, sum, two, same, len, c.if-len-left.false),
+    )
