@@ -1,0 +1,5 @@
+pub mod Maps
+pub mod Rows
+pub mod Lowest
+pub mod Counts
+pub mod Places

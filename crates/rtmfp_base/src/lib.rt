@@ -6,3 +6,6 @@ mod message;
 
 pub use memory::Memory;
 pub use message::Message;
+
+#[cfg(test)]
+mod tests;

@@ -1,0 +1,101 @@
+-- Finite maps from numbers: what an insert and a removal leave.
+use Rattle.std.proofs.Common.{ℕ, ◌≡◌, ◌+◌, ◌-◌, Bool, true, false, cond, Option, Some, None, is_some, sym, ap, refl, ◌∙◌, inl, inr, ◌⊎◌}
+use Rattle.std.specs.Ordering.{nat_cmp, eq_by_cmp}
+use Rattle.std.specs.Cmp.{nat_cmp_total, eq_by_cmp_equiv}
+use Rattle.std.specs.FinMap.{FinMap, get, insert, remove, len, get-insert, get-remove, len-insert, len-remove, same_map, nat_cmp-IsAntisymmetric}
+use Rattle.std.proofs.lemmas.Map.Views.{tells_apart}
+
+-- two numbers are equal, and the test says so, or neither
+pub same_or_not : (q k : ℕ) → ((q ≡ k) × (eq_by_cmp nat_cmp q k ≡ true)) ⊎ ((q ≡ k → ⊥) × (eq_by_cmp nat_cmp q k ≡ false))
+same_or_not q k = decided (eq_by_cmp nat_cmp q k) refl
+  where
+    decided : (b : Bool) → eq_by_cmp nat_cmp q k ≡ b → ((q ≡ k) × (eq_by_cmp nat_cmp q k ≡ true)) ⊎ ((q ≡ k → ⊥) × (eq_by_cmp nat_cmp q k ≡ false))
+    decided true e = inl (tells_apart nat_cmp-IsAntisymmetric q k e, e)
+    decided false e = inr ((λ is. let clash : false ≡ true = sym e ∙ ap (eq_by_cmp nat_cmp q) (sym is) ∙ (eq_by_cmp_equiv nat_cmp_total).refl q in cc), e)
+
+pub same_key : (k : ℕ) → eq_by_cmp nat_cmp k k ≡ true
+same_key k = (eq_by_cmp_equiv nat_cmp_total).refl k
+
+pub none_is_some : {A : Type 0} (x : A) (o : Option A) → o ≡ None → o ≡ Some x → ⊥
+none_is_some x o n s = let clash : None ≡ Some x = sym n ∙ s in cc
+
+module _ {V : Type 0} where
+  pub same_tables : (a b : FinMap nat_cmp V) → ((q : ℕ) → get a q ≡ get b q) → a ≡ b
+  same_tables a b same = same_map nat_cmp_total nat_cmp-IsAntisymmetric a b same
+
+  pub get_inserted : (m : FinMap nat_cmp V) (k : ℕ) (v : V) → get (insert m k v) k ≡ Some v
+  get_inserted m k v = get-insert nat_cmp_total m k v k ∙ ap (λ b. cond b (Some v) (get m k)) (same_key k)
+
+  pub get_beside : (m : FinMap nat_cmp V) (k : ℕ) (v : V) (q : ℕ) → (q ≡ k → ⊥) → get (insert m k v) q ≡ get m q
+  get_beside m k v q other = elim (same_or_not q k) [
+    | inl is ↦ absurd (other is.0)
+    | inr is ↦ get-insert nat_cmp_total m k v q ∙ ap (λ b. cond b (Some v) (get m q)) is.1
+  ]
+
+  pub get_removed : (m : FinMap nat_cmp V) (k : ℕ) → get (remove m k) k ≡ None
+  get_removed m k = get-remove nat_cmp_total m k k ∙ ap (λ b. cond b None (get m k)) (same_key k)
+
+  pub get_left : (m : FinMap nat_cmp V) (k q : ℕ) → (q ≡ k → ⊥) → get (remove m k) q ≡ get m q
+  get_left m k q other = elim (same_or_not q k) [
+    | inl is ↦ absurd (other is.0)
+    | inr is ↦ get-remove nat_cmp_total m k q ∙ ap (λ b. cond b None (get m q)) is.1
+  ]
+
+  -- where something is found after an insert, it was put there or was there before
+  pub found_inserted : (m : FinMap nat_cmp V) (k : ℕ) (v : V) (q : ℕ) (w : V) → get (insert m k v) q ≡ Some w → ((q ≡ k) × (v ≡ w)) ⊎ ((q ≡ k → ⊥) × (get m q ≡ Some w))
+  found_inserted m k v q w e = elim (same_or_not q k) [
+    | inl is ↦ inl (is.0, (let here : Some v ≡ Some w = sym (get_inserted m k v) ∙ ap (get (insert m k v)) (sym is.0) ∙ e in cc))
+    | inr is ↦ inr (is.0, sym (get_beside m k v q is.0) ∙ e)
+  ]
+
+  -- where something is found after a removal, it was there before
+  pub found_left : (m : FinMap nat_cmp V) (k q : ℕ) (w : V) → get (remove m k) q ≡ Some w → (q ≡ k → ⊥) × (get m q ≡ Some w)
+  found_left m k q w e = elim (same_or_not q k) [
+    | inl is ↦ absurd (none_is_some w (get (remove m k) q) (ap (get (remove m k)) is.0 ∙ get_removed m k) e)
+    | inr is ↦ (is.0, sym (get_left m k q is.0) ∙ e)
+  ]
+
+  -- of two values put under a key the later one stands
+  pub insert_twice : (m : FinMap nat_cmp V) (k : ℕ) (v w : V) → insert (insert m k v) k w ≡ insert m k w
+  insert_twice m k v w = same_tables _ _ (λ q. elim (same_or_not q k) [
+    | inl is ↦ ap (get (insert (insert m k v) k w)) is.0 ∙ get_inserted (insert m k v) k w ∙ sym (get_inserted m k w) ∙ ap (get (insert m k w)) (sym is.0)
+    | inr is ↦ get_beside (insert m k v) k w q is.0 ∙ get_beside m k v q is.0 ∙ sym (get_beside m k w q is.0)
+  ])
+
+  -- values under two keys may be put in either order
+  pub insert_crossed : (m : FinMap nat_cmp V) (k : ℕ) (v : V) (j : ℕ) (w : V) → (j ≡ k → ⊥) → insert (insert m k v) j w ≡ insert (insert m j w) k v
+  insert_crossed m k v j w apart = same_tables _ _ (λ q. elim (same_or_not q j) [
+    | inl is ↦ ap (get (insert (insert m k v) j w)) is.0 ∙ get_inserted (insert m k v) j w
+        ∙ sym (ap (get (insert (insert m j w) k v)) is.0 ∙ get_beside (insert m j w) k v j apart ∙ get_inserted m j w)
+    | inr is ↦ get_beside (insert m k v) j w q is.0 ∙ elim (same_or_not q k) [
+      | inl at ↦ ap (get (insert m k v)) at.0 ∙ get_inserted m k v ∙ sym (ap (get (insert (insert m j w) k v)) at.0 ∙ get_inserted (insert m j w) k v)
+      | inr at ↦ get_beside m k v q at.0 ∙ sym (get_beside (insert m j w) k v q at.0 ∙ get_beside m j w q is.0)
+    ]
+  ])
+
+  -- what was put under a key that had nothing is taken away again
+  pub remove_inserted : (m : FinMap nat_cmp V) (k : ℕ) (v : V) → get m k ≡ None → remove (insert m k v) k ≡ m
+  remove_inserted m k v none = same_tables _ _ (λ q. elim (same_or_not q k) [
+    | inl is ↦ ap (get (remove (insert m k v) k)) is.0 ∙ get_removed (insert m k v) k ∙ sym none ∙ ap (get m) (sym is.0)
+    | inr is ↦ get_left (insert m k v) k q is.0 ∙ get_beside m k v q is.0
+  ])
+
+  -- a key is taken away before or after another one is put there
+  pub remove_crossed : (m : FinMap nat_cmp V) (k : ℕ) (v : V) (j : ℕ) → (j ≡ k → ⊥) → remove (insert m k v) j ≡ insert (remove m j) k v
+  remove_crossed m k v j apart = same_tables _ _ (λ q. elim (same_or_not q j) [
+    | inl is ↦ ap (get (remove (insert m k v) j)) is.0 ∙ get_removed (insert m k v) j
+        ∙ sym (ap (get (insert (remove m j) k v)) is.0 ∙ get_beside (remove m j) k v j apart ∙ get_removed m j)
+    | inr is ↦ get_left (insert m k v) j q is.0 ∙ elim (same_or_not q k) [
+      | inl at ↦ ap (get (insert m k v)) at.0 ∙ get_inserted m k v ∙ sym (ap (get (insert (remove m j) k v)) at.0 ∙ get_inserted (remove m j) k v)
+      | inr at ↦ get_beside m k v q at.0 ∙ sym (get_beside (remove m j) k v q at.0 ∙ get_left m j q is.0)
+    ]
+  ])
+
+  pub len_new : (m : FinMap nat_cmp V) (k : ℕ) (v : V) → get m k ≡ None → len (insert m k v) ≡ len m + 1
+  len_new m k v none = len-insert nat_cmp_total m k v ∙ ap (λ o. cond (is_some o) (len m) (len m + 1)) none
+
+  pub len_known : (m : FinMap nat_cmp V) (k : ℕ) (v w : V) → get m k ≡ Some w → len (insert m k v) ≡ len m
+  len_known m k v w there = len-insert nat_cmp_total m k v ∙ ap (λ o. cond (is_some o) (len m) (len m + 1)) there
+
+  pub len_less : (m : FinMap nat_cmp V) (k : ℕ) (w : V) → get m k ≡ Some w → len (remove m k) ≡ len m - 1
+  len_less m k w there = len-remove nat_cmp_total m k ∙ ap (λ o. cond (is_some o) (len m - 1) (len m)) there
