@@ -70,7 +70,7 @@ impl Peers {
     }
 
     /// Why no attempt towards the peer starts, but for want of memory.
-    fn start_refusal(&self, peer: &[u8; 32], seat: &Seat) -> Option<StartRefusal>
+    fn refusal_at(&self, peer: &[u8; 32], seat: &Seat) -> Option<StartRefusal>
         requires held { seat.now.held ≡ held_with self.now peer.now }
         requires known { is_some seat.now.place ≡ knows self.now peer.now }
         ensures { result ≡ start_refusal self.now peer.now }
@@ -92,6 +92,13 @@ impl Peers {
         }
     }
 
+    /// Why `start` would refuse this peer, but for want of memory; None exactly where it would not. It changes nothing and takes no memory.
+    pub fn start_refusal(&self, peer: &[u8; 32]) -> Option<StartRefusal>
+        ensures { result ≡ start_refusal self.now peer.now }
+    {
+        self.refusal_at(peer, &seat_of(&self.rows, peer))
+    }
+
     /// Starts an attempt towards the peer, whose near id and nonce are given; it gives Started, numbered one above the count.
     ///
     /// It takes memory only for the row of a peer that has none. Where it is refused, all is as before; `StartRefusal` has the reasons in their order.
@@ -104,7 +111,7 @@ impl Peers {
         ensures gave { IfOk result (λ fact. Gave self.old (fact ∷ []) self.new) }
     {
         let seat = seat_of(&self.rows, peer);
-        match self.start_refusal(peer, &seat) {
+        match self.refusal_at(peer, &seat) {
             Some(refusal) => return Err(refusal),
             None => {}
         }
@@ -144,6 +151,17 @@ impl Peers {
         } else {
             None
         }
+    }
+
+    /// Why `hear` would refuse this keying, but for want of memory; None exactly where it would not. It changes nothing and takes no memory.
+    pub fn hear_refusal(&self, keying: &Keying, free: bool) -> Option<HearRefusal>
+        ensures { result ≡ hear_refusal self.now keying.now free }
+    {
+        let seat = seat_of(&self.rows, &keying.peer);
+        if again(&seat.held, keying).is_some() {
+            return None;
+        }
+        self.birth_refusal(keying, &seat, free)
     }
 
     /// Hears a keying of a peer that isn't this end, whose near id and responder nonce for a session are given; `free` says whether there is a place for one.
