@@ -1,6 +1,6 @@
 -- A fragment joined to the runs beside it.
 use Rattle.std.proofs.Common.{◌≡◌, ℕ, zero, suc, ◌<◌, ◌≤◌, cond, Bool, true, false, List, [], ◌∷◌, ◌++◌, length, get_or, set, take, drop, refl, ap, sym, ◌∙◌, arith}
-use Rattle.std.specs.List.{remove}
+use Rattle.std.specs.List.{remove, insert}
 use Rattle.std.specs.Prelude.{Result, Ok, Err, OnOk}
 use Rattle.rtmfp_data_chunks.specs.declared.user_data.Part.{Part}
 use Rattle.rtmfp_data_chunks.specs.Runs.{Run, single, fits, joined}
@@ -109,3 +109,10 @@ pub any_default : {X : Type 0} (xs : List X) (at : ℕ) (d e : X) → at < lengt
 any_default [] at d e lt = absurd (omega arith)
 any_default (x ∷ xs) zero d e lt = refl
 any_default (x ∷ xs) (suc at) d e lt = any_default xs at d e (omega arith)
+
+-- what was taken out and not joined is put back
+pub back_is : (xs : List Run) (at : ℕ) (y z v : Run) → suc at < length xs → y ≡ get_or (remove xs (suc at)) at y → z ≡ get_or xs (suc at) z → v ≡ y → insert (set (remove xs (suc at)) at v) (suc at) z ≡ xs
+back_is [] at y z v lt e f g = absurd (omega arith)
+back_is (x ∷ []) at y z v lt e f g = absurd (omega arith)
+back_is (x ∷ w ∷ xs) zero y z v lt e f g = ap (λ (a : Run). a ∷ z ∷ xs) (g ∙ e) ∙ ap (λ (a : Run). x ∷ a ∷ xs) f
+back_is (x ∷ w ∷ xs) (suc at) y z v lt e f g = ap (λ zs. x ∷ zs) (back_is (w ∷ xs) at y z v (omega arith) e f g)

@@ -93,7 +93,7 @@ apart_add a b (s ∷ later) le h = elim (cases_lt (s.last + 1) a) [
 ]
 
 -- a number that is known lies above what all the spans lie above
-known_above : (low : ℕ) (ss : List Span) (n : ℕ) → ((t : Span) → IsIn t ss → low < t.first) → knows ss n ≡ true → low < n
+pub known_above : (low : ℕ) (ss : List Span) (n : ℕ) → ((t : Span) → IsIn t ss → low < t.first) → knows ss n ≡ true → low < n
 known_above low [] n h e = absurd cc
 known_above low (s ∷ later) n h e = elim (or_either (covers n s) (knows later n) e) [
   | inl a ↦ let b = h s (inl refl) in let c = both (nat_le s.first n) (nat_le n s.last) a in omega (arith, b, leb-true s.first n c.0)

@@ -11,3 +11,6 @@ pub mod Windows
 pub mod Beside
 pub mod Sounds
 pub mod Pairs
+pub mod Laying
+pub mod Searching
+pub mod Telling

@@ -82,3 +82,19 @@ not_beyond r c e = beyond_none (beyond_buffer r c) (after_none (after_final r c)
 pub formed_after : (r : Receiver) (c : Chunk) (s : Span) (above : List Span) → Formed r.spans → s ∷ above ≡ spans_after r c → Formed above
 formed_after r c s above formed e =
     let f : Formed (s ∷ above) = subst Formed (sym e) (formed_add c.seq c.seq (spans_forward r c) (omega arith) (formed_add 0 c.forward r.spans (omega arith) formed)) in f.1
+
+-- a fragment that is held has no more bytes than the buffer
+added_if : (r : Receiver) (c : Chunk) (t : Bool) → (c.abandon ≡ false → c.forward < c.seq) → beyond_buffer r c ≡ None → holds r c ≡ t → cond t (length c.bytes) 0 ≤ 3145728
+added_if r c true below none e =
+    let p = and_true c.abandon (lacks r.spans c.seq) e in
+    let lt = below p.0 in
+    let low = end_of_first (spans_forward r c) + 1 in
+    let held = held_in (runs_forward r c) in
+    let not_passes = passes_if (lacks r.spans c.seq) (nat_lt c.forward c.seq) (passes_buffer low held c) true held p.1 (lt-ltb c.forward c.seq lt) none in
+    let count : counted c ≡ length c.bytes = rw p.0 refl in
+    let within = within_if (c.seq == low) low held (counted c) c.seq not_passes in
+    let goal : length c.bytes ≤ 3145728 = omega (arith, within, count) in goal
+added_if r c false below none e = let goal : 0 ≤ 3145728 = omega arith in goal
+
+pub added_small : (r : Receiver) (c : Chunk) (added : ℕ) → (c.abandon ≡ false → c.forward < c.seq) → beyond_buffer r c ≡ None → added ≡ cond (holds r c) (length c.bytes) 0 → added ≤ 3145728
+added_small r c added below none e = omega (arith, e, added_if r c (holds r c) below none refl)

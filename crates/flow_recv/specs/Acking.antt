@@ -2,6 +2,7 @@
 use Rattle.std.specs.Prelude.{ℕ, ◌-◌, ◌/◌, if◌then◌else◌, nat_lt, List, [], ◌∷◌, ◌++◌, length}
 use Rattle.std.specs.Int.{to_be_bytes, w16}
 use Rattle.rtmfp_vlu.specs.Vlu.{vlu}
+use Rattle.rtmfp_data_chunks.specs.Acks.{PairsTell}
 use Rattle.flow_recv.specs.declared.spans.Span.{Span}
 use Rattle.flow_recv.specs.Receiver.{Receiver, held_in, through_in}
 
@@ -19,6 +20,12 @@ pairs_in room after [] = []
 pairs_in room after (s ∷ later) =
     if nat_lt room (length (pair_bytes after s)) then [] else pair_bytes after s ++ pairs_in (room - length (pair_bytes after s)) s.last later
 
+-- the stretches of these pairs, each by its first and its last number
+abbrev pub stretches_in : ℕ → ℕ → List Span → List (ℕ × ℕ)
+stretches_in room after [] = []
+stretches_in room after (s ∷ later) =
+    if nat_lt room (length (pair_bytes after s)) then [] else (s.first, s.last) ∷ stretches_in (room - length (pair_bytes after s)) s.last later
+
 abbrev pub later_spans : List Span → List Span
 later_spans [] = []
 later_spans (s ∷ later) = later
@@ -29,6 +36,11 @@ ack_head flow r = vlu flow ++ vlu (free_blocks (held_in r.runs)) ++ vlu (through
 
 abbrev pub ack_payload : ℕ → ℕ → Receiver → List ℕ
 ack_payload flow room r = ack_head flow r ++ pairs_in (room - length (ack_head flow r)) (through_in r) (later_spans r.spans)
+
+-- the pairs of an ack in so many bytes tell of the receiver's stretches above the first, as many of them as fit
+abbrev pub TellsStretches : ℕ → ℕ → Receiver → Type 0
+TellsStretches flow room r =
+    PairsTell (through_in r) (stretches_in (room - length (ack_head flow r)) (through_in r) (later_spans r.spans)) (pairs_in (room - length (ack_head flow r)) (through_in r) (later_spans r.spans))
 
 -- a chunk of type 0x51, its length, and a payload of at most so many bytes
 abbrev pub ack_bytes : ℕ → ℕ → Receiver → List ℕ

@@ -4,3 +4,4 @@ pub mod Acking
 pub mod Window
 pub mod Merging
 pub mod Sound
+pub mod Order

@@ -8,6 +8,7 @@ ghost use Rattle.flow_recv.specs.Acking.{pair_bytes, pairs_in};
 use crate::spans::Span;
 use rtmfp_forms::Outgoing;
 use rtmfp_vlu::vlu_len;
+use std::collections::VecDeque;
 
 /// The length of the pair of a span.
 fn pair_len(after: u64, here: Span) -> usize
@@ -30,9 +31,9 @@ fn put_pair(after: u64, here: Span, out: &mut Outgoing)
 }
 
 /// The length of as many pairs as fit into so many bytes.
-pub fn pairs_len(room: usize, through: u64, above: &[Span]) -> usize
-    requires { Apart (span 0 through ∷ above.now) }
-    ensures length { result ≡ length (pairs_in room through above.now) }
+pub fn pairs_len(room: usize, through: u64, above: &VecDeque<Span>) -> usize
+    requires { Apart (span 0 through ∷ above.now.items) }
+    ensures length { result ≡ length (pairs_in room through above.now.items) }
     ensures within { result ≤ room }
 {
     let mut left = room;
@@ -52,10 +53,10 @@ pub fn pairs_len(room: usize, through: u64, above: &[Span]) -> usize
 }
 
 /// Puts as many pairs at the end as fit into so many bytes, for which there is room.
-pub fn put_pairs(room: usize, through: u64, above: &[Span], out: &mut Outgoing)
-    requires apart { Apart (span 0 through ∷ above.now) }
+pub fn put_pairs(room: usize, through: u64, above: &VecDeque<Span>, out: &mut Outgoing)
+    requires apart { Apart (span 0 through ∷ above.now.items) }
     requires room { length out.old + room ≤ packet_limit }
-    ensures { out.new ≡ out.old ++ pairs_in room through above.now }
+    ensures { out.new ≡ out.old ++ pairs_in room through above.now.items }
 {
     let mut left = room;
     let mut after = through;

@@ -1,16 +1,17 @@
 //! The receiver of a flow.
 
-ghost use Rattle.std.specs.Prelude.{◌≡◌, ◌≢◌, ◌+◌, ◌-◌, ◌<◌, ◌≤◌, ◌∷◌, ◌++◌, ◌↔◌, ℕ, IfOk, IsOk, IsErr, OnOk, OnErr, IfErr, MatchOption, List, length, Some, None, Ok, Err, vec_len, false, true, ◌==◌, ◌^◌, ◌&&◌, ◌||◌, not, nat_lt, nat_le, max, if◌then◌else◌};
+ghost use Rattle.std.specs.Prelude.{◌≡◌, ◌≢◌, ◌+◌, ◌-◌, ◌<◌, ◌≤◌, ◌∷◌, ◌++◌, ◌↔◌, ℕ, IfOk, IsOk, IsErr, OnOk, OnErr, IfErr, MatchOption, List, length, Some, None, Ok, Err, false, true, ◌==◌, ◌^◌, ◌&&◌, ◌||◌, not, nat_lt, nat_le, max, if◌then◌else◌};
 ghost use Rattle.std.specs.List.{filter};
-ghost use Rattle.std.specs.Vec.{vec_capacity};
+ghost use Rattle.std.specs.VecDeque.{deque_len, deque_capacity};
 ghost use Rattle.std.specs.Option.{option_map};
 ghost use Rattle.rtmfp_data_chunks.specs.Runs.{single, message_of};
 ghost use Rattle.rtmfp_data_chunks.specs.Taken.{chunk_of};
 ghost use Rattle.flow_recv.specs.Receiver.{Receiver, Apart, fresh, span, lacks, living, held_in, after_last, passes_buffer, add_run, beyond_buffer, taken, next_run, handed_next, is_alive, is_beside};
-ghost use Rattle.flow_recv.specs.Acking.{free_blocks, ack_head, ack_bytes};
+ghost use Rattle.flow_recv.specs.Acking.{free_blocks, ack_head, ack_bytes, TellsStretches};
 ghost use Rattle.rtmfp_forms.specs.Outgoing.{packet_limit};
 ghost use Rattle.flow_recv.specs.Outcome.{refusal, took, message};
 ghost use Rattle.flow_recv.specs.Sound.{AllAlive, Sound};
+ghost use Rattle.flow_recv.specs.Order.{InOrder};
 
 use crate::acking::{pairs_len, put_pairs};
 use crate::outcome::{FlowRefusal, Took};
@@ -22,6 +23,7 @@ use rtmfp_data_chunks::UserData;
 use rtmfp_forms::{NoRoom, Outgoing};
 use rtmfp_vlu::vlu_len;
 use std::alloc::{AllocError, Global};
+use std::collections::VecDeque;
 use std::marker::Model;
 
 /// The first byte of the metadata of a flow whose messages are handed over as they arrive, an `a`.
@@ -34,8 +36,9 @@ pub struct FlowReceiver {
     alloc: Global,
     arriving: bool,
     through: u64,
-    above: Vec<Span>,
-    runs: Vec<HeldRun>,
+    above: VecDeque<Span>,
+    runs: VecDeque<HeldRun>,
+    held: u64,
     last: Option<u64>,
     highest: u64,
 }
@@ -43,13 +46,13 @@ pub struct FlowReceiver {
 impl Model for FlowReceiver {
     ghost use Rattle.std.specs.Prelude.{◌∷◌};
     ghost use Rattle.flow_recv.specs.Receiver.{Receiver, span};
-    ghost use Rattle.flow_recv.specs.Sound.{Sound};
+    ghost use Rattle.flow_recv.specs.Order.{Laid};
 
     ghost Value = { Receiver };
 
     ghost view = { λ r. record { arriving = r.arriving; spans = span 0 r.through ∷ r.above.items; runs = r.runs.items; last = r.last; highest = r.highest } };
 
-    ghost invariant = { λ r. Sound (record { arriving = r.arriving; spans = span 0 r.through ∷ r.above.items; runs = r.runs.items; last = r.last; highest = r.highest }) };
+    ghost invariant = { λ r. Laid (record { arriving = r.arriving; spans = span 0 r.through ∷ r.above.items; runs = r.runs.items; last = r.last; highest = r.highest }) r.held };
 }
 
 impl FlowReceiver {
@@ -61,8 +64,9 @@ impl FlowReceiver {
             alloc,
             arriving: first_metadata == ARRIVING,
             through: 0,
-            above: Vec::new(alloc),
-            runs: Vec::new(alloc),
+            above: VecDeque::new(alloc),
+            runs: VecDeque::new(alloc),
+            held: 0,
             last: None,
             highest: 0,
         }
@@ -90,7 +94,15 @@ impl FlowReceiver {
         }
         let near = chunk.forward <= self.through;
         self.through = mark(self.through, &mut self.above, chunk.forward, chunk.seq);
-        drop_after(&mut self.runs, near, chunk.seq, self.through, &self.above);
+        let held = self.held + added_by(missing, chunk);
+        self.held = drop_after(
+            &mut self.runs,
+            held,
+            near,
+            chunk.seq,
+            self.through,
+            &self.above,
+        );
         self.last = last_after(self.last, chunk);
         self.highest = chunk.seq.max(self.highest);
         Ok(took_by(missing, chunk))
@@ -104,10 +116,10 @@ impl FlowReceiver {
         ensures no_memory { IsOk result }
     {
         let at = ready_at(&self.runs, self.arriving, self.through);
-        if at == self.runs.len() {
+        let Some(run) = self.runs.remove(at) else {
             return Ok(None);
-        }
-        let run = self.runs.remove(at);
+        };
+        self.held -= run.len() as u64;
         let number = run.first();
         Ok(Some((number, Message::of(run.into_bytes()))))
     }
@@ -118,7 +130,10 @@ impl FlowReceiver {
         ensures ok { OnOk result (out.new ≡ out.old ++ ack_bytes flow (packet_limit - length out.old - 3) self.now) }
         ensures no_room { IsErr result ↔ (packet_limit < length out.old + 3 + length (ack_head flow self.now)) }
         ensures err { OnErr result (out.new ≡ out.old) }
+        // What is put reads back as the receiver's stretches.
+        ensures tells { TellsStretches flow (packet_limit - length out.old - 3) self.now }
     {
+        let _highest = self.highest;
         let blocks = self.free_blocks();
         let head = vlu_len(flow) + vlu_len(blocks) + vlu_len(self.through);
         if out.room() < head + 3 {
@@ -139,7 +154,7 @@ impl FlowReceiver {
     fn free_blocks(&self) -> u64
         ensures { result ≡ free_blocks (held_in self.now.runs) }
     {
-        2_097_152u64.saturating_sub(bytes_in(&self.runs)) / 1024
+        2_097_152u64.saturating_sub(self.held) / 1024
     }
 
     /// The refusal of a chunk that isn't want of memory.
@@ -160,7 +175,13 @@ impl FlowReceiver {
         ensures { result ≡ beyond_buffer self.now (chunk_of chunk.now) }
     {
         let lowest = u128::from(raised(self.through, &self.above, chunk.forward)) + 1;
-        let held = held_after(&self.runs, self.through, &self.above, chunk.forward);
+        let held = held_after(
+            &self.runs,
+            self.held,
+            self.through,
+            &self.above,
+            chunk.forward,
+        );
         let missing = lacks(self.through, &self.above, u128::from(chunk.seq));
         let passes = passes_buffer(lowest, held, chunk);
         if_tested(missing, chunk, passes, held)
@@ -168,38 +189,71 @@ impl FlowReceiver {
 }
 
 /// The bytes held as if a forward number were taken.
-fn held_after(runs: &[HeldRun], through: u64, above: &[Span], forward: u64) -> u64
-    requires few { held_in runs.now < 2 ^ 32 }
-    requires alive { AllAlive (span 0 through ∷ above.now) runs.now }
-    ensures { result ≡ held_in (living (span 0 (max through forward) ∷ above.now) runs.now) }
+fn held_after(
+    runs: &VecDeque<HeldRun>,
+    held: u64,
+    through: u64,
+    above: &VecDeque<Span>,
+    forward: u64,
+) -> u64
+    requires held { held ≡ held_in runs.now.items }
+    requires few { held_in runs.now.items < 2 ^ 32 }
+    requires apart { Apart above.now.items }
+    requires alive { AllAlive (span 0 through ∷ above.now.items) runs.now.items }
+    ensures { result ≡ held_in (living (span 0 (max through forward) ∷ above.now.items) runs.now.items) }
 {
     if forward <= through {
-        return bytes_in(runs);
+        return held;
     }
     living_bytes(runs, forward, above)
 }
 
 /// Drops the runs that can't become messages any more after a chunk, near where only those beside it can be such.
-fn drop_after(runs: &mut Vec<HeldRun>, near: bool, number: u64, through: u64, above: &[Span])
-    ensures { runs.new.items ≡ (if near then filter (λ y. not (is_beside number y) || is_alive (span 0 through ∷ above.now) y) runs.old.items else living (span 0 through ∷ above.now) runs.old.items) }
+/// The answer is how many bytes the others hold.
+fn drop_after(
+    runs: &mut VecDeque<HeldRun>,
+    held: u64,
+    near: bool,
+    number: u64,
+    through: u64,
+    above: &VecDeque<Span>,
+) -> u64
+    requires apart { Apart above.now.items }
+    requires order { InOrder 0 runs.old.items }
+    requires held { held ≡ held_in runs.old.items }
+    requires few { held_in runs.old.items < 2 ^ 32 }
+    ensures kept { runs.new.items ≡ (if near then filter (λ y. not (is_beside number y) || is_alive (span 0 through ∷ above.now.items) y) runs.old.items else living (span 0 through ∷ above.now.items) runs.old.items) }
+    ensures held { result ≡ held_in runs.new.items }
 {
     if near {
-        drop_dead_beside(runs, number, through, above);
+        return held - drop_dead_beside(runs, number, through, above);
+    }
+    drop_dead(runs, through, above);
+    bytes_in(runs)
+}
+
+/// How many bytes a chunk adds, where its number is missing.
+fn added_by(missing: bool, chunk: &UserData<'_>) -> u64
+    ensures { result ≡ (if not chunk.now.abandon && missing then length chunk.now.bytes.now else 0) }
+{
+    if !chunk.abandon && missing {
+        chunk.bytes.len() as u64
     } else {
-        drop_dead(runs, through, above);
+        0
     }
 }
 
 /// Makes room for one more span where a number is missing, and holds its fragment where the chunk has no abandon.
 fn hold(
     alloc: Global,
-    above: &mut Vec<Span>,
-    runs: &mut Vec<HeldRun>,
+    above: &mut VecDeque<Span>,
+    runs: &mut VecDeque<HeldRun>,
     missing: bool,
     chunk: &UserData<'_>,
 ) -> Result<(), AllocError>
+    requires { InOrder 0 runs.old.items }
     ensures spans { above.new.items ≡ above.old.items }
-    ensures room { OnOk result (missing ≡ true → vec_len above.new < vec_capacity above.new) }
+    ensures room { OnOk result (missing ≡ true → deque_len above.new < deque_capacity above.new) }
     ensures held { OnOk result (runs.new.items ≡ (if not chunk.now.abandon && missing then add_run (single chunk.now.seq chunk.now.part chunk.now.bytes.now) runs.old.items else runs.old.items)) }
     ensures unchanged { OnErr result (runs.new.items ≡ runs.old.items) }
     ensures quiet { missing ≡ false → IsOk result }

@@ -3,11 +3,12 @@
 ghost use Rattle.std.specs.Prelude.{◌≡◌, ◌+◌, ◌<◌, ◌≤◌, ◌^◌, ◌∷◌, [], IfOk, OnOk, OnErr, List, ◌++◌, length, nat_lt, ◌||◌};
 ghost use Rattle.rtmfp_data_chunks.specs.Runs.{fits, joined, single, is_whole, has_front, has_rear};
 ghost use Rattle.flow_recv.specs.Merging.{over};
-ghost use Rattle.flow_recv.specs.Receiver.{is_alive, is_beside, span, lacks, hands};
+ghost use Rattle.flow_recv.specs.Receiver.{Apart, is_alive, is_beside, span, lacks, hands};
 
 use crate::spans::{Span, lacks};
 use rtmfp_data_chunks::Part;
 use std::alloc::{AllocError, Global};
+use std::collections::VecDeque;
 use std::marker::Model;
 
 /// A run with its bytes. It has its front where its first fragment begins a message, its rear where its last one
@@ -136,6 +137,13 @@ impl HeldRun {
         self.last < number
     }
 
+    /// Whether another number lies between it and a number.
+    pub fn is_far_before(&self, number: u64) -> bool
+        ensures { result ≡ nat_lt (self.now.last + 1) number }
+    {
+        self.last < number && number - self.last > 1
+    }
+
     /// Whether it is a whole message.
     fn is_whole(&self) -> bool
         ensures { result ≡ is_whole self.now }
@@ -177,8 +185,9 @@ impl HeldRun {
     }
 
     /// Whether it can still become a message: at an end that it lacks the next number is missing.
-    pub fn is_alive(&self, through: u64, above: &[Span]) -> bool
-        ensures { result ≡ is_alive (span 0 through ∷ above.now) self.now }
+    pub fn is_alive(&self, through: u64, above: &VecDeque<Span>) -> bool
+        requires { Apart above.now.items }
+        ensures { result ≡ is_alive (span 0 through ∷ above.now.items) self.now }
     {
         (self.front || lacks(through, above, u128::from(self.first.saturating_sub(1))))
             && (self.rear || lacks(through, above, u128::from(self.last) + 1))

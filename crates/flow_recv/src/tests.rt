@@ -4,6 +4,7 @@ use super::*;
 use rtmfp_base::Memory;
 use rtmfp_data_chunks::{Part, UserData};
 use rtmfp_forms::{NoRoom, Outgoing};
+use std::alloc::AllocError;
 
 /// A fragment of the flow whose forward number is 0. Number 0 is none.
 fn fragment(seq: u64, part: Part, bytes: &[u8]) -> UserData<'_>
@@ -124,10 +125,13 @@ fn the_buffer_takes_this_much(rt: HostRuntime) -> Result<(), Memory> {
             "number {seq}"
         );
     }
-    assert_eq!(rt;
-        flow.take(&fragment(1, Part::Whole, bytes.as_slice())),
-        Ok(Took::New)
-    );
+    bytes.push(0x55).map_err(AllocError::from)?;
+    for (part, want) in [
+        (bytes.as_slice(), Err(FlowRefusal::BeyondBuffer(2_097_152))),
+        (&bytes[1..], Ok(Took::New)),
+    ] {
+        assert_eq!(rt; flow.take(&fragment(1, Part::Whole, part)), want);
+    }
     Ok(())
 }
 

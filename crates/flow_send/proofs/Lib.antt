@@ -2,6 +2,7 @@ pub mod Between
 pub mod Summing
 pub mod Numbered
 pub mod Keeping
+pub mod Fronts
 pub mod Steadies
 pub mod Lining
 pub mod Sendings

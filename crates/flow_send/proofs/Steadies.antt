@@ -14,6 +14,7 @@ use Rattle.flow_send.specs.Sender.{Sender, new_sender, next_of, with_rows, bytes
 use Rattle.flow_send.specs.Choice.{Choice, Nothing, Send, Notify, first_in, or_else, is_quiet, next_choice, within_limit, choice_bytes, choice, count_up, sent_row, put_at, sent_after}
 use Rattle.flow_send.specs.Acks.{Told, in_range, tells, greatest, acknowledge, acknowledge_row, is_third, count_ack, last_place, rows_acknowledged, rows_told, still_waits, told_by}
 use Rattle.flow_send.specs.Steady.{is_fresh, RowOk, AllOk, Line, AllWait, line_end, end_of, IsLast, Steady}
+use Rattle.flow_send.proofs.Fronts.{front_dropped, front_append, news_front, front_map, front_put}
 use Rattle.flow_send.proofs.Numbered.{map_length, map_is}
 use Rattle.flow_send.proofs.Keeping.{ok_map, ok_append, ok_drop, waits_map, waits_settle, all_wait_by, all_wait_filter, all_wait_append, all_wait_push, waits_later, line_push, line_filter, line_without, line_inside_at, sum_filter, sum_without, front_fits}
 
@@ -37,6 +38,7 @@ settled_steady s rows waiting k e ok line waits bytes fragments =
       last = subst (λ (i : ℕ). IsLast s.finish i) (sym (next_with rows waiting s e)) k.last;
       below = omega (arith, next_with rows waiting s e, k.below);
       rows = subst (λ (i : ℕ). AllOk s.sent i (drop d rows)) n (ok_drop s.sent (s.forward + 1) d rows ok);
+      front = front_dropped rows;
       line = subst (λ (i : ℕ). Line 0 i waiting) (sym (end_with rows waiting s e)) line;
       waits = subst (λ (i : ℕ). AllWait i (drop d rows) waiting) n (all_wait_by (s.forward + 1) (s.forward + 1 + d) rows (drop d rows) waiting (λ w. sym (waits_settle (s.forward + 1) rows w)) waits);
     }
@@ -50,6 +52,7 @@ steady_new first one fits = record {
   last = tt;
   below = omega arith;
   rows = tt;
+  front = refl;
   line = let e : 0 ≤ first - 1 + 1 + 0 = omega arith in e;
   waits = tt;
 }
@@ -99,6 +102,7 @@ steady_queued s bytes options k none few short room =
       last = subst (λ (o : Option ℕ). IsLast o (next_of (queued m options s))) (sym none) tt;
       below = omega (arith, next, k.below);
       rows = ok_append s.sent (s.forward + 1) s.rows more k.rows (news_ok s.sent m (next_of s) count k.below);
+      front = front_append s.rows more k.front (news_front m m.number count);
       line = subst (λ (i : ℕ). Line 0 i (s.waiting ++ w ∷ [])) (sym end) (line_push 0 (next_of s) (next_of s + count) s.waiting w line refl (some_fragments (length bytes)) refl);
       waits = all_wait_push (s.forward + 1) (s.rows ++ more) s.waiting w (all_wait_append (s.forward + 1) s.rows more s.waiting k.waits)
           (waits_later (s.forward + 1) s.rows more w (waits_new_if (next_of s) count m w refl (some_fragments (length bytes)) (some_fragments (length bytes))));
@@ -117,6 +121,7 @@ steady_finished s k none room =
       last = next;
       below = omega (arith, next, k.below);
       rows = ok_append s.sent (s.forward + 1) s.rows (one ∷ []) k.rows (record { old = λ le. absurd (omega (arith, le, k.below)); fresh = λ l. refl; empty = λ e. absurd cc }, tt);
+      front = front_append s.rows (one ∷ []) k.front refl;
       line = subst (λ (i : ℕ). Line 0 i s.waiting) old k.line;
       waits = all_wait_append (s.forward + 1) s.rows (one ∷ []) s.waiting k.waits;
     }
@@ -134,6 +139,7 @@ kept_steady s g k ok same =
       last = subst (λ (i : ℕ). IsLast s.finish i) (sym next) k.last;
       below = omega (arith, next, k.below);
       rows = ok_map s.sent (s.forward + 1) g s.rows ok k.rows;
+      front = front_map g (s.forward + 1) s.rows same k.front;
       line = subst (λ (i : ℕ). Line 0 i s.waiting) (sym end) k.line;
       waits = all_wait_by (s.forward + 1) (s.forward + 1) s.rows (map_rows g (s.forward + 1) s.rows) s.waiting (λ w. waits_map g (s.forward + 1) s.rows w (λ i r le e. same i r)) k.waits;
     }
@@ -349,6 +355,7 @@ sent_steady_by test s n moment r k h o e =
       last = subst (λ (i : ℕ). IsLast s.finish i) (sym next) k.last;
       below = omega (arith, next, k.below, low.1);
       rows = sent_all test s.sent at n moment (count_up 64 s.order) r s.rows h k.rows e;
+      front = front_put n at new s.rows refl k.front;
       line = subst (λ (i : ℕ). Line 0 i s.waiting) (sym end) k.line;
       waits = all_wait_by at at s.rows rows s.waiting (λ w. waits_sent test at n new r s.rows w (sym o) e) k.waits;
     }
@@ -361,6 +368,7 @@ notify_steady s moment k = record {
   last = k.last;
   below = omega (arith, k.below);
   rows = raise_all s.sent s.forward (s.forward + 1) s.rows (omega arith) k.rows;
+  front = k.front;
   line = k.line;
   waits = k.waits;
 }
@@ -472,4 +480,4 @@ steady_told s a k le =
     let keep = still_waits at rows in
     let t = settled_steady s rows (filter keep s.waiting) k (told_length a s) (told_ok a s k le) (line_filter 0 (end_of s) keep s.waiting k.line) (all_wait_filter at rows s.waiting)
     (sum_filter (λ (w : Waiting). w.size) keep s.waiting) (sum_filter (λ (w : Waiting). w.count) keep s.waiting) in
-    record { bytes = t.bytes; fragments = t.fragments; numbers = t.numbers; last = t.last; below = t.below; rows = t.rows; line = t.line; waits = t.waits }
+    record { bytes = t.bytes; fragments = t.fragments; numbers = t.numbers; last = t.last; below = t.below; rows = t.rows; front = t.front; line = t.line; waits = t.waits }

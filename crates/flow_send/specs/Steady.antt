@@ -2,7 +2,7 @@
 use Rattle.std.specs.Prelude.{ℕ, ◌≡◌, ◌+◌, ◌^◌, ◌<◌, ◌≤◌, Bool, true, false, ◌||◌, List, [], ◌∷◌, Option, Some, None, length}
 use Rattle.flow_send.specs.declared.state.State.{State}
 use Rattle.flow_send.specs.declared.waiting.Waiting.{Waiting}
-use Rattle.flow_send.specs.Rows.{Row, is_unsent, is_abandoned}
+use Rattle.flow_send.specs.Rows.{Row, is_unsent, is_abandoned, front_settled}
 use Rattle.flow_send.specs.Sender.{Sender, next_of, bytes_held, fragments_held}
 use Rattle.flow_send.specs.Acks.{still_waits}
 
@@ -43,6 +43,10 @@ abbrev pub IsLast : Option ℕ → ℕ → Type 0
 IsLast None next = Unit {0}
 IsLast (Some n) next = next ≡ n + 1
 
+-- the forward number is the greatest one at or below which all is settled: the number after it isn't, or isn't given yet
+abbrev pub IsGreatest : Sender → Type 0
+IsGreatest s = front_settled s.rows ≡ false
+
 -- it holds at most 2,097,152 bytes and 65,536 fragments of messages that wait
 pub record Steady (s : Sender) : Type 0 where
   pub bytes : bytes_held s ≤ 2097152
@@ -51,6 +55,7 @@ pub record Steady (s : Sender) : Type 0 where
   pub last : IsLast s.finish (next_of s)
   pub below : s.sent < next_of s
   pub rows : AllOk s.sent (s.forward + 1) s.rows
+  pub front : IsGreatest s
   pub line : Line 0 (end_of s) s.waiting
   pub waits : AllWait (s.forward + 1) s.rows s.waiting
 

@@ -2,6 +2,7 @@
 
 ghost use Rattle.std.specs.Prelude.{◌≡◌, ◌+◌, ◌-◌, ◌<◌, ◌≤◌, ◌^◌, ◌∷◌, ◌++◌, [], OnOk, OnErr, List, length, slice_get, slice_index_or, Some, None};
 ghost use Rattle.std.specs.List.{sum_by, filter, remove};
+ghost use Rattle.std.specs.VecDeque.{deque_len};
 ghost use Rattle.flow_send.specs.Sender.{message_at, without_message, first_number, is_past, is_spent, is_overdue, first_overdue};
 ghost use Rattle.flow_send.specs.Acks.{still_waits};
 ghost use Rattle.flow_send.specs.Steady.{Line, Late};
@@ -11,6 +12,19 @@ use crate::waiting::Waiting;
 use std::alloc::{AllocError, Global};
 use std::collections::VecDeque;
 use std::marker::Model;
+
+/// Takes away the message at a place. Those before it move up, of which there are few where messages are acknowledged.
+fn take_out(messages: &mut VecDeque<Waiting>, at: usize)
+    requires { at < deque_len messages.old }
+    ensures { messages.new.items ≡ remove messages.old.items at }
+{
+    let mut hole = at;
+    while hole > 0 {
+        messages[hole] = messages[hole - 1];
+        hole -= 1;
+    }
+    let _ = messages.pop_front();
+}
 
 /// The messages that wait, with the sums of their bytes and fragments. Contracts see them as their list.
 #[derive(Drop)]
@@ -90,10 +104,13 @@ impl Backlog {
     fn remove_at(&mut self, at: usize)
         ensures { self.new ≡ remove self.old at }
     {
-        if let Some(message) = self.messages.remove(at) {
-            self.bytes -= message.size;
-            self.fragments -= message.count;
+        if at >= self.messages.len() {
+            return;
         }
+        let message = self.messages[at];
+        take_out(&mut self.messages, at);
+        self.bytes -= message.size;
+        self.fragments -= message.count;
     }
 
     /// The message that begins at a number.

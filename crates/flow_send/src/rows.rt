@@ -129,6 +129,9 @@ impl Rows {
         ensures rows { self.new.rows ≡ slice_set self.old.rows at (acknowledge_row (row_at self.old.rows at)) }
         ensures room { self.new.room ≡ self.old.room }
     {
+        if self.rows[at].state().is_acknowledged() {
+            return;
+        }
         let row = &mut self.rows[at];
         let before = row.totals();
         row.acknowledge();
@@ -170,6 +173,9 @@ impl Rows {
         ensures rows { self.new.rows ≡ slice_set self.old.rows at (count_ack place (row_at self.old.rows at)) }
         ensures room { self.new.room ≡ self.old.room }
     {
+        if !self.rows[at].state().is_flying() {
+            return;
+        }
         let row = &mut self.rows[at];
         let before = row.totals();
         row.count_ack(place);
@@ -205,6 +211,9 @@ impl Rows {
         ensures rows { self.new.rows ≡ slice_set self.old.rows at (lost_if_late moment resend_after (row_at self.old.rows at)) }
         ensures room { self.new.room ≡ self.old.room }
     {
+        if !self.rows[at].is_late(moment, resend_after) {
+            return;
+        }
         let row = &mut self.rows[at];
         let before = row.totals();
         row.lose_if_late(moment, resend_after);

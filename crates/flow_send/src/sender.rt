@@ -8,7 +8,7 @@ ghost use Rattle.rtmfp_data_chunks.specs.Taken.{chunk_of};
 ghost use Rattle.flow_send.specs.Rows.{any_row, in_flight};
 ghost use Rattle.flow_send.specs.Sender.{Sender, new_sender, next_of, queued, waits, abandoned, abandoned_if, first_number, overdue, finish_by, lost_late, is_late};
 ghost use Rattle.flow_send.specs.Acks.{told, beyond, new_bytes, makes_lost, told_by};
-ghost use Rattle.flow_send.specs.Steady.{Steady};
+ghost use Rattle.flow_send.specs.Steady.{Steady, IsGreatest};
 ghost use Rattle.flow_send.specs.Choice.{Nothing, Notify, choice, next_choice, notice_due, choice_bytes, chunk_for, within_limit, is_quiet, sent_after};
 ghost use Rattle.flow_send.specs.Picked.{picked, picked_if, IsThere};
 ghost use Rattle.flow_send.specs.Flow.{Flow, flow_options, with_sender, is_finished, queue_refusal, next_message, data_length, chunk_options, chunk_refusal};
@@ -213,7 +213,9 @@ impl FlowSender {
 
     /// The bytes in flight.
     pub fn flight(&self) -> u64
-        ensures { result ≡ in_flight self.now.sender.rows }
+        ensures bytes { result ≡ in_flight self.now.sender.rows }
+        // So at any moment the forward number is the greatest one at or below which all is acknowledged or abandoned.
+        ensures forward { IsGreatest self.now.sender }
     {
         self.rows.flight()
     }

@@ -1,7 +1,7 @@
 //! What becomes of a number.
 
 ghost use Rattle.std.specs.Prelude.{◌≡◌};
-ghost use Rattle.flow_send.specs.Rows.{is_settled};
+ghost use Rattle.flow_send.specs.Rows.{is_settled, is_acknowledged, is_flying};
 
 /// What became of a number.
 #[derive(Clone, Copy, Debug, PartialEq, Eq)]
@@ -17,6 +17,24 @@ pub enum State {
 }
 
 impl State {
+    pub fn is_acknowledged(self) -> bool
+        ensures { result ≡ is_acknowledged self }
+    {
+        match self {
+            State::Acknowledged => true,
+            State::Unsent | State::Flying | State::Lost | State::Abandoned => false,
+        }
+    }
+
+    pub fn is_flying(self) -> bool
+        ensures { result ≡ is_flying self }
+    {
+        match self {
+            State::Flying => true,
+            State::Unsent | State::Lost | State::Acknowledged | State::Abandoned => false,
+        }
+    }
+
     /// Whether it needs no sending any more.
     pub fn is_settled(self) -> bool
         ensures { result ≡ is_settled self }

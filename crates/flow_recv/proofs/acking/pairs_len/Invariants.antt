@@ -5,9 +5,9 @@ use Rattle.flow_recv.proofs.acking.pairs_len.Given as goal
 
 abbrev pub invariant-loop-at : goal.invariant-loop-at
 invariant-loop-at l =
-    Apart (span 0 l.after ∷ drop l.at l.above)
+    Apart (span 0 l.after ∷ drop l.at l.above.items)
     × (l.left ≤ l.room)
-    × (l.room - l.left + length (pairs_in l.left l.after (drop l.at l.above)) ≡ length (pairs_in l.room l.through l.above))
+    × (l.room - l.left + length (pairs_in l.left l.after (drop l.at l.above.items)) ≡ length (pairs_in l.room l.through l.above.items))
 
 abbrev pub decreases-loop-at : goal.decreases-loop-at
-decreases-loop-at l = length l.above - l.at
+decreases-loop-at l = length l.above.items - l.at

@@ -6,9 +6,9 @@ use Rattle.flow_recv.proofs.acking.put_pairs.Given as goal
 
 abbrev pub invariant-loop-at : goal.invariant-loop-at
 invariant-loop-at l =
-    Apart (span 0 l.after ∷ drop l.at l.above)
+    Apart (span 0 l.after ∷ drop l.at l.above.items)
     × (length l.out + l.left ≤ packet_limit)
-    × (l.out ++ pairs_in l.left l.after (drop l.at l.above) ≡ l.fn.out ++ pairs_in l.room l.through l.above)
+    × (l.out ++ pairs_in l.left l.after (drop l.at l.above.items) ≡ l.fn.out ++ pairs_in l.room l.through l.above.items)
 
 abbrev pub decreases-loop-at : goal.decreases-loop-at
-decreases-loop-at l = length l.above - l.at
+decreases-loop-at l = length l.above.items - l.at

@@ -1,4 +1,4 @@
-use Rattle.std.proofs.Common.{◌≡◌, ◌+◌, ◌<◌, suc, List, [], length, get_or, set, drop, true, false, ap, sym, ◌∙◌, arith}
+use Rattle.std.proofs.Common.{◌≡◌, ◌+◌, ◌<◌, suc, [], length, get_or, set, drop, true, false, ap, sym, ◌∙◌, arith}
 use Rattle.rtmfp_data_chunks.specs.Runs.{Run, single, fits}
 use Rattle.flow_recv.specs.Receiver.{fits_first}
 use Rattle.flow_recv.proofs.Joining.{append_is, any_default, on_ok}
@@ -16,5 +16,5 @@ returns-clause-joined c =
     let e : y ≡ get_or xs at bare = c.index_mut.ensures.value ∙ any_default xs at y bare lt in
     let f : fits y bare ≡ true = ap (λ (a : Run). fits a bare) e ∙ c.requires.fits in
     let none : fits_first bare (drop (suc at) xs) ≡ false =
-    ap (λ i. fits_first bare (drop i xs)) (sym n) ∙ (ap (λ (zs : List Run). fits_first bare (drop (at + 1) zs)) (sym c.deref.ensures.value) ∙ (sym c.next_fits.ensures ∙ c.if-next_fits.false)) in
+    ap (λ i. fits_first bare (drop i xs)) (sym n) ∙ (sym c.next_fits.ensures ∙ c.if-next_fits.false) in
     on_ok c.append.result (λ j. ap (λ (v : Run). set xs at v) j ∙ append_is xs at c.args.number c.args.part c.args.bytes.now y y lt c.index_mut.ensures.value f none) c.append.ensures.joined

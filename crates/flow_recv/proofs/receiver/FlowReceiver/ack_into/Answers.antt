@@ -1,18 +1,19 @@
-use Rattle.std.proofs.Common.{◌≡◌, ◌+◌, ◌-◌, List, ℕ, [], ◌∷◌, ◌++◌, length, ap, sym, ◌∙◌, subst, arith, length-append}
+use Rattle.std.proofs.Common.{◌<◌, ◌^◌, ◌≡◌, ◌+◌, ◌-◌, List, ℕ, [], ◌∷◌, ◌++◌, length, ap, sym, ◌∙◌, subst, arith, length-append}
 use Rattle.rtmfp_vlu.specs.Vlu.{vlu}
 use Rattle.std.specs.Int.{to_be_bytes, w16}
 use Rattle.rtmfp_forms.specs.Outgoing.{packet_limit}
-use Rattle.flow_recv.specs.declared.spans.Span.{Span}
-use Rattle.flow_recv.specs.Receiver.{Receiver, Apart, span, held_in}
-use Rattle.flow_recv.specs.Acking.{free_blocks, pairs_in, ack_head, ack_payload, ack_bytes}
+use Rattle.flow_recv.specs.Receiver.{Receiver, span, held_in}
+use Rattle.flow_recv.specs.Acking.{free_blocks, pairs_in, ack_head, ack_payload, ack_bytes, TellsStretches}
 use Rattle.flow_recv.proofs.receiver.FlowReceiver.ack_into.Goals as goal
+use Rattle.flow_recv.proofs.Knowing.{apart_formed}
+use Rattle.flow_recv.proofs.Telling.{pairs_tell, all_fit}
 use Rattle.flow_recv.proofs.Pairs.{pieces}
 
 pub pairs_len-requires : goal.pairs_len-requires
-pairs_len-requires c = subst (λ (l : List Span). Apart (span 0 c.self.inside.through ∷ l)) (sym c.deref.ensures.value) c.self.invariant.apart
+pairs_len-requires c = c.self.invariant.sound.apart
 
 pub put_pairs-requires-clause-apart : goal.put_pairs-requires-clause-apart
-put_pairs-requires-clause-apart c = subst (λ (l : List Span). Apart (span 0 c.self.inside.through ∷ l)) (sym c.deref-2.ensures.value) c.self.invariant.apart
+put_pairs-requires-clause-apart c = c.self.invariant.sound.apart
 
 pub returns-clause-ok : goal.returns-clause-ok
 returns-clause-ok c =
@@ -28,13 +29,13 @@ returns-clause-ok c =
     let first : c.append_vlu-3.new.self ≡ ((((o ++ 81 ∷ []) ++ l) ++ vlu flow) ++ vlu c.free_blocks-blocks.result) ++ vlu i.through =
     c.append_vlu-3.ensures ∙ ap (λ (x : List ℕ). x ++ vlu i.through) (c.append_vlu-2.ensures ∙ ap (λ (x : List ℕ). x ++ vlu c.free_blocks-blocks.result) (c.append_vlu.ensures ∙ ap (λ (x : List ℕ). x ++ vlu flow) (c.append-2.ensures ∙ ap (λ (x : List ℕ). x ++ l) c.append.ensures))) in
     let put : c.put_pairs.new.out ≡ (((((o ++ 81 ∷ []) ++ l) ++ vlu flow) ++ vlu c.free_blocks-blocks.result) ++ vlu i.through) ++ q =
-    c.put_pairs.ensures ∙ (ap (λ (s : List Span). c.append_vlu-3.new.self ++ pairs_in room i.through s) c.deref-2.ensures.value ∙ ap (λ (x : List ℕ). x ++ q) first) in
+    c.put_pairs.ensures ∙ ap (λ (x : List ℕ). x ++ q) first in
     let same : vlu c.free_blocks-blocks.result ≡ vlu (free_blocks (held_in i.runs.items)) = ap vlu blocks in
     let long : head ≡ length (ack_head flow r) = omega (arith, c.vlu_len.ensures.length, c.vlu_len-2.ensures.length, c.vlu_len-3.ensures.length, ap (λ (x : List ℕ). length x) same, length-append (vlu flow ++ vlu (free_blocks (held_in i.runs.items))) (vlu i.through), length-append (vlu flow) (vlu (free_blocks (held_in i.runs.items)))) in
     let left : room ≡ packet_limit - length o - 3 - length (ack_head flow r) = omega (arith, long, c.room-2.ensures) in
     let fit : q ≡ pairs_in (packet_limit - length o - 3 - length (ack_head flow r)) i.through i.above.items = ap (λ n. pairs_in n i.through i.above.items) left in
     let found : c.pairs_len.result ≡ length (pairs_in (packet_limit - length o - 3 - length (ack_head flow r)) i.through i.above.items) =
-    c.pairs_len.ensures.length ∙ (ap (λ (s : List Span). length (pairs_in room i.through s)) c.deref.ensures.value ∙ ap (λ (x : List ℕ). length x) fit) in
+    c.pairs_len.ensures.length ∙ ap (λ (x : List ℕ). length x) fit in
     let payload : List ℕ = ack_payload flow (packet_limit - length o - 3) r in
     let count : head + c.pairs_len.result ≡ length payload = omega (arith, long, found, length-append (ack_head flow r) (pairs_in (packet_limit - length o - 3 - length (ack_head flow r)) i.through i.above.items)) in
     let size : l ≡ to_be_bytes w16 (length payload) = c.to_be_bytes.ensures ∙ ap (to_be_bytes w16) count in
@@ -43,3 +44,23 @@ returns-clause-ok c =
     ∙ (ap (λ (x : List ℕ). o ++ (81 ∷ (x ++ (((vlu flow ++ vlu c.free_blocks-blocks.result) ++ vlu i.through) ++ q)))) size
     ∙ (ap (λ (x : List ℕ). o ++ (81 ∷ (to_be_bytes w16 (length payload) ++ (((vlu flow ++ x) ++ vlu i.through) ++ q)))) same
     ∙ ap (λ (x : List ℕ). o ++ (81 ∷ (to_be_bytes w16 (length payload) ++ (ack_head flow r ++ x)))) fit))))
+
+pub returns-clause-tells : goal.returns-clause-tells
+returns-clause-tells c =
+    let i = c.self.inside in
+    let o = c.args.out.now in
+    let r : Receiver = record { arriving = i.arriving; spans = span 0 i.through ∷ i.above.items; runs = i.runs.items; last = i.last; highest = i.highest } in
+    let a = c.self.invariant.sound.apart in
+    let top : i.highest < 2 ^ 64 = omega arith in
+    let fit = all_fit i.highest r.spans top (apart_formed r.spans a) c.self.invariant.top in
+    subst (λ (x : Receiver). TellsStretches c.args.flow (packet_limit - length o - 3) x) c.self.view_is (pairs_tell (packet_limit - length o - 3 - length (ack_head c.args.flow r)) i.through i.above.items a fit.1)
+
+pub returns-then-room-head-clause-tells : goal.returns-then-room-head-clause-tells
+returns-then-room-head-clause-tells c =
+    let i = c.self.inside in
+    let o = c.args.out.now in
+    let r : Receiver = record { arriving = i.arriving; spans = span 0 i.through ∷ i.above.items; runs = i.runs.items; last = i.last; highest = i.highest } in
+    let a = c.self.invariant.sound.apart in
+    let top : i.highest < 2 ^ 64 = omega arith in
+    let fit = all_fit i.highest r.spans top (apart_formed r.spans a) c.self.invariant.top in
+    subst (λ (x : Receiver). TellsStretches c.args.flow (packet_limit - length o - 3) x) c.self.view_is (pairs_tell (packet_limit - length o - 3 - length (ack_head c.args.flow r)) i.through i.above.items a fit.1)

@@ -1,19 +1,24 @@
-use Rattle.std.proofs.Common.{◌≡◌, ◌∷◌, List, nat_le, cond, not, ◌||◌, None, refl, ap, sym, ◌∙◌, subst, rules}
+use Rattle.std.proofs.Common.{◌≡◌, ◌∷◌, List, length, nat_le, cond, not, ◌||◌, None, refl, ap, sym, ◌∙◌, subst, arith, rules}
 use Rattle.std.specs.List.{filter}
 use Rattle.flow_recv.specs.declared.spans.Span.{Span}
+use Rattle.rtmfp_data_chunks.specs.Runs.{Run}
 use Rattle.rtmfp_data_chunks.specs.Taken.{chunk_of}
-use Rattle.flow_recv.specs.Receiver.{Receiver, Apart, span, add_span, spans_after, runs_after, living, is_alive, is_beside, taken}
+use Rattle.flow_recv.specs.Receiver.{Receiver, Apart, span, add_span, spans_after, runs_after, living, held_in, holds, is_alive, is_beside, taken}
 use Rattle.flow_recv.specs.Outcome.{refusal}
 use Rattle.flow_recv.specs.Sound.{Sound}
-use Rattle.flow_recv.proofs.Taking.{not_beyond}
+use Rattle.flow_recv.specs.Order.{Laid, InOrder}
+use Rattle.flow_recv.proofs.Knowing.{apart_formed, apart_add}
+use Rattle.flow_recv.proofs.Taking.{not_beyond, added_small}
 use Rattle.flow_recv.proofs.Ready.{receiver}
 use Rattle.flow_recv.proofs.Sounds.{held_runs, runs_are, taken_is, sound_taken}
+use Rattle.flow_recv.proofs.Laying.{order_held, order_taken, known_taken, held_with}
+use Rattle.flow_recv.proofs.Telling.{top_taken}
 use Rattle.flow_recv.proofs.receiver.FlowReceiver.take.Goals as goal
 
 pub mark-self-inside-requires-clause-apart : goal.mark-self-inside-requires-clause-apart
 mark-self-inside-requires-clause-apart c =
     let i = c.self.inside in
-    subst (λ (xs : List Span). Apart (span 0 i.through ∷ xs)) (sym c.hold.ensures.spans) c.self.invariant.apart
+    subst (λ (xs : List Span). Apart (span 0 i.through ∷ xs)) (sym c.hold.ensures.spans) c.self.invariant.sound.apart
 
 abbrev At : goal.After-took_by → Receiver
 At c = let i = c.self.inside in receiver i.arriving i.through i.above.items i.runs.items i.last i.highest
@@ -21,7 +26,7 @@ At c = let i = c.self.inside in receiver i.arriving i.through i.above.items i.ru
 abbrev New : goal.After-took_by → Receiver
 New c =
     let i = c.self.inside in
-    receiver i.arriving c.mark-self-inside.result c.mark-self-inside.new.above.items c.drop_after.new.runs.items c.last_after-self-inside.result c.max-self-inside.result
+    receiver i.arriving c.mark-self-inside.result c.mark-self-inside.new.above.items c.drop_after-self-inside.new.runs.items c.last_after-self-inside.result c.max-self-inside.result
 
 is_taken : (c : goal.After-took_by) → New c ≡ taken (At c) (chunk_of c.args.chunk.now)
 is_taken c =
@@ -31,13 +36,13 @@ is_taken c =
     let new = c.mark-self-inside.new.above.items in
     let near = nat_le d.forward i.through in
     let held = c.hold.new.runs.items in
-    let runs = c.drop_after.new.runs.items in
+    let runs = c.drop_after-self-inside.new.runs.items in
     let spans : span 0 end ∷ new ≡ spans_after (At c) d =
     c.mark-self-inside.ensures ∙ ap (λ (xs : List Span). add_span d.seq d.seq (add_span 0 d.forward (span 0 i.through ∷ xs))) c.hold.ensures.spans in
     let kept : held ≡ held_runs (At c) d = search rules in
     let left : runs ≡ cond near (filter (λ y. not (is_beside d.seq y) || is_alive (span 0 end ∷ new) y) held) (living (span 0 end ∷ new) held) =
-    subst (λ (xs : List Span). runs ≡ cond near (filter (λ y. not (is_beside d.seq y) || is_alive (span 0 end ∷ xs) y) held) (living (span 0 end ∷ xs) held)) c.deref-2.ensures.value c.drop_after.ensures in
-    let after : runs ≡ runs_after (At c) d = runs_are (At c) d i.through end i.above.items new near held runs refl c.self.invariant refl spans kept left in
+    c.drop_after-self-inside.ensures.kept in
+    let after : runs ≡ runs_after (At c) d = runs_are (At c) d i.through end i.above.items new near held runs refl c.self.invariant.sound refl spans kept left in
     taken_is (At c) d (span 0 end ∷ new) runs c.last_after-self-inside.result c.max-self-inside.result spans after c.last_after-self-inside.ensures c.max-self-inside.ensures
 
 is_sound : (c : goal.After-took_by) → Sound (New c)
@@ -45,10 +50,59 @@ is_sound c =
     let d = chunk_of c.args.chunk.now in
     let none : refusal c.args.self.now d ≡ None = search rules in
     let none' : refusal (At c) d ≡ None = subst (λ (v : Receiver). refusal v d ≡ None) (sym c.self.view_is) none in
-    subst Sound (sym (is_taken c)) (sound_taken (At c) d c.self.invariant c.requires.below (not_beyond (At c) d none'))
+    subst Sound (sym (is_taken c)) (sound_taken (At c) d c.self.invariant.sound c.requires.below (not_beyond (At c) d none'))
 
 pub invariant_of-self-2 : goal.invariant_of-self-2
-invariant_of-self-2 c = is_sound c
+invariant_of-self-2 c =
+    let i = c.self.inside in
+    let d = chunk_of c.args.chunk.now in
+    let formed = apart_formed (At c).spans c.self.invariant.sound.apart in
+    let laid : Laid (taken (At c) d) c.drop_after-self-inside.result = record {
+      sound = subst Sound (is_taken c) (is_sound c);
+      order = order_taken (At c) d c.self.invariant.known c.self.invariant.order;
+      known = known_taken (At c) d formed c.self.invariant.known;
+      top = top_taken (At c) d formed c.requires.low c.self.invariant.top;
+      sum = c.drop_after-self-inside.ensures.held ∙ ap (λ (r : Receiver). held_in r.runs) (is_taken c);
+    } in
+    subst (λ (r : Receiver). Laid r c.drop_after-self-inside.result) (sym (is_taken c)) laid
+
+pub drop_after-self-inside-requires-clause-apart : goal.drop_after-self-inside-requires-clause-apart
+drop_after-self-inside-requires-clause-apart c =
+    let i = c.self.inside in
+    let d = chunk_of c.args.chunk.now in
+    let e = c.mark-self-inside.ensures ∙ ap (λ (xs : List Span). add_span d.seq d.seq (add_span 0 d.forward (span 0 i.through ∷ xs))) c.hold.ensures.spans in
+    let a = subst (λ (ss : List Span). Apart ss) (sym e) (apart_add d.seq d.seq (add_span 0 d.forward (span 0 i.through ∷ i.above.items)) (omega arith) (apart_add 0 d.forward (span 0 i.through ∷ i.above.items) (omega arith) c.self.invariant.sound.apart)) in a.2
+
+pub drop_after-self-inside-requires-clause-order : goal.drop_after-self-inside-requires-clause-order
+drop_after-self-inside-requires-clause-order c =
+    let i = c.self.inside in
+    let d = chunk_of c.args.chunk.now in
+    let r = receiver i.arriving i.through i.above.items i.runs.items i.last i.highest in
+    let kept : c.hold.new.runs.items ≡ held_runs r d = search rules in
+    subst (InOrder 0) (sym kept) (order_held r d c.self.invariant.known c.self.invariant.order)
+
+pub drop_after-self-inside-requires-clause-held : goal.drop_after-self-inside-requires-clause-held
+drop_after-self-inside-requires-clause-held c =
+    let i = c.self.inside in
+    let d = chunk_of c.args.chunk.now in
+    let r = receiver i.arriving i.through i.above.items i.runs.items i.last i.highest in
+    let kept : c.hold.new.runs.items ≡ held_runs r d = search rules in
+    let added : c.added_by.result ≡ cond (holds r d) (length d.bytes) 0 = search rules in
+    held_with r d i.held c.added_by.result c.self.invariant.sum added ∙ ap (λ (ys : List Run). held_in ys) (sym kept)
+
+pub drop_after-self-inside-requires-clause-few : goal.drop_after-self-inside-requires-clause-few
+drop_after-self-inside-requires-clause-few c =
+    let i = c.self.inside in
+    let d = chunk_of c.args.chunk.now in
+    let r = receiver i.arriving i.through i.above.items i.runs.items i.last i.highest in
+    let kept : c.hold.new.runs.items ≡ held_runs r d = search rules in
+    let added : c.added_by.result ≡ cond (holds r d) (length d.bytes) 0 = search rules in
+    let none : refusal c.args.self.now d ≡ None = search rules in
+    let none' : refusal r d ≡ None = subst (λ (v : Receiver). refusal v d ≡ None) (sym c.self.view_is) none in
+    let small = added_small r d c.added_by.result c.requires.below (not_beyond r d none') added in
+    let sum = held_with r d i.held c.added_by.result c.self.invariant.sum added ∙ ap (λ (ys : List Run). held_in ys) (sym kept) in
+    let few = c.self.invariant.sound.bytes in
+    omega (arith, small, sum, few, c.self.invariant.sum)
 
 pub returns-clause-taken : goal.returns-clause-taken
 returns-clause-taken c = subst (λ (v : Receiver). New c ≡ taken v (chunk_of c.args.chunk.now)) c.self.view_is (is_taken c)

@@ -1,0 +1,252 @@
+//! Moves messages from a sender to a receiver in memory, as `scripts/bench-flows` tells it, which takes the time. A
+//! line is a word and five numbers: `move SIZE COUNT WAITING LOST WINDOW` moves so many messages of a size, of which
+//! so many wait at once, within a window of so many bytes, and every LOST-th chunk is lost (0: none). Each turn the
+//! sender hears the acks of the turn before and sends what the window allows, and the receiver acks every second
+//! chunk. `holes COUNT` has a receiver take the odd numbers of so many, and then the even ones. The answer is the
+//! word, how many chunks were sent, and how many messages were handed over.
+#![tactic(auto)]
+
+ghost use Rattle.std.specs.Prelude.{◌≡◌, ◌+◌, ◌<◌, ◌≤◌, false, length};
+ghost use Rattle.flow_send.specs.Picked.{IsThere};
+
+use flow_recv::FlowReceiver;
+use flow_send::{FlowSender, MessageOptions, Pick};
+use rtmfp_base::Memory;
+use rtmfp_data_chunks::{AckedRanges, DataCursor, DataView, Part, UserData};
+use rtmfp_forms::Outgoing;
+use std::alloc::AllocError;
+use std::collections::VecDeque;
+use std::io;
+
+const BUFFER_LEN: usize = 1_048_576;
+
+const FLOW: u64 = 2;
+
+/// After so many milliseconds a number is lost.
+const RESEND_AFTER: u64 = 250;
+
+const PLAIN: MessageOptions = MessageOptions {
+    deadline: None,
+    resends: None,
+};
+
+/// What is to be moved.
+#[derive(Clone, Copy)]
+struct Job {
+    size: usize,
+    count: u64,
+    waiting: u64,
+    lost: u64,
+    window: u64,
+}
+
+/// What was moved.
+#[derive(Clone, Copy)]
+struct Moved {
+    queued: u64,
+    chunks: u64,
+    handed: u64,
+}
+
+/// A sender and a receiver, the acks on their way, and the chunks that were sent.
+#[derive(Drop)]
+struct Pair {
+    from: FlowSender,
+    to: FlowReceiver,
+    acks: VecDeque<Outgoing>,
+    moved: Moved,
+}
+
+fn main(rt: HostRuntime) -> io::Result<()> {
+    let mut bytes = Vec::new(rt.alloc());
+    if bytes.resize(BUFFER_LEN, 0x55).is_err() {
+        return Ok(());
+    }
+    for line in rt.lines(rt.alloc()) {
+        let line = line?;
+        let mut words = line.split_whitespace();
+        let word = words.next().unwrap_or("");
+        let mut numbers = [0u64; 5];
+        for number in numbers.iter_mut() {
+            *number = words.next().unwrap_or("").parse().unwrap_or(0);
+        }
+        if let Ok(moved) = moved_by(&rt, word, numbers, bytes.as_slice()) {
+            let chunks = moved.chunks;
+            let handed = moved.handed;
+            println!(rt; "{word} {chunks} {handed}")?;
+        }
+    }
+    Ok(())
+}
+
+/// Does what a line tells.
+fn moved_by(
+    rt: &impl AllocGlobal,
+    word: &str,
+    numbers: [u64; 5],
+    bytes: &[u8],
+) -> Result<Moved, Memory> {
+    let [size, count, waiting, lost, window] = numbers;
+    if word == "holes" {
+        return holes(rt, size);
+    }
+    let job = Job {
+        size: size.min(1_048_576) as usize,
+        count,
+        waiting,
+        lost,
+        window,
+    };
+    move_all(rt, bytes, job)
+}
+
+/// Moves the messages of a job, in turns of a millisecond.
+fn move_all(rt: &impl AllocGlobal, bytes: &[u8], job: Job) -> Result<Moved, Memory> {
+    let mut pair = Pair {
+        from: FlowSender::new(rt.alloc(), FLOW, &[], None, 0, 1)?,
+        to: FlowReceiver::new(rt.alloc(), 0),
+        acks: VecDeque::new(rt.alloc()),
+        moved: Moved {
+            queued: 0,
+            chunks: 0,
+            handed: 0,
+        },
+    };
+    let message = bytes.get(..job.size).unwrap_or(&[]);
+    for moment in 0..u64::MAX {
+        hear(&mut pair);
+        queue(&mut pair, message, job);
+        let _ = pair.from.find_lost(moment, RESEND_AFTER);
+        send_turn(&mut pair, moment, job)?;
+        if pair.moved.handed >= job.count {
+            break;
+        }
+    }
+    Ok(pair.moved)
+}
+
+/// Queues messages while fewer than so many wait.
+fn queue(pair: &mut Pair, message: &[u8], job: Job) {
+    for _ in 0..65_536 {
+        if pair.moved.queued >= job.count || pair.from.waiting() >= job.waiting {
+            break;
+        }
+        if pair.from.queue(message, PLAIN).is_err() {
+            break;
+        }
+        pair.moved.queued = pair.moved.queued.wrapping_add(1);
+    }
+}
+
+/// Sends what the limits allow.
+fn send_turn(pair: &mut Pair, moment: u64, job: Job) -> Result<(), Memory> {
+    for _ in 0..u64::MAX {
+        let flight = pair.from.flight();
+        let chosen = pair
+            .from
+            .next_chunk(false, 1164, flight, job.window, moment, RESEND_AFTER);
+        let Ok(pick) = chosen else {
+            break;
+        };
+        pair.moved.chunks = pair.moved.chunks.wrapping_add(1);
+        let chunks = pair.moved.chunks;
+        if job.lost == 0 || chunks % job.lost != 0 {
+            deliver(pair, pick);
+        }
+        if chunks % 2 == 0 {
+            ack(pair)?;
+        }
+    }
+    ack(pair)
+}
+
+/// Has the receiver take a chunk, and hand over what is ready then.
+fn deliver(pair: &mut Pair, pick: Pick)
+    requires { IsThere pair.old.from.sender pick }
+{
+    let chunk = pair.from.chunk(pick, false);
+    if chunk.forward < chunk.seq {
+        let _ = pair.to.take(&chunk);
+    }
+    pair.moved.handed = pair.moved.handed.wrapping_add(hand_over(&mut pair.to));
+}
+
+/// How many messages a receiver hands over.
+fn hand_over(to: &mut FlowReceiver) -> u64 {
+    for count in 0..u64::MAX {
+        match to.next_message() {
+            Ok(Some(_)) => {}
+            _ => return count,
+        }
+    }
+    0
+}
+
+/// Puts what the receiver has on its way.
+fn ack(pair: &mut Pair) -> Result<(), Memory> {
+    let mut out = Outgoing::new(0);
+    if pair.to.ack_into(FLOW, &mut out).is_ok() {
+        pair.acks.push_back(out).map_err(AllocError::from)?;
+    }
+    Ok(())
+}
+
+/// The sender hears the acks that are on their way.
+fn hear(pair: &mut Pair) {
+    for _ in 0..u64::MAX {
+        let Some(out) = pair.acks.pop_front() else {
+            break;
+        };
+        let payload = out.bytes().get(4..).unwrap_or(&[]);
+        let mut cursor = DataCursor::new();
+        let read = cursor.read(0x51, payload);
+        if let Ok(
+            DataView::AckRanges {
+                blocks,
+                upto,
+                pairs,
+                ..
+            },
+        ) = read
+        {
+            let _ = pair
+                .from
+                .take_ack(blocks, upto, AckedRanges::of_pairs(upto, pairs));
+        }
+    }
+}
+
+/// A receiver takes the odd numbers from 3 on, and then the even ones, and hands over all. Number 1 comes last.
+fn holes(rt: &impl AllocGlobal, count: u64) -> Result<Moved, Memory> {
+    let mut to = FlowReceiver::new(rt.alloc(), 0);
+    let half = count.min(65_534) / 2;
+    for at in 0..half {
+        take_byte(&mut to, 3 + 2 * at);
+    }
+    for at in 0..half {
+        take_byte(&mut to, 2 + 2 * at);
+    }
+    take_byte(&mut to, 1);
+    Ok(Moved {
+        queued: 0,
+        chunks: 2 * half + 1,
+        handed: hand_over(&mut to),
+    })
+}
+
+/// Takes a message of one byte.
+fn take_byte(to: &mut FlowReceiver, seq: u64)
+    requires { 1 ≤ seq }
+{
+    let chunk = UserData {
+        part: Part::Whole,
+        abandon: false,
+        last: false,
+        flow: FLOW,
+        seq,
+        forward: 0,
+        options: None,
+        bytes: &[0x55],
+    };
+    let _ = to.take(&chunk);
+}
