@@ -1,0 +1,64 @@
+-- What was due of an attempt isn't any more once it is done.
+use Rattle.std.proofs.Common.{ℕ, ◌≡◌, ◌<◌, ◌+◌, ◌≤◌, ◌||◌, Bool, true, false, nat_le, List, get_or, Option, Some, None, IfSome, sym, ap, refl, ◌∙◌, subst, arith}
+use Rattle.std.specs.FinMap.{get}
+use Rattle.std.proofs.lemmas.Bool.Decides.{nat_tests}
+use Rattle.rtmfp_base.proofs.Counts.{count_removed, count_changed}
+use Rattle.rtmfp_base.specs.Counts.{count_where}
+use Rattle.startup.specs.declared.attempt.Row.{Row}
+use Rattle.startup.specs.State.{AttemptState, Attempts, StartupState}
+use Rattle.startup.specs.Rows.{entry_of, table_of}
+use Rattle.startup.specs.Sought.{IsLowest, IsChanged, IsGone}
+use Rattle.startup.proofs.Choices.{some_row}
+use Rattle.startup.specs.Attempts.{lowest}
+use Rattle.startup.specs.Due.{gap_of, is_over, is_repeat_due, is_due, repeated, due, due_of, after_due, after_due_of, due_count}
+use Rattle.startup.proofs.Keeping.{lowest_is_there, lowest_passes}
+
+a_gap : (gap : ℕ) → 1 ≤ gap_of gap
+a_gap gap = grind (arith, nat_tests)
+
+later : (moment gap : ℕ) → 1 ≤ gap → nat_le (moment + gap) moment ≡ false
+later moment gap least = grind (arith, nat_tests)
+
+-- an attempt that isn't over has nothing due once its repeat was sent
+repeated_is_done : (a : AttemptState) (moment : ℕ) → is_over moment a ≡ false → is_due moment (repeated a moment) ≡ false
+repeated_is_done a moment lasts =
+    ap (λ b. b || is_repeat_due moment (repeated a moment)) lasts ∙ later moment (gap_of (repeated a moment).gap) (a_gap (repeated a moment).gap)
+
+one_less : (a b : ℕ) → a + 1 ≡ b → a < b
+one_less a b e = omega arith
+
+falls_at : (s : StartupState) (moment : ℕ) (e : ℕ × AttemptState) (b : Bool) → is_over moment e.1 ≡ b → get s.attempts e.0 ≡ Some e.1 → is_due moment e.1 ≡ true →
+    due_count moment (after_due_of s moment (Some e)) < due_count moment s
+falls_at s moment e true over there now = rw over (one_less _ _ (count_removed (is_due moment) s.attempts e.0 e.1 there now))
+falls_at s moment e false over there now = rw over (one_less _ _ (count_changed (is_due moment) s.attempts e.0 e.1 (repeated e.1 moment) there now (repeated_is_done e.1 moment over)))
+
+falls_of : (s : StartupState) (moment : ℕ) (o : Option (ℕ × AttemptState)) → lowest (is_due moment) s.attempts ≡ o →
+    IfSome (due_of s moment o) (λ _. due_count moment (after_due_of s moment o) < due_count moment s)
+falls_of s moment None is = tt
+falls_of s moment (Some e) is =
+    falls_at s moment e (is_over moment e.1) refl (lowest_is_there (is_due moment) s.attempts e is) (lowest_passes (is_due moment) s.attempts e is)
+
+-- Where something is due, there is less of it afterwards.
+pub due_falls : (s : StartupState) (moment : ℕ) → IfSome (due s moment) (λ _. due_count moment (after_due s moment) < due_count moment s)
+due_falls s moment = falls_of s moment (lowest (is_due moment) s.attempts) refl
+
+-- ---- the same by rows
+
+-- the attempt at a place that is due is taken away
+pub gone_falls : (rows : List Row) (place : ℕ) (new : List Row) (moment : ℕ) → IsLowest (is_due moment) rows (Some place) → IsGone rows place new →
+    count_where (is_due moment) (table_of new) < count_where (is_due moment) (table_of rows)
+gone_falls rows place new moment at gone =
+    let row = some_row rows place at.0 in
+    let e = entry_of (get_or rows place row) in
+    subst (λ (t : Attempts). count_where (is_due moment) t < count_where (is_due moment) (table_of rows)) (sym (gone.table row))
+    (one_less _ _ (count_removed (is_due moment) (table_of rows) e.0 e.1 (lowest_is_there (is_due moment) (table_of rows) e (at.1 row)) (lowest_passes (is_due moment) (table_of rows) e (at.1 row))))
+
+-- the attempt at a place that is due is repeated
+pub repeated_falls : (rows : List Row) (place : ℕ) (new : List Row) (moment : ℕ) (row : Row) → IsLowest (is_due moment) rows (Some place) → IsChanged rows place (λ a. repeated a moment) new →
+    row ≡ get_or rows place row → is_over moment row.attempt ≡ false → count_where (is_due moment) (table_of new) < count_where (is_due moment) (table_of rows)
+repeated_falls rows place new moment row at changed is lasts =
+    let e = entry_of (get_or rows place row) in
+    let lasts_there : is_over moment e.1 ≡ false = ap (λ (r : Row). is_over moment r.attempt) (sym is) ∙ lasts in
+    subst (λ (t : Attempts). count_where (is_due moment) t < count_where (is_due moment) (table_of rows)) (sym (changed.table row))
+    (one_less _ _ (count_changed (is_due moment) (table_of rows) e.0 e.1 (repeated e.1 moment) (lowest_is_there (is_due moment) (table_of rows) e (at.1 row))
+    (lowest_passes (is_due moment) (table_of rows) e (at.1 row)) (repeated_is_done e.1 moment lasts_there)))

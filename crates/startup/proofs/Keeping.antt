@@ -1,0 +1,233 @@
+-- The attempts and the ledger name the same things after each call on attempts, and after what time makes due.
+use Rattle.std.proofs.Common.{inl, inr, is_some, ◌⊎◌, ◌==◌, if◌then◌else◌, ◌∷◌, ℕ, List, ◌≡◌, Bool, true, false, cond, refl, sym, ap, subst, ◌∙◌, Option, Some, None}
+use Rattle.std.specs.FinMap.{get, insert}
+use Rattle.rtmfp_base.proofs.Maps.{same_or_not, none_is_some, get_inserted, get_beside, found_inserted}
+use Rattle.rtmfp_base.proofs.Lowest.{first_is_there}
+use Rattle.rtmfp_forms.specs.Address.{AddressParts}
+use Rattle.glare_core.specs.declared.facts.Why.{Why}
+use Rattle.glare_core.specs.declared.facts.Why.TheVariants.{Cancelled, Expired}
+use Rattle.glare_core.specs.declared.facts.Fact.{Fact}
+use Rattle.glare_core.specs.declared.facts.Fact.TheVariants.{Ended, Confirmed}
+use Rattle.glare_core.specs.declared.facts.Held.{Held}
+use Rattle.glare_core.specs.declared.facts.Held.TheVariants.{Opening, HalfOpen, KeptAsResponder, KeptAsInitiator}
+use Rattle.glare_core.specs.Standing.{peer_of, after, confirmed}
+use Rattle.glare_core.specs.Ledger.{Ledger, held_with, noted, noted_if}
+use Rattle.glare_core.specs.Calls.{start_refusal, start_held, started_fact, confirmed_fact, ended_fact, first_that_stands, where_true}
+use Rattle.glare_core.proofs.Tails.{same_end}
+use Rattle.startup.specs.declared.attempt.Stage.{Stage}
+use Rattle.startup.specs.declared.attempt.Stage.TheVariants.{Hello, Keying}
+use Rattle.startup.specs.State.{AttemptState, Attempts, StartupState, IsSound, peer_of_attempt}
+use Rattle.startup.specs.Attempts.{lowest, has_number, has_tag, has_cookie, with_ledger, with_attempt, without_attempt, begun_attempt, after_begin, ended_attempt, after_end_of, after_cancel, after_confirm, session_in, after_end, answered, after_answer, after_rhello, is_cookie_of, again_signed, if_cookie, changed, recookied, after_change, after_cookie_change}
+use Rattle.startup.specs.Due.{is_due, is_over, repeated, after_due_of, after_due}
+use Rattle.startup.specs.Keyings.{opening_id, without}
+use Rattle.startup.proofs.Stepping.{held_after, held_after_own, sound_after}
+
+-- ---- an attempt that is chosen is there
+
+pub lowest_is_there : (test : AttemptState → Bool) (attempts : Attempts) (e : ℕ × AttemptState) → lowest test attempts ≡ Some e → get attempts e.0 ≡ Some e.1
+lowest_is_there test attempts e is = (first_is_there test attempts e is).0
+
+pub lowest_passes : (test : AttemptState → Bool) (attempts : Attempts) (e : ℕ × AttemptState) → lowest test attempts ≡ Some e → test e.1 ≡ true
+lowest_passes test attempts e is = (first_is_there test attempts e is).1
+
+-- ---- an attempt begins
+
+unheld_start : (thing : Option Held) → start_held thing ≡ None → thing ≡ None
+unheld_start None e = refl
+unheld_start (Some (Opening n near ni)) e = absurd (cc)
+unheld_start (Some (HalfOpen j)) e = absurd (cc)
+unheld_start (Some (KeptAsResponder j)) e = absurd (cc)
+unheld_start (Some (KeptAsInitiator j)) e = absurd (cc)
+
+second_is_none : {A : Type 0} (a b : Option A) (rest : List (Option A)) → first_that_stands (a ∷ b ∷ rest) ≡ None → b ≡ None
+second_is_none None None rest e = refl
+second_is_none None (Some y) rest e = absurd (cc)
+second_is_none (Some x) b rest e = absurd (cc)
+
+-- Nothing is held with a peer towards which an attempt may start.
+pub startable_is_unheld : (l : Ledger) (peer : List ℕ) → start_refusal l peer ≡ None → held_with l peer ≡ None
+startable_is_unheld l peer e = unheld_start (held_with l peer) (second_is_none _ _ _ e)
+
+-- They do after an attempt has begun, under a near id that no attempt has, with a peer with which nothing is held.
+pub begun_is_sound : (s : StartupState) (peer : List ℕ) (candidates : List AddressParts) (near : ℕ) (ni tag : List ℕ) (moment : ℕ) →
+    IsSound s → get s.attempts near ≡ None → held_with s.ledger peer ≡ None → IsSound (after_begin s peer candidates near ni tag moment)
+begun_is_sound s peer candidates near ni tag moment sound free unheld =
+    let fact : Fact = started_fact s.ledger peer near ni in
+    let a : AttemptState = begun_attempt s peer candidates ni tag moment in
+    record {
+      own = sound.own;
+      held = λ k b e. elim (found_inserted s.attempts near a k b e) [
+        | inl here ↦
+            subst (λ (c : AttemptState). held_with (noted s.ledger fact) c.peer ≡ Some (Opening c.n k c.ni)) here.1
+            (held_after_own s.ledger fact ∙ ap (λ (id : ℕ). Some (Opening a.n id ni)) (sym here.0))
+        | inr other ↦
+            let was : held_with s.ledger b.peer ≡ Some (Opening b.n k b.ni) = sound.held k b other.1 in
+            held_after s.ledger fact b.peer ∙ elim (same_end peer b.peer) [
+              | inl d ↦ absurd (none_is_some (Opening b.n k b.ni) (held_with s.ledger b.peer) (ap (held_with s.ledger) (sym d.0) ∙ unheld) was)
+              | inr d ↦ ap (λ b'. cond b' (after fact (held_with s.ledger peer)) (held_with s.ledger b.peer)) d.1 ∙ was
+            ]
+      ];
+      there = λ q n k ki e. elim (same_end peer q) [
+        | inl d ↦
+            let here : Some (Opening a.n near ni) ≡ Some (Opening n k ki) = sym (held_after_own s.ledger fact) ∙ ap (held_with (noted s.ledger fact)) d.0 ∙ e in
+            let id : near ≡ k = cc in
+            ap (λ (i : ℕ). peer_of_attempt (get (insert s.attempts near a) i)) (sym id) ∙ ap peer_of_attempt (get_inserted s.attempts near a) ∙ ap (λ (p : List ℕ). Some p) d.0
+        | inr d ↦
+            let was : held_with s.ledger q ≡ Some (Opening n k ki) = sym (held_after s.ledger fact q ∙ ap (λ b'. cond b' (after fact (held_with s.ledger peer)) (held_with s.ledger q)) d.1) ∙ e in
+            let at : peer_of_attempt (get s.attempts k) ≡ Some q = sound.there q n k ki was in
+            elim (same_or_not k near) [
+              | inl is ↦ absurd (none_is_some q (peer_of_attempt (get s.attempts k)) (ap (λ (i : ℕ). peer_of_attempt (get s.attempts i)) is.0 ∙ ap peer_of_attempt free) at)
+              | inr is ↦ ap peer_of_attempt (get_beside s.attempts near a k is.0) ∙ at
+            ]
+      ];
+    }
+
+-- ---- an attempt goes on
+
+-- They do after an attempt was changed that is still the same attempt with the same peer.
+pub changed_is_sound : (s : StartupState) (near : ℕ) (a b : AttemptState) → IsSound s → get s.attempts near ≡ Some a → b.peer ≡ a.peer → b.n ≡ a.n → b.ni ≡ a.ni → IsSound (with_attempt s near b)
+changed_is_sound s near a b sound at same_peer same_n same_ni =
+    let was : held_with s.ledger a.peer ≡ Some (Opening a.n near a.ni) = sound.held near a at in
+    record {
+      own = sound.own;
+      held = λ k c e. elim (found_inserted s.attempts near b k c e) [
+        | inl here ↦
+            subst (λ (x : AttemptState). held_with s.ledger x.peer ≡ Some (Opening x.n k x.ni)) here.1
+            (ap (held_with s.ledger) same_peer ∙ was
+            ∙ (ap (λ (n : ℕ). Some (Opening n near a.ni)) (sym same_n) ∙ ap (λ (i : List ℕ). Some (Opening b.n near i)) (sym same_ni) ∙ ap (λ (id : ℕ). Some (Opening b.n id b.ni)) (sym here.0)))
+        | inr other ↦ sound.held k c other.1
+      ];
+      there = λ q n k ki e.
+          let old : peer_of_attempt (get s.attempts k) ≡ Some q = sound.there q n k ki e in
+          elim (same_or_not k near) [
+            | inl is ↦
+                ap (λ (i : ℕ). peer_of_attempt (get (insert s.attempts near b) i)) is.0 ∙ ap peer_of_attempt (get_inserted s.attempts near b)
+                ∙ ap (λ (p : List ℕ). Some p) same_peer ∙ sym (ap peer_of_attempt at) ∙ ap (λ (i : ℕ). peer_of_attempt (get s.attempts i)) (sym is.0) ∙ old
+            | inr is ↦ ap peer_of_attempt (get_beside s.attempts near b k is.0) ∙ old
+          ];
+    }
+
+-- ---- an attempt ends
+
+-- They do after the end of an attempt that is there.
+pub end_is_sound : (s : StartupState) (e : ℕ × AttemptState) (why : Why) → IsSound s → get s.attempts e.0 ≡ Some e.1 → IsSound (without_attempt s e.0 (ended_attempt e why))
+end_is_sound s e why sound at =
+    let was : held_with s.ledger e.1.peer ≡ Some (Opening e.1.n e.0 e.1.ni) = sound.held e.0 e.1 at in
+    subst (λ (gone : Option ℕ). IsSound (record s { ledger = noted s.ledger (ended_attempt e why); attempts = without s.attempts gone })) (ap opening_id was)
+    (sound_after s (ended_attempt e why) sound (ap opening_id (held_after_own s.ledger (ended_attempt e why))))
+
+-- ---- a session is confirmed or ends
+
+-- They do after a fact of a peer with which no attempt is held, neither before nor after it.
+pub session_is_sound : (s : StartupState) (fact : Fact) → IsSound s → opening_id (held_with s.ledger (peer_of fact)) ≡ None → opening_id (after fact (held_with s.ledger (peer_of fact))) ≡ None →
+    IsSound (with_ledger s (noted s.ledger fact))
+session_is_sound s fact sound before now =
+    subst (λ (gone : Option ℕ). IsSound (record s { ledger = noted s.ledger fact; attempts = without s.attempts gone })) before
+    (sound_after s fact sound (ap opening_id (held_after_own s.ledger fact) ∙ now))
+
+confirmed_by : (s : StartupState) (peer : List ℕ) (thing : Option Held) → held_with s.ledger peer ≡ thing → IsSound s → IsSound (with_ledger s (noted_if s.ledger (confirmed_fact thing peer)))
+confirmed_by s peer None is sound = sound
+confirmed_by s peer (Some (Opening n near ni)) is sound = sound
+confirmed_by s peer (Some (HalfOpen j)) is sound = session_is_sound s (Confirmed peer j.near) sound (ap opening_id is) (ap (λ (t : Option Held). opening_id (confirmed t)) is)
+confirmed_by s peer (Some (KeptAsResponder j)) is sound = sound
+confirmed_by s peer (Some (KeptAsInitiator j)) is sound = sound
+
+pub after_confirm_is_sound : (s : StartupState) (peer : List ℕ) → IsSound s → IsSound (after_confirm s peer)
+after_confirm_is_sound s peer sound = confirmed_by s peer (held_with s.ledger peer) refl sound
+
+ended_by : (s : StartupState) (peer : List ℕ) (why : Why) (thing : Option Held) → held_with s.ledger peer ≡ thing → IsSound s → IsSound (with_ledger s (noted_if s.ledger (ended_fact (session_in thing) peer why)))
+ended_by s peer why None is sound = sound
+ended_by s peer why (Some (Opening n near ni)) is sound = sound
+ended_by s peer why (Some (HalfOpen j)) is sound = session_is_sound s (Ended peer j.near why) sound (ap opening_id is) refl
+ended_by s peer why (Some (KeptAsResponder j)) is sound = session_is_sound s (Ended peer j.near why) sound (ap opening_id is) refl
+ended_by s peer why (Some (KeptAsInitiator j)) is sound = session_is_sound s (Ended peer j.near why) sound (ap opening_id is) refl
+
+pub after_end_is_sound : (s : StartupState) (peer : List ℕ) (why : Why) → IsSound s → IsSound (after_end s peer why)
+after_end_is_sound s peer why sound = ended_by s peer why (held_with s.ledger peer) refl sound
+
+-- ---- the calls
+
+after_end_of_is_sound : (s : StartupState) (e : Option (ℕ × AttemptState)) (why : Why) (test : AttemptState → Bool) → lowest test s.attempts ≡ e → IsSound s → IsSound (after_end_of s e why)
+after_end_of_is_sound s None why test is sound = sound
+after_end_of_is_sound s (Some e) why test is sound = end_is_sound s e why sound (lowest_is_there test s.attempts e is)
+
+pub after_cancel_is_sound : (s : StartupState) (n : ℕ) → IsSound s → IsSound (after_cancel s n)
+after_cancel_is_sound s n sound = after_end_of_is_sound s (lowest (has_number n) s.attempts) Cancelled (has_number n) refl sound
+
+after_answer_is_sound : (s : StartupState) (e : Option (ℕ × AttemptState)) (from : AddressParts) (cookie : List ℕ) (moment : ℕ) (test : AttemptState → Bool) →
+    lowest test s.attempts ≡ e → IsSound s → IsSound (after_answer s e from cookie moment)
+after_answer_is_sound s None from cookie moment test is sound = sound
+after_answer_is_sound s (Some e) from cookie moment test is sound = changed_is_sound s e.0 e.1 (answered e.1 from cookie moment) sound (lowest_is_there test s.attempts e is) refl refl refl
+
+pub after_rhello_is_sound : (s : StartupState) (tag cookie : List ℕ) (from : AddressParts) (moment : ℕ) → IsSound s → IsSound (after_rhello s tag cookie from moment)
+after_rhello_is_sound s tag cookie from moment sound = after_answer_is_sound s (lowest (has_tag tag) s.attempts) from cookie moment (has_tag tag) refl sound
+
+record IsWithCookie (cookie : List ℕ) (near : ℕ) (o : Option AttemptState) (e : ℕ × AttemptState) : Type 0 where
+  near_is : e.0 ≡ near
+  found : o ≡ Some e.1
+  has : has_cookie cookie e.1 ≡ true
+
+if_cookie_is : (cookie : List ℕ) (near : ℕ) (o : Option AttemptState) (e : ℕ × AttemptState) → if_cookie cookie near o ≡ Some e → IsWithCookie cookie near o e
+if_cookie_is cookie near None e is = absurd (cc)
+if_cookie_is cookie near (Some a) e is = tested (has_cookie cookie a) refl is
+  where
+    tested : (b : Bool) → has_cookie cookie a ≡ b → where_true b (near, a) ≡ Some e → IsWithCookie cookie near (Some a) e
+    tested true t is =
+        let same : (near, a) ≡ e = cc in
+        record {
+          near_is = ap (λ (p : ℕ × AttemptState). p.0) (sym same);
+          found = ap (λ (p : ℕ × AttemptState). Some p.1) same;
+          has = ap (λ (p : ℕ × AttemptState). has_cookie cookie p.1) (sym same) ∙ t;
+        }
+    tested false t is = absurd (cc)
+
+either_one : {A : Type 0} (b : Bool) (x y z : A) → (if b then x else y) ≡ z → (x ≡ z) ⊎ (y ≡ z)
+either_one true x y z e = inl e
+either_one false x y z e = inr e
+
+-- The attempt whose cookie is replaced is there, and has the old one.
+pub changed_is_there : (attempts : Attempts) (sid : ℕ) (old : List ℕ) (e : ℕ × AttemptState) → changed attempts sid old ≡ Some e → get attempts e.0 ≡ Some e.1
+changed_is_there attempts sid old e is = elim (either_one (sid == 0) (lowest (has_cookie old) attempts) (if_cookie old sid (get attempts sid)) (Some e) is) [
+  | inl first ↦ lowest_is_there (has_cookie old) attempts e first
+  | inr at ↦ let found = if_cookie_is old sid (get attempts sid) e at in ap (get attempts) found.near_is ∙ found.found
+]
+
+pub changed_has_cookie : (attempts : Attempts) (sid : ℕ) (old : List ℕ) (e : ℕ × AttemptState) → changed attempts sid old ≡ Some e → has_cookie old e.1 ≡ true
+changed_has_cookie attempts sid old e is = elim (either_one (sid == 0) (lowest (has_cookie old) attempts) (if_cookie old sid (get attempts sid)) (Some e) is) [
+  | inl first ↦ lowest_passes (has_cookie old) attempts e first
+  | inr at ↦ (if_cookie_is old sid (get attempts sid) e at).has
+]
+
+stage_again : (key cert : List ℕ) (near : ℕ) (a : AttemptState) (stage : Stage) (old cookie : List ℕ) → is_cookie_of old stage ≡ true → again_signed key cert near a stage cookie ≡ None → ⊥
+stage_again key cert near a Hello old cookie has none = let clash : false ≡ true = has in cc
+stage_again key cert near a (Keying at kept) old cookie has none = cc
+
+-- an attempt that has a cookie has a keying to send again
+pub keying_goes_again : (key cert : List ℕ) (near : ℕ) (a : AttemptState) (old cookie : List ℕ) → has_cookie old a ≡ true → again_signed key cert near a a.stage cookie ≡ None → ⊥
+keying_goes_again key cert near a old cookie has none = stage_again key cert near a a.stage old cookie has none
+
+-- what is held is a session where it is one
+pub session_is_held : (thing : Option Held) → is_some (session_in thing) ≡ true → session_in thing ≡ thing
+session_is_held None e = refl
+session_is_held (Some (Opening n near ni)) e = absurd (let clash : false ≡ true = e in cc)
+session_is_held (Some (HalfOpen j)) e = refl
+session_is_held (Some (KeptAsResponder j)) e = refl
+session_is_held (Some (KeptAsInitiator j)) e = refl
+
+after_change_is_sound : (s : StartupState) (e : Option (ℕ × AttemptState)) (sid : ℕ) (old cookie : List ℕ) (moment : ℕ) → changed s.attempts sid old ≡ e → IsSound s → IsSound (after_change s e cookie moment)
+after_change_is_sound s None sid old cookie moment is sound = sound
+after_change_is_sound s (Some e) sid old cookie moment is sound = changed_is_sound s e.0 e.1 (recookied e.1 cookie moment) sound (changed_is_there s.attempts sid old e is) refl refl refl
+
+pub after_cookie_change_is_sound : (s : StartupState) (sid : ℕ) (old new : List ℕ) (moment : ℕ) → IsSound s → IsSound (after_cookie_change s sid old new moment)
+after_cookie_change_is_sound s sid old new moment sound = after_change_is_sound s (changed s.attempts sid old) sid old new moment refl sound
+
+due_by : (s : StartupState) (moment : ℕ) (e : ℕ × AttemptState) (b : Bool) → is_over moment e.1 ≡ b → get s.attempts e.0 ≡ Some e.1 → IsSound s → IsSound (after_due_of s moment (Some e))
+due_by s moment e true is at sound = rw is (end_is_sound s e Expired sound at)
+due_by s moment e false is at sound = rw is (changed_is_sound s e.0 e.1 (repeated e.1 moment) sound at refl refl refl)
+
+after_due_of_is_sound : (s : StartupState) (moment : ℕ) (e : Option (ℕ × AttemptState)) → lowest (is_due moment) s.attempts ≡ e → IsSound s → IsSound (after_due_of s moment e)
+after_due_of_is_sound s moment None is sound = sound
+after_due_of_is_sound s moment (Some e) is sound = due_by s moment e (is_over moment e.1) refl (lowest_is_there (is_due moment) s.attempts e is) sound
+
+pub after_due_is_sound : (s : StartupState) (moment : ℕ) → IsSound s → IsSound (after_due s moment)
+after_due_is_sound s moment sound = after_due_of_is_sound s moment (lowest (is_due moment) s.attempts) refl sound

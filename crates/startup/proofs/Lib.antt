@@ -1,0 +1,13 @@
+pub mod Sound
+pub mod Sizes
+pub mod Components
+pub mod Offsets
+pub mod Stepping
+pub mod Removing
+pub mod Uncaused
+pub mod Changes
+pub mod Keeping
+pub mod Choices
+pub mod Startups
+pub mod Falling
+pub mod Chosen

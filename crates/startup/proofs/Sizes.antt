@@ -1,0 +1,67 @@
+-- How long startup packets are.
+use Rattle.std.proofs.Common.{◌≡◌, ℕ, ◌+◌, ◌≤◌, List, ◌∷◌, ◌++◌, length, drop, refl, arith, length-append}
+use Rattle.std.specs.Int.{w16, w32, to_be_bytes}
+use Rattle.rtmfp_vlu.specs.Vlu.{vlu}
+use Rattle.rtmfp_vlu.proofs.Fields.{length-vlu_within}
+use Rattle.rtmfp_chunks.specs.Fields.{Counted}
+use Rattle.rtmfp_chunks.specs.Chunk.{Chunk, IHello, RHello, CookieChange, IIKeying, RIKeying, kind_of}
+use Rattle.rtmfp_chunks.specs.Writing.{field_bytes, payload_bytes}
+use Rattle.startup.specs.Packets.{startup_packet}
+
+-- the flags, the type and the length stand before the payload
+pub startup_length : (chunk : Chunk) → length (startup_packet chunk) ≡ 4 + length (payload_bytes chunk)
+startup_length chunk =
+    omega (arith, length-append (kind_of chunk ∷ to_be_bytes w16 (length (payload_bytes chunk))) (payload_bytes chunk))
+
+-- a length of one byte or two stands before short bytes
+counted_length : (bytes : List ℕ) (most : ℕ) → length bytes ≤ most → most ≤ 128 → length (field_bytes (Counted bytes)) ≤ 10 + most
+counted_length bytes most short few =
+    omega (arith, length-append (vlu (length bytes)) bytes, (length-vlu_within (length bytes) (omega arith)).1)
+
+-- the payload is what stands after them
+pub payload_after_head : (chunk : Chunk) → drop 4 (startup_packet chunk) ≡ payload_bytes chunk
+payload_after_head chunk = refl
+
+two : (a b : List ℕ) (m n : ℕ) → length a ≤ m → length b ≤ n → length (a ++ b) ≤ m + n
+two a b m n p q = omega (arith, length-append a b)
+
+pub ihello_length : (epd tag : List ℕ) → length epd ≤ 128 → length tag ≤ 128 → length (startup_packet (IHello epd tag)) ≤ 1164
+ihello_length epd tag p q =
+    omega (arith, startup_length (IHello epd tag), two (field_bytes (Counted epd)) tag 138 128 (counted_length epd 128 p (omega arith)) q)
+
+pub cookiechange_length : (old new : List ℕ) → length old ≤ 128 → length new ≤ 128 → length (startup_packet (CookieChange old new)) ≤ 1164
+cookiechange_length old new p q =
+    omega (arith, startup_length (CookieChange old new), two (field_bytes (Counted old)) new 138 128 (counted_length old 128 p (omega arith)) q)
+
+pub rhello_length : (tag cookie cert : List ℕ) → length tag ≤ 128 → length cookie ≤ 128 → length cert ≤ 80
+    → length (startup_packet (RHello tag cookie cert)) ≤ 1164
+rhello_length tag cookie cert p q r =
+    let rest : length (field_bytes (Counted cookie) ++ cert) ≤ 138 + 80 = two (field_bytes (Counted cookie)) cert 138 80 (counted_length cookie 128 q (omega arith)) r in
+    omega (
+      arith,
+      startup_length (RHello tag cookie cert),
+      two (field_bytes (Counted tag)) (field_bytes (Counted cookie) ++ cert) 138 218 (counted_length tag 128 p (omega arith)) (omega (arith, rest)),
+    )
+
+pub iikeying_length : (near : ℕ) (cookie cert part sign : List ℕ) → length cookie ≤ 128 → length cert ≤ 80 → length part ≤ 80 → length sign ≤ 32
+    → length (startup_packet (IIKeying near cookie cert part sign)) ≤ 1164
+iikeying_length near cookie cert part sign p q r s =
+    let third : length (field_bytes (Counted part) ++ sign) ≤ 90 + 32 = two (field_bytes (Counted part)) sign 90 32 (counted_length part 80 r (omega arith)) s in
+    let second : length (field_bytes (Counted cert) ++ (field_bytes (Counted part) ++ sign)) ≤ 90 + 122 =
+    two (field_bytes (Counted cert)) (field_bytes (Counted part) ++ sign) 90 122 (counted_length cert 80 q (omega arith)) (omega (arith, third)) in
+    let first : length (field_bytes (Counted cookie) ++ (field_bytes (Counted cert) ++ (field_bytes (Counted part) ++ sign))) ≤ 138 + 212 =
+    two (field_bytes (Counted cookie)) (field_bytes (Counted cert) ++ (field_bytes (Counted part) ++ sign)) 138 212 (counted_length cookie 128 p (omega arith)) (omega (arith, second)) in
+    omega (
+      arith,
+      startup_length (IIKeying near cookie cert part sign),
+      two (to_be_bytes w32 near) (field_bytes (Counted cookie) ++ (field_bytes (Counted cert) ++ (field_bytes (Counted part) ++ sign))) 4 350 (omega arith) (omega (arith, first)),
+    )
+
+pub rikeying_length : (near : ℕ) (part sign : List ℕ) → length part ≤ 80 → length sign ≤ 32 → length (startup_packet (RIKeying near part sign)) ≤ 1164
+rikeying_length near part sign r s =
+    let rest : length (field_bytes (Counted part) ++ sign) ≤ 90 + 32 = two (field_bytes (Counted part)) sign 90 32 (counted_length part 80 r (omega arith)) s in
+    omega (
+      arith,
+      startup_length (RIKeying near part sign),
+      two (to_be_bytes w32 near) (field_bytes (Counted part) ++ sign) 4 122 (omega arith) (omega (arith, rest)),
+    )

@@ -1,0 +1,276 @@
+-- The attempts and the ledger name the same things after each step that starts no attempt.
+use Rattle.std.proofs.Common.{inl, inr, ℕ, List, ◌≡◌, ◌⊎◌, Bool, true, false, cond, ◌==◌, refl, sym, ap, subst, ◌∙◌, Option, Some, None, Result, Ok, Err}
+use Rattle.std.specs.Str.{bytes_eq}
+use Rattle.std.specs.Ordering.{nat_cmp, eq_by_cmp}
+use Rattle.std.specs.Cmp.{unsigned_tied}
+use Rattle.std.proofs.lemmas.Cmp.{nat_cmp_total}
+use Rattle.std.proofs.lemmas.Bool.{eq-eqb, eqb-true, cases_Bool}
+use Rattle.std.specs.FinMap.{get, remove, get-remove, get-empty, empty}
+use Rattle.sha2.specs.Sha256.{sha256}
+use Rattle.rtmfp_forms.specs.Address.{AddressParts}
+use Rattle.cookies.specs.declared.CookieTest.{CookieTest}
+use Rattle.cookies.specs.declared.CookieTest.TheVariants.{Bad, Moved, Expired, Current}
+use Rattle.cookies.specs.Cookie.{cookie_test}
+use Rattle.startup.specs.declared.cause.Cause.{Cause}
+use Rattle.startup.specs.declared.answer.Answer.{Answer}
+use Rattle.startup.specs.declared.answer.Keyed.TheVariants.{Birth as BirthKeyed}
+use Rattle.glare_core.specs.declared.facts.Why.{Why}
+use Rattle.glare_core.specs.declared.facts.Why.TheVariants.{Glare as ForGlare, Override as ForOverride}
+use Rattle.glare_core.specs.declared.facts.Fact.{Fact}
+use Rattle.glare_core.specs.declared.facts.Fact.TheVariants.{Born, Ended}
+use Rattle.glare_core.specs.declared.facts.Joined.{Joined}
+use Rattle.glare_core.specs.declared.facts.Held.{Held}
+use Rattle.glare_core.specs.declared.facts.Held.TheVariants.{Opening, HalfOpen, KeptAsResponder, KeptAsInitiator}
+use Rattle.glare_core.specs.declared.answers.Keying.{Keying}
+use Rattle.glare_core.specs.declared.answers.Heard.{Heard}
+use Rattle.glare_core.specs.declared.answers.Heard.TheVariants.{Birth}
+use Rattle.glare_core.specs.Standing.{peer_of, after}
+use Rattle.glare_core.specs.Ledger.{Ledger, PeerRow, row_in, row_after, held_with, noted}
+use Rattle.glare_core.specs.Calls.{where_true, is_born_of, again_of, heard, heard_noted, again_or, way_made, born_fact, opened_fact}
+use Rattle.glare_core.proofs.Tails.{same_end}
+use Rattle.glare_core.proofs.Maps.{row_inserted}
+use Rattle.startup.specs.State.{AttemptState, Attempts, StartupState, IsSound, peer_of_attempt}
+use Rattle.startup.specs.Keyings.{again_or_birth, session_answer, born_session, InitiatorKeying, ResponderKeying, initiator_keying_in, keying_of, repeated_session, opening_id, without, after_again_or_birth, after_keyed_with, after_keyed_reading, after_keying, opened_with, after_opening}
+
+-- ---- the ledger
+
+-- what is held after a fact: with its peer what it leaves, with others what was held
+pub held_after : (l : Ledger) (fact : Fact) (q : List ℕ)
+    → held_with (noted l fact) q ≡ cond (bytes_eq (peer_of fact) q) (after fact (held_with l (peer_of fact))) (held_with l q)
+held_after l fact q =
+    ap (λ (r : PeerRow). r.held) (row_inserted l.rows (peer_of fact) (row_after fact (row_in l.rows (peer_of fact))) q)
+    ∙ elim (same_end (peer_of fact) q) [ inl d ↦ rw d.1 refl | inr d ↦ rw d.1 refl ]
+
+pub held_after_own : (l : Ledger) (fact : Fact) → held_with (noted l fact) (peer_of fact) ≡ after fact (held_with l (peer_of fact))
+held_after_own l fact =
+    held_after l fact (peer_of fact) ∙ elim (same_end (peer_of fact) (peer_of fact)) [ inl d ↦ rw d.1 refl | inr d ↦ absurd (d.0 refl) ]
+
+held_after_other : (l : Ledger) (fact : Fact) (q : List ℕ) → (peer_of fact ≡ q → ⊥) → held_with (noted l fact) q ≡ held_with l q
+held_after_other l fact q ne = held_after l fact q ∙ elim (same_end (peer_of fact) q) [ inl d ↦ absurd (ne d.0) | inr d ↦ rw d.1 refl ]
+
+-- ---- the attempts
+
+same_id : (q k : ℕ) → ((q ≡ k) × (eq_by_cmp nat_cmp q k ≡ true)) ⊎ ((q ≡ k → ⊥) × (eq_by_cmp nat_cmp q k ≡ false))
+same_id q k =
+    elim (cases_Bool (q == k)) [
+      | inl t ↦ inl (eqb-true q k t, unsigned_tied q k ∙ t)
+      | inr f ↦ inr ((λ e. let clash : true ≡ false = sym (eq-eqb q k e) ∙ f in cc), unsigned_tied q k ∙ f)
+    ]
+
+-- what is there without some attempt was there before, and isn't that attempt
+record IsLeft (attempts : Attempts) (gone : Option ℕ) (near : ℕ) (a : AttemptState) : Type 0 where
+  was : get attempts near ≡ Some a
+  other : gone ≡ Some near → ⊥
+
+left : (attempts : Attempts) (gone : Option ℕ) (near : ℕ) (a : AttemptState) → get (without attempts gone) near ≡ Some a → IsLeft attempts gone near a
+left attempts None near a e = record { was = e; other = λ some. cc }
+left attempts (Some k) near a e =
+    let found = sym (get-remove nat_cmp_total attempts k near) ∙ e in
+    elim (same_id near k) [
+      | inl d ↦ let clash : None ≡ Some a = ap (λ b. cond b None (get attempts near)) (sym d.1) ∙ found in absurd (cc)
+      | inr d ↦
+          record {
+            was = ap (λ b. cond b None (get attempts near)) (sym d.1) ∙ found;
+            other = λ some. d.0 (let is : k ≡ near = cc in sym is);
+          }
+    ]
+
+stays : (attempts : Attempts) (gone : Option ℕ) (near : ℕ) → (gone ≡ Some near → ⊥) → get (without attempts gone) near ≡ get attempts near
+stays attempts None near ne = refl
+stays attempts (Some k) near ne =
+    get-remove nat_cmp_total attempts k near
+    ∙ elim (same_id near k) [ inl d ↦ absurd (ne (ap (λ (n : ℕ). Some n) (sym d.0))) | inr d ↦ rw d.1 refl ]
+
+-- ---- a step
+
+record IsAttemptAt (thing : Option Held) (near : ℕ) : Type 0 where
+  n : ℕ
+  ni : List ℕ
+  is : thing ≡ Some (Opening n near ni)
+
+attempt_is : (thing : Option Held) (near : ℕ) → opening_id thing ≡ Some near → IsAttemptAt thing near
+attempt_is None near e = absurd (cc)
+attempt_is (Some (Opening n k ni)) near e = record { n = n; ni = ni; is = let same : k ≡ near = cc in ap (λ (i : ℕ). Some (Opening n i ni)) same }
+attempt_is (Some (HalfOpen j)) near e = absurd (cc)
+attempt_is (Some (KeptAsResponder j)) near e = absurd (cc)
+attempt_is (Some (KeptAsInitiator j)) near e = absurd (cc)
+
+-- what a fact leaves where its peer's attempt, if one was held, isn't kept
+abbrev pub stepped : StartupState → Fact → StartupState
+stepped s fact = record s { ledger = noted s.ledger fact; attempts = without s.attempts (opening_id (held_with s.ledger (peer_of fact))) }
+
+-- Where a fact leaves no attempt with its peer, and that attempt isn't kept, all is sound.
+pub sound_after : (s : StartupState) (fact : Fact) → IsSound s → opening_id (held_with (noted s.ledger fact) (peer_of fact)) ≡ None → IsSound (stepped s fact)
+sound_after s fact sound none =
+    let p = peer_of fact in
+    let gone = opening_id (held_with s.ledger p) in
+    record {
+      own = sound.own;
+      held = λ near a e.
+          let there = left s.attempts gone near a e in
+          let is = sound.held near a there.was in
+          held_after_other s.ledger fact a.peer (λ same. there.other (ap (λ q. opening_id (held_with s.ledger q)) same ∙ ap opening_id is)) ∙ is;
+      there = λ peer n near ni e.
+          elim (same_end p peer) [
+            | inl d ↦
+                let clash : None ≡ Some near = sym none ∙ ap (λ q. opening_id (held_with (noted s.ledger fact) q)) d.0 ∙ ap opening_id e in
+                absurd (cc)
+            | inr d ↦
+                let old = sound.there peer n near ni (sym (held_after_other s.ledger fact peer d.0) ∙ e) in
+                ap peer_of_attempt
+                (stays s.attempts gone near (λ some.
+                let at = attempt_is (held_with s.ledger p) near some in
+                let same : Some p ≡ Some peer = sym (sound.there p at.n near at.ni at.is) ∙ old in
+                d.0 (cc)))
+                ∙ old
+          ];
+    }
+
+-- ---- a birth
+
+-- a held attempt, or a session, is ended first
+ended_is_sound : (s : StartupState) (fact : Fact) → IsSound s → after fact (held_with s.ledger (peer_of fact)) ≡ None → IsSound (stepped s fact)
+ended_is_sound s fact sound ends = sound_after s fact sound (ap opening_id (held_after_own s.ledger fact ∙ ends))
+
+-- the session is born where nothing is held
+born_is_sound : (s : StartupState) (j : Joined) → IsSound s → IsSound (stepped s (Born j))
+born_is_sound s j sound = sound_after s (Born j) sound (ap opening_id (held_after_own s.ledger (Born j)))
+
+-- what a birth leaves, by what was held
+abbrev birth_of : StartupState → Keying → ℕ → List ℕ → Option Held → StartupState
+birth_of s keying near nr thing =
+    record s { ledger = heard_noted s.ledger (Birth (way_made keying.peer thing) (born_fact s.ledger keying near nr)); attempts = without s.attempts (opening_id thing) }
+
+-- ended first, and then born
+two_steps : (s : StartupState) (keying : Keying) (near : ℕ) (nr : List ℕ) (id : ℕ) (why : Why) (thing : Option Held) → IsSound s → held_with s.ledger keying.peer ≡ thing
+    → IsSound (record s { ledger = noted (noted s.ledger (Ended keying.peer id why)) (born_fact s.ledger keying near nr); attempts = without s.attempts (opening_id thing) })
+two_steps s keying near nr id why thing sound is =
+    let ended : Fact = Ended keying.peer id why in
+    let j : Joined = record { peer = keying.peer; n = keying.n; near = near; far = keying.far; ni = keying.ni; nr = nr; k = s.ledger.started } in
+    let first : StartupState = stepped s ended in
+    let second : IsSound (stepped first (Born j)) = born_is_sound first j (ended_is_sound s ended sound refl) in
+    let none : opening_id (held_with (noted s.ledger ended) keying.peer) ≡ None = ap opening_id (held_after_own s.ledger ended) in
+    let left_are : without (without s.attempts (opening_id (held_with s.ledger keying.peer))) (opening_id (held_with (noted s.ledger ended) keying.peer)) ≡ without s.attempts (opening_id thing) =
+    ap (without (without s.attempts (opening_id (held_with s.ledger keying.peer)))) none ∙ ap (λ t. without s.attempts (opening_id t)) is in
+    subst (λ (a : Attempts). IsSound (record s { ledger = noted (noted s.ledger ended) (Born j); attempts = a })) left_are second
+
+birth_by : (s : StartupState) (keying : Keying) (near : ℕ) (nr : List ℕ) (thing : Option Held) → IsSound s → held_with s.ledger keying.peer ≡ thing → IsSound (birth_of s keying near nr thing)
+birth_by s keying near nr None sound is =
+    let j : Joined = record { peer = keying.peer; n = keying.n; near = near; far = keying.far; ni = keying.ni; nr = nr; k = s.ledger.started } in
+    subst (λ t. IsSound (record s { ledger = noted s.ledger (Born j); attempts = without s.attempts (opening_id t) })) is (born_is_sound s j sound)
+birth_by s keying near nr (Some (Opening n id ni)) sound is = two_steps s keying near nr id ForGlare (Some (Opening n id ni)) sound is
+birth_by s keying near nr (Some (HalfOpen j)) sound is = two_steps s keying near nr j.near ForOverride (Some (HalfOpen j)) sound is
+birth_by s keying near nr (Some (KeptAsResponder j)) sound is = two_steps s keying near nr j.near ForOverride (Some (KeptAsResponder j)) sound is
+birth_by s keying near nr (Some (KeptAsInitiator j)) sound is = two_steps s keying near nr j.near ForOverride (Some (KeptAsInitiator j)) sound is
+
+pub birth_is_sound : (s : StartupState) (keying : Keying) (near : ℕ) (nr : List ℕ) → IsSound s → IsSound (birth_of s keying near nr (held_with s.ledger keying.peer))
+birth_is_sound s keying near nr sound = birth_by s keying near nr (held_with s.ledger keying.peer) sound refl
+
+-- what a keying gives that isn't of a held session is a birth
+pub birth_heard : (l : Ledger) (keying : Keying) (near : ℕ) (nr : List ℕ) → again_of (held_with l keying.peer) keying ≡ None
+    → heard l keying near nr ≡ Birth (way_made keying.peer (held_with l keying.peer)) (born_fact l keying near nr)
+birth_heard l keying near nr none =
+    ap (λ o. again_or o (Birth (way_made keying.peer (held_with l keying.peer)) (born_fact l keying near nr))) none
+
+-- no session is held again where none is born again
+none_again : (b : Bool) (near : ℕ) (j : Joined) → where_true b j ≡ None → where_true b near ≡ None
+none_again true near j e = absurd (cc)
+none_again false near j e = refl
+
+pub not_repeated : (thing : Option Held) (keying : Keying) → repeated_session thing keying ≡ None → again_of thing keying ≡ None
+not_repeated None keying e = refl
+not_repeated (Some (Opening n near ni)) keying e = refl
+not_repeated (Some (HalfOpen j)) keying e = none_again (is_born_of j keying) j.near j e
+not_repeated (Some (KeptAsResponder j)) keying e = none_again (is_born_of j keying) j.near j e
+not_repeated (Some (KeptAsInitiator j)) keying e = refl
+
+-- ---- what an initiator's keying leaves
+
+keyed_by_is_sound : (s : StartupState) (keying : Keying) (near : ℕ) (nr : List ℕ) (again : Option Joined) → repeated_session (held_with s.ledger keying.peer) keying ≡ again
+    → IsSound s → IsSound (after_again_or_birth s keying near nr again)
+keyed_by_is_sound s keying near nr (Some j) is sound = sound
+keyed_by_is_sound s keying near nr None is sound =
+    subst (λ (h : Heard). IsSound (record s { ledger = heard_noted s.ledger h; attempts = without s.attempts (opening_id (held_with s.ledger keying.peer)) }))
+    (sym (birth_heard s.ledger keying near nr (not_repeated (held_with s.ledger keying.peer) keying is))) (birth_is_sound s keying near nr sound)
+
+tested_is_sound : (s : StartupState) (near : ℕ) (nr : List ℕ) (keying : InitiatorKeying) (test : CookieTest) → IsSound s → IsSound (after_keyed_with s near nr keying test)
+tested_is_sound s near nr keying Current sound =
+    keyed_by_is_sound s (keying_of keying) near nr (repeated_session (held_with s.ledger (sha256 keying.cert)) (keying_of keying)) refl sound
+tested_is_sound s near nr keying Bad sound = sound
+tested_is_sound s near nr keying Moved sound = sound
+tested_is_sound s near nr keying Expired sound = sound
+
+read_is_sound : (s : StartupState) (from : AddressParts) (now near : ℕ) (nr : List ℕ) (reading : Result InitiatorKeying Cause) → IsSound s
+    → IsSound (after_keyed_reading s from now near nr reading)
+read_is_sound s from now near nr (Ok keying) sound = tested_is_sound s near nr keying (cookie_test s.cookie_secret keying.cookie from now) sound
+read_is_sound s from now near nr (Err cause) sound = sound
+
+-- The attempts and the ledger name the same things after an initiator's keying.
+pub after_keying_is_sound : (s : StartupState) (payload : List ℕ) (from : AddressParts) (now near : ℕ) (nr : List ℕ) → IsSound s
+    → IsSound (after_keying s payload from now near nr)
+after_keying_is_sound s payload from now near nr sound = read_is_sound s from now near nr (initiator_keying_in payload) sound
+
+-- ---- what a responder's keying leaves
+
+-- They do after the opening of an attempt.
+pub after_opening_is_sound : (s : StartupState) (near : ℕ) (a : AttemptState) (keying : ResponderKeying) → IsSound s → get s.attempts near ≡ Some a
+    → IsSound (after_opening s near (opened_with near keying a))
+after_opening_is_sound s near a keying sound there =
+    let fact : Fact = opened_with near keying a in
+    let held_is : held_with s.ledger a.peer ≡ Some (Opening a.n near a.ni) = sound.held near a there in
+    let none : opening_id (held_with (noted s.ledger fact) a.peer) ≡ None = ap opening_id (held_after_own s.ledger fact ∙ ap (after fact) held_is) in
+    subst (λ (t : Option ℕ). IsSound (record s { ledger = noted s.ledger fact; attempts = without s.attempts t })) (ap opening_id held_is) (sound_after s fact sound none)
+
+-- ---- a birth in the code
+
+-- the ledger heard a keying of which no session is held, and the attempt left
+pub born_is_kept_sound : (s : StartupState) (keying : Keying) (near : ℕ) (nr : List ℕ) (answer : Heard) (ledger : Ledger) (attempts : Attempts) → IsSound s
+    → repeated_session (held_with s.ledger keying.peer) keying ≡ None → answer ≡ heard s.ledger keying near nr → ledger ≡ heard_noted s.ledger answer
+    → attempts ≡ without s.attempts (opening_id (held_with s.ledger keying.peer))
+    → IsSound (record s { ledger = ledger; attempts = attempts })
+born_is_kept_sound s keying near nr answer ledger attempts sound fresh is noted_is left_is =
+    let ledgers : ledger ≡ heard_noted s.ledger (heard s.ledger keying near nr) = noted_is ∙ ap (heard_noted s.ledger) is in
+    let states : record s { ledger = ledger; attempts = attempts } ≡ after_again_or_birth s keying near nr None = λ i. record s { ledger = ledgers i; attempts = left_is i } in
+    subst IsSound (sym states) (keyed_by_is_sound s keying near nr None fresh sound)
+
+-- and what it gave is the birth
+pub born_is_birth : (s : StartupState) (keying : Keying) (from : AddressParts) (near : ℕ) (nr : List ℕ) (ended : Option Fact) (born : Fact) (answer : Answer)
+    → repeated_session (held_with s.ledger keying.peer) keying ≡ None → Birth ended born ≡ heard s.ledger keying near nr
+    → answer ≡ session_answer s (born_session s.ledger keying near nr) from
+    → BirthKeyed ended born answer ≡ again_or_birth s keying from near nr None
+born_is_birth s keying from near nr ended born answer fresh is told =
+    let same : Birth ended born ≡ Birth (way_made keying.peer (held_with s.ledger keying.peer)) (born_fact s.ledger keying near nr) =
+    is ∙ birth_heard s.ledger keying near nr (not_repeated (held_with s.ledger keying.peer) keying fresh) in
+    let ends : ended ≡ way_made keying.peer (held_with s.ledger keying.peer) = cc in
+    let borns : born ≡ born_fact s.ledger keying near nr = cc in
+    λ i. BirthKeyed (ends i) (borns i) (told i)
+
+-- ---- an opening in the code
+
+-- the attempt under a near id
+pub attempt_there : (found : Option AttemptState) (peer : List ℕ) → peer_of_attempt found ≡ Some peer → (a : AttemptState) × (found ≡ Some a) × (a.peer ≡ peer)
+attempt_there None peer e = absurd (cc)
+attempt_there (Some a) peer e = (a, refl, cc)
+
+-- the attempt is held with its peer, and its session is opened
+pub answered_is_opened : (s : StartupState) (near : ℕ) (peer : List ℕ) (keying : ResponderKeying) (a : AttemptState) → IsSound s → get s.attempts near ≡ Some a → a.peer ≡ peer
+    → opened_fact (held_with s.ledger peer) peer keying.part.nr keying.near keying.part.k ≡ Some (opened_with near keying a)
+answered_is_opened s near peer keying a sound there is =
+    ap (λ q. opened_fact (held_with s.ledger q) q keying.part.nr keying.near keying.part.k) (sym is)
+    ∙ ap (λ thing. opened_fact thing a.peer keying.part.nr keying.near keying.part.k) (sound.held near a there)
+
+-- the attempt's opening was noted, and the attempt left
+pub opened_is_kept_sound : (s : StartupState) (near : ℕ) (peer : List ℕ) (keying : ResponderKeying) (fact : Fact) (ledger : Ledger) (attempts : Attempts) → IsSound s
+    → peer_of_attempt (get s.attempts near) ≡ Some peer → Some fact ≡ opened_fact (held_with s.ledger peer) peer keying.part.nr keying.near keying.part.k
+    → ledger ≡ noted s.ledger fact → attempts ≡ remove s.attempts near → IsSound (record s { ledger = ledger; attempts = attempts })
+opened_is_kept_sound s near peer keying fact ledger attempts sound there told noted_is left_is =
+    let at = attempt_there (get s.attempts near) peer there in
+    let both : Some fact ≡ Some (opened_with near keying at.0) = told ∙ answered_is_opened s near peer keying at.0 sound at.1 at.2 in
+    let fact_is : fact ≡ opened_with near keying at.0 = cc in
+    let ledgers : ledger ≡ noted s.ledger (opened_with near keying at.0) = noted_is ∙ ap (noted s.ledger) fact_is in
+    let states : record s { ledger = ledger; attempts = attempts } ≡ after_opening s near (opened_with near keying at.0) = λ i. record s { ledger = ledgers i; attempts = left_is i } in
+    subst IsSound (sym states) (after_opening_is_sound s near at.0 keying sound at.1)
+
+-- where there are no attempts none is found
+pub none_without_attempts : (s : StartupState) (near : ℕ) → s.attempts ≡ empty → get s.attempts near ≡ None
+none_without_attempts s near none = ap (λ (attempts : Attempts). get attempts near) none ∙ get-empty nat_cmp near

@@ -1,0 +1,258 @@
+-- The attempts of an end: how one begins, goes on from hellos to keyings, and ends.
+use Rattle.std.specs.Prelude.{ℕ, ◌+◌, ◌==◌, Bool, false, nat_lt, if◌then◌else◌, List, [], ◌∷◌, ◌++◌, length, Option, Some, None}
+use Rattle.std.specs.List.{find, fold, list_any}
+use Rattle.std.specs.Str.{bytes_eq}
+use Rattle.std.specs.FinMap.{get, insert, remove, entries}
+use Rattle.sha2.specs.Sha256.{sha256}
+use Rattle.crypto_profile.specs.Keys.{sign_key_of}
+use Rattle.rtmfp_forms.specs.Address.{AddressParts}
+use Rattle.cookies.specs.Cookie.{is_same_place}
+use Rattle.glare_core.specs.declared.facts.Why.{Why}
+use Rattle.glare_core.specs.declared.facts.Why.TheVariants.{Cancelled}
+use Rattle.glare_core.specs.declared.facts.Fact.{Fact}
+use Rattle.glare_core.specs.declared.facts.Fact.TheVariants.{Ended}
+use Rattle.glare_core.specs.declared.facts.Held.{Held}
+use Rattle.glare_core.specs.declared.facts.Held.TheVariants.{Opening, HalfOpen, KeptAsResponder, KeptAsInitiator}
+use Rattle.glare_core.specs.Ledger.{Ledger, held_with, noted, noted_if}
+use Rattle.glare_core.specs.Calls.{where_true, first_that_stands, started_fact, confirmed_fact, ended_fact}
+use Rattle.startup.specs.declared.attempt.Stage.{Stage}
+use Rattle.startup.specs.declared.attempt.Stage.TheVariants.{Hello, Keying}
+use Rattle.startup.specs.declared.answer.Answer.{Answer}
+use Rattle.startup.specs.declared.cause.Cause.{Cause}
+use Rattle.startup.specs.declared.cause.Cause.TheVariants.{Wide, NoAttempt, WrongState, WrongPeer}
+use Rattle.startup.specs.State.{AttemptState, Attempts, StartupState, SpreadParts}
+use Rattle.startup.specs.Packets.{ihello_packet, iikeying_signed}
+
+-- ---- finding attempts
+
+-- the attempt with the lowest near id of those that pass the test, and that near id
+abbrev pub lowest : (AttemptState → Bool) → Attempts → Option (ℕ × AttemptState)
+lowest test attempts = find (λ e. test e.1) (entries attempts)
+
+abbrev pub has_number : ℕ → AttemptState → Bool
+has_number n a = a.n == n
+
+abbrev pub has_tag : List ℕ → AttemptState → Bool
+has_tag tag a = bytes_eq a.tag tag
+
+-- An attempt has a cookie in the keying stage alone.
+abbrev pub is_cookie_of : List ℕ → Stage → Bool
+is_cookie_of cookie Hello = false
+is_cookie_of cookie (Keying at kept) = bytes_eq kept cookie
+
+abbrev pub has_cookie : List ℕ → AttemptState → Bool
+has_cookie cookie a = is_cookie_of cookie a.stage
+
+-- ---- changing what is kept
+
+abbrev pub with_ledger : StartupState → Ledger → StartupState
+with_ledger s ledger = record { cert = s.cert; secret = s.secret; cookie_secret = s.cookie_secret; ledger = ledger; attempts = s.attempts }
+
+-- an attempt put under its near id
+abbrev pub with_attempt : StartupState → ℕ → AttemptState → StartupState
+with_attempt s near a = record { cert = s.cert; secret = s.secret; cookie_secret = s.cookie_secret; ledger = s.ledger; attempts = insert s.attempts near a }
+
+-- a fact noted, and the attempt with this near id forgotten
+abbrev pub without_attempt : StartupState → ℕ → Fact → StartupState
+without_attempt s near fact =
+    record { cert = s.cert; secret = s.secret; cookie_secret = s.cookie_secret; ledger = noted s.ledger fact; attempts = remove s.attempts near }
+
+-- ---- packets
+
+-- the hellos of an attempt, to these addresses
+abbrev pub hello_spread : AttemptState → List AddressParts → SpreadParts
+hello_spread a to = record { to = to; plain = ihello_packet (0x01 ∷ a.peer) a.tag }
+
+-- the keying of an attempt, to an address with a cookie: under the signature key, with the own certificate
+abbrev pub keying_signed : List ℕ → List ℕ → ℕ → AttemptState → AddressParts → List ℕ → Answer
+keying_signed key cert near a to cookie = record { to = to; sid = 0; plain = iikeying_signed key near cookie cert a.ni a.n a.peer }
+
+abbrev pub keying_answer : StartupState → ℕ → AttemptState → AddressParts → List ℕ → Answer
+keying_answer s near a to cookie = keying_signed (sign_key_of s.secret) s.cert near a to cookie
+
+-- ---- an attempt begins
+
+-- An address joins the others unless one at its place is there.
+abbrev pub joined : List AddressParts → AddressParts → List AddressParts
+joined places address = if list_any (is_same_place address) places then places else places ++ address ∷ []
+
+-- of the candidates at one place the first, in their order
+abbrev pub places_of : List AddressParts → List AddressParts
+places_of candidates = fold joined [] candidates
+
+abbrev pub begun_attempt : StartupState → List ℕ → List AddressParts → List ℕ → List ℕ → ℕ → AttemptState
+begun_attempt s peer candidates ni tag moment =
+    record {
+      peer = peer;
+      n = s.ledger.started + 1;
+      ni = ni;
+      tag = tag;
+      start = moment;
+      candidates = places_of candidates;
+      stage = Hello;
+      last = moment;
+      gap = 0;
+    }
+
+abbrev pub after_begin : StartupState → List ℕ → List AddressParts → ℕ → List ℕ → List ℕ → ℕ → StartupState
+after_begin s peer candidates near ni tag moment =
+    with_attempt (with_ledger s (noted s.ledger (started_fact s.ledger peer near ni))) near (begun_attempt s peer candidates ni tag moment)
+
+abbrev pub begin_spread : StartupState → List ℕ → List AddressParts → List ℕ → List ℕ → ℕ → SpreadParts
+begin_spread s peer candidates ni tag moment = hello_spread (begun_attempt s peer candidates ni tag moment) (places_of candidates)
+
+-- ---- an attempt is given up
+
+abbrev pub ended_attempt : ℕ × AttemptState → Why → Fact
+ended_attempt e why = Ended e.1.peer e.0 why
+
+abbrev pub end_of : Option (ℕ × AttemptState) → Why → Option Fact
+end_of None why = None
+end_of (Some e) why = Some (ended_attempt e why)
+
+abbrev pub after_end_of : StartupState → Option (ℕ × AttemptState) → Why → StartupState
+after_end_of s None why = s
+after_end_of s (Some e) why = without_attempt s e.0 (ended_attempt e why)
+
+-- the fact with which the attempt of this number is cancelled, and what is kept after it
+abbrev pub cancel_fact : StartupState → ℕ → Option Fact
+cancel_fact s n = end_of (lowest (has_number n) s.attempts) Cancelled
+
+abbrev pub after_cancel : StartupState → ℕ → StartupState
+after_cancel s n = after_end_of s (lowest (has_number n) s.attempts) Cancelled
+
+-- ---- a session is confirmed or ends
+
+abbrev pub confirm_fact : StartupState → List ℕ → Option Fact
+confirm_fact s peer = confirmed_fact (held_with s.ledger peer) peer
+
+abbrev pub after_confirm : StartupState → List ℕ → StartupState
+after_confirm s peer = with_ledger s (noted_if s.ledger (confirm_fact s peer))
+
+-- what is held, where it is a session
+abbrev pub session_in : Option Held → Option Held
+session_in None = None
+session_in (Some (Opening n near ni)) = None
+session_in (Some (HalfOpen j)) = Some (HalfOpen j)
+session_in (Some (KeptAsResponder j)) = Some (KeptAsResponder j)
+session_in (Some (KeptAsInitiator j)) = Some (KeptAsInitiator j)
+
+-- the fact with which the session with a peer ends, and what is kept after it
+abbrev pub end_fact : StartupState → List ℕ → Why → Option Fact
+end_fact s peer why = ended_fact (session_in (held_with s.ledger peer)) peer why
+
+abbrev pub after_end : StartupState → List ℕ → Why → StartupState
+after_end s peer why = with_ledger s (noted_if s.ledger (end_fact s peer why))
+
+-- ---- the responder's hello
+
+-- a tag or a cookie with more than 128 bytes
+abbrev pub wide : List ℕ → Option Cause
+wide bytes = where_true (nat_lt 128 (length bytes)) (Wide (length bytes))
+
+-- why an attempt isn't answered by the hello of an end with this fingerprint
+abbrev pub hello_cause : Stage → List ℕ → List ℕ → Option Cause
+hello_cause Hello peer print = if bytes_eq peer print then None else Some WrongPeer
+hello_cause (Keying at cookie) peer print = Some WrongState
+
+abbrev pub hello_cause_at : Option (ℕ × AttemptState) → List ℕ → Option Cause
+hello_cause_at None print = Some NoAttempt
+hello_cause_at (Some e) print = hello_cause e.1.stage e.1.peer print
+
+abbrev pub hello_cause_among : Attempts → List ℕ → List ℕ → List ℕ → Option Cause
+hello_cause_among attempts tag cookie print = first_that_stands (wide tag ∷ wide cookie ∷ hello_cause_at (lowest (has_tag tag) attempts) print ∷ [])
+
+-- why a responder's hello with this tag, cookie and certificate is discarded
+abbrev pub rhello_cause : StartupState → List ℕ → List ℕ → List ℕ → Option Cause
+rhello_cause s tag cookie cert = hello_cause_among s.attempts tag cookie (sha256 cert)
+
+-- an attempt that was answered, from an address with a cookie
+abbrev pub answered : AttemptState → AddressParts → List ℕ → ℕ → AttemptState
+answered a from cookie moment =
+    record {
+      peer = a.peer;
+      n = a.n;
+      ni = a.ni;
+      tag = a.tag;
+      start = a.start;
+      candidates = a.candidates;
+      stage = Keying from cookie;
+      last = moment;
+      gap = 0;
+    }
+
+abbrev pub after_answer : StartupState → Option (ℕ × AttemptState) → AddressParts → List ℕ → ℕ → StartupState
+after_answer s None from cookie moment = s
+after_answer s (Some e) from cookie moment = with_attempt s e.0 (answered e.1 from cookie moment)
+
+abbrev pub answer_keying : StartupState → Option (ℕ × AttemptState) → AddressParts → List ℕ → Option Answer
+answer_keying s None from cookie = None
+answer_keying s (Some e) from cookie = Some (keying_answer s e.0 e.1 from cookie)
+
+-- what a responder's hello leaves, and the keying that answers it
+abbrev pub after_rhello : StartupState → List ℕ → List ℕ → AddressParts → ℕ → StartupState
+after_rhello s tag cookie from moment = after_answer s (lowest (has_tag tag) s.attempts) from cookie moment
+
+abbrev pub rhello_keying : StartupState → List ℕ → List ℕ → AddressParts → Option Answer
+rhello_keying s tag cookie from = answer_keying s (lowest (has_tag tag) s.attempts) from cookie
+
+-- ---- a cookie changes
+
+-- the attempt with this near id, where it has this cookie
+abbrev pub if_cookie : List ℕ → ℕ → Option AttemptState → Option (ℕ × AttemptState)
+if_cookie cookie near None = None
+if_cookie cookie near (Some a) = where_true (has_cookie cookie a) (near, a)
+
+-- the attempt whose cookie a change under this session ID replaces: under 0 the one with the lowest near id that has the old cookie, and else that attempt alone
+abbrev pub changed : Attempts → ℕ → List ℕ → Option (ℕ × AttemptState)
+changed attempts sid old = if sid == 0 then lowest (has_cookie old) attempts else if_cookie old sid (get attempts sid)
+
+abbrev pub none_to_change : Option (ℕ × AttemptState) → Option Cause
+none_to_change None = Some NoAttempt
+none_to_change (Some e) = None
+
+abbrev pub change_cause_among : Attempts → ℕ → List ℕ → List ℕ → Option Cause
+change_cause_among attempts sid old new = first_that_stands (wide old ∷ wide new ∷ none_to_change (changed attempts sid old) ∷ [])
+
+-- why a change of a cookie is discarded
+abbrev pub cookie_change_cause : StartupState → ℕ → List ℕ → List ℕ → Option Cause
+cookie_change_cause s sid old new = change_cause_among s.attempts sid old new
+
+abbrev pub with_cookie : List ℕ → Stage → Stage
+with_cookie cookie Hello = Hello
+with_cookie cookie (Keying at old) = Keying at cookie
+
+-- an attempt that sends its keying with another cookie
+abbrev pub recookied : AttemptState → List ℕ → ℕ → AttemptState
+recookied a cookie moment =
+    record {
+      peer = a.peer;
+      n = a.n;
+      ni = a.ni;
+      tag = a.tag;
+      start = a.start;
+      candidates = a.candidates;
+      stage = with_cookie cookie a.stage;
+      last = moment;
+      gap = a.gap;
+    }
+
+abbrev pub after_change : StartupState → Option (ℕ × AttemptState) → List ℕ → ℕ → StartupState
+after_change s None cookie moment = s
+after_change s (Some e) cookie moment = with_attempt s e.0 (recookied e.1 cookie moment)
+
+-- the keying that goes out again, to the address that answered
+abbrev pub again_signed : List ℕ → List ℕ → ℕ → AttemptState → Stage → List ℕ → Option Answer
+again_signed key cert near a Hello cookie = None
+again_signed key cert near a (Keying at old) cookie = Some (keying_signed key cert near a at cookie)
+
+abbrev pub change_keying : StartupState → Option (ℕ × AttemptState) → List ℕ → Option Answer
+change_keying s None cookie = None
+change_keying s (Some e) cookie = again_signed (sign_key_of s.secret) s.cert e.0 e.1 e.1.stage cookie
+
+-- what a change of a cookie leaves, and the keying that answers it
+abbrev pub after_cookie_change : StartupState → ℕ → List ℕ → List ℕ → ℕ → StartupState
+after_cookie_change s sid old new moment = after_change s (changed s.attempts sid old) new moment
+
+abbrev pub cookie_change_keying : StartupState → ℕ → List ℕ → List ℕ → Option Answer
+cookie_change_keying s sid old new = change_keying s (changed s.attempts sid old) new

@@ -1,0 +1,9 @@
+pub mod State
+pub mod Rows
+pub mod Packets
+pub mod Attempts
+pub mod Due
+pub mod Sought
+pub mod Keyings
+pub mod Read
+pub mod Refusals

@@ -1,0 +1,91 @@
+-- What an end keeps of the sessions that it opens: its attempts, beside what it holds with its peers.
+use Rattle.std.specs.Prelude.{ℕ, List, Option, Some, None, ◌≡◌, refl}
+use Rattle.std.specs.Ordering.{nat_cmp}
+use Rattle.std.specs.FinMap.{FinMap, get, empty, code}
+use Rattle.std.specs.Coded.{Coded, code_by, coded×, coded_ℕ, coded_list}
+use Rattle.sha2.specs.Sha256.{sha256}
+use Rattle.rtmfp_forms.specs.Address.{AddressParts}
+use Rattle.glare_core.specs.declared.facts.Held.TheVariants.{Opening}
+use Rattle.glare_core.specs.Ledger.{Ledger, new_ledger, held_with}
+use Rattle.startup.specs.declared.attempt.Stage.{Stage}
+
+-- one packet for several addresses, in this order
+pub record SpreadParts : Type 0 where
+  pub to : List AddressParts
+  pub plain : List ℕ
+
+-- an attempt towards a peer
+pub record AttemptState : Type 0 where
+  -- the fingerprint of the peer
+  pub peer : List ℕ
+  -- the number of the attempt
+  pub n : ℕ
+  -- its nonce
+  pub ni : List ℕ
+  -- the tag of its hellos
+  pub tag : List ℕ
+  -- the moment of its start
+  pub start : ℕ
+  -- where its hellos go
+  pub candidates : List AddressParts
+  -- whether hellos or keyings are sent, and for keyings the address and the cookie
+  pub stage : Stage
+  -- the moment of the last sending
+  pub last : ℕ
+  -- how many repeats were sent in this stage, of those that lengthen the gap
+  pub gap : ℕ
+
+-- the attempts, by their near ids
+abbrev pub Attempts : Type 0
+Attempts = FinMap nat_cmp AttemptState
+
+pub record StartupState : Type 0 where
+  -- the own certificate
+  pub cert : List ℕ
+  -- the secret of the group
+  pub secret : List ℕ
+  -- the secret of the own cookies
+  pub cookie_secret : List ℕ
+  -- what is held with each peer
+  pub ledger : Ledger
+  pub attempts : Attempts
+
+abbrev pub new_startup : List ℕ → List ℕ → List ℕ → ℕ → StartupState
+new_startup cert secret cookie_secret max_peers =
+    record { cert = cert; secret = secret; cookie_secret = cookie_secret; ledger = new_ledger (sha256 cert) max_peers 0; attempts = empty }
+
+-- the peer of the attempt, where there is one
+abbrev pub peer_of_attempt : Option AttemptState → Option (List ℕ)
+peer_of_attempt None = None
+peer_of_attempt (Some a) = Some a.peer
+
+-- The attempts and the ledger name the same things.
+pub record IsSound (s : StartupState) : Type 0 where
+  -- the ledger is of the own fingerprint
+  pub own : s.ledger.own ≡ sha256 s.cert
+  -- each attempt is held with its peer
+  pub held : (near : ℕ) (a : AttemptState) → get s.attempts near ≡ Some a → held_with s.ledger a.peer ≡ Some (Opening a.n near a.ni)
+  -- each attempt that is held is there under its near id
+  pub there : (peer : List ℕ) (n near : ℕ) (ni : List ℕ) → held_with s.ledger peer ≡ Some (Opening n near ni) → peer_of_attempt (get s.attempts near) ≡ Some peer
+
+-- ---- how these are stored: as the tuples of their fields
+
+abbrev pub spread_code : Coded AddressParts → Coded SpreadParts
+spread_code address =
+    code_by (List AddressParts × List ℕ) (coded× (coded_list address) (coded_list coded_ℕ)) (λ s. (s.to, s.plain)) (λ p. record { to = p.0; plain = p.1 }) (λ _. refl)
+
+abbrev pub attempt_code : Coded AddressParts → Coded Stage → Coded AttemptState
+attempt_code address stage =
+    code_by (List ℕ × (ℕ × (List ℕ × (List ℕ × (ℕ × (List AddressParts × (Stage × (ℕ × ℕ))))))))
+    (coded× (coded_list coded_ℕ) (coded× coded_ℕ (coded× (coded_list coded_ℕ) (coded× (coded_list coded_ℕ) (coded× coded_ℕ (coded× (coded_list address) (coded× stage (coded× coded_ℕ coded_ℕ))))))))
+    (λ a. (a.peer, (a.n, (a.ni, (a.tag, (a.start, (a.candidates, (a.stage, (a.last, a.gap)))))))))
+    (λ p. record { peer = p.0; n = p.1.0; ni = p.1.1.0; tag = p.1.1.1.0; start = p.1.1.1.1.0; candidates = p.1.1.1.1.1.0; stage = p.1.1.1.1.1.1.0; last = p.1.1.1.1.1.1.1.0; gap = p.1.1.1.1.1.1.1.1 })
+    (λ _. refl)
+
+abbrev pub startup_code : Coded Ledger → Coded AttemptState → Coded StartupState
+startup_code ledger attempt =
+    code_by (List ℕ × (List ℕ × (List ℕ × (Ledger × Attempts))))
+    (coded× (coded_list coded_ℕ) (coded× (coded_list coded_ℕ) (coded× (coded_list coded_ℕ) (coded× ledger (code coded_ℕ attempt)))))
+    (λ s. (s.cert, (s.secret, (s.cookie_secret, (s.ledger, s.attempts)))))
+    (λ p. record { cert = p.0; secret = p.1.0; cookie_secret = p.1.1.0; ledger = p.1.1.1.0; attempts = p.1.1.1.1 })
+    (λ _. refl)

@@ -1,0 +1,153 @@
+//! What is kept of an attempt, in fixed arrays.
+
+use rtmfp_forms::Address;
+use std::marker::Model;
+
+/// The most bytes of a cookie that is kept (own).
+pub(crate) const COOKIE_LIMIT: usize = 128;
+
+/// The most candidate addresses of an attempt (own).
+pub(crate) const CANDIDATES: usize = 16;
+
+/// The number of the gap that stays (own).
+const LAST_GAP: u8 = 4;
+
+/// A peer's cookie, at most 128 bytes.
+#[derive(Drop)]
+pub(crate) struct KeptCookie {
+    pub(crate) kept: [u8; COOKIE_LIMIT],
+    pub(crate) len: usize,
+}
+
+impl Model for KeptCookie {
+    ghost use Rattle.std.specs.Prelude.{ℕ, List, take, ◌≤◌};
+
+    ghost Value = { List ℕ };
+
+    ghost view = { λ c. take c.len c.kept };
+
+    ghost invariant = { λ c. c.len ≤ 128 };
+}
+
+impl KeptCookie {
+    ghost use Rattle.std.specs.Prelude.{◌≡◌, ◌≤◌, length};
+
+    /// The cookie that these bytes are.
+    pub(crate) fn of(bytes: &[u8]) -> KeptCookie
+        requires { length bytes.now ≤ 128 }
+        ensures { result ≡ bytes.now }
+    {
+        let mut kept = [0; COOKIE_LIMIT];
+        kept[..bytes.len()].copy_from_slice(bytes);
+        KeptCookie {
+            kept,
+            len: bytes.len(),
+        }
+    }
+
+    pub(crate) fn bytes(&self) -> &[u8]
+        ensures bytes { result.now ≡ self.now }
+        ensures limit { length self.now ≤ 128 }
+    {
+        &self.kept[..self.len]
+    }
+}
+
+/// How far an attempt has come.
+#[derive(Drop)]
+pub(crate) enum Stage {
+    /// Hellos go to all candidates.
+    Hello,
+    /// The responder answered from this address with this cookie, and keyings go there.
+    Keying { at: Address, cookie: KeptCookie },
+}
+
+/// An attempt towards a peer.
+#[derive(Drop)]
+pub(crate) struct Attempt {
+    /// The fingerprint of the peer.
+    pub(crate) peer: [u8; 32],
+    /// The number of the attempt.
+    pub(crate) n: u64,
+    /// Its nonce.
+    pub(crate) ni: [u8; 16],
+    /// The tag of its hellos.
+    pub(crate) tag: [u8; 16],
+    /// When it was started, in milliseconds.
+    pub(crate) start: u64,
+    /// The candidate addresses: the first `count` of these, no two at one place.
+    pub(crate) candidates: [Address; CANDIDATES],
+    pub(crate) count: usize,
+    pub(crate) stage: Stage,
+    /// When something was last sent for it.
+    pub(crate) last: u64,
+    /// Which gap comes before its next repeat.
+    pub(crate) gap: u8,
+}
+
+impl Model for Attempt {
+    ghost use Rattle.std.specs.Prelude.{◌≤◌, take};
+    ghost use Rattle.startup.specs.State.{AttemptState, attempt_code};
+    ghost use Rattle.rtmfp_forms.specs.contracts.address.Address as address_type;
+    ghost use Rattle.startup.specs.contracts.attempt.Stage as stage_type;
+
+    ghost Value = { AttemptState };
+
+    ghost coded = { attempt_code address_type.the_row.coded stage_type.the_row.coded };
+
+    ghost view = { λ a. record { peer = a.peer; n = a.n; ni = a.ni; tag = a.tag; start = a.start; candidates = take a.count a.candidates; stage = a.stage; last = a.last; gap = a.gap } };
+
+    ghost invariant = { λ a. a.count ≤ 16 };
+}
+
+impl Attempt {
+    ghost use Rattle.std.specs.Prelude.{◌≡◌, ◌≤◌, length};
+    ghost use Rattle.startup.specs.Attempts.{answered, recookied};
+    ghost use Rattle.startup.specs.Due.{repeated};
+
+    /// The responder answered from this address with this cookie.
+    pub(crate) fn answer(&mut self, from: &Address, cookie: &[u8], moment: u64)
+        requires { length cookie.now ≤ 128 }
+        ensures { self.new ≡ answered self.old from.now cookie.now moment }
+    {
+        self.stage = Stage::Keying {
+            at: *from,
+            cookie: KeptCookie::of(cookie),
+        };
+        self.last = moment;
+        self.gap = 0;
+    }
+
+    /// Its keying goes out with another cookie from now on.
+    pub(crate) fn recookie(&mut self, new: &[u8], moment: u64)
+        requires { length new.now ≤ 128 }
+        ensures { self.new ≡ recookied self.old new.now moment }
+    {
+        if let Stage::Keying { at, .. } = &self.stage {
+            self.stage = Stage::Keying {
+                at: *at,
+                cookie: KeptCookie::of(new),
+            };
+        }
+        self.last = moment;
+    }
+
+    /// What it sends is sent again.
+    pub(crate) fn repeat(&mut self, moment: u64)
+        ensures { self.new ≡ repeated self.old moment }
+    {
+        self.last = moment;
+        self.gap = if self.gap < LAST_GAP {
+            self.gap + 1
+        } else {
+            LAST_GAP
+        };
+    }
+}
+
+/// An attempt, and its near id.
+#[derive(Drop)]
+pub(crate) struct Row {
+    pub(crate) near: u32,
+    pub(crate) attempt: Attempt,
+}

@@ -1,0 +1,123 @@
+//! Which attempt a chunk speaks of, and why it is discarded.
+
+ghost use Rattle.std.specs.Prelude.{◌≡◌, ◌≤◌, length, IfOk, IfErr, Some, None};
+ghost use Rattle.std.specs.FinMap.{get, len};
+ghost use Rattle.startup.specs.Rows.{table_of};
+ghost use Rattle.startup.specs.Attempts.{wide, lowest, has_tag, hello_cause, hello_cause_among, changed, if_cookie, change_cause_among};
+ghost use Rattle.startup.specs.Sought.{IsChosen};
+
+use crate::attempt::{Attempt, Row, Stage};
+use crate::cause::Cause;
+use crate::leaving::place_of;
+use crate::rows::{Sought, has_cookie, lowest};
+
+/// The most bytes of a tag or a cookie that is taken from a peer (own).
+const WIDTH: usize = 128;
+
+/// A tag or a cookie of more than 128 bytes.
+pub(crate) fn wide(bytes: &[u8]) -> Option<Cause>
+    ensures { result ≡ wide bytes.now }
+{
+    if bytes.len() > WIDTH {
+        Some(Cause::Wide(bytes.len() as u64))
+    } else {
+        None
+    }
+}
+
+/// Why an attempt isn't answered by the hello of an end with this fingerprint.
+fn hello_cause(attempt: &Attempt, print: &[u8; 32]) -> Option<Cause>
+    ensures { result ≡ hello_cause attempt.now.stage attempt.now.peer print.now }
+{
+    match &attempt.stage {
+        Stage::Hello => {
+            if attempt.peer == *print {
+                None
+            } else {
+                Some(Cause::WrongPeer)
+            }
+        }
+        Stage::Keying { .. } => Some(Cause::WrongState),
+    }
+}
+
+/// The place of the attempt that a responder's hello with this tag, cookie and fingerprint answers, or why it is discarded.
+pub(crate) fn answered_place(
+    rows: &[Row],
+    tag: &[u8],
+    cookie: &[u8],
+    print: &[u8; 32],
+) -> Result<usize, Cause>
+    requires { len (table_of rows.now) ≡ length rows.now }
+    ensures ok { IfOk result (λ place. IsChosen (lowest (has_tag tag.now) (table_of rows.now)) rows.now (Some place)) }
+    ensures cookie { IfOk result (λ _. length cookie.now ≤ 128) }
+    ensures cause { IfOk result (λ _. hello_cause_among (table_of rows.now) tag.now cookie.now print.now ≡ None) }
+    ensures refused { IfErr result (λ cause. hello_cause_among (table_of rows.now) tag.now cookie.now print.now ≡ Some cause) }
+{
+    match wide(tag) {
+        Some(cause) => return Err(cause),
+        None => {}
+    }
+    match wide(cookie) {
+        Some(cause) => return Err(cause),
+        None => {}
+    }
+    let Some(place) = lowest(rows, &Sought::Tag(tag)) else {
+        return Err(Cause::NoAttempt);
+    };
+    match hello_cause(&rows[place].attempt, print) {
+        Some(cause) => Err(cause),
+        None => Ok(place),
+    }
+}
+
+/// The place of the attempt with this near id, where it has this cookie.
+fn cookie_place(rows: &[Row], near: u32, cookie: &[u8]) -> Option<usize>
+    requires { len (table_of rows.now) ≡ length rows.now }
+    ensures { IsChosen (if_cookie cookie.now near (get (table_of rows.now) near)) rows.now result }
+{
+    match place_of(rows, near) {
+        Some(place) => {
+            if has_cookie(&rows[place].attempt, cookie) {
+                Some(place)
+            } else {
+                None
+            }
+        }
+        None => None,
+    }
+}
+
+/// The place of the attempt whose cookie a change under this session ID replaces.
+fn chosen_place(rows: &[Row], sid: u32, old: &[u8]) -> Option<usize>
+    requires { len (table_of rows.now) ≡ length rows.now }
+    ensures { IsChosen (changed (table_of rows.now) sid old.now) rows.now result }
+{
+    if sid == 0 {
+        lowest(rows, &Sought::Cookie(old))
+    } else {
+        cookie_place(rows, sid, old)
+    }
+}
+
+/// The place of the attempt whose cookie a change under this session ID replaces, or why it is discarded.
+pub(crate) fn changed_place(rows: &[Row], sid: u32, old: &[u8], new: &[u8]) -> Result<usize, Cause>
+    requires { len (table_of rows.now) ≡ length rows.now }
+    ensures ok { IfOk result (λ place. IsChosen (changed (table_of rows.now) sid old.now) rows.now (Some place)) }
+    ensures cookie { IfOk result (λ _. length new.now ≤ 128) }
+    ensures cause { IfOk result (λ _. change_cause_among (table_of rows.now) sid old.now new.now ≡ None) }
+    ensures refused { IfErr result (λ cause. change_cause_among (table_of rows.now) sid old.now new.now ≡ Some cause) }
+{
+    match wide(old) {
+        Some(cause) => return Err(cause),
+        None => {}
+    }
+    match wide(new) {
+        Some(cause) => return Err(cause),
+        None => {}
+    }
+    match chosen_place(rows, sid, old) {
+        Some(place) => Ok(place),
+        None => Err(Cause::NoAttempt),
+    }
+}

@@ -1,0 +1,36 @@
+//! What time makes due of the attempts.
+
+use crate::answer::Due;
+use crate::rows::{Sought, end_at, is_over, lowest, repeat_at};
+use crate::sending::repeat_of;
+use crate::startup::Startup;
+use glare_core::Why;
+
+impl Startup {
+    ghost use Rattle.std.specs.Prelude.{◌≡◌, ◌<◌, IfSome};
+    ghost use Rattle.startup.specs.Due.{due, after_due, due_count};
+
+    /// The first thing that is due at this moment, by rising near id: an attempt ends 95,000 ms after its start, and before that it repeats what it sends. None exactly where nothing is due. It takes no memory.
+    ///
+    /// What is given isn't due any more at this moment, so calls until None give all that is.
+    pub fn due(&mut self, moment: u64) -> Option<Due>
+        ensures due { result ≡ due self.old moment }
+        ensures after { self.new ≡ after_due self.old moment }
+        ensures falls { IfSome result (λ _. due_count moment self.new < due_count moment self.old) }
+    {
+        let Some(place) = lowest(&self.attempts, &Sought::Due(moment)) else {
+            return None;
+        };
+        if is_over(&self.attempts[place].attempt, moment) {
+            return Some(Due::Ended(end_at(
+                &mut self.peers,
+                &mut self.attempts,
+                place,
+                Why::Expired,
+            )));
+        }
+        let repeat = repeat_of(&self.attempts[place], &self.sign, &self.cert);
+        repeat_at(&mut self.attempts, place, moment);
+        Some(repeat)
+    }
+}

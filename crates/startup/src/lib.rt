@@ -1,0 +1,29 @@
+//! Opening sessions: the attempts of an end, the hellos that it answers, and the keyings that bear and open sessions.
+#![tactic(auto)]
+
+mod answer;
+mod attempt;
+mod attempts;
+mod cause;
+mod choosing;
+mod due;
+mod keying;
+mod leaving;
+mod looking;
+mod packets;
+mod parts;
+mod places;
+mod reading;
+mod refusing;
+mod rows;
+mod sending;
+mod startup;
+#[cfg(test)]
+mod tests_attempts;
+#[cfg(test)]
+mod tests_keying;
+
+pub use answer::{Answer, Due, KeyRefusal, Keyed, Spread};
+pub use cause::Cause;
+pub use looking::keying_fault;
+pub use startup::Startup;

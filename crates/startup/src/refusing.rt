@@ -1,0 +1,93 @@
+//! Why a chunk would be discarded, without taking it.
+
+ghost use Rattle.std.specs.Prelude.{◌≡◌};
+ghost use Rattle.startup.specs.Refusals.{rhello_refusal_with, rhello_refusal, cookie_change_refusal, refusal};
+ghost use Rattle.startup.specs.Attempts.{rhello_cause, cookie_change_cause};
+
+use crate::cause::Cause;
+use crate::choosing::{answered_place, changed_place};
+use crate::reading::{IIKEYING, RIKEYING, fault_cause};
+use crate::startup::Startup;
+use identity::Certificate;
+use rtmfp_chunks::{ChunkView, read_chunk};
+use rtmfp_forms::Address;
+
+/// The type of a responder's hello.
+const RHELLO: u8 = 0x70;
+
+/// The type of a change of a cookie.
+const COOKIE_CHANGE: u8 = 0x79;
+
+impl Startup {
+    /// The cause with which `responder_hello`, `cookie_change`, `initiator_keying` or `responder_keying` would refuse the chunk of this type and payload, which came under this session ID; `full` is the limit on sessions where no place is free. None exactly where that call would give no cause, and for other types.
+    ///
+    /// A payload that doesn't read, and a responder's hello whose certificate has no form, are malformed. It changes nothing and takes no memory.
+    pub fn refuses(
+        &self,
+        sid: u32,
+        kind: u8,
+        payload: &[u8],
+        from: &Address,
+        moment: u64,
+        full: Option<u32>,
+    ) -> Option<Cause>
+        ensures { result ≡ refusal self.now sid kind payload.now from.now moment full }
+    {
+        match kind {
+            RHELLO => self.rhello_refusal(payload),
+            COOKIE_CHANGE => self.cookie_change_refusal(sid, payload),
+            IIKEYING => self.iikeying_cause(payload, from, moment, full),
+            RIKEYING => self.rikeying_cause(sid, payload),
+            _ => None,
+        }
+    }
+
+    /// Why a responder's hello would be discarded.
+    #[tactic(auto, unfolding(crate::specs::Refusals::rhello_refusal))]
+    fn rhello_refusal(&self, payload: &[u8]) -> Option<Cause>
+        ensures { result ≡ rhello_refusal self.now payload.now }
+    {
+        match read_chunk(RHELLO, payload) {
+            Ok(ChunkView::RHello { tag, cookie, cert }) => {
+                self.hello_refusal(payload, tag, cookie, cert)
+            }
+            Ok(_) => Some(Cause::UnknownChunk(RHELLO)),
+            Err(fault) => Some(fault_cause(fault)),
+        }
+    }
+
+    /// Why a responder's hello with these fields would be discarded.
+    fn hello_refusal(&self, payload: &[u8], tag: &[u8], cookie: &[u8], cert: &[u8]) -> Option<Cause>
+        ensures { result ≡ rhello_refusal_with self.now payload.now tag.now cookie.now cert.now }
+    {
+        match Certificate::read(cert) {
+            Ok(cert) => match answered_place(&self.attempts, tag, cookie, &cert.print()) {
+                Ok(_) => None,
+                Err(cause) => Some(cause),
+            },
+            Err(_) => Some(Cause::Malformed(payload.len().saturating_sub(cert.len()) as u64)),
+        }
+    }
+
+    /// Why a change of a cookie would be discarded.
+    #[tactic(auto, unfolding(crate::specs::Refusals::cookie_change_refusal))]
+    fn cookie_change_refusal(&self, sid: u32, payload: &[u8]) -> Option<Cause>
+        ensures { result ≡ cookie_change_refusal self.now sid payload.now }
+    {
+        match read_chunk(COOKIE_CHANGE, payload) {
+            Ok(ChunkView::CookieChange { old, new }) => self.change_refusal(sid, old, new),
+            Ok(_) => Some(Cause::UnknownChunk(COOKIE_CHANGE)),
+            Err(fault) => Some(fault_cause(fault)),
+        }
+    }
+
+    /// Why a change of this cookie would be discarded.
+    fn change_refusal(&self, sid: u32, old: &[u8], new: &[u8]) -> Option<Cause>
+        ensures { result ≡ cookie_change_cause self.now sid old.now new.now }
+    {
+        match changed_place(&self.attempts, sid, old, new) {
+            Ok(_) => None,
+            Err(cause) => Some(cause),
+        }
+    }
+}

@@ -1,0 +1,84 @@
+//! What an attempt sends.
+
+ghost use Rattle.std.specs.Prelude.{◌≡◌, ◌≤◌, length};
+ghost use Rattle.startup.specs.Attempts.{keying_signed, again_signed, hello_spread};
+ghost use Rattle.startup.specs.Due.{repeat_signed};
+
+use crate::answer::{Answer, Due, Spread};
+use crate::attempt::{Attempt, Row, Stage};
+use crate::packets::{ihello_packet, iikeying_packet};
+use identity::Certificate;
+use rtmfp_forms::Address;
+
+/// The first byte of a discriminator that names an end by its fingerprint.
+const BY_PRINT: u8 = 0x01;
+
+/// The hellos of an attempt, to all its candidates.
+pub(crate) fn hello_spread(attempt: &Attempt) -> Spread
+    ensures { result ≡ hello_spread attempt.now attempt.now.candidates }
+{
+    let mut epd = [BY_PRINT; 33];
+    epd[1..].copy_from_slice(&attempt.peer);
+    Spread {
+        to: attempt.candidates,
+        count: attempt.count,
+        plain: ihello_packet(&epd, &attempt.tag),
+    }
+}
+
+/// The keying of an attempt under the signature key, to an address with a cookie.
+pub(crate) fn keying_answer(
+    row: &Row,
+    key: &[u8; 32],
+    cert: &Certificate,
+    to: &Address,
+    cookie: &[u8],
+) -> Answer
+    requires { length cookie.now ≤ 128 }
+    ensures { result ≡ keying_signed key.now cert.now row.now.near row.now.attempt to.now cookie.now }
+{
+    let attempt = &row.attempt;
+    Answer {
+        to: *to,
+        sid: 0,
+        plain: iikeying_packet(
+            key,
+            row.near,
+            cookie,
+            cert.bytes(),
+            &attempt.ni,
+            attempt.n,
+            &attempt.peer,
+        ),
+    }
+}
+
+/// The keying of an attempt, to the address that answered, with another cookie; None in the hello stage.
+pub(crate) fn keying_again(
+    row: &Row,
+    key: &[u8; 32],
+    cert: &Certificate,
+    cookie: &[u8],
+) -> Option<Answer>
+    requires { length cookie.now ≤ 128 }
+    ensures { result ≡ again_signed key.now cert.now row.now.near row.now.attempt row.now.attempt.stage cookie.now }
+{
+    let attempt = &row.attempt;
+    match &attempt.stage {
+        Stage::Hello => None,
+        Stage::Keying { at, .. } => Some(keying_answer(row, key, cert, at, cookie)),
+    }
+}
+
+/// What an attempt sends again.
+pub(crate) fn repeat_of(row: &Row, key: &[u8; 32], cert: &Certificate) -> Due
+    ensures { result ≡ repeat_signed key.now cert.now row.now.near row.now.attempt row.now.attempt.stage }
+{
+    let attempt = &row.attempt;
+    match &attempt.stage {
+        Stage::Hello => Due::Hello(hello_spread(attempt)),
+        Stage::Keying { at, cookie } => {
+            Due::Keying(keying_answer(row, key, cert, at, cookie.bytes()))
+        }
+    }
+}
