@@ -1,0 +1,70 @@
+-- What a session hears, by the whole list of the numbers that it took, and what opens in it.
+use Rattle.std.proofs.Common.{◌≡◌, ◌↔◌, ℕ, List, Bool, true, false, ◌&&◌, if◌then◌else◌, take, replicate, Option, Some, None, refl, sym, ap, ◌∙◌}
+use Rattle.std.specs.Bool.{IsTrue}
+use Rattle.std.specs.Option.{is_none}
+use Rattle.std.proofs.lemmas.Slice.Eq.{bytes_eq-Decides}
+use Rattle.crypto_profile.specs.declared.sealing.SealFault.{SealFault}
+use Rattle.crypto_profile.specs.Kept.{kept_answer, kept_after, kept_of}
+use Rattle.crypto_profile.specs.Taken.{answer, taken_after}
+use Rattle.crypto_profile.specs.Opening.{open_refusal, plain_of}
+use Rattle.crypto_profile.specs.Sealing.{number_of, NumberFits, Opens}
+use Rattle.crypto_profile.proofs.KeptLaws.{kept_stands}
+use Rattle.crypto_profile.proofs.Opened.{opens_by_its_tag}
+use Rattle.glare_core.specs.declared.facts.Joined.{Joined}
+use Rattle.session_core.specs.declared.stage.Role.{Role}
+use Rattle.session_core.specs.declared.stage.Role.TheVariants.{Initiator, Responder}
+use Rattle.session_core.specs.Session.{SessionState, context_between, context_of}
+use Rattle.session_core.specs.Hearing.{answered, count_of, HearsByTaken, inward_keys, is_new, is_session_number, opens_in, OpensSomePlain, OpensThisPlain, unheard_by}
+
+window_after : (b : Bool) (s : SessionState) (taken : List ℕ) (n : ℕ) → kept_after s.window n ≡ kept_of (taken_after taken n) → s.window ≡ kept_of taken
+    → (if b then (record s { window = kept_after s.window n }) else s).window ≡ kept_of (if b then taken_after taken n else taken)
+window_after true s taken n after now = after
+window_after false s taken n after now = now
+
+pub hears_by_taken : HearsByTaken
+hears_by_taken s taken part e =
+    let n : ℕ = count_of part in
+    let answers : kept_answer s.window n ≡ answer taken n = ap (λ w. kept_answer w n) e ∙ (kept_stands taken n).0 in
+    let after : kept_after s.window n ≡ kept_of (taken_after taken n) = ap (λ w. kept_after w n) e ∙ (kept_stands taken n).1 in (
+      ap (λ r. answered (unheard_by (opens_in s part) (is_new r) part) part) answers,
+      window_after (opens_in s part) s taken n after e,
+    )
+
+-- ---- opening
+
+fits : (j : Joined) (own : List ℕ) (role : Role) (outward : Bool) (number : List ℕ)
+    → (take 8 number ≡ replicate 8 0) ↔ NumberFits (context_between j own role outward) number
+fits j own Initiator outward number = ((λ e. e), (λ e. e))
+fits j own Responder outward number = ((λ e. e), (λ e. e))
+
+both_true : (refusal : Option SealFault) (zeros : Bool) → (is_none refusal && zeros) ≡ true → (refusal ≡ None) × (zeros ≡ true)
+both_true None true h = (refl, refl)
+both_true None false h = absurd (cc)
+both_true (Some why) zeros h = absurd (cc)
+
+true_both : (refusal : Option SealFault) (zeros : Bool) → refusal ≡ None → zeros ≡ true → (is_none refusal && zeros) ≡ true
+true_both refusal zeros p q = ap (λ r. is_none r && zeros) p ∙ q
+
+pub opens_some_plain : OpensSomePlain
+opens_some_plain s part =
+    let number : List ℕ = number_of part in
+    let refusal : Option SealFault = open_refusal (inward_keys s) s.joined.near part in
+    let zeros = bytes_eq-Decides (take 8 number) (replicate 8 0) in
+    let fit = fits s.joined s.own s.role false number in (
+      (λ h.
+          let test = both_true refusal (is_session_number number) h in
+          let plain : List ℕ = plain_of (inward_keys s) part in
+          (plain, (opens_by_its_tag s.secret (context_of s false) s.joined.near part plain).1 (test.0, fit.0 (zeros.0 test.1), refl))),
+      (λ found.
+          let told = (opens_by_its_tag s.secret (context_of s false) s.joined.near part found.0).0 found.1 in
+          true_both refusal (is_session_number number) told.0 (zeros.1 (fit.1 told.1))),
+    )
+
+pub opens_this_plain : OpensThisPlain
+opens_this_plain s part plain h = ((opens_by_its_tag s.secret (context_of s false) s.joined.near part plain).0 h).2
+
+-- an answer that is the test says exactly that
+pub opens_exactly : (s : SessionState) (part : List ℕ) (answer : Bool) → answer ≡ opens_in s part
+    → IsTrue answer ↔ ((plain : List ℕ) × Opens s.secret (context_of s false) s.joined.near part plain)
+opens_exactly s part answer e =
+    ((λ h. (opens_some_plain s part).0 (sym e ∙ h)), (λ found. e ∙ (opens_some_plain s part).1 found))

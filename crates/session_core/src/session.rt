@@ -1,0 +1,467 @@
+//! One end of a session.
+
+ghost use Rattle.std.specs.Prelude.{◌≡◌, ◌↔◌, ◌<◌, ◌^◌, IsTrue, List, ℕ, false, is_none, ◌≤◌, length, IfSome};
+ghost use Rattle.crypto_profile.specs.Sealing.{Opens};
+ghost use Rattle.glare_core.specs.Calls.{where_true};
+ghost use Rattle.session_core.specs.Session.{SessionState, context_between, context_of, first_stage, new_session, is_opening, confirmed, mode_of, head_at, with_stamps, moved_to};
+ghost use Rattle.session_core.specs.Closing.{is_held, is_near_close, closed_near, asked_to_close, close_answered, first_due, after_due, needs_keepalive, kept_alive, with_acknowledged, with_loss};
+ghost use Rattle.session_core.specs.Congestion.{IsCongestion};
+ghost use Rattle.session_core.specs.Trips.{resend_time};
+ghost use Rattle.session_core.specs.Sealed.{is_spent, seal_answer, after_seal, sealed_into};
+ghost use Rattle.session_core.specs.Hearing.{counted, opens_in, unheard, heard_answer, after_heard, opened};
+
+use crate::congestion::{Congestion, first_congestion, grown, shrunk};
+use crate::hearing::{HEAD_LEN, Unheard, count_of, has_session_number, opens_under};
+use crate::sealing::{number_of_count, seal_into};
+use crate::stage::{Role, SessionDue, Stage, is_held, is_past, is_past_last};
+use crate::stamps::{Stamp, echo_of, stamp_after, tick_of};
+use crate::trips::{RoundTrip, resend_time, trip_after};
+use crypto_profile::{Context, Keys, ReplayWindow, open_in_place};
+use glare_core::Joined;
+use rtmfp_forms::{Address, Outgoing};
+use rtmfp_packet::{Mode, PacketHead};
+use std::marker::Model;
+use std::ops::Range;
+
+// Spans of milliseconds (own).
+const UNCONFIRMED: u64 = 20_000;
+
+const IDLE: u64 = 120_000;
+
+const CLOSING: u64 = 90_000;
+
+const LINGERING: u64 = 19_000;
+
+const CLOSE_AGAIN: u64 = 5000;
+
+const KEEPALIVE: u64 = 10_000;
+
+/// One end of a session: its values, its stage, what it has sealed and taken.
+///
+/// The keys of both directions are made once. Contracts see the group secret and the contexts.
+#[derive(Drop)]
+pub struct Session {
+    joined: Joined,
+    own: [u8; 32],
+    role: Role,
+    secret: [u8; 32],
+    inward: Keys,
+    outward: Keys,
+    address: Address,
+    stage: Stage,
+    since: u64,
+    window: ReplayWindow,
+    sealed: u64,
+    stamp: Option<Stamp>,
+    taken: u64,
+    keepalive: Option<u64>,
+    close_sent: Option<u64>,
+    trip: Option<RoundTrip>,
+    congestion: Congestion,
+}
+
+impl Model for Session {
+    ghost use Rattle.session_core.specs.Congestion.{IsCongestion};
+    ghost use Rattle.session_core.specs.Session.{SessionState, IsKeyed};
+
+    ghost Value = { SessionState };
+
+    ghost view = { λ s. record { joined = s.joined; own = s.own; role = s.role; secret = s.secret; address = s.address; stage = s.stage; since = s.since; window = s.window; sealed = s.sealed; stamp = s.stamp; taken = s.taken; keepalive = s.keepalive; close_sent = s.close_sent; trip = s.trip; congestion = s.congestion } };
+
+    ghost invariant = { λ s. IsKeyed s.secret s.own s.joined s.role s.inward s.outward × IsCongestion s.congestion };
+}
+
+/// The context of packets away from an end, or towards it.
+fn context_between(joined: &Joined, own: &[u8; 32], role: Role, outward: bool) -> Context
+    ensures { result ≡ context_between joined.now own.now role outward }
+{
+    match role {
+        Role::Initiator => Context::Session {
+            ni: joined.ni,
+            nr: joined.nr,
+            fp_i: *own,
+            fp_r: joined.peer,
+            sid_i: joined.near,
+            sid_r: joined.far,
+            to_responder: outward,
+        },
+        Role::Responder => Context::Session {
+            ni: joined.ni,
+            nr: joined.nr,
+            fp_i: joined.peer,
+            fp_r: *own,
+            sid_i: joined.far,
+            sid_r: joined.near,
+            to_responder: !outward,
+        },
+    }
+}
+
+fn first_stage(role: Role) -> Stage
+    ensures { result ≡ first_stage role }
+{
+    match role {
+        Role::Initiator => Stage::Open,
+        Role::Responder => Stage::Opening,
+    }
+}
+
+fn mode_of(role: Role) -> Mode
+    ensures { result ≡ mode_of role }
+{
+    match role {
+        Role::Initiator => Mode::Initiator,
+        Role::Responder => Mode::Responder,
+    }
+}
+
+impl Session {
+    /// A session that was born or opened at a moment, with the peer at this address. Opening counts as a datagram taken.
+    pub fn new(
+        joined: &Joined,
+        own: &[u8; 32],
+        role: Role,
+        address: Address,
+        secret: &[u8; 32],
+        moment: u64,
+    ) -> Session
+        ensures { result ≡ new_session joined.now own.now role address secret.now moment }
+    {
+        Session {
+            joined: *joined,
+            own: *own,
+            role,
+            secret: *secret,
+            inward: Keys::of(secret, &context_between(joined, own, role, false)),
+            outward: Keys::of(secret, &context_between(joined, own, role, true)),
+            address,
+            stage: first_stage(role),
+            since: moment,
+            window: ReplayWindow::new(),
+            sealed: 0,
+            stamp: None,
+            taken: moment,
+            keepalive: None,
+            close_sent: None,
+            trip: None,
+            congestion: first_congestion(),
+        }
+    }
+
+    /// The values of the session, as this end has them.
+    pub fn joined(&self) -> &Joined
+        ensures { result.now ≡ self.now.joined }
+    {
+        &self.joined
+    }
+
+    pub fn role(&self) -> Role
+        ensures { result ≡ self.now.role }
+    {
+        self.role
+    }
+
+    pub fn stage(&self) -> Stage
+        ensures { result ≡ self.now.stage }
+    {
+        self.stage
+    }
+
+    /// Where datagrams of the session are sent.
+    pub fn address(&self) -> &Address
+        ensures { result.now ≡ self.now.address }
+    {
+        &self.address
+    }
+
+    /// The context of packets away from this end where `outward` is true, else of those towards it.
+    pub fn context(&self, outward: bool) -> Context
+        ensures { result ≡ context_of self.now outward }
+    {
+        context_between(&self.joined, &self.own, self.role, outward)
+    }
+
+    /// Whether a sealed part opens in the context towards this end, also where its number was taken before. It changes nothing.
+    pub fn opens(&self, sealed: &[u8]) -> bool
+        ensures value { result ≡ opens_in self.now sealed.now }
+        ensures exact { IsTrue result ↔ ((plain : List ℕ) × Opens self.now.secret (context_of self.now false) self.now.joined.near sealed.now plain) }
+    {
+        opens_under(&self.inward, self.joined.near, sealed)
+    }
+
+    /// Whether `hear` would hear a sealed part. It changes nothing.
+    pub fn hears(&self, sealed: &[u8]) -> bool
+        ensures { result ≡ is_none (unheard self.now sealed.now) }
+    {
+        self.opens(sealed) && self.window.answer(count_of(sealed)).is_ok()
+    }
+
+    /// Hears a sealed part: it opens it in place, takes its number, and gives the place of the plain packet.
+    ///
+    /// Of the session the numbers taken change alone. The buffer stays as it was after Short and BadTag, and has the plain packet
+    /// after Repeated.
+    pub fn hear(&mut self, sealed: &mut [u8]) -> Result<Range<usize>, Unheard>
+        ensures answer { result ≡ heard_answer self.old sealed.old }
+        ensures session { self.new ≡ after_heard self.old sealed.old }
+        ensures buffer { sealed.new ≡ opened self.old sealed.old }
+    {
+        if sealed.len() < HEAD_LEN {
+            return Err(Unheard::Short);
+        }
+        if !has_session_number(sealed) {
+            return Err(Unheard::BadTag);
+        }
+        let count = count_of(sealed);
+        match open_in_place(&self.inward, self.joined.near, sealed) {
+            Err(_) => Err(Unheard::BadTag),
+            Ok(place) => match self.window.take(count) {
+                Ok(()) => Ok(place),
+                Err(_) => Err(Unheard::Repeated),
+            },
+        }
+    }
+
+    /// Opens a sealed part in place as `hear` does, but takes no number yet.
+    pub fn open(&self, sealed: &mut [u8]) -> Result<Range<usize>, Unheard>
+        ensures answer { result ≡ heard_answer self.now sealed.old }
+        ensures buffer { sealed.new ≡ opened self.now sealed.old }
+    {
+        if sealed.len() < HEAD_LEN {
+            return Err(Unheard::Short);
+        }
+        let is_of_session = has_session_number(sealed);
+        if !is_of_session {
+            return Err(Unheard::BadTag);
+        }
+        let number = count_of(sealed);
+        let opened = open_in_place(&self.inward, self.joined.near, sealed);
+        match opened {
+            Err(_fault) => Err(Unheard::BadTag),
+            Ok(at) => match self.window.answer(number) {
+                Ok(()) => Ok(at),
+                Err(_seen) => Err(Unheard::Repeated),
+            },
+        }
+    }
+
+    /// Takes the number of a sealed part that was opened. The first 32 bytes of the part are enough.
+    pub fn take_number(&mut self, sealed: &[u8])
+        requires { 32 ≤ length sealed.now }
+        ensures { self.new ≡ counted self.old sealed.now }
+    {
+        let _ = self.window.take(count_of(sealed));
+    }
+
+    /// Whether the session is half-open, so that `confirm` would confirm it.
+    pub fn is_half_open(&self) -> bool
+        ensures { result ≡ is_opening self.now.stage }
+    {
+        match self.stage {
+            Stage::Opening => true,
+            Stage::Open | Stage::NearClose | Stage::FarLinger | Stage::Closed => false,
+        }
+    }
+
+    /// Seals a packet as the session's next into `out`, from byte 4 on, and gives the length of the datagram; None where
+    /// all counts are used. The bytes before and after the sealed part stay.
+    pub fn seal(&mut self, packet: &Outgoing, out: &mut [u8; 1200]) -> Option<usize>
+        ensures length { result ≡ seal_answer self.old packet.now }
+        ensures limit { IfSome result (λ len. len ≤ 1200) }
+        ensures session { self.new ≡ after_seal self.old }
+        ensures written { out.new ≡ sealed_into self.old packet.now out.old }
+    {
+        if self.is_spent() {
+            return None;
+        }
+        self.sealed += 1;
+        let number = number_of_count(self.sealed);
+        Some(seal_into(&self.outward, self.joined.far, number, packet.bytes(), out))
+    }
+
+    /// Whether all counts are used, so that `seal` would give None.
+    pub fn is_spent(&self) -> bool
+        ensures value { result ≡ is_spent self.now }
+        ensures count { self.now.sealed < 2 ^ 64 }
+    {
+        self.sealed == u64::MAX
+    }
+
+    /// The session's datagrams are sent to this address from now on.
+    pub fn move_to(&mut self, address: Address)
+        ensures { self.new ≡ moved_to address self.old }
+    {
+        self.address = address;
+    }
+
+    /// Confirms a half-open session, which is open then; true exactly where it was half-open.
+    pub fn confirm(&mut self) -> bool
+        ensures answer { result ≡ is_opening self.old.stage }
+        ensures session { self.new ≡ confirmed self.old }
+    {
+        let was_opening = self.stage == Stage::Opening;
+        if was_opening {
+            self.stage = Stage::Open;
+        }
+        was_opening
+    }
+
+    /// The head of a packet that is sent at a moment.
+    pub fn head(&self, moment: u64) -> PacketHead
+        ensures { result ≡ head_at self.now moment }
+    {
+        PacketHead {
+            critical: false,
+            reverse: false,
+            stamp: Some(tick_of(moment)),
+            echo: echo_of(self.stamp, moment),
+            mode: mode_of(self.role),
+        }
+    }
+
+    /// Counts a datagram with this head as taken at a moment, keeps its timestamp, and times a round trip by its echo.
+    pub fn take_stamps(&mut self, head: &PacketHead, moment: u64)
+        ensures { self.new ≡ with_stamps head.now moment self.old }
+    {
+        self.stamp = stamp_after(self.stamp, head.stamp, moment);
+        self.taken = moment;
+        self.trip = trip_after(self.trip, head.echo, moment);
+    }
+
+    /// Closes a session that hasn't ended; true exactly where it hadn't. The close counts as sent.
+    pub fn close(&mut self, moment: u64) -> bool
+        ensures answer { result ≡ is_held self.old.stage }
+        ensures session { self.new ≡ closed_near moment self.old }
+    {
+        if !is_held(self.stage) {
+            return false;
+        }
+        self.stage = Stage::NearClose;
+        self.since = moment;
+        self.close_sent = Some(moment);
+        true
+    }
+
+    /// Takes the peer's close; true exactly where the session hadn't ended. It lingers then, also where this end was closing it.
+    pub fn take_close_request(&mut self, moment: u64) -> bool
+        ensures answer { result ≡ is_held self.old.stage }
+        ensures session { self.new ≡ asked_to_close moment self.old }
+    {
+        let was_held = is_held(self.stage);
+        if was_held || self.stage == Stage::NearClose {
+            self.stage = Stage::FarLinger;
+            self.since = moment;
+        }
+        was_held
+    }
+
+    /// Takes the peer's answer to a close; true exactly where this end was closing. The session is over then.
+    pub fn take_close_ack(&mut self) -> bool
+        ensures answer { result ≡ is_near_close self.old.stage }
+        ensures session { self.new ≡ close_answered self.old }
+    {
+        let was_closing = self.stage == Stage::NearClose;
+        if was_closing {
+            self.stage = Stage::Closed;
+        }
+        was_closing
+    }
+
+    /// What `due` would give. It changes nothing.
+    pub fn first_due(&self, moment: u64) -> Option<SessionDue>
+        ensures { result ≡ first_due self.now moment }
+    {
+        match self.stage {
+            Stage::Opening => {
+                where_true(
+                    is_past(UNCONFIRMED, self.since, moment),
+                    SessionDue::Unconfirmed,
+                )
+            }
+            Stage::Open => where_true(is_past(IDLE, self.taken, moment), SessionDue::Idle),
+            Stage::NearClose => {
+                if is_past(CLOSING, self.since, moment) {
+                    return Some(SessionDue::Over);
+                }
+                let repeat = is_past_last(CLOSE_AGAIN, self.close_sent, moment);
+                where_true(repeat, SessionDue::RepeatClose)
+            }
+            Stage::FarLinger => {
+                where_true(is_past(LINGERING, self.since, moment), SessionDue::Over)
+            }
+            Stage::Closed => None,
+        }
+    }
+
+    /// The first that is due at a moment of `SessionDue`, in its order. The session is over after each but RepeatClose, with
+    /// which its close counts as sent.
+    pub fn due(&mut self, moment: u64) -> Option<SessionDue>
+        ensures answer { result ≡ first_due self.old moment }
+        ensures session { self.new ≡ after_due result moment self.old }
+    {
+        let due = self.first_due(moment)?;
+        match due {
+            SessionDue::Unconfirmed => self.stage = Stage::Closed,
+            SessionDue::Idle => self.stage = Stage::Closed,
+            SessionDue::Over => self.stage = Stage::Closed,
+            SessionDue::RepeatClose => self.close_sent = Some(moment),
+        }
+        Some(due)
+    }
+
+    /// Whether a keepalive is due at a moment, which then counts as sent.
+    pub fn keepalive(&mut self, moment: u64) -> bool
+        ensures answer { result ≡ needs_keepalive self.old moment }
+        ensures session { self.new ≡ kept_alive moment self.old }
+    {
+        let due = self.needs_keepalive(moment);
+        if due {
+            self.keepalive = Some(moment);
+        }
+        due
+    }
+
+    /// Whether a keepalive is due at a moment. It changes nothing.
+    pub fn needs_keepalive(&self, moment: u64) -> bool
+        ensures { result ≡ needs_keepalive self.now moment }
+    {
+        self.stage == Stage::Open
+            && is_past(KEEPALIVE, self.taken, moment)
+            && is_past_last(KEEPALIVE, self.keepalive, moment)
+    }
+
+    /// The milliseconds after which what was sent is sent again.
+    pub fn resend_after(&self) -> u64
+        ensures { result ≡ resend_time self.now.trip }
+    {
+        resend_time(self.trip)
+    }
+
+    /// How many bytes may be in flight.
+    pub fn window(&self) -> u64
+        ensures value { result ≡ self.now.congestion.window }
+        ensures range { IsCongestion self.now.congestion }
+    {
+        self.congestion.window
+    }
+
+    /// The window grows, since so many bytes were newly acknowledged.
+    pub fn acknowledged(&mut self, bytes: u64)
+        ensures { self.new ≡ with_acknowledged bytes self.old }
+    {
+        self.congestion = grown(bytes, self.congestion);
+    }
+
+    /// The window shrinks, since something was lost, by time or by acks.
+    pub fn lost(&mut self, by_time: bool)
+        ensures { self.new ≡ with_loss by_time self.old }
+    {
+        self.congestion = shrunk(by_time, self.congestion);
+    }
+}
+
+/// The answer where the test passes.
+fn where_true(test: bool, due: SessionDue) -> Option<SessionDue>
+    ensures { result ≡ where_true test due }
+{
+    if test { Some(due) } else { None }
+}
