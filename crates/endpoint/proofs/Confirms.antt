@@ -1,0 +1,127 @@
+-- Whether a datagram confirms a session isn't changed by counting it.
+use Rattle.std.proofs.Common.{ℕ, ◌≡◌, ◌≤◌, ◌+◌, ◌++◌, length, List, Bool, true, false, if◌then◌else◌, arith, Option, None, Some, refl, sym, ap, subst, ◌∙◌}
+use Rattle.std.specs.FinMap.{get, insert}
+use Rattle.rtmfp_base.proofs.Maps.{get_inserted}
+use Rattle.rtmfp_packet.specs.declared.head.PacketHead.{PacketHead}
+use Rattle.glare_core.specs.declared.facts.Fact.{Fact}
+use Rattle.glare_core.specs.Ledger.{Ledger, noted_if}
+use Rattle.startup.specs.State.{StartupState}
+use Rattle.startup.specs.Attempts.{after_confirm, confirm_fact}
+use Rattle.session_core.specs.Session.{SessionState, with_stamps, is_opening, confirmed}
+use Rattle.session_core.specs.Hearing.{counted}
+use Rattle.endpoint.specs.declared.place.Place.{Place}
+use Rattle.endpoint.specs.declared.place.Place.TheVariants.{Startup, Attempt, Session}
+use Rattle.endpoint.specs.Added.{Added}
+use Rattle.endpoint.specs.State.{State, Sessions, Did, Done, with_session, with_sessions, with_startup, fact_entries, nothing}
+use Rattle.endpoint.proofs.Steps.{done_nothing}
+use Rattle.rtmfp_forms.specs.Address.{AddressParts}
+use Rattle.rtmfp_packet.specs.Whole.{Whole}
+use Rattle.endpoint.specs.Keying.{chunks_of}
+use Rattle.endpoint.specs.Due.{AreRefused, IsRefused, discards}
+use Rattle.endpoint.specs.Log.{IsStop, not_taken}
+use Rattle.endpoint.specs.Admission.{confirms, confirms_by, confirming, confirming_by, taken_packet, counted_at, counted_by, timed_at, timed_by}
+
+counted_still : (s : State) (near : ℕ) (part : List ℕ) (o : Option SessionState) → get s.sessions near ≡ o → confirms_by (get (counted_by s near part o).sessions near) ≡ confirms_by o
+counted_still s near part None e = ap confirms_by e
+counted_still s near part (Some session) e = ap confirms_by (get_inserted s.sessions near (counted session part))
+
+timed_still : (s : State) (near : ℕ) (head : PacketHead) (o : Option SessionState) → get s.sessions near ≡ o → confirms_by (get (timed_by s near head o).sessions near) ≡ confirms_by o
+timed_still s near head None e = ap confirms_by e
+timed_still s near head (Some session) e = ap confirms_by (get_inserted s.sessions near (with_stamps head s.moment session))
+
+pub confirms_counted : (s : State) (place : Place) (part : List ℕ) → confirms (counted_at s place part) place ≡ confirms s place
+confirms_counted s Startup part = refl
+confirms_counted s (Attempt near) part = refl
+confirms_counted s (Session near) part = counted_still s near part (get s.sessions near) refl
+
+pub confirms_timed : (s : State) (place : Place) (head : PacketHead) → confirms (timed_at s place head) place ≡ confirms s place
+confirms_timed s Startup head = refl
+confirms_timed s (Attempt near) head = refl
+confirms_timed s (Session near) head = timed_still s near head (get s.sessions near) refl
+
+-- a fact leaves the own fingerprint as it is
+pub own_stays : (l : Ledger) (fact : Option Fact) → l.own ≡ (noted_if l fact).own
+own_stays l None = refl
+own_stays l (Some fact) = refl
+
+-- what confirming a half-open session does
+pub confirming_is : (s : State) (near : ℕ) (session : SessionState) → is_opening session.stage ≡ true → confirming_by s near (Some session) ≡ record {
+  state = with_session (with_startup s (after_confirm s.startup session.joined.peer)) near (confirmed session);
+  entries = fact_entries (confirm_fact s.startup session.joined.peer);
+}
+confirming_is s near session half_open =
+    ap (λ (b : Bool).
+    if b
+    then record {
+      state = with_session (with_startup s (after_confirm s.startup session.joined.peer)) near (confirmed session);
+      entries = fact_entries (confirm_fact s.startup session.joined.peer);
+    }
+    else nothing s) half_open
+
+-- the state and the outbox after a half-open session was confirmed
+pub confirmed_done : (s now : State) (near : ℕ) (old new : SessionState) (startup : StartupState) (sessions : Sessions) (fact : Option Fact) (before after : Added) →
+    s ≡ now → get s.sessions near ≡ Some old → confirms_by (get now.sessions near) ≡ true → new ≡ confirmed old → sessions ≡ insert s.sessions near new →
+    startup ≡ after_confirm s.startup old.joined.peer → fact ≡ confirm_fact s.startup old.joined.peer → after.entries ≡ before.entries ++ fact_entries fact →
+    before.free ≤ after.free + length (fact_entries fact) → after.room ≡ before.room →
+    Done (confirming_by now near (get now.sessions near)) (with_sessions (with_startup s startup) sessions) before after
+confirmed_done s now near old new startup sessions fact before after is was half_open new_is sessions_are startup_is fact_is entries free room =
+    let half : is_opening old.stage ≡ true = sym (ap confirms_by was) ∙ ap (λ (t : State). confirms_by (get t.sessions near)) is ∙ half_open in
+    let same : confirming_by now near (get now.sessions near) ≡ confirming_by s near (Some old) = ap (λ (t : State). confirming_by t near (get t.sessions near)) (sym is) ∙ ap (confirming_by s near) was in
+    let P : Did → Type 0 = λ d. Done d (with_sessions (with_startup s startup) sessions) before after in
+    subst P (sym (same ∙ confirming_is s near old half)) (record {
+      state =
+          ap (λ (st : StartupState). with_sessions (with_startup s st) sessions) startup_is
+          ∙ ap (λ m. with_sessions (with_startup s (after_confirm s.startup old.joined.peer)) m) (sessions_are ∙ ap (insert s.sessions near) new_is);
+      entries = entries ∙ ap (λ (f : Option Fact). before.entries ++ fact_entries f) fact_is;
+      free = subst (λ (f : Option Fact). before.free ≤ after.free + length (fact_entries f)) fact_is free;
+      room = room;
+    })
+
+-- where there is no such session nothing is done
+pub unconfirmed_done : (now : State) (near : ℕ) (out : Added) → get now.sessions near ≡ None → Done (confirming_by now near (get now.sessions near)) now out out
+unconfirmed_done now near out none = let P : Did → Type 0 = λ d. Done d now out out in subst P (sym (ap (confirming_by now near) none)) (done_nothing now out)
+
+-- where nothing is confirmed, nothing is done
+unconfirmed_by : (s : State) (near : ℕ) (o : Option SessionState) → confirms_by o ≡ false → confirming_by s near o ≡ nothing s
+unconfirmed_by s near None e = refl
+unconfirmed_by s near (Some session) e =
+    ap (λ (b : Bool).
+    if b
+    then record {
+      state = with_session (with_startup s (after_confirm s.startup session.joined.peer)) near (confirmed session);
+      entries = fact_entries (confirm_fact s.startup session.joined.peer);
+    }
+    else nothing s) e
+
+pub unconfirmed : (s : State) (place : Place) → confirms s place ≡ false → confirming s place ≡ nothing s
+unconfirmed s Startup e = refl
+unconfirmed s (Attempt near) e = refl
+unconfirmed s (Session near) e = unconfirmed_by s near (get s.sessions near) e
+
+-- counting and timing a datagram don't change whether it confirms a session
+pub confirms_taken : (s : State) (place : Place) (part : List ℕ) (head : PacketHead) → confirms (timed_at (counted_at s place part) place head) place ≡ confirms s place
+confirms_taken s place part head = confirms_timed (counted_at s place part) place head ∙ confirms_counted s place part
+
+-- no memory was found before a datagram was taken that confirms a session
+pub stopped_before : (s : State) (place : Place) (part : List ℕ) (packet : Whole) → confirms s place ≡ true → IsStop (taken_packet s place part packet) not_taken
+stopped_before s place part packet confirming = record {
+  taken = λ clash. absurd (cc);
+  not_taken = λ is. (confirms_taken s place part packet.head ∙ confirming, refl);
+}
+
+pub not_refused : (A : Type 0) (s : State) (place : Place) (part : List ℕ) (from : AddressParts) (packet : Whole) → confirms s place ≡ true → IsRefused from (taken_packet s place part packet) → A
+not_refused A s place part from packet confirming refused =
+    let both : false ≡ true = sym refused.0 ∙ confirms_taken s place part packet.head ∙ confirming in
+    absurd (cc)
+
+-- what the chunks of a refused datagram meet, after it was taken
+pub refused_chunks : (s entered : State) (place : Place) (part : List ℕ) (from : AddressParts) (packet : Whole) (before after : Added) →
+    Done (confirming (timed_at (counted_at s place part) place packet.head) place) entered before after → IsRefused from (taken_packet s place part packet) →
+    discards (taken_packet s place part packet) ≤ before.free → AreRefused entered place from false (chunks_of packet) × (length (chunks_of packet) ≤ after.free)
+refused_chunks s entered place part from packet before after done refused room =
+    let t = timed_at (counted_at s place part) place packet.head in
+    let quiet : confirming t place ≡ nothing t = unconfirmed t place refused.0 in
+    let P : State → Type 0 = λ u. AreRefused u place from false (chunks_of packet) in
+    let free : before.free ≤ after.free + length (confirming t place).entries = done.free in
+    let none : length (confirming t place).entries ≡ 0 = ap (λ (d : Did). length d.entries) quiet in
+    (subst P (sym (done.state ∙ ap (λ (d : Did). d.state) quiet)) refused.1, omega (arith, free, none, room))

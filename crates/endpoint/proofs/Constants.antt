@@ -1,0 +1,123 @@
+-- What no step of startup changes: the secret, and the fingerprint whose end the ledger is of.
+use Rattle.std.proofs.Common.{◌≡◌, ℕ, List, Bool, true, false, if◌then◌else◌, Option, Some, None, Result, Ok, Err, refl, sym, ap, ◌∙◌}
+use Rattle.rtmfp_forms.specs.Address.{AddressParts}
+use Rattle.cookies.specs.declared.CookieTest.{CookieTest}
+use Rattle.cookies.specs.declared.CookieTest.TheVariants.{Bad, Moved, Expired as OldCookie, Current}
+use Rattle.cookies.specs.Cookie.{cookie_test}
+use Rattle.glare_core.specs.declared.facts.Why.{Why}
+use Rattle.glare_core.specs.declared.facts.Why.TheVariants.{Cancelled, Expired}
+use Rattle.glare_core.specs.declared.facts.Fact.{Fact}
+use Rattle.glare_core.specs.declared.facts.Joined.{Joined}
+use Rattle.glare_core.specs.declared.answers.Keying.{Keying}
+use Rattle.glare_core.specs.declared.answers.Heard.{Heard}
+use Rattle.glare_core.specs.declared.answers.Heard.TheVariants.{Again as HeardAgain, Birth as HeardBirth}
+use Rattle.glare_core.specs.Ledger.{Ledger, noted_if}
+use Rattle.glare_core.specs.Calls.{heard, heard_noted}
+use Rattle.crypto_profile.specs.declared.keys.Keys.{Keys}
+use Rattle.crypto_profile.specs.declared.keys.Context.TheVariants.{Startup}
+use Rattle.crypto_profile.specs.Keys.{keys_of}
+use Rattle.startup.specs.declared.cause.Cause.{Cause}
+use Rattle.startup.specs.State.{AttemptState, StartupState}
+use Rattle.startup.specs.Attempts.{lowest, has_number, has_tag, changed, with_ledger, with_attempt, without_attempt, after_begin, ended_attempt, after_end_of, after_cancel, confirm_fact, after_confirm, after_answer, after_rhello, after_change, after_cookie_change}
+use Rattle.startup.specs.Due.{is_due, is_over, repeated, after_due_of, after_due}
+use Rattle.startup.specs.Keyings.{InitiatorKeying, initiator_keying_in, keying_of, after_again_or_birth, after_keyed_with, after_keyed_reading, after_keying, after_opening}
+use Rattle.session_core.specs.Session.{SessionState}
+use Rattle.endpoint.specs.declared.config.Config.{Config}
+use Rattle.endpoint.specs.Kept.{IsEndpoint}
+
+-- A state of startup has the secret and the own fingerprint of another.
+pub record IsSameEnd (s t : StartupState) : Type 0 where
+  pub secret_is : t.secret ≡ s.secret
+  pub own_is : t.ledger.own ≡ s.ledger.own
+
+abbrev same : (s : StartupState) → IsSameEnd s s
+same s = record { secret_is = refl; own_is = refl }
+
+abbrev either : (b : Bool) (s t u : StartupState) → IsSameEnd s t → IsSameEnd s u → IsSameEnd s (if b then t else u)
+either true s t u p q = p
+either false s t u p q = q
+
+-- ---- attempts
+
+pub begin_keeps : (s : StartupState) (peer : List ℕ) (candidates : List AddressParts) (near : ℕ) (ni tag : List ℕ) (moment : ℕ) →
+    IsSameEnd s (after_begin s peer candidates near ni tag moment)
+begin_keeps s peer candidates near ni tag moment = record { secret_is = refl; own_is = refl }
+
+ended : (s : StartupState) (found : Option (ℕ × AttemptState)) (why : Why) → IsSameEnd s (after_end_of s found why)
+ended s None why = same s
+ended s (Some e) why = record { secret_is = refl; own_is = refl }
+
+pub cancel_keeps : (s : StartupState) (n : ℕ) → IsSameEnd s (after_cancel s n)
+cancel_keeps s n = ended s (lowest (has_number n) s.attempts) Cancelled
+
+noted_keeps : (s : StartupState) (fact : Option Fact) → IsSameEnd s (with_ledger s (noted_if s.ledger fact))
+noted_keeps s None = record { secret_is = refl; own_is = refl }
+noted_keeps s (Some fact) = record { secret_is = refl; own_is = refl }
+
+pub confirm_keeps : (s : StartupState) (peer : List ℕ) → IsSameEnd s (after_confirm s peer)
+confirm_keeps s peer = noted_keeps s (confirm_fact s peer)
+
+answered_keeps : (s : StartupState) (found : Option (ℕ × AttemptState)) (from : AddressParts) (cookie : List ℕ) (moment : ℕ) → IsSameEnd s (after_answer s found from cookie moment)
+answered_keeps s None from cookie moment = same s
+answered_keeps s (Some e) from cookie moment = record { secret_is = refl; own_is = refl }
+
+pub rhello_keeps : (s : StartupState) (tag cookie : List ℕ) (from : AddressParts) (moment : ℕ) → IsSameEnd s (after_rhello s tag cookie from moment)
+rhello_keeps s tag cookie from moment = answered_keeps s (lowest (has_tag tag) s.attempts) from cookie moment
+
+changed_keeps : (s : StartupState) (found : Option (ℕ × AttemptState)) (cookie : List ℕ) (moment : ℕ) → IsSameEnd s (after_change s found cookie moment)
+changed_keeps s None cookie moment = same s
+changed_keeps s (Some e) cookie moment = record { secret_is = refl; own_is = refl }
+
+pub cookie_change_keeps : (s : StartupState) (sid : ℕ) (old new : List ℕ) (moment : ℕ) → IsSameEnd s (after_cookie_change s sid old new moment)
+cookie_change_keeps s sid old new moment = changed_keeps s (changed s.attempts sid old) new moment
+
+-- ---- time
+
+due_of_keeps : (s : StartupState) (moment : ℕ) (found : Option (ℕ × AttemptState)) → IsSameEnd s (after_due_of s moment found)
+due_of_keeps s moment None = same s
+due_of_keeps s moment (Some e) =
+    either (is_over moment e.1) s (without_attempt s e.0 (ended_attempt e Expired)) (with_attempt s e.0 (repeated e.1 moment))
+    (record { secret_is = refl; own_is = refl })
+    (record { secret_is = refl; own_is = refl })
+
+pub due_keeps : (s : StartupState) (moment : ℕ) → IsSameEnd s (after_due s moment)
+due_keeps s moment = due_of_keeps s moment (lowest (is_due moment) s.attempts)
+
+-- ---- keyings
+
+own_heard : (l : Ledger) (answer : Heard) → (heard_noted l answer).own ≡ l.own
+own_heard l (HeardAgain near) = refl
+own_heard l (HeardBirth None born) = refl
+own_heard l (HeardBirth (Some fact) born) = refl
+
+born_keeps : (s : StartupState) (keying : Keying) (near : ℕ) (nr : List ℕ) (held : Option Joined) → IsSameEnd s (after_again_or_birth s keying near nr held)
+born_keeps s keying near nr (Some j) = same s
+born_keeps s keying near nr None = record { secret_is = refl; own_is = own_heard s.ledger (heard s.ledger keying near nr) }
+
+tested_keeps : (s : StartupState) (near : ℕ) (nr : List ℕ) (keying : InitiatorKeying) (test : CookieTest) → IsSameEnd s (after_keyed_with s near nr keying test)
+tested_keeps s near nr keying Current = born_keeps s (keying_of keying) near nr _
+tested_keeps s near nr keying Bad = same s
+tested_keeps s near nr keying Moved = same s
+tested_keeps s near nr keying OldCookie = same s
+
+reading_keeps : (s : StartupState) (from : AddressParts) (now near : ℕ) (nr : List ℕ) (reading : Result InitiatorKeying Cause) → IsSameEnd s (after_keyed_reading s from now near nr reading)
+reading_keeps s from now near nr (Ok keying) = tested_keeps s near nr keying (cookie_test s.cookie_secret keying.cookie from now)
+reading_keeps s from now near nr (Err cause) = same s
+
+pub keying_keeps : (s : StartupState) (payload : List ℕ) (from : AddressParts) (now near : ℕ) (nr : List ℕ) → IsSameEnd s (after_keying s payload from now near nr)
+keying_keeps s payload from now near nr = reading_keeps s from now near nr (initiator_keying_in payload)
+
+pub opening_keeps : (s : StartupState) (near : ℕ) (fact : Fact) → IsSameEnd s (after_opening s near fact)
+opening_keeps s near fact = record { secret_is = refl; own_is = refl }
+
+-- ---- so what an end keeps beside it stays as it should be
+
+pub end_stays : (config : Config) (secret print : List ℕ) (keys : Keys) (s t : StartupState) (sessions : List SessionState) →
+    IsEndpoint config secret print keys s sessions → IsSameEnd s t → IsEndpoint config secret print keys t sessions
+end_stays config secret print keys s t sessions is kept = record {
+  secret_is = is.secret_is ∙ sym kept.secret_is;
+  print_is = is.print_is ∙ sym kept.own_is;
+  keys_are = is.keys_are ∙ ap (λ x. keys_of x Startup) (sym kept.secret_is);
+  distinct = is.distinct;
+  few = is.few;
+}

@@ -1,0 +1,96 @@
+-- What goes out in a session, by the list of sessions that is kept.
+use Rattle.std.proofs.Common.{ℕ, List, [], ◌∷◌, ◌++◌, ◌≡◌, ◌≤◌, ◌+◌, length, get_or, set, Bool, true, false, if◌then◌else◌, Option, Some, None, refl, sym, ap, ◌∙◌, subst}
+use Rattle.std.specs.FinMap.{get, insert, len}
+use Rattle.rtmfp_base.proofs.Rows.{place_found}
+use Rattle.rtmfp_forms.specs.Address.{AddressParts}
+use Rattle.rtmfp_chunks.specs.Chunk.{Chunk}
+use Rattle.crypto_profile.specs.declared.keys.Context.{Context}
+use Rattle.session_core.specs.Session.{SessionState, context_of}
+use Rattle.session_core.specs.Sealed.{after_seal, is_spent}
+use Rattle.startup.specs.State.{StartupState}
+use Rattle.endpoint.specs.declared.config.Config.{Config}
+use Rattle.endpoint.specs.declared.entry.Entry.{Entry}
+use Rattle.endpoint.specs.declared.entry.Entry.TheVariants.{Out}
+use Rattle.endpoint.specs.Added.{Added}
+use Rattle.endpoint.specs.Kept.{near_of, state_of, table_of}
+use Rattle.endpoint.specs.Sending.{sent_by, sent_in_session, session_datagram}
+use Rattle.endpoint.specs.State.{State, Did, Done, Sessions, nothing, with_session, with_sessions}
+use Rattle.endpoint.proofs.Keeping.{place_in, kept_at, found_at}
+use Rattle.endpoint.proofs.Steps.{done_nothing}
+
+-- ---- nothing goes out
+
+pub unsent_unknown : (s : State) (near : ℕ) (to : AddressParts) (chunk : Chunk) (out : Added) → get s.sessions near ≡ None → Done (sent_in_session s near to chunk) s out out
+unsent_unknown s near to chunk out none = subst (λ (d : Did). Done d s out out) (sym (ap (sent_by s near to chunk) none)) (done_nothing s out)
+
+one_out : State → ℕ → AddressParts → Chunk → SessionState → Did
+one_out s near to chunk session =
+    record { state = with_session s near (after_seal session); entries = Out to (session_datagram session s.moment chunk) (context_of session true) ∷ [] }
+
+-- by whether all counts of the session are used
+sent_as : (s : State) (near : ℕ) (to : AddressParts) (chunk : Chunk) (session : SessionState) (spent : Bool) → get s.sessions near ≡ Some session → is_spent session ≡ spent →
+    sent_in_session s near to chunk ≡ (if spent then nothing s else one_out s near to chunk session)
+unfolding one_out
+sent_as s near to chunk session spent found is = ap (sent_by s near to chunk) found ∙ ap (λ b. if b then nothing s else one_out s near to chunk session) is
+
+pub unsent_spent : (s : State) (near : ℕ) (to : AddressParts) (chunk : Chunk) (session : SessionState) (out : Added) → get s.sessions near ≡ Some session → is_spent session ≡ true →
+    Done (sent_in_session s near to chunk) s out out
+unsent_spent s near to chunk session out found is = subst (λ (d : Did). Done d s out out) (sym (sent_as s near to chunk session true found is)) (done_nothing s out)
+
+-- ---- a session that sealed is put back at its place
+
+abbrev itself : SessionState → SessionState
+itself session = session
+
+seal_keeps_near : (session : SessionState) (spent : Bool) → near_of (if spent then session else record session { sealed = session.sealed + 1 }) ≡ near_of session
+seal_keeps_near session true = refl
+seal_keeps_near session false = refl
+
+pub record IsPutBack (rows : List SessionState) (near : ℕ) (new : SessionState) (after : List SessionState) : Type 0 where
+  pub table : table_of after ≡ insert (table_of rows) near new
+  pub distinct : len (table_of after) ≡ length after
+
+pub put_back : (rows : List SessionState) (near place : ℕ) (old new : SessionState) → len (table_of rows) ≡ length rows → place_in rows near ≡ Some place → old ≡ get_or rows place old →
+    new ≡ after_seal old → IsPutBack rows near new (set rows place new)
+put_back rows near place old new distinct found is sealed =
+    let at = place_found near_of itself rows near place distinct found in
+    let same : near_of new ≡ near = ap near_of sealed ∙ seal_keeps_near old (is_spent old) ∙ ap near_of is ∙ at.key_is old in
+    let kept = kept_at rows new place distinct (ap (place_in rows) same ∙ found) in
+    record { table = kept.table ∙ ap (λ k. insert (table_of rows) k new) same; distinct = kept.distinct }
+
+-- ---- one datagram goes out
+
+some_same : (a b : SessionState) (o : Option SessionState) → o ≡ Some a → o ≡ Some b → a ≡ b
+some_same a b None e f = absurd (cc)
+some_same a b (Some x) e f = cc
+
+-- of a session that was looked at three times: whether it is spent, for its context, and to seal
+pub sent_one : (config : Config) (moment sealed : ℕ) (startup : StartupState) (rows : List SessionState) (t : State) (near place : ℕ) (to : AddressParts) (chunk : Chunk)
+    (tested shown old new : SessionState) (datagram : List ℕ) (context : Context) (before after : Added) →
+    state_of config moment sealed startup rows ≡ t → len (table_of rows) ≡ length rows → place_in rows near ≡ Some place →
+    tested ≡ get_or rows place tested → shown ≡ get_or rows place shown → old ≡ get_or rows place old → is_spent tested ≡ false →
+    datagram ≡ session_datagram old moment chunk → context ≡ context_of shown true → new ≡ after_seal old →
+    after.entries ≡ before.entries ++ Out to datagram context ∷ [] → before.free ≤ after.free + 1 → after.room ≡ before.room →
+    Done (sent_in_session t near to chunk) (state_of config moment sealed startup (set rows place new)) before after
+unfolding one_out
+sent_one config moment sealed startup rows t near place to chunk tested shown old new datagram context before after
+    view distinct found tested_is shown_is old_is spent datagram_is context_is new_is entries free room =
+    let s : State = state_of config moment sealed startup rows in
+    let at_tested : get (table_of rows) near ≡ Some tested = found_at rows near place tested distinct found tested_is in
+    let at_shown : get (table_of rows) near ≡ Some shown = found_at rows near place shown distinct found shown_is in
+    let at_old : get (table_of rows) near ≡ Some old = found_at rows near place old distinct found old_is in
+    let back = put_back rows near place old new distinct found old_is new_is in
+    let did : sent_in_session s near to chunk ≡ one_out s near to chunk old =
+    sent_as s near to chunk old false at_old (ap is_spent (some_same old tested (get (table_of rows) near) at_old at_tested) ∙ spent) in
+    let entry : Out to datagram context ≡ Out to (session_datagram old moment chunk) (context_of old true) =
+    ap (λ (d : List ℕ). Out to d context) datagram_is
+    ∙ ap (Out to (session_datagram old moment chunk)) (context_is ∙ ap (λ (x : SessionState). context_of x true) (some_same shown old (get (table_of rows) near) at_shown at_old)) in
+    let done : Done (one_out s near to chunk old) (state_of config moment sealed startup (set rows place new)) before after =
+    record {
+      state = ap (λ (sessions : Sessions). with_sessions s sessions) (back.table ∙ ap (insert (table_of rows) near) new_is);
+      entries = entries ∙ ap (λ (e : Entry). before.entries ++ e ∷ []) entry;
+      free = free;
+      room = room;
+    } in
+    subst (λ (u : State). Done (sent_in_session u near to chunk) (state_of config moment sealed startup (set rows place new)) before after) view
+    (subst (λ (d : Did). Done d (state_of config moment sealed startup (set rows place new)) before after) (sym did) done)

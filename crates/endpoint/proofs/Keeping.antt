@@ -1,0 +1,90 @@
+-- The list of sessions as the table of them.
+use Rattle.std.proofs.Common.{ℕ, List, ◌≡◌, ◌==◌, ◌<◌, ◌++◌, [], ◌∷◌, length, get_or, set, Option, Some, None, position, is_some, Bool, false, if◌then◌else◌, ◌≢◌, arith, sym, ap, refl, ◌∙◌, inl, inr}
+use Rattle.std.specs.List.{swap_remove}
+use Rattle.std.specs.FinMap.{get, insert, remove, len, contains_key}
+use Rattle.rtmfp_base.proofs.Maps.{same_tables, same_or_not, get_removed, get_left}
+use Rattle.rtmfp_base.proofs.Rows.{place_found, place_none, table_set, set_are_distinct, table_push, pushed_are_distinct, table_swap_removed}
+use Rattle.rtmfp_base.proofs.Places.{place_tells}
+use Rattle.session_core.specs.Session.{SessionState}
+use Rattle.std.proofs.lemmas.Bool.Decides.{nat_tests}
+use Rattle.endpoint.specs.declared.place.Place.{Place}
+use Rattle.endpoint.specs.declared.place.Place.TheVariants.{Startup, Attempt, Session}
+use Rattle.endpoint.specs.State.{State, Sessions}
+use Rattle.endpoint.specs.Admission.{place_of}
+use Rattle.endpoint.specs.Kept.{near_of, table_of}
+
+abbrev itself : SessionState → SessionState
+itself session = session
+
+abbrev pub place_in : List SessionState → ℕ → Option ℕ
+place_in rows near = position (λ session. near_of session == near) rows
+
+-- the rows are those with this session besides, or in the place of the one with its session ID
+pub record IsKept (rows : List SessionState) (session : SessionState) (new : List SessionState) : Type 0 where
+  pub table : table_of new ≡ insert (table_of rows) (near_of session) session
+  pub distinct : len (table_of new) ≡ length new
+
+pub kept_at : (rows : List SessionState) (session : SessionState) (place : ℕ) → len (table_of rows) ≡ length rows → place_in rows (near_of session) ≡ Some place → IsKept rows session (set rows place session)
+kept_at rows session place distinct found =
+    let at = place_found near_of itself rows (near_of session) place distinct found in
+    record {
+      table = table_set near_of itself rows place session session distinct at.within (sym (at.key_is session));
+      distinct = set_are_distinct near_of itself rows place session session distinct at.within (sym (at.key_is session));
+    }
+
+pub kept_besides : (rows : List SessionState) (session : SessionState) → len (table_of rows) ≡ length rows → place_in rows (near_of session) ≡ None → IsKept rows session (rows ++ session ∷ [])
+kept_besides rows session distinct found =
+    let none = place_none near_of itself rows (near_of session) found in
+    record {
+      table = table_push near_of itself rows session none;
+      distinct = pushed_are_distinct near_of itself rows session distinct none;
+    }
+
+-- the rows are those without the session with this session ID
+pub record IsLeft (rows : List SessionState) (near : ℕ) (rest : List SessionState) : Type 0 where
+  pub table : table_of rest ≡ remove (table_of rows) near
+  pub distinct : len (table_of rest) ≡ length rest
+
+pub left_at : (rows : List SessionState) (near place : ℕ) (gone : SessionState) → len (table_of rows) ≡ length rows → place_in rows near ≡ Some place → gone ≡ get_or rows place gone
+    → IsLeft rows near (swap_remove rows place gone)
+left_at rows near place gone distinct found is =
+    let at = place_found near_of itself rows near place distinct found in
+    let rest = table_swap_removed near_of itself rows place gone distinct at.within is in
+    record { table = rest.table_is ∙ ap (remove (table_of rows)) (ap near_of is ∙ at.key_is gone); distinct = rest.distinct }
+
+-- nothing leaves where nothing is
+removed_none : (sessions : Sessions) (near : ℕ) → get sessions near ≡ None → sessions ≡ remove sessions near
+removed_none sessions near none =
+    same_tables sessions (remove sessions near) (λ q.
+    elim (same_or_not q near) [
+      | inl is ↦ ap (get sessions) is.0 ∙ none ∙ sym (ap (get (remove sessions near)) is.0 ∙ get_removed sessions near)
+      | inr is ↦ sym (get_left sessions near q is.0)
+    ])
+
+pub left_nowhere : (rows : List SessionState) (near : ℕ) → place_in rows near ≡ None → table_of rows ≡ remove (table_of rows) near
+left_nowhere rows near none = removed_none (table_of rows) near (place_none near_of itself rows near none)
+
+-- A session ID has a place exactly where it is in the table.
+pub has_place : (rows : List SessionState) (near : ℕ) → len (table_of rows) ≡ length rows → is_some (place_in rows near) ≡ contains_key (table_of rows) near
+has_place rows near distinct = place_tells near_of itself rows near distinct
+
+-- the session at its place
+pub found_at : (rows : List SessionState) (near place : ℕ) (session : SessionState) → len (table_of rows) ≡ length rows → place_in rows near ≡ Some place → session ≡ get_or rows place session → get (table_of rows) near ≡ Some session
+found_at rows near place session distinct found is =
+    (place_found near_of itself rows near place distinct found).found session ∙ ap (λ (s : SessionState). Some s) (sym is)
+
+pub found_nowhere : (rows : List SessionState) (near : ℕ) → place_in rows near ≡ None → get (table_of rows) near ≡ None
+found_nowhere rows near none = place_none near_of itself rows near none
+
+-- ---- what a session ID names
+
+not_zero : (n : ℕ) → n ≢ 0 → (n == 0) ≡ false
+not_zero n other = grind (arith, nat_tests)
+
+-- What one that isn't 0 names, by whether an attempt or a session has it.
+pub place_by : (s : State) (sid : ℕ) (attempt session : Bool) → sid ≢ 0 → contains_key s.startup.attempts sid ≡ attempt → contains_key s.sessions sid ≡ session →
+    place_of s sid ≡ (if attempt then Some (Attempt sid) else if session then Some (Session sid) else None)
+place_by s sid attempt session other at_attempt at_session =
+    ap (λ b. if b then Some Startup else if contains_key s.startup.attempts sid then Some (Attempt sid) else if contains_key s.sessions sid then Some (Session sid) else None) (not_zero sid other)
+    ∙ ap (λ b. if b then Some (Attempt sid) else if contains_key s.sessions sid then Some (Session sid) else None) at_attempt
+    ∙ ap (λ b. if attempt then Some (Attempt sid) else if b then Some (Session sid) else None) at_session

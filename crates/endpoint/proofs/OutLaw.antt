@@ -1,0 +1,44 @@
+-- Each log that an end stands for is lawful.
+use Rattle.std.proofs.Common.{ℕ, List, [], max}
+use Rattle.endpoint.specs.Event.{Setup, Call, Open, Cancel, Receive, Tick, Event}
+use Rattle.endpoint.specs.Past.{Stamped}
+use Rattle.endpoint.specs.State.{State, at_moment}
+use Rattle.endpoint.specs.Admission.{admission}
+use Rattle.endpoint.specs.Log.{StandsFor}
+use Rattle.endpoint.specs.Laws.{IsSetup, IsCall, AreCalls, EveryLogIsLawful}
+use Rattle.endpoint.proofs.Bytes.{of_bytes}
+use Rattle.endpoint.proofs.Lines.{EventsMeet, OutPart, events_lawful}
+use Rattle.endpoint.proofs.Tied.{Tied}
+use Rattle.endpoint.proofs.Moving.{tied_alike}
+use Rattle.endpoint.proofs.Ending.{goes_ticks}
+use Rattle.endpoint.proofs.Admitting.{admission_is}
+use Rattle.endpoint.proofs.Logged.{answers_go, part_goes, facts_lawful}
+use Rattle.endpoint.proofs.OutLog.{CallTies, TiesGoOn, outs_meet}
+
+module _ (setup : Setup) (is : IsSetup setup) where
+  noted : (past : List Stamped) (s : State) (moment : ℕ) → Tied setup past s → Tied setup past (at_moment s moment)
+  noted past s moment tied = tied_alike setup past s (max s.moment moment) s.sealed tied
+
+  -- the state agrees with what was done after each chunk of a datagram, and after each thing of a tick
+  within : (past : List Stamped) (s : State) (call : Call) → IsCall call → Tied setup past s → CallTies setup s.moment past s call
+  within past s (Open peer candidates draws) c tied = tt
+  within past s (Cancel n) c tied = tt
+  within past s (Receive from datagram draws) c tied = λ count.
+      (part_goes setup from datagram draws is.sessions c.2 past s tied count (admission s datagram) (admission_is setup past s datagram tied (of_bytes datagram c.0))).tied
+  within past s (Tick draws) c tied = λ count. (goes_ticks setup (Tick draws) tt count s past tied).tied
+
+  ties_go_on : TiesGoOn setup
+  ties_go_on = record {
+    within = λ past s e c tied. within past (at_moment s e.moment) e.call c tied;
+    noted = noted;
+    after = λ past s t e c tied step.
+        (let went = answers_go setup past (at_moment s e.moment) t e.call e.answer e.entries is (noted past s e.moment tied) c step in
+        (went.tied, went.moment));
+  }
+
+-- each datagram that goes out meets its line
+pub outs_lawful : (setup : Setup) (log : List Event) (s : State) → IsSetup setup → AreCalls log → StandsFor setup log s → EventsMeet OutPart setup 0 [] log
+outs_lawful setup log s is calls stands = outs_meet setup log s is (ties_go_on setup is) calls stands
+
+pub every_log_is_lawful : EveryLogIsLawful
+every_log_is_lawful setup log s is calls stands = events_lawful setup 0 [] log (facts_lawful setup log s is calls stands) (outs_lawful setup log s is calls stands)

@@ -1,0 +1,125 @@
+-- A datagram is taken or refused as its admission says.
+use Rattle.std.proofs.Common.{ℕ, ◌≡◌, ◌≤◌, ◌<◌, ◌+◌, ◌^◌, ◌==◌, ◌++◌, List, [], ◌∷◌, length, drop, take, nat_lt, Bool, true, false, if◌then◌else◌, Option, None, Some, Result, Ok, Err, OnOk, IfErr, IsOk, refl, sym, ap, ◌∙◌, subst, arith}
+use Rattle.std.specs.Int.{w64, from_be_bytes}
+use Rattle.std.proofs.lemmas.List.{drop-take}
+use Rattle.std.proofs.lemmas.Bool.Decides.{nat_tests}
+use Rattle.std.specs.FinMap.{get}
+use Rattle.crypto_profile.specs.Kept.{kept_after}
+use Rattle.crypto_profile.specs.Sealing.{number_of}
+use Rattle.rtmfp_base.proofs.Maps.{get_inserted}
+use Rattle.rtmfp_forms.specs.Address.{AddressParts}
+use Rattle.rtmfp_packet.specs.declared.head.PacketFault.{PacketFault}
+use Rattle.rtmfp_packet.specs.declared.head.PacketHead.{PacketHead}
+use Rattle.rtmfp_packet.specs.Whole.{Whole}
+use Rattle.startup.specs.declared.cause.Cause.{Cause}
+use Rattle.startup.specs.declared.cause.Cause.TheVariants.{Short as ShortCause, BadPacket, WrongPlace}
+use Rattle.session_core.specs.Session.{SessionState}
+use Rattle.session_core.specs.Hearing.{counted, count_of}
+use Rattle.endpoint.specs.declared.config.Draws.{Draws}
+use Rattle.endpoint.specs.declared.answers.Stopped.{Stopped}
+use Rattle.endpoint.specs.declared.place.Place.{Place}
+use Rattle.endpoint.specs.declared.place.Place.TheVariants.{Startup, Attempt, Session}
+use Rattle.endpoint.specs.Added.{Added}
+use Rattle.endpoint.specs.State.{State, Did, Done, nothing, with_session}
+use Rattle.endpoint.specs.Admission.{Admission, Rejected, Admitted, admission, admitted, admitted_packet, opened_datagram, counted_at, counted_by, timed_at, taken_packet, mode_at, mode_by, has_mode, fault_number, packet_in}
+use Rattle.endpoint.specs.Due.{received, discarded, IsRefused, discards}
+use Rattle.endpoint.specs.Log.{IsTaken, IsStop, stopped, not_taken}
+
+-- ---- one admission for another
+
+pub taken_as : (s : State) (from : AddressParts) (draws : Draws) (a b : Admission) (r : Result (Unit {0}) Stopped) (new : State) (before after : Added) → a ≡ b →
+    IsTaken s from draws a r new before after → IsTaken s from draws b r new before after
+taken_as s from draws a b r new before after e taken = let P : Admission → Type 0 = λ x. IsTaken s from draws x r new before after in subst P e taken
+
+-- ---- a datagram that is refused
+
+pub refused_so : (s t : State) (from : AddressParts) (draws : Draws) (cause : Cause) (r : Result (Unit {0}) Stopped) (new : State) (before after : Added) →
+    OnOk r (Done (discarded t 0 cause) new before after) → IfErr r (λ stop. (stop ≡ not_taken) × Done (nothing s) new before after) → (0 < before.free → IsOk r) →
+    IsTaken s from draws (Rejected t cause) r new before after
+refused_so s t from draws cause (Ok done) new before after ok stop enough = record { ok = ok; stop = tt; stopped = tt; enough = λ refused room. enough (omega (arith, room)) }
+refused_so s t from draws cause (Err halt) new before after ok stop enough =
+    let P : Stopped → Type 0 = λ x. IsStop (Rejected t cause) x in
+    let Q : Stopped → Type 0 = λ x. Done (stopped s from draws (Rejected t cause) x) new before after in
+    record {
+      ok = tt;
+      stop = subst P (sym stop.0) (record { taken = λ clash. absurd (cc); not_taken = λ is. (tt, refl) });
+      stopped = subst Q (sym stop.0) stop.1;
+      enough = λ refused room. enough (omega (arith, room));
+    }
+
+-- ---- how a packet is taken
+
+mode_still : (s : State) (near : ℕ) (part : List ℕ) (o : Option SessionState) → get s.sessions near ≡ o → mode_by (get (counted_by s near part o).sessions near) ≡ mode_by o
+mode_still s near part None e = ap mode_by e
+mode_still s near part (Some session) e = ap mode_by (get_inserted s.sessions near (counted session part))
+
+-- counting a datagram doesn't change the mode of its place
+pub mode_counted : (s : State) (place : Place) (part : List ℕ) → mode_at (counted_at s place part) place ≡ mode_at s place
+mode_counted s Startup part = refl
+mode_counted s (Attempt near) part = refl
+mode_counted s (Session near) part = mode_still s near part (get s.sessions near) refl
+
+by_mode : (b : Bool) (t : State) (place : Place) (packet : Whole) → has_mode packet.head (mode_at t place) ≡ b →
+    (if b then Admitted (timed_at t place packet.head) place packet else Rejected t WrongPlace) ≡ admitted_packet t place (Ok packet)
+by_mode b t place packet e = ap (λ (x : Bool). if x then Admitted (timed_at t place packet.head) place packet else Rejected t WrongPlace) (sym e)
+
+pub taken_is : (s : State) (place : Place) (part : List ℕ) (packet : Whole) (read : Result Whole PacketFault) → read ≡ Ok packet → has_mode packet.head (mode_at s place) ≡ true →
+    taken_packet s place part packet ≡ admitted_packet (counted_at s place part) place read
+taken_is s place part packet read is mode =
+    by_mode true (counted_at s place part) place packet (ap (has_mode packet.head) (mode_counted s place part) ∙ mode)
+    ∙ ap (admitted_packet (counted_at s place part) place) (sym is)
+
+pub wrong_is : (s : State) (place : Place) (part : List ℕ) (packet : Whole) (read : Result Whole PacketFault) → read ≡ Ok packet → has_mode packet.head (mode_at s place) ≡ false →
+    Rejected (counted_at s place part) WrongPlace ≡ admitted_packet (counted_at s place part) place read
+wrong_is s place part packet read is mode =
+    by_mode false (counted_at s place part) place packet (ap (has_mode packet.head) (mode_counted s place part) ∙ mode)
+    ∙ ap (admitted_packet (counted_at s place part) place) (sym is)
+
+pub bad_is : (s : State) (place : Place) (part : List ℕ) (fault : PacketFault) (read : Result Whole PacketFault) → read ≡ Err fault →
+    Rejected (counted_at s place part) (BadPacket (fault_number fault)) ≡ admitted_packet (counted_at s place part) place read
+bad_is s place part fault read is = ap (admitted_packet (counted_at s place part) place) (sym is)
+
+-- ---- a whole datagram
+
+pub opened_is : (s : State) (datagram plain : List ℕ) (place : Place) → opened_datagram s datagram ≡ Ok (place, plain) →
+    admitted s datagram (Ok (place, plain)) ≡ admission s datagram
+opened_is s datagram plain place e = ap (admitted s datagram) (sym e)
+
+pub unopened_is : (s : State) (datagram : List ℕ) (cause : Cause) → opened_datagram s datagram ≡ Err cause → Rejected s cause ≡ admission s datagram
+unopened_is s datagram cause e = ap (admitted s datagram) (sym e)
+
+-- ---- only the front of a datagram tells its number
+
+number_behind : (d : List ℕ) → number_of (drop 4 d) ≡ drop 16 (drop 4 (take 36 d))
+number_behind d = sym (drop-take 16 16 (drop 4 d)) ∙ ap (drop 16) (sym (drop-take 4 32 d))
+
+count_alike : (old new : List ℕ) → take 36 new ≡ take 36 old → count_of (drop 4 new) ≡ count_of (drop 4 old)
+count_alike old new front =
+    let numbers : number_of (drop 4 new) ≡ number_of (drop 4 old) = number_behind new ∙ ap (λ (xs : List ℕ). drop 16 (drop 4 xs)) front ∙ sym (number_behind old) in
+    ap (λ (xs : List ℕ). from_be_bytes w64 (drop 8 xs)) numbers
+
+counted_alike_by : (s : State) (near : ℕ) (a b : List ℕ) (o : Option SessionState) → count_of a ≡ count_of b → counted_by s near a o ≡ counted_by s near b o
+counted_alike_by s near a b None e = refl
+counted_alike_by s near a b (Some session) e = ap (λ n. with_session s near (record session { window = kept_after session.window n })) e
+
+counted_alike : (s : State) (place : Place) (a b : List ℕ) → count_of a ≡ count_of b → counted_at s place a ≡ counted_at s place b
+counted_alike s Startup a b e = refl
+counted_alike s (Attempt near) a b e = refl
+counted_alike s (Session near) a b e = counted_alike_by s near a b (get s.sessions near) e
+
+-- ---- an opened datagram
+
+long_by : (b : Bool) (x : Result (Place × List ℕ) Cause) (place : Place) (plain : List ℕ) → (if b then Err ShortCause else x) ≡ Ok (place, plain) → b ≡ false
+long_by true x place plain e = cc
+long_by false x place plain e = refl
+
+pub opened_long : (s : State) (d plain : List ℕ) (place : Place) → opened_datagram s d ≡ Ok (place, plain) → 36 ≤ length d
+opened_long s d plain place e = grind (arith, nat_tests, long_by (nat_lt (length d) 36) _ place plain e)
+
+pub datagram_taken : (s : State) (from : AddressParts) (draws : Draws) (old new : List ℕ) (place : Place) (r : Result (Unit {0}) Stopped) (t : State) (before after : Added) →
+    opened_datagram s old ≡ Ok (place, drop 36 new) → take 36 new ≡ take 36 old →
+    IsTaken s from draws (admitted_packet (counted_at s place (drop 4 new)) place (packet_in (drop 36 new))) r t before after → IsTaken s from draws (admission s old) r t before after
+datagram_taken s from draws old new place r t before after is front taken =
+    taken_as s from draws _ _ r t before after
+    (ap (λ (u : State). admitted_packet u place (packet_in (drop 36 new))) (counted_alike s place (drop 4 new) (drop 4 old) (count_alike old new front)) ∙ opened_is s old (drop 36 new) place is)
+    taken

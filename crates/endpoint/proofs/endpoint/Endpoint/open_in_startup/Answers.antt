@@ -1,0 +1,19 @@
+use Rattle.std.proofs.Common.{◌≡◌, None, Some, Ok, Err, IfSome, sym, ap, ◌∙◌}
+use Rattle.crypto_profile.specs.declared.keys.Context.TheVariants.{Startup}
+use Rattle.crypto_profile.specs.Keys.{keys_of}
+use Rattle.crypto_profile.specs.Opening.{open_refusal}
+use Rattle.endpoint.specs.State.{State}
+use Rattle.endpoint.specs.Admission.{startup_keys}
+use Rattle.endpoint.proofs.Opening.{is_opened, not_short, opened_so, unrefused}
+use Rattle.endpoint.proofs.endpoint.Endpoint.open_in_startup.Goals as goal
+
+pub returns-in-Ok-clause-ok : goal.returns-in-Ok-clause-ok
+returns-in-Ok-clause-ok c =
+    let none : open_refusal c.self.inside.keys c.args.sid c.args.part.now ≡ None = unrefused _ c.open_in_place.result c.in-Ok.field-0 c.in-Ok.is c.open_in_place.ensures.refused in
+    opened_so c.args.self.now c.self.inside.keys c.args.sid c.args.part.now c.open_in_place.new.buf (c.self.invariant.keys_are ∙ ap startup_keys c.self.view_is) none
+    (is_opened c.self.inside.keys c.args.part.now c.open_in_place.new.buf (not_short c.self.inside.keys c.args.sid c.args.part.now none) c.in-Ok.ensures.plain)
+
+pub returns-in-Ok-clause-front : goal.returns-in-Ok-clause-front
+returns-in-Ok-clause-front c =
+    let none : open_refusal c.self.inside.keys c.args.sid c.args.part.now ≡ None = unrefused _ c.open_in_place.result c.in-Ok.field-0 c.in-Ok.is c.open_in_place.ensures.refused in
+    (is_opened c.self.inside.keys c.args.part.now c.open_in_place.new.buf (not_short c.self.inside.keys c.args.sid c.args.part.now none) c.in-Ok.ensures.plain).front

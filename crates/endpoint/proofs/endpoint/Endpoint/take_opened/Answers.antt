@@ -1,0 +1,10 @@
+use Rattle.std.proofs.Common.{List, ℕ, drop, subst}
+use Rattle.endpoint.specs.Admission.{admitted_packet, counted_at, packet_in}
+use Rattle.endpoint.specs.Log.{IsTaken}
+use Rattle.endpoint.proofs.endpoint.Endpoint.take_opened.Goals as goal
+
+pub returns : goal.returns
+returns c =
+    let P : List ℕ → List ℕ → Type 0 = λ part plain. IsTaken c.args.self.now c.args.from.now c.args.draws.now (admitted_packet (counted_at c.args.self.now c.args.place part) c.args.place (packet_in plain))
+    c.take_plain.result c.take_plain.new.self c.args.out.now c.take_plain.new.out in
+    subst (P (drop 4 c.args.datagram.now)) c.behind-plain.ensures.value (subst (λ (part : List ℕ). P part c.behind-plain.result.now) c.behind-part.ensures.value c.take_plain.ensures)

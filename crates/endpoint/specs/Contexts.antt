@@ -1,0 +1,54 @@
+-- Contexts of sessions and of session IDs, and when a datagram opens in one.
+use Rattle.std.specs.Prelude.{ℕ, ◌≡◌, ◌⊎◌, List, drop, Bool, true, false, Some, Ok}
+use Rattle.crypto_profile.specs.declared.keys.Context.{Context}
+use Rattle.crypto_profile.specs.declared.keys.Context.TheVariants.{Startup, Session}
+use Rattle.crypto_profile.specs.Sealing.{Opens}
+use Rattle.packet_scramble.specs.Datagram.{sid_of}
+use Rattle.rtmfp_packet.specs.Whole.{Whole}
+use Rattle.rtmfp_packet.specs.Reading.{PacketReading}
+use Rattle.glare_core.specs.declared.facts.Fact.{Fact}
+use Rattle.glare_core.specs.declared.facts.Held.{Held}
+use Rattle.glare_core.specs.declared.facts.Held.TheVariants.{Opening, HalfOpen, KeptAsResponder, KeptAsInitiator}
+use Rattle.glare_core.specs.Standing.{held}
+use Rattle.glare_core.specs.Things.{near_of}
+use Rattle.glare_core.specs.Tells.{Values, as_initiator, as_responder}
+
+-- the context of a session, in one direction
+abbrev pub session_context : Values → Bool → Context
+session_context v to_responder = Session v.ni v.nr v.initiator v.responder v.near_i v.near_r to_responder
+
+-- the context in which an end takes datagrams for what it holds: startup for an attempt, and a session's own, towards this end
+abbrev pub inward : List ℕ → Held → Context
+inward own (Opening n near ni) = Startup
+inward own (HalfOpen j) = session_context (as_responder own j) true
+inward own (KeptAsResponder j) = session_context (as_responder own j) true
+inward own (KeptAsInitiator j) = session_context (as_initiator own j) false
+
+-- the context in which an end sends in a session that it holds, away from this end
+abbrev pub outward : List ℕ → Held → Context
+outward own (Opening n near ni) = Startup
+outward own (HalfOpen j) = session_context (as_responder own j) false
+outward own (KeptAsResponder j) = session_context (as_responder own j) false
+outward own (KeptAsInitiator j) = session_context (as_initiator own j) true
+
+-- With some peer this is held under this session ID.
+pub record HeldUnder (facts : List Fact) (near : ℕ) (thing : Held) : Type 0 where
+  pub peer : List ℕ
+  pub is_held : held peer facts ≡ Some thing
+  pub id : near_of thing ≡ near
+
+-- The context of a session ID at an end that stated these facts: startup for 0 and for an attempt's, and a session's own for that of a session.
+abbrev pub ContextOf : List ℕ → List Fact → ℕ → Context → Type 0
+ContextOf own facts sid context =
+    ((sid ≡ 0) × (context ≡ Startup)) ⊎ ((thing : Held) × HeldUnder facts sid thing × (context ≡ inward own thing))
+
+-- The datagram goes under this session ID, opens in this context, and has this plain packet.
+pub record OpensUnder (secret : List ℕ) (context : Context) (sid : ℕ) (datagram plain : List ℕ) : Type 0 where
+  pub id : sid_of datagram ≡ sid
+  pub opens : Opens secret context sid (drop 4 datagram) plain
+
+-- It is read so.
+pub record ReadsUnder (secret : List ℕ) (context : Context) (sid : ℕ) (datagram : List ℕ) (packet : Whole) : Type 0 where
+  pub plain : List ℕ
+  pub opens : OpensUnder secret context sid datagram plain
+  pub reads : PacketReading plain (Ok packet)

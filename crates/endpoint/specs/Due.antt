@@ -1,0 +1,275 @@
+-- What each call of an end does, item by item.
+use Rattle.std.specs.Prelude.{IsSome, ℕ, zero, suc, ◌-◌, ◌==◌, ◌||◌, ◌≡◌, nat_lt, not, Bool, false, is_some, if◌then◌else◌, List, [], ◌∷◌, ◌++◌, length, take, Option, Some, None, Result, Ok, Err}
+use Rattle.std.specs.FinMap.{remove, insert, contains_key}
+use Rattle.rtmfp_forms.specs.Address.{AddressParts}
+use Rattle.rtmfp_chunks.specs.declared.reading.ChunkFault.{ChunkFault}
+use Rattle.rtmfp_chunks.specs.declared.reading.ChunkFault.TheVariants.{Unknown, Malformed as BadField}
+use Rattle.rtmfp_chunks.specs.Chunk.{Chunk, IHello, FIHello, RHello, CookieChange, Ping, PingReply}
+use Rattle.rtmfp_chunks.specs.FieldReading.{chunk_reading}
+use Rattle.rtmfp_packet.specs.Walk.{Placed}
+use Rattle.identity.specs.Certificates.{certificate_fault}
+use Rattle.glare_core.specs.declared.facts.Fact.{Fact}
+use Rattle.glare_core.specs.declared.facts.Fact.TheVariants.{Started, Born, Opened, Confirmed, Ended}
+use Rattle.glare_core.specs.declared.answers.StartRefusal.{StartRefusal}
+use Rattle.glare_core.specs.Calls.{where_true, first_that_stands, start_refusal, started_fact}
+use Rattle.startup.specs.declared.cause.Cause.{Cause}
+use Rattle.startup.specs.declared.cause.Cause.TheVariants.{UnknownChunk, Malformed, WrongPlace, NoAttempt, SecondKeying, Fragment as FragmentCause, Wide}
+use Rattle.startup.specs.declared.answer.Keyed.{Keyed}
+use Rattle.startup.specs.declared.answer.Keyed.TheVariants.{Change, Again, Birth}
+use Rattle.startup.specs.declared.answer.Due.{Due}
+use Rattle.startup.specs.declared.answer.Due.TheVariants.{Ended as EndDue, Hello as HelloDue, Keying as KeyingDue}
+use Rattle.startup.specs.Attempts.{begin_spread, after_begin, cancel_fact, after_cancel, rhello_cause, after_rhello, rhello_keying, cookie_change_cause, after_cookie_change, cookie_change_keying}
+use Rattle.startup.specs.Due.{due, after_due}
+use Rattle.startup.specs.Keyings.{keying_fault, initiator_hello_cause, initiator_hello_answer, iikeying_cause, keyed, after_keying, rikeying_cause, opened, after_opening}
+use Rattle.session_core.specs.declared.stage.Role.TheVariants.{Initiator, Responder}
+use Rattle.session_core.specs.Session.{new_session}
+use Rattle.endpoint.specs.declared.config.Draws.{Draws}
+use Rattle.endpoint.specs.declared.place.Place.{Place}
+use Rattle.endpoint.specs.declared.place.Place.TheVariants.{Startup, Attempt, Session}
+use Rattle.endpoint.specs.declared.entry.Entry.TheVariants.{Fact as FactEntry, Discard}
+use Rattle.endpoint.specs.declared.answers.OpenRefusal.{OpenRefusal}
+use Rattle.endpoint.specs.declared.answers.OpenRefusal.TheVariants.{Candidates, Start, SessionsFull}
+use Rattle.endpoint.specs.State.{State, Sessions, Did, nothing, after_entries, then_do, fact_entries, with_startup, with_session, with_sessions, free_from, full}
+use Rattle.endpoint.specs.Sending.{sent_answer, sent_if, sent_spread, sent_in_session}
+use Rattle.endpoint.specs.Admission.{Admission, Rejected, Admitted, sid_at, confirming, confirms}
+use Rattle.endpoint.specs.Keying.{chunks_of}
+
+-- ---- opening an attempt
+
+-- there are none or more than 16 candidates
+abbrev pub candidates_refusal : ℕ → Option OpenRefusal
+candidates_refusal count = where_true ((count == 0) || nat_lt 16 count) (Candidates count)
+
+abbrev pub start_refused : Option StartRefusal → Option OpenRefusal
+start_refused None = None
+start_refused (Some refusal) = Some (Start refusal)
+
+abbrev pub full_refused : Option ℕ → Option OpenRefusal
+full_refused None = None
+full_refused (Some limit) = Some (SessionsFull limit)
+
+-- why no attempt is opened, but for want of memory
+abbrev pub open_refusal : State → List ℕ → List AddressParts → Option OpenRefusal
+open_refusal s peer candidates =
+    first_that_stands (candidates_refusal (length candidates) ∷ start_refused (start_refusal s.startup.ledger peer) ∷ full_refused (full s) ∷ [])
+
+-- a Started, then a hello to each candidate place
+abbrev pub opening : State → List ℕ → List AddressParts → Draws → Did
+opening s peer candidates draws =
+    after_entries (FactEntry (started_fact s.startup.ledger peer (free_from s draws.word) draws.nonce) ∷ [])
+    (sent_spread (with_startup s (after_begin s.startup peer candidates (free_from s draws.word) draws.nonce draws.tag s.moment))
+    (begin_spread s.startup peer candidates draws.nonce draws.tag s.moment))
+
+-- ---- giving one up
+
+abbrev pub cancelling : State → ℕ → Did
+cancelling s n = record { state = with_startup s (after_cancel s.startup n); entries = fact_entries (cancel_fact s.startup n) }
+
+-- ---- time
+
+-- what one thing that is due adds: the end of an attempt, or its hellos or its keying again
+abbrev pub due_done : State → Option Due → Did
+due_done s None = nothing s
+due_done s (Some (EndDue fact)) = record { state = s; entries = FactEntry fact ∷ [] }
+due_done s (Some (HelloDue spread)) = sent_spread s spread
+due_done s (Some (KeyingDue answer)) = sent_answer s answer
+
+-- the first thing that is due, by rising session IDs of the attempts
+abbrev pub tick_once : State → Did
+tick_once s = due_done (with_startup s (after_due s.startup s.moment)) (due s.startup s.moment)
+
+-- so many things of a tick, one after another
+abbrev pub ticks : ℕ → State → Did
+ticks zero s = nothing s
+ticks (suc count) s = then_do (tick_once s) (ticks count)
+
+-- ---- why a chunk is discarded: the first of these that stands
+
+abbrev pub is_hello : ℕ → Bool
+is_hello kind = (kind == 0x30) || (kind == 0x0f)
+
+-- the chunks that an end reads today
+abbrev pub is_known : ℕ → Bool
+is_known kind =
+    is_hello kind || (kind == 0x70) || (kind == 0x79) || (kind == 0x38) || (kind == 0x78) || (kind == 0x01) || (kind == 0x41) || (kind == 0x7f)
+
+-- The certificate of a responder's hello, which ends a payload of this length, isn't one.
+abbrev pub view_fault : ℕ → Chunk → Option Cause
+view_fault len (RHello tag cookie cert) = where_true (is_some (certificate_fault cert)) (Malformed (len - length cert))
+view_fault len chunk = None
+
+-- or a field can't be read
+abbrev pub read_fault : ℕ → Result Chunk ChunkFault → Option Cause
+read_fault len (Ok chunk) = view_fault len chunk
+read_fault len (Err (BadField at)) = Some (Malformed at)
+read_fault len (Err (Unknown kind)) = Some (UnknownChunk kind)
+
+-- the fields and the forms of a chunk
+abbrev pub form_cause : ℕ → List ℕ → Option Cause
+form_cause kind payload =
+    if (kind == 0x38) || (kind == 0x78) then keying_fault kind payload else read_fault (length payload) (chunk_reading kind payload)
+
+-- which chunks a place takes
+abbrev pub takes : Place → ℕ → Bool
+takes Startup kind = (kind == 0x30) || (kind == 0x70) || (kind == 0x79) || (kind == 0x38)
+takes (Attempt near) kind = (kind == 0x79) || (kind == 0x78)
+takes (Session near) kind = (kind == 0x0f) || (kind == 0x01) || (kind == 0x41)
+
+-- the causes of hellos, of changes of cookies and of keyings
+abbrev pub read_cause : State → Place → Result Chunk ChunkFault → Option Cause
+read_cause s place (Ok (IHello epd tag)) = initiator_hello_cause s.startup epd tag
+read_cause s place (Ok (FIHello epd reply tag)) = initiator_hello_cause s.startup epd tag
+read_cause s place (Ok (RHello tag cookie cert)) = rhello_cause s.startup tag cookie cert
+read_cause s place (Ok (CookieChange old new)) = cookie_change_cause s.startup (sid_at place) old new
+read_cause s place (Ok (Ping bytes)) = where_true (nat_lt 1024 (length bytes)) (Wide (length bytes))
+read_cause s place (Ok chunk) = None
+read_cause s place (Err fault) = None
+
+-- A keying after another one of the same datagram.
+abbrev pub initiator_keying_cause : State → Bool → AddressParts → List ℕ → Option Cause
+initiator_keying_cause s keyed_before from payload =
+    if keyed_before then Some SecondKeying else iikeying_cause s.startup payload from s.moment (full s)
+
+-- Once its session is open the attempt isn't there any more.
+abbrev pub responder_keying_cause : State → ℕ → List ℕ → Option Cause
+responder_keying_cause s near payload = if contains_key s.startup.attempts near then rikeying_cause s.startup near payload else Some NoAttempt
+
+abbrev pub last_cause : State → Place → Bool → AddressParts → Placed → Option Cause
+last_cause s place keyed_before from c =
+    if c.kind == 0x38 then initiator_keying_cause s keyed_before from c.payload
+    else if c.kind == 0x78 then responder_keying_cause s (sid_at place) c.payload
+    else read_cause s place (chunk_reading c.kind c.payload)
+
+abbrev pub chunk_cause : State → Place → Bool → AddressParts → Placed → Option Cause
+chunk_cause s place keyed_before from c =
+    first_that_stands (
+    where_true (not (is_known c.kind)) (UnknownChunk c.kind)
+    ∷ form_cause c.kind c.payload
+    ∷ where_true (c.kind == 0x7f) FragmentCause
+    ∷ where_true (not (takes place c.kind)) WrongPlace
+    ∷ last_cause s place keyed_before from c
+    ∷ [])
+
+-- ---- what a chunk does that isn't discarded
+
+-- what a thing that was ended leaves of the sessions
+abbrev pub without_ended : Sessions → Option Fact → Sessions
+without_ended sessions None = sessions
+without_ended sessions (Some (Ended peer near why)) = remove sessions near
+without_ended sessions (Some fact) = sessions
+
+-- the sessions with one that was born, without what ended
+abbrev pub sessions_born : Sessions → Option Fact → Fact → List ℕ → AddressParts → List ℕ → ℕ → Sessions
+sessions_born sessions ended (Started peer n near ni) own from secret moment = sessions
+sessions_born sessions ended (Born j) own from secret moment = insert (without_ended sessions ended) j.near (new_session j own Responder from secret moment)
+sessions_born sessions ended (Opened j) own from secret moment = sessions
+sessions_born sessions ended (Confirmed peer near) own from secret moment = sessions
+sessions_born sessions ended (Ended peer near why) own from secret moment = sessions
+
+-- the session that was born is kept, half-open, at the address that its keying came from
+abbrev pub with_born : State → Option Fact → Fact → AddressParts → State
+with_born s ended (Born j) from =
+    with_sessions s (insert (without_ended s.sessions ended) j.near (new_session j s.startup.ledger.own Responder from s.startup.secret s.moment))
+with_born s ended fact from = s
+
+-- a new cookie; the keying of the held session again; or the facts of a birth, and the session's keying
+abbrev pub keying_done : State → AddressParts → Option Keyed → Did
+keying_done s from None = nothing s
+keying_done s from (Some (Change answer)) = sent_answer s answer
+keying_done s from (Some (Again answer)) = sent_answer s answer
+keying_done s from (Some (Birth ended born answer)) =
+    after_entries (fact_entries ended ++ FactEntry born ∷ []) (sent_answer (with_born s ended born from) answer)
+
+abbrev pub initiator_keyed : State → AddressParts → Draws → List ℕ → Did
+initiator_keyed s from draws payload =
+    keying_done (with_startup s (after_keying s.startup payload from s.moment (free_from s draws.word) draws.nonce)) from
+    (keyed s.startup payload from s.moment (free_from s draws.word) draws.nonce)
+
+-- the sessions with one that was opened
+abbrev pub sessions_opened : Sessions → Fact → List ℕ → AddressParts → List ℕ → ℕ → Sessions
+sessions_opened sessions (Started peer n near ni) own from secret moment = sessions
+sessions_opened sessions (Born j) own from secret moment = sessions
+sessions_opened sessions (Opened j) own from secret moment = insert sessions j.near (new_session j own Initiator from secret moment)
+sessions_opened sessions (Confirmed peer near) own from secret moment = sessions
+sessions_opened sessions (Ended peer near why) own from secret moment = sessions
+
+-- the session that was opened is kept, at the address that its keying came from
+abbrev pub with_opened : State → ℕ → Fact → AddressParts → State
+with_opened s near (Opened j) from = with_session s near (new_session j s.startup.ledger.own Initiator from s.startup.secret s.moment)
+with_opened s near fact from = s
+
+-- an Opened, then a ping without bytes
+abbrev pub opening_done : State → ℕ → AddressParts → Option Fact → Did
+opening_done s near from None = nothing s
+opening_done s near from (Some fact) =
+    after_entries (FactEntry fact ∷ [])
+    (sent_in_session (with_opened (with_startup s (after_opening s.startup near fact)) near fact from) near from (Ping []))
+
+abbrev pub responder_keyed : State → ℕ → AddressParts → List ℕ → Did
+responder_keyed s near from payload = opening_done s near from (opened s.startup near payload)
+
+-- hellos, changes of cookies, and pings; the answer to a ping has no effect
+abbrev pub read_done : State → Place → AddressParts → Result Chunk ChunkFault → Did
+read_done s place from (Ok (IHello epd tag)) = sent_answer s (initiator_hello_answer s.startup tag from s.moment)
+read_done s place from (Ok (FIHello epd reply tag)) = sent_answer s (initiator_hello_answer s.startup tag reply s.moment)
+read_done s place from (Ok (RHello tag cookie cert)) =
+    sent_if (with_startup s (after_rhello s.startup tag cookie from s.moment)) (rhello_keying s.startup tag cookie from)
+read_done s place from (Ok (CookieChange old new)) =
+    sent_if (with_startup s (after_cookie_change s.startup (sid_at place) old new s.moment)) (cookie_change_keying s.startup (sid_at place) old new)
+read_done s place from (Ok (Ping bytes)) = sent_in_session s (sid_at place) from (PingReply bytes)
+read_done s place from (Ok chunk) = nothing s
+read_done s place from (Err fault) = nothing s
+
+abbrev pub effect : State → Place → AddressParts → Draws → Placed → Did
+effect s place from draws c =
+    if c.kind == 0x38 then initiator_keyed s from draws c.payload
+    else if c.kind == 0x78 then responder_keyed s (sid_at place) from c.payload
+    else read_done s place from (chunk_reading c.kind c.payload)
+
+-- ---- the chunks of a datagram
+
+abbrev pub discarded : State → ℕ → Cause → Did
+discarded s at cause = record { state = s; entries = Discard at cause ∷ [] }
+
+-- a chunk with a cause is discarded, and does nothing else
+abbrev pub discarded_or : State → ℕ → Option Cause → Did → Did
+discarded_or s at None d = d
+discarded_or s at (Some cause) d = discarded s at cause
+
+abbrev pub chunk_did : Place → AddressParts → Draws → Bool → State → Placed → Did
+chunk_did place from draws keyed_before s c = discarded_or s c.at (chunk_cause s place keyed_before from c) (effect s place from draws c)
+
+abbrev pub keyed_after : Bool → Placed → Bool
+keyed_after keyed_before c = keyed_before || (c.kind == 0x38)
+
+abbrev pub chunks_did : Place → AddressParts → Draws → Bool → State → List Placed → Did
+chunks_did place from draws keyed_before s [] = nothing s
+chunks_did place from draws keyed_before s (c ∷ cs) =
+    then_do (chunk_did place from draws keyed_before s c) (λ t. chunks_did place from draws (keyed_after keyed_before c) t cs)
+
+-- ---- a datagram
+
+abbrev pub received : AddressParts → Draws → Admission → Did
+received from draws (Rejected s cause) = discarded s 0 cause
+received from draws (Admitted s place packet) = then_do (confirming s place) (λ t. chunks_did place from draws false t (chunks_of packet))
+
+-- what was done of a datagram of which so many chunks were gone through
+abbrev pub part_received : AddressParts → Draws → Admission → ℕ → Did
+part_received from draws (Rejected s cause) count = nothing s
+part_received from draws (Admitted s place packet) count = then_do (confirming s place) (λ t. chunks_did place from draws false t (take count (chunks_of packet)))
+
+-- ---- datagrams that are only refused
+
+-- Each of these chunks has a cause.
+abbrev pub AreRefused : State → Place → AddressParts → Bool → List Placed → Type 0
+AreRefused s place from keyed_before [] = Unit {0}
+AreRefused s place from keyed_before (c ∷ cs) = IsSome (chunk_cause s place keyed_before from c) × AreRefused s place from (keyed_after keyed_before c) cs
+
+-- The datagram is refused, or it confirms nothing and each of its chunks is discarded; then so many discards are added.
+abbrev pub IsRefused : AddressParts → Admission → Type 0
+IsRefused from (Rejected s cause) = Unit {0}
+IsRefused from (Admitted s place packet) = (confirms s place ≡ false) × AreRefused s place from false (chunks_of packet)
+
+abbrev pub discards : Admission → ℕ
+discards (Rejected s cause) = 1
+discards (Admitted s place packet) = length (chunks_of packet)

@@ -1,0 +1,15 @@
+pub mod Added
+pub mod Event
+pub mod Past
+pub mod Contexts
+pub mod Keying
+pub mod Admissible
+pub mod Lawful
+pub mod History
+pub mod State
+pub mod Sending
+pub mod Admission
+pub mod Due
+pub mod Log
+pub mod Laws
+pub mod Kept

@@ -1,0 +1,160 @@
+//! How a datagram is taken, or refused as a whole (own rules over RFC 7016 section 3.5).
+
+ghost use Rattle.std.specs.Prelude.{◌≡◌, ◌≤◌, IfOk, IfErr, OnOk, Ok, Err, drop, length, take};
+ghost use Rattle.std.specs.Int.{w32, from_be_bytes};
+ghost use Rattle.std.specs.FinMap.{get};
+ghost use Rattle.rtmfp_packet.specs.Head.{mode_number};
+ghost use Rattle.endpoint.specs.Admission.{fault_number, has_mode, heard_in, mode_at, opened_datagram, opened_in_startup, peers_mode, place_of, placed};
+
+use crate::endpoint::Endpoint;
+use crate::place::Place;
+use crate::sessions;
+use crypto_profile::open_in_place;
+use packet_scramble::unscramble;
+use rtmfp_packet::{Mode, PacketFault, PacketHead};
+use session_core::{Role, Unheard};
+use startup::Cause;
+
+/// The bytes of a datagram before its sealed part, and before its plain packet.
+pub(crate) const SEALED_AT: usize = 4;
+
+pub(crate) const PLAIN_AT: usize = 36;
+
+impl Endpoint {
+    /// What a session ID names.
+    fn place_of(&self, sid: u32) -> Option<Place>
+        ensures { result ≡ place_of self.now sid }
+    {
+        if sid == 0 {
+            Some(Place::Startup)
+        } else if self.startup.has_attempt(sid) {
+            Some(Place::Attempt(sid))
+        } else if sessions::place_of(&self.sessions, sid).is_some() {
+            Some(Place::Session(sid))
+        } else {
+            None
+        }
+    }
+
+    /// Opens a sealed part in the startup context, in place.
+    fn open_in_startup(&self, sid: u32, part: &mut [u8]) -> Result<(), Cause>
+        ensures ok { OnOk result (opened_in_startup self.now sid part.old ≡ Ok (drop 32 part.new)) }
+        ensures err { IfErr result (λ cause. opened_in_startup self.now sid part.old ≡ Err cause) }
+        ensures front { OnOk result (take 32 part.new ≡ take 32 part.old) }
+        ensures length { length part.new ≡ length part.old }
+    {
+        match open_in_place(&self.keys, sid, part) {
+            Ok(_) => Ok(()),
+            Err(_) => Err(Cause::BadTag),
+        }
+    }
+
+    /// Opens a sealed part in a session, in place. It takes no number yet.
+    fn open_in_session(&self, near: u32, part: &mut [u8]) -> Result<(), Cause>
+        ensures ok { OnOk result (heard_in (get self.now.sessions near) part.old ≡ Ok (drop 32 part.new)) }
+        ensures err { IfErr result (λ cause. heard_in (get self.now.sessions near) part.old ≡ Err cause) }
+        ensures front { OnOk result (take 32 part.new ≡ take 32 part.old) }
+        ensures length { length part.new ≡ length part.old }
+    {
+        match sessions::place_of(&self.sessions, near) {
+            Some(place) => match self.sessions[place].open(part) {
+                Ok(_) => Ok(()),
+                Err(Unheard::Short) => Err(Cause::Short),
+                Err(Unheard::BadTag) => Err(Cause::BadTag),
+                Err(Unheard::Repeated) => Err(Cause::Repeated),
+            },
+            None => Err(Cause::UnknownSession),
+        }
+    }
+
+    /// Opens a datagram in place, and says where it belongs, or why it is refused. Nothing of it counts as taken yet.
+    pub(crate) fn open_datagram(&self, datagram: &mut [u8]) -> Result<Place, Cause>
+        ensures ok { IfOk result (λ place. opened_datagram self.now datagram.old ≡ Ok (place, drop 36 datagram.new)) }
+        ensures err { IfErr result (λ cause. opened_datagram self.now datagram.old ≡ Err cause) }
+        ensures front { OnOk result (take 36 datagram.new ≡ take 36 datagram.old) }
+        ensures length { length datagram.new ≡ length datagram.old }
+    {
+        if datagram.len() < PLAIN_AT {
+            return Err(Cause::Short);
+        }
+        let (head, part) = datagram.split_at_mut(SEALED_AT);
+        let sid = unscramble(word_of(head), part);
+        match self.place_of(sid) {
+            Some(Place::Startup) => match self.open_in_startup(0, part) {
+                Ok(()) => Ok(Place::Startup),
+                Err(cause) => Err(cause),
+            },
+            Some(Place::Attempt(near)) => match self.open_in_startup(near, part) {
+                Ok(()) => Ok(Place::Attempt(near)),
+                Err(cause) => Err(cause),
+            },
+            Some(Place::Session(near)) => match self.open_in_session(near, part) {
+                Ok(()) => Ok(Place::Session(near)),
+                Err(cause) => Err(cause),
+            },
+            None => Err(Cause::UnknownSession),
+        }
+    }
+
+    /// The mode that packets have at a place.
+    pub(crate) fn mode_at(&self, place: Place) -> Mode
+        ensures { result ≡ mode_at self.now place }
+    {
+        match place {
+            Place::Startup => Mode::Startup,
+            Place::Attempt(_) => Mode::Startup,
+            Place::Session(near) => match sessions::place_of(&self.sessions, near) {
+                Some(place) => peers_mode(self.sessions[place].role()),
+                None => Mode::Startup,
+            },
+        }
+    }
+}
+
+/// The first four bytes, as one number.
+fn word_of(head: &[u8]) -> u32
+    requires { length head.now ≡ 4 }
+    ensures { result ≡ from_be_bytes w32 head.now }
+{
+    let mut word = [0; 4];
+    word.copy_from_slice(head);
+    u32::from_be_bytes(word)
+}
+
+/// The mode of the packets of the peer of an end with this role.
+fn peers_mode(role: Role) -> Mode
+    ensures { result ≡ peers_mode role }
+{
+    match role {
+        Role::Initiator => Mode::Responder,
+        Role::Responder => Mode::Initiator,
+    }
+}
+
+/// Whether a head has this mode.
+pub(crate) fn has_mode(head: &PacketHead, mode: Mode) -> bool
+    ensures { result ≡ has_mode head.now mode }
+{
+    mode_number(head.mode) == mode_number(mode)
+}
+
+fn mode_number(mode: Mode) -> u8
+    ensures { result ≡ mode_number mode }
+{
+    match mode {
+        Mode::Initiator => 1,
+        Mode::Responder => 2,
+        Mode::Startup => 3,
+    }
+}
+
+/// The number that a fault of a packet has in the cause of its discard.
+pub(crate) fn fault_number(fault: PacketFault) -> u8
+    ensures { result ≡ fault_number fault }
+{
+    match fault {
+        PacketFault::Empty => 1,
+        PacketFault::ModeZero => 2,
+        PacketFault::ShortStamp => 3,
+    }
+}

@@ -1,0 +1,152 @@
+//! Attempts that are opened and given up.
+
+ghost use Rattle.std.specs.Prelude.{◌≡◌, ◌+◌, IfErr, IfNone, IfOk, IfSome, IsSome, None, OnErr, OnOk, Err};
+ghost use Rattle.startup.specs.Attempts.{cancel_fact};
+ghost use Rattle.endpoint.specs.Due.{cancelling, open_refusal, opening};
+ghost use Rattle.endpoint.specs.Log.{Extends, cancel_event, open_event};
+ghost use Rattle.endpoint.specs.State.{Done, at_moment, nothing};
+
+use crate::answers::{CallRefusal, OpenRefusal};
+use crate::config::Draws;
+use crate::endpoint::Endpoint;
+use crate::entry::Entry;
+use crate::outbox::Outbox;
+use crate::sending::blanks;
+use identity::Epd;
+use rtmfp_forms::Address;
+use std::alloc::AllocError;
+
+/// The most candidate addresses of an attempt (own).
+const CANDIDATES: usize = 16;
+
+impl Endpoint {
+    /// Opens an attempt towards the end that the discriminator names, and sends a hello to each candidate place; it gives the number of the attempt (RFC 7016 section 3.5.1.1).
+    ///
+    /// Where it is refused, all is as before but for the moment; `OpenRefusal` has the reasons in their order.
+    pub fn open(
+        &mut self,
+        epd: &Epd,
+        candidates: &[Address],
+        moment: u64,
+        draws: &Draws,
+        out: &mut Outbox,
+    ) -> Result<u64, OpenRefusal>
+        ensures number { IfOk result (λ n. n ≡ self.old.startup.ledger.started + 1) }
+        ensures ok { OnOk result (Done (opening (at_moment self.old moment) epd.now.print candidates.now draws.now) self.new out.old out.new) }
+        ensures refused { IfSome (open_refusal (at_moment self.old moment) epd.now.print candidates.now) (λ refusal. result ≡ Err refusal) }
+        ensures memory { IfNone (open_refusal (at_moment self.old moment) epd.now.print candidates.now) (IfErr result (λ refusal. refusal ≡ OpenRefusal.Memory)) }
+        ensures err { OnErr result (Done (nothing (at_moment self.old moment)) self.new out.old out.new) }
+
+        // The end stands for its log with this call.
+        ensures stands { Extends self.old self.new (open_event moment epd.now.print candidates.now draws.now result out.old.entries out.new.entries) }
+    {
+        self.try_open(epd, candidates, moment, draws, out)
+    }
+
+    /// Opens an attempt, if nothing refuses it.
+    fn try_open(
+        &mut self,
+        epd: &Epd,
+        candidates: &[Address],
+        moment: u64,
+        draws: &Draws,
+        out: &mut Outbox,
+    ) -> Result<u64, OpenRefusal>
+        ensures number { IfOk result (λ n. n ≡ self.old.startup.ledger.started + 1) }
+        ensures ok { OnOk result (Done (opening (at_moment self.old moment) epd.now.print candidates.now draws.now) self.new out.old out.new) }
+        ensures refused { IfSome (open_refusal (at_moment self.old moment) epd.now.print candidates.now) (λ refusal. result ≡ Err refusal) }
+        ensures memory { IfNone (open_refusal (at_moment self.old moment) epd.now.print candidates.now) (IfErr result (λ refusal. refusal ≡ OpenRefusal.Memory)) }
+        ensures err { OnErr result (Done (nothing (at_moment self.old moment)) self.new out.old out.new) }
+    {
+        self.advance(moment);
+        if let Some(refusal) = self.open_refusal(epd, candidates) {
+            return Err(refusal);
+        }
+        match self.begin(epd, candidates, draws, out) {
+            Ok(n) => Ok(n),
+            Err(_) => Err(OpenRefusal::Memory),
+        }
+    }
+
+    /// Why no attempt is opened, but for want of memory.
+    fn open_refusal(&self, epd: &Epd, candidates: &[Address]) -> Option<OpenRefusal>
+        ensures { result ≡ open_refusal self.now epd.now.print candidates.now }
+    {
+        let count = candidates.len();
+        if count == 0 || count > CANDIDATES {
+            return Some(OpenRefusal::Candidates(count as u64));
+        }
+        if let Some(refusal) = self.startup.peers().start_refusal(&epd.print) {
+            return Some(OpenRefusal::Start(refusal));
+        }
+        match self.full() {
+            Some(limit) => Some(OpenRefusal::SessionsFull(u64::from(limit))),
+            None => None,
+        }
+    }
+
+    /// Opens an attempt that nothing refuses.
+    fn begin(
+        &mut self,
+        epd: &Epd,
+        candidates: &[Address],
+        draws: &Draws,
+        out: &mut Outbox,
+    ) -> Result<u64, AllocError>
+        requires { open_refusal self.old epd.now.print candidates.now ≡ None }
+        ensures number { IfOk result (λ n. n ≡ self.old.startup.ledger.started + 1) }
+        ensures ok { OnOk result (Done (opening self.old epd.now.print candidates.now draws.now) self.new out.old out.new) }
+        ensures err { OnErr result (Done (nothing self.old) self.new out.old out.new) }
+    {
+        let near = self.free_from(draws.word);
+        let n = self.startup.peers().started() + 1;
+        let blanks = blanks(self.alloc, candidates.len())?;
+        out.make_room(1 + candidates.len())?;
+        match self
+            .startup
+            .begin(epd, candidates, near, draws.nonce, draws.tag, self.moment)
+        {
+            Ok((fact, spread)) => {
+                out.add(Entry::Fact(fact));
+                self.send_each(blanks, spread.places(), &spread.plain, out);
+                Ok(n)
+            }
+            Err(_) => Err(AllocError),
+        }
+    }
+
+    /// Gives up the held attempt with this number.
+    ///
+    /// It is refused exactly where no held attempt has the number, or for want of memory; then all is as before.
+    pub fn cancel(&mut self, n: u64, out: &mut Outbox) -> Result<(), CallRefusal>
+        ensures ok { OnOk result (Done (cancelling self.old n) self.new out.old out.new) }
+        ensures refused { IfNone (cancel_fact self.old.startup n) (result ≡ Err CallRefusal.NoAttempt) }
+        ensures memory { IfSome (cancel_fact self.old.startup n) (λ _. IfErr result (λ refusal. refusal ≡ CallRefusal.Memory)) }
+        ensures err { OnErr result (Done (nothing self.old) self.new out.old out.new) }
+
+        // The end stands for its log with this call.
+        ensures stands { Extends self.old self.new (cancel_event n result out.old.entries out.new.entries) }
+    {
+        self.try_cancel(n, out)
+    }
+
+    /// Gives up an attempt, if there is one with this number.
+    fn try_cancel(&mut self, n: u64, out: &mut Outbox) -> Result<(), CallRefusal>
+        ensures ok { OnOk result (Done (cancelling self.old n) self.new out.old out.new) }
+        ensures refused { IfNone (cancel_fact self.old.startup n) (result ≡ Err CallRefusal.NoAttempt) }
+        ensures memory { IfSome (cancel_fact self.old.startup n) (λ _. IfErr result (λ refusal. refusal ≡ CallRefusal.Memory)) }
+        ensures err { OnErr result (Done (nothing self.old) self.new out.old out.new) }
+    {
+        if !self.startup.has_number(n) {
+            return Err(CallRefusal::NoAttempt);
+        }
+        match out.make_room(1) {
+            Ok(()) => {}
+            Err(_) => return Err(CallRefusal::Memory),
+        }
+        if let Some(fact) = self.startup.cancel(n) {
+            out.add(Entry::Fact(fact));
+        }
+        Ok(())
+    }
+}

@@ -1,0 +1,87 @@
+//! One end.
+
+use crate::config::Config;
+use crypto_profile::{Context, Keys};
+use identity::Certificate;
+use session_core::Session;
+use startup::Startup;
+use std::alloc::Global;
+use std::marker::Model;
+
+/// One end: what it keeps of its attempts and sessions.
+///
+/// Contracts see its limits, the largest moment that it was given, how many startup packets it sealed, and what it keeps of attempts and of sessions, each by their session IDs.
+#[derive(Drop)]
+pub struct Endpoint {
+    pub(crate) alloc: Global,
+    pub(crate) config: Config,
+    pub(crate) moment: u64,
+    pub(crate) secret: [u8; 32],
+    /// The fingerprint of the own certificate.
+    pub(crate) print: [u8; 32],
+    /// The keys of startup packets.
+    pub(crate) keys: Keys,
+    /// How many startup packets were sealed.
+    pub(crate) sealed: u64,
+    pub(crate) startup: Startup,
+    /// The sessions, in any order.
+    pub(crate) sessions: Vec<Session>,
+}
+
+impl Model for Endpoint {
+    ghost use Rattle.endpoint.specs.State.{State, state_code};
+    ghost use Rattle.endpoint.specs.contracts.config.Config as config_type;
+    ghost use Rattle.startup.specs.contracts.startup.Startup as startup_type;
+    ghost use Rattle.session_core.specs.contracts.session.Session as session_type;
+
+    ghost Value = { State };
+
+    ghost coded = { state_code config_type.the_row.coded startup_type.the_row.coded session_type.the_row.coded };
+
+    ghost use Rattle.endpoint.specs.Kept.{state_of, IsEndpoint};
+
+    ghost view = { λ e. state_of e.config e.moment e.sealed e.startup e.sessions.items };
+
+    ghost invariant = { λ e. IsEndpoint e.config e.secret e.print e.keys e.startup e.sessions.items };
+}
+
+impl Endpoint {
+    ghost use Rattle.std.specs.Prelude.{◌≡◌, ◌≤◌, []};
+    ghost use Rattle.endpoint.specs.State.{fresh, at_moment};
+    ghost use Rattle.endpoint.specs.Log.{StandsFor};
+
+    /// An end that holds nothing yet. It takes no memory.
+    pub fn new(
+        alloc: Global,
+        config: Config,
+        cert: Certificate,
+        secret: [u8; 32],
+        cookie_secret: [u8; 32],
+    ) -> Endpoint
+        requires { config.max_sessions ≤ 65536 }
+        ensures state { result ≡ fresh (record { config = config; cert = cert; secret = secret; cookie_secret = cookie_secret }) }
+
+        // It stands for the empty log.
+        ensures stands { StandsFor (record { config = config; cert = cert; secret = secret; cookie_secret = cookie_secret }) [] result }
+    {
+        let print = cert.print();
+        Endpoint {
+            alloc,
+            config,
+            moment: 0,
+            secret,
+            print,
+            keys: Keys::of(&secret, &Context::Startup),
+            sealed: 0,
+            startup: Startup::new(alloc, cert, secret, cookie_secret, config.max_peers),
+            sessions: Vec::new(alloc),
+        }
+    }
+
+    /// Notes the moment that a call is given.
+    pub(crate) fn advance(&mut self, moment: u64)
+        ensures { self.new ≡ at_moment self.old moment }
+    {
+        self.moment = self.moment.max(moment);
+    }
+}

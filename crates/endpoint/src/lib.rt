@@ -1,0 +1,29 @@
+//! One end of the protocol: its calls bring it from state to state, and add entries to an outbox.
+#![tactic(auto)]
+
+mod admission;
+mod answers;
+mod attempts;
+mod chunks;
+mod config;
+mod endpoint;
+mod entry;
+mod keyings;
+pub mod laws;
+mod outbox;
+mod place;
+mod receiving;
+mod sealing;
+mod sending;
+mod session_ids;
+mod session_sending;
+mod sessions;
+#[cfg(test)]
+mod tests;
+mod ticking;
+
+pub use answers::{CallRefusal, OpenRefusal, Stopped};
+pub use config::{Config, Draws};
+pub use endpoint::Endpoint;
+pub use entry::Entry;
+pub use outbox::Outbox;

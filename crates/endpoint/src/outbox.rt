@@ -1,0 +1,78 @@
+//! The entries that calls added, in order.
+
+ghost use Rattle.std.specs.Prelude.{◌≡◌, ◌<◌, ◌≤◌, ◌+◌, ◌++◌, [], ◌∷◌, IfOk, IsOk, OnOk, length};
+
+use crate::entry::Entry;
+use rtmfp_base::Memory;
+use std::alloc::{AllocError, Global};
+use std::marker::Model;
+
+/// The entries that calls of an end added, in order, and room for further ones.
+///
+/// Contracts see the entries, the free room, and the room that `clear` gives again.
+#[derive(Drop)]
+pub struct Outbox {
+    room: u32,
+    entries: Vec<Entry>,
+}
+
+impl Model for Outbox {
+    ghost use Rattle.std.specs.Prelude.{◌-◌, ◌≤◌, vec_len, vec_capacity};
+    ghost use Rattle.endpoint.specs.Added.{Added};
+
+    ghost Value = { Added };
+
+    ghost view = { λ o. record { entries = o.entries.items; free = vec_capacity o.entries - vec_len o.entries; room = o.room } };
+
+    ghost invariant = { λ o. o.room ≤ vec_capacity o.entries };
+}
+
+impl Outbox {
+    /// An outbox without entries, with room for at least so many.
+    pub fn new(alloc: Global, room: u32) -> Result<Outbox, Memory>
+        ensures { IfOk result (λ outbox. (outbox.entries ≡ []) × (room ≤ outbox.free) × (outbox.room ≡ room)) }
+    {
+        let entries = Vec::with_capacity(alloc, room as usize)?;
+        Ok(Outbox { room, entries })
+    }
+
+    /// The entries, in the order in which they were added.
+    pub fn entries(&self) -> &[Entry]
+        ensures { result.now ≡ self.now.entries }
+    {
+        self.entries.as_slice()
+    }
+
+    /// Drops the entries. There is then room for as many as at first, or more.
+    pub fn clear(&mut self)
+        ensures entries { self.new.entries ≡ [] }
+        ensures free { self.new.room ≤ self.new.free }
+        ensures room { self.new.room ≡ self.old.room }
+    {
+        self.entries.clear();
+    }
+
+    /// Finds room for so many further entries.
+    pub(crate) fn make_room(&mut self, count: usize) -> Result<(), AllocError>
+        ensures ok { OnOk result (count ≤ self.new.free) }
+        ensures entries { self.new.entries ≡ self.old.entries }
+        ensures free { self.old.free ≤ self.new.free }
+        ensures enough { count ≤ self.old.free → IsOk result }
+        ensures room { self.new.room ≡ self.old.room }
+    {
+        self.entries.reserve(count)
+    }
+
+    /// Adds an entry for which there is room. It takes no memory.
+    pub(crate) fn add(&mut self, entry: Entry)
+        requires { 0 < self.old.free }
+        ensures entries { self.new.entries ≡ self.old.entries ++ entry ∷ [] }
+        ensures free { self.old.free ≤ self.new.free + 1 }
+        ensures room { self.new.room ≡ self.old.room }
+    {
+        match self.entries.push(entry) {
+            Ok(()) => {}
+            Err(_) => {}
+        }
+    }
+}

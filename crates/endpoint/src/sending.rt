@@ -1,0 +1,162 @@
+//! Datagrams of an end that go out.
+
+ghost use Rattle.std.specs.Prelude.{◌≡◌, ◌<◌, ◌≤◌, ◌==◌, ◌+◌, All, IfOk, Some, false, length};
+ghost use Rattle.std.specs.FinMap.{get};
+ghost use Rattle.rtmfp_chunks.specs.Chunk.{chunk_of};
+ghost use Rattle.rtmfp_chunks.specs.Writing.{IsWritable, chunk_bytes};
+ghost use Rattle.session_core.specs.Session.{SessionState, context_of};
+ghost use Rattle.packet_scramble.specs.Datagram.{datagram};
+ghost use Rattle.session_core.specs.Sealed.{after_seal, is_spent, sealed_part};
+ghost use Rattle.endpoint.specs.State.{Done, nothing};
+ghost use Rattle.endpoint.specs.Sending.{last_count, sent_answer, sent_each, sent_startup, session_datagram, startup_number};
+
+use crate::endpoint::Endpoint;
+use crate::entry::Entry;
+use crate::outbox::Outbox;
+use crate::sealing::{DATAGRAM_LIMIT, SEALED_AT, blank, seal};
+use crypto_profile::Context;
+use packet_scramble::scramble;
+use rtmfp_base::Message;
+use rtmfp_chunks::{ChunkView, write_chunk};
+use rtmfp_forms::{Address, Outgoing};
+use rtmfp_packet::begin_packet;
+use session_core::Session;
+use startup::Answer;
+use std::alloc::{AllocError, Global};
+
+/// The number of a startup packet: the first 8 bytes of the fingerprint of its sender, and its count.
+fn startup_number(print: &[u8; 32], count: u64) -> [u8; 16]
+    ensures { result ≡ startup_number print.now count }
+{
+    let mut number = [0; 16];
+    let (front, back) = number.split_at_mut(8);
+    front.copy_from_slice(&print[..8]);
+    back.copy_from_slice(&count.to_be_bytes());
+    number
+}
+
+impl Endpoint {
+    /// Sends a startup packet, for which memory and room were found. Where all counts are used nothing is sent.
+    pub(crate) fn send_startup(
+        &mut self,
+        blank: Vec<u8>,
+        to: &Address,
+        sid: u32,
+        plain: &Outgoing,
+        out: &mut Outbox,
+    )
+        requires blank { length blank.items ≡ 1200 }
+        requires room { 0 < out.old.free }
+        ensures { Done (sent_startup self.old to.now sid plain.now) self.new out.old out.new }
+    {
+        if self.sealed == u64::MAX {
+            return;
+        }
+        self.sealed += 1;
+        let number = startup_number(&self.print, self.sealed);
+        let datagram = seal(blank, &self.keys, sid, number, plain);
+        out.add(Entry::Out {
+            to: *to,
+            datagram,
+            context: Context::Startup,
+        });
+    }
+
+    /// Sends a startup packet that answers something.
+    pub(crate) fn send_answer(&mut self, blank: Vec<u8>, answer: &Answer, out: &mut Outbox)
+        requires blank { length blank.items ≡ 1200 }
+        requires room { 0 < out.old.free }
+        ensures { Done (sent_answer self.old answer.now) self.new out.old out.new }
+    {
+        self.send_startup(blank, &answer.to, answer.sid, &answer.plain, out);
+    }
+
+    /// Sends a startup packet to several addresses, under session ID 0.
+    pub(crate) fn send_each(
+        &mut self,
+        mut blanks: Vec<Vec<u8>>,
+        places: &[Address],
+        plain: &Outgoing,
+        out: &mut Outbox,
+    )
+        requires blanks { All (λ bytes. length bytes.items ≡ 1200) blanks.items }
+        requires enough { length places.now ≤ length blanks.items }
+        requires room { length places.now ≤ out.old.free }
+        ensures { Done (sent_each self.old plain.now places.now) self.new out.old out.new }
+    {
+        for to in places {
+            let Some(blank) = blanks.pop() else {
+                return;
+            };
+            self.send_startup(blank, to, 0, plain, out);
+        }
+    }
+}
+
+/// Memory for so many datagrams.
+pub(crate) fn blanks(alloc: Global, count: usize) -> Result<Vec<Vec<u8>>, AllocError>
+    ensures each { IfOk result (λ list. All (λ bytes. length bytes.items ≡ 1200) list.items) }
+    ensures count { IfOk result (λ list. length list.items ≡ count) }
+{
+    let mut list = Vec::with_capacity(alloc, count)?;
+    for _ in 0..count {
+        list.push(blank(alloc)?)?;
+    }
+    Ok(list)
+}
+
+/// The datagram of one chunk in a session, for which memory was found and a count is left. Whatever the head, the chunk fits.
+pub(crate) fn session_datagram(
+    blank: Vec<u8>,
+    session: &mut Session,
+    moment: u64,
+    chunk: &ChunkView<'_>,
+) -> Message
+    requires blank { length blank.items ≡ 1200 }
+    requires spent { is_spent session.old ≡ false }
+    requires writable { IsWritable (chunk_of chunk.now) }
+    requires fits { length (chunk_bytes (chunk_of chunk.now)) ≤ 1159 }
+    ensures datagram { result ≡ session_datagram session.old moment (chunk_of chunk.now) }
+    ensures session { session.new ≡ after_seal session.old }
+{
+    let mut packet = begin_packet(&session.head(moment));
+    let _ = write_chunk(chunk, &mut packet);
+    sealed_in(blank, session, &packet)
+}
+
+/// The datagram of a packet in a session, for which memory was found and a count is left.
+fn sealed_in(blank: Vec<u8>, session: &mut Session, packet: &Outgoing) -> Message
+    requires blank { length blank.items ≡ 1200 }
+    requires spent { is_spent session.old ≡ false }
+    ensures datagram { result ≡ datagram session.old.joined.far (sealed_part session.old packet.now) }
+    ensures session { session.new ≡ after_seal session.old }
+{
+    let sid = session.joined().far;
+    let mut buffer = [0; DATAGRAM_LIMIT];
+    match session.seal(packet, &mut buffer) {
+        Some(len) => message_of(blank, sid, &buffer[SEALED_AT..len]),
+        None => Message::of(blank),
+    }
+}
+
+/// The datagram of a sealed part, for which memory was found.
+fn message_of(mut blank: Vec<u8>, sid: u32, part: &[u8]) -> Message
+    requires blank { length blank.items ≡ 1200 }
+    requires fits { length part.now ≤ 1196 }
+    ensures { result ≡ datagram sid part.now }
+{
+    blank.truncate(SEALED_AT + part.len());
+    put_datagram(&mut blank, sid, part);
+    blank.shrink_to_fit();
+    Message::of(blank)
+}
+
+/// Fills a buffer, which is as long as the datagram, with that of a sealed part.
+fn put_datagram(buffer: &mut [u8], sid: u32, part: &[u8])
+    requires { length buffer.old ≡ 4 + length part.now }
+    ensures { buffer.new ≡ datagram sid part.now }
+{
+    let (head, rest) = buffer.split_at_mut(SEALED_AT);
+    head.copy_from_slice(&scramble(sid, part).to_be_bytes());
+    rest.copy_from_slice(part);
+}

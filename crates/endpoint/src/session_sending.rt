@@ -1,0 +1,48 @@
+//! Datagrams of a session that go out.
+
+ghost use Rattle.std.specs.Prelude.{◌≡◌, ◌<◌, ◌≤◌, length};
+ghost use Rattle.rtmfp_chunks.specs.Chunk.{chunk_of};
+ghost use Rattle.rtmfp_chunks.specs.Writing.{IsWritable, chunk_bytes};
+ghost use Rattle.endpoint.specs.State.{Done};
+ghost use Rattle.endpoint.specs.Sending.{sent_in_session};
+
+use crate::endpoint::Endpoint;
+use crate::entry::Entry;
+use crate::outbox::Outbox;
+use crate::sending::session_datagram;
+use crate::sessions::place_of;
+use rtmfp_chunks::ChunkView;
+use rtmfp_forms::Address;
+
+impl Endpoint {
+    /// Sends one chunk in the session with this session ID, to an address, for which memory and room were found. Where there is no such session, or all its counts are used, nothing is sent.
+    pub(crate) fn send_in_session(
+        &mut self,
+        blank: Vec<u8>,
+        near: u32,
+        to: &Address,
+        chunk: &ChunkView<'_>,
+        out: &mut Outbox,
+    )
+        requires blank { length blank.items ≡ 1200 }
+        requires room { 0 < out.old.free }
+        requires writable { IsWritable (chunk_of chunk.now) }
+        requires short { length (chunk_bytes (chunk_of chunk.now)) ≤ 1159 }
+        ensures { Done (sent_in_session self.old near to.now (chunk_of chunk.now)) self.new out.old out.new }
+    {
+        let Some(place) = place_of(&self.sessions, near) else {
+            return;
+        };
+        if self.sessions[place].is_spent() {
+            return;
+        }
+        let context = self.sessions[place].context(true);
+        let session = &mut self.sessions[place];
+        let datagram = session_datagram(blank, session, self.moment, chunk);
+        out.add(Entry::Out {
+            to: *to,
+            datagram,
+            context,
+        });
+    }
+}

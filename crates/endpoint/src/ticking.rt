@@ -1,0 +1,70 @@
+//! What time makes due.
+
+ghost use Rattle.std.specs.Prelude.{◌≡◌, ◌≤◌, ℕ, None, OnErr, OnOk, Some};
+ghost use Rattle.startup.specs.Due.{due, due_sends};
+ghost use Rattle.endpoint.specs.Due.{tick_once, ticks};
+ghost use Rattle.endpoint.specs.Log.{Extends, tick_event};
+ghost use Rattle.endpoint.specs.State.{Done, at_moment, nothing};
+
+use crate::config::Draws;
+use crate::endpoint::Endpoint;
+use crate::entry::Entry;
+use crate::outbox::Outbox;
+use crate::sending::blanks;
+use rtmfp_base::Memory;
+use startup::Due;
+use std::alloc::AllocError;
+
+impl Endpoint {
+    /// Does all that is due: attempts that weren't answered in time end, and hellos and keyings go out again, by rising session IDs.
+    ///
+    /// For want of memory it does a part of it, and what it didn't is still due.
+    pub fn tick(&mut self, moment: u64, draws: &Draws, out: &mut Outbox) -> Result<(), Memory>
+        ensures some { (count : ℕ) × Done (ticks count (at_moment self.old moment)) self.new out.old out.new }
+        ensures all { OnOk result (due self.new.startup self.new.moment ≡ None) }
+
+        // The end stands for its log with this call.
+        ensures stands { Extends self.old self.new (tick_event moment draws.now result out.old.entries out.new.entries) }
+    {
+        self.do_due(moment, out)
+    }
+
+    /// Does all that is due at a moment.
+    fn do_due(&mut self, moment: u64, out: &mut Outbox) -> Result<(), Memory>
+        ensures some { (count : ℕ) × Done (ticks count (at_moment self.old moment)) self.new out.old out.new }
+        ensures all { OnOk result (due self.new.startup self.new.moment ≡ None) }
+    {
+        self.advance(moment);
+        // Each attempt is due once at a moment, so this ends before the turns do.
+        for _ in 0..=self.startup.attempts() {
+            match self.startup.due_sends(self.moment) {
+                Some(count) => self.tick_once(count, out)?,
+                None => return Ok(()),
+            }
+        }
+        Err(Memory)
+    }
+
+    /// Does the first thing that is due, which sends so many datagrams.
+    fn tick_once(&mut self, count: usize, out: &mut Outbox) -> Result<(), AllocError>
+        requires { due_sends self.old.startup self.old.moment ≡ Some count }
+        ensures ok { OnOk result (Done (tick_once self.old) self.new out.old out.new) }
+        ensures err { OnErr result (Done (nothing self.old) self.new out.old out.new) }
+    {
+        let mut blanks = blanks(self.alloc, count)?;
+        out.make_room(count.max(1))?;
+        match self.startup.due(self.moment) {
+            Some(Due::Ended(fact)) => out.add(Entry::Fact(fact)),
+            Some(Due::Hello(spread)) => {
+                self.send_each(blanks, spread.places(), &spread.plain, out);
+            }
+            Some(Due::Keying(answer)) => {
+                if let Some(blank) = blanks.pop() {
+                    self.send_answer(blank, &answer, out);
+                }
+            }
+            None => {}
+        }
+        Ok(())
+    }
+}
