@@ -1,8 +1,7 @@
 -- One session of the list is changed.
-use Rattle.std.proofs.Common.{ℕ, List, ◌≡◌, length, get_or, set, Option, Some, sym, ap, ◌∙◌}
+use Rattle.std.proofs.Common.{ℕ, List, ◌≡◌, length, get_or, set, Some, ap, ◌∙◌}
 use Rattle.std.specs.FinMap.{get, insert, len}
 use Rattle.session_core.specs.Session.{SessionState}
-use Rattle.endpoint.specs.State.{Sessions}
 use Rattle.endpoint.specs.Kept.{near_of, table_of}
 use Rattle.rtmfp_base.proofs.Rows.{place_found}
 use Rattle.endpoint.proofs.Keeping.{place_in, kept_at, found_at}

@@ -29,7 +29,8 @@ use Rattle.endpoint.specs.Keying.{IsAmong, IsFirst, chunks_of}
 use Rattle.endpoint.specs.State.{State, Did, with_startup, full}
 use Rattle.endpoint.specs.Sending.{sent_if}
 use Rattle.endpoint.specs.Admission.{sid_at}
-use Rattle.endpoint.specs.Due.{is_known, form_cause, read_fault, takes, initiator_keying_cause, responder_keying_cause, last_cause, chunk_cause, initiator_keyed, responder_keyed, read_done, effect, discarded_or, chunk_did, keyed_after, chunks_did}
+use Rattle.endpoint.specs.Due.{initiator_keyed, responder_keyed, read_done, effect, discarded_or, chunk_did, keyed_after, chunks_did}
+use Rattle.endpoint.specs.Causes.{is_known, form_cause, read_fault, takes, initiator_keying_cause, responder_keying_cause, last_cause, chunk_cause}
 use Rattle.endpoint.proofs.Members.{tested}
 use Rattle.endpoint.proofs.Tied.{Tied}
 use Rattle.endpoint.proofs.Facts.{all_none, test_fails}

@@ -1,5 +1,5 @@
 -- A call brings an end from each log that it stands for to that log with its event.
-use Rattle.std.proofs.Common.{◌≡◌, ◌+◌, ◌<◌, ℕ, Bool, true, false, List, [], ◌∷◌, ◌++◌, drop, length, Option, Some, None, Ok, Err, Result, OnOk, OnErr, IfOk, IfErr, IfSome, IfNone, IsSome, refl, sym, ap, ◌∙◌, subst, max, arith}
+use Rattle.std.proofs.Common.{◌≡◌, ◌+◌, ℕ, List, [], ◌∷◌, ◌++◌, drop, length, Option, Some, None, Ok, Err, Result, OnOk, OnErr, IfOk, IfErr, IfSome, IfNone, IsSome, refl, sym, ap, ◌∙◌, subst, max, arith}
 use Rattle.glare_core.specs.declared.facts.Fact.{Fact}
 use Rattle.rtmfp_base.specs.declared.memory.Memory.{Memory}
 use Rattle.rtmfp_forms.specs.Address.{AddressParts}
@@ -13,11 +13,11 @@ use Rattle.endpoint.specs.declared.answers.CallRefusal.{CallRefusal}
 use Rattle.endpoint.specs.declared.answers.CallRefusal.TheVariants.{NoAttempt, Memory as NoMemory}
 use Rattle.endpoint.specs.declared.answers.Stopped.{Stopped as Stop}
 use Rattle.endpoint.specs.Added.{Added}
-use Rattle.endpoint.specs.Event.{Setup, Event, Cancel, Refused, Done as Finished}
+use Rattle.endpoint.specs.Event.{Event, Cancel, Refused, Done as Finished}
 use Rattle.endpoint.specs.State.{State, Did, Does, Done, nothing, fresh, at_moment}
 use Rattle.endpoint.specs.Admission.{admission}
-use Rattle.endpoint.specs.Due.{open_refusal, opening, cancelling, ticks, received}
-use Rattle.endpoint.specs.Log.{Step, Answers, Leads, Extends, IsStop, IsTaken, stopped, not_opened, open_event, cancel_event, receive_event, tick_event}
+use Rattle.endpoint.specs.Due.{open_refusal, opening, cancelling, ticks}
+use Rattle.endpoint.specs.Log.{Step, Answers, Leads, Extends, IsTaken, not_opened, open_event, cancel_event, receive_event, tick_event}
 
 leads_more : (s t u : State) (es : List Event) (e : Event) → Leads s es t → Step t e u → Leads s (es ++ e ∷ []) u
 leads_more s t u [] e h step = (u, (let P : State → Type 0 = λ x. Step x e u in subst P (sym h) step), refl)

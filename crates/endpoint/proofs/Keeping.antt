@@ -1,5 +1,5 @@
 -- The list of sessions as the table of them.
-use Rattle.std.proofs.Common.{ℕ, List, ◌≡◌, ◌==◌, ◌<◌, ◌++◌, [], ◌∷◌, length, get_or, set, Option, Some, None, position, is_some, Bool, false, if◌then◌else◌, ◌≢◌, arith, sym, ap, refl, ◌∙◌, inl, inr}
+use Rattle.std.proofs.Common.{ℕ, List, ◌≡◌, ◌==◌, ◌++◌, [], ◌∷◌, length, get_or, set, Option, Some, None, position, is_some, Bool, false, if◌then◌else◌, ◌≢◌, arith, sym, ap, ◌∙◌, inl, inr}
 use Rattle.std.specs.List.{swap_remove}
 use Rattle.std.specs.FinMap.{get, insert, remove, len, contains_key}
 use Rattle.rtmfp_base.proofs.Maps.{same_tables, same_or_not, get_removed, get_left}
@@ -7,7 +7,6 @@ use Rattle.rtmfp_base.proofs.Rows.{place_found, place_none, table_set, set_are_d
 use Rattle.rtmfp_base.proofs.Places.{place_tells}
 use Rattle.session_core.specs.Session.{SessionState}
 use Rattle.std.proofs.lemmas.Bool.Decides.{nat_tests}
-use Rattle.endpoint.specs.declared.place.Place.{Place}
 use Rattle.endpoint.specs.declared.place.Place.TheVariants.{Startup, Attempt, Session}
 use Rattle.endpoint.specs.State.{State, Sessions}
 use Rattle.endpoint.specs.Admission.{place_of}

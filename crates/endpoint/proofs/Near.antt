@@ -1,12 +1,12 @@
 -- The chunks of a short packet have near places.
-use Rattle.std.proofs.Common.{ℕ, ◌≡◌, ◌≤◌, ◌<◌, ◌+◌, ◌^◌, ◌++◌, List, [], ◌∷◌, length, length-append, Bool, true, false, not, filter, cond, refl, sym, ap, ◌∙◌, subst, arith}
+use Rattle.std.proofs.Common.{ℕ, ◌≡◌, ◌≤◌, ◌<◌, ◌+◌, ◌^◌, List, [], ◌∷◌, length, length-append, Bool, true, false, not, filter, cond, arith}
 use Rattle.std.specs.List.{AllByRecursion, flat_map}
 use Rattle.std.specs.Int.{w16, to_be_bytes}
 use Rattle.rtmfp_packet.specs.Spelling.{Chunk, chunk_bytes}
-use Rattle.rtmfp_packet.specs.Walk.{Placed, all_placed_from, visible, is_ignored}
+use Rattle.rtmfp_packet.specs.Walk.{Placed, all_placed_from, is_ignored}
 use Rattle.rtmfp_packet.specs.Whole.{Whole}
 use Rattle.rtmfp_packet.specs.Reading.{Reads}
-use Rattle.endpoint.specs.Keying.{AreNear, chunks_of}
+use Rattle.endpoint.specs.Keying.{AreNear}
 
 -- of a list that passes a filter as many as before at most, and all with what all have
 kept_all : (P : Placed → Type 0) (test : Placed → Bool) (cs : List Placed) → AllByRecursion P cs → AllByRecursion P (filter test cs)

@@ -1,5 +1,5 @@
 -- How a sealed part opens at a place.
-use Rattle.std.proofs.Common.{ℕ, ◌≡◌, ◌≤◌, List, ◌++◌, length, take, drop, Bool, true, false, Option, Some, None, Result, Ok, Err, IfSome, if◌then◌else◌, nat_lt, not, sym, ap, refl, ◌∙◌, inl, inr, arith}
+use Rattle.std.proofs.Common.{ℕ, ◌≡◌, ◌≤◌, List, ◌++◌, length, take, drop, Bool, true, false, Option, Some, None, Result, Ok, Err, IfSome, if◌then◌else◌, not, sym, ap, refl, ◌∙◌, inl, inr}
 use Rattle.std.proofs.lemmas.Bool.{cases_lt, lt-ltb, le-ltb}
 use Rattle.std.proofs.lemmas.List.{length-take-le, take_at}
 use Rattle.std.specs.Str.{bytes_eq}
@@ -15,7 +15,7 @@ use Rattle.session_core.specs.declared.hearing.Unheard.{Unheard}
 use Rattle.session_core.specs.declared.hearing.Unheard.TheVariants.{Short as ShortPart, BadTag as WrongTag, Repeated as OldNumber}
 use Rattle.crypto_profile.specs.Kept.{kept_answer}
 use Rattle.session_core.specs.Session.{SessionState}
-use Rattle.session_core.specs.Hearing.{answered, count_of, heard_answer, is_new, inward_keys, opened, opens_in, unheard, unheard_by}
+use Rattle.session_core.specs.Hearing.{answered, count_of, is_new, inward_keys, opened, opens_in, unheard, unheard_by}
 use Rattle.endpoint.specs.State.{State}
 use Rattle.endpoint.specs.Admission.{heard_by, opened_by, opened_in_startup, startup_keys}
 use Rattle.endpoint.proofs.Parts.{past_front}

@@ -44,7 +44,8 @@ use Rattle.endpoint.specs.Event.{Setup, own_of, Call}
 use Rattle.endpoint.specs.Past.{Stamped, stamped, onto, facts_of}
 use Rattle.endpoint.specs.State.{State, Sessions, fact_entries, with_startup, with_session, free_among, free_from, next_id, is_free, full}
 use Rattle.endpoint.specs.Sending.{sent_answer, sent_by, sent_in_session}
-use Rattle.endpoint.specs.Due.{without_ended, with_born, keying_done, initiator_keyed, initiator_keying_cause, opening_done, responder_keyed}
+use Rattle.endpoint.specs.Due.{without_ended, with_born, keying_done, initiator_keyed, opening_done, responder_keyed}
+use Rattle.endpoint.specs.Causes.{initiator_keying_cause}
 use Rattle.endpoint.specs.Lawful.{IsBornHere}
 use Rattle.endpoint.proofs.Lines.{EntriesMeet, OutPart}
 use Rattle.endpoint.proofs.Tied.{Tied}

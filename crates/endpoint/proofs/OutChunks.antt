@@ -29,7 +29,8 @@ use Rattle.endpoint.specs.Past.{Stamped, onto, facts_of}
 use Rattle.endpoint.specs.State.{State, Did, with_startup}
 use Rattle.endpoint.specs.Sending.{sent_answer, sent_if, sent_by}
 use Rattle.endpoint.specs.Admission.{sid_at}
-use Rattle.endpoint.specs.Due.{is_known, form_cause, takes, read_cause, initiator_keying_cause, responder_keying_cause, last_cause, chunk_cause, initiator_keyed, responder_keyed, read_done, effect, discarded_or, chunk_did, keyed_after, chunks_did}
+use Rattle.endpoint.specs.Due.{initiator_keyed, responder_keyed, read_done, effect, discarded_or, chunk_did, keyed_after, chunks_did}
+use Rattle.endpoint.specs.Causes.{is_known, form_cause, takes, read_cause, initiator_keying_cause, responder_keying_cause, last_cause, chunk_cause}
 use Rattle.endpoint.proofs.Tied.{Tied}
 use Rattle.endpoint.proofs.Facts.{test_fails}
 use Rattle.endpoint.proofs.Going.{onto_append}

@@ -13,7 +13,7 @@ use Rattle.startup.specs.Refusals.{rhello_refusal_reading, rhello_refusal, cooki
 use Rattle.endpoint.specs.declared.place.Place.{Place}
 use Rattle.endpoint.specs.State.{State}
 use Rattle.endpoint.specs.Admission.{sid_at}
-use Rattle.endpoint.specs.Due.{chunk_cause, form_cause, is_known, last_cause, read_cause, read_fault, takes}
+use Rattle.endpoint.specs.Causes.{chunk_cause, form_cause, is_known, last_cause, read_cause, read_fault, takes}
 
 -- ---- where none of several stands
 

@@ -1,5 +1,5 @@
 -- A walk over chunks that are only discarded.
-use Rattle.std.proofs.Common.{ℕ, ◌≡◌, ◌≤◌, ◌<◌, Bool, List, [], ◌∷◌, length, Option, Some, None, IsSome, refl, sym, ap, ◌∙◌, subst, arith}
+use Rattle.std.proofs.Common.{ℕ, ◌≡◌, ◌≤◌, Bool, List, ◌∷◌, length, Option, Some, None, IsSome, refl, sym, ◌∙◌, subst, arith}
 use Rattle.rtmfp_forms.specs.Address.{AddressParts}
 use Rattle.rtmfp_packet.specs.Walk.{Placed}
 use Rattle.startup.specs.declared.cause.Cause.{Cause}
@@ -7,7 +7,8 @@ use Rattle.endpoint.specs.declared.config.Draws.{Draws}
 use Rattle.endpoint.specs.declared.place.Place.{Place}
 use Rattle.endpoint.specs.Added.{Added}
 use Rattle.endpoint.specs.State.{State, Did, Done}
-use Rattle.endpoint.specs.Due.{AreRefused, chunk_cause, chunk_did, discarded_or, effect, keyed_after}
+use Rattle.endpoint.specs.Due.{AreRefused, chunk_did, discarded_or, effect, keyed_after}
+use Rattle.endpoint.specs.Causes.{chunk_cause}
 
 -- what is left has causes, and there is room for their discards
 pub record IsRoomy (s : State) (place : Place) (from : AddressParts) (keyed : Bool) (rest : List Placed) (free : ℕ) : Type 0 where

@@ -1,5 +1,5 @@
 -- What the datagram of a session's packet is cut from.
-use Rattle.std.proofs.Common.{ℕ, ◌≡◌, ◌≤◌, ◌+◌, ◌-◌, List, ◌++◌, length, take, drop, true, false, ◌<◌, Option, Some, None, Result, Ok, Err, IsErr, OnOk, length-append, if◌then◌else◌, sym, ap, refl, ◌∙◌, arith, append_assoc}
+use Rattle.std.proofs.Common.{ℕ, ◌≡◌, ◌≤◌, ◌+◌, ◌-◌, List, ◌++◌, length, take, drop, true, false, ◌<◌, Option, Some, None, Result, Ok, Err, IsErr, OnOk, length-append, if◌then◌else◌, ap, refl, ◌∙◌, arith, append_assoc}
 use Rattle.std.proofs.lemmas.List.{length-take-le, take_at}
 use Rattle.crypto_profile.specs.Keys.{keys_of}
 use Rattle.crypto_profile.proofs.Opened.{length-sealed}

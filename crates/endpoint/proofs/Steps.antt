@@ -1,5 +1,5 @@
 -- One thing after another.
-use Rattle.std.proofs.Common.{ℕ, ◌≡◌, ◌≤◌, ◌+◌, ◌==◌, List, [], ◌∷◌, ◌++◌, Bool, true, false, length, Option, Some, None, if◌then◌else◌, sym, ap, refl, ◌∙◌, subst, arith, append_assoc, length-append, zero, suc, take, drop, add-one}
+use Rattle.std.proofs.Common.{ℕ, ◌≡◌, ◌≤◌, ◌+◌, ◌==◌, List, [], ◌∷◌, ◌++◌, Bool, true, false, length, if◌then◌else◌, sym, ap, refl, ◌∙◌, subst, arith, append_assoc, length-append, zero, suc, take, drop, add-one}
 use Rattle.std.proofs.lemmas.List.{append-nil, take-append-drop}
 use Rattle.rtmfp_forms.specs.Address.{AddressParts}
 use Rattle.endpoint.specs.declared.entry.Entry.{Entry}
@@ -10,7 +10,7 @@ use Rattle.endpoint.specs.declared.config.Draws.{Draws}
 use Rattle.endpoint.specs.declared.place.Place.{Place}
 use Rattle.endpoint.specs.Added.{Added}
 use Rattle.endpoint.specs.Due.{chunk_did, chunks_did, keyed_after}
-use Rattle.endpoint.specs.State.{State, Did, Does, Done, nothing, after_entries, then_do, with_sealed}
+use Rattle.endpoint.specs.State.{State, Did, Done, nothing, after_entries, then_do, with_sealed}
 use Rattle.endpoint.specs.Sending.{last_count, sent_each, sent_startup, startup_datagram}
 
 -- ---- what is done

@@ -1,5 +1,5 @@
 -- A datagram is taken or refused as its admission says.
-use Rattle.std.proofs.Common.{ℕ, ◌≡◌, ◌≤◌, ◌<◌, ◌+◌, ◌^◌, ◌==◌, ◌++◌, List, [], ◌∷◌, length, drop, take, nat_lt, Bool, true, false, if◌then◌else◌, Option, None, Some, Result, Ok, Err, OnOk, IfErr, IsOk, refl, sym, ap, ◌∙◌, subst, arith}
+use Rattle.std.proofs.Common.{ℕ, ◌≡◌, ◌≤◌, ◌<◌, List, length, drop, take, nat_lt, Bool, true, false, if◌then◌else◌, Option, None, Some, Result, Ok, Err, OnOk, IfErr, IsOk, refl, sym, ap, ◌∙◌, subst, arith}
 use Rattle.std.specs.Int.{w64, from_be_bytes}
 use Rattle.std.proofs.lemmas.List.{drop-take}
 use Rattle.std.proofs.lemmas.Bool.Decides.{nat_tests}
@@ -9,7 +9,6 @@ use Rattle.crypto_profile.specs.Sealing.{number_of}
 use Rattle.rtmfp_base.proofs.Maps.{get_inserted}
 use Rattle.rtmfp_forms.specs.Address.{AddressParts}
 use Rattle.rtmfp_packet.specs.declared.head.PacketFault.{PacketFault}
-use Rattle.rtmfp_packet.specs.declared.head.PacketHead.{PacketHead}
 use Rattle.rtmfp_packet.specs.Whole.{Whole}
 use Rattle.startup.specs.declared.cause.Cause.{Cause}
 use Rattle.startup.specs.declared.cause.Cause.TheVariants.{Short as ShortCause, BadPacket, WrongPlace}
@@ -20,9 +19,9 @@ use Rattle.endpoint.specs.declared.answers.Stopped.{Stopped}
 use Rattle.endpoint.specs.declared.place.Place.{Place}
 use Rattle.endpoint.specs.declared.place.Place.TheVariants.{Startup, Attempt, Session}
 use Rattle.endpoint.specs.Added.{Added}
-use Rattle.endpoint.specs.State.{State, Did, Done, nothing, with_session}
+use Rattle.endpoint.specs.State.{State, Done, nothing, with_session}
 use Rattle.endpoint.specs.Admission.{Admission, Rejected, Admitted, admission, admitted, admitted_packet, opened_datagram, counted_at, counted_by, timed_at, taken_packet, mode_at, mode_by, has_mode, fault_number, packet_in}
-use Rattle.endpoint.specs.Due.{received, discarded, IsRefused, discards}
+use Rattle.endpoint.specs.Due.{discarded}
 use Rattle.endpoint.specs.Log.{IsTaken, IsStop, stopped, not_taken}
 
 -- ---- one admission for another

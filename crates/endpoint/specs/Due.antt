@@ -1,37 +1,34 @@
 -- What each call of an end does, item by item.
-use Rattle.std.specs.Prelude.{IsSome, ℕ, zero, suc, ◌-◌, ◌==◌, ◌||◌, ◌≡◌, nat_lt, not, Bool, false, is_some, if◌then◌else◌, List, [], ◌∷◌, ◌++◌, length, take, Option, Some, None, Result, Ok, Err}
-use Rattle.std.specs.FinMap.{remove, insert, contains_key}
+use Rattle.std.specs.Prelude.{IsSome, ℕ, zero, suc, ◌==◌, ◌||◌, ◌≡◌, nat_lt, Bool, false, if◌then◌else◌, List, [], ◌∷◌, ◌++◌, length, take, Option, Some, None, Result, Ok, Err}
+use Rattle.std.specs.FinMap.{remove, insert}
 use Rattle.rtmfp_forms.specs.Address.{AddressParts}
 use Rattle.rtmfp_chunks.specs.declared.reading.ChunkFault.{ChunkFault}
-use Rattle.rtmfp_chunks.specs.declared.reading.ChunkFault.TheVariants.{Unknown, Malformed as BadField}
 use Rattle.rtmfp_chunks.specs.Chunk.{Chunk, IHello, FIHello, RHello, CookieChange, Ping, PingReply}
 use Rattle.rtmfp_chunks.specs.FieldReading.{chunk_reading}
 use Rattle.rtmfp_packet.specs.Walk.{Placed}
-use Rattle.identity.specs.Certificates.{certificate_fault}
 use Rattle.glare_core.specs.declared.facts.Fact.{Fact}
 use Rattle.glare_core.specs.declared.facts.Fact.TheVariants.{Started, Born, Opened, Confirmed, Ended}
 use Rattle.glare_core.specs.declared.answers.StartRefusal.{StartRefusal}
 use Rattle.glare_core.specs.Calls.{where_true, first_that_stands, start_refusal, started_fact}
 use Rattle.startup.specs.declared.cause.Cause.{Cause}
-use Rattle.startup.specs.declared.cause.Cause.TheVariants.{UnknownChunk, Malformed, WrongPlace, NoAttempt, SecondKeying, Fragment as FragmentCause, Wide}
 use Rattle.startup.specs.declared.answer.Keyed.{Keyed}
 use Rattle.startup.specs.declared.answer.Keyed.TheVariants.{Change, Again, Birth}
 use Rattle.startup.specs.declared.answer.Due.{Due}
 use Rattle.startup.specs.declared.answer.Due.TheVariants.{Ended as EndDue, Hello as HelloDue, Keying as KeyingDue}
-use Rattle.startup.specs.Attempts.{begin_spread, after_begin, cancel_fact, after_cancel, rhello_cause, after_rhello, rhello_keying, cookie_change_cause, after_cookie_change, cookie_change_keying}
+use Rattle.startup.specs.Attempts.{begin_spread, after_begin, cancel_fact, after_cancel, after_rhello, rhello_keying, after_cookie_change, cookie_change_keying}
 use Rattle.startup.specs.Due.{due, after_due}
-use Rattle.startup.specs.Keyings.{keying_fault, initiator_hello_cause, initiator_hello_answer, iikeying_cause, keyed, after_keying, rikeying_cause, opened, after_opening}
+use Rattle.startup.specs.Keyings.{initiator_hello_answer, keyed, after_keying, opened, after_opening}
 use Rattle.session_core.specs.declared.stage.Role.TheVariants.{Initiator, Responder}
 use Rattle.session_core.specs.Session.{new_session}
 use Rattle.endpoint.specs.declared.config.Draws.{Draws}
 use Rattle.endpoint.specs.declared.place.Place.{Place}
-use Rattle.endpoint.specs.declared.place.Place.TheVariants.{Startup, Attempt, Session}
 use Rattle.endpoint.specs.declared.entry.Entry.TheVariants.{Fact as FactEntry, Discard}
 use Rattle.endpoint.specs.declared.answers.OpenRefusal.{OpenRefusal}
 use Rattle.endpoint.specs.declared.answers.OpenRefusal.TheVariants.{Candidates, Start, SessionsFull}
 use Rattle.endpoint.specs.State.{State, Sessions, Did, nothing, after_entries, then_do, fact_entries, with_startup, with_session, with_sessions, free_from, full}
 use Rattle.endpoint.specs.Sending.{sent_answer, sent_if, sent_spread, sent_in_session}
 use Rattle.endpoint.specs.Admission.{Admission, Rejected, Admitted, sid_at, confirming, confirms}
+use Rattle.endpoint.specs.Causes.{chunk_cause}
 use Rattle.endpoint.specs.Keying.{chunks_of}
 
 -- ---- opening an attempt
@@ -82,73 +79,6 @@ tick_once s = due_done (with_startup s (after_due s.startup s.moment)) (due s.st
 abbrev pub ticks : ℕ → State → Did
 ticks zero s = nothing s
 ticks (suc count) s = then_do (tick_once s) (ticks count)
-
--- ---- why a chunk is discarded: the first of these that stands
-
-abbrev pub is_hello : ℕ → Bool
-is_hello kind = (kind == 0x30) || (kind == 0x0f)
-
--- the chunks that an end reads today
-abbrev pub is_known : ℕ → Bool
-is_known kind =
-    is_hello kind || (kind == 0x70) || (kind == 0x79) || (kind == 0x38) || (kind == 0x78) || (kind == 0x01) || (kind == 0x41) || (kind == 0x7f)
-
--- The certificate of a responder's hello, which ends a payload of this length, isn't one.
-abbrev pub view_fault : ℕ → Chunk → Option Cause
-view_fault len (RHello tag cookie cert) = where_true (is_some (certificate_fault cert)) (Malformed (len - length cert))
-view_fault len chunk = None
-
--- or a field can't be read
-abbrev pub read_fault : ℕ → Result Chunk ChunkFault → Option Cause
-read_fault len (Ok chunk) = view_fault len chunk
-read_fault len (Err (BadField at)) = Some (Malformed at)
-read_fault len (Err (Unknown kind)) = Some (UnknownChunk kind)
-
--- the fields and the forms of a chunk
-abbrev pub form_cause : ℕ → List ℕ → Option Cause
-form_cause kind payload =
-    if (kind == 0x38) || (kind == 0x78) then keying_fault kind payload else read_fault (length payload) (chunk_reading kind payload)
-
--- which chunks a place takes
-abbrev pub takes : Place → ℕ → Bool
-takes Startup kind = (kind == 0x30) || (kind == 0x70) || (kind == 0x79) || (kind == 0x38)
-takes (Attempt near) kind = (kind == 0x79) || (kind == 0x78)
-takes (Session near) kind = (kind == 0x0f) || (kind == 0x01) || (kind == 0x41)
-
--- the causes of hellos, of changes of cookies and of keyings
-abbrev pub read_cause : State → Place → Result Chunk ChunkFault → Option Cause
-read_cause s place (Ok (IHello epd tag)) = initiator_hello_cause s.startup epd tag
-read_cause s place (Ok (FIHello epd reply tag)) = initiator_hello_cause s.startup epd tag
-read_cause s place (Ok (RHello tag cookie cert)) = rhello_cause s.startup tag cookie cert
-read_cause s place (Ok (CookieChange old new)) = cookie_change_cause s.startup (sid_at place) old new
-read_cause s place (Ok (Ping bytes)) = where_true (nat_lt 1024 (length bytes)) (Wide (length bytes))
-read_cause s place (Ok chunk) = None
-read_cause s place (Err fault) = None
-
--- A keying after another one of the same datagram.
-abbrev pub initiator_keying_cause : State → Bool → AddressParts → List ℕ → Option Cause
-initiator_keying_cause s keyed_before from payload =
-    if keyed_before then Some SecondKeying else iikeying_cause s.startup payload from s.moment (full s)
-
--- Once its session is open the attempt isn't there any more.
-abbrev pub responder_keying_cause : State → ℕ → List ℕ → Option Cause
-responder_keying_cause s near payload = if contains_key s.startup.attempts near then rikeying_cause s.startup near payload else Some NoAttempt
-
-abbrev pub last_cause : State → Place → Bool → AddressParts → Placed → Option Cause
-last_cause s place keyed_before from c =
-    if c.kind == 0x38 then initiator_keying_cause s keyed_before from c.payload
-    else if c.kind == 0x78 then responder_keying_cause s (sid_at place) c.payload
-    else read_cause s place (chunk_reading c.kind c.payload)
-
-abbrev pub chunk_cause : State → Place → Bool → AddressParts → Placed → Option Cause
-chunk_cause s place keyed_before from c =
-    first_that_stands (
-    where_true (not (is_known c.kind)) (UnknownChunk c.kind)
-    ∷ form_cause c.kind c.payload
-    ∷ where_true (c.kind == 0x7f) FragmentCause
-    ∷ where_true (not (takes place c.kind)) WrongPlace
-    ∷ last_cause s place keyed_before from c
-    ∷ [])
 
 -- ---- what a chunk does that isn't discarded
 

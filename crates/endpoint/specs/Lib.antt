@@ -9,6 +9,7 @@ pub mod History
 pub mod State
 pub mod Sending
 pub mod Admission
+pub mod Causes
 pub mod Due
 pub mod Log
 pub mod Laws

@@ -9,7 +9,8 @@ ghost use Rattle.rtmfp_packet.specs.Chunks.{shown};
 ghost use Rattle.startup.specs.Attempts.{after_cookie_change, after_rhello, cookie_change_cause, cookie_change_keying, rhello_cause, rhello_keying};
 ghost use Rattle.startup.specs.Keyings.{initiator_hello_answer, initiator_hello_cause};
 ghost use Rattle.endpoint.specs.Admission.{sid_at};
-ghost use Rattle.endpoint.specs.Due.{chunk_cause, chunk_did, discarded, effect, form_cause, initiator_keying_cause, is_known, last_cause, read_cause, read_done, responder_keying_cause, takes, view_fault};
+ghost use Rattle.endpoint.specs.Due.{chunk_did, discarded, effect, read_done};
+ghost use Rattle.endpoint.specs.Causes.{chunk_cause, form_cause, initiator_keying_cause, is_known, last_cause, read_cause, responder_keying_cause, takes, view_fault};
 ghost use Rattle.endpoint.specs.Sending.{sent_answer, sent_if, sent_in_session};
 ghost use Rattle.endpoint.specs.State.{Done, nothing, with_startup};
 

@@ -3,7 +3,8 @@
 ghost use Rattle.std.specs.Prelude.{◌≡◌, ◌+◌, ◌++◌, ◌<◌, ◌≤◌, None, OnErr, OnOk, length, vec_len, vec_capacity};
 ghost use Rattle.std.specs.FinMap.{len};
 ghost use Rattle.startup.specs.Keyings.{iikeying_cause};
-ghost use Rattle.endpoint.specs.Due.{initiator_keyed, responder_keyed, responder_keying_cause, sessions_born, sessions_opened, without_ended};
+ghost use Rattle.endpoint.specs.Due.{initiator_keyed, responder_keyed, sessions_born, sessions_opened, without_ended};
+ghost use Rattle.endpoint.specs.Causes.{responder_keying_cause};
 ghost use Rattle.endpoint.specs.Kept.{table_of};
 ghost use Rattle.endpoint.specs.State.{Done, fact_entries, full, nothing};
 

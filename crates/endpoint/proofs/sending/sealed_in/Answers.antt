@@ -1,7 +1,6 @@
-use Rattle.std.proofs.Common.{◌≡◌, ◌≤◌, ◌-◌, length, replicate, take, drop, ap, ◌∙◌, rules, arith}
+use Rattle.std.proofs.Common.{◌≤◌, ◌-◌, length, replicate, take, drop, ap, ◌∙◌, rules, arith}
 use Rattle.glare_core.specs.declared.facts.Joined.{Joined}
 use Rattle.packet_scramble.specs.Datagram.{datagram}
-use Rattle.session_core.specs.Sealed.{sealed_part}
 use Rattle.endpoint.proofs.SealedParts.{sealed_len, sealed_between}
 use Rattle.endpoint.proofs.sending.sealed_in.Goals as goal
 

@@ -1,4 +1,4 @@
-use Rattle.std.proofs.Common.{◌≡◌, ◌++◌, sym, ap, ◌∙◌}
+use Rattle.std.proofs.Common.{◌≡◌, ◌++◌, ap, ◌∙◌}
 use Rattle.rtmfp_packet.specs.Head.{head_bytes}
 use Rattle.rtmfp_chunks.specs.Chunk.{chunk_of}
 use Rattle.rtmfp_chunks.specs.Writing.{chunk_bytes}

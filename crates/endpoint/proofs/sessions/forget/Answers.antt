@@ -1,4 +1,4 @@
-use Rattle.std.proofs.Common.{◌≡◌, Some, None, sym, ap, ◌∙◌}
+use Rattle.std.proofs.Common.{◌≡◌, Some, sym, ap, ◌∙◌}
 use Rattle.endpoint.proofs.Keeping.{place_in, left_at, left_nowhere}
 use Rattle.endpoint.proofs.sessions.forget.Goals as goal
 

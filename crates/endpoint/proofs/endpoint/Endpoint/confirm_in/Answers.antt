@@ -1,16 +1,14 @@
-use Rattle.std.proofs.Common.{◌≡◌, ◌≤◌, Some, None, true, false, sym, ap, ◌∙◌, subst, arith}
+use Rattle.std.proofs.Common.{◌≡◌, None, sym, ap, ◌∙◌}
 use Rattle.std.specs.FinMap.{get}
 use Rattle.crypto_profile.specs.declared.keys.Context.TheVariants.{Startup}
 use Rattle.crypto_profile.specs.Keys.{keys_of}
 use Rattle.glare_core.specs.declared.facts.Joined.{Joined}
 use Rattle.startup.specs.State.{StartupState}
 use Rattle.startup.specs.Attempts.{confirm_fact, after_confirm}
-use Rattle.session_core.specs.Session.{SessionState, confirmed}
-use Rattle.endpoint.specs.State.{State, Did, Done, with_sessions, with_session, with_startup, fact_entries}
+use Rattle.endpoint.specs.State.{State}
 use Rattle.endpoint.specs.Kept.{table_of, near_of, state_of}
-use Rattle.endpoint.specs.Admission.{confirming_by, confirms_by}
 use Rattle.endpoint.proofs.Keeping.{place_in, found_nowhere}
-use Rattle.endpoint.proofs.Changing.{IsChanged, changed_at}
+use Rattle.endpoint.proofs.Changing.{changed_at}
 use Rattle.endpoint.proofs.Confirms.{own_stays, confirmed_done, unconfirmed_done}
 use Rattle.endpoint.proofs.endpoint.Endpoint.confirm_in.Goals as goal
 

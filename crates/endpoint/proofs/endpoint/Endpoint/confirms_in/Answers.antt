@@ -1,6 +1,5 @@
 use Rattle.std.proofs.Common.{◌≡◌, Some, None, sym, ap, ◌∙◌}
 use Rattle.std.specs.FinMap.{get}
-use Rattle.session_core.specs.Session.{is_opening, SessionState}
 use Rattle.endpoint.specs.State.{State}
 use Rattle.endpoint.specs.Kept.{table_of}
 use Rattle.endpoint.specs.Admission.{confirms_by}

@@ -1,4 +1,4 @@
-use Rattle.std.proofs.Common.{◌≡◌, sym, ap, ◌∙◌}
+use Rattle.std.proofs.Common.{sym, ap, ◌∙◌}
 use Rattle.endpoint.specs.State.{State}
 use Rattle.endpoint.specs.Admission.{confirms}
 use Rattle.endpoint.proofs.Confirms.{confirms_counted, confirms_timed}

@@ -1,6 +1,5 @@
-use Rattle.std.proofs.Common.{◌≡◌, List, ℕ, None, Some, Ok, Err, take, sym, ap, ◌∙◌}
+use Rattle.std.proofs.Common.{◌≡◌, None, Some, Err, sym, ap, ◌∙◌}
 use Rattle.std.specs.FinMap.{get}
-use Rattle.startup.specs.declared.cause.Cause.TheVariants.{Short, BadTag, Repeated, UnknownSession}
 use Rattle.session_core.specs.declared.hearing.Unheard.TheVariants.{Short as ShortPart, BadTag as WrongTag, Repeated as OldNumber}
 use Rattle.session_core.specs.Hearing.{unheard}
 use Rattle.endpoint.specs.State.{State}

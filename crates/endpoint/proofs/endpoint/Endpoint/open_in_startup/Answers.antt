@@ -1,8 +1,5 @@
-use Rattle.std.proofs.Common.{◌≡◌, None, Some, Ok, Err, IfSome, sym, ap, ◌∙◌}
-use Rattle.crypto_profile.specs.declared.keys.Context.TheVariants.{Startup}
-use Rattle.crypto_profile.specs.Keys.{keys_of}
+use Rattle.std.proofs.Common.{◌≡◌, None, ap, ◌∙◌}
 use Rattle.crypto_profile.specs.Opening.{open_refusal}
-use Rattle.endpoint.specs.State.{State}
 use Rattle.endpoint.specs.Admission.{startup_keys}
 use Rattle.endpoint.proofs.Opening.{is_opened, not_short, opened_so, unrefused}
 use Rattle.endpoint.proofs.endpoint.Endpoint.open_in_startup.Goals as goal

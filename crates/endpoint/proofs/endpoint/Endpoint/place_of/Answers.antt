@@ -1,4 +1,4 @@
-use Rattle.std.proofs.Common.{◌≡◌, ◌==◌, true, false, is_some, sym, ap, ◌∙◌}
+use Rattle.std.proofs.Common.{◌≡◌, true, false, is_some, sym, ap, ◌∙◌}
 use Rattle.std.specs.FinMap.{contains_key}
 use Rattle.endpoint.specs.State.{State}
 use Rattle.endpoint.specs.Kept.{state_of, table_of}

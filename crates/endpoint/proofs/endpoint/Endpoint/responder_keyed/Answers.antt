@@ -3,7 +3,8 @@ use Rattle.std.specs.FinMap.{contains_key}
 use Rattle.rtmfp_chunks.specs.Chunk.{Ping}
 use Rattle.startup.specs.Keyings.{rikeying_cause, opened, after_opening}
 use Rattle.endpoint.specs.declared.entry.Entry.TheVariants.{Fact as FactEntry}
-use Rattle.endpoint.specs.Due.{responder_keyed, responder_keying_cause, with_opened}
+use Rattle.endpoint.specs.Due.{responder_keyed, with_opened}
+use Rattle.endpoint.specs.Causes.{responder_keying_cause}
 use Rattle.endpoint.specs.Kept.{IsEndpoint, state_of}
 use Rattle.endpoint.specs.Sending.{sent_in_session}
 use Rattle.endpoint.specs.State.{State, Done, with_startup}

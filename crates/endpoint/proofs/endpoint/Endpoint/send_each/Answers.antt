@@ -1,10 +1,8 @@
-use Rattle.std.proofs.Common.{ℕ, ◌≡◌, ◌≤◌, ◌+◌, List, ◌++◌, ◌∷◌, [], length, take, get_or, Option, Some, Vec, Global, sym, ap, ◌∙◌, subst, arith, length-append}
-use Rattle.std.specs.List.{All}
+use Rattle.std.proofs.Common.{ℕ, ◌≡◌, ◌+◌, List, ◌++◌, ◌∷◌, [], length, take, Option, Some, Vec, Global, sym, ap, ◌∙◌, subst, arith, length-append}
 use Rattle.std.specs.Prelude.{option_to_list}
 use Rattle.std.proofs.lemmas.List.{take_more}
 use Rattle.std.proofs.lemmas.List.Elements.{All-pop}
-use Rattle.rtmfp_forms.specs.Address.{AddressParts}
-use Rattle.endpoint.specs.State.{State, Did, Done, then_do}
+use Rattle.endpoint.specs.State.{Done, then_do}
 use Rattle.endpoint.specs.Sending.{sent_each, sent_startup}
 use Rattle.endpoint.proofs.Steps.{joined, each_more, startup_entry}
 use Rattle.endpoint.proofs.endpoint.Endpoint.send_each.Goals as goal

@@ -1,5 +1,5 @@
-use Rattle.std.proofs.Common.{◌≡◌, ◌≤◌, length, sym, ap, ◌∙◌, subst, arith}
-use Rattle.endpoint.specs.State.{State, at_moment}
+use Rattle.std.proofs.Common.{subst, arith}
+use Rattle.endpoint.specs.State.{State}
 use Rattle.endpoint.specs.Admission.{admission}
 use Rattle.endpoint.specs.Log.{IsTaken}
 use Rattle.endpoint.proofs.Taking.{taken_as, refused_so, unopened_is, opened_long, datagram_taken}
