@@ -114,8 +114,8 @@ module _ (setup : Setup) (from : AddressParts) (datagram : List ℕ) (draws : Dr
   answers : IsRead setup.secret near datagram packet → IsAmong c (chunks_of packet) → c.kind ≡ 0x78 → AnswersAttempt setup.secret j datagram
   answers read among kind =
       let keying : ResponderKeying = opens.keying in
-      let spells = responder_says c.payload keying (read.bytes c among) opens.reads in
-      let signed = responder_signed s.startup.secret c.payload keying.near (responder_part keying.part.nr keying.part.k keying.part.responder keying.part.ni) keying.sign spells opens.signed in
+      let says = responder_says c.payload keying (read.bytes c among) opens.reads in
+      let signed = responder_signed s.startup.secret c.payload keying.near (responder_part keying.part.nr keying.part.k keying.part.responder keying.part.ni) keying.sign says.spells opens.signed in
       record {
         packet = packet;
         reads = read.reads;
@@ -125,7 +125,8 @@ module _ (setup : Setup) (from : AddressParts) (datagram : List ℕ) (draws : Dr
         spells =
             subst (λ k. Spells (RIKeying j.far (responder_part j.nr j.k j.peer j.ni) keying.sign) k c.payload) (sym kind)
             (subst (λ n. Spells (RIKeying j.far (responder_part j.nr j.k j.peer n) keying.sign) 0x78 c.payload) opens.ni
-            (subst (λ r. Spells (RIKeying j.far (responder_part j.nr j.k r keying.part.ni) keying.sign) 0x78 c.payload) opens.responder spells));
+            (subst (λ r. Spells (RIKeying j.far (responder_part j.nr j.k r keying.part.ni) keying.sign) 0x78 c.payload) opens.responder says.spells));
+        number = says.number;
         signed = subst (λ x. IsSigned x c.payload keying.sign) tied.secret signed;
       }
 

@@ -225,6 +225,7 @@ admissible setup past s from datagram packet c keying tied read mode among first
       spells =
           subst (λ k. Spells (IIKeying keying.near keying.cookie keying.cert (initiator_part keying.part.ni keying.part.n (own_of setup)) keying.sign) k c.payload) (sym kind)
           (subst (λ r. Spells (IIKeying keying.near keying.cookie keying.cert (initiator_part keying.part.ni keying.part.n r) keying.sign) 0x38 c.payload) responder says.spells);
+      number = says.number;
       nonce_size = says.nonce;
       far = says.some;
       is_cert = good_certificate keying.cert says.good;

@@ -44,7 +44,7 @@ pub sha256_is : (m : List ℕ) → IsBytes (sha256 m)
 unfolding sha256
 sha256_is m = digest_is (final_hash initial_hash_256 m) 8
 
-hmac_is : (key text : List ℕ) → IsBytes (hmac key text)
+pub hmac_is : (key text : List ℕ) → IsBytes (hmac key text)
 unfolding hmac
 hmac_is key text = sha256_is (outer_block key ++ sha256 (inner_block key ++ text))
 

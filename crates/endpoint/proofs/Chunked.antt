@@ -99,7 +99,7 @@ module _ (setup : Setup) (call : Call) where
 
 -- ---- what there being no cause says of keyings
 
-read_ok : {A : Type 0} (r : Result A Cause) → fault_in r ≡ None → (x : A) × (r ≡ Ok x)
+pub read_ok : {A : Type 0} (r : Result A Cause) → fault_in r ≡ None → (x : A) × (r ≡ Ok x)
 read_ok (Ok x) e = (x, refl)
 read_ok (Err cause) e = absurd (cc)
 
@@ -168,7 +168,7 @@ opens_of s near payload keying reads (Some a) is signed e =
       ni = same_bytes keying.part.ni a.ni (test_fails (not (bytes_eq keying.part.ni a.ni)) NoAttempt all.1.1.0);
     }
 
-opening_of : (s : State) (near : ℕ) (payload : List ℕ) (keying : ResponderKeying) → responder_keying_in payload ≡ Ok keying → responder_keying_cause s near payload ≡ None → OpensAttempt s near payload
+pub opening_of : (s : State) (near : ℕ) (payload : List ℕ) (keying : ResponderKeying) → responder_keying_in payload ≡ Ok keying → responder_keying_cause s near payload ≡ None → OpensAttempt s near payload
 opening_of s near payload keying reads e = by (contains_key s.startup.attempts near) e
   where
     by : (b : Bool) → (if b then rikeying_cause s.startup near payload else Some NoAttempt) ≡ None → OpensAttempt s near payload

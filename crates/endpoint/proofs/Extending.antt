@@ -16,8 +16,8 @@ use Rattle.endpoint.specs.Added.{Added}
 use Rattle.endpoint.specs.Event.{Event, Cancel, Refused, Done as Finished}
 use Rattle.endpoint.specs.State.{State, Did, Does, Done, nothing, fresh, at_moment}
 use Rattle.endpoint.specs.Admission.{admission}
-use Rattle.endpoint.specs.Due.{open_refusal, opening, cancelling, ticks}
-use Rattle.endpoint.specs.Log.{Step, Answers, Leads, Extends, IsTaken, not_opened, open_event, cancel_event, receive_event, tick_event}
+use Rattle.endpoint.specs.Due.{open_refusal, opening, cancelling, ticks, received}
+use Rattle.endpoint.specs.Log.{Step, Answers, Leads, Extends, IsTaken, IsStop, stopped, not_opened, open_event, cancel_event, receive_event, tick_event}
 
 leads_more : (s t u : State) (es : List Event) (e : Event) → Leads s es t → Step t e u → Leads s (es ++ e ∷ []) u
 leads_more s t u [] e h step = (u, (let P : State → Type 0 = λ x. Step x e u in subst P (sym h) step), refl)
@@ -45,15 +45,23 @@ refusal_is : (o : Option OpenRefusal) (refusal : OpenRefusal) (r : Result ℕ Op
 refusal_is None refusal r e some none = subst (λ (q : Result ℕ OpenRefusal). IfErr q (λ x. x ≡ NoMemoryToOpen)) e none
 refusal_is (Some x) refusal r e some none = let same : ◌≡◌ {A = Result ℕ OpenRefusal} (Err refusal) (Err x) = sym e ∙ some in cc
 
+pub open_steps : (s t : State) (moment : ℕ) (peer : List ℕ) (candidates : List AddressParts) (draws : Draws) (r : Result ℕ OpenRefusal) (before after : Added) →
+    IfOk r (λ n. n ≡ s.startup.ledger.started + 1) → OnOk r (Done (opening (at_moment s moment) peer candidates draws) t before after) →
+    IfSome (open_refusal (at_moment s moment) peer candidates) (λ refusal. r ≡ Err refusal) →
+    IfNone (open_refusal (at_moment s moment) peer candidates) (IfErr r (λ refusal. refusal ≡ NoMemoryToOpen)) → OnErr r (Done (nothing (at_moment s moment)) t before after) →
+    Step s (open_event moment peer candidates draws r before.entries after.entries) t
+open_steps s t moment peer candidates draws (Ok n) before after number ok refused memory err =
+    (none_of (open_refusal (at_moment s moment) peer candidates) n (Ok n) refl refused, number, alone _ t before after ok)
+open_steps s t moment peer candidates draws (Err refusal) before after number ok refused memory err =
+    (refusal_is (open_refusal (at_moment s moment) peer candidates) refusal (Err refusal) refl refused memory, alone _ t before after err)
+
 pub open_extends : (s t : State) (moment : ℕ) (peer : List ℕ) (candidates : List AddressParts) (draws : Draws) (r : Result ℕ OpenRefusal) (before after : Added) →
     IfOk r (λ n. n ≡ s.startup.ledger.started + 1) → OnOk r (Done (opening (at_moment s moment) peer candidates draws) t before after) →
     IfSome (open_refusal (at_moment s moment) peer candidates) (λ refusal. r ≡ Err refusal) →
     IfNone (open_refusal (at_moment s moment) peer candidates) (IfErr r (λ refusal. refusal ≡ NoMemoryToOpen)) → OnErr r (Done (nothing (at_moment s moment)) t before after) →
     Extends s t (open_event moment peer candidates draws r before.entries after.entries)
-open_extends s t moment peer candidates draws (Ok n) before after number ok refused memory err =
-    extends s t _ (none_of (open_refusal (at_moment s moment) peer candidates) n (Ok n) refl refused, number, alone _ t before after ok)
-open_extends s t moment peer candidates draws (Err refusal) before after number ok refused memory err =
-    extends s t _ (refusal_is (open_refusal (at_moment s moment) peer candidates) refusal (Err refusal) refl refused memory, alone _ t before after err)
+open_extends s t moment peer candidates draws r before after number ok refused memory err =
+    extends s t (open_event moment peer candidates draws r before.entries after.entries) (open_steps s t moment peer candidates draws r before after number ok refused memory err)
 
 -- a call that gives no moment
 at_zero : (s : State) → at_moment s 0 ≡ s
@@ -69,28 +77,44 @@ not_there : (o : Option Fact) (refusal : CallRefusal) → IfNone o (◌≡◌ {A
 not_there None refusal h = cc
 not_there (Some fact) refusal h = tt
 
+pub cancel_steps : (s t : State) (n : ℕ) (r : Result (Unit {0}) CallRefusal) (before after : Added) →
+    OnOk r (Done (cancelling s n) t before after) → IfNone (cancel_fact s.startup n) (r ≡ Err NoAttempt) →
+    IfSome (cancel_fact s.startup n) (λ _. IfErr r (λ refusal. refusal ≡ NoMemory)) → OnErr r (Done (nothing s) t before after) →
+    Step s (cancel_event n r before.entries after.entries) t
+cancel_steps s t n (Ok done) before after ok refused memory err =
+    let entries : List Entry = drop (length before.entries) after.entries in
+    subst (λ (x : State). Answers x (Cancel n) Finished entries t) (sym (at_zero s)) (is_there (cancel_fact s.startup n) done refused, alone (cancelling s n) t before after ok)
+cancel_steps s t n (Err refusal) before after ok refused memory err =
+    let entries : List Entry = drop (length before.entries) after.entries in
+    subst (λ (x : State). Answers x (Cancel n) (Refused refusal) entries t) (sym (at_zero s)) (not_there (cancel_fact s.startup n) refusal refused, memory, alone (nothing s) t before after err)
+
 pub cancel_extends : (s t : State) (n : ℕ) (r : Result (Unit {0}) CallRefusal) (before after : Added) →
     OnOk r (Done (cancelling s n) t before after) → IfNone (cancel_fact s.startup n) (r ≡ Err NoAttempt) →
     IfSome (cancel_fact s.startup n) (λ _. IfErr r (λ refusal. refusal ≡ NoMemory)) → OnErr r (Done (nothing s) t before after) →
     Extends s t (cancel_event n r before.entries after.entries)
-cancel_extends s t n (Ok done) before after ok refused memory err =
-    let entries : List Entry = drop (length before.entries) after.entries in
-    extends s t (cancel_event n (Ok done) before.entries after.entries)
-    (subst (λ (x : State). Answers x (Cancel n) Finished entries t) (sym (at_zero s)) (is_there (cancel_fact s.startup n) done refused, alone (cancelling s n) t before after ok))
-cancel_extends s t n (Err refusal) before after ok refused memory err =
-    let entries : List Entry = drop (length before.entries) after.entries in
-    extends s t (cancel_event n (Err refusal) before.entries after.entries)
-    (subst (λ (x : State). Answers x (Cancel n) (Refused refusal) entries t) (sym (at_zero s)) (not_there (cancel_fact s.startup n) refusal refused, memory, alone (nothing s) t before after err))
+cancel_extends s t n r before after ok refused memory err =
+    extends s t (cancel_event n r before.entries after.entries) (cancel_steps s t n r before after ok refused memory err)
+
+pub tick_steps : (s t : State) (moment : ℕ) (draws : Draws) (r : Result (Unit {0}) Memory) (before after : Added) →
+    (count : ℕ) × Done (ticks count (at_moment s moment)) t before after → OnOk r (due t.startup t.moment ≡ None) →
+    Step s (tick_event moment draws r before.entries after.entries) t
+tick_steps s t moment draws (Ok done) before after some all = ((some.0, alone (ticks some.0 (at_moment s moment)) t before after some.1), all)
+tick_steps s t moment draws (Err memory) before after some all = (some.0, alone (ticks some.0 (at_moment s moment)) t before after some.1)
 
 pub tick_extends : (s t : State) (moment : ℕ) (draws : Draws) (r : Result (Unit {0}) Memory) (before after : Added) →
     (count : ℕ) × Done (ticks count (at_moment s moment)) t before after → OnOk r (due t.startup t.moment ≡ None) →
     Extends s t (tick_event moment draws r before.entries after.entries)
-tick_extends s t moment draws (Ok done) before after some all =
-    extends s t (tick_event moment draws (Ok done) before.entries after.entries) ((some.0, alone (ticks some.0 (at_moment s moment)) t before after some.1), all)
-tick_extends s t moment draws (Err memory) before after some all =
-    extends s t (tick_event moment draws (Err memory) before.entries after.entries) (some.0, alone (ticks some.0 (at_moment s moment)) t before after some.1)
+tick_extends s t moment draws r before after some all =
+    extends s t (tick_event moment draws r before.entries after.entries) (tick_steps s t moment draws r before after some all)
+
+pub receive_steps : (s t : State) (moment : ℕ) (from : AddressParts) (datagram : List ℕ) (draws : Draws) (r : Result (Unit {0}) Stop) (before after : Added) →
+    OnOk r (Done (received from draws (admission (at_moment s moment) datagram)) t before after) → IfErr r (λ stop. IsStop (admission (at_moment s moment) datagram) stop) →
+    IfErr r (λ stop. Done (stopped (at_moment s moment) from draws (admission (at_moment s moment) datagram) stop) t before after) →
+    Step s (receive_event from moment datagram draws r before.entries after.entries) t
+receive_steps s t moment from datagram draws (Ok done) before after ok stop stopped = alone _ t before after ok
+receive_steps s t moment from datagram draws (Err halt) before after ok stop stopped = (stop, alone _ t before after stopped)
 
 pub receive_extends : (s t : State) (moment : ℕ) (from : AddressParts) (datagram : List ℕ) (draws : Draws) (r : Result (Unit {0}) Stop) (before after : Added) →
     IsTaken (at_moment s moment) from draws (admission (at_moment s moment) datagram) r t before after → Extends s t (receive_event from moment datagram draws r before.entries after.entries)
-receive_extends s t moment from datagram draws (Ok done) before after taken = extends s t _ (alone _ t before after taken.ok)
-receive_extends s t moment from datagram draws (Err halt) before after taken = extends s t _ (taken.stop, alone _ t before after taken.stopped)
+receive_extends s t moment from datagram draws r before after taken =
+    extends s t (receive_event from moment datagram draws r before.entries after.entries) (receive_steps s t moment from datagram draws r before after taken.ok taken.stop taken.stopped)

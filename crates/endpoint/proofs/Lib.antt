@@ -34,12 +34,12 @@ mod Admitting
 mod Says
 mod Answering
 mod Birth
-mod OutLaw
+pub mod OutLaw
 mod Bearing
 mod Keyed
 mod Chunked
 mod Logged
-mod Extending
+pub mod Extending
 mod Changing
 mod Confirms
 mod Constants
@@ -48,3 +48,24 @@ mod InSession
 mod Begun
 mod Taking
 mod Near
+pub mod Opened
+pub mod Drawn
+mod FactsAlone
+mod HeldTold
+mod Telling
+mod Components
+mod Carried
+mod Since
+mod Heard
+mod Fresh
+mod EventTold
+mod StatedFacts
+mod HistoryTold
+pub mod AgreedLaw
+mod Counts
+mod Counted
+mod AgreedLogs
+mod Few
+mod ReadsBack
+mod Complete
+mod AnswerCarried

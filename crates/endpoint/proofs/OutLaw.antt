@@ -1,18 +1,20 @@
 -- Each log that an end stands for is lawful.
-use Rattle.std.proofs.Common.{ℕ, List, [], max}
+use Rattle.std.proofs.Common.{ℕ, ◌<◌, ◌^◌, List, [], max, refl, arith}
+use Rattle.glare_core.specs.Standing.{count}
 use Rattle.endpoint.specs.Event.{Setup, Call, Open, Cancel, Receive, Tick, Event}
-use Rattle.endpoint.specs.Past.{Stamped}
-use Rattle.endpoint.specs.State.{State, at_moment}
+use Rattle.endpoint.specs.Past.{Stamped, facts_of, past_of}
+use Rattle.endpoint.specs.State.{State, fresh, at_moment}
 use Rattle.endpoint.specs.Admission.{admission}
 use Rattle.endpoint.specs.Log.{StandsFor}
 use Rattle.endpoint.specs.Laws.{IsSetup, IsCall, AreCalls, EveryLogIsLawful}
 use Rattle.endpoint.proofs.Bytes.{of_bytes}
-use Rattle.endpoint.proofs.Lines.{EventsMeet, OutPart, events_lawful}
-use Rattle.endpoint.proofs.Tied.{Tied}
+use Rattle.endpoint.proofs.Lines.{EventsMeet, OutPart, CountPart, events_lawful}
+use Rattle.endpoint.proofs.Tied.{Tied, fresh_tied}
 use Rattle.endpoint.proofs.Moving.{tied_alike}
 use Rattle.endpoint.proofs.Ending.{goes_ticks}
 use Rattle.endpoint.proofs.Admitting.{admission_is}
 use Rattle.endpoint.proofs.Logged.{answers_go, part_goes, facts_lawful}
+use Rattle.endpoint.proofs.Counts.{few_at_end, counts_from}
 use Rattle.endpoint.proofs.OutLog.{CallTies, TiesGoOn, outs_meet}
 
 module _ (setup : Setup) (is : IsSetup setup) where
@@ -40,5 +42,15 @@ module _ (setup : Setup) (is : IsSetup setup) where
 pub outs_lawful : (setup : Setup) (log : List Event) (s : State) → IsSetup setup → AreCalls log → StandsFor setup log s → EventsMeet OutPart setup 0 [] log
 outs_lawful setup log s is calls stands = outs_meet setup log s is (ties_go_on setup is) calls stands
 
+-- the number of each attempt is one of 64 bits
+counts_lawful : (setup : Setup) (log : List Event) (s : State) → IsSetup setup → AreCalls log → StandsFor setup log s → EventsMeet CountPart setup 0 [] log
+counts_lawful setup log s is calls stands =
+    counts_from setup (ties_go_on setup is) log 0 [] (fresh setup) s refl (fresh_tied setup) (omega arith) calls stands (facts_lawful setup log s is calls stands)
+
+-- so their count is one of 64 bits at each end that stands for a log
+pub count_of_log : (setup : Setup) (log : List Event) (s : State) → IsSetup setup → AreCalls log → StandsFor setup log s → count (facts_of (past_of 0 [] log)) < 2 ^ 64
+count_of_log setup log s is calls stands = few_at_end setup 0 [] log (facts_lawful setup log s is calls stands) (counts_lawful setup log s is calls stands) (omega arith)
+
 pub every_log_is_lawful : EveryLogIsLawful
-every_log_is_lawful setup log s is calls stands = events_lawful setup 0 [] log (facts_lawful setup log s is calls stands) (outs_lawful setup log s is calls stands)
+every_log_is_lawful setup log s is calls stands =
+    events_lawful setup 0 [] log (facts_lawful setup log s is calls stands) (counts_lawful setup log s is calls stands) (outs_lawful setup log s is calls stands)

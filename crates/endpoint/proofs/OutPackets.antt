@@ -30,14 +30,17 @@ one_among true c p (inl e) = e
 one_among true c p (inr none) = absurd none
 one_among false c p none = absurd none
 
+-- the packet of a head and one chunk
+abbrev pub one_whole : PacketHead → List ℕ → ℕ → List ℕ → Whole
+one_whole head front kind payload = record { head = head; start = length front; chunks = record { kind = kind; payload = payload } ∷ []; padding = [] }
+
 -- a head and one chunk are read so
-pub one_chunk : (head : PacketHead) (front : List ℕ) (kind : ℕ) (payload : List ℕ) (packet : Whole) → HeadSpells head front → kind < 2 ^ 8 → length payload < 2 ^ 16 →
-    PacketReading (front ++ (kind ∷ (to_be_bytes w16 (length payload) ++ payload))) (Ok packet) → Alone kind payload packet
-one_chunk head front kind payload packet spells byte short reads =
+pub one_reads : (head : PacketHead) (front : List ℕ) (kind : ℕ) (payload : List ℕ) → HeadSpells head front → kind < 2 ^ 8 → length payload < 2 ^ 16 →
+    Reads (one_whole head front kind payload) (front ++ (kind ∷ (to_be_bytes w16 (length payload) ++ payload)))
+one_reads head front kind payload spells byte short =
     let chunk : Written = record { kind = kind; payload = payload } in
-    let whole : Whole = record { head = head; start = length front; chunks = chunk ∷ []; padding = [] } in
     let bytes : List ℕ = written_bytes chunk in
-    let one : Reads whole (front ++ bytes) = record {
+    record {
       spells = record {
         front = front;
         head_spelled = spells;
@@ -46,8 +49,15 @@ one_chunk head front kind payload packet spells byte short reads =
         joined = sym (append-nil (front ++ (bytes ++ [])) ∙ ap (λ xs. front ++ xs) (append-nil bytes));
       };
       start = omega (arith, length-append front bytes, ap length (append-nil (bytes ++ []) ∙ append-nil bytes));
-    } in
-    let same : Ok packet ≡ Ok whole = packet_reading_same (front ++ bytes) (Ok packet) (Ok whole) reads one in
+    }
+
+-- and in no other way
+pub one_chunk : (head : PacketHead) (front : List ℕ) (kind : ℕ) (payload : List ℕ) (packet : Whole) → HeadSpells head front → kind < 2 ^ 8 → length payload < 2 ^ 16 →
+    PacketReading (front ++ (kind ∷ (to_be_bytes w16 (length payload) ++ payload))) (Ok packet) → Alone kind payload packet
+one_chunk head front kind payload packet spells byte short reads =
+    let whole : Whole = one_whole head front kind payload in
+    let bytes : List ℕ = written_bytes (record { kind = kind; payload = payload }) in
+    let same : Ok packet ≡ Ok whole = packet_reading_same (front ++ bytes) (Ok packet) (Ok whole) reads (one_reads head front kind payload spells byte short) in
     let is : packet ≡ whole = cc in
     let placed : Placed = record { kind = kind; at = length front; payload = payload } in
     record {
@@ -70,12 +80,16 @@ kind_small Close = omega arith
 kind_small CloseAck = omega arith
 kind_small (Fragment more id number bytes) = omega arith
 
-startup_head : PacketHead
+pub startup_head : PacketHead
 startup_head = record { critical = false; reverse = false; stamp = None; echo = None; mode = StartupMode }
 
 startup_spells : HeadSpells startup_head (0x03 ∷ [])
 unfolding startup_head
 startup_spells = head_bytes-spells startup_head tt tt
+
+-- a startup packet is read so
+pub startup_reads : (chunk : Chunk) → length (payload_bytes chunk) < 2 ^ 16 → PacketReading (startup_packet chunk) (Ok (one_whole startup_head (0x03 ∷ []) (kind_of chunk) (payload_bytes chunk)))
+startup_reads chunk short = one_reads startup_head (0x03 ∷ []) (kind_of chunk) (payload_bytes chunk) startup_spells (kind_small chunk) short
 
 pub startup_alone : (chunk : Chunk) (packet : Whole) → length (payload_bytes chunk) < 2 ^ 16 → PacketReading (startup_packet chunk) (Ok packet) → Alone (kind_of chunk) (payload_bytes chunk) packet
 startup_alone chunk packet short reads = one_chunk startup_head (0x03 ∷ []) (kind_of chunk) (payload_bytes chunk) packet startup_spells (kind_small chunk) short reads

@@ -1,9 +1,9 @@
 -- What keyings that read say, field by field.
-use Rattle.std.proofs.Common.{◌≡◌, ℕ, ◌==◌, List, length, take, drop, Bool, true, false, if◌then◌else◌, is_some, Option, Some, None, Result, Ok, Err, inl, inr, refl, sym, ap, subst, ◌∙◌, arith}
+use Rattle.std.proofs.Common.{◌≡◌, ℕ, ◌==◌, ◌<◌, ◌≤◌, ◌^◌, List, [], ◌∷◌, length, take, drop, Bool, true, false, if◌then◌else◌, is_some, Option, Some, None, Result, Ok, Err, inl, inr, refl, sym, ap, subst, ◌∙◌, arith}
 use Rattle.std.specs.Int.{w64, from_be_bytes}
 use Rattle.std.proofs.lemmas.Bool.{eqb-true}
-use Rattle.std.proofs.lemmas.List.{length-take-le}
-use Rattle.rtmfp_vlu.proofs.Bytes.{IsBytes}
+use Rattle.std.proofs.lemmas.List.{length-take-le, length-drop}
+use Rattle.rtmfp_vlu.proofs.Bytes.{IsBytes, IsBytes-take, IsBytes-drop}
 use Rattle.rtmfp_chunks.specs.declared.reading.ChunkFault.{ChunkFault}
 use Rattle.rtmfp_chunks.specs.Chunk.{Chunk, IHello, FIHello, RHello, Redirect, CookieChange, IIKeying, RIKeying, Ping, PingReply, Close, CloseAck, Fragment, Spells}
 use Rattle.rtmfp_chunks.specs.FieldReading.{chunk_reading}
@@ -30,6 +30,32 @@ if_some false x y e = absurd (cc)
 
 ok_is : {A E : Type 0} (x y : A) → ◌≡◌ {A = Result A E} (Ok x) (Ok y) → x ≡ y
 ok_is x y e = cc
+
+-- eight bytes are a number of 64 bits
+word_fits : (bytes : List ℕ) → length bytes ≡ 8 → IsBytes bytes → from_be_bytes w64 bytes < 2 ^ 64
+word_fits (a ∷ b ∷ c ∷ d ∷ e ∷ f ∷ g ∷ h ∷ []) size are =
+    let p : a < 256 = are 0 in
+    let q : b < 256 = are 1 in
+    let r : c < 256 = are 2 in
+    let s : d < 256 = are 3 in
+    let t : e < 256 = are 4 in
+    let u : f < 256 = are 5 in
+    let v : g < 256 = are 6 in
+    let w : h < 256 = are 7 in
+    omega arith
+word_fits (a ∷ b ∷ c ∷ d ∷ e ∷ f ∷ g ∷ h ∷ i ∷ rest) size are = absurd (omega arith)
+word_fits (a ∷ b ∷ c ∷ d ∷ e ∷ f ∷ g ∷ []) size are = absurd (omega arith)
+word_fits (a ∷ b ∷ c ∷ d ∷ e ∷ f ∷ []) size are = absurd (omega arith)
+word_fits (a ∷ b ∷ c ∷ d ∷ e ∷ []) size are = absurd (omega arith)
+word_fits (a ∷ b ∷ c ∷ d ∷ []) size are = absurd (omega arith)
+word_fits (a ∷ b ∷ c ∷ []) size are = absurd (omega arith)
+word_fits (a ∷ b ∷ []) size are = absurd (omega arith)
+word_fits (a ∷ []) size are = absurd (omega arith)
+word_fits [] size are = absurd (omega arith)
+
+-- the number in the middle of a component
+middle_fits : (bytes : List ℕ) → 24 ≤ length bytes → IsBytes bytes → from_be_bytes w64 (take 8 (drop 16 bytes)) < 2 ^ 64
+middle_fits bytes long are = word_fits (take 8 (drop 16 bytes)) (length-take-le 8 (drop 16 bytes) (omega (arith, length-drop 16 bytes))) (IsBytes-take 8 (drop 16 bytes) (IsBytes-drop 16 bytes are))
 
 -- ---- responders' keyings
 
@@ -75,16 +101,22 @@ responds_with payload near part sign keying e = by (near == 0) e
     by false e = with_part (part_offset payload part sign) near sign part keying e
 
 responder_part_again : (bytes : List ℕ) (keying : ResponderKeying) → IsBytes bytes → responder_part_in bytes ≡ Some keying.part →
-    bytes ≡ responder_part keying.part.nr keying.part.k keying.part.responder keying.part.ni
+    (bytes ≡ responder_part keying.part.nr keying.part.k keying.part.responder keying.part.ni) × (keying.part.k < 2 ^ 64)
 unfolding responder_part_in
 responder_part_again bytes keying are e =
     let both = if_some (length bytes == 72) _ keying.part e in
-    responder_again bytes (take 16 bytes) (take 8 (drop 16 bytes)) (take 32 (drop 24 bytes)) (drop 56 bytes) (from_be_bytes w64 (take 8 (drop 16 bytes))) are
-    (omega (arith, eqb-true (length bytes) 72 both.0)) refl refl refl refl refl
-    ∙ (λ i. responder_part (both.1 i).nr (both.1 i).k (both.1 i).responder (both.1 i).ni)
+    let count : length bytes ≡ 72 = eqb-true (length bytes) 72 both.0 in (
+      responder_again bytes (take 16 bytes) (take 8 (drop 16 bytes)) (take 32 (drop 24 bytes)) (drop 56 bytes) (from_be_bytes w64 (take 8 (drop 16 bytes))) are
+          (omega (arith, count)) refl refl refl refl refl
+          ∙ (λ i. responder_part (both.1 i).nr (both.1 i).k (both.1 i).responder (both.1 i).ni),
+      subst (λ n. n < 2 ^ 64) (λ i. (both.1 i).k) (middle_fits bytes (omega (arith, count)) are),
+    )
 
-pub responder_says : (payload : List ℕ) (keying : ResponderKeying) → IsBytes payload → responder_keying_in payload ≡ Ok keying →
-    Spells (RIKeying keying.near (responder_part keying.part.nr keying.part.k keying.part.responder keying.part.ni) keying.sign) 0x78 payload
+pub record ResponderSays (payload : List ℕ) (keying : ResponderKeying) : Type 0 where
+  pub spells : Spells (RIKeying keying.near (responder_part keying.part.nr keying.part.k keying.part.responder keying.part.ni) keying.sign) 0x78 payload
+  pub number : keying.part.k < 2 ^ 64
+
+pub responder_says : (payload : List ℕ) (keying : ResponderKeying) → IsBytes payload → responder_keying_in payload ≡ Ok keying → ResponderSays payload keying
 unfolding responder_keying_in
 responder_says payload keying are e =
     let read = responder_is payload (chunk_reading 0x78 payload) keying e in
@@ -93,9 +125,13 @@ responder_says payload keying are e =
     let rest : IsBytes spells.1.1 = back_are payload spells.1.0 spells.1.1 spells.1.2 are in
     let front : IsBytes spells.1.4.0 = front_are spells.1.1 spells.1.4.0 spells.1.4.1 spells.1.4.2 rest in
     let part_are : IsBytes read.part = back_are spells.1.4.0 spells.1.4.3.count read.part spells.1.4.3.joined front in
-    let part_is : read.part ≡ responder_part keying.part.nr keying.part.k keying.part.responder keying.part.ni = responder_part_again read.part keying part_are fields.part_is in
-    subst (λ s. Spells (RIKeying keying.near (responder_part keying.part.nr keying.part.k keying.part.responder keying.part.ni) s) 0x78 payload) fields.sign_is
-    (subst (λ p. Spells (RIKeying keying.near p read.sign) 0x78 payload) part_is (subst (λ n. Spells (RIKeying n read.part read.sign) 0x78 payload) fields.near_is spells))
+    let part = responder_part_again read.part keying part_are fields.part_is in
+    record {
+      spells =
+          subst (λ s. Spells (RIKeying keying.near (responder_part keying.part.nr keying.part.k keying.part.responder keying.part.ni) s) 0x78 payload) fields.sign_is
+          (subst (λ p. Spells (RIKeying keying.near p read.sign) 0x78 payload) part.0 (subst (λ n. Spells (RIKeying n read.part read.sign) 0x78 payload) fields.near_is spells));
+      number = part.1;
+    }
 
 -- ---- initiators' keyings
 
@@ -160,7 +196,7 @@ initiates_with payload near cookie cert part sign keying e = by (near == 0) (is_
         record { near_is = all.near_is; cookie_is = all.cookie_is; cert_is = all.cert_is; sign_is = all.sign_is; part_is = all.part_is; some = no_zero near z; good = c }
 
 initiator_part_again : (bytes : List ℕ) (keying : InitiatorKeying) → IsBytes bytes → initiator_part_in bytes ≡ Some keying.part →
-    (bytes ≡ initiator_part keying.part.ni keying.part.n keying.part.responder) × (length keying.part.ni ≡ 16)
+    (bytes ≡ initiator_part keying.part.ni keying.part.n keying.part.responder) × (length keying.part.ni ≡ 16) × (keying.part.n < 2 ^ 64)
 unfolding initiator_part_in
 initiator_part_again bytes keying are e =
     let both = if_some (length bytes == 56) _ keying.part e in
@@ -168,6 +204,7 @@ initiator_part_again bytes keying are e =
       initiator_again bytes (take 16 bytes) (take 8 (drop 16 bytes)) (drop 24 bytes) (from_be_bytes w64 (take 8 (drop 16 bytes))) are (omega (arith, count)) refl refl refl refl
           ∙ (λ i. initiator_part (both.1 i).ni (both.1 i).n (both.1 i).responder),
       sym (λ i. length (both.1 i).ni) ∙ length-take-le 16 bytes (omega (arith, count)),
+      subst (λ n. n < 2 ^ 64) (λ i. (both.1 i).n) (middle_fits bytes (omega (arith, count)) are),
     )
 
 pub record InitiatorSays (payload : List ℕ) (keying : InitiatorKeying) : Type 0 where
@@ -175,6 +212,7 @@ pub record InitiatorSays (payload : List ℕ) (keying : InitiatorKeying) : Type 
   pub some : keying.near ≡ 0 → ⊥
   pub good : is_some (certificate_fault keying.cert) ≡ false
   pub nonce : length keying.part.ni ≡ 16
+  pub number : keying.part.n < 2 ^ 64
   pub cookie_are : IsBytes keying.cookie
 
 pub initiator_says : (payload : List ℕ) (keying : InitiatorKeying) → IsBytes payload → initiator_keying_in payload ≡ Ok keying → InitiatorSays payload keying
@@ -203,5 +241,6 @@ initiator_says payload keying are e =
       some = λ z. fields.some (fields.near_is ∙ z);
       good = ap (λ c. is_some (certificate_fault c)) (sym fields.cert_is) ∙ fields.good;
       nonce = part.1;
+      number = part.2;
       cookie_are = subst IsBytes fields.cookie_is cookie_are;
     }

@@ -1,5 +1,5 @@
 -- The keying of which a session is born, judged by the facts before.
-use Rattle.std.specs.Prelude.{ℕ, ◌≡◌, ◌≢◌, ◌<◌, ◌≤◌, ◌⊎◌, List, length, Some, None, true}
+use Rattle.std.specs.Prelude.{ℕ, ◌≡◌, ◌≢◌, ◌<◌, ◌≤◌, ◌^◌, ◌⊎◌, List, length, Some, None, true}
 use Rattle.std.specs.List.{list_any}
 use Rattle.std.specs.Str.{bytes_eq}
 use Rattle.sha2.specs.Sha256.{sha256}
@@ -41,6 +41,8 @@ pub record Admissible (setup : Setup) (facts : List Fact) (now : ℕ) (from : Ad
   pub cert : List ℕ
   pub sign : List ℕ
   pub spells : Spells (IIKeying offer.far cookie cert (initiator_part offer.ni offer.n (own_of setup)) sign) chunk.kind chunk.payload
+  -- the number is what these 8 bytes say
+  pub number : offer.n < 2 ^ 64
   pub nonce_size : length offer.ni ≡ 16
   pub far : offer.far ≢ 0
   pub is_cert : IsCertificate cert

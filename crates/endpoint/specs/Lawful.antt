@@ -1,5 +1,5 @@
 -- Lawful logs. Each entry meets its line of this table, judged by its event and by the entries before it.
-use Rattle.std.specs.Prelude.{ℕ, false, ◌≡◌, ◌≢◌, ◌+◌, ◌≤◌, ◌⊎◌, List, [], ◌∷◌, length, drop, Option, Some, Ok}
+use Rattle.std.specs.Prelude.{ℕ, false, ◌≡◌, ◌≢◌, ◌+◌, ◌^◌, ◌<◌, ◌≤◌, ◌⊎◌, List, [], ◌∷◌, length, drop, Option, Some, Ok}
 use Rattle.crypto_profile.specs.declared.keys.Context.{Context}
 use Rattle.crypto_profile.specs.declared.keys.Context.TheVariants.{Startup, Session}
 use Rattle.crypto_profile.specs.Sealing.{sealed_in, number_of}
@@ -67,6 +67,8 @@ pub record AnswersAttempt (secret : List ℕ) (j : Joined) (datagram : List ℕ)
   pub among : IsAmong chunk (chunks_of packet)
   pub sign : List ℕ
   pub spells : Spells (RIKeying j.far (responder_part j.nr j.k j.peer j.ni) sign) chunk.kind chunk.payload
+  -- the count is what these 8 bytes say
+  pub number : j.k < 2 ^ 64
   pub signed : IsSigned secret chunk.payload sign
 
 abbrev pub TakesAnswer : Setup → Call → Joined → Type 0
@@ -149,6 +151,14 @@ FactLine setup now call past rest (Opened j) = TakesAnswer setup call j
 FactLine setup now call past rest (Confirmed peer near) = ConfirmedLine setup call (facts_of past) peer near
 FactLine setup now call past rest (Ended peer near why) = EndedLine now call past rest peer near why
 
+-- The number of an attempt is one of 64 bits, as its keying has 8 bytes for it.
+abbrev pub IsCounted : Fact → Type 0
+IsCounted (Started peer n near ni) = n < 2 ^ 64
+IsCounted (Born j) = Unit {0}
+IsCounted (Opened j) = Unit {0}
+IsCounted (Confirmed peer near) = Unit {0}
+IsCounted (Ended peer near why) = Unit {0}
+
 -- ---- the line of a datagram that goes out
 
 -- The entry is a datagram that went out in this context with this number.
@@ -226,7 +236,7 @@ pub record OutLine (setup : Setup) (past : List Stamped) (sent : List ℕ) (cont
 -- ---- the table
 
 abbrev pub Line : Setup → ℕ → Call → List Stamped → List Entry → Entry → Type 0
-Line setup now call past rest (FactEntry fact) = Stands (own_of setup) (count (facts_of past)) (facts_of past) fact × FactLine setup now call past rest fact
+Line setup now call past rest (FactEntry fact) = Stands (own_of setup) (count (facts_of past)) (facts_of past) fact × FactLine setup now call past rest fact × IsCounted fact
 Line setup now call past rest (Discard place cause) = Unit {0}
 Line setup now call past rest (Out to sent context) = OutLine setup past sent context
 

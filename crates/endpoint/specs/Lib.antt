@@ -13,4 +13,9 @@ pub mod Causes
 pub mod Due
 pub mod Log
 pub mod Laws
+pub mod Agreed
 pub mod Kept
+pub mod Keeping
+pub mod OpensIn
+pub mod Kinds
+pub mod Complete

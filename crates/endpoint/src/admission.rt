@@ -22,7 +22,7 @@ pub(crate) const PLAIN_AT: usize = 36;
 
 impl Endpoint {
     /// What a session ID names.
-    fn place_of(&self, sid: u32) -> Option<Place>
+    pub(crate) fn place_of(&self, sid: u32) -> Option<Place>
         ensures { result ≡ place_of self.now sid }
     {
         if sid == 0 {
@@ -112,7 +112,7 @@ impl Endpoint {
 }
 
 /// The first four bytes, as one number.
-fn word_of(head: &[u8]) -> u32
+pub(crate) fn word_of(head: &[u8]) -> u32
     requires { length head.now ≡ 4 }
     ensures { result ≡ from_be_bytes w32 head.now }
 {

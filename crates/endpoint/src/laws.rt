@@ -1,5 +1,7 @@
-//! What holds of every log that an end can stand for. The functions do nothing: the contract of each is its law.
+//! What holds of every log that an end can stand for, and of every history of many ends. The functions do nothing: the contract of each is its law.
 
+ghost use Rattle.endpoint.specs.Agreed.{EveryLawfulHistoryIsAgreed, EachEndStatesItsLog, EachPrefixIsAMoment, LogsKeepTheSame};
+ghost use Rattle.endpoint.specs.Complete.{AdmissibleKeyingsBear, KeyingsWithoutCauseOpen};
 ghost use Rattle.endpoint.specs.Laws.{EveryLogIsLawful, TheLedgerIsOfTheLog, UsesAreWithin};
 
 /// Each log that an end stands for is lawful: each of its entries meets its line of the table.
@@ -15,4 +17,26 @@ pub fn ledger_of_the_log()
 /// There are never more attempts and sessions than may be.
 pub fn uses_are_within()
     ensures { UsesAreWithin }
+{}
+
+/// Each history of ends of one group that is lawful, honest and fresh is agreed: at each moment, what its ends stated of their sessions with each other fits together.
+pub fn agreed()
+    ensures { EveryLawfulHistoryIsAgreed }
+{}
+
+/// What a history's list of facts, of which agreement speaks, has to do with the logs of its ends.
+pub fn agreed_logs()
+    ensures stated { EachEndStatesItsLog }
+    ensures moments { EachPrefixIsAMoment }
+    ensures kept { LogsKeepTheSame }
+{}
+
+/// Where an end takes a datagram whole whose first initiator's keying is admissible by its log, the session is born in that call, and its keying goes out directly after the Born.
+pub fn admissible_keyings_bear()
+    ensures { AdmissibleKeyingsBear }
+{}
+
+/// A responder's keying that nothing discards, under the session ID of an attempt, opens the attempt's session.
+pub fn keyings_without_cause_open()
+    ensures { KeyingsWithoutCauseOpen }
 {}

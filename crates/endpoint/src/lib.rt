@@ -6,9 +6,12 @@ mod answers;
 mod attempts;
 mod chunks;
 mod config;
+mod contexts;
 mod endpoint;
 mod entry;
+mod kept_sessions;
 mod keyings;
+mod kinds;
 pub mod laws;
 mod outbox;
 mod place;
@@ -19,6 +22,8 @@ mod session_ids;
 mod session_sending;
 mod sessions;
 #[cfg(test)]
+mod startup_tests;
+#[cfg(test)]
 mod tests;
 mod ticking;
 
@@ -26,4 +31,5 @@ pub use answers::{CallRefusal, OpenRefusal, Stopped};
 pub use config::{Config, Draws};
 pub use endpoint::Endpoint;
 pub use entry::Entry;
+pub use kinds::{Kinds, outgoing_kinds};
 pub use outbox::Outbox;

@@ -1,6 +1,6 @@
 //! Two ends by hand, datagram by datagram, and datagrams that a member of the group makes.
 
-use crate::{Config, Draws, Endpoint, Entry, Outbox};
+use crate::{Config, Draws, Endpoint, Entry, Outbox, outgoing_kinds};
 use crypto_profile::{Context, Keys, open_in_place, seal_in_place};
 use glare_core::Fact;
 use identity::{CertFault, Certificate, Epd};
@@ -9,13 +9,13 @@ use rtmfp_forms::Address;
 use std::alloc::{AllocError, Global};
 use std::test::Fail;
 
-const GROUP: [u8; 32] = [7; 32];
+pub(crate) const GROUP: [u8; 32] = [7; 32];
 
-const ANSWERER: &[u8] = b"0123456789abcdefanswerer";
+pub(crate) const ANSWERER: &[u8] = b"0123456789abcdefanswerer";
 
-const CALLER: &[u8] = b"0123456789abcdefcaller";
+pub(crate) const CALLER: &[u8] = b"0123456789abcdefcaller";
 
-fn end(alloc: Global, cert: &[u8]) -> Result<Endpoint, CertFault> {
+pub(crate) fn end(alloc: Global, cert: &[u8]) -> Result<Endpoint, CertFault> {
     let config = Config {
         max_peers: 16,
         max_sessions: 16,
@@ -25,18 +25,18 @@ fn end(alloc: Global, cert: &[u8]) -> Result<Endpoint, CertFault> {
     Ok(Endpoint::new(alloc, config, cert, GROUP, [9; 32]))
 }
 
-fn epd_of(cert: &[u8]) -> Result<Epd, CertFault> {
+pub(crate) fn epd_of(cert: &[u8]) -> Result<Epd, CertFault> {
     let cert = Certificate::read(cert)?;
     Ok(Epd {
         print: cert.print(),
     })
 }
 
-fn place(last: u8) -> Address {
+pub(crate) fn place(last: u8) -> Address {
     Address::v4([10, 0, 0, last], 1935)
 }
 
-fn draws(word: u32) -> Draws {
+pub(crate) fn draws(word: u32) -> Draws {
     let mut nonce = [0; 16];
     nonce[15] = (word % 256) as u8;
     Draws {
@@ -49,7 +49,7 @@ fn draws(word: u32) -> Draws {
 
 /// A datagram on its way.
 #[derive(Clone, Copy)]
-struct Letter {
+pub(crate) struct Letter {
     bytes: [u8; 2048],
     len: usize,
 }
@@ -121,7 +121,7 @@ fn last_of(out: &Outbox) -> Letter {
 }
 
 /// Gives a datagram to an end, and puts its last answer in the datagram's place; whether it did just this.
-fn passes(
+pub(crate) fn passes(
     alloc: Global,
     end: &mut Endpoint,
     from: u8,
@@ -141,7 +141,7 @@ fn passes(
 }
 
 /// An attempt of the caller's, and its first hello.
-fn hello_of(alloc: Global, caller: &mut Endpoint) -> Result<Letter, Fail> {
+pub(crate) fn hello_of(alloc: Global, caller: &mut Endpoint) -> Result<Letter, Fail> {
     let mut out = Outbox::new(alloc, 4).map_err(|_| AllocError)?;
     let epd = epd_of(ANSWERER)?;
     match caller.open(&epd, &[place(2)], 0, &draws(3), &mut out) {
@@ -183,7 +183,7 @@ fn what_is_no_datagram_of_the_group(rt: HostRuntime) -> Result<(), Fail> {
 }
 
 /// A datagram of this plain packet, sealed in a context under a session ID and a count.
-fn sealed(context: &Context, sid: u32, count: u64, plain: &[u8]) -> Letter {
+pub(crate) fn sealed(context: &Context, sid: u32, count: u64, plain: &[u8]) -> Letter {
     let mut letter = Letter::of(&[]);
     letter.len = 36 + plain.len().min(1200);
     for i in 0..plain.len().min(1200) {
@@ -204,7 +204,7 @@ fn sealed(context: &Context, sid: u32, count: u64, plain: &[u8]) -> Letter {
 }
 
 /// Gives an end a startup packet that a member made.
-fn answers(
+pub(crate) fn answers(
     alloc: Global,
     end: &mut Endpoint,
     plain: &[u8],
@@ -262,15 +262,21 @@ fn to_responder() -> Result<Context, CertFault> {
     })
 }
 
+/// Brings a caller and an answerer as far as the birth of a session; whether each did as expected.
+fn bears(alloc: Global, a: &mut Endpoint, b: &mut Endpoint) -> Result<bool, Fail> {
+    let mut letter = hello_of(alloc, a)?;
+    let hello = passes(alloc, b, 1, 4, &mut letter, "out 70; ")?;
+    let answer = passes(alloc, a, 2, 5, &mut letter, "out 38; ")?;
+    let keying = passes(alloc, b, 1, 6, &mut letter, "born 6 3; out 78; ")?;
+    Ok(hello && answer && keying)
+}
+
 #[test]
 fn pings_in_a_session(rt: HostRuntime) -> Result<(), Fail> {
     let alloc = rt.alloc();
     let mut a = end(alloc, CALLER)?;
     let mut b = end(alloc, ANSWERER)?;
-    let mut letter = hello_of(alloc, &mut a)?;
-    assert!(rt; passes(alloc, &mut b, 1, 4, &mut letter, "out 70; ")?);
-    assert!(rt; passes(alloc, &mut a, 2, 5, &mut letter, "out 38; ")?);
-    assert!(rt; passes(alloc, &mut b, 1, 6, &mut letter, "born 6 3; out 78; ")?);
+    assert!(rt; bears(alloc, &mut a, &mut b)?);
     let context = to_responder()?;
     let (plain, len) = ping_of(1024);
     let mut whole = sealed(&context, 6, 7, plain.get(..len).unwrap_or(&[]));
@@ -296,5 +302,48 @@ fn time_and_cancelling(rt: HostRuntime) -> Result<(), Fail> {
     assert!(rt; a.cancel(2, &mut out).is_err());
     assert!(rt; a.cancel(1, &mut out).is_ok());
     assert_eq!(rt; text_of(alloc, &out)?.as_str(), "ended 3 Cancelled; ");
+    Ok(())
+}
+
+/// The context in which an end opens a datagram.
+fn context_at(end: &Endpoint, letter: &Letter) -> Option<Context> {
+    end.opens_in(letter.bytes.get(..letter.len).unwrap_or(&[]))
+}
+
+#[test]
+fn where_datagrams_open(rt: HostRuntime) -> Result<(), Fail> {
+    let alloc = rt.alloc();
+    let mut a = end(alloc, CALLER)?;
+    let mut b = end(alloc, ANSWERER)?;
+    assert!(rt; bears(alloc, &mut a, &mut b)?);
+    let context = to_responder()?;
+    let hello = sealed(&Context::Startup, 0, 1, &[0x03]);
+    let answer = sealed(&Context::Startup, 3, 1, &[0x03]);
+    let ping = sealed(&context, 6, 7, &[0x01, 0x01, 0, 0]);
+    let mut taken = ping;
+    assert!(rt; context_at(&b, &hello) == Some(Context::Startup));
+    assert!(rt; context_at(&a, &answer) == Some(Context::Startup));
+    assert!(rt; context_at(&b, &answer).is_none());
+    assert!(rt; passes(alloc, &mut b, 1, 8, &mut taken, "confirmed 6; out 41; ")?);
+    assert!(rt; context_at(&b, &ping) == Some(context));
+    assert!(rt; context_at(&b, &sealed(&Context::Startup, 6, 8, &[0x01])).is_none());
+    Ok(())
+}
+
+/// The types of the chunks of a packet in one line.
+fn kinds_of(alloc: Global, plain: &[u8]) -> Result<String, AllocError> {
+    let mut text = String::new(alloc);
+    for kind in outgoing_kinds(plain) {
+        text.push_str(&format!(in alloc; "{kind:02x} ")?)?;
+    }
+    Ok(text)
+}
+
+#[test]
+fn the_types_of_chunks(rt: HostRuntime) -> Result<(), Fail> {
+    let alloc = rt.alloc();
+    let packet = [0x03, 0x30, 0, 1, 5, 0x00, 0, 0, 0x01, 0, 0, 0xff, 0, 2];
+    assert_eq!(rt; kinds_of(alloc, &packet)?.as_str(), "30 01 ");
+    assert_eq!(rt; kinds_of(alloc, &[0x00, 0x30, 0, 0])?.as_str(), "");
     Ok(())
 }

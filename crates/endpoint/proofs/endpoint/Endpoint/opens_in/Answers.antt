@@ -1,0 +1,5 @@
+use Rattle.endpoint.proofs.Opened.{opens_by_the_log}
+use Rattle.endpoint.proofs.endpoint.Endpoint.opens_in.Goals as goal
+
+pub returns-clause-log : goal.returns-clause-log
+returns-clause-log c = opens_by_the_log c.args.self.now c.args.datagram.now c.find_context.result c.find_context.ensures

@@ -1,0 +1,71 @@
+//! The context in which a datagram opens.
+
+ghost use Rattle.std.specs.Prelude.{◌≡◌, ◌≤◌, length};
+ghost use Rattle.std.specs.FinMap.{get};
+ghost use Rattle.endpoint.specs.OpensIn.{OpensByTheLog, context_in_session, context_in_startup, opens_in};
+
+use crate::admission::{PLAIN_AT, SEALED_AT, word_of};
+use crate::endpoint::Endpoint;
+use crate::place::Place;
+use crate::sessions;
+use crypto_profile::{Context, open_refusal};
+use packet_scramble::unscramble;
+
+impl Endpoint {
+    /// The context of a datagram's session ID at this end, where the datagram opens in it: startup for session ID 0 and that of an attempt, and a session's own, towards this end. None exactly where it opens in none.
+    ///
+    /// A datagram whose number was taken before opens, too. It takes no memory, and changes nothing.
+    pub fn opens_in(&self, datagram: &[u8]) -> Option<Context>
+        requires { length datagram.now ≤ 2048 }
+        ensures state { result ≡ opens_in self.now datagram.now }
+
+        // It is the context by what the end has stated, whatever log it stands for.
+        ensures log { OpensByTheLog self.now datagram.now result }
+    {
+        self.find_context(datagram)
+    }
+
+    /// The context in which a datagram opens, by what is kept.
+    fn find_context(&self, datagram: &[u8]) -> Option<Context>
+        ensures { result ≡ opens_in self.now datagram.now }
+    {
+        if datagram.len() < PLAIN_AT {
+            return None;
+        }
+        let (head, part) = datagram.split_at(SEALED_AT);
+        let sid = unscramble(word_of(head), part);
+        match self.place_of(sid) {
+            Some(Place::Startup) => self.context_in_startup(0, part),
+            Some(Place::Attempt(near)) => self.context_in_startup(near, part),
+            Some(Place::Session(near)) => self.context_in_session(near, part),
+            None => None,
+        }
+    }
+
+    /// The startup context, where a sealed part opens in it under this session ID.
+    fn context_in_startup(&self, sid: u32, part: &[u8]) -> Option<Context>
+        ensures { result ≡ context_in_startup self.now sid part.now }
+    {
+        match open_refusal(&self.keys, sid, part) {
+            None => Some(Context::Startup),
+            Some(_) => None,
+        }
+    }
+
+    /// A session's context towards this end, where a sealed part opens in it.
+    fn context_in_session(&self, near: u32, part: &[u8]) -> Option<Context>
+        ensures { result ≡ context_in_session (get self.now.sessions near) part.now }
+    {
+        match sessions::place_of(&self.sessions, near) {
+            Some(place) => {
+                let session = &self.sessions[place];
+                if session.opens(part) {
+                    Some(session.context(false))
+                } else {
+                    None
+                }
+            }
+            None => None,
+        }
+    }
+}
