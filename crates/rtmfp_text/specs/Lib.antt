@@ -1,0 +1,4 @@
+pub mod Words
+pub mod AddressText
+pub mod KindText
+pub mod Names
