@@ -1,0 +1,136 @@
+-- What a line may say is read.
+use Rattle.std.proofs.Common.{◌≡◌, ℕ, ◌^◌, ◌<◌, ◌≤◌, true, List, [], ◌∷◌, ◌++◌, length, map, Option, Some, refl, ap, ◌∙◌, arith}
+use Rattle.std.specs.Prelude.{decimal, nat_le}
+use Rattle.std.proofs.lemmas.Bool.{le-leb}
+use Rattle.rtmfp_forms.specs.Address.{AddressParts}
+use Rattle.rtmfp_text.specs.AddressText.{address_text}
+use Rattle.rtmfp_text.specs.Words.{bytes_text}
+use Rattle.rtmfp_script.specs.declared.line.ScriptLine.{ScriptLine}
+use Rattle.rtmfp_script.specs.declared.line.ScriptLine.TheVariants.{End, At, Open, Cancel, Tick, Deliver, Bent, Inject, Forge}
+use Rattle.rtmfp_script.specs.Grammar.{IsName, IsCert, IsPlace, IsBytesUpTo, EachIsPlace, IsWithin, IsLineOf, line_text, words_text, line_limit}
+use Rattle.rtmfp_script.specs.Fields.{split_of, ◌>>=◌}
+use Rattle.rtmfp_script.specs.Lines.{end_of, at_of, open_of, open_to, cancel_of, tick_of, deliver_of, bent_of, inject_of, forge_of, word_of, step_of}
+use Rattle.rtmfp_script.proofs.Splits.{split_text, split_nothing}
+use Rattle.rtmfp_script.proofs.Numbers.{number_of-decimal, number_below-decimal}
+use Rattle.rtmfp_script.proofs.Digits.{bytes_of-text}
+use Rattle.rtmfp_script.proofs.NamesRead.{name_of-name, lacks_name, cert_of-cert}
+use Rattle.rtmfp_script.proofs.Addresses.{place_of-text, lacks_address, lacks_low}
+use Rattle.rtmfp_script.proofs.PlacesRead.{places_of-text}
+
+end_read : (name : List ℕ) (peers sessions : ℕ) (cert : List ℕ) → IsName name → peers < 2 ^ 32 → sessions < 2 ^ 32 → IsCert cert →
+    end_of (name ++ 32 ∷ (decimal peers ++ 32 ∷ (decimal sessions ++ 32 ∷ cert))) ≡ Some (End name peers sessions cert)
+unfolding end_of
+end_read name peers sessions cert n p s c =
+    let lacks_p = lacks_low 32 peers (omega arith) (omega arith) in
+    let lacks_s = lacks_low 32 sessions (omega arith) (omega arith) in
+    rw (
+      split_text 32 name (decimal peers ++ 32 ∷ (decimal sessions ++ 32 ∷ cert)) (lacks_name name n),
+      split_text 32 (decimal peers) (decimal sessions ++ 32 ∷ cert) lacks_p,
+      split_text 32 (decimal sessions) cert lacks_s,
+      name_of-name name n,
+      number_below-decimal (2 ^ 32) peers (omega arith) p,
+      number_below-decimal (2 ^ 32) sessions (omega arith) s,
+      cert_of-cert cert c,
+    ) refl
+
+at_read : (moment : ℕ) → moment < 2 ^ 64 → at_of (decimal moment) ≡ Some (At moment)
+unfolding at_of
+at_read moment m = rw (number_of-decimal moment m) refl
+
+cancel_read : (name : List ℕ) (number : ℕ) → IsName name → number < 2 ^ 64 → cancel_of (name ++ 32 ∷ decimal number) ≡ Some (Cancel name number)
+unfolding cancel_of
+cancel_read name number n m = rw (split_text 32 name (decimal number) (lacks_name name n), name_of-name name n, number_of-decimal number m) refl
+
+tick_read : (name : List ℕ) → IsName name → tick_of name ≡ Some (Tick name)
+unfolding tick_of
+tick_read name n = rw (name_of-name name n) refl
+
+deliver_read : (number : ℕ) (name : List ℕ) (from : AddressParts) → number < 2 ^ 64 → IsName name → IsPlace from →
+    deliver_of (decimal number ++ 32 ∷ (name ++ 32 ∷ address_text from)) ≡ Some (Deliver number name from)
+unfolding deliver_of
+deliver_read number name from m n f =
+    rw (
+      split_text 32 (decimal number) (name ++ 32 ∷ address_text from) (lacks_low 32 number (omega arith) m),
+      split_text 32 name (address_text from) (lacks_name name n),
+      number_of-decimal number m,
+      name_of-name name n,
+      place_of-text from f,
+    ) refl
+
+bent_read : (number place : ℕ) (name : List ℕ) (from : AddressParts) → number < 2 ^ 64 → place < 2 ^ 64 → IsName name → IsPlace from →
+    bent_of (decimal number ++ 32 ∷ (decimal place ++ 32 ∷ (name ++ 32 ∷ address_text from))) ≡ Some (Bent number place name from)
+unfolding bent_of
+bent_read number place name from m p n f =
+    rw (
+      split_text 32 (decimal number) (decimal place ++ 32 ∷ (name ++ 32 ∷ address_text from)) (lacks_low 32 number (omega arith) m),
+      split_text 32 (decimal place) (name ++ 32 ∷ address_text from) (lacks_low 32 place (omega arith) p),
+      split_text 32 name (address_text from) (lacks_name name n),
+      number_of-decimal number m,
+      number_of-decimal place p,
+      name_of-name name n,
+      place_of-text from f,
+    ) refl
+
+inject_read : (name : List ℕ) (from : AddressParts) (bytes : List ℕ) → IsName name → IsPlace from → IsBytesUpTo 2048 bytes →
+    inject_of (name ++ 32 ∷ (address_text from ++ 32 ∷ bytes_text bytes)) ≡ Some (Inject name from bytes)
+unfolding inject_of
+inject_read name from bytes n f b =
+    rw (
+      split_text 32 name (address_text from ++ 32 ∷ bytes_text bytes) (lacks_name name n),
+      split_text 32 (address_text from) (bytes_text bytes) (lacks_address from f),
+      name_of-name name n,
+      place_of-text from f,
+      bytes_of-text 2048 bytes b,
+    ) refl
+
+forge_read : (name : List ℕ) (from : AddressParts) (bytes : List ℕ) → IsName name → IsPlace from → IsBytesUpTo 1164 bytes →
+    forge_of (name ++ 32 ∷ (address_text from ++ 32 ∷ bytes_text bytes)) ≡ Some (Forge name from bytes)
+unfolding forge_of
+forge_read name from bytes n f b =
+    rw (
+      split_text 32 name (address_text from ++ 32 ∷ bytes_text bytes) (lacks_name name n),
+      split_text 32 (address_text from) (bytes_text bytes) (lacks_address from f),
+      name_of-name name n,
+      place_of-text from f,
+      bytes_of-text 1164 bytes b,
+    ) refl
+
+open_alone : (name peer : List ℕ) → IsName name → IsName peer → open_of (name ++ 32 ∷ peer) ≡ Some (Open name peer [])
+unfolding open_of open_to
+open_alone name peer n p = rw (split_text 32 name peer (lacks_name name n), name_of-name name n, split_nothing 32 peer (lacks_name peer p), name_of-name peer p) refl
+
+open_read : (name peer : List ℕ) (first : AddressParts) (more : List AddressParts) → IsName name → IsName peer → length (first ∷ more) ≤ 32 → EachIsPlace (first ∷ more) →
+    open_of (name ++ 32 ∷ (peer ++ 32 ∷ words_text (map address_text (first ∷ more)))) ≡ Some (Open name peer (first ∷ more))
+unfolding open_of open_to
+open_read name peer first more n p few good =
+    rw (
+      split_text 32 name (peer ++ 32 ∷ words_text (map address_text (first ∷ more))) (lacks_name name n),
+      name_of-name name n,
+      split_text 32 peer (words_text (map address_text (first ∷ more))) (lacks_name peer p),
+      name_of-name peer p,
+      places_of-text first more few good,
+    ) refl
+
+-- ---- by the first word
+
+abbrev cut_of : List ℕ → Option ScriptLine
+cut_of line = split_of 32 line >>= λ a. word_of a.0 a.1
+
+said_read : (said : ScriptLine) → IsWithin said → cut_of (line_text said) ≡ Some said
+unfolding split_of word_of
+said_read (End name peers sessions cert) w = end_read name peers sessions cert w.0 w.1 w.2 w.3
+said_read (At moment) m = at_read moment m
+said_read (Open name peer []) w = open_alone name peer w.0 w.1
+said_read (Open name peer (first ∷ more)) w = open_read name peer first more w.0 w.1 w.2 w.3
+said_read (Cancel name number) w = cancel_read name number w.0 w.1
+said_read (Tick name) n = tick_read name n
+said_read (Deliver number name from) w = deliver_read number name from w.0 w.1 w.2
+said_read (Bent number place name from) w = bent_read number place name from w.0 w.1 w.2 w.3
+said_read (Inject name from bytes) w = inject_read name from bytes w.0 w.1 w.2
+said_read (Forge name from bytes) w = forge_read name from bytes w.0 w.1 w.2
+
+pub step_complete : (line : List ℕ) (said : ScriptLine) → IsLineOf line said → step_of line ≡ Some said
+unfolding step_of
+step_complete line said is =
+    let fits : nat_le (length line) line_limit ≡ true = le-leb _ _ is.fits in
+    rw fits (ap cut_of is.text ∙ said_read said is.within)

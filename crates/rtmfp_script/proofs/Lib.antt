@@ -1,0 +1,10 @@
+pub mod Splits
+pub mod Numbers
+pub mod Digits
+pub mod PlaceSteps
+pub mod NamesRead
+pub mod Addresses
+pub mod PlacesRead
+pub mod Sound
+pub mod Complete
+pub mod Saying

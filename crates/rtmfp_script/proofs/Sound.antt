@@ -1,0 +1,239 @@
+-- What was read of a line is what it says.
+use Rattle.std.proofs.Common.{◌≡◌, ℕ, ◌^◌, ◌≤◌, true, List, [], ◌∷◌, ◌++◌, length, map, Option, Some, None, refl, sym, ap, ◌∙◌, subst, arith, inl, inr}
+use Rattle.std.specs.Prelude.{codes, nat_le, if◌then◌else◌}
+use Rattle.std.specs.Str.{bytes_eq}
+use Rattle.std.proofs.lemmas.Bool.{cases_Bool, leb-true}
+use Rattle.std.proofs.lemmas.Slice.Eq.{bytes_eq-Decides}
+use Rattle.rtmfp_forms.specs.Address.{AddressParts}
+use Rattle.rtmfp_text.specs.AddressText.{address_text}
+use Rattle.rtmfp_script.specs.declared.line.ScriptLine.{ScriptLine}
+use Rattle.rtmfp_script.specs.declared.line.ScriptLine.TheVariants.{Open}
+use Rattle.rtmfp_script.specs.Grammar.{IsName, EachIsPlace, IsWithin, IsLineOf, line_text, words_text, line_limit}
+use Rattle.rtmfp_script.specs.Fields.{split_of, name_of, cert_of, number_of, number_below, bytes_of, place_of, places_of, either, ◌>>=◌}
+use Rattle.rtmfp_script.specs.Lines.{end_of, at_of, open_of, open_to, cancel_of, tick_of, deliver_of, bent_of, inject_of, forge_of, word_of, step_of}
+use Rattle.rtmfp_script.proofs.Splits.{some_some, bind_some, split_joined}
+use Rattle.rtmfp_script.proofs.Numbers.{number_of-some, number_below-some}
+use Rattle.rtmfp_script.proofs.Digits.{bytes_of-some}
+use Rattle.rtmfp_script.proofs.NamesRead.{rejoin, name_of-some, cert_of-some}
+use Rattle.rtmfp_script.proofs.Addresses.{place_of-some}
+use Rattle.rtmfp_script.proofs.PlacesRead.{places_of-some}
+
+-- a word, and what stands behind its space, say this
+pub record IsSaid (word rest : List ℕ) (said : ScriptLine) : Type 0 where
+  pub text : word ++ 32 ∷ rest ≡ line_text said
+  pub within : IsWithin said
+
+-- the word in front
+after : (word rest behind : List ℕ) → rest ≡ behind → word ++ 32 ∷ rest ≡ word ++ 32 ∷ behind
+after word rest behind e = ap (λ xs. word ++ 32 ∷ xs) e
+
+end_sound : (rest : List ℕ) (said : ScriptLine) → end_of rest ≡ Some said → IsSaid (codes "end") rest said
+unfolding end_of
+end_sound rest said h =
+    let a = bind_some (split_of 32 rest) _ said h in
+    let b = bind_some (split_of 32 a.0.1) _ said a.2 in
+    let c = bind_some (split_of 32 b.0.1) _ said b.2 in
+    let name = bind_some (name_of a.0.0) _ said c.2 in
+    let peers = bind_some (number_below (2 ^ 32) b.0.0) _ said name.2 in
+    let sessions = bind_some (number_below (2 ^ 32) c.0.0) _ said peers.2 in
+    let cert = bind_some (cert_of c.0.1) _ said sessions.2 in
+    let n = name_of-some a.0.0 name.0 name.1 in
+    let p = number_below-some (2 ^ 32) b.0.0 peers.0 peers.1 in
+    let s = number_below-some (2 ^ 32) c.0.0 sessions.0 sessions.1 in
+    let t = cert_of-some c.0.1 cert.0 cert.1 in
+    subst (IsSaid (codes "end") rest) (some_some _ _ cert.2) (record {
+      text = after (codes "end") rest _
+          (rejoin 32 rest a.0.0 a.0.1 _ _ (split_joined 32 rest a.0 a.1) n.0
+          (rejoin 32 a.0.1 b.0.0 b.0.1 _ _ (split_joined 32 a.0.1 b.0 b.1) p.0
+          (rejoin 32 b.0.1 c.0.0 c.0.1 _ _ (split_joined 32 b.0.1 c.0 c.1) s.0 t.0)));
+      within = (n.1, p.1, s.1, t.1);
+    })
+
+at_sound : (rest : List ℕ) (said : ScriptLine) → at_of rest ≡ Some said → IsSaid (codes "at") rest said
+unfolding at_of
+at_sound rest said h =
+    let moment = bind_some (number_of rest) _ said h in
+    let m = number_of-some rest moment.0 moment.1 in
+    subst (IsSaid (codes "at") rest) (some_some _ _ moment.2) (record { text = after (codes "at") rest _ m.0; within = m.1 })
+
+cancel_sound : (rest : List ℕ) (said : ScriptLine) → cancel_of rest ≡ Some said → IsSaid (codes "cancel") rest said
+unfolding cancel_of
+cancel_sound rest said h =
+    let a = bind_some (split_of 32 rest) _ said h in
+    let name = bind_some (name_of a.0.0) _ said a.2 in
+    let number = bind_some (number_of a.0.1) _ said name.2 in
+    let n = name_of-some a.0.0 name.0 name.1 in
+    let m = number_of-some a.0.1 number.0 number.1 in
+    subst (IsSaid (codes "cancel") rest) (some_some _ _ number.2) (record {
+      text = after (codes "cancel") rest _ (rejoin 32 rest a.0.0 a.0.1 _ _ (split_joined 32 rest a.0 a.1) n.0 m.0);
+      within = (n.1, m.1);
+    })
+
+tick_sound : (rest : List ℕ) (said : ScriptLine) → tick_of rest ≡ Some said → IsSaid (codes "tick") rest said
+unfolding tick_of
+tick_sound rest said h =
+    let name = bind_some (name_of rest) _ said h in
+    let n = name_of-some rest name.0 name.1 in
+    subst (IsSaid (codes "tick") rest) (some_some _ _ name.2) (record { text = after (codes "tick") rest _ n.0; within = n.1 })
+
+deliver_sound : (rest : List ℕ) (said : ScriptLine) → deliver_of rest ≡ Some said → IsSaid (codes "deliver") rest said
+unfolding deliver_of
+deliver_sound rest said h =
+    let a = bind_some (split_of 32 rest) _ said h in
+    let b = bind_some (split_of 32 a.0.1) _ said a.2 in
+    let number = bind_some (number_of a.0.0) _ said b.2 in
+    let name = bind_some (name_of b.0.0) _ said number.2 in
+    let from = bind_some (place_of b.0.1) _ said name.2 in
+    let m = number_of-some a.0.0 number.0 number.1 in
+    let n = name_of-some b.0.0 name.0 name.1 in
+    let f = place_of-some b.0.1 from.0 from.1 in
+    subst (IsSaid (codes "deliver") rest) (some_some _ _ from.2) (record {
+      text = after (codes "deliver") rest _
+          (rejoin 32 rest a.0.0 a.0.1 _ _ (split_joined 32 rest a.0 a.1) m.0
+          (rejoin 32 a.0.1 b.0.0 b.0.1 _ _ (split_joined 32 a.0.1 b.0 b.1) n.0 f.0));
+      within = (m.1, n.1, f.1);
+    })
+
+bent_sound : (rest : List ℕ) (said : ScriptLine) → bent_of rest ≡ Some said → IsSaid (codes "bent") rest said
+unfolding bent_of
+bent_sound rest said h =
+    let a = bind_some (split_of 32 rest) _ said h in
+    let b = bind_some (split_of 32 a.0.1) _ said a.2 in
+    let c = bind_some (split_of 32 b.0.1) _ said b.2 in
+    let number = bind_some (number_of a.0.0) _ said c.2 in
+    let place = bind_some (number_of b.0.0) _ said number.2 in
+    let name = bind_some (name_of c.0.0) _ said place.2 in
+    let from = bind_some (place_of c.0.1) _ said name.2 in
+    let m = number_of-some a.0.0 number.0 number.1 in
+    let p = number_of-some b.0.0 place.0 place.1 in
+    let n = name_of-some c.0.0 name.0 name.1 in
+    let f = place_of-some c.0.1 from.0 from.1 in
+    subst (IsSaid (codes "bent") rest) (some_some _ _ from.2) (record {
+      text = after (codes "bent") rest _
+          (rejoin 32 rest a.0.0 a.0.1 _ _ (split_joined 32 rest a.0 a.1) m.0
+          (rejoin 32 a.0.1 b.0.0 b.0.1 _ _ (split_joined 32 a.0.1 b.0 b.1) p.0
+          (rejoin 32 b.0.1 c.0.0 c.0.1 _ _ (split_joined 32 b.0.1 c.0 c.1) n.0 f.0)));
+      within = (m.1, p.1, n.1, f.1);
+    })
+
+inject_sound : (rest : List ℕ) (said : ScriptLine) → inject_of rest ≡ Some said → IsSaid (codes "inject") rest said
+unfolding inject_of
+inject_sound rest said h =
+    let a = bind_some (split_of 32 rest) _ said h in
+    let b = bind_some (split_of 32 a.0.1) _ said a.2 in
+    let name = bind_some (name_of a.0.0) _ said b.2 in
+    let from = bind_some (place_of b.0.0) _ said name.2 in
+    let bytes = bind_some (bytes_of 2048 b.0.1) _ said from.2 in
+    let n = name_of-some a.0.0 name.0 name.1 in
+    let f = place_of-some b.0.0 from.0 from.1 in
+    let x = bytes_of-some 2048 b.0.1 bytes.0 bytes.1 in
+    subst (IsSaid (codes "inject") rest) (some_some _ _ bytes.2) (record {
+      text = after (codes "inject") rest _
+          (rejoin 32 rest a.0.0 a.0.1 _ _ (split_joined 32 rest a.0 a.1) n.0
+          (rejoin 32 a.0.1 b.0.0 b.0.1 _ _ (split_joined 32 a.0.1 b.0 b.1) f.0 x.0));
+      within = (n.1, f.1, x.1);
+    })
+
+forge_sound : (rest : List ℕ) (said : ScriptLine) → forge_of rest ≡ Some said → IsSaid (codes "forge") rest said
+unfolding forge_of
+forge_sound rest said h =
+    let a = bind_some (split_of 32 rest) _ said h in
+    let b = bind_some (split_of 32 a.0.1) _ said a.2 in
+    let name = bind_some (name_of a.0.0) _ said b.2 in
+    let from = bind_some (place_of b.0.0) _ said name.2 in
+    let bytes = bind_some (bytes_of 1164 b.0.1) _ said from.2 in
+    let n = name_of-some a.0.0 name.0 name.1 in
+    let f = place_of-some b.0.0 from.0 from.1 in
+    let x = bytes_of-some 1164 b.0.1 bytes.0 bytes.1 in
+    subst (IsSaid (codes "forge") rest) (some_some _ _ bytes.2) (record {
+      text = after (codes "forge") rest _
+          (rejoin 32 rest a.0.0 a.0.1 _ _ (split_joined 32 rest a.0 a.1) n.0
+          (rejoin 32 a.0.1 b.0.0 b.0.1 _ _ (split_joined 32 a.0.1 b.0 b.1) f.0 x.0));
+      within = (n.1, f.1, x.1);
+    })
+
+-- ---- open
+
+-- a peer, and the addresses behind it
+record IsPeer (name rest : List ℕ) (said : ScriptLine) : Type 0 where
+  peer : List ℕ
+  places : List AddressParts
+  is : Open name peer places ≡ said
+  text : rest ≡ words_text (peer ∷ map address_text places)
+  peer_is : IsName peer
+  few : length places ≤ 32
+  good : EachIsPlace places
+
+peer_by : (name rest : List ℕ) (said : ScriptLine) (o : Option (List ℕ × List ℕ)) → split_of 32 rest ≡ o →
+    either (name_of rest >>= λ peer. Some (Open name peer [])) (λ parts. name_of parts.0 >>= λ peer. places_of parts.1 >>= λ places. Some (Open name peer places)) o ≡ Some said → IsPeer name rest said
+peer_by name rest said None cut h =
+    let peer = bind_some (name_of rest) (λ peer. Some (Open name peer [])) said h in
+    let p = name_of-some rest peer.0 peer.1 in
+    record { peer = peer.0; places = []; is = some_some _ _ peer.2; text = p.0; peer_is = p.1; few = omega arith; good = tt }
+peer_by name rest said (Some parts) cut h =
+    let peer = bind_some (name_of parts.0) (λ peer. places_of parts.1 >>= λ places. Some (Open name peer places)) said h in
+    let places = bind_some (places_of parts.1) (λ places. Some (Open name peer.0 places)) said peer.2 in
+    let p = name_of-some parts.0 peer.0 peer.1 in
+    let l = places_of-some parts.1 places.0 places.1 in
+    record {
+      peer = peer.0;
+      places = places.0;
+      is = some_some _ _ places.2;
+      text = rejoin 32 rest parts.0 parts.1 peer.0 parts.1 (split_joined 32 rest parts cut) p.0 refl ∙ sym (l.text_is peer.0);
+      peer_is = p.1;
+      few = l.few;
+      good = l.good;
+    }
+
+peer_sound : (name rest : List ℕ) (said : ScriptLine) → open_to name rest ≡ Some said → IsPeer name rest said
+unfolding open_to
+peer_sound name rest said h = peer_by name rest said (split_of 32 rest) refl h
+
+open_sound : (rest : List ℕ) (said : ScriptLine) → open_of rest ≡ Some said → IsSaid (codes "open") rest said
+unfolding open_of
+open_sound rest said h =
+    let a = bind_some (split_of 32 rest) _ said h in
+    let name = bind_some (name_of a.0.0) _ said a.2 in
+    let n = name_of-some a.0.0 name.0 name.1 in
+    let p = peer_sound name.0 a.0.1 said name.2 in
+    subst (IsSaid (codes "open") rest) p.is (record {
+      text = after (codes "open") rest _ (rejoin 32 rest a.0.0 a.0.1 _ _ (split_joined 32 rest a.0 a.1) n.0 p.text);
+      within = (n.1, p.peer_is, p.few, p.good);
+    })
+
+-- ---- by the first word
+
+-- the word is this one, or another
+is_word : (word key : List ℕ) → bytes_eq word key ≡ true → word ≡ key
+is_word word key h = grind (arith, bytes_eq-Decides)
+
+-- one key more
+by : (word rest : List ℕ) (said : ScriptLine) (key : List ℕ) (here other : Option ScriptLine) → (here ≡ Some said → IsSaid key rest said) → (other ≡ Some said → IsSaid word rest said) →
+    (if bytes_eq word key then here else other) ≡ Some said → IsSaid word rest said
+by word rest said key here other sound later h = elim (cases_Bool (bytes_eq word key)) [
+  | inl is ↦ subst (λ (w : List ℕ). IsSaid w rest said) (sym (is_word word key is)) (sound (rw is at h))
+  | inr not ↦ later (rw not at h)
+]
+
+pub word_sound : (word rest : List ℕ) (said : ScriptLine) → word_of word rest ≡ Some said → IsSaid word rest said
+unfolding word_of
+word_sound word rest said =
+    by word rest said (codes "end") (end_of rest) _ (end_sound rest said)
+    (by word rest said (codes "at") (at_of rest) _ (at_sound rest said)
+    (by word rest said (codes "open") (open_of rest) _ (open_sound rest said)
+    (by word rest said (codes "cancel") (cancel_of rest) _ (cancel_sound rest said)
+    (by word rest said (codes "tick") (tick_of rest) _ (tick_sound rest said)
+    (by word rest said (codes "deliver") (deliver_of rest) _ (deliver_sound rest said)
+    (by word rest said (codes "bent") (bent_of rest) _ (bent_sound rest said)
+    (by word rest said (codes "inject") (inject_of rest) _ (inject_sound rest said)
+    (by word rest said (codes "forge") (forge_of rest) None (forge_sound rest said) (λ h. absurd (cc h))))))))))
+
+pub step_sound : (line : List ℕ) (said : ScriptLine) → step_of line ≡ Some said → IsLineOf line said
+unfolding step_of
+step_sound line said h = elim (cases_Bool (nat_le (length line) line_limit)) [
+  | inl fits ↦
+      let a = bind_some (split_of 32 line) (λ a. word_of a.0 a.1) said (rw fits at h) in
+      let is = word_sound a.0.0 a.0.1 said a.2 in
+      record { text = split_joined 32 line a.0 a.1 ∙ is.text; within = is.within; fits = leb-true _ _ fits }
+  | inr long ↦ absurd (let none : None ≡ Some said = rw long at h in cc)
+]

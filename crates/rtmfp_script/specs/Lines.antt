@@ -1,0 +1,109 @@
+-- How a line is read, as a function.
+use Rattle.std.specs.Prelude.{ℕ, ◌^◌, nat_le, List, [], length, codes, Option, Some, None, if◌then◌else◌}
+use Rattle.std.specs.Str.{bytes_eq}
+use Rattle.rtmfp_script.specs.declared.line.ScriptLine.{ScriptLine}
+use Rattle.rtmfp_script.specs.declared.line.ScriptLine.TheVariants.{End, At, Open, Cancel, Tick, Deliver, Bent, Inject, Forge}
+use Rattle.rtmfp_script.specs.declared.line.Said.{Said}
+use Rattle.rtmfp_script.specs.declared.line.Said.TheVariants.{Nothing, Step, Outside}
+use Rattle.rtmfp_script.specs.Grammar.{IsLineOf, IsSkipped, TakesMemory, line_limit}
+use Rattle.rtmfp_script.specs.Fields.{split_of, name_of, cert_of, number_of, number_below, bytes_of, place_of, places_of, either, ◌>>=◌}
+
+-- what stands behind the first word of a line
+unfoldable pub end_of : List ℕ → Option ScriptLine
+end_of rest =
+    split_of 32 rest >>= λ a.
+    split_of 32 a.1 >>= λ b.
+    split_of 32 b.1 >>= λ c.
+    name_of a.0 >>= λ name.
+    number_below (2 ^ 32) b.0 >>= λ peers.
+    number_below (2 ^ 32) c.0 >>= λ sessions.
+    cert_of c.1 >>= λ cert.
+    Some (End name peers sessions cert)
+
+unfoldable pub at_of : List ℕ → Option ScriptLine
+at_of rest = number_of rest >>= λ moment. Some (At moment)
+
+unfoldable pub open_to : List ℕ → List ℕ → Option ScriptLine
+open_to name rest = either
+    (name_of rest >>= λ peer. Some (Open name peer []))
+    (λ parts. name_of parts.0 >>= λ peer. places_of parts.1 >>= λ places. Some (Open name peer places))
+    (split_of 32 rest)
+
+unfoldable pub open_of : List ℕ → Option ScriptLine
+open_of rest = split_of 32 rest >>= λ a. name_of a.0 >>= λ name. open_to name a.1
+
+unfoldable pub cancel_of : List ℕ → Option ScriptLine
+cancel_of rest =
+    split_of 32 rest >>= λ a.
+    name_of a.0 >>= λ name.
+    number_of a.1 >>= λ number.
+    Some (Cancel name number)
+
+unfoldable pub tick_of : List ℕ → Option ScriptLine
+tick_of rest = name_of rest >>= λ name. Some (Tick name)
+
+unfoldable pub deliver_of : List ℕ → Option ScriptLine
+deliver_of rest =
+    split_of 32 rest >>= λ a.
+    split_of 32 a.1 >>= λ b.
+    number_of a.0 >>= λ number.
+    name_of b.0 >>= λ name.
+    place_of b.1 >>= λ from.
+    Some (Deliver number name from)
+
+unfoldable pub bent_of : List ℕ → Option ScriptLine
+bent_of rest =
+    split_of 32 rest >>= λ a.
+    split_of 32 a.1 >>= λ b.
+    split_of 32 b.1 >>= λ c.
+    number_of a.0 >>= λ number.
+    number_of b.0 >>= λ place.
+    name_of c.0 >>= λ name.
+    place_of c.1 >>= λ from.
+    Some (Bent number place name from)
+
+unfoldable pub inject_of : List ℕ → Option ScriptLine
+inject_of rest =
+    split_of 32 rest >>= λ a.
+    split_of 32 a.1 >>= λ b.
+    name_of a.0 >>= λ name.
+    place_of b.0 >>= λ from.
+    bytes_of 2048 b.1 >>= λ bytes.
+    Some (Inject name from bytes)
+
+unfoldable pub forge_of : List ℕ → Option ScriptLine
+forge_of rest =
+    split_of 32 rest >>= λ a.
+    split_of 32 a.1 >>= λ b.
+    name_of a.0 >>= λ name.
+    place_of b.0 >>= λ from.
+    bytes_of 1164 b.1 >>= λ bytes.
+    Some (Forge name from bytes)
+
+-- by the first word, and what stands behind its space
+unfoldable pub word_of : List ℕ → List ℕ → Option ScriptLine
+word_of word rest =
+    if bytes_eq word (codes "end") then end_of rest
+    else if bytes_eq word (codes "at") then at_of rest
+    else if bytes_eq word (codes "open") then open_of rest
+    else if bytes_eq word (codes "cancel") then cancel_of rest
+    else if bytes_eq word (codes "tick") then tick_of rest
+    else if bytes_eq word (codes "deliver") then deliver_of rest
+    else if bytes_eq word (codes "bent") then bent_of rest
+    else if bytes_eq word (codes "inject") then inject_of rest
+    else if bytes_eq word (codes "forge") then forge_of rest
+    else None
+
+unfoldable pub step_of : List ℕ → Option ScriptLine
+step_of line = if nat_le (length line) line_limit then (split_of 32 line >>= λ a. word_of a.0 a.1) else None
+
+-- it is a step, and takes memory
+abbrev pub StepTakesMemory : Option ScriptLine → Type 0
+StepTakesMemory None = ⊥
+StepTakesMemory (Some said) = TakesMemory said
+
+-- what is said of a line
+abbrev pub Says : List ℕ → Said → Type 0
+Says line Nothing = IsSkipped line
+Says line (Step said) = IsLineOf line said
+Says line Outside = (IsSkipped line → ⊥) × ((said : ScriptLine) → IsLineOf line said → ⊥)

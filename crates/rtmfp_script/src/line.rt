@@ -1,0 +1,150 @@
+//! What a line of a script says.
+ghost use Rattle.std.specs.Prelude.{◌≡◌, ◌≤◌, ◌<◌, ◌++◌, ◌∷◌, [], length};
+
+use identity::Certificate;
+use rtmfp_base::Message;
+use rtmfp_forms::Address;
+use rtmfp_text::Name;
+use std::marker::Model;
+
+/// The most addresses of an `open` (own).
+pub(crate) const MOST_PLACES: usize = 32;
+
+/// At most 32 addresses, in the order of the line.
+#[derive(Drop)]
+pub struct Places {
+    kept: [Address; MOST_PLACES],
+    count: usize,
+}
+
+impl Model for Places {
+    ghost use Rattle.std.specs.Prelude.{◌≤◌, List, take};
+    ghost use Rattle.rtmfp_forms.specs.Address.{AddressParts};
+
+    ghost Value = { List AddressParts };
+
+    ghost view = { λ p. take p.count p.kept };
+
+    ghost invariant = { λ p. p.count ≤ 32 };
+}
+
+impl Places {
+    /// No address.
+    pub(crate) fn new() -> Places
+        ensures { result ≡ [] }
+    {
+        Places {
+            kept: [Address::v4([0; 4], 0); MOST_PLACES],
+            count: 0,
+        }
+    }
+
+    /// Adds an address behind the others.
+    pub(crate) fn push(&mut self, place: Address)
+        requires { length self.old < 32 }
+        ensures { self.new ≡ self.old ++ place ∷ [] }
+    {
+        self.kept[self.count] = place;
+        self.count += 1;
+    }
+
+    /// The addresses.
+    pub fn as_slice(&self) -> &[Address]
+        ensures same { result.now ≡ self.now }
+        ensures few { length self.now ≤ 32 }
+    {
+        let (front, _) = self.kept.split_at(self.count);
+        front
+    }
+}
+
+/// What a line of a script says: one step (own form). Addresses have origin 0.
+#[derive(Drop)]
+pub enum ScriptLine {
+    /// `end NAME P S CERT`: a new end.
+    End {
+        /// What the script calls it.
+        name: Name,
+        /// The most peers that it keeps.
+        peers: u32,
+        /// The most sessions that it keeps.
+        sessions: u32,
+        /// Its certificate.
+        cert: Certificate,
+    },
+    /// `at MS`: the moment of all ends from now on, in milliseconds.
+    At {
+        /// The moment.
+        moment: u64,
+    },
+    /// `open NAME PEER ADDR ...`: the end opens towards the peer.
+    Open {
+        /// The end.
+        name: Name,
+        /// The end that is sought.
+        peer: Name,
+        /// Where to try.
+        places: Places,
+    },
+    /// `cancel NAME N`: the end gives an attempt up.
+    Cancel {
+        /// The end.
+        name: Name,
+        /// The number of the attempt.
+        number: u64,
+    },
+    /// `tick NAME`: the end does what is due.
+    Tick {
+        /// The end.
+        name: Name,
+    },
+    /// `deliver D NAME ADDR`: a datagram that was sent reaches an end.
+    Deliver {
+        /// Which of the datagrams of the run, counted from 1.
+        number: u64,
+        /// The end.
+        name: Name,
+        /// Where it comes from.
+        from: Address,
+    },
+    /// `bent D PLACE NAME ADDR`: the same with the lowest bit of one byte turned.
+    Bent {
+        /// Which of the datagrams of the run, counted from 1.
+        number: u64,
+        /// The place of the byte, counted from 0.
+        place: u64,
+        /// The end.
+        name: Name,
+        /// Where it comes from.
+        from: Address,
+    },
+    /// `inject NAME ADDR HEX`: these bytes reach an end.
+    Inject {
+        /// The end.
+        name: Name,
+        /// Where they come from.
+        from: Address,
+        /// At most 2,048 bytes.
+        bytes: Message,
+    },
+    /// `forge NAME ADDR HEX`: this plain packet, sealed in the startup context, reaches an end.
+    Forge {
+        /// The end.
+        name: Name,
+        /// Where it comes from.
+        from: Address,
+        /// At most 1,164 bytes.
+        bytes: Message,
+    },
+}
+
+/// What is said of a line.
+#[derive(Drop)]
+pub enum Said {
+    /// Nothing: it is empty or a comment.
+    Nothing,
+    /// A step.
+    Step(ScriptLine),
+    /// It is outside the grammar.
+    Outside,
+}

@@ -1,0 +1,244 @@
+//! Lines that are read.
+ghost use Rattle.std.specs.Prelude.{◌≡◌, ◌↔◌, IsTrue, IfErr, IfOk};
+ghost use Rattle.rtmfp_script.specs.Grammar.{IsLineOf, IsSkipped, TakesMemory};
+ghost use Rattle.rtmfp_script.specs.Lines.{end_of, at_of, open_of, open_to, cancel_of, tick_of, deliver_of, bent_of, inject_of, forge_of, word_of, step_of, StepTakesMemory, Says};
+
+use crate::bytes::bytes;
+use crate::fields::{cert, name, number, number32, split};
+use crate::line::{Places, Said, ScriptLine};
+use crate::places::{place, places};
+use rtmfp_base::Memory;
+use rtmfp_text::Name;
+use std::alloc::Global;
+
+/// The most bytes of a line without its LF (own).
+const LONGEST: usize = 2_097_664;
+
+/// The most bytes of an `inject` (own).
+const INJECTED: usize = 2048;
+
+/// The most bytes of a `forge` (own).
+const FORGED: usize = 1164;
+
+#[tactic(auto, unfolding(crate::specs::Lines::end_of))]
+fn read_end(rest: &[u8]) -> Option<ScriptLine>
+    ensures { result ≡ end_of rest.now }
+{
+    let (first, rest) = split(b' ', rest)?;
+    let (second, rest) = split(b' ', rest)?;
+    let (third, rest) = split(b' ', rest)?;
+    Some(ScriptLine::End {
+        name: name(first)?,
+        peers: number32(second)?,
+        sessions: number32(third)?,
+        cert: cert(rest)?,
+    })
+}
+
+#[tactic(auto, unfolding(crate::specs::Lines::at_of))]
+fn read_at(rest: &[u8]) -> Option<ScriptLine>
+    ensures { result ≡ at_of rest.now }
+{
+    Some(ScriptLine::At {
+        moment: number(rest)?,
+    })
+}
+
+#[tactic(auto, unfolding(crate::specs::Lines::open_of))]
+fn read_open(rest: &[u8]) -> Option<ScriptLine>
+    ensures { result ≡ open_of rest.now }
+{
+    let (first, rest) = split(b' ', rest)?;
+    open_to(name(first)?, rest)
+}
+
+/// The peer that an end opens towards, and the addresses.
+#[tactic(auto, unfolding(crate::specs::Lines::open_to))]
+fn open_to(name: Name, rest: &[u8]) -> Option<ScriptLine>
+    ensures { result ≡ open_to name rest.now }
+{
+    match split(b' ', rest) {
+        Some((first, rest)) => Some(ScriptLine::Open {
+            name,
+            peer: crate::fields::name(first)?,
+            places: places(rest)?,
+        }),
+        None => Some(ScriptLine::Open {
+            name,
+            peer: crate::fields::name(rest)?,
+            places: Places::new(),
+        }),
+    }
+}
+
+#[tactic(auto, unfolding(crate::specs::Lines::cancel_of))]
+fn read_cancel(rest: &[u8]) -> Option<ScriptLine>
+    ensures { result ≡ cancel_of rest.now }
+{
+    let (first, rest) = split(b' ', rest)?;
+    Some(ScriptLine::Cancel {
+        name: name(first)?,
+        number: number(rest)?,
+    })
+}
+
+#[tactic(auto, unfolding(crate::specs::Lines::tick_of))]
+fn read_tick(rest: &[u8]) -> Option<ScriptLine>
+    ensures { result ≡ tick_of rest.now }
+{
+    Some(ScriptLine::Tick { name: name(rest)? })
+}
+
+#[tactic(auto, unfolding(crate::specs::Lines::deliver_of))]
+fn read_deliver(rest: &[u8]) -> Option<ScriptLine>
+    ensures { result ≡ deliver_of rest.now }
+{
+    let (first, rest) = split(b' ', rest)?;
+    let (second, rest) = split(b' ', rest)?;
+    Some(ScriptLine::Deliver {
+        number: number(first)?,
+        name: name(second)?,
+        from: place(rest)?,
+    })
+}
+
+#[tactic(auto, unfolding(crate::specs::Lines::bent_of))]
+fn read_bent(rest: &[u8]) -> Option<ScriptLine>
+    ensures { result ≡ bent_of rest.now }
+{
+    let (first, rest) = split(b' ', rest)?;
+    let (second, rest) = split(b' ', rest)?;
+    let (third, rest) = split(b' ', rest)?;
+    Some(ScriptLine::Bent {
+        number: number(first)?,
+        place: number(second)?,
+        name: name(third)?,
+        from: place(rest)?,
+    })
+}
+
+#[tactic(auto, unfolding(crate::specs::Lines::inject_of))]
+fn read_inject(alloc: Global, rest: &[u8]) -> Result<Option<ScriptLine>, Memory>
+    ensures value { IfOk result (λ said. said ≡ inject_of rest.now) }
+    ensures memory { IfErr result (λ _. StepTakesMemory (inject_of rest.now)) }
+{
+    let Some((first, rest)) = split(b' ', rest) else {
+        return Ok(None);
+    };
+    let Some((second, rest)) = split(b' ', rest) else {
+        return Ok(None);
+    };
+    let Some(name) = name(first) else {
+        return Ok(None);
+    };
+    let Some(from) = place(second) else {
+        return Ok(None);
+    };
+    let Some(bytes) = bytes(alloc, rest, INJECTED)? else {
+        return Ok(None);
+    };
+    Ok(Some(ScriptLine::Inject { name, from, bytes }))
+}
+
+#[tactic(auto, unfolding(crate::specs::Lines::forge_of))]
+fn read_forge(alloc: Global, rest: &[u8]) -> Result<Option<ScriptLine>, Memory>
+    ensures value { IfOk result (λ said. said ≡ forge_of rest.now) }
+    ensures memory { IfErr result (λ _. StepTakesMemory (forge_of rest.now)) }
+{
+    let Some((first, rest)) = split(b' ', rest) else {
+        return Ok(None);
+    };
+    let Some((second, rest)) = split(b' ', rest) else {
+        return Ok(None);
+    };
+    let Some(name) = name(first) else {
+        return Ok(None);
+    };
+    let Some(from) = place(second) else {
+        return Ok(None);
+    };
+    let Some(bytes) = bytes(alloc, rest, FORGED)? else {
+        return Ok(None);
+    };
+    Ok(Some(ScriptLine::Forge { name, from, bytes }))
+}
+
+/// Reads what stands behind the first word of a line.
+#[tactic(auto, unfolding(crate::specs::Lines::word_of))]
+fn read_word(alloc: Global, word: &[u8], rest: &[u8]) -> Result<Option<ScriptLine>, Memory>
+    ensures value { IfOk result (λ said. said ≡ word_of word.now rest.now) }
+    ensures memory { IfErr result (λ _. StepTakesMemory (word_of word.now rest.now)) }
+{
+    if word == b"end".as_slice() {
+        return Ok(read_end(rest));
+    }
+    if word == b"at".as_slice() {
+        return Ok(read_at(rest));
+    }
+    if word == b"open".as_slice() {
+        return Ok(read_open(rest));
+    }
+    if word == b"cancel".as_slice() {
+        return Ok(read_cancel(rest));
+    }
+    if word == b"tick".as_slice() {
+        return Ok(read_tick(rest));
+    }
+    if word == b"deliver".as_slice() {
+        return Ok(read_deliver(rest));
+    }
+    if word == b"bent".as_slice() {
+        return Ok(read_bent(rest));
+    }
+    if word == b"inject".as_slice() {
+        return read_inject(alloc, rest);
+    }
+    if word == b"forge".as_slice() {
+        return read_forge(alloc, rest);
+    }
+    Ok(None)
+}
+
+/// Reads a step.
+#[tactic(auto, unfolding(crate::specs::Lines::step_of))]
+fn read_step(alloc: Global, line: &[u8]) -> Result<Option<ScriptLine>, Memory>
+    ensures value { IfOk result (λ said. said ≡ step_of line.now) }
+    ensures memory { IfErr result (λ _. StepTakesMemory (step_of line.now)) }
+{
+    if line.len() > LONGEST {
+        return Ok(None);
+    }
+    match split(b' ', line) {
+        Some((word, rest)) => read_word(alloc, word, rest),
+        None => Ok(None),
+    }
+}
+
+/// Whether a line is skipped: it is empty or a comment.
+fn is_skipped(line: &[u8]) -> bool
+    ensures { IsTrue result ↔ IsSkipped line.now }
+{
+    match line {
+        [] => true,
+        [byte, ..] => *byte == b'#',
+    }
+}
+
+/// Reads a line, which is given without its LF (own form).
+pub fn read_line(alloc: Global, line: &[u8]) -> Result<Said, Memory>
+    // What is said of the line.
+    ensures says { IfOk result (λ said. Says line.now said) }
+    // Nothing else can be said of it.
+    ensures only { (other : Said) → Says line.now other → IfOk result (λ said. said ≡ other) }
+
+    // Memory can be wanting for the bytes of an `inject` or of a `forge` alone.
+    ensures memory { IfErr result (λ _. (said : ScriptLine) × (IsLineOf line.now said × TakesMemory said)) }
+{
+    if is_skipped(line) {
+        return Ok(Said::Nothing);
+    }
+    match read_step(alloc, line)? {
+        Some(step) => Ok(Said::Step(step)),
+        None => Ok(Said::Outside),
+    }
+}
