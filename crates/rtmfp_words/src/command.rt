@@ -1,0 +1,98 @@
+//! The commands.
+ghost use Rattle.std.specs.Prelude.{◌≡◌, ℕ, map, string_bytes, Some};
+ghost use Rattle.rtmfp_words.specs.Words.{IsShow, IsReplay, IsGenerate, Reads};
+ghost use Rattle.rtmfp_words.specs.Functions.{command_of, show_of, replay_of, generate_of, both};
+
+use crate::option::{Setting, read_option};
+use crate::words::{is_end, next_word};
+
+/// What the words of the command line ask for (own).
+#[derive(Clone, Copy, Debug, PartialEq, Eq)]
+pub enum Command {
+    /// `show`: packets are read from lines, and their texts are written.
+    Show,
+    /// `replay`: a script is read and done.
+    Replay,
+    /// `replay --generate N --steps K`: a script is made of a seed and done.
+    Generate {
+        /// The seed.
+        seed: u64,
+        /// How many steps the script has, at most 100,000.
+        steps: u64,
+    },
+}
+
+/// The command that the words after the program's name say (own).
+///
+/// They are `show`; or `replay`; or `replay` with the options `--generate N` and `--steps K`, each once, in
+/// either order. An option is two words, or one with `=` between the name and the value. N and K are decimal
+/// numbers without leading zeros; N is below 2^64, and K is at most 100,000. All other words are faulty.
+pub fn read_command(words: &[String]) -> Option<Command>
+    ensures reads { Reads words.now result }
+    ensures show { IsShow words.now → result ≡ Some Command.Show }
+    ensures replay { IsReplay words.now → result ≡ Some Command.Replay }
+    ensures generate { (seed steps : ℕ) → IsGenerate words.now seed steps → result ≡ Some (Command.Generate seed steps) }
+{
+    find_command(words)
+}
+
+#[tactic(auto, unfolding(crate::specs::Functions::command_of))]
+fn find_command(words: &[String]) -> Option<Command>
+    ensures { result ≡ command_of (map string_bytes words.now) }
+{
+    let (word, rest) = next_word(words)?;
+    if word == b"show".as_slice() {
+        return show(rest);
+    }
+    if word == b"replay".as_slice() {
+        return replay(rest);
+    }
+    None
+}
+
+/// What the words behind `show` make it.
+#[tactic(auto, unfolding(crate::specs::Functions::show_of))]
+fn show(words: &[String]) -> Option<Command>
+    ensures { result ≡ show_of (map string_bytes words.now) }
+{
+    if !is_end(words) {
+        return None;
+    }
+    Some(Command::Show)
+}
+
+/// What the words behind `replay` make it.
+#[tactic(auto, unfolding(crate::specs::Functions::replay_of))]
+fn replay(words: &[String]) -> Option<Command>
+    ensures { result ≡ replay_of (map string_bytes words.now) }
+{
+    if is_end(words) {
+        return Some(Command::Replay);
+    }
+    generate(words)
+}
+
+/// The two options, and nothing behind them.
+#[tactic(auto, unfolding(crate::specs::Functions::generate_of))]
+fn generate(words: &[String]) -> Option<Command>
+    ensures { result ≡ generate_of (map string_bytes words.now) }
+{
+    let (first, rest) = read_option(words)?;
+    let (second, rest) = read_option(rest)?;
+    if !is_end(rest) {
+        return None;
+    }
+    both(first, second)
+}
+
+/// One option of each kind.
+#[tactic(auto, unfolding(crate::specs::Functions::both))]
+fn both(first: Setting, second: Setting) -> Option<Command>
+    ensures { result ≡ both first second }
+{
+    match (first, second) {
+        (Setting::Seed(seed), Setting::Steps(steps)) => Some(Command::Generate { seed, steps }),
+        (Setting::Steps(steps), Setting::Seed(seed)) => Some(Command::Generate { seed, steps }),
+        _ => None,
+    }
+}
