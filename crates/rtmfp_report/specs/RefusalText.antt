@@ -1,0 +1,35 @@
+-- The lines of calls that were refused.
+use Rattle.std.specs.Prelude.{ℕ, List, [], ◌∷◌, codes}
+use Rattle.glare_core.specs.declared.answers.StartRefusal.{StartRefusal}
+use Rattle.glare_core.specs.declared.answers.StartRefusal.TheVariants.{Opening, Open, PeersFull, AttemptsSpent, OwnPrint, Memory as StartMemory}
+use Rattle.endpoint.specs.declared.answers.OpenRefusal.{OpenRefusal}
+use Rattle.endpoint.specs.declared.answers.OpenRefusal.TheVariants.{Candidates, Start, SessionsFull, Memory as OpenMemory}
+use Rattle.endpoint.specs.declared.answers.CallRefusal.{CallRefusal}
+use Rattle.endpoint.specs.declared.answers.CallRefusal.TheVariants.{NoAttempt, Memory as CallMemory}
+use Rattle.rtmfp_text.specs.Words.{number_field_text, text_of}
+use Rattle.rtmfp_report.specs.LineText.{line_text}
+
+-- why no attempt starts; no text for want of memory, which isn't reported
+unfoldable pub start_refusal_text : StartRefusal → List ℕ
+start_refusal_text (Opening n) = number_field_text (codes "opening ") n
+start_refusal_text (Open near) = number_field_text (codes "open ") near
+start_refusal_text (PeersFull limit) = number_field_text (codes "peers-full ") limit
+start_refusal_text AttemptsSpent = codes "attempts-spent"
+start_refusal_text OwnPrint = codes "own-print"
+start_refusal_text StartMemory = []
+
+-- why an attempt isn't opened; no text for want of memory
+unfoldable pub open_refusal_text : OpenRefusal → List ℕ
+open_refusal_text (Candidates count) = number_field_text (codes "candidates ") count
+open_refusal_text (Start refusal) = start_refusal_text refusal
+open_refusal_text (SessionsFull limit) = number_field_text (codes "sessions-full ") limit
+open_refusal_text OpenMemory = []
+
+-- why another call is refused; no text for want of memory
+unfoldable pub call_refusal_text : CallRefusal → List ℕ
+call_refusal_text NoAttempt = codes "no-attempt"
+call_refusal_text CallMemory = []
+
+-- the line of a call that was refused so
+unfoldable pub refused_line : ℕ → List ℕ → List ℕ → List ℕ
+refused_line line name refusal = line_text line name (text_of (codes "refused " ∷ refusal ∷ []))

@@ -1,0 +1,100 @@
+//! The lines of what ends did.
+ghost use Rattle.std.specs.Prelude.{◌≡◌, ◌++◌, IfOk, OnOk};
+ghost use Rattle.rtmfp_report.specs.EntryText.{counted_after, drop_text, entries_text, entry_text, sent_after, told_text};
+
+use crate::causes::push_cause;
+use crate::facts::push_fact;
+use crate::lines::push_head;
+use crate::sent::push_sent;
+use endpoint::Entry;
+use rtmfp_text::{Name, Named, Text};
+use startup::Cause;
+use std::alloc::AllocError;
+
+/// Adds the lines of what the end with this name did in a line of the script, one for each entry, in their order. The peers of facts are called as among `ends`. `sent` datagrams were sent before; it gives how many were sent after.
+///
+/// The names of the chunks of a datagram are found by the group secret; `scratch` holds the datagram meanwhile, and its memory is used again. More than 2^64-1 datagrams count as want of memory.
+pub fn push_entries(
+    secret: &[u8; 32],
+    ends: &[Named],
+    line: u64,
+    name: &Name,
+    sent: u64,
+    entries: &[Entry],
+    scratch: &mut Vec<u8>,
+    text: &mut Text,
+) -> Result<u64, AllocError>
+    ensures text { OnOk result (text.new ≡ text.old ++ entries_text secret.now ends.now line name.now sent entries.now) }
+    ensures count { IfOk result (λ count. count ≡ sent_after sent entries.now) }
+{
+    let mut count = sent;
+    let mut rest = entries;
+    while let [entry, others @ ..] = rest {
+        count = count_after(count, entry)?;
+        push_entry(secret, ends, line, name, count, entry, scratch, text)?;
+        rest = others;
+    }
+    Ok(count)
+}
+
+/// How many datagrams were sent after an entry.
+fn count_after(sent: u64, entry: &Entry) -> Result<u64, AllocError>
+    ensures { IfOk result (λ count. count ≡ counted_after sent entry.now) }
+{
+    match entry {
+        Entry::Fact(_) => Ok(sent),
+        Entry::Discard { .. } => Ok(sent),
+        Entry::Out { .. } => sent.checked_add(1).ok_or(AllocError),
+    }
+}
+
+/// Adds the line of an entry.
+fn push_entry(
+    secret: &[u8; 32],
+    ends: &[Named],
+    line: u64,
+    name: &Name,
+    number: u64,
+    entry: &Entry,
+    scratch: &mut Vec<u8>,
+    text: &mut Text,
+) -> Result<(), AllocError>
+    ensures { OnOk result (text.new ≡ text.old ++ entry_text secret.now ends.now line name.now number entry.now) }
+{
+    push_head(line, name, text)?;
+    push_told(secret, ends, number, entry, scratch, text)?;
+    text.push("\n")?;
+    Ok(())
+}
+
+/// Adds what an entry tells. A datagram that goes out has this number.
+fn push_told(
+    secret: &[u8; 32],
+    ends: &[Named],
+    number: u64,
+    entry: &Entry,
+    scratch: &mut Vec<u8>,
+    text: &mut Text,
+) -> Result<(), AllocError>
+    ensures { OnOk result (text.new ≡ text.old ++ told_text secret.now ends.now number entry.now) }
+{
+    match entry {
+        Entry::Fact(fact) => push_fact(ends, fact, text),
+        Entry::Discard { place, cause } => push_drop(u64::from(*place), cause, text),
+        Entry::Out {
+            to,
+            datagram,
+            context,
+        } => push_sent(secret, number, to, datagram.bytes(), context, scratch, text),
+    }
+}
+
+/// Adds a discard: its place, and its cause.
+fn push_drop(place: u64, cause: &Cause, text: &mut Text) -> Result<(), AllocError>
+    ensures { OnOk result (text.new ≡ text.old ++ drop_text place cause.now) }
+{
+    text.push_number_field("drop ", place)?;
+    text.push(" ")?;
+    push_cause(cause, text)?;
+    Ok(())
+}

@@ -1,0 +1,18 @@
+//! The lines that tell what ends did, and which calls they refused.
+#![tactic(auto)]
+
+mod causes;
+mod deciphering;
+mod entries;
+mod facts;
+mod lines;
+mod nonces;
+mod refusals;
+mod sent;
+mod tally;
+#[cfg(test)]
+mod tests;
+
+pub use entries::push_entries;
+pub use refusals::{push_call_refusal, push_open_refusal};
+pub use tally::{Tally, push_summary};

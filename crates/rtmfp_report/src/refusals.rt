@@ -1,0 +1,80 @@
+//! The lines of calls that were refused.
+ghost use Rattle.std.specs.Prelude.{◌≡◌, ◌++◌, OnOk};
+ghost use Rattle.rtmfp_report.specs.RefusalText.{call_refusal_text, open_refusal_text, refused_line, start_refusal_text};
+
+use crate::lines::push_head;
+use endpoint::{CallRefusal, OpenRefusal};
+use glare_core::StartRefusal;
+use rtmfp_text::{Name, Text};
+use std::alloc::AllocError;
+
+/// Adds the line of an attempt that the end with this name didn't open. Want of memory has no name; it isn't reported.
+pub fn push_open_refusal(
+    line: u64,
+    name: &Name,
+    refusal: &OpenRefusal,
+    text: &mut Text,
+) -> Result<(), AllocError>
+    ensures { OnOk result (text.new ≡ text.old ++ refused_line line name.now (open_refusal_text refusal.now)) }
+{
+    push_head(line, name, text)?;
+    text.push("refused ")?;
+    push_open_name(refusal, text)?;
+    text.push("\n")?;
+    Ok(())
+}
+
+/// Adds the line of another call that the end with this name refused. Want of memory has no name; it isn't reported.
+pub fn push_call_refusal(
+    line: u64,
+    name: &Name,
+    refusal: &CallRefusal,
+    text: &mut Text,
+) -> Result<(), AllocError>
+    ensures { OnOk result (text.new ≡ text.old ++ refused_line line name.now (call_refusal_text refusal.now)) }
+{
+    push_head(line, name, text)?;
+    text.push("refused ")?;
+    text.push(call_name(refusal))?;
+    text.push("\n")?;
+    Ok(())
+}
+
+/// Adds why an attempt isn't opened.
+#[tactic(auto, unfolding(crate::specs::RefusalText::open_refusal_text))]
+fn push_open_name(refusal: &OpenRefusal, text: &mut Text) -> Result<(), AllocError>
+    ensures { OnOk result (text.new ≡ text.old ++ open_refusal_text refusal.now) }
+{
+    match refusal {
+        OpenRefusal::Candidates(count) => text.push_number_field("candidates ", *count),
+        OpenRefusal::Start(start) => push_start_name(start, text),
+        OpenRefusal::SessionsFull(limit) => text.push_number_field("sessions-full ", *limit),
+        OpenRefusal::Memory => text.push(""),
+    }
+}
+
+/// Adds why no attempt starts.
+#[tactic(auto, unfolding(crate::specs::RefusalText::start_refusal_text))]
+fn push_start_name(refusal: &StartRefusal, text: &mut Text) -> Result<(), AllocError>
+    ensures { OnOk result (text.new ≡ text.old ++ start_refusal_text refusal.now) }
+{
+    match refusal {
+        StartRefusal::Opening(n) => text.push_number_field("opening ", *n),
+        StartRefusal::Open(near) => text.push_number_field("open ", u64::from(*near)),
+        StartRefusal::PeersFull(limit) => text.push_number_field("peers-full ", *limit),
+        StartRefusal::AttemptsSpent => text.push("attempts-spent"),
+        StartRefusal::OwnPrint => text.push("own-print"),
+        StartRefusal::Memory => text.push(""),
+    }
+}
+
+/// Why another call is refused.
+#[tactic(auto, unfolding(crate::specs::RefusalText::call_refusal_text))]
+fn call_name(refusal: &CallRefusal) -> &'static str
+    ensures { result.now ≡ call_refusal_text refusal.now }
+{
+    match refusal {
+        CallRefusal::NoAttempt => "no-attempt",
+        CallRefusal::Memory => "",
+    }
+}

@@ -1,0 +1,80 @@
+//! The texts of datagrams that go out.
+ghost use Rattle.std.specs.Prelude.{◌≡◌, ◌++◌, OnOk};
+ghost use Rattle.endpoint.specs.Kinds.{kinds_in, kinds_left};
+ghost use Rattle.rtmfp_report.specs.SentText.{behind_pluses, kinds_text, sent_kinds, sent_text};
+
+use crate::deciphering::{CIPHERED_AT, decipher};
+use crypto_profile::{Context, Keys};
+use endpoint::{Kinds, outgoing_kinds};
+use rtmfp_forms::Address;
+use rtmfp_text::{Text, kind_name, push_address};
+use std::alloc::AllocError;
+
+/// The bytes of a datagram before its sealed part.
+const SEALED_AT: usize = 4;
+
+/// Adds a datagram that goes out: its number, where it goes, and the names of its chunks.
+pub(crate) fn push_sent(
+    secret: &[u8; 32],
+    number: u64,
+    to: &Address,
+    datagram: &[u8],
+    context: &Context,
+    scratch: &mut Vec<u8>,
+    text: &mut Text,
+) -> Result<(), AllocError>
+    ensures { OnOk result (text.new ≡ text.old ++ sent_text secret.now number to.now datagram.now context.now) }
+{
+    text.push_number_field("sent ", number)?;
+    text.push(" ")?;
+    push_address(to, text)?;
+    text.push(" ")?;
+    push_sent_kinds(secret, datagram, context, scratch, text)?;
+    Ok(())
+}
+
+/// Adds the names of the chunks of a datagram that was sealed in this context.
+fn push_sent_kinds(
+    secret: &[u8; 32],
+    datagram: &[u8],
+    context: &Context,
+    scratch: &mut Vec<u8>,
+    text: &mut Text,
+) -> Result<(), AllocError>
+    ensures { OnOk result (text.new ≡ text.old ++ kinds_text (sent_kinds secret.now context.now datagram.now)) }
+{
+    if datagram.len() < SEALED_AT + CIPHERED_AT {
+        return text.push("none");
+    }
+    let (_, part) = datagram.split_at(SEALED_AT);
+    scratch.clear();
+    scratch.extend_from_slice(part)?;
+    decipher(&Keys::of(secret, context), scratch.as_mut_slice());
+    let (_, plain) = scratch.as_slice().split_at(CIPHERED_AT);
+    push_kinds(plain, text)
+}
+
+/// Adds the names of the chunks of a plain packet.
+fn push_kinds(plain: &[u8], text: &mut Text) -> Result<(), AllocError>
+    ensures { OnOk result (text.new ≡ text.old ++ kinds_text (kinds_in plain.now)) }
+{
+    let mut kinds = outgoing_kinds(plain);
+    match kinds.next() {
+        None => text.push("none"),
+        Some(first) => {
+            text.push(kind_name(first))?;
+            push_more_kinds(kinds, text)
+        }
+    }
+}
+
+/// Adds the names of chunks, each behind a plus sign.
+fn push_more_kinds(kinds: Kinds<'_>, text: &mut Text) -> Result<(), AllocError>
+    ensures { OnOk result (text.new ≡ text.old ++ behind_pluses (kinds_left kinds.entry)) }
+{
+    for kind in kinds {
+        text.push("+")?;
+        text.push(kind_name(kind))?;
+    }
+    Ok(())
+}
