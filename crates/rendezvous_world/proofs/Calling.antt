@@ -1,0 +1,331 @@
+-- A step that calls an end leaves a world.
+use Rattle.std.proofs.Common.{◌≡◌, ℕ, ◌<◌, ◌^◌, List, [], ◌∷◌, ◌++◌, length, drop, slice_get, Bool, true, false, ◌||◌, Option, Some, None, inl, inr, ◌⊎◌, refl, sym, ap, subst, ◌∙◌, arith}
+use Rattle.std.specs.Int.{w64, to_be_bytes, from_be_bytes}
+use Rattle.std.specs.List.{AllByRecursion}
+use Rattle.std.proofs.lemmas.Bool.Decides.{nat_tests}
+use Rattle.std.proofs.lemmas.Nat.{from_be_bytes-to_be_bytes_8}
+use Rattle.sha2.proofs.Facts256.{length-sha256}
+use Rattle.crypto_profile.specs.declared.keys.Context.{Context}
+use Rattle.rtmfp_forms.specs.Address.{AddressParts}
+use Rattle.glare_core.specs.Calls.{where_true, first_that_stands}
+use Rattle.glare_core.specs.Steps.{Among}
+use Rattle.glare_core.specs.Told.{AllDifferent}
+use Rattle.endpoint.specs.declared.config.Draws.{Draws}
+use Rattle.endpoint.specs.declared.entry.Entry.{Entry}
+use Rattle.endpoint.specs.Event.{Setup, own_of, Receive, Event, moment_at}
+use Rattle.endpoint.specs.Past.{facts_of, onto}
+use Rattle.endpoint.specs.State.{State, at_moment}
+use Rattle.endpoint.specs.OpensIn.{opens_in}
+use Rattle.endpoint.specs.Lawful.{nonces_of}
+use Rattle.endpoint.specs.Log.{StandsFor, Step as StepOf}
+use Rattle.endpoint.specs.Laws.{AreBytes, IsCall, AreCalls}
+use Rattle.endpoint.specs.History.{Happened, History, log_of, facts_at, IsHonestCall, IsHonest, WasSent, nonces_in}
+use Rattle.endpoint.proofs.Extending.{extends}
+use Rattle.endpoint.proofs.Opened.{opens_in_found}
+use Rattle.rendezvous_world.specs.declared.journal.JournalLine.{JournalLine}
+use Rattle.rendezvous_world.specs.declared.step.Step.{Step}
+use Rattle.rendezvous_world.specs.declared.step.Step.TheVariants.{End, At, Open, Cancel, Deliver, Bent, Inject, Forge, Tick}
+use Rattle.rendezvous_world.specs.declared.step.StepFault.{StepFault}
+use Rattle.rendezvous_world.specs.declared.step.StepFault.TheVariants.{NoEnd, NoDatagram, BadStep, Forged}
+use Rattle.rendezvous_world.specs.Seen.{EndSeen, Seen, setup_at}
+use Rattle.rendezvous_world.specs.Draws.{two_numbers, draws_of}
+use Rattle.rendezvous_world.specs.Sent.{sent_in}
+use Rattle.rendezvous_world.specs.Datagrams.{datagram_of}
+use Rattle.rendezvous_world.specs.History.{bytes_or_none, call_of, event_of, happened, after_lines, history_of}
+use Rattle.rendezvous_world.specs.Sound.{AreBelow}
+use Rattle.rendezvous_world.specs.Stepping.{in_state, with_state, called_by, IsLineOf, Called, StoppedIn}
+use Rattle.rendezvous_world.specs.Faults.{is_missing, lacks_end, lacks_datagram, is_bad, is_forged_by, is_forged, step_fault}
+use Rattle.rendezvous_world.specs.Kept.{IsGiven, name_of, print_of, HasPeer, IsLineIn, IsOfLine, IsWorld}
+use Rattle.endpoint.proofs.Drawn.{Once, MayDraw, answers_draw, nonces_none, nonces_once}
+use Rattle.rendezvous_world.proofs.Ends.{tested, setup_is, below_length, setups_stay, length-with_state, changed_end, other_end, was_there, apart_with_state}
+use Rattle.rendezvous_world.proofs.Told.{SameSetups, same_happened, same_lines, one_more_line, all_more, rise_more, of_line_stays, of_line_new, number_below, log_same, log_other, calls_more, honest_same}
+use Rattle.rendezvous_world.proofs.Forging.{was_sent}
+
+-- ---- what a step that isn't refused says
+
+-- what a step needs of a world
+pub record MayStep (w : Seen) (step : Step) : Type 0 where
+  pub ends : lacks_end w step ≡ false
+  pub datagram : lacks_datagram w step ≡ false
+  pub fine : is_bad w step ≡ false
+  pub unforged : is_forged w step ≡ false
+
+first_none : {A : Type 0} (o : Option A) (rest : List (Option A)) → first_that_stands (o ∷ rest) ≡ None → (o ≡ None) × (first_that_stands rest ≡ None)
+first_none None rest e = (refl, e)
+first_none (Some x) rest e = absurd (cc)
+
+test_fails : {A : Type 0} (b : Bool) (x : A) → where_true b x ≡ None → b ≡ false
+test_fails true x e = absurd (cc)
+test_fails false x e = refl
+
+pub may_step : (w : Seen) (step : Step) → step_fault w step ≡ None → MayStep w step
+may_step w step none =
+    let fourth : List (Option StepFault) = where_true (is_forged w step) Forged ∷ [] in
+    let third : List (Option StepFault) = where_true (is_bad w step) BadStep ∷ fourth in
+    let second : List (Option StepFault) = where_true (lacks_datagram w step) NoDatagram ∷ third in
+    let a = first_none (where_true (lacks_end w step) NoEnd) second none in
+    let b = first_none (where_true (lacks_datagram w step) NoDatagram) third a.1 in
+    let c = first_none (where_true (is_bad w step) BadStep) fourth b.1 in
+    let d = first_none (where_true (is_forged w step) Forged) [] c.1 in
+    record {
+      ends = test_fails (lacks_end w step) NoEnd a.0;
+      datagram = test_fails (lacks_datagram w step) NoDatagram b.0;
+      fine = test_fails (is_bad w step) BadStep c.0;
+      unforged = test_fails (is_forged w step) Forged d.0;
+    }
+
+or_false : (a b : Bool) → (a || b) ≡ false → (a ≡ false) × (b ≡ false)
+or_false true b e = absurd (cc)
+or_false false b e = (refl, e)
+
+not_missing : (w : Seen) (end : ℕ) → is_missing w end ≡ false → end < length w.ends
+not_missing w end e = grind (arith, nat_tests)
+
+has_peer : (w : Seen) (step : Step) → lacks_end w step ≡ false → HasPeer (length w.ends) step
+has_peer w (End name max_peers max_sessions cert) e = tt
+has_peer w (At moment) e = tt
+has_peer w (Open end peer list) e = not_missing w peer (or_false (is_missing w end) (is_missing w peer) e).1
+has_peer w (Cancel end n) e = tt
+has_peer w (Deliver number end from) e = tt
+has_peer w (Bent number place end from) e = tt
+has_peer w (Inject end from bytes) e = tt
+has_peer w (Forge end from plain) e = tt
+has_peer w (Tick end) e = tt
+
+-- ---- the draws of a line
+
+length-two : (a b : ℕ) → length (two_numbers a b) ≡ 16
+length-two a b = refl
+
+two_apart : (a b : ℕ) → a < 2 ^ 32 → b < 2 ^ 32 → two_numbers 0 a ≡ two_numbers 0 b → a ≡ b
+two_apart a b small_a small_b same =
+    let wide_a : a < 2 ^ 64 = omega arith in
+    let wide_b : b < 2 ^ 64 = omega arith in
+    let bytes : to_be_bytes w64 a ≡ to_be_bytes w64 b = ap (drop 8) same in
+    sym (from_be_bytes-to_be_bytes_8 a wide_a) ∙ ap (from_be_bytes w64) bytes ∙ from_be_bytes-to_be_bytes_8 b wide_b
+
+-- what a call is given has its sizes
+is_call : (ends : List EndSeen) (number : ℕ) (datagram : Option (List ℕ)) (step : Step) → number < 2 ^ 32 → AreBytes (bytes_or_none datagram) → IsCall (call_of ends number datagram step)
+is_call ends number datagram (End name max_peers max_sessions cert) small bytes = tt
+is_call ends number datagram (At moment) small bytes = tt
+is_call ends number datagram (Open end peer list) small bytes = (length-sha256 (setup_at ends peer).cert, length-two 0 number, small, length-two 2 number)
+is_call ends number datagram (Cancel end n) small bytes = tt
+is_call ends number datagram (Deliver sent end from) small bytes = (bytes, length-two 0 number, small)
+is_call ends number datagram (Bent sent place end from) small bytes = (bytes, length-two 0 number, small)
+is_call ends number datagram (Inject end from b) small bytes = (bytes, length-two 0 number, small)
+is_call ends number datagram (Forge end from plain) small bytes = (bytes, length-two 0 number, small)
+is_call ends number datagram (Tick end) small bytes = tt
+
+-- what it draws is the nonce of its line
+draws_line : (ends : List EndSeen) (number : ℕ) (datagram : Option (List ℕ)) (step : Step) (entries : List Entry) → MayDraw (call_of ends number datagram step) entries → Once (two_numbers 0 number) entries
+draws_line ends number datagram (End name max_peers max_sessions cert) entries h = inl h
+draws_line ends number datagram (At moment) entries h = inl h
+draws_line ends number datagram (Open end peer list) entries h = h
+draws_line ends number datagram (Cancel end n) entries h = inl h
+draws_line ends number datagram (Deliver sent end from) entries h = h
+draws_line ends number datagram (Bent sent place end from) entries h = h
+draws_line ends number datagram (Inject end from b) entries h = h
+draws_line ends number datagram (Forge end from plain) entries h = h
+draws_line ends number datagram (Tick end) entries h = inl h
+
+-- the nonces of an event
+nonces_of_event : (e : Event) (nonce : List ℕ) → Once nonce e.entries →
+    (nonces_of (facts_of (onto (moment_at 0 e) e.entries [])) ≡ []) ⊎ (nonces_of (facts_of (onto (moment_at 0 e) e.entries [])) ≡ nonce ∷ [])
+nonces_of_event e nonce (inl none) = inl (nonces_none (moment_at 0 e) e.entries [] none)
+nonces_of_event e nonce (inr one) = inr (nonces_once (moment_at 0 e) e.entries [] nonce refl one)
+
+-- ---- honest
+
+module _ (w : Seen) (is : IsWorld w) where
+  honest_datagram : (who : ℕ) (end : EndSeen) (o : Option (List ℕ)) (from : AddressParts) (draws : Draws) → slice_get w.ends who ≡ Some end → is_forged_by w who o ≡ false →
+      IsHonestCall (setup_at w.ends who) (facts_at who (history_of w)) (history_of w) (Receive from (bytes_or_none o) draws)
+  honest_datagram who end o from draws there unforged =
+      subst (λ (setup : Setup). IsHonestCall setup (facts_at who (history_of w)) (history_of w) (Receive from (bytes_or_none o) draws)) (sym (setup_is w.ends who end there))
+      (λ context plain named opens. sent o unforged context
+      (opens_in_found end.setup (log_of who (history_of w)) end.state (bytes_or_none o) (is.given who end there).sized (is.calls who) (is.stand who end there) context plain named opens))
+    where
+      sent : (o : Option (List ℕ)) → is_forged_by w who o ≡ false → (context : Context) → opens_in end.state (bytes_or_none o) ≡ Some context → WasSent (bytes_or_none o) context (history_of w)
+      sent None unforged context opens = absurd (cc)
+      sent (Some bytes) unforged context opens = was_sent w.ends w.ends who end bytes w.lines context there unforged opens
+
+  honest_step : (number : ℕ) (end : EndSeen) (step : Step) → slice_get w.ends (called_by step) ≡ Some end → is_forged w step ≡ false →
+      IsHonestCall (setup_at w.ends (called_by step)) (facts_at (called_by step) (history_of w)) (history_of w) (call_of w.ends number (datagram_of (sent_in w.lines) step) step)
+  honest_step number end (End name max_peers max_sessions cert) there unforged = tt
+  honest_step number end (At moment) there unforged = tt
+  honest_step number end (Open who peer list) there unforged = tt
+  honest_step number end (Cancel who n) there unforged = tt
+  honest_step number end (Deliver sent who from) there unforged = honest_datagram who end (datagram_of (sent_in w.lines) (Deliver sent who from)) from (draws_of number) there unforged
+  honest_step number end (Bent sent place who from) there unforged = honest_datagram who end (datagram_of (sent_in w.lines) (Bent sent place who from)) from (draws_of number) there unforged
+  honest_step number end (Inject who from bytes) there unforged = honest_datagram who end (Some bytes) from (draws_of number) there unforged
+  honest_step number end (Forge who from plain) there unforged = honest_datagram who end (datagram_of (sent_in w.lines) (Forge who from plain)) from (draws_of number) there unforged
+  honest_step number end (Tick who) there unforged = tt
+
+-- ---- the world after a line
+
+-- the world in which an end has come to a state by a line
+abbrev pub grown : Seen → JournalLine → State → Seen
+grown w line state = record { moment = w.moment; ends = with_state w.ends line.end state; lines = w.lines ++ line ∷ [] }
+
+-- what is known of the line
+pub record IsNext (w : Seen) (line : JournalLine) (end : EndSeen) (state : State) : Type 0 where
+  pub below : AreBelow w.lines line.line
+  pub small : line.line < 2 ^ 32
+  pub bytes : AreBytes (bytes_or_none line.datagram)
+  pub peer : HasPeer (length w.ends) line.step
+  pub there : slice_get w.ends line.end ≡ Some end
+  pub event : StepOf end.state (event_of w.ends line) state
+  pub honest : IsHonestCall (setup_at w.ends line.end) (facts_at line.end (history_of w)) (history_of w) (event_of w.ends line).call
+
+module _ (w : Seen) (line : JournalLine) (end : EndSeen) (state : State) (is : IsWorld w) (next : IsNext w line end state) where
+  abbrev later : List EndSeen
+  later = with_state w.ends line.end state
+
+  abbrev h : Happened
+  h = happened w.ends line
+
+  stay : SameSetups (length w.ends) w.ends later
+  stay who below = setups_stay w.ends line.end state who
+
+  line_in : IsLineIn (length w.ends) line
+  line_in = record { end = below_length w.ends line.end end next.there; peer = next.peer; small = next.small }
+
+  is_grown : history_of (grown w line state) ≡ h ∷ history_of w
+  is_grown =
+      one_more_line later w.lines line []
+      ∙ ap (λ (x : Happened). x ∷ after_lines later w.lines []) (same_happened (length w.ends) w.ends later stay line line_in)
+      ∙ ap (λ (x : History). h ∷ x) (same_lines (length w.ends) w.ends later stay w.lines [] is.lines)
+
+  -- ---- each part of it, over the history with one more event
+
+  stand_now : (who : ℕ) (x : EndSeen) → slice_get later who ≡ Some x → StandsFor x.setup (log_of who (h ∷ history_of w)) x.state
+  stand_now who x at = elim (tested line.end who) [
+    | inl hit ↦ here hit.0
+    | inr miss ↦ elsewhere miss.0
+  ]
+    where
+      here : line.end ≡ who → StandsFor x.setup (log_of who (h ∷ history_of w)) x.state
+      here same =
+          let changed : slice_get later who ≡ Some (in_state end state) =
+          subst (λ (k : ℕ). slice_get later k ≡ Some (in_state end state)) same (changed_end w.ends line.end state end next.there) in
+          let is_x : in_state end state ≡ x = (let both : ◌≡◌ {A = Option EndSeen} (Some (in_state end state)) (Some x) = sym changed ∙ at in cc) in
+          let before : StandsFor end.setup (log_of who (history_of w)) end.state =
+          is.stand who end (subst (λ (k : ℕ). slice_get w.ends k ≡ Some end) same next.there) in
+          let after : StandsFor end.setup (log_of who (history_of w) ++ h.event ∷ []) state = extends end.state state h.event next.event end.setup (log_of who (history_of w)) before in
+          subst (λ (y : EndSeen). StandsFor y.setup (log_of who (h ∷ history_of w)) y.state) is_x
+          (subst (λ (log : List Event). StandsFor end.setup log state) (sym (log_same who h (history_of w) same)) after)
+
+      elsewhere : (line.end ≡ who → ⊥) → StandsFor x.setup (log_of who (h ∷ history_of w)) x.state
+      elsewhere other =
+          let before : StandsFor x.setup (log_of who (history_of w)) x.state =
+          is.stand who x (sym (other_end w.ends line.end who state (λ same. other (sym same))) ∙ at) in
+          subst (λ (log : List Event). StandsFor x.setup log x.state) (sym (log_other who h (history_of w) other)) before
+
+  given_now : (who : ℕ) (x : EndSeen) → slice_get later who ≡ Some x → IsGiven x.setup
+  given_now who x at =
+      let was = was_there w.ends line.end state who x at in
+      subst (λ (setup : Setup). IsGiven setup) was.setup (is.given who was.before was.there)
+
+  calls_now : (who : ℕ) → AreCalls (log_of who (h ∷ history_of w))
+  calls_now who = elim (tested line.end who) [
+    | inl hit ↦
+        subst (λ (log : List Event). AreCalls log) (sym (log_same who h (history_of w) hit.0))
+        (calls_more (log_of who (history_of w)) h.event (is.calls who) (is_call w.ends line.line line.datagram line.step next.small next.bytes))
+    | inr miss ↦ subst (λ (log : List Event). AreCalls log) (sym (log_other who h (history_of w) miss.0)) (is.calls who)
+  ]
+
+  lines_now : AllByRecursion (IsLineIn (length later)) (w.lines ++ line ∷ [])
+  lines_now =
+      subst (λ (count : ℕ). AllByRecursion (IsLineIn count) (w.lines ++ line ∷ [])) (sym (length-with_state w.ends line.end state))
+      (all_more (IsLineIn (length w.ends)) w.lines line is.lines line_in)
+
+  honest_now : IsHonest (setup_at later) (h ∷ history_of w)
+  honest_now = honest_same (setup_at w.ends) (setup_at later) (h ∷ history_of w) (λ who part. setups_stay w.ends line.end state who) (next.honest, is.honest)
+
+  abbrev nonce : List ℕ
+  nonce = two_numbers 0 line.line
+
+  -- ---- the nonces
+
+  abbrev Fresh : List (List ℕ) → Type 0
+  Fresh nonces = AllDifferent nonces × ((x : List ℕ) → Among x nonces → IsOfLine x (w.lines ++ line ∷ []))
+
+  fresh_before : Fresh (nonces_in (history_of w))
+  fresh_before = (is.nonces, λ x among. of_line_stays x w.lines line (is.drawn x among))
+
+  not_before : Among nonce (nonces_in (history_of w)) → ⊥
+  not_before among =
+      let of_line : IsOfLine nonce w.lines = is.drawn nonce among in
+      let lt : of_line.number < line.line = number_below w.lines of_line.number line.line next.below of_line.there in
+      let small : line.line < 2 ^ 32 = next.small in
+      let same : line.line ≡ of_line.number = two_apart line.line of_line.number small (omega arith) of_line.is in
+      omega arith
+
+  fresh_after : (nonces : List (List ℕ)) → (nonces ≡ []) ⊎ (nonces ≡ nonce ∷ []) → Fresh (nonces ++ nonces_in (history_of w))
+  fresh_after nonces (inl none) = subst (λ (l : List (List ℕ)). Fresh (l ++ nonces_in (history_of w))) (sym none) fresh_before
+  fresh_after nonces (inr one) = subst (λ (l : List (List ℕ)). Fresh (l ++ nonces_in (history_of w))) (sym one) ((not_before, fresh_before.0), all)
+    where
+      all : (x : List ℕ) → Among x (nonce ∷ nonces_in (history_of w)) → IsOfLine x (w.lines ++ line ∷ [])
+      all x (inl same) = of_line_new x w.lines line same
+      all x (inr before) = fresh_before.1 x before
+
+  fresh_now : Fresh (nonces_in (h ∷ history_of w))
+  fresh_now =
+      fresh_after (nonces_of (facts_of (onto (moment_at 0 h.event) h.event.entries [])))
+      (nonces_of_event h.event nonce
+      (draws_line w.ends line.line line.datagram line.step line.out.entries (answers_draw (at_moment end.state h.event.moment) state h.event.call h.event.answer h.event.entries next.event)))
+
+  pub grown_is_world : IsWorld (grown w line state)
+  grown_is_world = record {
+    stand = subst (λ (x : History). (who : ℕ) (y : EndSeen) → slice_get later who ≡ Some y → StandsFor y.setup (log_of who x) y.state) (sym is_grown) stand_now;
+    given = given_now;
+    names = apart_with_state name_of w.ends line.end state (λ x y name setup. name) is.names;
+    prints = apart_with_state print_of w.ends line.end state (λ x y name setup. ap own_of setup) is.prints;
+    calls = subst (λ (x : History). (who : ℕ) → AreCalls (log_of who x)) (sym is_grown) calls_now;
+    lines = lines_now;
+    rise = rise_more w.lines line is.rise next.below;
+    honest = subst (λ (x : History). IsHonest (setup_at later) x) (sym is_grown) honest_now;
+    nonces = subst (λ (x : History). AllDifferent (nonces_in x)) (sym is_grown) fresh_now.0;
+    drawn = subst (λ (x : History). (y : List ℕ) → Among y (nonces_in x) → IsOfLine y (w.lines ++ line ∷ [])) (sym is_grown) fresh_now.1;
+  }
+
+-- ---- steps
+
+seen_is : (t : Seen) (moment : ℕ) (ends : List EndSeen) (lines : List JournalLine) → t.moment ≡ moment → t.ends ≡ ends → t.lines ≡ lines → t ≡ record { moment = moment; ends = ends; lines = lines }
+seen_is t moment ends lines em ee el =
+    let a : t ≡ record { moment = moment; ends = t.ends; lines = t.lines } = ap (λ (m : ℕ). let x : Seen = record { moment = m; ends = t.ends; lines = t.lines } in x) em in
+    let b : record { moment = moment; ends = t.ends; lines = t.lines } ≡ record { moment = moment; ends = ends; lines = t.lines } = ap (λ (e : List EndSeen). let x : Seen = record { moment = moment; ends = e; lines = t.lines } in x) ee in
+    a ∙ b ∙ ap (λ (l : List JournalLine). let x : Seen = record { moment = moment; ends = ends; lines = l } in x) el
+
+-- a step that isn't refused and calls an end
+pub called_may : (w : Seen) (number : ℕ) (step : Step) (line : JournalLine) (t : Seen) → IsWorld w → AreBelow w.lines number → number < 2 ^ 32 → MayStep w step → Called w number step line t →
+    AreBytes (bytes_or_none line.datagram) → IsWorld t
+called_may w number step line t is below small may called bytes =
+    let of_step : IsLineOf w number step line = called.is_line in
+    let next : IsNext w line called.end called.state = record {
+      below = subst (λ (n : ℕ). AreBelow w.lines n) (sym of_step.line) below;
+      small = subst (λ (n : ℕ). n < 2 ^ 32) (sym of_step.line) small;
+      bytes = bytes;
+      peer = subst (λ (s : Step). HasPeer (length w.ends) s) (sym of_step.step) (has_peer w step may.ends);
+      there = called.is_end;
+      event = called.event;
+      honest = honest_line of_step;
+    } in
+    subst (λ (x : Seen). IsWorld x) (sym (seen_is t w.moment (with_state w.ends line.end called.state) (w.lines ++ line ∷ []) called.moment called.ends called.lines))
+    (grown_is_world w line called.end called.state is next)
+  where
+    honest_line : IsLineOf w number step line → IsHonestCall (setup_at w.ends line.end) (facts_at line.end (history_of w)) (history_of w) (event_of w.ends line).call
+    honest_line of_step =
+        let there : slice_get w.ends (called_by step) ≡ Some called.end = subst (λ (k : ℕ). slice_get w.ends k ≡ Some called.end) of_step.end called.is_end in
+        subst (λ (k : ℕ). IsHonestCall (setup_at w.ends k) (facts_at k (history_of w)) (history_of w) (event_of w.ends line).call) (sym of_step.end)
+        (subst (λ (s : Step). IsHonestCall (setup_at w.ends (called_by step)) (facts_at (called_by step) (history_of w)) (history_of w) (call_of w.ends line.line line.datagram s)) (sym of_step.step)
+        (subst (λ (o : Option (List ℕ)). IsHonestCall (setup_at w.ends (called_by step)) (facts_at (called_by step) (history_of w)) (history_of w) (call_of w.ends line.line o step)) (sym of_step.datagram)
+        (honest_step w is line.line called.end step there may.unforged)))
+
+pub called_is_world : (w : Seen) (number : ℕ) (step : Step) (line : JournalLine) (t : Seen) → IsWorld w → AreBelow w.lines number → number < 2 ^ 32 → step_fault w step ≡ None → Called w number step line t →
+    AreBytes (bytes_or_none line.datagram) → IsWorld t
+called_is_world w number step line t is below small none called bytes = called_may w number step line t is below small (may_step w step none) called bytes
+
+-- a datagram or a tick that found no memory
+pub stopped_is_world : (w : Seen) (number : ℕ) (step : Step) (t : Seen) → IsWorld w → AreBelow w.lines number → number < 2 ^ 32 → step_fault w step ≡ None → (stopped : StoppedIn w number step t) →
+    AreBytes (bytes_or_none stopped.line.datagram) → IsWorld t
+stopped_is_world w number step t is below small none stopped bytes = called_is_world w number step stopped.line t is below small none stopped.called bytes

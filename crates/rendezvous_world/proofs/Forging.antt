@@ -1,0 +1,117 @@
+-- A datagram that isn't forged was sent, where it opens.
+use Rattle.std.proofs.Common.{◌≡◌, ℕ, zero, suc, ◌==◌, List, [], ◌∷◌, ◌++◌, slice_get, Bool, true, false, if◌then◌else◌, not, ◌&&◌, ◌||◌, Option, Some, inl, inr, ◌⊎◌, refl, sym, ap, ◌∙◌, arith}
+use Rattle.std.specs.Str.{bytes_eq}
+use Rattle.std.specs.List.{list_any}
+use Rattle.std.proofs.lemmas.Bool.Decides.{nat_tests}
+use Rattle.std.proofs.lemmas.Slice.Eq.{bytes_eq-Decides}
+use Rattle.rtmfp_forms.specs.Address.{AddressParts}
+use Rattle.crypto_profile.specs.declared.keys.Context.{Context}
+use Rattle.crypto_profile.specs.declared.keys.Context.TheVariants.{Startup, Session}
+use Rattle.endpoint.specs.declared.entry.Entry.{Entry}
+use Rattle.endpoint.specs.declared.entry.Entry.TheVariants.{Fact, Discard, Out}
+use Rattle.endpoint.specs.History.{History, HasOut, WasSent}
+use Rattle.endpoint.specs.OpensIn.{opens_in}
+use Rattle.rendezvous_world.specs.declared.journal.JournalLine.{JournalLine}
+use Rattle.rendezvous_world.specs.Seen.{EndSeen}
+use Rattle.rendezvous_world.specs.Sent.{Sent, sent_among, sent_in}
+use Rattle.rendezvous_world.specs.History.{happened, after_lines}
+use Rattle.rendezvous_world.specs.Faults.{same_context, is_sent, is_unsent_in, is_forged_at}
+use Rattle.rendezvous_world.proofs.Ends.{at_suc}
+
+-- ---- contexts that are the same
+
+and_is : (a b : Bool) → (a && b) ≡ true → (a ≡ true) × (b ≡ true)
+and_is true b e = (refl, e)
+and_is false b e = absurd (cc)
+
+all_seven : (a b c d e f g : Bool) → (a && b && c && d && e && f && g) ≡ true → (a ≡ true) × (b ≡ true) × (c ≡ true) × (d ≡ true) × (e ≡ true) × (f ≡ true) × (g ≡ true)
+all_seven true true true true true true g h = (refl, refl, refl, refl, refl, refl, h)
+all_seven true true true true true false g h = absurd (cc)
+all_seven true true true true false f g h = absurd (cc)
+all_seven true true true false e f g h = absurd (cc)
+all_seven true true false d e f g h = absurd (cc)
+all_seven true false c d e f g h = absurd (cc)
+all_seven false b c d e f g h = absurd (cc)
+
+same_bytes : (x y : List ℕ) → bytes_eq x y ≡ true → x ≡ y
+same_bytes x y e = (bytes_eq-Decides x y).0 e
+
+same_number : (a b : ℕ) → (a == b) ≡ true → a ≡ b
+same_number a b e = grind (arith, nat_tests)
+
+same_way : (a b : Bool) → (if a then b else not b) ≡ true → a ≡ b
+same_way true true e = refl
+same_way true false e = absurd (cc)
+same_way false true e = absurd (cc)
+same_way false false e = refl
+
+pub same_context_is : (c d : Context) → same_context c d ≡ true → c ≡ d
+same_context_is Startup Startup e = refl
+same_context_is Startup (Session ni nr fp_i fp_r sid_i sid_r towards) e = absurd (cc)
+same_context_is (Session ni nr fp_i fp_r sid_i sid_r towards) Startup e = absurd (cc)
+same_context_is (Session ni nr fp_i fp_r sid_i sid_r a) (Session mi mr hp_i hp_r tid_i tid_r b) e =
+    let p = all_seven (bytes_eq ni mi) (bytes_eq nr mr) (bytes_eq fp_i hp_i) (bytes_eq fp_r hp_r) (sid_i == tid_i) (sid_r == tid_r) (if a then b else not b) e in
+    let e1 : ni ≡ mi = same_bytes ni mi p.0 in
+    let e2 : nr ≡ mr = same_bytes nr mr p.1 in
+    let e3 : fp_i ≡ hp_i = same_bytes fp_i hp_i p.2 in
+    let e4 : fp_r ≡ hp_r = same_bytes fp_r hp_r p.3 in
+    let e5 : sid_i ≡ tid_i = same_number sid_i tid_i p.4 in
+    let e6 : sid_r ≡ tid_r = same_number sid_r tid_r p.5 in
+    let e7 : a ≡ b = same_way a b p.6 in
+    ap (λ (x : List ℕ). Session x nr fp_i fp_r sid_i sid_r a) e1 ∙ ap (λ (x : List ℕ). Session mi x fp_i fp_r sid_i sid_r a) e2
+    ∙ ap (λ (x : List ℕ). Session mi mr x fp_r sid_i sid_r a) e3 ∙ ap (λ (x : List ℕ). Session mi mr hp_i x sid_i sid_r a) e4
+    ∙ ap (λ (x : ℕ). Session mi mr hp_i hp_r x sid_r a) e5 ∙ ap (λ (x : ℕ). Session mi mr hp_i hp_r tid_i x a) e6
+    ∙ ap (λ (x : Bool). Session mi mr hp_i hp_r tid_i tid_r x) e7
+
+-- ---- among what was sent
+
+module _ (bytes : List ℕ) (context : Context) where
+  out_is : (by : ℕ) (to : AddressParts) (datagram : List ℕ) (sealed_for : Context) → is_sent bytes context (record { by = by; to = to; datagram = datagram; context = sealed_for }) ≡ true → (datagram ≡ bytes) × (sealed_for ≡ context)
+  out_is by to datagram sealed_for e =
+      let both = and_is (bytes_eq datagram bytes) (same_context sealed_for context) e in
+      (same_bytes datagram bytes both.0, same_context_is sealed_for context both.1)
+
+  or_either : (a b : Bool) → (a || b) ≡ true → (a ≡ true) ⊎ (b ≡ true)
+  or_either true b e = inl refl
+  or_either false b e = inr e
+
+  among_entries : (by : ℕ) (entries : List Entry) (rest : List Sent) → list_any (is_sent bytes context) (sent_among by entries ++ rest) ≡ true → HasOut bytes context entries ⊎ (list_any (is_sent bytes context) rest ≡ true)
+  among_entries by [] rest e = inr e
+  among_entries by (Fact fact ∷ entries) rest e = elim (among_entries by entries rest e) [ inl h ↦ inl (inr h) | inr h ↦ inr h ]
+  among_entries by (Discard place cause ∷ entries) rest e = elim (among_entries by entries rest e) [ inl h ↦ inl (inr h) | inr h ↦ inr h ]
+  among_entries by (Out to datagram sealed_for ∷ entries) rest e =
+      elim (or_either (is_sent bytes context (record { by = by; to = to; datagram = datagram; context = sealed_for })) (list_any (is_sent bytes context) (sent_among by entries ++ rest)) e) [
+        | inl here ↦ inl (inl (out_is by to datagram sealed_for here))
+        | inr later ↦ (elim (among_entries by entries rest later) [ inl h ↦ inl (inr h) | inr h ↦ inr h ])
+      ]
+
+  sent_before : (ends : List EndSeen) (lines : List JournalLine) (earlier : History) → WasSent bytes context earlier → WasSent bytes context (after_lines ends lines earlier)
+  sent_before ends [] earlier h = h
+  sent_before ends (line ∷ lines) earlier h = sent_before ends lines (happened ends line ∷ earlier) (inr h)
+
+  sent_by_lines : (ends : List EndSeen) (lines : List JournalLine) (earlier : History) → list_any (is_sent bytes context) (sent_in lines) ≡ true → WasSent bytes context (after_lines ends lines earlier)
+  sent_by_lines ends [] earlier e = absurd (cc)
+  sent_by_lines ends (line ∷ lines) earlier e = elim (among_entries line.end line.out.entries (sent_in lines) e) [
+    | inl here ↦ sent_before ends lines (happened ends line ∷ earlier) (inl here)
+    | inr later ↦ sent_by_lines ends lines (happened ends line ∷ earlier) later
+  ]
+
+  not_false : (b : Bool) → not b ≡ false → b ≡ true
+  not_false true e = refl
+  not_false false e = absurd (cc)
+
+  unsent_not : (o : Option Context) (sent : List Sent) → o ≡ Some context → is_unsent_in o bytes sent ≡ false → list_any (is_sent bytes context) sent ≡ true
+  unsent_not o sent is e = not_false (list_any (is_sent bytes context) sent) (sym (ap (λ (x : Option Context). is_unsent_in x bytes sent) is) ∙ e)
+
+-- the test of the end with this number
+forged_there : (ends : List EndSeen) (who : ℕ) (end : EndSeen) (bytes : List ℕ) (sent : List Sent) → slice_get ends who ≡ Some end → is_forged_at ends who bytes sent ≡ is_unsent_in (opens_in end.state bytes) bytes sent
+forged_there [] who end bytes sent e = absurd (cc)
+forged_there (x ∷ ends) zero end bytes sent e = let same : x ≡ end = cc in ap (λ (y : EndSeen). is_unsent_in (opens_in y.state bytes) bytes sent) same
+forged_there (x ∷ ends) (suc who) end bytes sent e =
+    at_suc who (is_unsent_in (opens_in x.state bytes) bytes sent) (λ (n : ℕ). is_forged_at ends n bytes sent) ∙ forged_there ends who end bytes sent e
+
+-- where it opens in a context, it was sent in that context
+pub was_sent : (ends all : List EndSeen) (who : ℕ) (end : EndSeen) (bytes : List ℕ) (lines : List JournalLine) (context : Context) → slice_get ends who ≡ Some end →
+    is_forged_at ends who bytes (sent_in lines) ≡ false → opens_in end.state bytes ≡ Some context → WasSent bytes context (after_lines all lines [])
+was_sent ends all who end bytes lines context there unforged opens =
+    sent_by_lines bytes context all lines [] (unsent_not bytes context (opens_in end.state bytes) (sent_in lines) opens (sym (forged_there ends who end bytes (sent_in lines) there) ∙ unforged))

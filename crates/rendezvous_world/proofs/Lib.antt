@@ -1,0 +1,14 @@
+pub mod Ends
+pub mod Told
+pub mod Forging
+pub mod Sounds
+pub mod Keeping
+pub mod Calling
+pub mod Finding
+pub mod Answered
+pub mod Entered
+pub mod Growing
+pub mod Agreeing
+pub mod Refusing
+pub mod Pieces
+pub mod Fetching

@@ -1,0 +1,99 @@
+-- Parts of lists, and ends among ends.
+use Rattle.std.proofs.Common.{◌≡◌, ℕ, zero, suc, ◌-◌, ◌<◌, true, false, List, [], ◌∷◌, ◌++◌, map, length, drop, get_or, Option, Some, None, refl, sym, ap, ◌∙◌, subst, arith}
+use Rattle.std.specs.List.{list_any}
+use Rattle.sha2.specs.Sha256.{sha256}
+use Rattle.identity.specs.Certificates.{IsCertificate}
+use Rattle.crypto_profile.specs.declared.keys.Context.{Context}
+use Rattle.endpoint.specs.Event.{Setup}
+use Rattle.endpoint.specs.State.{State, fresh}
+use Rattle.endpoint.specs.OpensIn.{opens_in}
+use Rattle.rtmfp_text.specs.declared.names.Named.{Named}
+use Rattle.rendezvous_world.specs.declared.end.End.{End as EndKept}
+use Rattle.rendezvous_world.specs.declared.journal.JournalLine.{JournalLine}
+use Rattle.rendezvous_world.specs.declared.step.Step.TheVariants.{End}
+use Rattle.rendezvous_world.specs.Seen.{EndSeen, Seen, group_secret}
+use Rattle.rendezvous_world.specs.Sent.{Sent}
+use Rattle.rendezvous_world.specs.Faults.{is_sent, is_unsent_in, is_forged_at, is_bad}
+use Rattle.rendezvous_world.specs.Stepping.{new_setup, new_end, with_end}
+use Rattle.rendezvous_world.specs.Entering.{WasSentIn, is_same}
+use Rattle.rendezvous_world.specs.Inside.{end_seen, world_seen, named_of, IsKept}
+use Rattle.rendezvous_world.specs.Kept.{IsWorld}
+use Rattle.rendezvous_world.proofs.Finding.{test_other}
+use Rattle.rendezvous_world.proofs.Forging.{same_context_is}
+use Rattle.rendezvous_world.proofs.Keeping.{with_end_is_world}
+
+pub past_front : (n : ℕ) (xs ys : List ℕ) → length xs ≡ n → drop n (xs ++ ys) ≡ ys
+past_front n xs ys is = subst (λ (k : ℕ). drop k (xs ++ ys) ≡ ys) is (behind xs ys)
+  where
+    behind : (xs ys : List ℕ) → drop (length xs) (xs ++ ys) ≡ ys
+    behind [] ys = refl
+    behind (x ∷ xs) ys = behind xs ys
+
+-- ---- forged at an end
+
+pub forged_there : (ends : List EndKept) (k : ℕ) (there : EndKept) (bytes : List ℕ) (sent : List Sent) → there ≡ get_or ends k there → k < length ends →
+    is_forged_at (map end_seen ends) k bytes sent ≡ is_unsent_in (opens_in there.endpoint bytes) bytes sent
+forged_there [] k there bytes sent is lt = absurd (omega arith)
+forged_there (e ∷ ends) zero there bytes sent is lt = ap (λ (x : EndKept). is_unsent_in (opens_in x.endpoint bytes) bytes sent) (sym is)
+forged_there (e ∷ ends) (suc k) there bytes sent is lt =
+    test_other (suc k) 0 (is_unsent_in (opens_in e.endpoint bytes) bytes sent) (is_forged_at (map end_seen ends) (suc k - 1) bytes sent) (λ z. omega arith)
+    ∙ ap (λ (n : ℕ). is_forged_at (map end_seen ends) n bytes sent) (let z : suc k - 1 ≡ k = omega arith in z)
+    ∙ forged_there ends k there bytes sent is (omega (arith, lt))
+
+pub same_sent : (known : Option Context) (context : Context) (bytes : List ℕ) (sent : List Sent) → is_same known context ≡ true → WasSentIn known bytes sent → list_any (is_sent bytes context) sent ≡ true
+same_sent None context bytes sent e h = absurd (cc)
+same_sent (Some k) context bytes sent e h = subst (λ (x : Context). list_any (is_sent bytes x) sent ≡ true) (same_context_is k context e) h
+
+-- ---- one more end
+
+mapped_more : {A B : Type 0} (f : A → B) (xs : List A) (x : A) → map f (xs ++ x ∷ []) ≡ map f xs ++ f x ∷ []
+mapped_more f [] x = refl
+mapped_more f (y ∷ xs) x = ap (λ ys. f y ∷ ys) (mapped_more f xs x)
+
+abbrev pub end_of : List ℕ → ℕ → ℕ → List ℕ → State → EndKept
+end_of name max_peers max_sessions cert state = record {
+  name = name;
+  config = record { max_peers = max_peers; max_sessions = max_sessions; introduces = false };
+  cert = cert;
+  endpoint = state;
+}
+
+abbrev pub setup_with : ℕ → ℕ → List ℕ → List ℕ → Setup
+setup_with max_peers max_sessions cert cookie_secret = record {
+  config = record { max_peers = max_peers; max_sessions = max_sessions; introduces = false };
+  cert = cert;
+  secret = group_secret;
+  cookie_secret = cookie_secret;
+}
+
+end_is : (given name print cert : List ℕ) (max_peers max_sessions : ℕ) (state : State) → given ≡ name → print ≡ sha256 cert → state ≡ fresh (setup_with max_peers max_sessions cert print) →
+    end_seen (end_of given max_peers max_sessions cert state) ≡ new_end name (new_setup max_peers max_sessions cert)
+end_is given name print cert max_peers max_sessions state is printed begun =
+    ap (λ (n : List ℕ). end_seen (end_of n max_peers max_sessions cert state)) is
+    ∙ ap (λ (s : State). end_seen (end_of name max_peers max_sessions cert s)) (begun ∙ ap (λ (p : List ℕ). fresh (setup_with max_peers max_sessions cert p)) printed)
+
+pub seen_end : (moment : ℕ) (ends : List EndKept) (lines : List JournalLine) (given name print cert : List ℕ) (max_peers max_sessions : ℕ) (state : State) → given ≡ name → print ≡ sha256 cert →
+    state ≡ fresh (setup_with max_peers max_sessions cert print) →
+    world_seen moment (ends ++ end_of given max_peers max_sessions cert state ∷ []) lines ≡ with_end (world_seen moment ends lines) (new_end name (new_setup max_peers max_sessions cert))
+seen_end moment ends lines given name print cert max_peers max_sessions state is printed begun =
+    ap (λ (es : List EndSeen). let w : Seen = record { moment = moment; ends = es; lines = lines } in w)
+    (mapped_more end_seen ends (end_of given max_peers max_sessions cert state)
+    ∙ ap (λ (e : EndSeen). map end_seen ends ++ e ∷ []) (end_is given name print cert max_peers max_sessions state is printed begun))
+
+pub kept_end : (moment : ℕ) (ends : List EndKept) (named : List Named) (lines : List JournalLine) (starts : List ℕ) (sent : ℕ) → IsKept moment ends named lines starts sent →
+    (given again name print cert : List ℕ) (max_peers max_sessions : ℕ) (state : State) → given ≡ name → again ≡ name → print ≡ sha256 cert → IsCertificate cert → state ≡ fresh (setup_with max_peers max_sessions cert print) →
+    is_bad (world_seen moment ends lines) (End name max_peers max_sessions cert) ≡ false →
+    IsKept moment (ends ++ end_of given max_peers max_sessions cert state ∷ []) (named ++ record { print = print; name = again } ∷ []) lines starts sent
+kept_end moment ends named lines starts sent kept given again name print cert max_peers max_sessions state is is_again printed certified begun fine = record {
+  names =
+      ap (λ (ns : List Named). ns ++ record { print = print; name = again } ∷ []) kept.names
+      ∙ ap (λ (p : List ℕ). map named_of (map end_seen ends) ++ record { print = p; name = again } ∷ []) printed
+      ∙ ap (λ (n : List ℕ). map named_of (map end_seen ends) ++ record { print = sha256 cert; name = n } ∷ []) (is_again ∙ sym is)
+      ∙ sym (mapped_more named_of (map end_seen ends) (end_seen (end_of given max_peers max_sessions cert state)))
+      ∙ ap (map named_of) (sym (mapped_more end_seen ends (end_of given max_peers max_sessions cert state)));
+  begins = kept.begins;
+  total = kept.total;
+  fits = kept.fits;
+  world = subst (λ (x : Seen). IsWorld x) (sym (seen_end moment ends lines given name print cert max_peers max_sessions state is printed begun))
+      (with_end_is_world (world_seen moment ends lines) name cert max_peers max_sessions kept.world certified fine);
+}

@@ -1,0 +1,193 @@
+-- What a step answers, by what refuses it.
+use Rattle.std.proofs.Common.{◌≡◌, ℕ, ◌<◌, ◌^◌, ◌||◌, Bool, true, false, List, [], ◌∷◌, map, length, Option, Some, None, IfSome, IfNone, OnOk, IfErr, Result, Ok, Err, nat_le, refl, sym, ap, ◌∙◌, subst, inl, arith}
+use Rattle.std.specs.List.{list_any}
+use Rattle.std.proofs.lemmas.Bool.Decides.{nat_tests}
+use Rattle.sha2.specs.Sha256.{sha256}
+use Rattle.glare_core.specs.Calls.{first_that_stands, where_true}
+use Rattle.endpoint.specs.Laws.{AreBytes}
+use Rattle.rtmfp_forms.specs.Address.{AddressParts}
+use Rattle.rendezvous_world.specs.declared.step.Step.{Step}
+use Rattle.rendezvous_world.specs.declared.step.Step.TheVariants.{End, At, Open, Cancel, Deliver, Bent, Inject, Forge, Tick}
+use Rattle.rendezvous_world.specs.declared.step.StepFault.{StepFault}
+use Rattle.rendezvous_world.specs.declared.step.StepFault.TheVariants.{NoEnd, NoDatagram, BadStep, Forged, Memory}
+use Rattle.rendezvous_world.specs.Seen.{EndSeen, Seen}
+use Rattle.rendezvous_world.specs.Faults.{is_missing, lacks_end, lacks_datagram, is_like, is_outside, is_bad, is_forged, is_forged_by, step_fault}
+use Rattle.rendezvous_world.specs.Stepping.{Stepped}
+use Rattle.rendezvous_world.specs.Sound.{AreBelow}
+use Rattle.rendezvous_world.specs.Inside.{named_of, is_like_named}
+use Rattle.rendezvous_world.specs.Entering.{CallsAnEnd, peer_of, IsEntering, IsEntered, IsBringing, IsDone}
+
+-- ---- the first reason
+
+first_fault : (a b c d : Bool) → a ≡ true → first_that_stands (where_true a NoEnd ∷ where_true b NoDatagram ∷ where_true c BadStep ∷ where_true d Forged ∷ []) ≡ Some NoEnd
+first_fault true b c d e = refl
+first_fault false b c d e = absurd (cc)
+
+second_fault : (a b c d : Bool) → a ≡ false → b ≡ true → first_that_stands (where_true a NoEnd ∷ where_true b NoDatagram ∷ where_true c BadStep ∷ where_true d Forged ∷ []) ≡ Some NoDatagram
+second_fault true b c d e f = absurd (cc)
+second_fault false true c d e f = refl
+second_fault false false c d e f = absurd (cc)
+
+third_fault : (a b c d : Bool) → a ≡ false → b ≡ false → c ≡ true → first_that_stands (where_true a NoEnd ∷ where_true b NoDatagram ∷ where_true c BadStep ∷ where_true d Forged ∷ []) ≡ Some BadStep
+third_fault true b c d e f g = absurd (cc)
+third_fault false true c d e f g = absurd (cc)
+third_fault false false true d e f g = refl
+third_fault false false false d e f g = absurd (cc)
+
+last_fault : (a b c d : Bool) → a ≡ false → b ≡ false → c ≡ false → first_that_stands (where_true a NoEnd ∷ where_true b NoDatagram ∷ where_true c BadStep ∷ where_true d Forged ∷ []) ≡ where_true d Forged
+last_fault true b c d e f g = absurd (cc)
+last_fault false true c d e f g = absurd (cc)
+last_fault false false true d e f g = absurd (cc)
+last_fault false false false true e f g = refl
+last_fault false false false false e f g = refl
+
+module _ (w : Seen) (number : ℕ) (step : Step) where
+  fault_done : (fault : StepFault) → step_fault w step ≡ Some fault → IsDone w number step (Err fault) w
+  fault_done fault e = record {
+    ok = tt;
+    refused = subst (λ (o : Option StepFault). IfSome o (λ x. (◌≡◌ {A = Result (Unit {0}) StepFault} (Err fault) (Err x)) × (w ≡ w))) (sym e) (refl, refl);
+    memory = subst (λ (o : Option StepFault). IfNone o (fault ≡ Memory)) (sym e) tt;
+    err = inl refl;
+  }
+
+  pub lacking_done : lacks_end w step ≡ true → IsDone w number step (Err NoEnd) w
+  lacking_done e = fault_done NoEnd (first_fault (lacks_end w step) (lacks_datagram w step) (is_bad w step) (is_forged w step) e)
+
+  pub absent_done : lacks_end w step ≡ false → lacks_datagram w step ≡ true → IsDone w number step (Err NoDatagram) w
+  absent_done e f = fault_done NoDatagram (second_fault (lacks_end w step) (lacks_datagram w step) (is_bad w step) (is_forged w step) e f)
+
+  pub bad_done : lacks_end w step ≡ false → lacks_datagram w step ≡ false → is_bad w step ≡ true → IsDone w number step (Err BadStep) w
+  bad_done e f g = fault_done BadStep (third_fault (lacks_end w step) (lacks_datagram w step) (is_bad w step) (is_forged w step) e f g)
+
+  pub forged_done : step_fault w step ≡ Some Forged → IsDone w number step (Err Forged) w
+  forged_done e = fault_done Forged e
+
+  pub fault_left : lacks_end w step ≡ false → lacks_datagram w step ≡ false → is_bad w step ≡ false → step_fault w step ≡ where_true (is_forged w step) Forged
+  fault_left e f g = last_fault (lacks_end w step) (lacks_datagram w step) (is_bad w step) (is_forged w step) e f g
+
+  pub memory_done : (t : Seen) → t ≡ w → step_fault w step ≡ None → IsDone w number step (Err Memory) t
+  memory_done t same e = record {
+    ok = tt;
+    refused = subst (λ (o : Option StepFault). IfSome o (λ x. (◌≡◌ {A = Result (Unit {0}) StepFault} (Err Memory) (Err x)) × (t ≡ w))) (sym e) tt;
+    memory = subst (λ (o : Option StepFault). IfNone o (◌≡◌ {A = StepFault} Memory Memory)) (sym e) refl;
+    err = inl same;
+  }
+
+  pub done_done : (t : Seen) → step_fault w step ≡ None → Stepped w number step t → IsDone w number step (Ok tt) t
+  done_done t e stepped = record {
+    ok = stepped;
+    refused = subst (λ (o : Option StepFault). IfSome o (λ x. (◌≡◌ {A = Result (Unit {0}) StepFault} (Ok tt) (Err x)) × (t ≡ w))) (sym e) tt;
+    memory = subst (λ (o : Option StepFault). IfNone o (Unit {0})) (sym e) tt;
+    err = tt;
+  }
+
+-- ---- a step that calls an end
+
+stepped : (w : Seen) (number : ℕ) (step : Step) (r : Result (Unit {0}) StepFault) (t : Seen) → CallsAnEnd step → IsEntered w number step r t → OnOk r (Stepped w number step t)
+stepped w number (End name max_peers max_sessions cert) r t calls h = absurd calls
+stepped w number (At moment) r t calls h = absurd calls
+stepped w number (Open end peer list) r t calls h = h.ok
+stepped w number (Cancel end n) r t calls h = h.ok
+stepped w number (Deliver sent end from) r t calls h = h.ok
+stepped w number (Bent sent place end from) r t calls h = h.ok
+stepped w number (Inject end from bytes) r t calls h = h.ok
+stepped w number (Forge end from plain) r t calls h = h.ok
+stepped w number (Tick end) r t calls h = h.ok
+
+pub entered_done : (w : Seen) (number : ℕ) (step : Step) (r : Result (Unit {0}) StepFault) (t : Seen) → CallsAnEnd step → step_fault w step ≡ None → IsEntered w number step r t → IsDone w number step r t
+entered_done w number step r t calls e h = record {
+  ok = stepped w number step r t calls h;
+  refused = subst (λ (o : Option StepFault). IfSome o (λ x. (r ≡ Err x) × (t ≡ w))) (sym e) tt;
+  memory = subst (λ (o : Option StepFault). IfNone o (IfErr r (λ fault. fault ≡ Memory))) (sym e) h.memory;
+  err = h.err;
+}
+
+pub there_is : (w : Seen) (end : ℕ) → is_missing w end ≡ false → end < length w.ends
+there_is w end e = grind (arith, nat_tests)
+
+or_false : (a b : Bool) → (a || b) ≡ false → (a ≡ false) × (b ≡ false)
+or_false true b e = absurd (cc)
+or_false false b e = (refl, e)
+
+no_bytes : AreBytes []
+no_bytes k d lt = absurd (omega arith)
+
+pub entering_open : (w : Seen) (number end peer : ℕ) (list : List AddressParts) → AreBelow w.lines number → number < 2 ^ 32 → (is_missing w end || is_missing w peer) ≡ false → IsEntering w number end (Open end peer list) None []
+entering_open w number end peer list above fits there =
+    let both = or_false (is_missing w end) (is_missing w peer) there in
+    record {
+      above = above;
+      fits = fits;
+      there = there_is w end both.0;
+      calls = tt;
+      called = refl;
+      peer = there_is w peer both.1;
+      datagram = refl;
+      bytes = refl;
+      short = omega arith;
+      are_bytes = no_bytes;
+      fine = fault_left w number (Open end peer list) there refl refl;
+    }
+
+pub entering_cancel : (w : Seen) (number end n : ℕ) → AreBelow w.lines number → number < 2 ^ 32 → is_missing w end ≡ false → IsEntering w number end (Cancel end n) None []
+entering_cancel w number end n above fits there = record {
+  above = above;
+  fits = fits;
+  there = there_is w end there;
+  calls = tt;
+  called = refl;
+  peer = there_is w end there;
+  datagram = refl;
+  bytes = refl;
+  short = omega arith;
+  are_bytes = no_bytes;
+  fine = fault_left w number (Cancel end n) there refl refl;
+}
+
+pub entering_tick : (w : Seen) (number end : ℕ) → AreBelow w.lines number → number < 2 ^ 32 → is_missing w end ≡ false → IsEntering w number end (Tick end) None []
+entering_tick w number end above fits there = record {
+  above = above;
+  fits = fits;
+  there = there_is w end there;
+  calls = tt;
+  called = refl;
+  peer = there_is w end there;
+  datagram = refl;
+  bytes = refl;
+  short = omega arith;
+  are_bytes = no_bytes;
+  fine = fault_left w number (Tick end) there refl refl;
+}
+
+-- ---- a step that brings a datagram
+
+pub entering_bringing : (w : Seen) (number end : ℕ) (step again : Step) (bytes copy : List ℕ) → IsBringing w number end step bytes → is_forged_by w end (Some bytes) ≡ false → AreBytes bytes → again ≡ step → copy ≡ bytes →
+    IsEntering w number end again (Some copy) bytes
+entering_bringing w number end step again bytes copy b fine are same_step same_bytes =
+    subst (λ (x : Step). IsEntering w number end x (Some copy) bytes) (sym same_step)
+    (subst (λ (x : List ℕ). IsEntering w number end step (Some x) bytes) (sym same_bytes) (record {
+      above = b.above;
+      fits = b.fits;
+      there = b.there;
+      calls = b.calls;
+      called = b.called;
+      peer = (let p : peer_of step ≡ end = b.peer in let t : end < length w.ends = b.there in subst (λ (k : ℕ). k < length w.ends) (sym p) t);
+      datagram = sym b.datagram;
+      bytes = refl;
+      short = b.short;
+      are_bytes = are;
+      fine = b.fault ∙ ap (λ (x : Bool). where_true x Forged) fine;
+    }))
+
+-- ---- a new end
+
+pub like_named : (name cert : List ℕ) (ends : List EndSeen) → list_any (is_like_named name (sha256 cert)) (map named_of ends) ≡ list_any (is_like name cert) ends
+like_named name cert [] = refl
+like_named name cert (e ∷ ends) = ap (λ (b : Bool). is_like name cert e || b) (like_named name cert ends)
+
+pub bad_end_is : (w : Seen) (name cert print : List ℕ) (max_peers max_sessions : ℕ) (answer : Bool) → print ≡ sha256 cert →
+    answer ≡ (list_any (is_like_named name print) (map named_of w.ends) || nat_le 1024 (length w.ends) || is_outside 1048576 max_peers || is_outside 65536 max_sessions) →
+    answer ≡ is_bad w (End name max_peers max_sessions cert)
+bad_end_is w name cert print max_peers max_sessions answer is e =
+    e ∙ ap (λ (p : List ℕ). list_any (is_like_named name p) (map named_of w.ends) || nat_le 1024 (length w.ends) || is_outside 1048576 max_peers || is_outside 65536 max_sessions) is
+    ∙ ap (λ (b : Bool). b || nat_le 1024 (length w.ends) || is_outside 1048576 max_peers || is_outside 65536 max_sessions) (like_named name cert w.ends)

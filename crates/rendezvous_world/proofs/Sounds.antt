@@ -1,0 +1,52 @@
+-- A world is sound.
+use Rattle.std.proofs.Common.{◌≡◌, ℕ, ◌<◌, List, [], length, inl, inr, sym, ap, subst, ◌∙◌, arith}
+use Rattle.endpoint.specs.Event.{Setup, Event, own_of}
+use Rattle.endpoint.specs.Lawful.{IsLawful}
+use Rattle.endpoint.specs.History.{log_of, AreLawful, IsFresh, TakesPart}
+use Rattle.endpoint.proofs.OutLaw.{every_log_is_lawful}
+use Rattle.rendezvous_world.specs.Seen.{Seen, setup_at}
+use Rattle.rendezvous_world.specs.History.{history_of}
+use Rattle.rendezvous_world.specs.Sound.{IsSound}
+use Rattle.rendezvous_world.specs.Kept.{IsWorld}
+use Rattle.rendezvous_world.specs.Laws.{EveryWorldIsSound}
+use Rattle.rendezvous_world.proofs.Ends.{below_or_not, is_there, setup_is}
+use Rattle.rendezvous_world.proofs.Told.{takes_part_below, log_absent}
+
+module _ (w : Seen) (is : IsWorld w) where
+  pub takes_part : (who : ℕ) → TakesPart who (history_of w) → who < length w.ends
+  takes_part who h = takes_part_below (length w.ends) w.ends w.lines who is.lines h
+
+  lawful : AreLawful (setup_at w.ends) (history_of w)
+  lawful who = elim (below_or_not who (length w.ends)) [
+    | inl below ↦
+        (let there = is_there w.ends who below in
+        let of_end : IsLawful there.0.setup (log_of who (history_of w)) =
+        every_log_is_lawful there.0.setup (log_of who (history_of w)) there.0.state (is.given who there.0 there.1).sized (is.calls who) (is.stand who there.0 there.1) in
+        subst (λ (setup : Setup). IsLawful setup (log_of who (history_of w))) (sym (setup_is w.ends who there.0 there.1)) of_end)
+    | inr past ↦
+        (let none : log_of who (history_of w) ≡ [] = log_absent who (history_of w) (λ h. (let below : who < length w.ends = takes_part who h in omega arith)) in
+        subst (λ (log : List Event). IsLawful (setup_at w.ends who) log) (sym none) tt)
+  ]
+
+  fresh : IsFresh (setup_at w.ends) (history_of w)
+  fresh = record {
+    nonces = is.nonces;
+    prints = λ a b ha hb same.
+        (let x = is_there w.ends a (takes_part a ha) in
+        let y = is_there w.ends b (takes_part b hb) in
+        is.prints a b x.0 y.0 x.1 y.1 (sym (ap own_of (setup_is w.ends a x.0 x.1)) ∙ same ∙ ap own_of (setup_is w.ends b y.0 y.1)));
+  }
+
+  pub sound : IsSound w
+  sound = record { stand = is.stand; lawful = lawful; honest = is.honest; fresh = fresh }
+
+  -- the ends that take part have one secret
+  pub one_group : (a b : ℕ) → TakesPart a (history_of w) → TakesPart b (history_of w) → (setup_at w.ends a).secret ≡ (setup_at w.ends b).secret
+  one_group a b ha hb =
+      let x = is_there w.ends a (takes_part a ha) in
+      let y = is_there w.ends b (takes_part b hb) in
+      ap (λ (setup : Setup). setup.secret) (setup_is w.ends a x.0 x.1) ∙ (is.given a x.0 x.1).secret
+      ∙ sym ((is.given b y.0 y.1).secret) ∙ sym (ap (λ (setup : Setup). setup.secret) (setup_is w.ends b y.0 y.1))
+
+pub every_world_is_sound : EveryWorldIsSound
+every_world_is_sound w is = sound w is

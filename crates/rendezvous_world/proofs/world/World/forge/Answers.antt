@@ -1,0 +1,14 @@
+use Rattle.std.proofs.Common.{◌≤◌, length, sym, ap, ◌∙◌, subst, arith}
+use Rattle.rendezvous_world.specs.declared.step.Step.{Step}
+use Rattle.rendezvous_world.specs.Datagrams.{forged}
+use Rattle.rendezvous_world.specs.Entering.{IsBringing}
+use Rattle.rendezvous_world.proofs.Fetching.{bringing_forge, few_test}
+use Rattle.rendezvous_world.proofs.world.World.forge.Goals as goal
+
+pub bring-requires-clause-bringing : goal.bring-requires-clause-bringing
+bring-requires-clause-bringing c =
+    let few : length c.args.plain.now ≤ 1164 = omega (arith, c.len.ensures, c.if-len-gt-MOST_PLAIN.false) in
+    let small : length c.forge.new.buffer ≤ 2048 = omega (arith, few, c.len-2.ensures, c.forge.auto.buffer, c.split_at_mut-datagram.ensures.front_len) in
+    subst (λ (s : Step). IsBringing c.args.self.now c.args.line c.args.end s c.forge.new.buffer) (sym c.requires.step)
+    (bringing_forge c.args.self.now c.args.line c.args.end c.args.from.now c.forge.new.buffer c.requires.above c.requires.fits (sym c.lacks.ensures ∙ c.if-lacks.false) small
+    c.args.plain.now (few_test (length c.args.plain.now) few) (sym (c.forge.ensures ∙ ap forged c.bytes.ensures)))

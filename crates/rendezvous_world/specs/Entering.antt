@@ -1,0 +1,132 @@
+-- How a step is taken: the call that it makes, its line in the journal, and what it answers.
+use Rattle.std.specs.Prelude.{ℕ, ◌≡◌, ◌<◌, ◌≤◌, ◌^◌, ◌⊎◌, Bool, true, false, List, length, take, Option, Some, None, IfSome, IfNone, OnOk, OnErr, IfErr, Result, Ok, Err}
+use Rattle.std.specs.List.{list_any}
+use Rattle.crypto_profile.specs.declared.keys.Context.{Context}
+use Rattle.endpoint.specs.declared.entry.Entry.{Entry}
+use Rattle.endpoint.specs.declared.answers.Stopped.{Stopped as Stop}
+use Rattle.endpoint.specs.Laws.{AreBytes}
+use Rattle.endpoint.specs.Event.{Call, Open as OpenCall, Cancel as CancelCall, Receive, Tick as TickCall, Event}
+use Rattle.rendezvous_world.specs.declared.bringing.Fetched.{Fetched}
+use Rattle.rendezvous_world.specs.declared.journal.JournalLine.{JournalLine}
+use Rattle.rendezvous_world.specs.declared.journal.Refused.{Refused}
+use Rattle.rendezvous_world.specs.declared.step.Step.{Step}
+use Rattle.rendezvous_world.specs.declared.step.Step.TheVariants.{End, At, Open, Cancel, Deliver, Bent, Inject, Forge, Tick}
+use Rattle.rendezvous_world.specs.declared.step.StepFault.{StepFault}
+use Rattle.rendezvous_world.specs.declared.step.StepFault.TheVariants.{Forged, Memory}
+use Rattle.rendezvous_world.specs.Draws.{draws_of}
+use Rattle.rendezvous_world.specs.Seen.{Seen}
+use Rattle.rendezvous_world.specs.Sent.{Sent, sent_in}
+use Rattle.rendezvous_world.specs.Datagrams.{datagram_of}
+use Rattle.rendezvous_world.specs.Faults.{step_fault, is_forged, is_forged_by, is_sent, same_context}
+use Rattle.glare_core.specs.Calls.{where_true}
+use Rattle.rendezvous_world.specs.History.{moment_given, answer_of, bytes_or_none}
+use Rattle.rendezvous_world.specs.Stepping.{Called, Stepped, StoppedIn, called_by, lacks_memory}
+use Rattle.rendezvous_world.specs.Sound.{AreBelow}
+
+-- ---- a call
+
+-- The step calls an end.
+abbrev pub CallsAnEnd : Step → Type 0
+CallsAnEnd (End name max_peers max_sessions cert) = ⊥
+CallsAnEnd (At moment) = ⊥
+CallsAnEnd step = Unit {0}
+
+-- the end whose fingerprint the call is given; for a call that is given none, the end that is called
+abbrev pub peer_of : Step → ℕ
+peer_of (Open end peer list) = peer
+peer_of (End name max_peers max_sessions cert) = 0
+peer_of (At moment) = 0
+peer_of (Cancel end n) = end
+peer_of (Deliver number end from) = end
+peer_of (Bent number place end from) = end
+peer_of (Inject end from bytes) = end
+peer_of (Forge end from plain) = end
+peer_of (Tick end) = end
+
+-- the call of a step, by the fingerprint and the datagram that it is given
+abbrev pub call_by : List ℕ → ℕ → List ℕ → Step → Call
+call_by print line bytes (Open end peer list) = OpenCall print list (draws_of line)
+call_by print line bytes (Cancel end n) = CancelCall n
+call_by print line bytes (Deliver number end from) = Receive from bytes (draws_of line)
+call_by print line bytes (Bent number place end from) = Receive from bytes (draws_of line)
+call_by print line bytes (Inject end from plain) = Receive from bytes (draws_of line)
+call_by print line bytes (Forge end from plain) = Receive from bytes (draws_of line)
+call_by print line bytes step = TickCall (draws_of line)
+
+abbrev pub event_by : List ℕ → ℕ → ℕ → Step → List ℕ → Option Refused → Option Stop → List Entry → Event
+event_by print line moment step bytes refused stopped entries = record {
+  moment = moment_given moment step;
+  call = call_by print line bytes step;
+  answer = answer_of step refused stopped entries;
+  entries = entries;
+}
+
+-- ---- its line
+
+-- What a step that calls an end is given: nothing refuses it.
+pub record IsEntering (w : Seen) (number end : ℕ) (step : Step) (brought : Option (List ℕ)) (taken : List ℕ) : Type 0 where
+  pub above : AreBelow w.lines number
+  pub fits : number < 2 ^ 32
+  pub there : end < length w.ends
+  pub calls : CallsAnEnd step
+  pub called : called_by step ≡ end
+  pub peer : peer_of step < length w.ends
+  pub datagram : brought ≡ datagram_of (sent_in w.lines) step
+  pub bytes : taken ≡ bytes_or_none brought
+  pub short : length taken ≤ 2048
+  pub are_bytes : AreBytes taken
+  pub fine : step_fault w step ≡ None
+
+-- What it leaves.
+pub record IsEntered (w : Seen) (number : ℕ) (step : Step) (result : Result (Unit {0}) StepFault) (t : Seen) : Type 0 where
+  pub ok : OnOk result ((line : JournalLine) × (lacks_memory line.refused line.stopped ≡ false) × Called w number step line t)
+  pub memory : IfErr result (λ fault. fault ≡ Memory)
+  pub err : OnErr result ((t ≡ w) ⊎ StoppedIn w number step t)
+
+abbrev pub answered : Bool → Result (Unit {0}) StepFault
+answered true = Err Memory
+answered false = Ok tt
+
+-- ---- a datagram
+
+-- Nothing refuses the step that brings these bytes to an end, but for a forged datagram.
+pub record IsBringing (w : Seen) (number end : ℕ) (step : Step) (bytes : List ℕ) : Type 0 where
+  pub above : AreBelow w.lines number
+  pub fits : number < 2 ^ 32
+  pub there : end < length w.ends
+  pub calls : CallsAnEnd step
+  pub called : called_by step ≡ end
+  pub peer : peer_of step ≡ end
+  pub datagram : datagram_of (sent_in w.lines) step ≡ Some bytes
+  pub short : length bytes ≤ 2048
+  pub forged : is_forged w step ≡ is_forged_by w end (Some bytes)
+  pub fault : step_fault w step ≡ where_true (is_forged_by w end (Some bytes)) Forged
+
+-- A datagram was sent with these bytes in this context, where one is given.
+abbrev pub WasSentIn : Option Context → List ℕ → List Sent → Type 0
+WasSentIn None bytes sent = Unit {0}
+WasSentIn (Some context) bytes sent = list_any (is_sent bytes context) sent ≡ true
+
+abbrev pub is_same : Option Context → Context → Bool
+is_same None other = false
+is_same (Some context) other = same_context context other
+
+-- The front of the room is the datagram that was found, if it fits.
+pub record IsFetchedAs (sent : Sent) (fetched : Fetched) (room : List ℕ) : Type 0 where
+  pub context : sent.context ≡ fetched.context
+  pub size : length sent.datagram ≡ fetched.length
+  pub bytes : fetched.length ≤ 2048 → take fetched.length room ≡ sent.datagram
+
+abbrev pub IsFetched : Option Sent → Option Fetched → List ℕ → Type 0
+IsFetched None None room = Unit {0}
+IsFetched None (Some fetched) room = ⊥
+IsFetched (Some sent) None room = ⊥
+IsFetched (Some sent) (Some fetched) room = IsFetchedAs sent fetched room
+
+-- ---- what a step answers and leaves
+
+pub record IsDone (w : Seen) (number : ℕ) (step : Step) (result : Result (Unit {0}) StepFault) (t : Seen) : Type 0 where
+  pub ok : OnOk result (Stepped w number step t)
+  pub refused : IfSome (step_fault w step) (λ fault. (result ≡ Err fault) × (t ≡ w))
+  pub memory : IfNone (step_fault w step) (IfErr result (λ fault. fault ≡ Memory))
+  pub err : OnErr result ((t ≡ w) ⊎ StoppedIn w number step t)

@@ -1,0 +1,88 @@
+-- The history that a journal tells: its lines as events of its ends.
+use Rattle.std.specs.Prelude.{ℕ, List, [], ◌∷◌, Option, Some, None}
+use Rattle.glare_core.specs.declared.facts.Fact.TheVariants.{Started}
+use Rattle.endpoint.specs.declared.entry.Entry.{Entry}
+use Rattle.endpoint.specs.declared.entry.Entry.TheVariants.{Fact}
+use Rattle.endpoint.specs.declared.answers.Stopped.{Stopped as Stop}
+use Rattle.endpoint.specs.Event.{Call, Open as OpenCall, Cancel as CancelCall, Receive, Tick as TickCall, Answer, Began, Done, NotOpened, Refused as RefusedCall, Stopped, OutOfMemory, Event}
+use Rattle.endpoint.specs.History.{Happened, History}
+use Rattle.rendezvous_world.specs.declared.journal.JournalLine.{JournalLine}
+use Rattle.rendezvous_world.specs.declared.journal.Refused.{Refused}
+use Rattle.rendezvous_world.specs.declared.journal.Refused.TheVariants.{Open as OpenRefused, Call as CallRefused}
+use Rattle.rendezvous_world.specs.declared.step.Step.{Step}
+use Rattle.rendezvous_world.specs.declared.step.Step.TheVariants.{Open, Cancel, Deliver, Bent, Inject, Forge}
+use Rattle.rendezvous_world.specs.Draws.{draws_of}
+use Rattle.rendezvous_world.specs.Seen.{EndSeen, Seen, print_at}
+
+abbrev pub bytes_or_none : Option (List ℕ) → List ℕ
+bytes_or_none None = []
+bytes_or_none (Some bytes) = bytes
+
+-- the call that a step makes, on this line and with this datagram; a step that calls no end stands in no journal
+abbrev pub call_of : List EndSeen → ℕ → Option (List ℕ) → Step → Call
+call_of ends line datagram (Open end peer list) = OpenCall (print_at ends peer) list (draws_of line)
+call_of ends line datagram (Cancel end n) = CancelCall n
+call_of ends line datagram (Deliver number end from) = Receive from (bytes_or_none datagram) (draws_of line)
+call_of ends line datagram (Bent number place end from) = Receive from (bytes_or_none datagram) (draws_of line)
+call_of ends line datagram (Inject end from bytes) = Receive from (bytes_or_none datagram) (draws_of line)
+call_of ends line datagram (Forge end from plain) = Receive from (bytes_or_none datagram) (draws_of line)
+call_of ends line datagram step = TickCall (draws_of line)
+
+-- the moment that the call is given; a cancel is given none
+abbrev pub moment_given : ℕ → Step → ℕ
+moment_given moment (Cancel end n) = 0
+moment_given moment step = moment
+
+-- the number of the first attempt that was started
+abbrev pub number_started : List Entry → ℕ
+number_started [] = 0
+number_started (Fact (Started peer n near ni) ∷ rest) = n
+number_started (entry ∷ rest) = number_started rest
+
+abbrev pub answer_to_open : Option Refused → List Entry → Answer
+answer_to_open None entries = Began (number_started entries)
+answer_to_open (Some (OpenRefused refusal)) entries = NotOpened refusal
+answer_to_open (Some (CallRefused refusal)) entries = RefusedCall refusal
+
+abbrev pub answer_to_cancel : Option Refused → Answer
+answer_to_cancel None = Done
+answer_to_cancel (Some (OpenRefused refusal)) = NotOpened refusal
+answer_to_cancel (Some (CallRefused refusal)) = RefusedCall refusal
+
+abbrev pub answer_to_datagram : Option Stop → Answer
+answer_to_datagram None = Done
+answer_to_datagram (Some stop) = Stopped stop
+
+abbrev pub answer_to_tick : Option Stop → Answer
+answer_to_tick None = Done
+answer_to_tick (Some stop) = OutOfMemory
+
+-- what the call answered
+abbrev pub answer_of : Step → Option Refused → Option Stop → List Entry → Answer
+answer_of (Open end peer list) refused stopped entries = answer_to_open refused entries
+answer_of (Cancel end n) refused stopped entries = answer_to_cancel refused
+answer_of (Deliver number end from) refused stopped entries = answer_to_datagram stopped
+answer_of (Bent number place end from) refused stopped entries = answer_to_datagram stopped
+answer_of (Inject end from bytes) refused stopped entries = answer_to_datagram stopped
+answer_of (Forge end from plain) refused stopped entries = answer_to_datagram stopped
+answer_of step refused stopped entries = answer_to_tick stopped
+
+abbrev pub event_of : List EndSeen → JournalLine → Event
+event_of ends line = record {
+  moment = moment_given line.moment line.step;
+  call = call_of ends line.line line.datagram line.step;
+  answer = answer_of line.step line.refused line.stopped line.out.entries;
+  entries = line.out.entries;
+}
+
+abbrev pub happened : List EndSeen → JournalLine → Happened
+happened ends line = record { who = line.end; event = event_of ends line }
+
+-- lines, the oldest first, on top of what happened before them
+abbrev pub after_lines : List EndSeen → List JournalLine → History → History
+after_lines ends [] earlier = earlier
+after_lines ends (line ∷ lines) earlier = after_lines ends lines (happened ends line ∷ earlier)
+
+-- the history of a world, the newest first
+abbrev pub history_of : Seen → History
+history_of w = after_lines w.ends w.lines []

@@ -1,0 +1,80 @@
+-- What each step keeps of a world.
+use Rattle.std.specs.Prelude.{ℕ, ◌≡◌, ◌<◌, ◌^◌, ◌⊎◌, List, [], ◌∷◌, length, slice_get, Some}
+use Rattle.std.specs.List.{AllByRecursion}
+use Rattle.glare_core.specs.Steps.{Among}
+use Rattle.glare_core.specs.Told.{AllDifferent}
+use Rattle.endpoint.specs.Event.{Setup, own_of}
+use Rattle.endpoint.specs.Log.{StandsFor}
+use Rattle.endpoint.specs.Laws.{IsSetup, AreCalls}
+use Rattle.endpoint.specs.History.{log_of, IsHonest, nonces_in}
+use Rattle.rendezvous_world.specs.declared.journal.JournalLine.{JournalLine}
+use Rattle.rendezvous_world.specs.declared.step.Step.{Step}
+use Rattle.rendezvous_world.specs.declared.step.Step.TheVariants.{End, At, Open, Cancel, Deliver, Bent, Inject, Forge, Tick}
+use Rattle.rendezvous_world.specs.Draws.{two_numbers}
+use Rattle.rendezvous_world.specs.Seen.{EndSeen, Seen, group_secret, setup_at}
+use Rattle.rendezvous_world.specs.History.{history_of}
+
+-- What an end was given has its sizes, and its secret is that of the group.
+pub record IsGiven (setup : Setup) : Type 0 where
+  pub sized : IsSetup setup
+  pub secret : setup.secret ≡ group_secret
+
+-- Ends with the same of these bytes are the same end.
+abbrev pub AreApart : (EndSeen → List ℕ) → List EndSeen → Type 0
+AreApart bytes ends = (a b : ℕ) (x y : EndSeen) → slice_get ends a ≡ Some x → slice_get ends b ≡ Some y → bytes x ≡ bytes y → a ≡ b
+
+abbrev pub name_of : EndSeen → List ℕ
+name_of end = end.name
+
+abbrev pub print_of : EndSeen → List ℕ
+print_of end = own_of end.setup
+
+-- The peer that the step opens towards is one of so many ends.
+abbrev pub HasPeer : ℕ → Step → Type 0
+HasPeer count (End name max_peers max_sessions cert) = Unit {0}
+HasPeer count (At moment) = Unit {0}
+HasPeer count (Open end peer list) = peer < count
+HasPeer count (Cancel end n) = Unit {0}
+HasPeer count (Deliver number end from) = Unit {0}
+HasPeer count (Bent number place end from) = Unit {0}
+HasPeer count (Inject end from bytes) = Unit {0}
+HasPeer count (Forge end from plain) = Unit {0}
+HasPeer count (Tick end) = Unit {0}
+
+-- The line is of one of so many ends, and its number fits into 32 bits.
+pub record IsLineIn (count : ℕ) (line : JournalLine) : Type 0 where
+  pub end : line.end < count
+  pub peer : HasPeer count line.step
+  pub small : line.line < 2 ^ 32
+
+-- Each line is below those after it.
+abbrev pub Rise : List JournalLine → Type 0
+Rise [] = Unit {0}
+Rise (line ∷ lines) = AllByRecursion (λ later. line.line < later.line) lines × Rise lines
+
+-- A line has this number.
+abbrev pub HasNumber : ℕ → List JournalLine → Type 0
+HasNumber number [] = ⊥
+HasNumber number (line ∷ lines) = (number ≡ line.line) ⊎ HasNumber number lines
+
+-- The nonce is that of a line.
+pub record IsOfLine (nonce : List ℕ) (lines : List JournalLine) : Type 0 where
+  pub number : ℕ
+  pub there : HasNumber number lines
+  pub is : nonce ≡ two_numbers 0 number
+
+pub record IsWorld (w : Seen) : Type 0 where
+  -- each end stands for its own log
+  pub stand : (who : ℕ) (end : EndSeen) → slice_get w.ends who ≡ Some end → StandsFor end.setup (log_of who (history_of w)) end.state
+  pub given : (who : ℕ) (end : EndSeen) → slice_get w.ends who ≡ Some end → IsGiven end.setup
+  -- different ends have different names and different fingerprints
+  pub names : AreApart name_of w.ends
+  pub prints : AreApart print_of w.ends
+  -- what was given to calls has its sizes
+  pub calls : (who : ℕ) → AreCalls (log_of who (history_of w))
+  pub lines : AllByRecursion (IsLineIn (length w.ends)) w.lines
+  pub rise : Rise w.lines
+  pub honest : IsHonest (setup_at w.ends) (history_of w)
+  -- the nonces are those of lines, none of which gave two
+  pub nonces : AllDifferent (nonces_in (history_of w))
+  pub drawn : (nonce : List ℕ) → Among nonce (nonces_in (history_of w)) → IsOfLine nonce w.lines

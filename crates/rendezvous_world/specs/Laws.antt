@@ -1,0 +1,47 @@
+-- The laws of worlds.
+use Rattle.std.specs.Prelude.{ℕ, ◌≡◌, ◌<◌, ◌^◌, ◌⊎◌, [], None}
+use Rattle.identity.specs.Certificates.{IsCertificate}
+use Rattle.endpoint.specs.Laws.{AreBytes}
+use Rattle.endpoint.specs.Agreed.{IsAgreed}
+use Rattle.rendezvous_world.specs.declared.journal.JournalLine.{JournalLine}
+use Rattle.rendezvous_world.specs.declared.step.Step.{Step}
+use Rattle.rendezvous_world.specs.declared.step.Step.TheVariants.{End}
+use Rattle.rendezvous_world.specs.Seen.{Seen, setup_at}
+use Rattle.rendezvous_world.specs.Sent.{sent_in}
+use Rattle.rendezvous_world.specs.Datagrams.{datagram_of}
+use Rattle.rendezvous_world.specs.History.{bytes_or_none, history_of}
+use Rattle.rendezvous_world.specs.Faults.{step_fault}
+use Rattle.rendezvous_world.specs.Stepping.{Called, Stepped, StoppedIn}
+use Rattle.rendezvous_world.specs.Sound.{IsSound, AreBelow}
+use Rattle.rendezvous_world.specs.Kept.{IsWorld}
+
+-- Where what each step keeps holds of a world, its history is lawful, honest and fresh, and each end stands for its own log.
+abbrev pub EveryWorldIsSound : Type 0
+EveryWorldIsSound = (w : Seen) → IsWorld w → IsSound w
+
+-- And its history is agreed: at each moment, what its ends stated of their sessions with each other fits together.
+abbrev pub EveryWorldIsAgreed : Type 0
+EveryWorldIsAgreed = (w : Seen) → IsWorld w → IsAgreed (setup_at w.ends) (history_of w)
+
+-- A step that isn't refused and calls an end keeps it, whatever the end answered.
+abbrev pub EveryCallKeepsAWorld : Type 0
+EveryCallKeepsAWorld =
+    (w : Seen) (number : ℕ) (step : Step) (line : JournalLine) (t : Seen) → IsWorld w → AreBelow w.lines number → number < 2 ^ 32 → step_fault w step ≡ None →
+    Called w number step line t → AreBytes (bytes_or_none line.datagram) → IsWorld t
+
+-- ---- a whole run
+
+-- no ends and no lines, at moment 0
+abbrev pub empty_world : Seen
+empty_world = record { moment = 0; ends = []; lines = [] }
+
+-- A new end is given a certificate, and the datagram that a step brings is bytes.
+abbrev pub IsSized : Seen → Step → Type 0
+IsSized w (End name max_peers max_sessions cert) = IsCertificate cert
+IsSized w step = AreBytes (bytes_or_none (datagram_of (sent_in w.lines) step))
+
+-- A step that isn't refused keeps it, whether it was done or found no memory.
+abbrev pub EveryStepKeepsAWorld : Type 0
+EveryStepKeepsAWorld =
+    (w : Seen) (number : ℕ) (step : Step) (t : Seen) → IsWorld w → AreBelow w.lines number → number < 2 ^ 32 → IsSized w step → step_fault w step ≡ None →
+    Stepped w number step t ⊎ StoppedIn w number step t → IsWorld t

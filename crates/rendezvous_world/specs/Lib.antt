@@ -1,0 +1,13 @@
+pub mod Seen
+pub mod Draws
+pub mod Sent
+pub mod Datagrams
+pub mod History
+pub mod Faults
+pub mod Stepping
+pub mod Sound
+pub mod Entering
+pub mod Inside
+pub mod Kept
+pub mod Laws
+pub mod Pairs

@@ -1,0 +1,54 @@
+-- What a world is: its moment, its ends by their numbers, and the lines of its journal, the oldest first.
+use Rattle.std.specs.Prelude.{ℕ, false, zero, suc, List, [], ◌∷◌, replicate, refl}
+use Rattle.std.specs.Coded.{Coded, code_by, coded×, coded_ℕ, coded_list}
+use Rattle.endpoint.specs.declared.config.Config.{Config}
+use Rattle.endpoint.specs.Event.{Setup, own_of}
+use Rattle.endpoint.specs.State.{State}
+use Rattle.rendezvous_world.specs.declared.journal.JournalLine.{JournalLine}
+
+pub record EndSeen : Type 0 where
+  pub name : List ℕ
+  -- what it was given at its beginning
+  pub setup : Setup
+  -- what it keeps
+  pub state : State
+
+pub record Seen : Type 0 where
+  pub moment : ℕ
+  pub ends : List EndSeen
+  pub lines : List JournalLine
+
+-- the secret of the group of every end
+abbrev pub group_secret : List ℕ
+group_secret = replicate 32 0
+
+-- what an end of nobody would be given
+abbrev pub nobody : Setup
+nobody = record { config = record { max_peers = 0; max_sessions = 0; introduces = false }; cert = []; secret = group_secret; cookie_secret = [] }
+
+-- what the end with this number was given
+abbrev pub setup_at : List EndSeen → ℕ → Setup
+setup_at [] who = nobody
+setup_at (end ∷ ends) zero = end.setup
+setup_at (end ∷ ends) (suc who) = setup_at ends who
+
+-- the fingerprint of the end with this number
+abbrev pub print_at : List EndSeen → ℕ → List ℕ
+print_at ends who = own_of (setup_at ends who)
+
+-- ---- how a world is stored: as the tuples of its fields
+
+abbrev pub setup_code : Coded Config → Coded Setup
+setup_code config =
+    code_by (Config × (List ℕ × (List ℕ × List ℕ))) (coded× config (coded× (coded_list coded_ℕ) (coded× (coded_list coded_ℕ) (coded_list coded_ℕ))))
+    (λ s. (s.config, (s.cert, (s.secret, s.cookie_secret)))) (λ p. record { config = p.0; cert = p.1.0; secret = p.1.1.0; cookie_secret = p.1.1.1 }) (λ _. refl)
+
+abbrev pub end_code : Coded Config → Coded State → Coded EndSeen
+end_code config state =
+    code_by (List ℕ × (Setup × State)) (coded× (coded_list coded_ℕ) (coded× (setup_code config) state))
+    (λ e. (e.name, (e.setup, e.state))) (λ p. record { name = p.0; setup = p.1.0; state = p.1.1 }) (λ _. refl)
+
+abbrev pub seen_code : Coded Config → Coded State → Coded JournalLine → Coded Seen
+seen_code config state line =
+    code_by (ℕ × (List EndSeen × List JournalLine)) (coded× coded_ℕ (coded× (coded_list (end_code config state)) (coded_list line)))
+    (λ w. (w.moment, (w.ends, w.lines))) (λ p. record { moment = p.0; ends = p.1.0; lines = p.1.1 }) (λ _. refl)

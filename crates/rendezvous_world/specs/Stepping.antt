@@ -1,0 +1,123 @@
+-- What a step leaves.
+use Rattle.std.specs.Prelude.{ℕ, ◌≡◌, ◌-◌, ◌==◌, ◌||◌, Bool, true, false, List, [], ◌∷◌, ◌++◌, Option, Some, None, IfSome, is_some, slice_get, if◌then◌else◌}
+use Rattle.sha2.specs.Sha256.{sha256}
+use Rattle.endpoint.specs.Event.{Setup}
+use Rattle.endpoint.specs.State.{State, fresh}
+use Rattle.endpoint.specs.Log.{Step as StepOf, not_taken}
+use Rattle.rendezvous_world.specs.declared.journal.JournalLine.{JournalLine}
+use Rattle.rendezvous_world.specs.declared.journal.Refused.{Refused}
+use Rattle.rendezvous_world.specs.declared.journal.Refused.TheVariants.{Open as OpenRefused, Call as CallRefused}
+use Rattle.endpoint.specs.declared.answers.OpenRefusal.{OpenRefusal}
+use Rattle.endpoint.specs.declared.answers.OpenRefusal.TheVariants.{Candidates, Start, SessionsFull, Memory as NoMemoryToOpen}
+use Rattle.endpoint.specs.declared.answers.CallRefusal.{CallRefusal}
+use Rattle.endpoint.specs.declared.answers.CallRefusal.TheVariants.{NoAttempt, Memory as NoMemoryToCall}
+use Rattle.endpoint.specs.declared.answers.Stopped.{Stopped as Stop}
+use Rattle.rendezvous_world.specs.declared.step.Step.{Step}
+use Rattle.rendezvous_world.specs.declared.step.Step.TheVariants.{End, At, Open, Cancel, Deliver, Bent, Inject, Forge, Tick}
+use Rattle.rendezvous_world.specs.Seen.{EndSeen, Seen, group_secret}
+use Rattle.rendezvous_world.specs.Sent.{sent_in}
+use Rattle.rendezvous_world.specs.Datagrams.{datagram_of}
+use Rattle.rendezvous_world.specs.History.{event_of}
+
+-- what a new end is given
+abbrev pub new_setup : ℕ → ℕ → List ℕ → Setup
+new_setup max_peers max_sessions cert = record {
+  config = record { max_peers = max_peers; max_sessions = max_sessions; introduces = false };
+  cert = cert;
+  secret = group_secret;
+  cookie_secret = sha256 cert;
+}
+
+abbrev pub new_end : List ℕ → Setup → EndSeen
+new_end name setup = record { name = name; setup = setup; state = fresh setup }
+
+abbrev pub with_end : Seen → EndSeen → Seen
+with_end w end = record { moment = w.moment; ends = w.ends ++ end ∷ []; lines = w.lines }
+
+abbrev pub with_moment : Seen → ℕ → Seen
+with_moment w moment = record { moment = moment; ends = w.ends; lines = w.lines }
+
+abbrev pub in_state : EndSeen → State → EndSeen
+in_state end state = record { name = end.name; setup = end.setup; state = state }
+
+-- the ends, of which the one with this number is now in this state
+abbrev pub with_state : List EndSeen → ℕ → State → List EndSeen
+with_state [] who state = []
+with_state (end ∷ ends) who state = if who == 0 then in_state end state ∷ ends else end ∷ with_state ends (who - 1) state
+
+-- the end that a step calls; of others it says nothing
+abbrev pub called_by : Step → ℕ
+called_by (End name max_peers max_sessions cert) = 0
+called_by (At moment) = 0
+called_by (Open end peer list) = end
+called_by (Cancel end n) = end
+called_by (Deliver number end from) = end
+called_by (Bent number place end from) = end
+called_by (Inject end from bytes) = end
+called_by (Forge end from plain) = end
+called_by (Tick end) = end
+
+-- What the line of a step can tell of its answer: an open and a cancel are done or refused, and the others are done or stopped. A new end and a new moment call no end and have no line.
+abbrev pub HasItsAnswer : Step → Option Refused → Option Stop → Type 0
+HasItsAnswer (End name max_peers max_sessions cert) refused stopped = ⊥
+HasItsAnswer (At moment) refused stopped = ⊥
+HasItsAnswer (Open end peer list) refused stopped = stopped ≡ None
+HasItsAnswer (Cancel end n) refused stopped = stopped ≡ None
+HasItsAnswer (Deliver number end from) refused stopped = refused ≡ None
+HasItsAnswer (Bent number place end from) refused stopped = refused ≡ None
+HasItsAnswer (Inject end from bytes) refused stopped = refused ≡ None
+HasItsAnswer (Forge end from plain) refused stopped = refused ≡ None
+HasItsAnswer (Tick end) refused stopped = (refused ≡ None) × IfSome stopped (λ stop. stop ≡ not_taken)
+
+-- A line of the journal is that of this step.
+pub record IsLineOf (w : Seen) (number : ℕ) (done : Step) (told : JournalLine) : Type 0 where
+  pub line : told.line ≡ number
+  pub end : told.end ≡ called_by done
+  pub moment : told.moment ≡ w.moment
+  pub step : told.step ≡ done
+  pub datagram : told.datagram ≡ datagram_of (sent_in w.lines) done
+  pub answer : HasItsAnswer done told.refused told.stopped
+
+-- ---- want of memory
+
+abbrev pub is_open_memory : OpenRefusal → Bool
+is_open_memory (Candidates count) = false
+is_open_memory (Start refusal) = false
+is_open_memory (SessionsFull limit) = false
+is_open_memory NoMemoryToOpen = true
+
+abbrev pub is_call_memory : CallRefusal → Bool
+is_call_memory NoAttempt = false
+is_call_memory NoMemoryToCall = true
+
+abbrev pub is_memory : Option Refused → Bool
+is_memory None = false
+is_memory (Some (OpenRefused refusal)) = is_open_memory refusal
+is_memory (Some (CallRefused refusal)) = is_call_memory refusal
+
+-- the call was refused for want of memory, or stopped
+abbrev pub lacks_memory : Option Refused → Option Stop → Bool
+lacks_memory refused stopped = is_memory refused || is_some stopped
+
+-- The step called an end: the journal has one more line, by whose event that end came from its state to the state that it is in now.
+pub record Called (w : Seen) (number : ℕ) (step : Step) (line : JournalLine) (t : Seen) : Type 0 where
+  pub is_line : IsLineOf w number step line
+  pub end : EndSeen
+  pub is_end : slice_get w.ends line.end ≡ Some end
+  pub state : State
+  pub event : StepOf end.state (event_of w.ends line) state
+  pub moment : t.moment ≡ w.moment
+  pub ends : t.ends ≡ with_state w.ends line.end state
+  pub lines : t.lines ≡ w.lines ++ line ∷ []
+
+-- The step was done, and memory was found for all of it.
+abbrev pub Stepped : Seen → ℕ → Step → Seen → Type 0
+Stepped w number (End name max_peers max_sessions cert) t = t ≡ with_end w (new_end name (new_setup max_peers max_sessions cert))
+Stepped w number (At moment) t = t ≡ with_moment w moment
+Stepped w number step t = (line : JournalLine) × (lacks_memory line.refused line.stopped ≡ false) × Called w number step line t
+
+-- An open, a datagram or a tick found no memory; the journal has what was done. An open has noted the moment.
+pub record StoppedIn (w : Seen) (number : ℕ) (step : Step) (t : Seen) : Type 0 where
+  pub line : JournalLine
+  pub lacks : lacks_memory line.refused line.stopped ≡ true
+  pub called : Called w number step line t

@@ -1,0 +1,254 @@
+//! Steps that bring a datagram to an end.
+
+ghost use Rattle.std.specs.Prelude.{◌≡◌, ◌<◌, ◌≤◌, ◌^◌, IfOk, Some, length, nat_lt};
+ghost use Rattle.endpoint.specs.Laws.{AreBytes};
+ghost use Rattle.rendezvous_world.specs.Datagrams.{nth};
+ghost use Rattle.rendezvous_world.specs.Entering.{IsBringing, IsDone, IsFetched, WasSentIn, is_same};
+ghost use Rattle.rendezvous_world.specs.Faults.{is_forged_by};
+ghost use Rattle.rendezvous_world.specs.Sent.{sent_in};
+ghost use Rattle.rendezvous_world.specs.Sound.{AreBelow};
+
+use crate::forgery::{forge, is_sent_in, same_context};
+use crate::sent::find;
+use crate::step::{Step, StepFault};
+use crate::world::World;
+use crypto_profile::Context;
+use rtmfp_base::{Memory, Message};
+use rtmfp_forms::Address;
+use std::alloc::Global;
+
+/// The most bytes of a datagram that reaches an end.
+const MOST_BYTES: usize = 2048;
+
+/// The most bytes of a plain packet that is forged.
+const MOST_PLAIN: usize = 1164;
+
+/// The bytes of a datagram before its plain packet.
+const PLAIN_AT: usize = 36;
+
+/// A sent datagram that was looked up.
+#[derive(Clone, Copy)]
+pub(crate) struct Fetched {
+    pub(crate) length: usize,
+    /// What it is sealed for.
+    pub(crate) context: Context,
+}
+
+impl Fetched {
+    /// Whether it has more bytes than an end takes.
+    fn is_long(&self) -> bool
+        ensures { result ≡ nat_lt 2048 self.now.length }
+    {
+        self.length > MOST_BYTES
+    }
+}
+
+/// A copy of a datagram.
+fn keep(alloc: Global, datagram: &[u8]) -> Result<Message, Memory>
+    ensures kept { IfOk result (λ message. message ≡ datagram.now) }
+    ensures bytes { AreBytes datagram.now }
+{
+    Message::copy_of(alloc, datagram)
+}
+
+impl World {
+    /// Looks up a sent datagram, and copies it to the front of a buffer if it fits.
+    fn fetch(&self, number: u64, room: &mut [u8]) -> Option<Fetched>
+        requires { length room.old ≡ 2048 }
+        ensures { IsFetched (nth (sent_in self.now.lines) number) result room.new }
+    {
+        match find(self.journal.lines(), &self.starts, u128::from(number)) {
+            None => None,
+            Some(letter) => {
+                let length = letter.datagram.len();
+                if length > MOST_BYTES {
+                    return Some(Fetched {
+                        length,
+                        context: letter.context,
+                    });
+                }
+                let (front, _) = room.split_at_mut(length);
+                front.copy_from_slice(letter.datagram);
+                Some(Fetched {
+                    length,
+                    context: letter.context,
+                })
+            }
+        }
+    }
+
+    /// Whether a datagram that reaches an end is forged. Where it was sent in a context, that is looked at first.
+    fn is_forged(&self, end: usize, bytes: &[u8], known: &Option<Context>) -> bool
+        requires there { end < length self.now.ends }
+        requires short { length bytes.now ≤ 2048 }
+        requires sent { WasSentIn known.now bytes.now (sent_in self.now.lines) }
+        ensures { result ≡ is_forged_by self.now end (Some bytes.now) }
+    {
+        let there = &self.ends[end];
+        match there.endpoint.opens_in(bytes) {
+            None => false,
+            Some(context) => {
+                !is_same(known, &context) && !is_sent_in(self.journal.lines(), bytes, &context)
+            }
+        }
+    }
+
+    /// Brings a datagram to an end, if it isn't forged.
+    fn bring(
+        &mut self,
+        line: u64,
+        end: usize,
+        step: &Step,
+        bytes: &mut [u8],
+        known: Option<Context>,
+    ) -> Result<(), StepFault>
+        requires bringing { IsBringing self.old line end step.now bytes.old }
+        requires sent { WasSentIn known bytes.old (sent_in self.old.lines) }
+        ensures { IsDone self.old line step.now result self.new }
+    {
+        if self.is_forged(end, bytes, &known) {
+            return Err(StepFault::Forged);
+        }
+        let step = match step.copy(self.alloc()) {
+            Ok(step) => step,
+            Err(_) => return Err(StepFault::Memory),
+        };
+        let datagram = match keep(self.alloc(), bytes) {
+            Ok(datagram) => datagram,
+            Err(_) => return Err(StepFault::Memory),
+        };
+        self.enter(line, end, step, Some(datagram), bytes)
+    }
+
+    /// Brings a sent datagram to an end.
+    pub(crate) fn deliver(
+        &mut self,
+        line: u64,
+        number: u64,
+        end: usize,
+        from: &Address,
+    ) -> Result<(), StepFault>
+        requires above { AreBelow self.old.lines line }
+        requires fits { line < 2 ^ 32 }
+        ensures { IsDone self.old line (Step.Deliver number end from.now) result self.new }
+    {
+        if self.lacks(end) {
+            return Err(StepFault::NoEnd);
+        }
+        let mut room = [0; MOST_BYTES];
+        let found = match self.fetch(number, &mut room) {
+            Some(found) => found,
+            None => return Err(StepFault::NoDatagram),
+        };
+        if found.is_long() {
+            return Err(StepFault::BadStep);
+        }
+        let (bytes, _) = room.split_at_mut(found.length);
+        let step = Step::Deliver {
+            number,
+            end,
+            from: *from,
+        };
+        self.bring(line, end, &step, bytes, Some(found.context))
+    }
+
+    /// Brings a sent datagram with one bit turned to an end.
+    pub(crate) fn bend(
+        &mut self,
+        line: u64,
+        number: u64,
+        place: usize,
+        end: usize,
+        from: &Address,
+    ) -> Result<(), StepFault>
+        requires above { AreBelow self.old.lines line }
+        requires fits { line < 2 ^ 32 }
+        ensures { IsDone self.old line (Step.Bent number place end from.now) result self.new }
+    {
+        if self.lacks(end) {
+            return Err(StepFault::NoEnd);
+        }
+        let mut room = [0; MOST_BYTES];
+        let found = match self.fetch(number, &mut room) {
+            Some(found) => found,
+            None => return Err(StepFault::NoDatagram),
+        };
+        if place >= found.length {
+            return Err(StepFault::NoDatagram);
+        }
+        if found.is_long() {
+            return Err(StepFault::BadStep);
+        }
+        let (bytes, _) = room.split_at_mut(found.length);
+        bytes[place] ^= 1;
+        let step = Step::Bent {
+            number,
+            place,
+            end,
+            from: *from,
+        };
+        self.bring(line, end, &step, bytes, None)
+    }
+
+    /// Brings bytes to an end.
+    pub(crate) fn inject(
+        &mut self,
+        line: u64,
+        step: &Step,
+        end: usize,
+        from: &Address,
+        bytes: &Message,
+    ) -> Result<(), StepFault>
+        requires above { AreBelow self.old.lines line }
+        requires fits { line < 2 ^ 32 }
+        requires step { step.now ≡ Step.Inject end from.now bytes.now }
+        ensures { IsDone self.old line (Step.Inject end from.now bytes.now) result self.new }
+    {
+        if self.lacks(end) {
+            return Err(StepFault::NoEnd);
+        }
+        if bytes.len() > MOST_BYTES {
+            return Err(StepFault::BadStep);
+        }
+        let mut room = [0; MOST_BYTES];
+        let (datagram, _) = room.split_at_mut(bytes.len());
+        datagram.copy_from_slice(bytes.bytes());
+        self.bring(line, end, step, datagram, None)
+    }
+
+    /// Brings a plain packet to an end, sealed by somebody who is no end.
+    pub(crate) fn forge(
+        &mut self,
+        line: u64,
+        step: &Step,
+        end: usize,
+        from: &Address,
+        plain: &Message,
+    ) -> Result<(), StepFault>
+        requires above { AreBelow self.old.lines line }
+        requires fits { line < 2 ^ 32 }
+        requires step { step.now ≡ Step.Forge end from.now plain.now }
+        ensures { IsDone self.old line (Step.Forge end from.now plain.now) result self.new }
+    {
+        if self.lacks(end) {
+            return Err(StepFault::NoEnd);
+        }
+        if plain.len() > MOST_PLAIN {
+            return Err(StepFault::BadStep);
+        }
+        let mut room = [0; MOST_BYTES];
+        let (datagram, _) = room.split_at_mut(PLAIN_AT + plain.len());
+        forge(datagram, plain.bytes());
+        self.bring(line, end, step, datagram, None)
+    }
+}
+
+/// Whether the context is there, and the same as another.
+fn is_same(context: &Option<Context>, other: &Context) -> bool
+    ensures { result ≡ is_same context.now other.now }
+{
+    match context {
+        None => false,
+        Some(context) => same_context(context, other),
+    }
+}

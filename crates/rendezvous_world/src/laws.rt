@@ -1,0 +1,25 @@
+//! What holds of every world. The functions do nothing: the contract of each is its law.
+
+ghost use Rattle.rendezvous_world.specs.Kept.{IsWorld};
+ghost use Rattle.rendezvous_world.specs.Laws.{EveryWorldIsSound, EveryWorldIsAgreed, EveryCallKeepsAWorld, EveryStepKeepsAWorld, empty_world};
+
+/// The history of each world is lawful, honest and fresh, and each end stands for its own log.
+pub fn every_world_is_sound()
+    ensures { EveryWorldIsSound }
+{}
+
+/// At each moment, what the ends of such a world stated of their sessions with each other fits together.
+pub fn every_world_is_agreed()
+    ensures { EveryWorldIsAgreed }
+{}
+
+/// A step that isn't refused and calls an end leaves such a world, whatever the end answered.
+pub fn every_call_keeps_a_world()
+    ensures { EveryCallKeepsAWorld }
+{}
+
+/// A run begins with such a world, and each step that isn't refused leaves one.
+pub fn every_step_keeps_a_world()
+    ensures first { IsWorld empty_world }
+    ensures next { EveryStepKeepsAWorld }
+{}

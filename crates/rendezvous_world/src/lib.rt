@@ -1,0 +1,20 @@
+//! Many ends in one run: each step of a script calls one of them, and the journal keeps what it did. What no end can do to another is refused: a datagram that opens and was never sent is forged.
+#![tactic(auto)]
+
+mod bringing;
+mod calls;
+mod draws;
+mod end;
+mod entering;
+mod forgery;
+mod journal;
+pub mod laws;
+mod pairs;
+mod sent;
+mod step;
+mod taking;
+mod world;
+
+pub use journal::{Journal, JournalLine, Refused};
+pub use step::{Places, Step, StepFault};
+pub use world::World;

@@ -1,0 +1,201 @@
+//! The steps of a script, and why one is refused.
+
+ghost use Rattle.std.specs.Prelude.{◌≡◌, IfOk};
+ghost use Rattle.rendezvous_world.specs.Entering.{peer_of};
+
+use identity::Certificate;
+use rtmfp_base::{Memory, Message};
+use rtmfp_forms::Address;
+use rtmfp_text::Name;
+use std::alloc::Global;
+use std::marker::Model;
+use thiserror::Error;
+
+/// Addresses, seen by contracts as their list.
+#[derive(Drop)]
+pub struct Places {
+    addresses: Vec<Address>,
+}
+
+impl Model for Places {
+    ghost use Rattle.std.specs.Prelude.{List};
+    ghost use Rattle.rtmfp_forms.specs.Address.{AddressParts};
+
+    ghost Value = { List AddressParts };
+
+    ghost view = { λ p. p.addresses.items };
+}
+
+impl Places {
+    /// The list of addresses that are there. It takes no memory.
+    pub fn of(addresses: Vec<Address>) -> Places
+        ensures { result ≡ addresses.items }
+    {
+        Places { addresses }
+    }
+
+    /// The addresses, in their order.
+    pub fn as_slice(&self) -> &[Address]
+        ensures { result.now ≡ self.now }
+    {
+        self.addresses.as_slice()
+    }
+
+    /// The same addresses again.
+    pub(crate) fn copy(&self, alloc: Global) -> Result<Places, Memory>
+        ensures { IfOk result (λ places. places ≡ self.now) }
+    {
+        Ok(Places {
+            addresses: Vec::from_slice(alloc, self.as_slice())?,
+        })
+    }
+}
+
+/// One step of a run. An end is named by its number, in the order in which the ends came, from 0.
+#[derive(Drop)]
+pub enum Step {
+    /// A new end with these limits.
+    End {
+        name: Name,
+        /// The most peers that it ever knows.
+        max_peers: u32,
+        /// The most attempts and sessions that it has at a time.
+        max_sessions: u32,
+        cert: Certificate,
+    },
+    /// The moment of all ends from now on, in milliseconds.
+    At {
+        moment: u64,
+    },
+    /// An end opens an attempt towards another, with these candidate addresses.
+    Open {
+        end: usize,
+        peer: usize,
+        list: Places,
+    },
+    /// An end gives up its attempt with this number.
+    Cancel {
+        end: usize,
+        n: u64,
+    },
+    /// The datagram that was sent as this one, counted from 1, reaches an end from an address.
+    Deliver {
+        number: u64,
+        end: usize,
+        from: Address,
+    },
+    /// The same, with the lowest bit of the byte at this place turned.
+    Bent {
+        number: u64,
+        place: usize,
+        end: usize,
+        from: Address,
+    },
+    /// These bytes, at most 2,048, reach an end.
+    Inject {
+        end: usize,
+        from: Address,
+        bytes: Message,
+    },
+    /// This plain packet of at most 1,164 bytes reaches an end, sealed for startup under session ID 0 by somebody who numbers it with 16 bytes 0xff.
+    Forge {
+        end: usize,
+        from: Address,
+        plain: Message,
+    },
+    /// An end does what is due.
+    Tick {
+        end: usize,
+    },
+}
+
+impl Step {
+    /// The same step again.
+    pub(crate) fn copy(&self, alloc: Global) -> Result<Step, Memory>
+        ensures { IfOk result (λ step. step ≡ self.now) }
+    {
+        Ok(match self {
+            Step::End {
+                name,
+                max_peers,
+                max_sessions,
+                cert,
+            } => Step::End {
+                name: name.again(),
+                max_peers: *max_peers,
+                max_sessions: *max_sessions,
+                cert: *cert,
+            },
+            Step::At { moment } => Step::At { moment: *moment },
+            Step::Open { end, peer, list } => Step::Open {
+                end: *end,
+                peer: *peer,
+                list: list.copy(alloc)?,
+            },
+            Step::Cancel { end, n } => Step::Cancel { end: *end, n: *n },
+            Step::Deliver { number, end, from } => Step::Deliver {
+                number: *number,
+                end: *end,
+                from: *from,
+            },
+            Step::Bent {
+                number,
+                place,
+                end,
+                from,
+            } => Step::Bent {
+                number: *number,
+                place: *place,
+                end: *end,
+                from: *from,
+            },
+            Step::Inject { end, from, bytes } => Step::Inject {
+                end: *end,
+                from: *from,
+                bytes: Message::copy_of(alloc, bytes.bytes())?,
+            },
+            Step::Forge { end, from, plain } => Step::Forge {
+                end: *end,
+                from: *from,
+                plain: Message::copy_of(alloc, plain.bytes())?,
+            },
+            Step::Tick { end } => Step::Tick { end: *end },
+        })
+    }
+
+    /// The end whose fingerprint the call of the step is given; for a call that is given none, the end that is called.
+    pub(crate) fn peer(&self) -> usize
+        ensures { result ≡ peer_of self.now }
+    {
+        match self {
+            Step::End { .. } => 0,
+            Step::At { .. } => 0,
+            Step::Open { peer, .. } => *peer,
+            Step::Cancel { end, .. } => *end,
+            Step::Deliver { end, .. } => *end,
+            Step::Bent { end, .. } => *end,
+            Step::Inject { end, .. } => *end,
+            Step::Forge { end, .. } => *end,
+            Step::Tick { end } => *end,
+        }
+    }
+}
+
+/// Why a step is refused. Where several causes stand, the answer is the first of them in this order.
+#[derive(Clone, Copy, Debug, PartialEq, Eq, Error)]
+pub enum StepFault {
+    /// An end that the step names isn't there.
+    #[error("no such end")]
+    NoEnd,
+    /// The datagram, or the place in it, isn't there.
+    #[error("no such datagram")]
+    NoDatagram,
+    /// The step is outside its limits, or the moment goes back, or the name or the fingerprint of an end is there already.
+    #[error("bad step")]
+    BadStep,
+    /// The datagram opens at the end that it reaches, and no earlier sent datagram has its bytes and the context in which it opens.
+    #[error("forged datagram")]
+    Forged,
+    #[error("out of memory")]
+    Memory,
+}

@@ -1,0 +1,175 @@
+//! The world: its ends, its moment and its journal.
+
+use crate::end::End;
+use crate::journal::Journal;
+use crate::sent::find;
+use crate::step::{Step, StepFault};
+use rtmfp_forms::Address;
+use rtmfp_text::Named;
+use std::alloc::Global;
+use std::marker::Model;
+
+/// Many ends in one run, and what each step did.
+///
+/// Contracts see the moment, each end with its name, what it was given and what it keeps, and the lines of the journal.
+#[derive(Drop)]
+pub struct World {
+    pub(crate) alloc: Global,
+    pub(crate) moment: u64,
+    pub(crate) ends: Vec<End>,
+    /// The fingerprints and names of the ends.
+    pub(crate) named: Vec<Named>,
+    pub(crate) journal: Journal,
+    /// For each line of the journal, how many datagrams were sent before it.
+    pub(crate) starts: Vec<u128>,
+    /// How many datagrams were sent.
+    pub(crate) sent: u128,
+}
+
+impl Model for World {
+    ghost use Rattle.endpoint.specs.contracts.config.Config as config_type;
+    ghost use Rattle.endpoint.specs.contracts.endpoint.Endpoint as endpoint_type;
+    ghost use Rattle.rendezvous_world.specs.contracts.journal.JournalLine as line_type;
+    ghost use Rattle.rendezvous_world.specs.Seen.{Seen, seen_code};
+
+    ghost Value = { Seen };
+
+    ghost coded = { seen_code config_type.the_row.coded endpoint_type.the_row.coded line_type.the_row.coded };
+
+    ghost use Rattle.rendezvous_world.specs.Inside.{world_seen, IsKept};
+
+    ghost view = { λ w. world_seen w.moment w.ends.items w.journal };
+
+    ghost invariant = { λ w. IsKept w.moment w.ends.items w.named.items w.journal w.starts.items w.sent };
+}
+
+impl World {
+    ghost use Rattle.std.specs.Prelude.{◌≡◌, ◌⊎◌, ◌<◌, ◌^◌, ◌-◌, [], IfErr, IfNone, IfSome, IsSome, OnErr, OnOk, length, map, min, Err};
+    ghost use Rattle.rendezvous_world.specs.Datagrams.{nth};
+    ghost use Rattle.rendezvous_world.specs.Entering.{IsDone};
+    ghost use Rattle.rendezvous_world.specs.Faults.{step_fault};
+    ghost use Rattle.endpoint.specs.Agreed.{IsAgreed};
+    ghost use Rattle.rendezvous_world.specs.History.{history_of};
+    ghost use Rattle.rendezvous_world.specs.Inside.{named_of, passing};
+    ghost use Rattle.rendezvous_world.specs.Seen.{setup_at};
+    ghost use Rattle.rendezvous_world.specs.Sent.{sent_in};
+    ghost use Rattle.rendezvous_world.specs.Sound.{AreBelow, IsSound};
+    ghost use Rattle.rendezvous_world.specs.Stepping.{Stepped, StoppedIn};
+
+    /// A world without ends, at moment 0. It takes no memory.
+    pub fn new(alloc: Global) -> World
+        ensures moment { result.moment ≡ 0 }
+        ensures ends { result.ends ≡ [] }
+        ensures lines { result.lines ≡ [] }
+    {
+        World {
+            alloc,
+            moment: 0,
+            ends: Vec::new(alloc),
+            named: Vec::new(alloc),
+            journal: Journal {
+                lines: Vec::new(alloc),
+            },
+            starts: Vec::new(alloc),
+            sent: 0,
+        }
+    }
+
+    /// Takes one step, which stands on this line of its script. `StepFault` has the reasons for which it is refused, in their order; a call that an end refuses is none.
+    ///
+    /// Where no memory is found, all is as before, or the call had begun: then the journal has its line, with what it added.
+    pub fn step(&mut self, line: u64, step: &Step) -> Result<(), StepFault>
+        requires above { AreBelow self.old.lines line }
+        requires fits { line < 2 ^ 32 }
+        ensures ok { OnOk result (Stepped self.old line step.now self.new) }
+        ensures refused { IfSome (step_fault self.old step.now) (λ fault. (result ≡ Err fault) × (self.new ≡ self.old)) }
+        ensures memory { IfNone (step_fault self.old step.now) (IfErr result (λ fault. fault ≡ StepFault.Memory)) }
+        ensures err { OnErr result ((self.new ≡ self.old) ⊎ StoppedIn self.old line step.now self.new) }
+
+        // The history of the journal is lawful, honest and fresh, and hence agreed.
+        ensures sound { IsSound self.new }
+        ensures agreed { IsAgreed (setup_at self.new.ends) (history_of self.new) }
+    {
+        let result = self.take_step(line, step);
+        self.keeps();
+        result
+    }
+
+    /// Tells what holds at any moment.
+    fn keeps(&self)
+        ensures sound { IsSound self.now }
+        ensures agreed { IsAgreed (setup_at self.now.ends) (history_of self.now) }
+    {
+        let _moment = &self.moment;
+    }
+
+    /// Takes one step, by its kind.
+    fn take_step(&mut self, line: u64, step: &Step) -> Result<(), StepFault>
+        requires above { AreBelow self.old.lines line }
+        requires fits { line < 2 ^ 32 }
+        ensures { IsDone self.old line step.now result self.new }
+    {
+        match step {
+            Step::End {
+                name,
+                max_peers,
+                max_sessions,
+                cert,
+            } => self.add_end(line, name, *max_peers, *max_sessions, cert),
+            Step::At { moment } => self.set_moment(line, *moment),
+            Step::Open { end, peer, list } => self.open(line, *end, *peer, list),
+            Step::Cancel { end, n } => self.cancel(line, *end, *n),
+            Step::Deliver { number, end, from } => self.deliver(line, *number, *end, from),
+            Step::Bent {
+                number,
+                place,
+                end,
+                from,
+            } => self.bend(line, *number, *place, *end, from),
+            Step::Inject { end, from, bytes } => self.inject(line, step, *end, from, bytes),
+            Step::Forge { end, from, plain } => self.forge(line, step, *end, from, plain),
+            Step::Tick { end } => self.tick(line, *end),
+        }
+    }
+
+    /// What the steps did. At any moment the history of the journal is lawful, honest and fresh, and hence agreed.
+    pub fn journal(&self) -> &Journal
+        ensures lines { result.now ≡ self.now.lines }
+        ensures sound { IsSound self.now }
+        ensures agreed { IsAgreed (setup_at self.now.ends) (history_of self.now) }
+    {
+        self.keeps();
+        &self.journal
+    }
+
+    /// The fingerprint and the name of each end, by their numbers.
+    pub fn named(&self) -> &[Named]
+        ensures { result.now ≡ map named_of self.now.ends }
+    {
+        self.named.as_slice()
+    }
+
+    /// How many datagrams were sent; where there are more than 2^64 - 1, that number.
+    pub fn sent_count(&self) -> u64
+        ensures { result ≡ min (length (sent_in self.now.lines)) (2 ^ 64 - 1) }
+    {
+        self.sent.min(u128::from(u64::MAX)) as u64
+    }
+
+    /// The number of the end that sent a datagram, and where it went. The datagrams are counted from 1.
+    pub fn sent(&self, number: u64) -> Option<(usize, Address)>
+        ensures { result ≡ passing (nth (sent_in self.now.lines) number) }
+    {
+        match find(self.journal.lines(), &self.starts, u128::from(number)) {
+            Some(letter) => Some((letter.by, letter.to)),
+            None => None,
+        }
+    }
+
+    /// The moment of all ends, in milliseconds.
+    pub fn moment(&self) -> u64
+        ensures { result ≡ self.now.moment }
+    {
+        self.moment
+    }
+}
