@@ -3,10 +3,10 @@ use Rattle.std.proofs.Common.{◌≡◌, ℕ, List, [], ◌∷◌, ◌++◌, len
 use Rattle.rtmfp_packet.specs.Walk.{Placed, all_placed_from, visible}
 use Rattle.rtmfp_packet.specs.Whole.{Whole}
 use Rattle.rtmfp_data_chunks.specs.declared.user_data.Numbers.{Numbers}
-use Rattle.rtmfp_cli.specs.Words.{text_of}
+use Rattle.rtmfp_text.specs.Words.{text_of}
 use Rattle.rtmfp_cli.specs.ShowText.{ChunksText, FieldsText, LineText, WholeText, chunk_line, head_text, padding_text}
 use Rattle.rtmfp_cli.specs.Adding.{Adds}
-use Rattle.rtmfp_cli.proofs.Pushes.{Pushed, pushed, pushed_last}
+use Rattle.rtmfp_text.proofs.Pushes.{Pushed, pushed, pushed_last}
 
 -- the lines of one more chunk
 pub chunks_more : (before : Option Numbers) (done : List Placed) (lines : List ℕ) (between after : Option Numbers) (chunk : Placed) (line : List ℕ)

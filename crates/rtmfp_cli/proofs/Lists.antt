@@ -2,7 +2,7 @@
 use Rattle.std.proofs.Common.{◌≡◌, ℕ, suc, ◌-◌, ◌<◌, ◌≤◌, List, [], ◌∷◌, ◌++◌, refl, sym, ap, ◌∙◌, append_assoc, append-nil, arith, codes, decimal, map}
 use Rattle.std.specs.List.{flat_map}
 use Rattle.std.proofs.lemmas.List.{map-append}
-use Rattle.rtmfp_cli.specs.Words.{behind_commas}
+use Rattle.rtmfp_text.specs.Words.{behind_commas}
 use Rattle.rtmfp_cli.specs.DataText.{count_up, numbers_of}
 
 -- one list of items behind another

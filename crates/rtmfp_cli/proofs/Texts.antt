@@ -14,7 +14,7 @@ use Rattle.rtmfp_chunks.proofs.ReadingLaws.{reading_same}
 use Rattle.rtmfp_data_chunks.specs.declared.user_data.Numbers.{Numbers}
 use Rattle.rtmfp_data_chunks.specs.Spelling.{before_next}
 use Rattle.rtmfp_data_chunks.proofs.ReadingLaws.{data_reading_same}
-use Rattle.rtmfp_cli.specs.Words.{text_of}
+use Rattle.rtmfp_text.specs.Words.{text_of}
 use Rattle.rtmfp_cli.specs.ShowText.{ChunksText, FieldsText, FlowText, LineText, ReadText, WholeText, ResultText, PacketText, chunk_line, flow_text, head_text, padding_text}
 use Rattle.rtmfp_cli.specs.ShowLine.{ShowsLine}
 use Rattle.rtmfp_cli.proofs.Payloads.{IsBytes, Payloads, is_bytes, payloads_are}

@@ -1,18 +1,24 @@
--- What one turn of `show` does, by what stands in front.
+-- What one turn of a run does, by what stands in front.
 use Rattle.std.proofs.Common.{◌≡◌, ◌≢◌, ℕ, ◌+◌, ◌<◌, inl, inr, List, [], ◌∷◌, ◌++◌, length, take, drop, refl, sym, ap, ◌∙◌, arith, append_assoc, append-nil, subst, Option, Some, None, IfSome}
 use Rattle.std.proofs.lemmas.List.{length-append, length-take-le, take-append-drop}
 use Rattle.rtmfp_host.specs.Taking.{IsAtEnd}
 use Rattle.rtmfp_host.specs.Writing.{Appends}
 use Rattle.rtmfp_cli.specs.declared.status.Status.{Status as RunStatus}
 use Rattle.rtmfp_cli.specs.declared.status.Status.TheVariants as status
-use Rattle.rtmfp_cli.specs.declared.show_run.Turn.{Turn}
-use Rattle.rtmfp_cli.specs.declared.show_run.Turn.TheVariants.{Went, Ended}
+use Rattle.rtmfp_cli.specs.declared.script_run.Turn.{Turn}
+use Rattle.rtmfp_cli.specs.declared.script_run.Turn.TheVariants.{Went, Ended}
 use Rattle.rtmfp_cli.specs.Outside.{Outside}
 use Rattle.rtmfp_cli.specs.Lines.{NoLf, lines_of}
 use Rattle.rtmfp_cli.specs.Reading.{HasRead, StartsWithLine, IsTooLong}
-use Rattle.rtmfp_cli.specs.ShowLine.{ShowsLine, IsBadLine, show_limit}
-use Rattle.rtmfp_cli.specs.Show.{ShowsLines}
-use Rattle.rtmfp_cli.specs.Turning.{Takes, ShowsRest, ShowsNone, ShowsPart, Turned, Printed}
+use Rattle.rtmfp_cli.specs.declared.doing.Doing.{Doing}
+use Rattle.rtmfp_cli.specs.declared.doing.Doing.TheVariants.{Showing, Playing}
+use Rattle.rtmfp_cli.specs.Doing.{Does, IsBadLine, IsForgedLine, limit_of}
+use Rattle.rtmfp_script.specs.Grammar.{line_limit}
+use Rattle.rendezvous_world.specs.Seen.{Seen}
+use Rattle.rtmfp_cli.specs.Play.{IsBadPlay}
+use Rattle.rtmfp_cli.specs.ShowLine.{IsNoPacket, show_limit}
+use Rattle.rtmfp_cli.specs.Script.{Runs}
+use Rattle.rtmfp_cli.specs.Turning.{Takes, DoesRest, DoesNone, DoesPart, Turned, Printed}
 use Rattle.rtmfp_cli.proofs.LinesLaws.{FirstLine, line_there, lines_of-lf, lines_of-last, first_line}
 use Rattle.rtmfp_cli.proofs.Streams.{appends_more}
 
@@ -24,43 +30,45 @@ pub record Between (before after : Outside) (old bytes : List ℕ) (mid : Option
 takes : (before after : Outside) (old bytes : List ℕ) (mid : Option (List ℕ)) → Between before after old bytes mid → Takes before after old bytes
 takes before after old bytes mid between = record { got = between.read.got; consumed = between.read.consumed; joined = between.read.joined }
 
-pub none_written : (before after : Outside) (old bytes : List ℕ) (mid : Option (List ℕ)) → Between before after old bytes mid → after.written ≡ mid → ShowsNone before after old bytes
+pub none_written : (before after : Outside) (old bytes : List ℕ) (mid : Option (List ℕ)) → Between before after old bytes mid → after.written ≡ mid → DoesNone before after old bytes
 none_written before after old bytes mid between same =
     let P : Option (List ℕ) → Type 0 = λ o. Appends before.written o [] in
     record { takes = takes before after old bytes mid between; written = subst P (sym same) between.kept }
 
 -- a line and its LF stand in front
-whole_line : (len : ℕ) (bytes rest : List ℕ) → StartsWithLine show_limit bytes len → lines_of (bytes ++ rest) ≡ take len bytes ∷ lines_of (drop (len + 1) bytes ++ rest)
-whole_line len bytes rest starts =
+whole_line : (limit len : ℕ) (bytes rest : List ℕ) → StartsWithLine limit bytes len → lines_of (bytes ++ rest) ≡ take len bytes ∷ lines_of (drop (len + 1) bytes ++ rest)
+whole_line limit len bytes rest starts =
     ap (λ xs. lines_of (xs ++ rest)) starts.joined
     ∙ ap lines_of (append_assoc (take len bytes) (10 ∷ drop (len + 1) bytes) rest)
     ∙ lines_of-lf (take len bytes) (drop (len + 1) bytes ++ rest) starts.no_lf
 
-next_whole : (P : List ℕ → Type 0) (left : Option (List ℕ)) (len : ℕ) (bytes : List ℕ) → StartsWithLine show_limit bytes len → P (take len bytes) →
+next_whole : (P : List ℕ → Type 0) (left : Option (List ℕ)) (limit len : ℕ) (bytes : List ℕ) → StartsWithLine limit bytes len → P (take len bytes) →
     IfSome left (λ rest. (line : List ℕ) × (more : List (List ℕ)) × (lines_of (bytes ++ rest) ≡ line ∷ more) × P line)
-next_whole P None len bytes starts p = tt
-next_whole P (Some rest) len bytes starts p = (take len bytes, lines_of (drop (len + 1) bytes ++ rest), whole_line len bytes rest starts, p)
+next_whole P None limit len bytes starts p = tt
+next_whole P (Some rest) limit len bytes starts p = (take len bytes, lines_of (drop (len + 1) bytes ++ rest), whole_line limit len bytes rest starts, p)
 
-pub line_turned : (turn : Turn) (n len : ℕ) (before after : Outside) (old bytes : List ℕ) (mid : Option (List ℕ)) → Between before after old bytes mid → StartsWithLine show_limit bytes len →
-    Printed turn n (take len bytes) mid after.written → Turned turn n before after old (drop (len + 1) bytes)
-line_turned Went n len before after old bytes mid between starts printed =
+pub line_turned : (turn : Turn) (doing left : Doing) (n limit len : ℕ) (before after : Outside) (old bytes : List ℕ) (mid : Option (List ℕ)) → Between before after old bytes mid → StartsWithLine limit bytes len →
+    Printed turn doing left n (take len bytes) mid after.written → Turned turn doing left n before after old (drop (len + 1) bytes)
+line_turned Went doing left n limit len before after old bytes mid between starts printed =
     let whole : Takes before after old (take len bytes ++ 10 ∷ drop (len + 1) bytes) = subst (Takes before after old) starts.joined (takes before after old bytes mid between) in
-    record { line = take len bytes; text = printed.0; takes = whole; no_lf = starts.no_lf; shown = printed.1; written = appends_more before.written mid after.written [] printed.0 between.kept printed.2 }
-line_turned (Ended status.Done) n len before after old bytes mid between starts printed = absurd printed
-line_turned (Ended status.Memory) n len before after old bytes mid between starts printed = (bytes, none_written before after old bytes mid between printed)
-line_turned (Ended status.BadWords) n len before after old bytes mid between starts printed = printed
-line_turned (Ended (status.BadScript m)) n len before after old bytes mid between starts printed =
-    (printed.0, (bytes, none_written before after old bytes mid between printed.2, next_whole IsBadLine after.left len bytes starts printed.1))
-line_turned (Ended status.SinkFault) n len before after old bytes mid between starts printed =
+    record { line = take len bytes; text = printed.0; takes = whole; no_lf = starts.no_lf; does = printed.1; written = appends_more before.written mid after.written [] printed.0 between.kept printed.2 }
+line_turned (Ended status.Done) doing left n limit len before after old bytes mid between starts printed = absurd printed
+line_turned (Ended status.Memory) doing left n limit len before after old bytes mid between starts printed = (bytes, none_written before after old bytes mid between printed)
+line_turned (Ended status.BadWords) doing left n limit len before after old bytes mid between starts printed = printed
+line_turned (Ended (status.BadScript m)) doing left n limit len before after old bytes mid between starts printed =
+    (printed.0, (bytes, none_written before after old bytes mid between printed.2, next_whole (IsBadLine doing n) after.left limit len bytes starts printed.1))
+line_turned (Ended (status.Forged m)) doing left n limit len before after old bytes mid between starts printed =
+    (printed.0, (bytes, none_written before after old bytes mid between printed.2, next_whole (IsForgedLine doing n) after.left limit len bytes starts printed.1))
+line_turned (Ended status.SinkFault) doing left n limit len before after old bytes mid between starts printed =
     record {
       bytes = bytes;
       part = take printed.1 printed.0;
       takes = takes before after old bytes mid between;
-      next = inr (printed.0, printed.1, refl, next_whole (λ line. ShowsLine line printed.0) after.left len bytes starts printed.2);
+      next = inr (left, printed.0, printed.1, refl, next_whole (λ line. Does doing n line left printed.0) after.left limit len bytes starts printed.2);
       written = appends_more before.written mid after.written [] (take printed.1 printed.0) between.kept printed.3;
     }
-line_turned (Ended status.SourceFault) n len before after old bytes mid between starts printed = absurd printed
-line_turned (Ended status.ScriptLong) n len before after old bytes mid between starts printed = printed
+line_turned (Ended status.SourceFault) doing left n limit len before after old bytes mid between starts printed = absurd printed
+line_turned (Ended status.ScriptLong) doing left n limit len before after old bytes mid between starts printed = printed
 
 -- a last line without LF is all that is there
 last_line : (bytes : List ℕ) → NoLf bytes → bytes ≢ [] → lines_of bytes ≡ bytes ∷ []
@@ -72,80 +80,95 @@ next_last : (P : List ℕ → Type 0) (left : Option (List ℕ)) (bytes : List �
 next_last P None bytes free some end p = tt
 next_last P (Some rest) bytes free some end p = (bytes, [], ap (λ xs. lines_of (bytes ++ xs)) end ∙ ap lines_of (append-nil bytes) ∙ last_line bytes free some, p)
 
-one_shown : (line text : List ℕ) (lines : List (List ℕ)) → lines ≡ line ∷ [] → ShowsLine line text → ShowsLines lines text
-one_shown line text lines e shown =
-    let P : List (List ℕ) → Type 0 = λ ls. ShowsLines ls text in
-    subst P (sym e) (text, [], shown, refl, sym (append-nil text))
+one_done : (doing left : Doing) (n : ℕ) (line text : List ℕ) (lines : List (List ℕ)) → lines ≡ line ∷ [] → Does doing n line left text → Runs n doing lines left text
+one_done doing left n line text lines e does =
+    let P : List (List ℕ) → Type 0 = λ ls. Runs n doing ls left text in
+    subst P (sym e) (left, text, [], does, (refl, refl), sym (append-nil text))
 
-pub last_shown : (n : ℕ) (before after : Outside) (old bytes : List ℕ) (mid : Option (List ℕ)) → Between before after old bytes mid → NoLf bytes → bytes ≢ [] → IsAtEnd after.left →
-    Printed Went n bytes mid after.written → ShowsRest before after old
-last_shown n before after old bytes mid between free some end printed =
+pub last_done : (doing left : Doing) (n : ℕ) (before after : Outside) (old bytes : List ℕ) (mid : Option (List ℕ)) → Between before after old bytes mid → NoLf bytes → bytes ≢ [] → IsAtEnd after.left →
+    Printed Went doing left n bytes mid after.written → DoesRest doing n before after old
+last_done doing left n before after old bytes mid between free some end printed =
     record {
       bytes = bytes;
+      left = left;
       text = printed.0;
       takes = takes before after old bytes mid between;
       end = end;
       count = omega (arith, ap (λ (ls : List (List ℕ)). length ls) (last_line bytes free some));
-      shown = one_shown bytes printed.0 (lines_of bytes) (last_line bytes free some) printed.1;
+      ran = one_done doing left n bytes printed.0 (lines_of bytes) (last_line bytes free some) printed.1;
       written = appends_more before.written mid after.written [] printed.0 between.kept printed.2;
     }
 
-pub last_turned : (s : RunStatus) (n : ℕ) (before after : Outside) (old bytes new : List ℕ) (mid : Option (List ℕ)) → Between before after old bytes mid → NoLf bytes → bytes ≢ [] → IsAtEnd after.left →
-    Printed (Ended s) n bytes mid after.written → Turned (Ended s) n before after old new
-last_turned status.Done n before after old bytes new mid between free some end printed = absurd printed
-last_turned status.Memory n before after old bytes new mid between free some end printed = (bytes, none_written before after old bytes mid between printed)
-last_turned status.BadWords n before after old bytes new mid between free some end printed = printed
-last_turned (status.BadScript m) n before after old bytes new mid between free some end printed =
-    (printed.0, (bytes, none_written before after old bytes mid between printed.2, next_last IsBadLine after.left bytes free some end printed.1))
-last_turned status.SinkFault n before after old bytes new mid between free some end printed =
+pub last_turned : (s : RunStatus) (doing left : Doing) (n : ℕ) (before after : Outside) (old bytes new : List ℕ) (mid : Option (List ℕ)) → Between before after old bytes mid → NoLf bytes → bytes ≢ [] → IsAtEnd after.left →
+    Printed (Ended s) doing left n bytes mid after.written → Turned (Ended s) doing left n before after old new
+last_turned status.Done doing left n before after old bytes new mid between free some end printed = absurd printed
+last_turned status.Memory doing left n before after old bytes new mid between free some end printed = (bytes, none_written before after old bytes mid between printed)
+last_turned status.BadWords doing left n before after old bytes new mid between free some end printed = printed
+last_turned (status.BadScript m) doing left n before after old bytes new mid between free some end printed =
+    (printed.0, (bytes, none_written before after old bytes mid between printed.2, next_last (IsBadLine doing n) after.left bytes free some end printed.1))
+last_turned (status.Forged m) doing left n before after old bytes new mid between free some end printed =
+    (printed.0, (bytes, none_written before after old bytes mid between printed.2, next_last (IsForgedLine doing n) after.left bytes free some end printed.1))
+last_turned status.SinkFault doing left n before after old bytes new mid between free some end printed =
     record {
       bytes = bytes;
       part = take printed.1 printed.0;
       takes = takes before after old bytes mid between;
-      next = inr (printed.0, printed.1, refl, next_last (λ line. ShowsLine line printed.0) after.left bytes free some end printed.2);
+      next = inr (left, printed.0, printed.1, refl, next_last (λ line. Does doing n line left printed.0) after.left bytes free some end printed.2);
       written = appends_more before.written mid after.written [] (take printed.1 printed.0) between.kept printed.3;
     }
-last_turned status.SourceFault n before after old bytes new mid between free some end printed = absurd printed
-last_turned status.ScriptLong n before after old bytes new mid between free some end printed = printed
+last_turned status.SourceFault doing left n before after old bytes new mid between free some end printed = absurd printed
+last_turned status.ScriptLong doing left n before after old bytes new mid between free some end printed = printed
 
 -- nothing is left
-pub end_turned : (before after : Outside) (old bytes : List ℕ) → Between before after old bytes after.written → bytes ≡ [] → IsAtEnd after.left → ShowsRest before after old
-end_turned before after old bytes between none end =
+pub end_turned : (doing : Doing) (n : ℕ) (before after : Outside) (old bytes : List ℕ) → Between before after old bytes after.written → bytes ≡ [] → IsAtEnd after.left → DoesRest doing n before after old
+end_turned doing n before after old bytes between none end =
     record {
       bytes = [];
+      left = doing;
       text = [];
       takes = subst (Takes before after old) none (takes before after old bytes after.written between);
       end = end;
       count = omega arith;
-      shown = refl;
+      ran = (refl, refl);
       written = between.kept;
     }
 
+too_long_to_show : (front tail : List ℕ) → show_limit < length front → IsNoPacket (front ++ tail)
+too_long_to_show front tail long b shows = omega (arith, shows.fits, long, length-append front tail)
+
+-- such a line is longer than a line of a script may be, and so it is none, and no comment either
+too_long_to_play : (w : Seen) (front tail : List ℕ) → line_limit < length front → IsBadPlay w (front ++ tail)
+too_long_to_play w front tail long = record {
+  not_skipped = λ skipped fits. omega (arith, long, fits, length-append front tail);
+  bad = λ said step is_line is_step. absurd (omega (arith, is_line.fits, long, length-append front tail));
+}
+
 -- a line that is too long stands in front
-long_is_bad : (front tail : List ℕ) → show_limit < length front → IsBadLine (front ++ tail)
-long_is_bad front tail long b shows = omega (arith, shows.fits, long, length-append front tail)
+long_is_bad : (doing : Doing) (n : ℕ) (front tail : List ℕ) → limit_of doing < length front → IsBadLine doing n (front ++ tail)
+long_is_bad Showing n front tail long = too_long_to_show front tail long
+long_is_bad (Playing w) n front tail long = too_long_to_play w front tail long
 
 first_of : (front rest : List ℕ) → NoLf front → 0 < length front → FirstLine front (front ++ rest)
 first_of [] rest free some = absurd (omega arith)
 first_of (b ∷ front) rest free some = first_line b front rest free
 
-next_long : (left : Option (List ℕ)) (bytes : List ℕ) → IsTooLong show_limit bytes →
-    IfSome left (λ rest. (line : List ℕ) × (more : List (List ℕ)) × (lines_of (bytes ++ rest) ≡ line ∷ more) × IsBadLine line)
-next_long None bytes long = tt
-next_long (Some rest) bytes long =
-    let front = take (show_limit + 1) bytes in
-    let size : length front ≡ show_limit + 1 = length-take-le (show_limit + 1) bytes (omega (arith, long.0)) in
-    let first = first_of front (drop (show_limit + 1) bytes ++ rest) long.1 (omega (arith, size)) in
-    let whole = ap (λ xs. xs ++ rest) (sym (take-append-drop (show_limit + 1) bytes)) ∙ append_assoc front (drop (show_limit + 1) bytes) rest in
-    (front ++ first.tail, first.more, ap lines_of whole ∙ first.lines, long_is_bad front first.tail (omega (arith, size)))
+next_long : (doing : Doing) (n : ℕ) (left : Option (List ℕ)) (bytes : List ℕ) → IsTooLong (limit_of doing) bytes →
+    IfSome left (λ rest. (line : List ℕ) × (more : List (List ℕ)) × (lines_of (bytes ++ rest) ≡ line ∷ more) × IsBadLine doing n line)
+next_long doing n None bytes long = tt
+next_long doing n (Some rest) bytes long =
+    let front = take (limit_of doing + 1) bytes in
+    let size : length front ≡ limit_of doing + 1 = length-take-le (limit_of doing + 1) bytes (omega (arith, long.0)) in
+    let first = first_of front (drop (limit_of doing + 1) bytes ++ rest) long.1 (omega (arith, size)) in
+    let whole = ap (λ xs. xs ++ rest) (sym (take-append-drop (limit_of doing + 1) bytes)) ∙ append_assoc front (drop (limit_of doing + 1) bytes) rest in
+    (front ++ first.tail, first.more, ap lines_of whole ∙ first.lines, long_is_bad doing n front first.tail (omega (arith, size)))
 
-pub long_turned : (n : ℕ) (before after : Outside) (old bytes new : List ℕ) → Between before after old bytes after.written → IsTooLong show_limit bytes →
-    Turned (Ended (status.BadScript n)) n before after old new
-long_turned n before after old bytes new between long =
-    (refl, (bytes, none_written before after old bytes after.written between refl, next_long after.left bytes long))
+pub long_turned : (doing left : Doing) (n : ℕ) (before after : Outside) (old bytes new : List ℕ) → Between before after old bytes after.written → IsTooLong (limit_of doing) bytes →
+    Turned (Ended (status.BadScript n)) doing left n before after old new
+long_turned doing left n before after old bytes new between long =
+    (refl, (bytes, none_written before after old bytes after.written between refl, next_long doing n after.left bytes long))
 
-pub nothing_turned : (before after : Outside) (old bytes : List ℕ) → Between before after old bytes after.written → ShowsPart before after old
-nothing_turned before after old bytes between =
+pub nothing_turned : (doing : Doing) (n : ℕ) (before after : Outside) (old bytes : List ℕ) → Between before after old bytes after.written → DoesPart doing n before after old
+nothing_turned doing n before after old bytes between =
     record { bytes = bytes; part = []; takes = takes before after old bytes after.written between; next = inl refl; written = between.kept }
 
 -- a line or a part of one stands in front, where none may

@@ -6,7 +6,7 @@ use Rattle.rtmfp_data_chunks.specs.declared.user_data.Part.{Part}
 use Rattle.rtmfp_data_chunks.specs.declared.user_data.Part.TheVariants.{Whole, Begin, End, Middle}
 use Rattle.rtmfp_data_chunks.specs.Chunk.{UserParts, DataChunk, Data, Next, AckBitmap, AckRanges, Probe, Exception}
 use Rattle.rtmfp_data_chunks.specs.Acked.{acked_bits, acked_pairs}
-use Rattle.rtmfp_cli.specs.Words.{bit_field_text, field_text, list_text, number_field_text, text_of}
+use Rattle.rtmfp_text.specs.Words.{bit_field_text, field_text, list_text, number_field_text, text_of}
 
 -- ---- user data
 

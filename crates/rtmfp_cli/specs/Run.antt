@@ -1,14 +1,9 @@
--- The words of the command line, and the end of a run.
-use Rattle.std.specs.Prelude.{◌≡◌, ℕ, ◌≤◌, ◌⊎◌, List, [], ◌∷◌, map, codes, Option, String, string_bytes}
-use Rattle.std.specs.declared.alloc.Global.{Global}
+-- The end of a run.
+use Rattle.std.specs.Prelude.{◌≡◌, ℕ, ◌≤◌, ◌⊎◌, List, [], Option}
 use Rattle.rtmfp_host.specs.Faults.{Rose}
 use Rattle.rtmfp_host.specs.Writing.{Appends}
 use Rattle.rtmfp_cli.specs.declared.status.Status.{Status as RunStatus}
 use Rattle.rtmfp_cli.specs.declared.status.Status.TheVariants.{Done, SinkFault}
-
--- the one word `show`
-abbrev pub IsShow : List (String Global) → Type 0
-IsShow words = map string_bytes words ≡ codes "show" ∷ []
 
 -- what passing on the last bytes does to a status
 pub record Finishes (status result : RunStatus) (before : Option (List ℕ)) (before_faults : ℕ) (after : Option (List ℕ)) (after_faults : ℕ) : Type 0 where

@@ -19,5 +19,5 @@ pub record ShowsLine (line text : List ℕ) : Type 0 where
   pub printed : PacketText bytes text
 
 -- the line is outside the grammar
-abbrev pub IsBadLine : List ℕ → Type 0
-IsBadLine line = (b : List ℕ) → ShowsPacket line b → ⊥
+abbrev pub IsNoPacket : List ℕ → Type 0
+IsNoPacket line = (b : List ℕ) → ShowsPacket line b → ⊥

@@ -18,8 +18,9 @@ use Rattle.rtmfp_data_chunks.specs.declared.view.DataFault.TheVariants as flow
 use Rattle.rtmfp_data_chunks.specs.declared.view.DataFault.TheVariants.{BadOffset}
 use Rattle.rtmfp_data_chunks.specs.Chunk.{DataChunk}
 use Rattle.rtmfp_data_chunks.specs.Spelling.{DataReading, before_next}
-use Rattle.rtmfp_cli.specs.Words.{bit_text, number_text, text_of}
-use Rattle.rtmfp_cli.specs.ChunkText.{chunk_text, kind_text}
+use Rattle.rtmfp_text.specs.Words.{bit_text, number_text, text_of}
+use Rattle.rtmfp_text.specs.KindText.{kind_text}
+use Rattle.rtmfp_cli.specs.ChunkText.{chunk_text}
 use Rattle.rtmfp_cli.specs.DataText.{data_text}
 
 unfoldable pub head_text : PacketHead → List ℕ

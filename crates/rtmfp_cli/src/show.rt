@@ -2,17 +2,17 @@
 ghost use Rattle.std.specs.Prelude.{◌≡◌, ◌++◌, ◌≤◌, length, OnOk, IfOk, MatchBool};
 ghost use Rattle.rtmfp_packet.specs.Head.{mode_number};
 ghost use Rattle.rtmfp_data_chunks.specs.Spelling.{shown};
-ghost use Rattle.rtmfp_cli.specs.Words.{number_text};
+ghost use Rattle.rtmfp_text.specs.Words.{number_text};
 ghost use Rattle.rtmfp_cli.specs.ShowText.{FieldsText, FlowText, PacketText, WholeText, flow_text, head_text, malformed_text, padding_text, unknown_text};
-ghost use Rattle.rtmfp_cli.specs.ShowLine.{IsBadLine, ShowsLine};
+ghost use Rattle.rtmfp_cli.specs.ShowLine.{IsNoPacket, ShowsLine};
 ghost use Rattle.rtmfp_cli.specs.Adding.{Adds, AddsChunk};
 
-use crate::show_chunk::{kind_name, show_view};
+use crate::show_chunk::show_view;
 use crate::show_data::show_data_view;
-use crate::text::{Text, bit_digit};
 use rtmfp_chunks::{ChunkFault, read_chunk};
 use rtmfp_data_chunks::{DataCursor, DataFault, DataView};
 use rtmfp_packet::{Mode, Packet, PacketFault, PacketHead, RawChunk, read_packet};
+use rtmfp_text::{Text, bit_digit, kind_name};
 use std::alloc::AllocError;
 
 /// The longest line, in bytes without its LF.
@@ -24,7 +24,7 @@ const PACKET: usize = LIMIT / 2;
 /// Makes the text of a line. It is `false`, with no text, where the line is outside the grammar.
 pub(crate) fn show_line(line: &[u8], text: &mut Text) -> Result<bool, AllocError>
     requires { length line.now ≤ LIMIT }
-    ensures { IfOk result (λ good. MatchBool good (ShowsLine line.now text.new) (IsBadLine line.now)) }
+    ensures { IfOk result (λ good. MatchBool good (ShowsLine line.now text.new) (IsNoPacket line.now)) }
 {
     text.clear();
     let mut packet = [0; PACKET];

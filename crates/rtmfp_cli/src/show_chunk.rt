@@ -2,43 +2,14 @@
 ghost use Rattle.std.specs.Prelude.{◌≡◌, ◌++◌, OnOk, map};
 ghost use Rattle.rtmfp_chunks.specs.Chunk.{Fragment, FIHello, IHello, IIKeying, CookieChange, RHello, RIKeying, Redirect, chunk_of};
 ghost use Rattle.rtmfp_chunks.specs.FieldReading.{addresses_in};
-ghost use Rattle.rtmfp_cli.specs.Words.{behind_commas, list_text};
-ghost use Rattle.rtmfp_cli.specs.AddressText.{address_text};
-ghost use Rattle.rtmfp_cli.specs.ChunkText.{chunk_text, kind_text};
+ghost use Rattle.rtmfp_text.specs.Words.{behind_commas, list_text};
+ghost use Rattle.rtmfp_text.specs.AddressText.{address_text};
+ghost use Rattle.rtmfp_cli.specs.ChunkText.{chunk_text};
 
-use crate::address_text::push_address;
-use crate::text::Text;
 use rtmfp_chunks::{Addresses, ChunkView};
 use rtmfp_forms::Address;
+use rtmfp_text::{Text, push_address};
 use std::alloc::AllocError;
-
-/// The name of the chunks of this type, or nothing where no chunk has it.
-#[tactic(auto, unfolding(crate::specs::ChunkText::kind_text))]
-pub(crate) fn kind_name(kind: u8) -> &'static str
-    ensures { result.now ≡ kind_text kind }
-{
-    match kind {
-        0x30 => "ihello",
-        0x0f => "fihello",
-        0x70 => "rhello",
-        0x71 => "redirect",
-        0x79 => "cookiechange",
-        0x38 => "iikeying",
-        0x78 => "rikeying",
-        0x01 => "ping",
-        0x41 => "pingreply",
-        0x0c => "close",
-        0x4c => "closeack",
-        0x7f => "fragment",
-        0x10 => "data",
-        0x11 => "next",
-        0x18 => "probe",
-        0x50 => "ackbits",
-        0x51 => "ackranges",
-        0x5e => "exception",
-        _ => "",
-    }
-}
 
 /// Adds the name and the fields of a chunk.
 #[tactic(auto, unfolding(crate::specs::ChunkText::chunk_text))]

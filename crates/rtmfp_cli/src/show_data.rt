@@ -4,12 +4,12 @@ ghost use Rattle.std.specs.List.{flat_map};
 ghost use Rattle.rtmfp_forms.specs.OptionReading.{option_parts};
 ghost use Rattle.rtmfp_data_chunks.specs.Acked.{acked_bits, acked_pairs};
 ghost use Rattle.rtmfp_data_chunks.specs.Chunk.{AckBitmap, AckRanges, Exception, data_chunk, user_parts};
-ghost use Rattle.rtmfp_cli.specs.Words.{behind_commas, list_text};
+ghost use Rattle.rtmfp_text.specs.Words.{behind_commas, list_text};
 ghost use Rattle.rtmfp_cli.specs.DataText.{ack_text, count_up, data_text, marks_text, numbers_of, numbers_text, option_text, options_text, part_text, stretch_text, user_text};
 
-use crate::text::Text;
 use rtmfp_data_chunks::{AckedRanges, DataView, Part, UserData};
 use rtmfp_forms::{OptionView, Options};
+use rtmfp_text::Text;
 use std::alloc::AllocError;
 
 /// Adds the name and the fields of a chunk of a flow.

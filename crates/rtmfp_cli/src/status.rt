@@ -19,6 +19,9 @@ pub enum Status {
     /// This line, counted from 1, is the first outside the grammar.
     #[error("bad line {0}")]
     BadScript(u64),
+    /// The step of this line brings a datagram that nobody sent.
+    #[error("forged datagram at line {0}")]
+    Forged(u64),
     /// The sink failed.
     #[error("write fault")]
     SinkFault,
@@ -40,6 +43,7 @@ impl Status {
             Status::Memory => 1,
             Status::BadWords => 2,
             Status::BadScript(_) => 3,
+            Status::Forged(_) => 4,
             Status::SinkFault => 6,
             Status::SourceFault => 7,
             Status::ScriptLong => 10,

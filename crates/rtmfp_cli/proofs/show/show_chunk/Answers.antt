@@ -1,5 +1,5 @@
 use Rattle.rtmfp_cli.specs.ShowText.{chunk_line}
-use Rattle.rtmfp_cli.proofs.Pushes.{push_then, push_end}
+use Rattle.rtmfp_text.proofs.Pushes.{push_then, push_end}
 use Rattle.rtmfp_cli.proofs.show.show_chunk.Goals as goal
 
 pub returns : goal.returns

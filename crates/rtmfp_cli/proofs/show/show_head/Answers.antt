@@ -1,8 +1,8 @@
 use Rattle.std.proofs.Common.{codes, decimal, ap, ◌∙◌, ◌++◌}
 use Rattle.rtmfp_packet.specs.Head.{mode_number}
-use Rattle.rtmfp_cli.specs.Words.{bit_text, number_text}
+use Rattle.rtmfp_text.specs.Words.{bit_text, number_text}
 use Rattle.rtmfp_cli.specs.ShowText.{head_text}
-use Rattle.rtmfp_cli.proofs.Pushes.{Pushed, pushed, pushed_last}
+use Rattle.rtmfp_text.proofs.Pushes.{Pushed, pushed, pushed_last}
 use Rattle.rtmfp_cli.proofs.show.show_head.Goals as goal
 
 pub returns : goal.returns

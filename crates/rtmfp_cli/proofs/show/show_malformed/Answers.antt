@@ -1,6 +1,6 @@
 use Rattle.std.proofs.Common.{ap, ◌∙◌, ◌++◌}
 use Rattle.rtmfp_cli.specs.ShowText.{malformed_text}
-use Rattle.rtmfp_cli.proofs.Pushes.{push_then, push_end}
+use Rattle.rtmfp_text.proofs.Pushes.{push_then, push_end}
 use Rattle.rtmfp_cli.proofs.show.show_malformed.Goals as goal
 
 pub returns : goal.returns

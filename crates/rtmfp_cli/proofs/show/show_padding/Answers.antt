@@ -1,6 +1,6 @@
 use Rattle.std.proofs.Common.{codes, decimal}
 use Rattle.rtmfp_cli.specs.ShowText.{padding_text}
-use Rattle.rtmfp_cli.proofs.Pushes.{Pushed, pushed, pushed_last}
+use Rattle.rtmfp_text.proofs.Pushes.{Pushed, pushed, pushed_last}
 use Rattle.rtmfp_cli.proofs.show.show_padding.Goals as goal
 
 pub returns : goal.returns

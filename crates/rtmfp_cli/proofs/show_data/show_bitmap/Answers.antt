@@ -1,8 +1,8 @@
 use Rattle.std.proofs.Common.{ℕ, List, ◌++◌, ap, ◌∙◌, map, decimal}
 use Rattle.std.specs.List.{flat_map}
-use Rattle.rtmfp_cli.specs.Words.{list_text}
+use Rattle.rtmfp_text.specs.Words.{list_text}
 use Rattle.rtmfp_cli.specs.DataText.{data_text, numbers_of}
-use Rattle.rtmfp_cli.proofs.Pushes.{push_then, push_end}
+use Rattle.rtmfp_text.proofs.Pushes.{push_then, push_end}
 use Rattle.rtmfp_cli.proofs.show_data.show_bitmap.Goals as goal
 
 pub returns : goal.returns

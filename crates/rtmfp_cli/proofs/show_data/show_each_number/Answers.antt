@@ -1,6 +1,6 @@
 use Rattle.std.proofs.Common.{ℕ, List, ◌++◌, sym, ap, ◌∙◌, map, decimal}
 use Rattle.std.specs.List.{flat_map}
-use Rattle.rtmfp_cli.specs.Words.{list_text}
+use Rattle.rtmfp_text.specs.Words.{list_text}
 use Rattle.rtmfp_cli.specs.DataText.{numbers_of}
 use Rattle.rtmfp_cli.proofs.Lists.{each_pushed}
 use Rattle.rtmfp_cli.proofs.show_data.show_each_number.Goals as goal

@@ -1,5 +1,5 @@
 use Rattle.std.proofs.Common.{◌≡◌, ◌++◌, map}
-use Rattle.rtmfp_cli.specs.Words.{behind_commas}
+use Rattle.rtmfp_text.specs.Words.{behind_commas}
 use Rattle.rtmfp_cli.specs.DataText.{option_text}
 use Rattle.rtmfp_cli.proofs.show_data.show_more_options.Given as goal
 

@@ -1,5 +1,5 @@
 use Rattle.rtmfp_cli.specs.DataText.{numbers_text}
-use Rattle.rtmfp_cli.proofs.Pushes.{push_then, push_end}
+use Rattle.rtmfp_text.proofs.Pushes.{push_then, push_end}
 use Rattle.rtmfp_cli.proofs.show_data.show_numbers.Goals as goal
 
 pub returns : goal.returns

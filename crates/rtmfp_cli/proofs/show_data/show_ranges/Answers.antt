@@ -1,7 +1,7 @@
 use Rattle.std.proofs.Common.{ℕ, List, ◌++◌, ap, ◌∙◌, map}
-use Rattle.rtmfp_cli.specs.Words.{list_text}
+use Rattle.rtmfp_text.specs.Words.{list_text}
 use Rattle.rtmfp_cli.specs.DataText.{data_text, stretch_text}
-use Rattle.rtmfp_cli.proofs.Pushes.{push_then, push_end}
+use Rattle.rtmfp_text.proofs.Pushes.{push_then, push_end}
 use Rattle.rtmfp_cli.proofs.show_data.show_ranges.Goals as goal
 
 pub returns : goal.returns

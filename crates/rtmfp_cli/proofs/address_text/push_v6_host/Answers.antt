@@ -1,7 +1,0 @@
-use Rattle.rtmfp_cli.specs.AddressText.{v6_host_text}
-use Rattle.rtmfp_cli.proofs.Pushes.{push_then, push_end}
-use Rattle.rtmfp_cli.proofs.address_text.push_v6_host.Goals as goal
-
-pub returns : goal.returns
-unfolding v6_host_text
-returns c = (push_then _ c.in_ok-push.ensures (push_then _ c.in_ok-push_hex.ensures (push_end _ c.in_ok-push-2.ensures))).joined

@@ -1,9 +1,0 @@
-use Rattle.std.proofs.Common.{◌≡◌, ◌++◌, length}
-use Rattle.hex.specs.Hex.{encode_lower}
-use Rattle.rtmfp_cli.proofs.text.Text.push_hex.Given as goal
-
-abbrev pub invariant-loop-rest : goal.invariant-loop-rest
-invariant-loop-rest l = l.self ++ encode_lower l.rest ≡ l.fn.self ++ encode_lower l.bytes
-
-abbrev pub decreases-loop-rest : goal.decreases-loop-rest
-decreases-loop-rest l = length l.rest

@@ -1,0 +1,103 @@
+-- How a run over the lines of a source ends, and what it has written then.
+use Rattle.std.specs.Prelude.{◌≡◌, ℕ, ◌+◌, ◌≤◌, ◌⊎◌, List, [], ◌∷◌, ◌++◌, length, take, Some, IfSome}
+use Rattle.rtmfp_host.specs.Writing.{Appends}
+use Rattle.rtmfp_host.specs.Faults.{Rose}
+use Rattle.rtmfp_cli.specs.declared.doing.Doing.{Doing}
+use Rattle.rtmfp_cli.specs.declared.status.Status.{Status}
+use Rattle.rtmfp_cli.specs.declared.status.Status.TheVariants as status
+use Rattle.rtmfp_cli.specs.Outside.{Outside}
+use Rattle.rtmfp_cli.specs.Lines.{lines_of, whole_lines}
+use Rattle.rtmfp_cli.specs.Doing.{Does, IsBadLine, IsForgedLine}
+
+-- the most lines that a source may have
+abbrev pub max_lines : ℕ
+max_lines = 1000000
+
+-- lines, from line n on, one after another: what they leave, and the text that is written of them
+abbrev pub Runs : ℕ → Doing → List (List ℕ) → Doing → List ℕ → Type 0
+Runs n doing [] left text = (left ≡ doing) × (text ≡ [])
+Runs n doing (line ∷ lines) left text =
+    (middle : Doing) × (first : List ℕ) × (rest : List ℕ) × Does doing n line middle first × Runs (n + 1) middle lines left rest × (text ≡ first ++ rest)
+
+-- these first lines were done, their text was written, and nothing else
+pub record HasDone (doing : Doing) (before after : Outside) (lines : List (List ℕ)) : Type 0 where
+  pub left : Doing
+  pub text : List ℕ
+  pub ran : Runs 1 doing lines left text
+  pub written : Appends before.written after.written text
+
+-- a script has these lines, and then this one as line n
+pub record StopsAt (script : List ℕ) (n : ℕ) (lines : List (List ℕ)) (line : List ℕ) : Type 0 where
+  pub more : List (List ℕ)
+  pub split : lines_of script ≡ lines ++ line ∷ more
+  pub place : length lines + 1 ≡ n
+
+-- all lines were done, and the source was read to its end
+pub record AllDone (doing : Doing) (script : List ℕ) (before after : Outside) : Type 0 where
+  pub read : after.left ≡ Some []
+  pub count : length (lines_of script) ≤ max_lines
+  pub has : HasDone doing before after (lines_of script)
+
+-- the first lines were done, and no other
+pub record SomeDone (doing : Doing) (script : List ℕ) (before after : Outside) : Type 0 where
+  pub lines : List (List ℕ)
+  pub more : List (List ℕ)
+  pub split : lines_of script ≡ lines ++ more
+  pub has : HasDone doing before after lines
+
+-- the lines before line n were done, and line n is of this kind after them
+pub record StopsOn (Kind : Doing → ℕ → List ℕ → Type 0) (doing : Doing) (script : List ℕ) (n : ℕ) (before after : Outside) : Type 0 where
+  pub lines : List (List ℕ)
+  pub line : List ℕ
+  pub stops : StopsAt script n lines line
+  pub within : n ≤ max_lines
+  pub has : HasDone doing before after lines
+  pub kind : Kind has.left n line
+
+-- as many lines as a source may have were done, and there is one more
+pub record TooMany (doing : Doing) (script : List ℕ) (before after : Outside) : Type 0 where
+  pub lines : List (List ℕ)
+  pub line : List ℕ
+  pub stops : StopsAt script (max_lines + 1) lines line
+  pub has : HasDone doing before after lines
+
+-- the whole lines of what was taken from the source were done
+pub record TakenDone (doing : Doing) (script : List ℕ) (before after : Outside) : Type 0 where
+  pub taken : List ℕ
+  pub rest : List ℕ
+  pub split : script ≡ taken ++ rest
+  pub left : after.left ≡ Some rest
+  pub has : HasDone doing before after (whole_lines taken)
+
+-- nothing, or the first bytes of the text of line n, the next one
+abbrev pub IsPartOfNext : Doing → ℕ → List (List ℕ) → List ℕ → Type 0
+IsPartOfNext doing n more part =
+    (part ≡ []) ⊎ ((line : List ℕ) × (later : List (List ℕ)) × (left : Doing) × (text : List ℕ) × (k : ℕ)
+    × (more ≡ line ∷ later) × Does doing n line left text × (part ≡ take k text))
+
+-- the text of the first lines was written, and perhaps a part of that of the next
+pub record CutShort (doing : Doing) (script : List ℕ) (before after : Outside) : Type 0 where
+  pub lines : List (List ℕ)
+  pub more : List (List ℕ)
+  pub split : lines_of script ≡ lines ++ more
+  pub left : Doing
+  pub text : List ℕ
+  pub ran : Runs 1 doing lines left text
+  pub part : List ℕ
+  pub next : IsPartOfNext left (length lines + 1) more part
+  pub written : Appends before.written after.written (text ++ part)
+
+-- where the source tells its bytes
+abbrev pub Told : Outside → (List ℕ → Type 0) → Type 0
+Told before P = IfSome before.left P
+
+-- how a run over the source ends with each status
+abbrev pub ScriptEnds : Doing → Status → Outside → Outside → Type 0
+ScriptEnds doing status.Done before after = Told before (λ script. AllDone doing script before after)
+ScriptEnds doing status.Memory before after = Told before (λ script. SomeDone doing script before after)
+ScriptEnds doing status.BadWords before after = ⊥
+ScriptEnds doing (status.BadScript n) before after = Told before (λ script. StopsOn IsBadLine doing script n before after)
+ScriptEnds doing (status.Forged n) before after = Told before (λ script. StopsOn IsForgedLine doing script n before after)
+ScriptEnds doing status.SinkFault before after = Rose before.sink_faults after.sink_faults × Told before (λ script. CutShort doing script before after)
+ScriptEnds doing status.SourceFault before after = Rose before.source_faults after.source_faults × Told before (λ script. TakenDone doing script before after)
+ScriptEnds doing status.ScriptLong before after = Told before (λ script. TooMany doing script before after)

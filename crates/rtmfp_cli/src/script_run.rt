@@ -1,0 +1,148 @@
+//! A run over the lines of a source: each is read, done and its text written before the next.
+ghost use Rattle.std.specs.Prelude.{◌≡◌, ◌*◌, ◌+◌, ◌-◌, ◌<◌, ◌≤◌, ◌^◌, length};
+ghost use Rattle.rtmfp_host.specs.Faults.{Rose};
+ghost use Rattle.rtmfp_cli.specs.Doing.{IsNext, limit_of};
+ghost use Rattle.rtmfp_cli.specs.Outside.{outside};
+ghost use Rattle.rtmfp_cli.specs.Script.{ScriptEnds};
+ghost use Rattle.rtmfp_cli.specs.Turning.{Closed, Printed, Turned};
+
+use crate::buffer::Buffer;
+use crate::doing::{Doing, Said};
+use crate::lines::{Next, next_line};
+use crate::status::Status;
+use rtmfp_host::{Sink, Source, Wrote};
+use rtmfp_text::Text;
+use std::alloc::Global;
+
+/// The most lines that a source may have.
+const LINES: u64 = 1_000_000;
+
+/// The least that is read from the source at a time, and kept of it.
+const PIECE: usize = 1 << 16;
+
+/// What one line did.
+pub(crate) enum Turn {
+    Went,
+    Ended(Status),
+}
+
+/// Does one line, and writes its text.
+fn do_line<K: Sink>(
+    alloc: Global,
+    doing: &mut Doing,
+    line: &[u8],
+    number: u64,
+    text: &mut Text,
+    sink: &mut K,
+) -> Turn
+    requires fits { length line.now ≤ limit_of doing.old }
+    requires next { IsNext doing.old number }
+    ensures printed { Printed result doing.old doing.new number line.now (K.written sink.old) (K.written sink.new) }
+    ensures later { K.faults sink.old ≤ K.faults sink.new }
+    ensures failed { result ≡ Turn.Ended Status.SinkFault → Rose (K.faults sink.old) (K.faults sink.new) }
+    ensures limit { limit_of doing.new ≡ limit_of doing.old }
+    ensures next { result ≡ Turn.Went → number < 2 ^ 32 - 1 → IsNext doing.new (number + 1) }
+{
+    match doing.line(alloc, number, line, text) {
+        Ok(Said::Text) => match sink.write(text.bytes()) {
+            Wrote::Done => Turn::Went,
+            Wrote::Failed => Turn::Ended(Status::SinkFault),
+        },
+        Ok(Said::Bad) => Turn::Ended(Status::BadScript(number)),
+        Ok(Said::Forged) => Turn::Ended(Status::Forged(number)),
+        Err(_) => Turn::Ended(Status::Memory),
+    }
+}
+
+/// Reads and does the next line.
+fn next_turn<S: Source, K: Sink>(
+    alloc: Global,
+    doing: &mut Doing,
+    number: u64,
+    buffer: &mut Buffer,
+    text: &mut Text,
+    source: &mut S,
+    sink: &mut K,
+) -> Turn
+    requires room { 2 * limit_of doing.old < buffer.old.capacity }
+    requires next { IsNext doing.old number }
+    ensures turned { Turned result doing.old doing.new number (outside (S.left source.old) (S.faults source.old) (K.written sink.old) (K.faults sink.old))
+        (outside (S.left source.new) (S.faults source.new) (K.written sink.new) (K.faults sink.new)) buffer.old.bytes buffer.new.bytes }
+    ensures capacity { buffer.new.capacity ≡ buffer.old.capacity }
+    ensures limit { limit_of doing.new ≡ limit_of doing.old }
+    ensures next { result ≡ Turn.Went → number < 2 ^ 32 - 1 → IsNext doing.new (number + 1) }
+    ensures source { S.faults source.old ≤ S.faults source.new }
+    ensures sink { K.faults sink.old ≤ K.faults sink.new }
+    ensures source_failed { result ≡ Turn.Ended Status.SourceFault → Rose (S.faults source.old) (S.faults source.new) }
+    ensures sink_failed { result ≡ Turn.Ended Status.SinkFault → Rose (K.faults sink.old) (K.faults sink.new) }
+{
+    match next_line(buffer, doing.limit(), source, sink) {
+        Next::Line(len) => {
+            let turn = do_line(alloc, doing, &buffer.bytes()[..len], number, text, sink);
+            buffer.consume(len + 1);
+            turn
+        }
+        Next::Last => match do_line(alloc, doing, buffer.bytes(), number, text, sink) {
+            Turn::Went => Turn::Ended(Status::Done),
+            Turn::Ended(status) => Turn::Ended(status),
+        },
+        Next::End => Turn::Ended(Status::Done),
+        Next::TooLong => Turn::Ended(Status::BadScript(number)),
+        Next::SourceFailed => Turn::Ended(Status::SourceFault),
+        Next::SinkFailed => Turn::Ended(Status::SinkFault),
+    }
+}
+
+/// Whether the source ends behind the last line that it may have.
+fn close_script<S: Source, K: Sink>(buffer: &mut Buffer, source: &mut S, sink: &mut K) -> Status
+    requires { 0 < buffer.old.capacity }
+    ensures closed { Closed result (outside (S.left source.old) (S.faults source.old) (K.written sink.old) (K.faults sink.old))
+        (outside (S.left source.new) (S.faults source.new) (K.written sink.new) (K.faults sink.new)) buffer.old.bytes }
+    ensures source { S.faults source.old ≤ S.faults source.new }
+    ensures sink { K.faults sink.old ≤ K.faults sink.new }
+    ensures source_failed { result ≡ Status.SourceFault → Rose (S.faults source.old) (S.faults source.new) }
+    ensures sink_failed { result ≡ Status.SinkFault → Rose (K.faults sink.old) (K.faults sink.new) }
+{
+    // A line of no byte is one too many, so that one byte suffices.
+    match next_line(buffer, 0, source, sink) {
+        Next::End => Status::Done,
+        Next::Line(_) => Status::ScriptLong,
+        Next::Last => Status::ScriptLong,
+        Next::TooLong => Status::ScriptLong,
+        Next::SourceFailed => Status::SourceFault,
+        Next::SinkFailed => Status::SinkFault,
+    }
+}
+
+/// Does each line of the source.
+pub(crate) fn run_script<S: Source, K: Sink>(
+    alloc: Global,
+    mut doing: Doing,
+    source: &mut S,
+    sink: &mut K,
+) -> Status
+    requires { IsNext doing 1 }
+    ensures ends { ScriptEnds doing result (outside (S.left source.old) (S.faults source.old) (K.written sink.old) (K.faults sink.old))
+        (outside (S.left source.new) (S.faults source.new) (K.written sink.new) (K.faults sink.new)) }
+    ensures sink { K.faults sink.old ≤ K.faults sink.new }
+{
+    let Ok(mut buffer) = Buffer::new(alloc, 2 * doing.limit() + PIECE) else {
+        return Status::Memory;
+    };
+    let mut text = Text::new(alloc);
+    for before in 0..LINES {
+        match next_turn(
+            alloc,
+            &mut doing,
+            before + 1,
+            &mut buffer,
+            &mut text,
+            source,
+            sink,
+        ) {
+            Turn::Went => {}
+            Turn::Ended(status) => return status,
+        }
+    }
+    close_script(&mut buffer, source, sink)
+}
