@@ -1,0 +1,226 @@
+//! A plain Rust program that prints what `rtmfp replay --generate N --steps K` prints: the bar for its speed.
+//! With `--script` it prints the script of that run, and with `--report` the report of it.
+#[path = "replay/crypto.rs"]
+mod crypto;
+#[path = "replay/end.rs"]
+mod end;
+#[path = "replay/report.rs"]
+mod report;
+#[path = "replay/wire.rs"]
+mod wire;
+
+use crypto::Context;
+use end::{Draws, End, Entry, Fact, Group, Refusal};
+use std::collections::{HashMap, HashSet};
+use std::process::ExitCode;
+use std::rc::Rc;
+use wire::{Address, Host};
+
+const ENDS: usize = 8;
+
+pub enum Step {
+    End { name: String, max_peers: usize, max_sessions: usize, cert: String },
+    At { moment: u64 },
+    Open { end: usize, peer: usize, list: Vec<Address> },
+    Cancel { end: usize, n: u64 },
+    Deliver { number: usize, end: usize, from: Address },
+    Tick { end: usize },
+}
+
+pub struct JournalLine {
+    pub line: u64,
+    pub step: Step,
+    /// The end that was called, where there is one.
+    pub end: Option<usize>,
+    pub datagram: Option<Rc<[u8]>>,
+    pub refused: Option<Refusal>,
+    pub entries: Vec<Entry>,
+}
+
+struct Sent {
+    by: usize,
+    to: Address,
+    datagram: Rc<[u8]>,
+}
+
+pub struct World {
+    group: Rc<Group>,
+    pub ends: Vec<End>,
+    moment: u64,
+    pub journal: Vec<JournalLine>,
+    sent: Vec<Sent>,
+    /// In which contexts these bytes were sent.
+    contexts: HashMap<Rc<[u8]>, Vec<Rc<Context>>>,
+}
+
+enum StepFault {
+    BadStep,
+    Forged,
+}
+
+impl World {
+    fn new() -> Self {
+        let group = Rc::new(Group::new([0; 32]));
+        World { group, ends: Vec::new(), moment: 0, journal: Vec::new(), sent: Vec::new(), contexts: HashMap::new() }
+    }
+
+    fn step(&mut self, line: u64, step: Step) -> Result<(), StepFault> {
+        let draws = Draws { nonce: numbers(0, line), tag: numbers(2, line), word: line as u32 };
+        let (mut datagram, mut refused, mut entries) = (None, None, Vec::new());
+        let end = match &step {
+            Step::End { name, max_peers, max_sessions, cert } => {
+                let end = End::new(name.clone(), *max_peers, *max_sessions, cert.clone().into_bytes(), self.group.clone());
+                if self.ends.iter().any(|other| other.name == end.name || other.print == end.print) {
+                    return Err(StepFault::BadStep);
+                }
+                self.ends.push(end);
+                None
+            }
+            Step::At { moment } => {
+                if *moment < self.moment {
+                    return Err(StepFault::BadStep);
+                }
+                self.moment = *moment;
+                None
+            }
+            Step::Open { end, peer, list } => {
+                let peer = self.ends[*peer].print;
+                refused = self.ends[*end].open(peer, list, self.moment, &draws, &mut entries).err();
+                Some(*end)
+            }
+            Step::Cancel { end, n } => {
+                refused = self.ends[*end].cancel(*n, &mut entries).err();
+                Some(*end)
+            }
+            Step::Tick { end } => {
+                self.ends[*end].tick(self.moment, &mut entries);
+                Some(*end)
+            }
+            Step::Deliver { number, end, from } => {
+                let bytes = self.sent[*number - 1].datagram.clone();
+                let unsealed = self.ends[*end].unseal(&bytes);
+                // What opens in a context in which it wasn't sent is forged.
+                if unsealed.as_ref().is_ok_and(|unsealed| !self.was_sent(&bytes, &unsealed.context)) {
+                    return Err(StepFault::Forged);
+                }
+                self.ends[*end].receive(*from, self.moment, unsealed, &draws, &mut entries);
+                datagram = Some(bytes);
+                Some(*end)
+            }
+        };
+        if let Some(by) = end {
+            for entry in &entries {
+                if let Entry::Out(out) = entry {
+                    self.sent.push(Sent { by, to: out.to, datagram: out.datagram.clone() });
+                    self.contexts.entry(out.datagram.clone()).or_default().push(out.context.clone());
+                }
+            }
+        }
+        self.journal.push(JournalLine { line, step, end, datagram, refused, entries });
+        Ok(())
+    }
+
+    fn was_sent(&self, datagram: &[u8], context: &Rc<Context>) -> bool {
+        self.contexts.get(datagram).is_some_and(|contexts| contexts.contains(context))
+    }
+
+    /// The step that a number picks.
+    fn generated(&self, x: u64) -> Step {
+        let r = x >> 33;
+        let (operation, end, other, back) = (r % 16, (r / 16 % 8) as usize, (r / 128 % 8) as usize, r / 1024 % 16);
+        match operation {
+            0 | 1 => Step::Open { end, peer: other, list: vec![address_of(other)] },
+            2 => Step::Tick { end },
+            3 => Step::At { moment: self.moment + 500 },
+            4 => Step::Cancel { end, n: back },
+            _ if self.sent.is_empty() => Step::Tick { end },
+            _ => {
+                let number = self.sent.len() - back as usize % self.sent.len();
+                let sent = &self.sent[number - 1];
+                let Host::V4([.., last]) = sent.to.host else { unreachable!("all ends have short addresses") };
+                Step::Deliver { number, end: usize::from(last) - 1, from: address_of(sent.by) }
+            }
+        }
+    }
+
+    fn summary(&self, steps: u64) -> String {
+        let (mut sent, mut started, mut born, mut opened, mut confirmed, mut ended, mut dropped) = (0, 0, 0, 0, 0, 0, 0);
+        for entry in self.journal.iter().flat_map(|line| &line.entries) {
+            *match entry {
+                Entry::Out(_) => &mut sent,
+                Entry::Discard { .. } => &mut dropped,
+                Entry::Fact(Fact::Started { .. }) => &mut started,
+                Entry::Fact(Fact::Born(_)) => &mut born,
+                Entry::Fact(Fact::Opened(_)) => &mut opened,
+                Entry::Fact(Fact::Confirmed { .. }) => &mut confirmed,
+                Entry::Fact(Fact::Ended { .. }) => &mut ended,
+            } += 1;
+        }
+        let (ends, kept) = (self.ends.len(), self.ends.iter().map(End::kept).sum::<usize>());
+        format!(
+            "ends={ends} steps={steps} sent={sent} started={started} born={born} opened={opened} \
+             confirmed={confirmed} ended={ended} dropped={dropped} kept={kept}"
+        )
+    }
+}
+
+/// Where an end of the generated run is.
+fn address_of(end: usize) -> Address {
+    Address { host: Host::V4([10, 0, 0, end as u8 + 1]), port: 1935 }
+}
+
+fn numbers(first: u64, second: u64) -> [u8; 16] {
+    (u128::from(first) << 64 | u128::from(second)).to_be_bytes()
+}
+
+fn run(seed: u64, steps: u64) -> Result<World, (StepFault, u64)> {
+    let mut world = World::new();
+    for end in 0..ENDS {
+        let name = format!("e{end}");
+        let cert = format!("generated-end-0{end}{name}");
+        let line = end as u64 + 1;
+        world.step(line, Step::End { name, max_peers: 65_536, max_sessions: 4_096, cert }).map_err(|fault| (fault, line))?;
+    }
+    let mut x = seed;
+    for line in (1..=steps).map(|step| step + ENDS as u64) {
+        x = x.wrapping_mul(6_364_136_223_846_793_005).wrapping_add(1_442_695_040_888_963_407);
+        let step = world.generated(x);
+        world.step(line, step).map_err(|fault| (fault, line))?;
+    }
+    Ok(world)
+}
+
+fn words() -> Option<(u64, u64, HashSet<String>)> {
+    let (mut seed, mut steps, mut flags) = (None, None, HashSet::new());
+    let mut words = std::env::args().skip(1);
+    while let Some(word) = words.next() {
+        match word.as_str() {
+            "--generate" => seed = Some(words.next()?.parse().ok()?),
+            "--steps" => steps = Some(words.next()?.parse().ok().filter(|n| *n <= 100_000)?),
+            "--script" | "--report" => _ = flags.insert(word),
+            _ => return None,
+        }
+    }
+    Some((seed?, steps?, flags))
+}
+
+fn main() -> ExitCode {
+    let Some((seed, steps, flags)) = words() else {
+        eprintln!("replay: bad command line");
+        return ExitCode::from(2);
+    };
+    match run(seed, steps) {
+        Ok(world) if flags.contains("--script") => report::print_script(&world),
+        Ok(world) if flags.contains("--report") => report::print_report(&world),
+        Ok(world) => println!("{}", world.summary(steps)),
+        Err((StepFault::BadStep, line)) => {
+            eprintln!("replay: bad line {line}");
+            return ExitCode::from(3);
+        }
+        Err((StepFault::Forged, line)) => {
+            eprintln!("replay: forged datagram at line {line}");
+            return ExitCode::from(4);
+        }
+    }
+    ExitCode::SUCCESS
+}

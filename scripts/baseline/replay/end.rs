@@ -1,0 +1,684 @@
+//! One end: its attempts, its sessions, and what a call or a datagram does.
+use crate::crypto::{session_id, sha256, Context, Hmac, Keys, Nonce, Print, Window};
+use crate::wire::{self, packet, put_counted, Address, Chunk, ChunkFault, IIKeying, Packet, RIKeying, Reader, STARTUP_MODE};
+use std::collections::{BTreeMap, HashMap};
+use std::rc::Rc;
+
+const GAPS: [u64; 5] = [1000, 1500, 2250, 3375, 5062];
+const ATTEMPT_TIME: u64 = 95_000;
+const COOKIE_TIME: u64 = 95_000;
+const ECHO_TIME: u64 = 128_000;
+const INITIATOR: u8 = 1;
+const RESPONDER: u8 = 2;
+
+/// What all ends of the group know.
+pub struct Group {
+    secret: [u8; 32],
+    startup: (Rc<Context>, Keys),
+    sign: Hmac,
+}
+
+impl Group {
+    pub fn new(secret: [u8; 32]) -> Self {
+        let sign = Hmac::new(&Hmac::new(&secret).of(&[b"rtmfp sign"]));
+        Group { secret, startup: (Rc::new(Context::Startup), Keys::new(&secret, &Context::Startup)), sign }
+    }
+}
+
+/// The random values of a call.
+pub struct Draws {
+    pub nonce: Nonce,
+    pub tag: [u8; 16],
+    pub word: u32,
+}
+
+#[derive(Clone, Copy, Debug)]
+pub enum Why {
+    Cancelled,
+    Expired,
+    Glare,
+    Override,
+}
+
+#[derive(Clone, Debug)]
+pub struct Joined {
+    pub peer: Print,
+    pub n: u64,
+    pub near: u32,
+    pub far: u32,
+    pub ni: Nonce,
+    pub nr: Nonce,
+    pub k: u64,
+}
+
+#[derive(Clone, Debug)]
+pub enum Fact {
+    Started { peer: Print, n: u64, near: u32, ni: Nonce },
+    Born(Joined),
+    Opened(Joined),
+    Confirmed { near: u32 },
+    Ended { near: u32, why: Why },
+}
+
+#[derive(Clone, Copy, Debug, PartialEq)]
+pub enum Cause {
+    Short,
+    UnknownSession,
+    BadTag,
+    Repeated,
+    BadPacket(u8),
+    UnknownChunk(u8),
+    Malformed(usize),
+    WrongPlace,
+    NotSelected,
+    NoAttempt,
+    WrongPeer,
+    WrongState,
+    BadCookie,
+    BadSignature,
+    WrongResponder,
+    OwnCertificate,
+    Stale(u64),
+    Glare(u64),
+    PeersFull(usize),
+    SessionsFull(usize),
+    SecondKeying,
+    Fragment,
+    Wide(usize),
+}
+
+#[derive(Clone, Copy, Debug)]
+pub enum Refusal {
+    Candidates(usize),
+    OwnPrint,
+    Opening(u64),
+    Open(u32),
+    AttemptsSpent,
+    PeersFull(usize),
+    SessionsFull(usize),
+    NoAttempt,
+}
+
+pub struct Out {
+    pub to: Address,
+    pub datagram: Rc<[u8]>,
+    pub context: Rc<Context>,
+    pub kind: u8,
+}
+
+pub enum Entry {
+    Fact(Fact),
+    Discard { place: usize, cause: Cause },
+    Out(Out),
+}
+
+enum Stage {
+    Hello,
+    Keying { address: Address, cookie: Vec<u8> },
+}
+
+struct Attempt {
+    peer: Print,
+    n: u64,
+    ni: Nonce,
+    tag: [u8; 16],
+    candidates: Vec<Address>,
+    stage: Stage,
+    start: u64,
+    sent: u64,
+    gap: usize,
+}
+
+struct Session {
+    joined: Joined,
+    mode: u8,
+    kept: bool,
+    inward: (Rc<Context>, Keys),
+    outward: (Rc<Context>, Keys),
+    window: Window,
+    sealed: u64,
+    stamp: Option<(u16, u64)>,
+    trip: Option<(u64, u64)>,
+    /// The keying of a responder, which is sent again for a repeat.
+    rikeying: Vec<u8>,
+}
+
+#[derive(Clone, Copy, PartialEq)]
+enum Held {
+    Nothing,
+    Attempt(u32),
+    Session(u32),
+}
+
+struct Peer {
+    floor: u64,
+    held: Held,
+}
+
+#[derive(Clone, Copy)]
+enum Place {
+    Startup,
+    Attempt(u32),
+    Session(u32),
+}
+
+/// A datagram that was opened.
+pub struct Unsealed {
+    place: Place,
+    pub context: Rc<Context>,
+    number: u64,
+    plain: Vec<u8>,
+}
+
+impl Session {
+    fn new(joined: Joined, own: Print, mode: u8, secret: &[u8; 32]) -> Self {
+        let (initiator, responder, sid_i, sid_r) = match mode {
+            INITIATOR => (own, joined.peer, joined.near, joined.far),
+            _ => (joined.peer, own, joined.far, joined.near),
+        };
+        let context = |to_responder| {
+            let context = Context::Session { ni: joined.ni, nr: joined.nr, initiator, responder, sid_i, sid_r, to_responder };
+            let keys = Keys::new(secret, &context);
+            (Rc::new(context), keys)
+        };
+        let (inward, outward) = (context(mode == RESPONDER), context(mode == INITIATOR));
+        let kept = mode == INITIATOR;
+        Session { joined, mode, kept, inward, outward, window: Window::new(), sealed: 0, stamp: None, trip: None, rikeying: Vec::new() }
+    }
+
+    /// Takes the stamps of a packet, and the round trip that an echo tells.
+    fn take_stamps(&mut self, packet: &Packet, moment: u64) {
+        if let Some(stamp) = packet.stamp {
+            self.stamp = Some((stamp, moment));
+        }
+        let Some(echo) = packet.echo else { return };
+        let ticks = ((moment / 4) as u16).wrapping_sub(echo);
+        if ticks < 0x8000 {
+            let sample = 4 * u64::from(ticks);
+            self.trip = Some(match self.trip {
+                None => (sample, sample / 2),
+                Some((trip, var)) => ((7 * trip + sample) / 8, (3 * var + trip.abs_diff(sample)) / 4),
+            });
+        }
+    }
+
+    fn seal(&mut self, kind: u8, payload: &[u8], moment: u64) -> Vec<u8> {
+        let fresh = self.stamp.filter(|(_, taken)| moment - taken < ECHO_TIME);
+        let echo = fresh.map(|(stamp, taken)| stamp.wrapping_add(((moment - taken) / 4) as u16));
+        let plain = packet(self.mode, Some((moment / 4) as u16), echo, kind, payload);
+        self.sealed += 1;
+        let mut number = [0; 16];
+        number[8..].copy_from_slice(&self.sealed.to_be_bytes());
+        self.outward.1.seal(self.joined.far, number, &plain)
+    }
+}
+
+enum Test {
+    Bad,
+    Moved,
+    Expired,
+    Current,
+}
+
+pub struct End {
+    pub name: String,
+    pub print: Print,
+    cert: Vec<u8>,
+    max_peers: usize,
+    max_sessions: usize,
+    group: Rc<Group>,
+    cookie_key: Hmac,
+    started: u64,
+    sealed: u64,
+    peers: HashMap<Print, Peer>,
+    attempts: BTreeMap<u32, Attempt>,
+    sessions: HashMap<u32, Session>,
+}
+
+impl End {
+    pub fn new(name: String, max_peers: usize, max_sessions: usize, cert: Vec<u8>, group: Rc<Group>) -> Self {
+        let print = sha256(&cert);
+        End {
+            name,
+            print,
+            cert,
+            max_peers,
+            max_sessions,
+            group,
+            cookie_key: Hmac::new(&print),
+            started: 0,
+            sealed: 0,
+            peers: HashMap::new(),
+            attempts: BTreeMap::new(),
+            sessions: HashMap::new(),
+        }
+    }
+
+    pub fn kept(&self) -> usize {
+        self.sessions.values().filter(|s| s.kept).count()
+    }
+
+    // ---- calls
+
+    pub fn open(&mut self, peer: Print, list: &[Address], moment: u64, draws: &Draws, out: &mut Vec<Entry>) -> Result<(), Refusal> {
+        if list.is_empty() || list.len() > 16 {
+            return Err(Refusal::Candidates(list.len()));
+        }
+        if peer == self.print {
+            return Err(Refusal::OwnPrint);
+        }
+        match self.held(&peer) {
+            Held::Attempt(near) => return Err(Refusal::Opening(self.attempts[&near].n)),
+            Held::Session(near) => return Err(Refusal::Open(near)),
+            Held::Nothing => {}
+        }
+        if self.started == u64::MAX {
+            return Err(Refusal::AttemptsSpent);
+        }
+        if self.no_row_for(&peer) {
+            return Err(Refusal::PeersFull(self.max_peers));
+        }
+        if self.full() {
+            return Err(Refusal::SessionsFull(self.max_sessions));
+        }
+        let near = self.free_id(draws.word);
+        self.started += 1;
+        let mut candidates: Vec<Address> = Vec::new();
+        for place in list {
+            if !candidates.contains(place) {
+                candidates.push(*place);
+            }
+        }
+        let (n, ni) = (self.started, draws.nonce);
+        self.hold(peer, Held::Attempt(near));
+        out.push(Entry::Fact(Fact::Started { peer, n, near, ni }));
+        let attempt = Attempt { peer, n, ni, tag: draws.tag, candidates, stage: Stage::Hello, start: moment, sent: moment, gap: 0 };
+        self.attempts.insert(near, attempt);
+        self.send_attempt(near, out);
+        Ok(())
+    }
+
+    pub fn cancel(&mut self, n: u64, out: &mut Vec<Entry>) -> Result<(), Refusal> {
+        let near = self.attempts.iter().find(|(_, a)| a.n == n).map(|(near, _)| *near).ok_or(Refusal::NoAttempt)?;
+        self.end_attempt(near, Why::Cancelled, out);
+        Ok(())
+    }
+
+    /// Attempts that are too old end; hellos and keyings that weren't answered go out again.
+    pub fn tick(&mut self, moment: u64, out: &mut Vec<Entry>) {
+        let nears: Vec<u32> = self.attempts.keys().copied().collect();
+        for near in nears {
+            let attempt = self.attempts.get_mut(&near).unwrap();
+            if moment >= attempt.start + ATTEMPT_TIME {
+                self.end_attempt(near, Why::Expired, out);
+            } else if moment >= attempt.sent + GAPS[attempt.gap] {
+                attempt.sent = moment;
+                attempt.gap = (attempt.gap + 1).min(GAPS.len() - 1);
+                self.send_attempt(near, out);
+            }
+        }
+    }
+
+    /// Opens a datagram, and changes nothing yet.
+    pub fn unseal(&self, datagram: &[u8]) -> Result<Unsealed, Cause> {
+        if datagram.len() < 36 {
+            return Err(Cause::Short);
+        }
+        let sid = session_id(datagram);
+        let place = self.place_of(sid).ok_or(Cause::UnknownSession)?;
+        let (context, keys) = match place {
+            Place::Session(near) => &self.sessions[&near].inward,
+            _ => &self.group.startup,
+        };
+        let (number, plain) = keys.open(sid, datagram).ok_or(Cause::BadTag)?;
+        if matches!(place, Place::Session(_)) && number[..8] != [0; 8] {
+            return Err(Cause::BadTag);
+        }
+        Ok(Unsealed { place, context: context.clone(), number: u64::from_be_bytes(number[8..].try_into().unwrap()), plain })
+    }
+
+    pub fn receive(&mut self, from: Address, moment: u64, unsealed: Result<Unsealed, Cause>, draws: &Draws, out: &mut Vec<Entry>) {
+        if let Err(cause) = unsealed.and_then(|unsealed| self.take_datagram(from, moment, &unsealed, draws, out)) {
+            out.push(Entry::Discard { place: 0, cause });
+        }
+    }
+
+    // ---- a datagram
+
+    fn take_datagram(
+        &mut self, from: Address, moment: u64, unsealed: &Unsealed, draws: &Draws, out: &mut Vec<Entry>,
+    ) -> Result<(), Cause> {
+        let place = unsealed.place;
+        let mut mode = STARTUP_MODE;
+        if let Place::Session(near) = place {
+            let session = self.sessions.get_mut(&near).unwrap();
+            if !session.window.take(unsealed.number) {
+                return Err(Cause::Repeated);
+            }
+            mode = INITIATOR + RESPONDER - session.mode;
+        }
+        let packet = Packet::read(&unsealed.plain).map_err(Cause::BadPacket)?;
+        if packet.mode != mode {
+            return Err(Cause::WrongPlace);
+        }
+        if let Place::Session(near) = place {
+            let session = self.sessions.get_mut(&near).unwrap();
+            session.take_stamps(&packet, moment);
+            if !session.kept {
+                session.kept = true;
+                out.push(Entry::Fact(Fact::Confirmed { near }));
+            }
+        }
+        let mut keyed = false;
+        for chunk in &packet.chunks {
+            if let Err(cause) = self.take_chunk(place, chunk, keyed, from, moment, draws, out) {
+                out.push(Entry::Discard { place: chunk.at, cause });
+            }
+            keyed |= chunk.kind == wire::IIKEYING;
+        }
+        Ok(())
+    }
+
+    #[allow(clippy::too_many_arguments)]
+    fn take_chunk(
+        &mut self, place: Place, raw: &wire::RawChunk, keyed: bool, from: Address, moment: u64, draws: &Draws, out: &mut Vec<Entry>,
+    ) -> Result<(), Cause> {
+        let chunk = Chunk::read(raw.kind, raw.payload).map_err(|fault| match fault {
+            ChunkFault::Unknown => Cause::UnknownChunk(raw.kind),
+            ChunkFault::Malformed(at) => Cause::Malformed(at),
+        })?;
+        match (place, chunk) {
+            (_, Chunk::Fragment) => Err(Cause::Fragment),
+            (Place::Startup, Chunk::IHello { epd, tag }) => self.take_hello(epd, tag, from, moment, out),
+            (Place::Session(_), Chunk::FIHello { epd, reply, tag }) => self.take_hello(epd, tag, reply, moment, out),
+            (Place::Startup, Chunk::RHello { tag, cookie, cert }) => self.take_rhello(tag, cookie, cert, from, moment, out),
+            (Place::Startup, Chunk::CookieChange { old, new }) => self.take_cookie_change(None, old, new, moment, out),
+            (Place::Attempt(near), Chunk::CookieChange { old, new }) => self.take_cookie_change(Some(near), old, new, moment, out),
+            (Place::Startup, Chunk::IIKeying(_)) if keyed => Err(Cause::SecondKeying),
+            (Place::Startup, Chunk::IIKeying(keying)) => self.take_iikeying(&keying, from, moment, draws, out),
+            (Place::Attempt(near), Chunk::RIKeying(keying)) => self.take_rikeying(near, &keying, from, moment, out),
+            (Place::Session(near), Chunk::Ping(bytes)) => {
+                if bytes.len() > 1024 {
+                    return Err(Cause::Wide(bytes.len()));
+                }
+                self.send_in_session(near, from, wire::PINGREPLY, bytes, moment, out);
+                Ok(())
+            }
+            (Place::Session(_), Chunk::PingReply) => Ok(()),
+            _ => Err(Cause::WrongPlace),
+        }
+    }
+
+    fn take_hello(&mut self, epd: &[u8], tag: &[u8], to: Address, moment: u64, out: &mut Vec<Entry>) -> Result<(), Cause> {
+        not_wide(tag)?;
+        if epd.len() != 33 || epd[0] != 1 || epd[1..] != self.print {
+            return Err(Cause::NotSelected);
+        }
+        let mut payload = Vec::with_capacity(128);
+        put_counted(tag, &mut payload);
+        put_counted(&self.cookie(to, moment), &mut payload);
+        payload.extend_from_slice(&self.cert);
+        self.send_startup(0, to, wire::RHELLO, &payload, out);
+        Ok(())
+    }
+
+    fn take_rhello(
+        &mut self, tag: &[u8], cookie: &[u8], cert: &[u8], from: Address, moment: u64, out: &mut Vec<Entry>,
+    ) -> Result<(), Cause> {
+        not_wide(tag)?;
+        not_wide(cookie)?;
+        let (near, attempt) = self.attempts.iter_mut().find(|(_, a)| a.tag == tag).ok_or(Cause::NoAttempt)?;
+        if !matches!(attempt.stage, Stage::Hello) {
+            return Err(Cause::WrongState);
+        }
+        if sha256(cert) != attempt.peer {
+            return Err(Cause::WrongPeer);
+        }
+        attempt.stage = Stage::Keying { address: from, cookie: cookie.to_vec() };
+        (attempt.sent, attempt.gap) = (moment, 0);
+        let near = *near;
+        self.send_attempt(near, out);
+        Ok(())
+    }
+
+    fn take_cookie_change(
+        &mut self, near: Option<u32>, old: &[u8], new: &[u8], moment: u64, out: &mut Vec<Entry>,
+    ) -> Result<(), Cause> {
+        not_wide(old)?;
+        not_wide(new)?;
+        let mut attempts = self.attempts.iter_mut().filter(|(id, _)| near.is_none_or(|near| near == **id));
+        let (near, attempt) = attempts
+            .find(|(_, a)| matches!(&a.stage, Stage::Keying { cookie, .. } if cookie == old))
+            .ok_or(Cause::NoAttempt)?;
+        if let Stage::Keying { cookie, .. } = &mut attempt.stage {
+            *cookie = new.to_vec();
+        }
+        attempt.sent = moment;
+        let near = *near;
+        self.send_attempt(near, out);
+        Ok(())
+    }
+
+    fn take_iikeying(&mut self, keying: &IIKeying, from: Address, moment: u64, draws: &Draws, out: &mut Vec<Entry>) -> Result<(), Cause> {
+        if self.group.sign.of(&[keying.signed]) != keying.sign {
+            return Err(Cause::BadSignature);
+        }
+        not_wide(keying.cookie)?;
+        match self.test_cookie(keying.cookie, from, moment) {
+            Test::Bad => return Err(Cause::BadCookie),
+            Test::Moved | Test::Expired => {
+                let mut payload = Vec::with_capacity(96);
+                put_counted(keying.cookie, &mut payload);
+                payload.extend_from_slice(&self.cookie(from, moment));
+                self.send_startup(keying.near, from, wire::COOKIECHANGE, &payload, out);
+                return Ok(());
+            }
+            Test::Current => {}
+        }
+        if keying.responder != self.print {
+            return Err(Cause::WrongResponder);
+        }
+        let peer = sha256(keying.cert);
+        if peer == self.print {
+            return Err(Cause::OwnCertificate);
+        }
+        let held = self.held(&peer);
+        if let Held::Session(near) = held {
+            let session = &self.sessions[&near];
+            let joined = &session.joined;
+            if session.mode == RESPONDER && (joined.n, joined.ni, joined.far) == (keying.n, keying.ni, keying.near) {
+                let rikeying = session.rikeying.clone();
+                self.send_startup(keying.near, from, wire::RIKEYING, &rikeying, out);
+                return Ok(());
+            }
+        }
+        let floor = self.peers.get(&peer).map_or(0, |row| row.floor);
+        if keying.n <= floor {
+            return Err(Cause::Stale(floor));
+        }
+        if let Held::Attempt(near) = held {
+            if self.print > peer {
+                return Err(Cause::Glare(self.attempts[&near].n));
+            }
+        }
+        if self.no_row_for(&peer) {
+            return Err(Cause::PeersFull(self.max_peers));
+        }
+        if held == Held::Nothing && self.full() {
+            return Err(Cause::SessionsFull(self.max_sessions));
+        }
+        // What ends here still has its ID while a new one is looked for.
+        let near = self.free_id(draws.word);
+        match held {
+            Held::Nothing => {}
+            Held::Attempt(old) => self.end_attempt(old, Why::Glare, out),
+            Held::Session(old) => {
+                self.sessions.remove(&old);
+                out.push(Entry::Fact(Fact::Ended { near: old, why: Why::Override }));
+            }
+        }
+        let joined = Joined { peer, n: keying.n, near, far: keying.near, ni: keying.ni, nr: draws.nonce, k: self.started };
+        self.hold(peer, Held::Session(near)).floor = keying.n;
+        out.push(Entry::Fact(Fact::Born(joined.clone())));
+        let mut session = Session::new(joined, self.print, RESPONDER, &self.group.secret);
+        session.rikeying = self.rikeying(&session.joined);
+        self.send_startup(keying.near, from, wire::RIKEYING, &session.rikeying, out);
+        self.sessions.insert(near, session);
+        Ok(())
+    }
+
+    fn take_rikeying(&mut self, near: u32, keying: &RIKeying, from: Address, moment: u64, out: &mut Vec<Entry>) -> Result<(), Cause> {
+        let attempt = self.attempts.get(&near).ok_or(Cause::NoAttempt)?;
+        if self.group.sign.of(&[keying.signed]) != keying.sign {
+            return Err(Cause::BadSignature);
+        }
+        if matches!(attempt.stage, Stage::Hello) {
+            return Err(Cause::WrongState);
+        }
+        if keying.responder != attempt.peer {
+            return Err(Cause::WrongPeer);
+        }
+        if keying.ni != attempt.ni {
+            return Err(Cause::NoAttempt);
+        }
+        let (peer, n, ni) = (attempt.peer, attempt.n, attempt.ni);
+        let joined = Joined { peer, n, near, far: keying.near, ni, nr: keying.nr, k: keying.k };
+        self.attempts.remove(&near);
+        let row = self.hold(peer, Held::Session(near));
+        row.floor = row.floor.max(keying.k);
+        out.push(Entry::Fact(Fact::Opened(joined.clone())));
+        self.sessions.insert(near, Session::new(joined, self.print, INITIATOR, &self.group.secret));
+        self.send_in_session(near, from, wire::PING, &[], moment, out);
+        Ok(())
+    }
+
+    // ---- what is held
+
+    fn held(&self, peer: &Print) -> Held {
+        self.peers.get(peer).map_or(Held::Nothing, |row| row.held)
+    }
+
+    fn hold(&mut self, peer: Print, held: Held) -> &mut Peer {
+        let row = self.peers.entry(peer).or_insert(Peer { floor: 0, held });
+        row.held = held;
+        row
+    }
+
+    fn no_row_for(&self, peer: &Print) -> bool {
+        self.peers.len() >= self.max_peers && !self.peers.contains_key(peer)
+    }
+
+    fn full(&self) -> bool {
+        self.attempts.len() + self.sessions.len() >= self.max_sessions
+    }
+
+    fn free_id(&self, word: u32) -> u32 {
+        let mut id = word;
+        while id == 0 || self.attempts.contains_key(&id) || self.sessions.contains_key(&id) {
+            id = id.wrapping_add(1);
+        }
+        id
+    }
+
+    fn place_of(&self, sid: u32) -> Option<Place> {
+        if sid == 0 {
+            Some(Place::Startup)
+        } else if self.attempts.contains_key(&sid) {
+            Some(Place::Attempt(sid))
+        } else {
+            self.sessions.contains_key(&sid).then_some(Place::Session(sid))
+        }
+    }
+
+    fn end_attempt(&mut self, near: u32, why: Why, out: &mut Vec<Entry>) {
+        if let Some(attempt) = self.attempts.remove(&near) {
+            self.hold(attempt.peer, Held::Nothing);
+            out.push(Entry::Fact(Fact::Ended { near, why }));
+        }
+    }
+
+    // ---- cookies
+
+    fn cookie(&self, to: Address, issued: u64) -> Vec<u8> {
+        let mut cookie = Vec::with_capacity(43);
+        cookie.extend_from_slice(&issued.to_be_bytes());
+        to.write(2, &mut cookie);
+        let mac = self.cookie_key.of(&[&cookie]);
+        cookie.extend_from_slice(&mac[..16]);
+        cookie
+    }
+
+    fn test_cookie(&self, cookie: &[u8], from: Address, moment: u64) -> Test {
+        let mut r = Reader::new(cookie);
+        let (Ok(issued), Ok(to)) = (r.array().map(u64::from_be_bytes), r.address()) else { return Test::Bad };
+        // It is made again, so that all its bytes count.
+        if self.cookie(to, issued) != cookie {
+            Test::Bad
+        } else if to != from {
+            Test::Moved
+        } else if moment > issued.saturating_add(COOKIE_TIME) {
+            Test::Expired
+        } else {
+            Test::Current
+        }
+    }
+
+    // ---- sending
+
+    fn send_startup(&mut self, sid: u32, to: Address, kind: u8, payload: &[u8], out: &mut Vec<Entry>) {
+        self.sealed += 1;
+        let mut number = [0; 16];
+        number[..8].copy_from_slice(&self.print[..8]);
+        number[8..].copy_from_slice(&self.sealed.to_be_bytes());
+        let (context, keys) = &self.group.startup;
+        let datagram = keys.seal(sid, number, &packet(STARTUP_MODE, None, None, kind, payload)).into();
+        out.push(Entry::Out(Out { to, datagram, context: context.clone(), kind }));
+    }
+
+    fn send_in_session(&mut self, near: u32, to: Address, kind: u8, payload: &[u8], moment: u64, out: &mut Vec<Entry>) {
+        let Some(session) = self.sessions.get_mut(&near) else { return };
+        let datagram = session.seal(kind, payload, moment).into();
+        out.push(Entry::Out(Out { to, datagram, context: session.outward.0.clone(), kind }));
+    }
+
+    /// Sends the hellos of an attempt, or its keying.
+    fn send_attempt(&mut self, near: u32, out: &mut Vec<Entry>) {
+        let attempt = &self.attempts[&near];
+        let mut payload = Vec::with_capacity(256);
+        match &attempt.stage {
+            Stage::Hello => {
+                payload.extend_from_slice(&[33, 1]);
+                payload.extend_from_slice(&attempt.peer);
+                payload.extend_from_slice(&attempt.tag);
+                for to in attempt.candidates.clone() {
+                    self.send_startup(0, to, wire::IHELLO, &payload, out);
+                }
+            }
+            Stage::Keying { address, cookie } => {
+                let to = *address;
+                payload.extend_from_slice(&near.to_be_bytes());
+                put_counted(cookie, &mut payload);
+                put_counted(&self.cert, &mut payload);
+                put_counted(&[&attempt.ni[..], &attempt.n.to_be_bytes(), &attempt.peer].concat(), &mut payload);
+                payload.extend_from_slice(&self.group.sign.of(&[&payload]));
+                self.send_startup(0, to, wire::IIKEYING, &payload, out);
+            }
+        }
+    }
+
+    fn rikeying(&self, joined: &Joined) -> Vec<u8> {
+        let mut payload = Vec::with_capacity(128);
+        payload.extend_from_slice(&joined.near.to_be_bytes());
+        put_counted(&[&joined.nr[..], &joined.k.to_be_bytes(), &self.print, &joined.ni].concat(), &mut payload);
+        let sign = self.group.sign.of(&[&payload]);
+        payload.extend_from_slice(&sign);
+        payload
+    }
+}
+
+fn not_wide(bytes: &[u8]) -> Result<(), Cause> {
+    if bytes.len() > 128 {
+        return Err(Cause::Wide(bytes.len()));
+    }
+    Ok(())
+}

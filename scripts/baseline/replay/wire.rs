@@ -1,0 +1,293 @@
+//! The forms of packets, chunks, addresses and certificates.
+
+#[derive(Clone, Copy, PartialEq, Eq, Debug)]
+pub enum Host {
+    V4([u8; 4]),
+    V6([u8; 16]),
+}
+
+/// A place. Where it is from doesn't count for anything here, so it isn't kept.
+#[derive(Clone, Copy, PartialEq, Eq, Debug)]
+pub struct Address {
+    pub host: Host,
+    pub port: u16,
+}
+
+impl Address {
+    pub fn write(&self, origin: u8, out: &mut Vec<u8>) {
+        match &self.host {
+            Host::V4(host) => {
+                out.push(origin);
+                out.extend_from_slice(host);
+            }
+            Host::V6(host) => {
+                out.push(0x80 | origin);
+                out.extend_from_slice(host);
+            }
+        }
+        out.extend_from_slice(&self.port.to_be_bytes());
+    }
+}
+
+/// Reads fields from the left. A refusal is the offset of the field that isn't there whole.
+pub struct Reader<'a> {
+    bytes: &'a [u8],
+    at: usize,
+}
+
+impl<'a> Reader<'a> {
+    pub fn new(bytes: &'a [u8]) -> Self {
+        Reader { bytes, at: 0 }
+    }
+
+    pub fn take(&mut self, n: usize) -> Result<&'a [u8], usize> {
+        let end = self.at.checked_add(n).ok_or(self.at)?;
+        let field = self.bytes.get(self.at..end).ok_or(self.at)?;
+        self.at = end;
+        Ok(field)
+    }
+
+    pub fn array<const N: usize>(&mut self) -> Result<[u8; N], usize> {
+        Ok(self.take(N)?.try_into().unwrap())
+    }
+
+    pub fn vlu(&mut self) -> Result<u64, usize> {
+        let mut value: u128 = 0;
+        for (i, x) in self.bytes[self.at..].iter().take(10).enumerate() {
+            value = value << 7 | u128::from(x & 0x7f);
+            if *x < 0x80 {
+                let value = u64::try_from(value).map_err(|_| self.at)?;
+                self.at += i + 1;
+                return Ok(value);
+            }
+        }
+        Err(self.at)
+    }
+
+    pub fn counted(&mut self) -> Result<&'a [u8], usize> {
+        let n = self.vlu()?;
+        self.take(usize::try_from(n).map_err(|_| self.at)?)
+    }
+
+    pub fn address(&mut self) -> Result<Address, usize> {
+        let start = self.at;
+        self.address_fields().map_err(|_| start)
+    }
+
+    fn address_fields(&mut self) -> Result<Address, usize> {
+        let v6 = self.take(1)?[0] & 0x80 != 0;
+        let host = if v6 { Host::V6(self.array()?) } else { Host::V4(self.array()?) };
+        Ok(Address { host, port: u16::from_be_bytes(self.array()?) })
+    }
+
+    pub fn rest(&mut self) -> &'a [u8] {
+        let rest = &self.bytes[self.at..];
+        self.at = self.bytes.len();
+        rest
+    }
+}
+
+pub fn put_vlu(mut n: u64, out: &mut Vec<u8>) {
+    let mut groups = vec![n as u8 & 0x7f];
+    n >>= 7;
+    while n > 0 {
+        groups.push(0x80 | n as u8 & 0x7f);
+        n >>= 7;
+    }
+    out.extend(groups.iter().rev());
+}
+
+pub fn put_counted(bytes: &[u8], out: &mut Vec<u8>) {
+    put_vlu(bytes.len() as u64, out);
+    out.extend_from_slice(bytes);
+}
+
+pub const STARTUP_MODE: u8 = 3;
+
+/// A packet's head and its chunks.
+pub struct Packet<'a> {
+    pub mode: u8,
+    pub stamp: Option<u16>,
+    pub echo: Option<u16>,
+    pub chunks: Vec<RawChunk<'a>>,
+}
+
+pub struct RawChunk<'a> {
+    pub at: usize,
+    pub kind: u8,
+    pub payload: &'a [u8],
+}
+
+impl<'a> Packet<'a> {
+    /// A refusal is the number of what is wrong.
+    pub fn read(bytes: &'a [u8]) -> Result<Self, u8> {
+        let mut reader = Reader::new(bytes);
+        let flags = reader.take(1).map_err(|_| 1u8)?[0];
+        if flags & 3 == 0 {
+            return Err(2);
+        }
+        let mut stamp = |flag: u8| match flags & flag {
+            0 => Ok(None),
+            _ => reader.array().map(|b| Some(u16::from_be_bytes(b))).map_err(|_| 3u8),
+        };
+        let (stamp, echo) = (stamp(0x08)?, stamp(0x04)?);
+        let mut chunks = Vec::new();
+        loop {
+            // A rest that isn't a whole chunk is padding.
+            let at = reader.at;
+            let (Ok([kind]), Ok(length)) = (reader.array(), reader.array()) else { break };
+            let Ok(payload) = reader.take(usize::from(u16::from_be_bytes(length))) else { break };
+            if kind != 0x00 && kind != 0xff {
+                chunks.push(RawChunk { at, kind, payload });
+            }
+        }
+        Ok(Packet { mode: flags & 3, stamp, echo, chunks })
+    }
+}
+
+/// A plain packet with one chunk.
+pub fn packet(mode: u8, stamp: Option<u16>, echo: Option<u16>, kind: u8, payload: &[u8]) -> Vec<u8> {
+    let mut out = Vec::with_capacity(8 + payload.len());
+    out.push(mode | if stamp.is_some() { 0x08 } else { 0 } | if echo.is_some() { 0x04 } else { 0 });
+    for x in stamp.iter().chain(&echo) {
+        out.extend_from_slice(&x.to_be_bytes());
+    }
+    out.push(kind);
+    out.extend_from_slice(&(payload.len() as u16).to_be_bytes());
+    out.extend_from_slice(payload);
+    out
+}
+
+pub const IHELLO: u8 = 0x30;
+pub const FIHELLO: u8 = 0x0f;
+pub const RHELLO: u8 = 0x70;
+pub const COOKIECHANGE: u8 = 0x79;
+pub const IIKEYING: u8 = 0x38;
+pub const RIKEYING: u8 = 0x78;
+pub const PING: u8 = 0x01;
+pub const PINGREPLY: u8 = 0x41;
+pub const FRAGMENT: u8 = 0x7f;
+
+/// The chunks that an end takes.
+pub enum Chunk<'a> {
+    IHello { epd: &'a [u8], tag: &'a [u8] },
+    FIHello { epd: &'a [u8], reply: Address, tag: &'a [u8] },
+    RHello { tag: &'a [u8], cookie: &'a [u8], cert: &'a [u8] },
+    CookieChange { old: &'a [u8], new: &'a [u8] },
+    IIKeying(IIKeying<'a>),
+    RIKeying(RIKeying<'a>),
+    Ping(&'a [u8]),
+    PingReply,
+    Fragment,
+}
+
+pub struct IIKeying<'a> {
+    pub near: u32,
+    pub cookie: &'a [u8],
+    pub cert: &'a [u8],
+    pub ni: [u8; 16],
+    pub n: u64,
+    pub responder: [u8; 32],
+    pub signed: &'a [u8],
+    pub sign: &'a [u8],
+}
+
+pub struct RIKeying<'a> {
+    pub near: u32,
+    pub nr: [u8; 16],
+    pub k: u64,
+    pub responder: [u8; 32],
+    pub ni: [u8; 16],
+    pub signed: &'a [u8],
+    pub sign: &'a [u8],
+}
+
+pub enum ChunkFault {
+    Unknown,
+    Malformed(usize),
+}
+
+impl From<usize> for ChunkFault {
+    fn from(at: usize) -> Self {
+        ChunkFault::Malformed(at)
+    }
+}
+
+pub fn is_certificate(bytes: &[u8]) -> bool {
+    (17..=80).contains(&bytes.len()) && bytes[16..].is_ascii()
+}
+
+impl<'a> Chunk<'a> {
+    pub fn read(kind: u8, payload: &'a [u8]) -> Result<Self, ChunkFault> {
+        let mut r = Reader::new(payload);
+        Ok(match kind {
+            IHELLO => Chunk::IHello { epd: r.counted()?, tag: r.rest() },
+            FIHELLO => Chunk::FIHello { epd: r.counted()?, reply: r.address()?, tag: r.rest() },
+            RHELLO => {
+                let (tag, cookie) = (r.counted()?, r.counted()?);
+                let at = r.at;
+                let cert = r.rest();
+                if !is_certificate(cert) {
+                    return Err(ChunkFault::Malformed(at));
+                }
+                Chunk::RHello { tag, cookie, cert }
+            }
+            COOKIECHANGE => Chunk::CookieChange { old: r.counted()?, new: r.rest() },
+            IIKEYING => Chunk::IIKeying(IIKeying::read(payload)?),
+            RIKEYING => Chunk::RIKeying(RIKeying::read(payload)?),
+            PING => Chunk::Ping(payload),
+            PINGREPLY => Chunk::PingReply,
+            FRAGMENT => {
+                r.take(1)?;
+                r.vlu()?;
+                r.vlu()?;
+                Chunk::Fragment
+            }
+            _ => return Err(ChunkFault::Unknown),
+        })
+    }
+}
+
+impl<'a> IIKeying<'a> {
+    fn read(payload: &'a [u8]) -> Result<Self, usize> {
+        let mut r = Reader::new(payload);
+        let near = u32::from_be_bytes(r.array()?);
+        let cookie = r.counted()?;
+        let cert = r.counted()?;
+        let cert_at = r.at - cert.len();
+        let part = r.counted()?;
+        let part_at = r.at - part.len();
+        let (signed, sign) = payload.split_at(r.at);
+        if near == 0 {
+            return Err(0);
+        }
+        if !is_certificate(cert) {
+            return Err(cert_at);
+        }
+        if part.len() != 56 {
+            return Err(part_at);
+        }
+        let mut p = Reader::new(part);
+        let (ni, n, responder) = (p.array()?, u64::from_be_bytes(p.array()?), p.array()?);
+        Ok(IIKeying { near, cookie, cert, ni, n, responder, signed, sign })
+    }
+}
+
+impl<'a> RIKeying<'a> {
+    fn read(payload: &'a [u8]) -> Result<Self, usize> {
+        let mut r = Reader::new(payload);
+        let near = u32::from_be_bytes(r.array()?);
+        let part = r.counted()?;
+        let part_at = r.at - part.len();
+        let (signed, sign) = payload.split_at(r.at);
+        if near == 0 {
+            return Err(0);
+        }
+        if part.len() != 72 {
+            return Err(part_at);
+        }
+        let mut p = Reader::new(part);
+        let (nr, k, responder, ni) = (p.array()?, u64::from_be_bytes(p.array()?), p.array()?, p.array()?);
+        Ok(RIKeying { near, nr, k, responder, ni, signed, sign })
+    }
+}
