@@ -10,3 +10,4 @@ pub mod Ends
 pub mod Tellings
 pub mod Queuings
 pub mod Chosen
+pub mod Quiet

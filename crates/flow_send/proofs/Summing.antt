@@ -97,7 +97,7 @@ pub lost_stored : (moment resend : ℕ) (r : Row) → stored_of (lost_if_late mo
 lost_stored moment resend r = lost_if r (is_late moment resend r)
 
 -- where no row is lost, or in flight
-zero_if : (b : Bool) (n : ℕ) → cond b 1 0 + n ≡ 0 → (b ≡ false) × (n ≡ 0)
+pub zero_if : (b : Bool) (n : ℕ) → cond b 1 0 + n ≡ 0 → (b ≡ false) × (n ≡ 0)
 zero_if true n e = absurd (omega (arith, e))
 zero_if false n e = (refl, omega (arith, e))
 

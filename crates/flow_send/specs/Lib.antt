@@ -5,4 +5,5 @@ pub mod Choice
 pub mod Picked
 pub mod Acks
 pub mod Steady
+pub mod Deadlines
 pub mod Flow

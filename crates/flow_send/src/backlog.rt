@@ -1,10 +1,11 @@
 //! The messages of a flow that are neither abandoned nor wholly acknowledged, by rising number.
 
-ghost use Rattle.std.specs.Prelude.{◌≡◌, ◌+◌, ◌-◌, ◌<◌, ◌≤◌, ◌^◌, ◌∷◌, ◌++◌, [], OnOk, OnErr, List, length, slice_get, slice_index_or, Some, None};
+ghost use Rattle.std.specs.Prelude.{◌≡◌, ◌+◌, ◌-◌, ◌<◌, ◌≤◌, ◌^◌, ◌∷◌, ◌++◌, [], OnOk, OnErr, List, ℕ, length, slice_get, slice_index_or, Some, None, true};
 ghost use Rattle.std.specs.List.{sum_by, filter, remove};
 ghost use Rattle.std.specs.VecDeque.{deque_len};
 ghost use Rattle.flow_send.specs.Sender.{message_at, without_message, first_number, is_past, is_spent, is_overdue, first_overdue};
 ghost use Rattle.flow_send.specs.Acks.{still_waits};
+ghost use Rattle.flow_send.specs.Deadlines.{NoneBefore, Reach};
 ghost use Rattle.flow_send.specs.Steady.{Line, Late};
 
 use crate::rows::Rows;
@@ -32,18 +33,23 @@ pub struct Backlog {
     messages: VecDeque<Waiting>,
     bytes: u64,
     fragments: u64,
+    /// No deadline is before this moment.
+    soonest: u64,
+    /// Whether a message may have a limit of resends.
+    limited: bool,
 }
 
 impl Model for Backlog {
     ghost use Rattle.std.specs.Prelude.{◌≡◌, List};
     ghost use Rattle.std.specs.List.{sum_by};
     ghost use Rattle.flow_send.specs.declared.waiting.Waiting.{Waiting};
+    ghost use Rattle.flow_send.specs.Deadlines.{Reach};
 
     ghost Value = { List Waiting };
 
     ghost view = { λ b. b.messages.items };
 
-    ghost invariant = { λ b. (b.bytes ≡ sum_by (λ w. w.size) b.messages.items) × (b.fragments ≡ sum_by (λ w. w.count) b.messages.items) };
+    ghost invariant = { λ b. (b.bytes ≡ sum_by (λ w. w.size) b.messages.items) × (b.fragments ≡ sum_by (λ w. w.count) b.messages.items) × Reach b.soonest b.limited b.messages.items };
 }
 
 impl Backlog {
@@ -54,6 +60,8 @@ impl Backlog {
             messages: VecDeque::new(alloc),
             bytes: 0,
             fragments: 0,
+            soonest: u64::MAX,
+            limited: false,
         }
     }
 
@@ -84,10 +92,23 @@ impl Backlog {
         ensures pushed { OnOk result (self.new ≡ self.old ++ message ∷ []) }
         ensures err { OnErr result (self.new ≡ self.old) }
     {
+        let (soonest, limited) = self.reach();
         self.messages.push_back(message)?;
         self.bytes += message.size;
         self.fragments += message.count;
+        self.soonest = soonest.min(message.latest());
+        self.limited = limited || message.is_limited();
         Ok(())
+    }
+
+    /// The moment before which no deadline is, and whether a message may have a limit. An empty list begins again.
+    fn reach(&self) -> (u64, bool)
+        ensures { Reach result.0 result.1 self.now }
+    {
+        if self.messages.len() == 0 {
+            return (u64::MAX, false);
+        }
+        (self.soonest, self.limited)
     }
 
     fn place_of(&self, number: u64) -> usize
@@ -155,17 +176,45 @@ impl Backlog {
         }
     }
 
-    /// The number of the first message whose deadline or limit of resends is passed.
-    pub fn first_overdue(&self, rows: &Rows, forward: u64, moment: u64) -> Option<u64>
-        requires { Line 0 (forward + 1 + length rows.now.rows) self.now }
-        ensures { result ≡ first_overdue moment (forward + 1) rows.now.rows self.now }
+    /// Whether no message can be overdue, as far as that can be told without looking at each.
+    fn is_quiet(&self, rows: &Rows, moment: u64) -> bool
+        ensures { result ≡ true → (n : ℕ) → first_overdue moment n rows.now.rows self.now ≡ None }
     {
+        moment <= self.soonest && !(self.limited && rows.any_lost())
+    }
+
+    /// The number of the first message whose deadline or limit of resends is passed, and where none is, a moment before
+    /// which no deadline is.
+    fn look(&self, rows: &Rows, forward: u64, moment: u64) -> (Option<u64>, u64)
+        requires { Line 0 (forward + 1 + length rows.now.rows) self.now }
+        ensures first { result.0 ≡ first_overdue moment (forward + 1) rows.now.rows self.now }
+        ensures soonest { result.0 ≡ None → NoneBefore result.1 self.now }
+    {
+        let mut soonest = u64::MAX;
         for at in 0..self.messages.len() {
             let message = self.messages[at];
             if message.is_overdue(rows, forward, moment) {
-                return Some(message.number);
+                return (Some(message.number), soonest);
             }
+            soonest = soonest.min(message.latest());
         }
-        None
+        (None, soonest)
+    }
+
+    /// The number of the first message whose deadline or limit of resends is passed. Where none is, the messages are
+    /// looked at again only after the next deadline, or where a row is lost and a message has a limit.
+    pub fn first_overdue(&mut self, rows: &Rows, forward: u64, moment: u64) -> Option<u64>
+        requires { Line 0 (forward + 1 + length rows.now.rows) self.old }
+        ensures first { result ≡ first_overdue moment (forward + 1) rows.now.rows self.old }
+        ensures same { self.new ≡ self.old }
+    {
+        if self.is_quiet(rows, moment) {
+            return None;
+        }
+        let (number, soonest) = self.look(rows, forward, moment);
+        if number.is_none() {
+            self.soonest = soonest;
+        }
+        number
     }
 }

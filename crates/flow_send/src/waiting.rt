@@ -1,8 +1,9 @@
 //! A message that waits to be acknowledged.
 
-ghost use Rattle.std.specs.Prelude.{◌≡◌, ◌+◌, ◌-◌, ◌<◌, ◌≤◌, ◌^◌, length};
+ghost use Rattle.std.specs.Prelude.{◌≡◌, ◌+◌, ◌-◌, ◌<◌, ◌≤◌, ◌^◌, length, false, None};
 ghost use Rattle.flow_send.specs.Sender.{is_past, is_spent, is_overdue, give_up};
 ghost use Rattle.flow_send.specs.Acks.{still_waits};
+ghost use Rattle.flow_send.specs.Deadlines.{IsNotBefore};
 ghost use Rattle.flow_send.specs.Rows.{map_rows};
 
 use crate::rows::Rows;
@@ -70,6 +71,20 @@ impl Waiting {
         ensures { result ≡ is_overdue moment (forward + 1) rows.now.rows self.now }
     {
         self.is_past(moment) || self.is_spent(rows, forward)
+    }
+
+    /// Its deadline, or the last moment where it has none.
+    pub fn latest(&self) -> u64
+        ensures { IsNotBefore result self.now.options.deadline }
+    {
+        self.options.deadline.unwrap_or(u64::MAX)
+    }
+
+    /// Whether it has a limit of resends.
+    pub fn is_limited(&self) -> bool
+        ensures { result ≡ false → self.now.options.resends ≡ None }
+    {
+        self.options.resends.is_some()
     }
 
     fn is_past(&self, moment: u64) -> bool

@@ -1,0 +1,22 @@
+-- What tells that no message is overdue.
+use Rattle.std.specs.Prelude.{ℕ, ◌≡◌, ◌≤◌, ◌+◌, Bool, false, List, [], ◌∷◌, Option, Some, None}
+use Rattle.flow_send.specs.declared.waiting.Waiting.{Waiting}
+
+abbrev pub IsNotBefore : ℕ → Option ℕ → Type 0
+IsNotBefore soonest None = Unit {0}
+IsNotBefore soonest (Some deadline) = soonest ≤ deadline
+
+-- no deadline is before a moment
+abbrev pub NoneBefore : ℕ → List Waiting → Type 0
+NoneBefore soonest [] = Unit {0}
+NoneBefore soonest (w ∷ later) = IsNotBefore soonest w.options.deadline × NoneBefore soonest later
+
+-- no message has a limit of resends
+abbrev pub NoneLimited : List Waiting → Type 0
+NoneLimited [] = Unit {0}
+NoneLimited (w ∷ later) = (w.options.resends ≡ None) × NoneLimited later
+
+-- no deadline is before the soonest one, and a limit of resends makes them limited
+pub record Reach (soonest : ℕ) (limited : Bool) (ws : List Waiting) : Type 0 where
+  pub deadlines : NoneBefore soonest ws
+  pub limits : limited ≡ false → NoneLimited ws
