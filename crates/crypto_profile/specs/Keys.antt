@@ -1,10 +1,14 @@
 -- The keys of the cryptography profile.
 use Rattle.std.specs.Prelude.{ℕ, Bool, List, ◌++◌, codes, if◌then◌else◌}
 use Rattle.std.specs.Int.{w32, to_be_bytes}
-use Rattle.crypto_profile.specs.declared.keys.Keys.{Keys}
 use Rattle.crypto_profile.specs.declared.keys.Context.{Context}
 use Rattle.crypto_profile.specs.declared.keys.Context.TheVariants.{Startup, Session}
 use Rattle.crypto_profile.specs.Hmac.{hmac}
+
+-- the keys of a context: of its keystream, and of its tags
+pub record Keys : Type 0 where
+  pub enc : List ℕ
+  pub mac : List ℕ
 
 -- what the key of a session is made of: a label, the nonces, the fingerprints and the session IDs of
 -- the initiator and the responder

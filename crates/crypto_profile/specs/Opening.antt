@@ -1,11 +1,10 @@
 -- Opening a sealed part: why not, and what plain packet it has.
 use Rattle.std.specs.Prelude.{◌≡◌, ◌↔◌, ℕ, ◌+◌, ◌≤◌, List, length, take, drop, Option, Some, None, nat_lt, if◌then◌else◌}
 use Rattle.std.specs.Str.{bytes_eq}
-use Rattle.crypto_profile.specs.declared.keys.Keys.{Keys}
 use Rattle.crypto_profile.specs.declared.keys.Context.{Context}
 use Rattle.crypto_profile.specs.declared.sealing.SealFault.{SealFault}
 use Rattle.crypto_profile.specs.declared.sealing.SealFault.TheVariants.{Short, BadTag}
-use Rattle.crypto_profile.specs.Keys.{keys_of}
+use Rattle.crypto_profile.specs.Keys.{Keys, keys_of}
 use Rattle.crypto_profile.specs.Sealing.{NumberFits, Opens, ciphered, number_of, sealed, tag_of}
 
 -- why a part doesn't open under keys and a session ID: it has fewer than 32 bytes, or its first 16

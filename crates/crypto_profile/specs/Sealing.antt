@@ -1,11 +1,10 @@
 -- A sealed part: a tag of 16 bytes, a packet number of 16 bytes, and the ciphertext.
 use Rattle.std.specs.Prelude.{◌≡◌, ℕ, zero, suc, ◌+◌, ◌/◌, ◌≤◌, List, [], ◌∷◌, ◌++◌, length, take, drop, replicate, bit_xor}
 use Rattle.std.specs.Int.{w32, w64, to_be_bytes}
-use Rattle.crypto_profile.specs.declared.keys.Keys.{Keys}
 use Rattle.crypto_profile.specs.declared.keys.Context.{Context}
 use Rattle.crypto_profile.specs.declared.keys.Context.TheVariants.{Startup, Session}
 use Rattle.crypto_profile.specs.Hmac.{hmac}
-use Rattle.crypto_profile.specs.Keys.{keys_of}
+use Rattle.crypto_profile.specs.Keys.{Keys, keys_of}
 
 -- block i of the keystream of a number, 32 bytes
 abbrev pub stream_block : List ℕ → List ℕ → ℕ → List ℕ

@@ -5,6 +5,7 @@ ghost use Rattle.crypto_profile.specs.Hmac.{hmac};
 ghost use Rattle.crypto_profile.specs.Keys.{enc_label, mac_label, session_text, sign_key_of};
 
 use crate::mac::{RunningHmac, hmac};
+use std::marker::Model;
 
 /// What a packet is sealed for.
 #[derive(Clone, Copy, Debug, PartialEq, Eq)]
@@ -30,28 +31,42 @@ pub enum Context {
     },
 }
 
-/// The keys of a context.
-#[derive(Clone, Copy)]
+/// The keys of a context, and for each an HMAC that has taken in the key, from which those of packets go on.
+///
+/// Contracts see the two keys.
+#[derive(Drop)]
 pub struct Keys {
-    /// The key of the keystream.
-    pub enc: [u8; 32],
-    /// The key of the tag.
-    pub mac: [u8; 32],
+    enc: [u8; 32],
+    mac: [u8; 32],
+    stream: RunningHmac,
+    tags: RunningHmac,
+}
+
+impl Model for Keys {
+    ghost use Rattle.crypto_profile.specs.Keys.{Keys};
+    ghost use Rattle.crypto_profile.specs.Macs.{ArePrepared};
+
+    ghost Value = { Keys };
+
+    ghost view = { λ k. record { enc = k.enc; mac = k.mac } };
+
+    ghost invariant = { λ k. ArePrepared k.enc k.mac k.stream k.tags };
 }
 
 impl Keys {
-    ghost use Rattle.std.specs.Prelude.{◌≡◌};
+    ghost use Rattle.std.specs.Prelude.{◌≡◌, []};
     ghost use Rattle.crypto_profile.specs.Keys.{keys_of};
+    ghost use Rattle.crypto_profile.specs.Macs.{HoldsText};
 
     /// The keys of a context under the group secret.
     pub fn of(secret: &[u8; 32], context: &Context) -> Keys
         ensures { result ≡ keys_of secret.now context.now }
     {
         match context {
-            Context::Startup => Keys {
-                enc: hmac(secret, b"rtmfp startup enc"),
-                mac: hmac(secret, b"rtmfp startup mac"),
-            },
+            Context::Startup => Keys::prepared(
+                hmac(secret, b"rtmfp startup enc"),
+                hmac(secret, b"rtmfp startup mac"),
+            ),
             Context::Session {
                 ni,
                 nr,
@@ -61,30 +76,68 @@ impl Keys {
                 sid_r,
                 to_responder,
             } => {
-                Keys {
-                    enc: session_key(
-                        secret,
-                        enc_label(*to_responder),
-                        ni,
-                        nr,
-                        fp_i,
-                        fp_r,
-                        *sid_i,
-                        *sid_r,
-                    ),
-                    mac: session_key(
-                        secret,
-                        mac_label(*to_responder),
-                        ni,
-                        nr,
-                        fp_i,
-                        fp_r,
-                        *sid_i,
-                        *sid_r,
-                    ),
-                }
+                let enc = session_key(
+                    secret,
+                    enc_label(*to_responder),
+                    ni,
+                    nr,
+                    fp_i,
+                    fp_r,
+                    *sid_i,
+                    *sid_r,
+                );
+                let mac = session_key(
+                    secret,
+                    mac_label(*to_responder),
+                    ni,
+                    nr,
+                    fp_i,
+                    fp_r,
+                    *sid_i,
+                    *sid_r,
+                );
+                Keys::prepared(enc, mac)
             }
         }
+    }
+
+    fn prepared(enc: [u8; 32], mac: [u8; 32]) -> Keys
+        ensures { result ≡ record { enc = enc; mac = mac } }
+    {
+        Keys {
+            enc,
+            mac,
+            stream: RunningHmac::new(&enc),
+            tags: RunningHmac::new(&mac),
+        }
+    }
+
+    // An HMAC under the key of the keystream that has taken in no text.
+    pub(crate) fn begin_stream(&self) -> RunningHmac
+        ensures { HoldsText self.now.enc [] result }
+    {
+        self.stream.copy()
+    }
+
+    // The same under the key of the tags.
+    pub(crate) fn begin_tag(&self) -> RunningHmac
+        ensures { HoldsText self.now.mac [] result }
+    {
+        self.tags.copy()
+    }
+
+    /// The key of the keystream.
+    pub fn enc(&self) -> &[u8; 32]
+        ensures { result.now ≡ self.now.enc }
+    {
+        &self.enc
+    }
+
+    /// The key of the tags.
+    pub fn mac(&self) -> &[u8; 32]
+        ensures { result.now ≡ self.now.mac }
+    {
+        &self.mac
     }
 }
 

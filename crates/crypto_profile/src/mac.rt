@@ -71,6 +71,16 @@ impl RunningHmac {
         RunningHmac { inner, outer }
     }
 
+    // The same, to go on from.
+    pub(crate) fn copy(&self) -> RunningHmac
+        ensures { result ≡ self.now }
+    {
+        RunningHmac {
+            inner: copy_of(&self.inner),
+            outer: copy_of(&self.outer),
+        }
+    }
+
     // Adds a piece to the text.
     pub(crate) fn update(&mut self, piece: &[u8])
         ensures { (key text : List ℕ) → HoldsText key text self.old → HoldsText key (text ++ piece.now) self.new }

@@ -11,7 +11,6 @@ ghost use Rattle.crypto_profile.specs.Sealing.{ciphered, sealed, tag_of, number_
 
 use crate::comparing::same_bytes;
 use crate::keys::Keys;
-use crate::mac::RunningHmac;
 use std::ops::Range;
 
 const TAG_LEN: usize = 16;
@@ -35,9 +34,9 @@ pub fn seal_in_place(keys: &Keys, sid: u32, number: [u8; 16], buf: &mut [u8])
     requires { 32 ≤ length buf.old }
     ensures { buf.new ≡ sealed keys.now sid number (drop 32 buf.old) }
 {
-    cipher(&keys.enc, &number, &mut buf[HEAD_LEN..]);
+    cipher(keys, &number, &mut buf[HEAD_LEN..]);
     buf[TAG_LEN..HEAD_LEN].copy_from_slice(&number);
-    let tag = tag(&keys.mac, sid, &buf[TAG_LEN..]);
+    let tag = tag(keys, sid, &buf[TAG_LEN..]);
     buf[..TAG_LEN].copy_from_slice(&tag);
 }
 
@@ -48,7 +47,7 @@ pub fn open_refusal(keys: &Keys, sid: u32, part: &[u8]) -> Option<SealFault>
     if part.len() < HEAD_LEN {
         return Some(SealFault::Short);
     }
-    let right = tag(&keys.mac, sid, &part[TAG_LEN..]);
+    let right = tag(keys, sid, &part[TAG_LEN..]);
     if same_bytes(&part[..TAG_LEN], &right) {
         None
     } else {
@@ -71,15 +70,15 @@ pub fn open_in_place(keys: &Keys, sid: u32, buf: &mut [u8]) -> Result<Range<usiz
     }
     let mut carried = [0u8; 16];
     carried.copy_from_slice(&buf[TAG_LEN..HEAD_LEN]);
-    cipher(&keys.enc, &carried, &mut buf[HEAD_LEN..]);
+    cipher(keys, &carried, &mut buf[HEAD_LEN..]);
     Ok(HEAD_LEN..buf.len())
 }
 
 // The first 16 bytes of the HMAC of a session ID and what follows the tag.
-fn tag(mac: &[u8; 32], sid: u32, rest: &[u8]) -> [u8; 16]
-    ensures { result ≡ tag_of mac.now sid rest.now }
+fn tag(keys: &Keys, sid: u32, rest: &[u8]) -> [u8; 16]
+    ensures { result ≡ tag_of keys.now.mac sid rest.now }
 {
-    let mut running = RunningHmac::new(mac);
+    let mut running = keys.begin_tag();
     running.update(&sid.to_be_bytes());
     let whole = running.finish_with(rest);
     let mut tag = [0u8; 16];
@@ -89,10 +88,10 @@ fn tag(mac: &[u8; 32], sid: u32, rest: &[u8]) -> [u8; 16]
 
 // XORs the keystream of a number into bytes, in place. The hash states after the key and the number
 // are made once, so a block costs two compressions of the hash function.
-fn cipher(enc: &[u8; 32], number: &[u8; 16], bytes: &mut [u8])
-    ensures { bytes.new ≡ ciphered enc.now number.now bytes.old }
+fn cipher(keys: &Keys, number: &[u8; 16], bytes: &mut [u8])
+    ensures { bytes.new ≡ ciphered keys.now.enc number.now bytes.old }
 {
-    let mut stream = RunningHmac::new(enc);
+    let mut stream = keys.begin_stream();
     stream.update(number);
     let count = bytes.len().div_ceil(BLOCK_LEN);
     for i in 0..count {

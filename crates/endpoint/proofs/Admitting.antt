@@ -4,7 +4,7 @@ use Rattle.std.specs.List.{flat_map}
 use Rattle.std.specs.FinMap.{get, contains_key}
 use Rattle.rtmfp_base.proofs.Maps.{get_inserted}
 use Rattle.rtmfp_vlu.proofs.Bytes.{IsBytes, IsBytes-drop}
-use Rattle.crypto_profile.specs.declared.keys.Keys.{Keys}
+use Rattle.crypto_profile.specs.Keys.{Keys}
 use Rattle.crypto_profile.specs.declared.keys.Context.TheVariants.{Startup as StartupContext}
 use Rattle.crypto_profile.specs.declared.sealing.SealFault.{SealFault}
 use Rattle.crypto_profile.specs.Opening.{open_refusal, plain_of}

@@ -10,10 +10,9 @@ use Rattle.rtmfp_chunks.specs.Chunk.{Chunk, RIKeying, parts_of}
 use Rattle.rtmfp_chunks.specs.Fields.{Counted}
 use Rattle.rtmfp_chunks.specs.Writing.{payload_bytes, field_bytes, PartsFit}
 use Rattle.rtmfp_chunks.proofs.WritingLaws.{parts_bytes-spell}
-use Rattle.crypto_profile.specs.declared.keys.Keys.{Keys}
 use Rattle.crypto_profile.specs.declared.keys.Context.TheVariants.{Startup}
 use Rattle.crypto_profile.specs.Hmac.{hmac}
-use Rattle.crypto_profile.specs.Keys.{keys_of, sign_key_of}
+use Rattle.crypto_profile.specs.Keys.{Keys, keys_of, sign_key_of}
 use Rattle.crypto_profile.specs.Sealing.{sealed, sealed_in, tag_of, ciphered}
 use Rattle.crypto_profile.proofs.Opened.{length-tag_of, sealed_carries}
 use Rattle.crypto_profile.proofs.Streams.{length-hmac}

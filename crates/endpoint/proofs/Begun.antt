@@ -8,7 +8,7 @@ use Rattle.glare_core.specs.Calls.{first_that_stands, start_refusal}
 use Rattle.startup.specs.Attempts.{joined, lowest, places_of}
 use Rattle.startup.specs.Due.{due, due_of, due_sends, due_sends_of, is_due}
 use Rattle.endpoint.specs.declared.answers.OpenRefusal.{OpenRefusal}
-use Rattle.crypto_profile.specs.declared.keys.Keys.{Keys}
+use Rattle.crypto_profile.specs.Keys.{Keys}
 use Rattle.rtmfp_forms.specs.Address.{AddressParts}
 use Rattle.rtmfp_chunks.specs.Chunk.{Ping}
 use Rattle.glare_core.specs.declared.facts.Fact.{Fact}

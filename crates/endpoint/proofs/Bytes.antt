@@ -6,7 +6,7 @@ use Rattle.std.proofs.lemmas.Nat.{xor_of_8}
 use Rattle.std.proofs.lemmas.Bool.{cases_lt}
 use Rattle.std.proofs.lemmas.List.{get_or_past}
 use Rattle.sha2.specs.Sha256.{sha256, digest_bytes, final_hash, initial_hash_256}
-use Rattle.crypto_profile.specs.declared.keys.Keys.{Keys}
+use Rattle.crypto_profile.specs.Keys.{Keys}
 use Rattle.crypto_profile.specs.Hmac.{hmac, inner_block, outer_block}
 use Rattle.crypto_profile.specs.Opening.{plain_of}
 use Rattle.crypto_profile.specs.Sealing.{keystream, stream_block, blocks_of, xored, ciphered, number_of}

@@ -13,9 +13,8 @@ use Rattle.glare_core.specs.declared.answers.Heard.{Heard}
 use Rattle.glare_core.specs.declared.answers.Heard.TheVariants.{Again as HeardAgain, Birth as HeardBirth}
 use Rattle.glare_core.specs.Ledger.{Ledger, noted_if}
 use Rattle.glare_core.specs.Calls.{heard, heard_noted}
-use Rattle.crypto_profile.specs.declared.keys.Keys.{Keys}
 use Rattle.crypto_profile.specs.declared.keys.Context.TheVariants.{Startup}
-use Rattle.crypto_profile.specs.Keys.{keys_of}
+use Rattle.crypto_profile.specs.Keys.{Keys, keys_of}
 use Rattle.startup.specs.declared.cause.Cause.{Cause}
 use Rattle.startup.specs.State.{AttemptState, StartupState}
 use Rattle.startup.specs.Attempts.{lowest, has_number, has_tag, changed, with_ledger, with_attempt, without_attempt, after_begin, ended_attempt, after_end_of, after_cancel, confirm_fact, after_confirm, after_answer, after_rhello, after_change, after_cookie_change}

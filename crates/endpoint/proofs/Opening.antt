@@ -4,7 +4,7 @@ use Rattle.std.proofs.lemmas.Bool.{cases_lt, lt-ltb, le-ltb}
 use Rattle.std.proofs.lemmas.List.{length-take-le, take_at}
 use Rattle.std.specs.Str.{bytes_eq}
 use Rattle.std.specs.declared.ops.Range.{Range}
-use Rattle.crypto_profile.specs.declared.keys.Keys.{Keys}
+use Rattle.crypto_profile.specs.Keys.{Keys}
 use Rattle.crypto_profile.specs.declared.sealing.SealFault.{SealFault}
 use Rattle.crypto_profile.specs.declared.sealing.SealFault.TheVariants.{Short, BadTag}
 use Rattle.crypto_profile.specs.Opening.{open_refusal, plain_of}

@@ -1,10 +1,9 @@
 -- How a datagram is taken, or refused as a whole.
 use Rattle.std.specs.Prelude.{ℕ, ◌+◌, ◌-◌, ◌*◌, ◌%◌, ◌==◌, nat_lt, Bool, true, false, if◌then◌else◌, List, [], ◌∷◌, length, drop, Option, Some, None, Result, Ok, Err}
 use Rattle.std.specs.FinMap.{get, contains_key}
-use Rattle.crypto_profile.specs.declared.keys.Keys.{Keys}
 use Rattle.crypto_profile.specs.declared.keys.Context.TheVariants.{Startup as StartupContext}
 use Rattle.crypto_profile.specs.declared.sealing.SealFault.{SealFault}
-use Rattle.crypto_profile.specs.Keys.{keys_of}
+use Rattle.crypto_profile.specs.Keys.{Keys, keys_of}
 use Rattle.crypto_profile.specs.Opening.{open_refusal, plain_of}
 use Rattle.packet_scramble.specs.Datagram.{sid_of}
 use Rattle.rtmfp_packet.specs.declared.head.PacketHead.{PacketHead}

@@ -1,9 +1,8 @@
 -- How an end is kept: its sessions as a list of rows, and beside the state what follows from it.
 use Rattle.std.specs.Prelude.{ℕ, List, ◌≡◌, ◌≤◌, map, length}
 use Rattle.std.specs.FinMap.{from_entries, len}
-use Rattle.crypto_profile.specs.declared.keys.Keys.{Keys}
 use Rattle.crypto_profile.specs.declared.keys.Context.TheVariants.{Startup}
-use Rattle.crypto_profile.specs.Keys.{keys_of}
+use Rattle.crypto_profile.specs.Keys.{Keys, keys_of}
 use Rattle.startup.specs.State.{StartupState}
 use Rattle.session_core.specs.Session.{SessionState}
 use Rattle.endpoint.specs.declared.config.Config.{Config}

@@ -1,7 +1,7 @@
 -- Parts that are deciphered in place.
 use Rattle.std.proofs.Common.{◌≡◌, ℕ, ◌<◌, ◌≤◌, List, [], ◌++◌, length, drop, refl, ap, ◌∙◌, arith, length-drop}
 use Rattle.std.proofs.lemmas.List.{drop_all, nil_from_length}
-use Rattle.crypto_profile.specs.declared.keys.Keys.{Keys}
+use Rattle.crypto_profile.specs.Keys.{Keys}
 use Rattle.crypto_profile.specs.Opening.{plain_of}
 use Rattle.crypto_profile.specs.Sealing.{ciphered, number_of, sealed, tag_of}
 use Rattle.crypto_profile.proofs.Opened.{its_cipher, length-ciphered, length-tag_of}

@@ -3,8 +3,7 @@ use Rattle.std.proofs.Common.{◌≡◌, ℕ, ◌+◌, ◌^◌, ◌<◌, List, l
 use Rattle.std.specs.Int.{w64, from_be_bytes}
 use Rattle.std.specs.Option.{is_none}
 use Rattle.std.proofs.lemmas.Nat.{from_be_bytes-to_be_bytes_8}
-use Rattle.crypto_profile.specs.declared.keys.Keys.{Keys}
-use Rattle.crypto_profile.specs.Keys.{keys_of}
+use Rattle.crypto_profile.specs.Keys.{Keys, keys_of}
 use Rattle.crypto_profile.specs.Opening.{open_refusal, plain_of}
 use Rattle.crypto_profile.specs.Sealing.{number_of}
 use Rattle.crypto_profile.proofs.Opened.{sealed_opens, sealed_carries}

@@ -1,7 +1,6 @@
 -- A packet that is sealed into the buffer of a datagram.
 use Rattle.std.proofs.Common.{◌≡◌, ℕ, ◌+◌, Bool, true, false, if◌then◌else◌, List, sym, ap, ◌∙◌}
-use Rattle.crypto_profile.specs.declared.keys.Keys.{Keys}
-use Rattle.crypto_profile.specs.Keys.{keys_of}
+use Rattle.crypto_profile.specs.Keys.{Keys, keys_of}
 use Rattle.crypto_profile.specs.Sealing.{sealed}
 use Rattle.session_core.specs.Session.{SessionState, context_of}
 use Rattle.session_core.specs.Sealed.{is_spent, number_bytes, sealed_into, sealed_part, with_part}

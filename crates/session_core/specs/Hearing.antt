@@ -4,8 +4,7 @@ use Rattle.std.specs.Int.{w64, from_be_bytes}
 use Rattle.std.specs.Str.{bytes_eq}
 use Rattle.std.specs.declared.ops.Range.{Range}
 use Rattle.crypto_profile.specs.declared.window.Seen.{Seen}
-use Rattle.crypto_profile.specs.declared.keys.Keys.{Keys}
-use Rattle.crypto_profile.specs.Keys.{keys_of}
+use Rattle.crypto_profile.specs.Keys.{Keys, keys_of}
 use Rattle.crypto_profile.specs.Kept.{kept_answer, kept_after, kept_of}
 use Rattle.crypto_profile.specs.Taken.{answer, taken_after}
 use Rattle.crypto_profile.specs.Opening.{open_refusal, plain_of}

@@ -1,5 +1,5 @@
 use Rattle.std.proofs.Common.{List, ℕ, ◌++◌, ap, ◌∙◌}
-use Rattle.crypto_profile.specs.declared.keys.Keys.{Keys}
+use Rattle.crypto_profile.specs.Keys.{Keys}
 use Rattle.crypto_profile.specs.Sealing.{sealed}
 use Rattle.packet_scramble.specs.Datagram.{datagram}
 use Rattle.rendezvous_world.specs.Datagrams.{forged_number}
