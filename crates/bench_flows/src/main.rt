@@ -2,11 +2,13 @@
 //! line is a word and five numbers: `move SIZE COUNT WAITING LOST WINDOW` moves so many messages of a size, of which
 //! so many wait at once, within a window of so many bytes, and every LOST-th chunk is lost (0: none). Each turn the
 //! sender hears the acks of the turn before and sends what the window allows, and the receiver acks every second
-//! chunk. `holes COUNT` has a receiver take the odd numbers of so many, and then the even ones. The answer is the
-//! word, how many chunks were sent, and how many messages were handed over.
+//! chunk. `holes COUNT` has a receiver take the odd numbers of so many, and then the even ones. `halves COUNT` has one in
+//! arrival order take the beginnings of messages of two fragments, so many fragments in all, and then their ends, each
+//! of which makes a message ready. `passed COUNT` has one take the same beginnings, and then forward numbers that pass
+//! them, one after another. The answer is the word, how many chunks were sent, and how many messages were handed over.
 #![tactic(auto)]
 
-ghost use Rattle.std.specs.Prelude.{◌≡◌, ◌+◌, ◌<◌, ◌≤◌, false, length};
+ghost use Rattle.std.specs.Prelude.{◌≡◌, ◌+◌, ◌<◌, ◌≤◌, false, true, length};
 ghost use Rattle.flow_send.specs.Picked.{IsThere};
 
 use flow_recv::FlowReceiver;
@@ -90,6 +92,12 @@ fn moved_by(
     if word == "holes" {
         return holes(rt, size);
     }
+    if word == "halves" {
+        return halves(rt, size);
+    }
+    if word == "passed" {
+        return passed(rt, size);
+    }
     let job = Job {
         size: size.min(1_048_576) as usize,
         count,
@@ -117,6 +125,7 @@ fn move_all(rt: &impl AllocGlobal, bytes: &[u8], job: Job) -> Result<Moved, Memo
         hear(&mut pair);
         queue(&mut pair, message, job);
         let _ = pair.from.find_lost(moment, RESEND_AFTER);
+        let _ = pair.from.overdue(moment);
         send_turn(&mut pair, moment, job)?;
         if pair.moved.handed >= job.count {
             break;
@@ -221,12 +230,12 @@ fn holes(rt: &impl AllocGlobal, count: u64) -> Result<Moved, Memory> {
     let mut to = FlowReceiver::new(rt.alloc(), 0);
     let half = count.min(65_534) / 2;
     for at in 0..half {
-        take_byte(&mut to, 3 + 2 * at);
+        take_byte(&mut to, 3 + 2 * at, Part::Whole);
     }
     for at in 0..half {
-        take_byte(&mut to, 2 + 2 * at);
+        take_byte(&mut to, 2 + 2 * at, Part::Whole);
     }
-    take_byte(&mut to, 1);
+    take_byte(&mut to, 1, Part::Whole);
     Ok(Moved {
         queued: 0,
         chunks: 2 * half + 1,
@@ -234,12 +243,68 @@ fn holes(rt: &impl AllocGlobal, count: u64) -> Result<Moved, Memory> {
     })
 }
 
-/// Takes a message of one byte.
-fn take_byte(to: &mut FlowReceiver, seq: u64)
+/// A receiver in arrival order takes the beginnings of messages of two fragments, and then their ends, the last one
+/// first, and hands each over as it comes.
+fn halves(rt: &impl AllocGlobal, count: u64) -> Result<Moved, Memory> {
+    let mut to = FlowReceiver::new(rt.alloc(), 0x61);
+    let half = count.min(65_534) / 2;
+    let mut handed: u64 = 0;
+    for at in 0..half {
+        take_byte(&mut to, 2 + 2 * at, Part::Begin);
+    }
+    for at in 0..half {
+        take_byte(&mut to, 2 * half + 1 - 2 * at, Part::End);
+        handed = handed.wrapping_add(hand_over(&mut to));
+    }
+    Ok(Moved {
+        queued: 0,
+        chunks: 2 * half,
+        handed,
+    })
+}
+
+/// A receiver takes the beginnings of messages of two fragments, and then forward numbers, each of which passes the
+/// end of one more.
+fn passed(rt: &impl AllocGlobal, count: u64) -> Result<Moved, Memory> {
+    let mut to = FlowReceiver::new(rt.alloc(), 0);
+    let half = count.min(65_534) / 2;
+    for at in 0..half {
+        take_byte(&mut to, 2 + 2 * at, Part::Begin);
+    }
+    for at in 0..half {
+        let _ = to.take(&notice(3 + 2 * at));
+    }
+    Ok(Moved {
+        queued: 0,
+        chunks: 2 * half,
+        handed: hand_over(&mut to),
+    })
+}
+
+/// A chunk that tells a forward number alone.
+fn notice(forward: u64) -> UserData<'static>
+    ensures forward { result.forward ≡ forward }
+    ensures seq { result.seq ≡ forward }
+    ensures abandon { result.abandon ≡ true }
+{
+    UserData {
+        part: Part::Whole,
+        abandon: true,
+        last: false,
+        flow: FLOW,
+        seq: forward,
+        forward,
+        options: None,
+        bytes: &[],
+    }
+}
+
+/// Takes a fragment of one byte.
+fn take_byte(to: &mut FlowReceiver, seq: u64, part: Part)
     requires { 1 ≤ seq }
 {
     let chunk = UserData {
-        part: Part::Whole,
+        part,
         abandon: false,
         last: false,
         flow: FLOW,
