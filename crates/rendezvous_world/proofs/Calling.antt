@@ -1,5 +1,5 @@
 -- A step that calls an end leaves a world.
-use Rattle.std.proofs.Common.{◌≡◌, ℕ, ◌<◌, ◌^◌, List, [], ◌∷◌, ◌++◌, length, drop, slice_get, Bool, true, false, ◌||◌, Option, Some, None, inl, inr, ◌⊎◌, refl, sym, ap, subst, ◌∙◌, arith}
+use Rattle.std.proofs.Common.{◌≡◌, ℕ, ◌<◌, ◌≤◌, ◌^◌, List, [], ◌∷◌, ◌++◌, length, drop, slice_get, Bool, true, false, ◌||◌, Option, Some, None, inl, inr, ◌⊎◌, refl, sym, ap, subst, ◌∙◌, arith}
 use Rattle.std.specs.Int.{w64, to_be_bytes, from_be_bytes}
 use Rattle.std.specs.List.{AllByRecursion}
 use Rattle.std.proofs.lemmas.Bool.Decides.{nat_tests}
@@ -17,10 +17,9 @@ use Rattle.endpoint.specs.Past.{facts_of, onto}
 use Rattle.endpoint.specs.State.{State, at_moment}
 use Rattle.endpoint.specs.OpensIn.{opens_in}
 use Rattle.endpoint.specs.Lawful.{nonces_of}
-use Rattle.endpoint.specs.Log.{StandsFor, Step as StepOf}
+use Rattle.endpoint.specs.Log.{Step as StepOf}
 use Rattle.endpoint.specs.Laws.{AreBytes, IsCall, AreCalls}
 use Rattle.endpoint.specs.History.{Happened, History, log_of, facts_at, IsHonestCall, IsHonest, WasSent, nonces_in}
-use Rattle.endpoint.proofs.Extending.{extends}
 use Rattle.endpoint.proofs.Opened.{opens_in_found}
 use Rattle.rendezvous_world.specs.declared.journal.JournalLine.{JournalLine}
 use Rattle.rendezvous_world.specs.declared.step.Step.{Step}
@@ -31,15 +30,16 @@ use Rattle.rendezvous_world.specs.Seen.{EndSeen, Seen, setup_at}
 use Rattle.rendezvous_world.specs.Draws.{two_numbers, draws_of}
 use Rattle.rendezvous_world.specs.Sent.{sent_in}
 use Rattle.rendezvous_world.specs.Datagrams.{datagram_of}
-use Rattle.rendezvous_world.specs.History.{bytes_or_none, call_of, event_of, happened, after_lines, history_of}
-use Rattle.rendezvous_world.specs.Sound.{AreBelow}
-use Rattle.rendezvous_world.specs.Stepping.{in_state, with_state, called_by, IsLineOf, Called, StoppedIn}
+use Rattle.rendezvous_world.specs.History.{bytes_or_none, call_of, moment_given, event_of, happened, after_lines, history_of}
+use Rattle.rendezvous_world.specs.Sound.{AreBelow, StandsUpTo}
+use Rattle.rendezvous_world.specs.Stepping.{in_state, with_state, called_by, HasItsAnswer, IsAnswered, IsLineOf, Called, StoppedIn}
 use Rattle.rendezvous_world.specs.Faults.{is_missing, lacks_end, lacks_datagram, is_bad, is_forged_by, is_forged, step_fault}
 use Rattle.rendezvous_world.specs.Kept.{IsGiven, name_of, print_of, HasPeer, IsLineIn, IsOfLine, IsWorld}
 use Rattle.endpoint.proofs.Drawn.{Once, MayDraw, answers_draw, nonces_none, nonces_once}
 use Rattle.rendezvous_world.proofs.Ends.{tested, setup_is, below_length, setups_stay, length-with_state, changed_end, other_end, was_there, apart_with_state}
 use Rattle.rendezvous_world.proofs.Told.{SameSetups, same_happened, same_lines, one_more_line, all_more, rise_more, of_line_stays, of_line_new, number_below, log_same, log_other, calls_more, honest_same}
 use Rattle.rendezvous_world.proofs.Forging.{was_sent}
+use Rattle.rendezvous_world.proofs.Noting.{IsGivenFrom, opens_noted, stands_more}
 
 -- ---- what a step that isn't refused says
 
@@ -116,6 +116,18 @@ is_call ends number datagram (Inject end from b) small bytes = (bytes, length-tw
 is_call ends number datagram (Forge end from plain) small bytes = (bytes, length-two 0 number, small)
 is_call ends number datagram (Tick end) small bytes = tt
 
+-- it is given the moment of its line, or none
+given_from : (ends : List EndSeen) (number : ℕ) (datagram : Option (List ℕ)) (last moment : ℕ) (step : Step) → last ≤ moment → IsGivenFrom last (moment_given moment step) (call_of ends number datagram step)
+given_from ends number datagram last moment (End name max_peers max_sessions cert) le = le
+given_from ends number datagram last moment (At at) le = le
+given_from ends number datagram last moment (Open end peer list) le = le
+given_from ends number datagram last moment (Cancel end n) le = tt
+given_from ends number datagram last moment (Deliver sent end from) le = le
+given_from ends number datagram last moment (Bent sent place end from) le = le
+given_from ends number datagram last moment (Inject end from b) le = le
+given_from ends number datagram last moment (Forge end from plain) le = le
+given_from ends number datagram last moment (Tick end) le = le
+
 -- what it draws is the nonce of its line
 draws_line : (ends : List EndSeen) (number : ℕ) (datagram : Option (List ℕ)) (step : Step) (entries : List Entry) → MayDraw (call_of ends number datagram step) entries → Once (two_numbers 0 number) entries
 draws_line ends number datagram (End name max_peers max_sessions cert) entries h = inl h
@@ -142,8 +154,12 @@ module _ (w : Seen) (is : IsWorld w) where
   honest_datagram who end o from draws there unforged =
       subst (λ (setup : Setup). IsHonestCall setup (facts_at who (history_of w)) (history_of w) (Receive from (bytes_or_none o) draws)) (sym (setup_is w.ends who end there))
       (λ context plain named opens. sent o unforged context
-      (opens_in_found end.setup (log_of who (history_of w)) end.state (bytes_or_none o) (is.given who end there).sized (is.calls who) (is.stand who end there) context plain named opens))
+      (opens_noted end.state stands.told stands.noted (bytes_or_none o) stands.state
+      ∙ opens_in_found end.setup (log_of who (history_of w)) stands.told (bytes_or_none o) (is.given who end there).sized (is.calls who) stands.stands context plain named opens))
     where
+      stands : StandsUpTo w.moment end.setup (log_of who (history_of w)) end.state
+      stands = is.stand who end there
+
       sent : (o : Option (List ℕ)) → is_forged_by w who o ≡ false → (context : Context) → opens_in end.state (bytes_or_none o) ≡ Some context → WasSent (bytes_or_none o) context (history_of w)
       sent None unforged context opens = absurd (cc)
       sent (Some bytes) unforged context opens = was_sent w.ends w.ends who end bytes w.lines context there unforged opens
@@ -172,6 +188,8 @@ pub record IsNext (w : Seen) (line : JournalLine) (end : EndSeen) (state : State
   pub small : line.line < 2 ^ 32
   pub bytes : AreBytes (bytes_or_none line.datagram)
   pub peer : HasPeer (length w.ends) line.step
+  pub moment : line.moment ≡ w.moment
+  pub answer : IsAnswered line
   pub there : slice_get w.ends line.end ≡ Some end
   pub event : StepOf end.state (event_of w.ends line) state
   pub honest : IsHonestCall (setup_at w.ends line.end) (facts_at line.end (history_of w)) (history_of w) (event_of w.ends line).call
@@ -197,28 +215,32 @@ module _ (w : Seen) (line : JournalLine) (end : EndSeen) (state : State) (is : I
 
   -- ---- each part of it, over the history with one more event
 
-  stand_now : (who : ℕ) (x : EndSeen) → slice_get later who ≡ Some x → StandsFor x.setup (log_of who (h ∷ history_of w)) x.state
+  stand_now : (who : ℕ) (x : EndSeen) → slice_get later who ≡ Some x → StandsUpTo w.moment x.setup (log_of who (h ∷ history_of w)) x.state
   stand_now who x at = elim (tested line.end who) [
     | inl hit ↦ here hit.0
     | inr miss ↦ elsewhere miss.0
   ]
     where
-      here : line.end ≡ who → StandsFor x.setup (log_of who (h ∷ history_of w)) x.state
+      given : IsGivenFrom w.moment h.event.moment h.event.call
+      given = given_from w.ends line.line line.datagram w.moment line.moment line.step (let same : line.moment ≡ w.moment = next.moment in omega arith)
+
+      here : line.end ≡ who → StandsUpTo w.moment x.setup (log_of who (h ∷ history_of w)) x.state
       here same =
           let changed : slice_get later who ≡ Some (in_state end state) =
           subst (λ (k : ℕ). slice_get later k ≡ Some (in_state end state)) same (changed_end w.ends line.end state end next.there) in
           let is_x : in_state end state ≡ x = (let both : ◌≡◌ {A = Option EndSeen} (Some (in_state end state)) (Some x) = sym changed ∙ at in cc) in
-          let before : StandsFor end.setup (log_of who (history_of w)) end.state =
+          let before : StandsUpTo w.moment end.setup (log_of who (history_of w)) end.state =
           is.stand who end (subst (λ (k : ℕ). slice_get w.ends k ≡ Some end) same next.there) in
-          let after : StandsFor end.setup (log_of who (history_of w) ++ h.event ∷ []) state = extends end.state state h.event next.event end.setup (log_of who (history_of w)) before in
-          subst (λ (y : EndSeen). StandsFor y.setup (log_of who (h ∷ history_of w)) y.state) is_x
-          (subst (λ (log : List Event). StandsFor end.setup log state) (sym (log_same who h (history_of w) same)) after)
+          let after : StandsUpTo w.moment end.setup (log_of who (history_of w) ++ h.event ∷ []) state =
+          stands_more w.moment end.setup (log_of who (history_of w)) end.state state h.event given before next.event in
+          subst (λ (y : EndSeen). StandsUpTo w.moment y.setup (log_of who (h ∷ history_of w)) y.state) is_x
+          (subst (λ (log : List Event). StandsUpTo w.moment end.setup log state) (sym (log_same who h (history_of w) same)) after)
 
-      elsewhere : (line.end ≡ who → ⊥) → StandsFor x.setup (log_of who (h ∷ history_of w)) x.state
+      elsewhere : (line.end ≡ who → ⊥) → StandsUpTo w.moment x.setup (log_of who (h ∷ history_of w)) x.state
       elsewhere other =
-          let before : StandsFor x.setup (log_of who (history_of w)) x.state =
+          let before : StandsUpTo w.moment x.setup (log_of who (history_of w)) x.state =
           is.stand who x (sym (other_end w.ends line.end who state (λ same. other (sym same))) ∙ at) in
-          subst (λ (log : List Event). StandsFor x.setup log x.state) (sym (log_other who h (history_of w) other)) before
+          subst (λ (log : List Event). StandsUpTo w.moment x.setup log x.state) (sym (log_other who h (history_of w) other)) before
 
   given_now : (who : ℕ) (x : EndSeen) → slice_get later who ≡ Some x → IsGiven x.setup
   given_now who x at =
@@ -276,13 +298,14 @@ module _ (w : Seen) (line : JournalLine) (end : EndSeen) (state : State) (is : I
 
   pub grown_is_world : IsWorld (grown w line state)
   grown_is_world = record {
-    stand = subst (λ (x : History). (who : ℕ) (y : EndSeen) → slice_get later who ≡ Some y → StandsFor y.setup (log_of who x) y.state) (sym is_grown) stand_now;
+    stand = subst (λ (x : History). (who : ℕ) (y : EndSeen) → slice_get later who ≡ Some y → StandsUpTo w.moment y.setup (log_of who x) y.state) (sym is_grown) stand_now;
     given = given_now;
     names = apart_with_state name_of w.ends line.end state (λ x y name setup. name) is.names;
     prints = apart_with_state print_of w.ends line.end state (λ x y name setup. ap own_of setup) is.prints;
     calls = subst (λ (x : History). (who : ℕ) → AreCalls (log_of who x)) (sym is_grown) calls_now;
     lines = lines_now;
     rise = rise_more w.lines line is.rise next.below;
+    answers = all_more IsAnswered w.lines line is.answers next.answer;
     honest = subst (λ (x : History). IsHonest (setup_at later) x) (sym is_grown) honest_now;
     nonces = subst (λ (x : History). AllDifferent (nonces_in x)) (sym is_grown) fresh_now.0;
     drawn = subst (λ (x : History). (y : List ℕ) → Among y (nonces_in x) → IsOfLine y (w.lines ++ line ∷ [])) (sym is_grown) fresh_now.1;
@@ -290,7 +313,7 @@ module _ (w : Seen) (line : JournalLine) (end : EndSeen) (state : State) (is : I
 
 -- ---- steps
 
-seen_is : (t : Seen) (moment : ℕ) (ends : List EndSeen) (lines : List JournalLine) → t.moment ≡ moment → t.ends ≡ ends → t.lines ≡ lines → t ≡ record { moment = moment; ends = ends; lines = lines }
+pub seen_is : (t : Seen) (moment : ℕ) (ends : List EndSeen) (lines : List JournalLine) → t.moment ≡ moment → t.ends ≡ ends → t.lines ≡ lines → t ≡ record { moment = moment; ends = ends; lines = lines }
 seen_is t moment ends lines em ee el =
     let a : t ≡ record { moment = moment; ends = t.ends; lines = t.lines } = ap (λ (m : ℕ). let x : Seen = record { moment = m; ends = t.ends; lines = t.lines } in x) em in
     let b : record { moment = moment; ends = t.ends; lines = t.lines } ≡ record { moment = moment; ends = ends; lines = t.lines } = ap (λ (e : List EndSeen). let x : Seen = record { moment = moment; ends = e; lines = t.lines } in x) ee in
@@ -306,6 +329,8 @@ called_may w number step line t is below small may called bytes =
       small = subst (λ (n : ℕ). n < 2 ^ 32) (sym of_step.line) small;
       bytes = bytes;
       peer = subst (λ (s : Step). HasPeer (length w.ends) s) (sym of_step.step) (has_peer w step may.ends);
+      moment = of_step.moment;
+      answer = subst (λ (s : Step). HasItsAnswer s line.refused line.stopped) (sym of_step.step) of_step.answer;
       there = called.is_end;
       event = called.event;
       honest = honest_line of_step;

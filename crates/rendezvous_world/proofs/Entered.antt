@@ -1,5 +1,5 @@
 -- One more line in the journal.
-use Rattle.std.proofs.Common.{◌≡◌, ℕ, zero, suc, ◌+◌, ◌-◌, ◌<◌, ◌^◌, List, [], ◌∷◌, ◌++◌, map, set, length, get_or, Option, Some, slice_get, refl, sym, ap, ◌∙◌, subst, arith, length-append, inr, true, false, Bool, option_map}
+use Rattle.std.proofs.Common.{◌≡◌, ℕ, zero, suc, ◌+◌, ◌-◌, ◌<◌, ◌^◌, List, [], ◌∷◌, ◌++◌, map, set, length, get_or, Option, Some, None, is_some, Err, slice_get, refl, sym, ap, ◌∙◌, subst, arith, length-append, inl, inr, ◌⊎◌, true, false, Bool, option_map}
 use Rattle.std.proofs.lemmas.List.{length-map, set-get_or}
 use Rattle.std.proofs.lemmas.Option.{slice_get-map, slice_get_read}
 use Rattle.endpoint.specs.Laws.{AreBytes}
@@ -7,20 +7,24 @@ use Rattle.endpoint.specs.Event.{Call}
 use Rattle.endpoint.specs.Added.{Added}
 use Rattle.endpoint.specs.declared.answers.Stopped.{Stopped as Stop}
 use Rattle.endpoint.specs.State.{State, at_moment}
+use Rattle.endpoint.specs.Due.{open_refusal}
 use Rattle.endpoint.specs.Log.{Answers, Step as StepOf}
 use Rattle.rtmfp_text.specs.declared.names.Named.{Named}
 use Rattle.rendezvous_world.specs.declared.end.End.{End as EndKept}
 use Rattle.rendezvous_world.specs.declared.journal.JournalLine.{JournalLine}
 use Rattle.rendezvous_world.specs.declared.journal.Refused.{Refused}
+use Rattle.rendezvous_world.specs.declared.step.StepFault.TheVariants.{Memory}
 use Rattle.rendezvous_world.specs.declared.step.Step.{Step}
 use Rattle.rendezvous_world.specs.declared.step.Step.TheVariants.{End, At, Open, Cancel, Deliver, Bent, Inject, Forge, Tick}
-use Rattle.rendezvous_world.specs.Seen.{EndSeen, print_at}
+use Rattle.rendezvous_world.specs.Seen.{EndSeen, Seen, print_at}
 use Rattle.rendezvous_world.specs.Sent.{sent_among, sent_in}
 use Rattle.rendezvous_world.specs.History.{bytes_or_none, call_of, moment_given, answer_of}
-use Rattle.rendezvous_world.specs.Stepping.{in_state, with_state, HasItsAnswer, Called, lacks_memory}
-use Rattle.rendezvous_world.specs.Entering.{peer_of, call_by, event_by, IsEntering, IsEntered, answered}
+use Rattle.rendezvous_world.specs.Stepping.{in_state, with_state, HasItsAnswer, Called, MayOpen, Noted}
+use Rattle.rendezvous_world.specs.Entering.{peer_of, call_by, event_by, IsUndone, IsEntering, IsEntered, answered}
+use Rattle.rendezvous_world.specs.Kept.{IsWorld}
 use Rattle.rendezvous_world.specs.Inside.{end_seen, world_seen, named_of, count_in, starts_after, IsKept}
 use Rattle.rendezvous_world.proofs.Calling.{called_is_world}
+use Rattle.rendezvous_world.proofs.Growing.{noted_keeps}
 use Rattle.rendezvous_world.proofs.Finding.{test_other}
 
 -- ---- one end in another state
@@ -73,6 +77,19 @@ call_same ends print line bytes datagram (Bent number place end from) p b = ap (
 call_same ends print line bytes datagram (Inject end from plain) p b = ap (λ (x : List ℕ). call_by print line x (Inject end from plain)) b
 call_same ends print line bytes datagram (Forge end from plain) p b = ap (λ (x : List ℕ). call_by print line x (Forge end from plain)) b
 call_same ends print line bytes datagram (Tick end) p b = refl
+
+-- what a call leaves that found no memory
+undone_is : (ends : List EndSeen) (print : List ℕ) (moment : ℕ) (step : Step) (old new : State) → print ≡ print_at ends (peer_of step) → IsUndone print moment step old new →
+    (new ≡ old) ⊎ (MayOpen ends old step × (new ≡ at_moment old moment))
+undone_is ends print moment (End name max_peers max_sessions cert) old new p h = absurd h
+undone_is ends print moment (At at) old new p h = absurd h
+undone_is ends print moment (Open end peer list) old new p h = inr (subst (λ (x : List ℕ). open_refusal old x list ≡ None) p h.0, h.1)
+undone_is ends print moment (Cancel end n) old new p h = inl h
+undone_is ends print moment (Deliver number end from) old new p h = absurd h
+undone_is ends print moment (Bent number place end from) old new p h = absurd h
+undone_is ends print moment (Inject end from bytes) old new p h = absurd h
+undone_is ends print moment (Forge end from plain) old new p h = absurd h
+undone_is ends print moment (Tick end) old new p h = absurd h
 
 -- ---- sent datagrams
 
@@ -158,6 +175,55 @@ module _ (moment : ℕ) (ends : List EndKept) (named : List Named) (lines : List
           (subst (λ (bs : List ℕ). AreBytes bs) entering.bytes entering.are_bytes);
     }
 
-    pub entered_as : (lacks : Bool) → lacks ≡ lacks_memory refused stopped → IsEntered (world_seen moment ends lines) number step (answered lacks) (world_seen moment after (lines ++ the_line ∷ []))
-    entered_as true is = record { ok = tt; memory = refl; err = inr (record { line = the_line; lacks = sym is; called = called }) }
+    pub entered_as : (is_stopped : Bool) → is_stopped ≡ is_some stopped → IsEntered (world_seen moment ends lines) number step (answered is_stopped) (world_seen moment after (lines ++ the_line ∷ []))
+    entered_as true is = record { ok = tt; memory = refl; err = inr (inl (record { line = the_line; stopped = sym is; called = called })) }
     entered_as false is = record { ok = (the_line, sym is, called); memory = tt; err = tt }
+
+  -- ---- a call that has no line
+
+  module _ (there : EndKept) (state : State) (peer : Named) (there_is_there : there ≡ get_or ends end there) (peer_is : peer ≡ get_or named (peer_of step) peer) (undone : IsUndone peer.print moment step there.endpoint state) where
+    abbrev without : List EndKept
+    without = set ends end (now_in there state)
+
+    abbrev before : Seen
+    before = world_seen moment ends lines
+
+    left : (state ≡ there.endpoint) ⊎ (MayOpen (map end_seen ends) there.endpoint step × (state ≡ at_moment there.endpoint moment))
+    left = undone_is (map end_seen ends) peer.print moment step there.endpoint state (print_named (map end_seen ends) named (peer_of step) peer kept.names entering.peer peer_is) undone
+
+    as_before : state ≡ there.endpoint → world_seen moment without lines ≡ before
+    as_before same = ap (λ (es : List EndKept). world_seen moment es lines) (same_set end ends there state there_is_there same)
+
+    noted : MayOpen (map end_seen ends) there.endpoint step → state ≡ at_moment there.endpoint moment → Noted before step (world_seen moment without lines)
+    noted opens is = record {
+      end = end_seen there;
+      is_end = subst (λ (k : ℕ). slice_get (map end_seen ends) k ≡ Some (end_seen there)) (sym entering.called) (seen_there ends end there there_is there_is_there);
+      opens = opens;
+      moment = refl;
+      ends =
+          seen_set end ends there state there_is_there ∙ ap (λ (s : State). with_state (map end_seen ends) end s) is
+          ∙ ap (λ (k : ℕ). with_state (map end_seen ends) k (at_moment there.endpoint moment)) (sym entering.called);
+      lines = refl;
+    }
+
+    world_left : IsWorld (world_seen moment without lines)
+    world_left = elim left [
+      | inl same ↦ subst (λ (w : Seen). IsWorld w) (sym (as_before same)) kept.world
+      | inr both ↦ noted_keeps before step (world_seen moment without lines) kept.world (noted both.0 both.1)
+    ]
+
+    pub undone_kept : IsKept moment without named lines starts sent
+    undone_kept = record {
+      names = kept.names ∙ sym (named_set (map end_seen ends) end state) ∙ ap (map named_of) (sym (seen_set end ends there state there_is_there));
+      begins = kept.begins;
+      total = kept.total;
+      fits = kept.fits;
+      world = world_left;
+    }
+
+    pub undone_entered : IsEntered before number step (Err Memory) (world_seen moment without lines)
+    undone_entered = record {
+      ok = tt;
+      memory = refl;
+      err = (elim left [ inl same ↦ inl (as_before same) | inr both ↦ inr (inr (noted both.0 both.1)) ]);
+    }

@@ -1,5 +1,6 @@
 -- Each step leaves a world.
-use Rattle.std.proofs.Common.{◌≡◌, ℕ, ◌<◌, ◌^◌, List, Option, None, inl, inr, ◌⊎◌, sym, subst, arith}
+use Rattle.std.proofs.Common.{◌≡◌, ℕ, ◌<◌, ◌≤◌, ◌^◌, nat_lt, false, List, Option, None, inl, inr, ◌⊎◌, sym, subst, arith}
+use Rattle.std.proofs.lemmas.Bool.Decides.{nat_tests}
 use Rattle.endpoint.specs.Laws.{AreBytes}
 use Rattle.rendezvous_world.specs.declared.journal.JournalLine.{JournalLine}
 use Rattle.rendezvous_world.specs.declared.step.Step.{Step}
@@ -10,12 +11,17 @@ use Rattle.rendezvous_world.specs.Datagrams.{datagram_of}
 use Rattle.rendezvous_world.specs.History.{bytes_or_none}
 use Rattle.rendezvous_world.specs.Faults.{step_fault}
 use Rattle.rendezvous_world.specs.Sound.{AreBelow}
-use Rattle.rendezvous_world.specs.Stepping.{Called, Stepped, StoppedIn}
+use Rattle.endpoint.specs.State.{at_moment}
+use Rattle.rendezvous_world.specs.Stepping.{with_state, called_by, Called, Stepped, StoppedIn, Noted}
 use Rattle.rendezvous_world.specs.Kept.{IsWorld}
 use Rattle.rendezvous_world.specs.Laws.{IsSized, EveryStepKeepsAWorld}
 use Rattle.rendezvous_world.proofs.Keeping.{with_moment_is_world, with_end_is_world}
 use Rattle.rendezvous_world.proofs.Told.{all_more, below_more}
-use Rattle.rendezvous_world.proofs.Calling.{may_step, called_is_world}
+use Rattle.rendezvous_world.proofs.Noting.{noted_is_world}
+use Rattle.rendezvous_world.proofs.Calling.{may_step, seen_is, called_is_world}
+
+not_back : (last moment : ℕ) → nat_lt moment last ≡ false → last ≤ moment
+not_back last moment e = grind (arith, nat_tests)
 
 module _ (w : Seen) (number : ℕ) (t : Seen) (is : IsWorld w) (below : AreBelow w.lines number) (small : number < 2 ^ 32) where
   by_line : (step : Step) (line : JournalLine) → step_fault w step ≡ None → AreBytes (bytes_or_none (datagram_of (sent_in w.lines) step)) → Called w number step line t → IsWorld t
@@ -26,7 +32,7 @@ module _ (w : Seen) (number : ℕ) (t : Seen) (is : IsWorld w) (below : AreBelow
   done : (step : Step) → IsSized w step → step_fault w step ≡ None → Stepped w number step t → IsWorld t
   done (End name max_peers max_sessions cert) sized none h =
       subst (λ (x : Seen). IsWorld x) (sym h) (with_end_is_world w name cert max_peers max_sessions is sized (may_step w (End name max_peers max_sessions cert) none).fine)
-  done (At moment) sized none h = subst (λ (x : Seen). IsWorld x) (sym h) (with_moment_is_world w moment is)
+  done (At moment) sized none h = subst (λ (x : Seen). IsWorld x) (sym h) (with_moment_is_world w moment (not_back w.moment moment ((may_step w (At moment) none).fine)) is)
   done (Open end peer list) sized none h = by_line (Open end peer list) h.0 none sized h.2
   done (Cancel end n) sized none h = by_line (Cancel end n) h.0 none sized h.2
   done (Deliver sent end from) sized none h = by_line (Deliver sent end from) h.0 none sized h.2
@@ -47,9 +53,15 @@ module _ (w : Seen) (number : ℕ) (t : Seen) (is : IsWorld w) (below : AreBelow
   halted (Forge end from plain) sized none h = by_line (Forge end from plain) h.line none sized h.called
   halted (Tick end) sized none h = by_line (Tick end) h.line none sized h.called
 
+-- it was an open that found no memory
+pub noted_keeps : (w : Seen) (step : Step) (t : Seen) → IsWorld w → Noted w step t → IsWorld t
+noted_keeps w step t is h =
+    subst (λ (x : Seen). IsWorld x) (sym (seen_is t w.moment (with_state w.ends (called_by step) (at_moment h.end.state w.moment)) w.lines h.moment h.ends h.lines)) (noted_is_world w (called_by step) h.end is h.is_end)
+
 pub step_keeps : EveryStepKeepsAWorld
 step_keeps w number step t is below small sized none (inl h) = done w number t is below small step sized none h
-step_keeps w number step t is below small sized none (inr h) = halted w number t is below small step sized none h
+step_keeps w number step t is below small sized none (inr (inl h)) = halted w number t is below small step sized none h
+step_keeps w number step t is below small sized none (inr (inr h)) = noted_keeps w step t is h
 
 -- ---- the numbers of lines after a step
 
@@ -72,6 +84,7 @@ done_below w number (Forge end from plain) t more below lt h = called_below w nu
 done_below w number (Tick end) t more below lt h = called_below w number (Tick end) h.0 t more below lt h.2
 
 -- the lines are below any number above that of the step
-pub step_below : (w : Seen) (number : ℕ) (step : Step) (t : Seen) (more : ℕ) → AreBelow w.lines number → number < more → Stepped w number step t ⊎ StoppedIn w number step t → AreBelow t.lines more
+pub step_below : (w : Seen) (number : ℕ) (step : Step) (t : Seen) (more : ℕ) → AreBelow w.lines number → number < more → Stepped w number step t ⊎ (StoppedIn w number step t ⊎ Noted w step t) → AreBelow t.lines more
 step_below w number step t more below lt (inl h) = done_below w number step t more below lt h
-step_below w number step t more below lt (inr h) = called_below w number step h.line t more below lt h.called
+step_below w number step t more below lt (inr (inl h)) = called_below w number step h.line t more below lt h.called
+step_below w number step t more below lt (inr (inr h)) = subst (λ (lines : List JournalLine). AreBelow lines more) (sym h.lines) (below_more w.lines number more below (omega arith))

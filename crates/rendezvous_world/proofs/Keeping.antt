@@ -11,7 +11,6 @@ use Rattle.glare_core.specs.Steps.{Among}
 use Rattle.glare_core.specs.Told.{AllDifferent}
 use Rattle.endpoint.specs.Event.{Event, own_of}
 use Rattle.endpoint.specs.State.{fresh}
-use Rattle.endpoint.specs.Log.{StandsFor}
 use Rattle.endpoint.specs.Laws.{AreCalls}
 use Rattle.endpoint.specs.History.{History, log_of, IsHonest, TakesPart, nonces_in}
 use Rattle.rendezvous_world.specs.declared.journal.JournalLine.{JournalLine}
@@ -19,11 +18,13 @@ use Rattle.rendezvous_world.specs.declared.step.Step.{Step}
 use Rattle.rendezvous_world.specs.declared.step.Step.TheVariants.{End, At, Open, Cancel, Deliver, Bent, Inject, Forge, Tick}
 use Rattle.rendezvous_world.specs.Seen.{EndSeen, Seen, setup_at}
 use Rattle.rendezvous_world.specs.History.{history_of}
+use Rattle.rendezvous_world.specs.Sound.{StandsUpTo}
 use Rattle.rendezvous_world.specs.Stepping.{new_setup, new_end, with_end, with_moment}
 use Rattle.rendezvous_world.specs.Faults.{is_like, is_outside, is_bad}
 use Rattle.rendezvous_world.specs.Laws.{empty_world}
 use Rattle.rendezvous_world.specs.Kept.{IsGiven, name_of, print_of, HasPeer, IsLineIn, IsOfLine, IsWorld}
 use Rattle.rendezvous_world.proofs.Ends.{setups_stay_before, length-more, before_or_new, NoneHas, apart_with_end}
+use Rattle.rendezvous_world.proofs.Noting.{stands_whole, stands_later}
 use Rattle.rendezvous_world.proofs.Told.{SameSetups, same_lines, all_mapped, takes_part_below, log_absent, honest_same}
 
 -- ---- the first world
@@ -40,6 +41,7 @@ new_world = record {
   calls = λ who. tt;
   lines = tt;
   rise = tt;
+  answers = tt;
   honest = tt;
   nonces = tt;
   drawn = λ nonce among. absurd among;
@@ -47,15 +49,16 @@ new_world = record {
 
 -- ---- another moment
 
-pub with_moment_is_world : (w : Seen) (moment : ℕ) → IsWorld w → IsWorld (with_moment w moment)
-with_moment_is_world w moment is = record {
-  stand = is.stand;
+pub with_moment_is_world : (w : Seen) (moment : ℕ) → w.moment ≤ moment → IsWorld w → IsWorld (with_moment w moment)
+with_moment_is_world w moment le is = record {
+  stand = λ who end there. stands_later w.moment moment end.setup (log_of who (history_of w)) end.state le (is.stand who end there);
   given = is.given;
   names = is.names;
   prints = is.prints;
   calls = is.calls;
   lines = is.lines;
   rise = is.rise;
+  answers = is.answers;
   honest = is.honest;
   nonces = is.nonces;
   drawn = is.drawn;
@@ -122,13 +125,13 @@ module _ (w : Seen) (is : IsWorld w) (new : EndSeen) (given : IsGiven new.setup)
   takes_part : (who : ℕ) → TakesPart who (history_of w) → who < length w.ends
   takes_part who h = takes_part_below (length w.ends) w.ends w.lines who is.lines h
 
-  stand_now : (who : ℕ) (end : EndSeen) → slice_get (w.ends ++ new ∷ []) who ≡ Some end → StandsFor end.setup (log_of who (history_of w)) end.state
+  stand_now : (who : ℕ) (end : EndSeen) → slice_get (w.ends ++ new ∷ []) who ≡ Some end → StandsUpTo w.moment end.setup (log_of who (history_of w)) end.state
   stand_now who end there = elim (before_or_new w.ends new who end there) [
     | inl before ↦ is.stand who end before
     | inr at ↦
         (let none : log_of who (history_of w) ≡ [] = log_absent who (history_of w) (λ h. (let below : who < length w.ends = takes_part who h in let place : who ≡ length w.ends = at.0 in omega arith)) in
-        subst (λ (x : EndSeen). StandsFor x.setup (log_of who (history_of w)) x.state) (sym at.1)
-        (subst (λ (log : List Event). StandsFor new.setup log new.state) (sym none) (sym begun)))
+        subst (λ (x : EndSeen). StandsUpTo w.moment x.setup (log_of who (history_of w)) x.state) (sym at.1)
+        (subst (λ (log : List Event). StandsUpTo w.moment new.setup log new.state) (sym none) (stands_whole w.moment new.setup [] new.state (sym begun))))
   ]
 
   given_now : (who : ℕ) (end : EndSeen) → slice_get (w.ends ++ new ∷ []) who ≡ Some end → IsGiven end.setup
@@ -144,13 +147,14 @@ module _ (w : Seen) (is : IsWorld w) (new : EndSeen) (given : IsGiven new.setup)
 
   pub one_more_end : IsWorld (with_end w new)
   one_more_end = record {
-    stand = subst (λ (h : History). (who : ℕ) (end : EndSeen) → slice_get (w.ends ++ new ∷ []) who ≡ Some end → StandsFor end.setup (log_of who h) end.state) (sym same_history) stand_now;
+    stand = subst (λ (h : History). (who : ℕ) (end : EndSeen) → slice_get (w.ends ++ new ∷ []) who ≡ Some end → StandsUpTo w.moment end.setup (log_of who h) end.state) (sym same_history) stand_now;
     given = given_now;
     names = apart_with_end name_of w.ends new other_name is.names;
     prints = apart_with_end print_of w.ends new other_print is.prints;
     calls = subst (λ (h : History). (who : ℕ) → AreCalls (log_of who h)) (sym same_history) is.calls;
     lines = lines_now;
     rise = is.rise;
+    answers = is.answers;
     honest = subst (λ (h : History). IsHonest (setup_at (w.ends ++ new ∷ [])) h) (sym same_history)
         (honest_same (setup_at w.ends) (setup_at (w.ends ++ new ∷ [])) (history_of w) (λ who h. stay who (takes_part who h)) is.honest);
     nonces = subst (λ (h : History). AllDifferent (nonces_in h)) (sym same_history) is.nonces;

@@ -3,6 +3,7 @@ pub mod Told
 pub mod Forging
 pub mod Sounds
 pub mod Keeping
+pub mod Noting
 pub mod Calling
 pub mod Finding
 pub mod Answered

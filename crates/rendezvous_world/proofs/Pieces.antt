@@ -1,5 +1,5 @@
 -- Parts of lists, and ends among ends.
-use Rattle.std.proofs.Common.{◌≡◌, ℕ, zero, suc, ◌-◌, ◌<◌, true, false, List, [], ◌∷◌, ◌++◌, map, length, drop, get_or, Option, Some, None, refl, sym, ap, ◌∙◌, subst, arith}
+use Rattle.std.proofs.Common.{◌≡◌, ℕ, zero, suc, ◌-◌, ◌<◌, ◌≤◌, true, false, List, [], ◌∷◌, ◌++◌, map, length, drop, get_or, Option, Some, None, refl, sym, ap, ◌∙◌, subst, arith}
 use Rattle.std.specs.List.{list_any}
 use Rattle.sha2.specs.Sha256.{sha256}
 use Rattle.identity.specs.Certificates.{IsCertificate}
@@ -20,7 +20,7 @@ use Rattle.rendezvous_world.specs.Inside.{end_seen, world_seen, named_of, IsKept
 use Rattle.rendezvous_world.specs.Kept.{IsWorld}
 use Rattle.rendezvous_world.proofs.Finding.{test_other}
 use Rattle.rendezvous_world.proofs.Forging.{same_context_is}
-use Rattle.rendezvous_world.proofs.Keeping.{with_end_is_world}
+use Rattle.rendezvous_world.proofs.Keeping.{with_moment_is_world, with_end_is_world}
 
 pub past_front : (n : ℕ) (xs ys : List ℕ) → length xs ≡ n → drop n (xs ++ ys) ≡ ys
 past_front n xs ys is = subst (λ (k : ℕ). drop k (xs ++ ys) ≡ ys) is (behind xs ys)
@@ -43,6 +43,18 @@ forged_there (e ∷ ends) (suc k) there bytes sent is lt =
 pub same_sent : (known : Option Context) (context : Context) (bytes : List ℕ) (sent : List Sent) → is_same known context ≡ true → WasSentIn known bytes sent → list_any (is_sent bytes context) sent ≡ true
 same_sent None context bytes sent e h = absurd (cc)
 same_sent (Some k) context bytes sent e h = subst (λ (x : Context). list_any (is_sent bytes x) sent ≡ true) (same_context_is k context e) h
+
+-- ---- another moment
+
+pub kept_moment : (moment later : ℕ) (ends : List EndKept) (named : List Named) (lines : List JournalLine) (starts : List ℕ) (sent : ℕ) → moment ≤ later → IsKept moment ends named lines starts sent →
+    IsKept later ends named lines starts sent
+kept_moment moment later ends named lines starts sent le kept = record {
+  names = kept.names;
+  begins = kept.begins;
+  total = kept.total;
+  fits = kept.fits;
+  world = with_moment_is_world (world_seen moment ends lines) later le kept.world;
+}
 
 -- ---- one more end
 

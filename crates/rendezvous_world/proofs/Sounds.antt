@@ -21,7 +21,7 @@ module _ (w : Seen) (is : IsWorld w) where
     | inl below ↦
         (let there = is_there w.ends who below in
         let of_end : IsLawful there.0.setup (log_of who (history_of w)) =
-        every_log_is_lawful there.0.setup (log_of who (history_of w)) there.0.state (is.given who there.0 there.1).sized (is.calls who) (is.stand who there.0 there.1) in
+        every_log_is_lawful there.0.setup (log_of who (history_of w)) (is.stand who there.0 there.1).told (is.given who there.0 there.1).sized (is.calls who) (is.stand who there.0 there.1).stands in
         subst (λ (setup : Setup). IsLawful setup (log_of who (history_of w))) (sym (setup_is w.ends who there.0 there.1)) of_end)
     | inr past ↦
         (let none : log_of who (history_of w) ≡ [] = log_absent who (history_of w) (λ h. (let below : who < length w.ends = takes_part who h in omega arith)) in
@@ -38,7 +38,7 @@ module _ (w : Seen) (is : IsWorld w) where
   }
 
   pub sound : IsSound w
-  sound = record { stand = is.stand; lawful = lawful; honest = is.honest; fresh = fresh }
+  sound = record { stand = is.stand; lawful = lawful; honest = is.honest; fresh = fresh; answers = is.answers }
 
   -- the ends that take part have one secret
   pub one_group : (a b : ℕ) → TakesPart a (history_of w) → TakesPart b (history_of w) → (setup_at w.ends a).secret ≡ (setup_at w.ends b).secret

@@ -1,10 +1,12 @@
 -- How a step is taken: the call that it makes, its line in the journal, and what it answers.
-use Rattle.std.specs.Prelude.{ℕ, ◌≡◌, ◌<◌, ◌≤◌, ◌^◌, ◌⊎◌, Bool, true, false, List, length, take, Option, Some, None, IfSome, IfNone, OnOk, OnErr, IfErr, Result, Ok, Err}
+use Rattle.std.specs.Prelude.{ℕ, ◌≡◌, ◌<◌, ◌≤◌, ◌^◌, ◌⊎◌, Bool, true, false, List, length, take, Option, Some, None, IfSome, IfNone, is_some, OnOk, OnErr, IfErr, Result, Ok, Err}
 use Rattle.std.specs.List.{list_any}
 use Rattle.crypto_profile.specs.declared.keys.Context.{Context}
 use Rattle.endpoint.specs.declared.entry.Entry.{Entry}
 use Rattle.endpoint.specs.declared.answers.Stopped.{Stopped as Stop}
 use Rattle.endpoint.specs.Laws.{AreBytes}
+use Rattle.endpoint.specs.State.{State, at_moment}
+use Rattle.endpoint.specs.Due.{open_refusal}
 use Rattle.endpoint.specs.Event.{Call, Open as OpenCall, Cancel as CancelCall, Receive, Tick as TickCall, Event}
 use Rattle.rendezvous_world.specs.declared.bringing.Fetched.{Fetched}
 use Rattle.rendezvous_world.specs.declared.journal.JournalLine.{JournalLine}
@@ -20,7 +22,7 @@ use Rattle.rendezvous_world.specs.Datagrams.{datagram_of}
 use Rattle.rendezvous_world.specs.Faults.{step_fault, is_forged, is_forged_by, is_sent, same_context}
 use Rattle.glare_core.specs.Calls.{where_true}
 use Rattle.rendezvous_world.specs.History.{moment_given, answer_of, bytes_or_none}
-use Rattle.rendezvous_world.specs.Stepping.{Called, Stepped, StoppedIn, called_by, lacks_memory}
+use Rattle.rendezvous_world.specs.Stepping.{Called, Stepped, StoppedIn, Noted, called_by}
 use Rattle.rendezvous_world.specs.Sound.{AreBelow}
 
 -- ---- a call
@@ -61,6 +63,12 @@ event_by print line moment step bytes refused stopped entries = record {
   entries = entries;
 }
 
+-- What an open or a cancel leaves that found no memory, at the end in this state: an open, which nothing else refused, has noted the moment, and a cancel has left all as before.
+abbrev pub IsUndone : List ℕ → ℕ → Step → State → State → Type 0
+IsUndone print moment (Open end peer list) old new = (open_refusal old print list ≡ None) × (new ≡ at_moment old moment)
+IsUndone print moment (Cancel end n) old new = new ≡ old
+IsUndone print moment step old new = ⊥
+
 -- ---- its line
 
 -- What a step that calls an end is given: nothing refuses it.
@@ -79,9 +87,9 @@ pub record IsEntering (w : Seen) (number end : ℕ) (step : Step) (brought : Opt
 
 -- What it leaves.
 pub record IsEntered (w : Seen) (number : ℕ) (step : Step) (result : Result (Unit {0}) StepFault) (t : Seen) : Type 0 where
-  pub ok : OnOk result ((line : JournalLine) × (lacks_memory line.refused line.stopped ≡ false) × Called w number step line t)
+  pub ok : OnOk result ((line : JournalLine) × (is_some line.stopped ≡ false) × Called w number step line t)
   pub memory : IfErr result (λ fault. fault ≡ Memory)
-  pub err : OnErr result ((t ≡ w) ⊎ StoppedIn w number step t)
+  pub err : OnErr result ((t ≡ w) ⊎ (StoppedIn w number step t ⊎ Noted w step t))
 
 abbrev pub answered : Bool → Result (Unit {0}) StepFault
 answered true = Err Memory
@@ -130,4 +138,4 @@ pub record IsDone (w : Seen) (number : ℕ) (step : Step) (result : Result (Unit
   pub ok : OnOk result (Stepped w number step t)
   pub refused : IfSome (step_fault w step) (λ fault. (result ≡ Err fault) × (t ≡ w))
   pub memory : IfNone (step_fault w step) (IfErr result (λ fault. fault ≡ Memory))
-  pub err : OnErr result ((t ≡ w) ⊎ StoppedIn w number step t)
+  pub err : OnErr result ((t ≡ w) ⊎ (StoppedIn w number step t ⊎ Noted w step t))

@@ -4,7 +4,6 @@ use Rattle.std.specs.List.{AllByRecursion}
 use Rattle.glare_core.specs.Steps.{Among}
 use Rattle.glare_core.specs.Told.{AllDifferent}
 use Rattle.endpoint.specs.Event.{Setup, own_of}
-use Rattle.endpoint.specs.Log.{StandsFor}
 use Rattle.endpoint.specs.Laws.{IsSetup, AreCalls}
 use Rattle.endpoint.specs.History.{log_of, IsHonest, nonces_in}
 use Rattle.rendezvous_world.specs.declared.journal.JournalLine.{JournalLine}
@@ -13,6 +12,8 @@ use Rattle.rendezvous_world.specs.declared.step.Step.TheVariants.{End, At, Open,
 use Rattle.rendezvous_world.specs.Draws.{two_numbers}
 use Rattle.rendezvous_world.specs.Seen.{EndSeen, Seen, group_secret, setup_at}
 use Rattle.rendezvous_world.specs.History.{history_of}
+use Rattle.rendezvous_world.specs.Stepping.{IsAnswered}
+use Rattle.rendezvous_world.specs.Sound.{StandsUpTo}
 
 -- What an end was given has its sizes, and its secret is that of the group.
 pub record IsGiven (setup : Setup) : Type 0 where
@@ -64,8 +65,8 @@ pub record IsOfLine (nonce : List ℕ) (lines : List JournalLine) : Type 0 where
   pub is : nonce ≡ two_numbers 0 number
 
 pub record IsWorld (w : Seen) : Type 0 where
-  -- each end stands for its own log
-  pub stand : (who : ℕ) (end : EndSeen) → slice_get w.ends who ≡ Some end → StandsFor end.setup (log_of who (history_of w)) end.state
+  -- each end stands for its own log, but that it may have noted a moment which has passed
+  pub stand : (who : ℕ) (end : EndSeen) → slice_get w.ends who ≡ Some end → StandsUpTo w.moment end.setup (log_of who (history_of w)) end.state
   pub given : (who : ℕ) (end : EndSeen) → slice_get w.ends who ≡ Some end → IsGiven end.setup
   -- different ends have different names and different fingerprints
   pub names : AreApart name_of w.ends
@@ -74,6 +75,8 @@ pub record IsWorld (w : Seen) : Type 0 where
   pub calls : (who : ℕ) → AreCalls (log_of who (history_of w))
   pub lines : AllByRecursion (IsLineIn (length w.ends)) w.lines
   pub rise : Rise w.lines
+  -- each line tells what its step can answer
+  pub answers : AllByRecursion IsAnswered w.lines
   pub honest : IsHonest (setup_at w.ends) (history_of w)
   -- the nonces are those of lines, none of which gave two
   pub nonces : AllDifferent (nonces_in (history_of w))

@@ -11,7 +11,7 @@ use Rattle.rendezvous_world.specs.Sent.{sent_in}
 use Rattle.rendezvous_world.specs.Datagrams.{datagram_of}
 use Rattle.rendezvous_world.specs.History.{bytes_or_none, history_of}
 use Rattle.rendezvous_world.specs.Faults.{step_fault}
-use Rattle.rendezvous_world.specs.Stepping.{Called, Stepped, StoppedIn}
+use Rattle.rendezvous_world.specs.Stepping.{Called, Stepped, StoppedIn, Noted}
 use Rattle.rendezvous_world.specs.Sound.{IsSound, AreBelow}
 use Rattle.rendezvous_world.specs.Kept.{IsWorld}
 
@@ -44,4 +44,4 @@ IsSized w step = AreBytes (bytes_or_none (datagram_of (sent_in w.lines) step))
 abbrev pub EveryStepKeepsAWorld : Type 0
 EveryStepKeepsAWorld =
     (w : Seen) (number : ℕ) (step : Step) (t : Seen) → IsWorld w → AreBelow w.lines number → number < 2 ^ 32 → IsSized w step → step_fault w step ≡ None →
-    Stepped w number step t ⊎ StoppedIn w number step t → IsWorld t
+    Stepped w number step t ⊎ (StoppedIn w number step t ⊎ Noted w step t) → IsWorld t

@@ -1,20 +1,19 @@
 -- What a step leaves.
-use Rattle.std.specs.Prelude.{ℕ, ◌≡◌, ◌-◌, ◌==◌, ◌||◌, Bool, true, false, List, [], ◌∷◌, ◌++◌, Option, Some, None, IfSome, is_some, slice_get, if◌then◌else◌}
+use Rattle.std.specs.Prelude.{ℕ, ◌≡◌, ◌≢◌, ◌-◌, ◌==◌, true, false, List, [], ◌∷◌, ◌++◌, Option, Some, None, IfSome, is_some, slice_get, if◌then◌else◌}
 use Rattle.sha2.specs.Sha256.{sha256}
 use Rattle.endpoint.specs.Event.{Setup}
-use Rattle.endpoint.specs.State.{State, fresh}
+use Rattle.endpoint.specs.State.{State, fresh, at_moment}
+use Rattle.endpoint.specs.Due.{open_refusal}
 use Rattle.endpoint.specs.Log.{Step as StepOf, not_taken}
 use Rattle.rendezvous_world.specs.declared.journal.JournalLine.{JournalLine}
 use Rattle.rendezvous_world.specs.declared.journal.Refused.{Refused}
 use Rattle.rendezvous_world.specs.declared.journal.Refused.TheVariants.{Open as OpenRefused, Call as CallRefused}
-use Rattle.endpoint.specs.declared.answers.OpenRefusal.{OpenRefusal}
-use Rattle.endpoint.specs.declared.answers.OpenRefusal.TheVariants.{Candidates, Start, SessionsFull, Memory as NoMemoryToOpen}
-use Rattle.endpoint.specs.declared.answers.CallRefusal.{CallRefusal}
-use Rattle.endpoint.specs.declared.answers.CallRefusal.TheVariants.{NoAttempt, Memory as NoMemoryToCall}
+use Rattle.endpoint.specs.declared.answers.OpenRefusal.TheVariants.{Memory as NoMemoryToOpen}
+use Rattle.endpoint.specs.declared.answers.CallRefusal.TheVariants.{Memory as NoMemoryToCall}
 use Rattle.endpoint.specs.declared.answers.Stopped.{Stopped as Stop}
 use Rattle.rendezvous_world.specs.declared.step.Step.{Step}
 use Rattle.rendezvous_world.specs.declared.step.Step.TheVariants.{End, At, Open, Cancel, Deliver, Bent, Inject, Forge, Tick}
-use Rattle.rendezvous_world.specs.Seen.{EndSeen, Seen, group_secret}
+use Rattle.rendezvous_world.specs.Seen.{EndSeen, Seen, group_secret, print_at}
 use Rattle.rendezvous_world.specs.Sent.{sent_in}
 use Rattle.rendezvous_world.specs.Datagrams.{datagram_of}
 use Rattle.rendezvous_world.specs.History.{event_of}
@@ -57,17 +56,26 @@ called_by (Inject end from bytes) = end
 called_by (Forge end from plain) = end
 called_by (Tick end) = end
 
--- What the line of a step can tell of its answer: an open and a cancel are done or refused, and the others are done or stopped. A new end and a new moment call no end and have no line.
+-- The call was done, or refused for another reason than want of memory.
+pub record IsDoneOrRefused (refused : Option Refused) : Type 0 where
+  pub opened : refused ≢ Some (OpenRefused NoMemoryToOpen)
+  pub called : refused ≢ Some (CallRefused NoMemoryToCall)
+
+-- What the line of a step can tell of its answer: an open and a cancel are done or refused, and the others are done or stopped. A call that is refused for want of memory has no line, and a new end and a new moment call no end and have none.
 abbrev pub HasItsAnswer : Step → Option Refused → Option Stop → Type 0
 HasItsAnswer (End name max_peers max_sessions cert) refused stopped = ⊥
 HasItsAnswer (At moment) refused stopped = ⊥
-HasItsAnswer (Open end peer list) refused stopped = stopped ≡ None
-HasItsAnswer (Cancel end n) refused stopped = stopped ≡ None
+HasItsAnswer (Open end peer list) refused stopped = (stopped ≡ None) × IsDoneOrRefused refused
+HasItsAnswer (Cancel end n) refused stopped = (stopped ≡ None) × IsDoneOrRefused refused
 HasItsAnswer (Deliver number end from) refused stopped = refused ≡ None
 HasItsAnswer (Bent number place end from) refused stopped = refused ≡ None
 HasItsAnswer (Inject end from bytes) refused stopped = refused ≡ None
 HasItsAnswer (Forge end from plain) refused stopped = refused ≡ None
 HasItsAnswer (Tick end) refused stopped = (refused ≡ None) × IfSome stopped (λ stop. stop ≡ not_taken)
+
+-- The line tells of its answer what its step can answer.
+abbrev pub IsAnswered : JournalLine → Type 0
+IsAnswered line = HasItsAnswer line.step line.refused line.stopped
 
 -- A line of the journal is that of this step.
 pub record IsLineOf (w : Seen) (number : ℕ) (done : Step) (told : JournalLine) : Type 0 where
@@ -77,27 +85,6 @@ pub record IsLineOf (w : Seen) (number : ℕ) (done : Step) (told : JournalLine)
   pub step : told.step ≡ done
   pub datagram : told.datagram ≡ datagram_of (sent_in w.lines) done
   pub answer : HasItsAnswer done told.refused told.stopped
-
--- ---- want of memory
-
-abbrev pub is_open_memory : OpenRefusal → Bool
-is_open_memory (Candidates count) = false
-is_open_memory (Start refusal) = false
-is_open_memory (SessionsFull limit) = false
-is_open_memory NoMemoryToOpen = true
-
-abbrev pub is_call_memory : CallRefusal → Bool
-is_call_memory NoAttempt = false
-is_call_memory NoMemoryToCall = true
-
-abbrev pub is_memory : Option Refused → Bool
-is_memory None = false
-is_memory (Some (OpenRefused refusal)) = is_open_memory refusal
-is_memory (Some (CallRefused refusal)) = is_call_memory refusal
-
--- the call was refused for want of memory, or stopped
-abbrev pub lacks_memory : Option Refused → Option Stop → Bool
-lacks_memory refused stopped = is_memory refused || is_some stopped
 
 -- The step called an end: the journal has one more line, by whose event that end came from its state to the state that it is in now.
 pub record Called (w : Seen) (number : ℕ) (step : Step) (line : JournalLine) (t : Seen) : Type 0 where
@@ -114,10 +101,24 @@ pub record Called (w : Seen) (number : ℕ) (step : Step) (line : JournalLine) (
 abbrev pub Stepped : Seen → ℕ → Step → Seen → Type 0
 Stepped w number (End name max_peers max_sessions cert) t = t ≡ with_end w (new_end name (new_setup max_peers max_sessions cert))
 Stepped w number (At moment) t = t ≡ with_moment w moment
-Stepped w number step t = (line : JournalLine) × (lacks_memory line.refused line.stopped ≡ false) × Called w number step line t
+Stepped w number step t = (line : JournalLine) × (is_some line.stopped ≡ false) × Called w number step line t
 
--- An open, a datagram or a tick found no memory; the journal has what was done. An open has noted the moment.
+-- A datagram or a tick found no memory; the journal has what was done.
 pub record StoppedIn (w : Seen) (number : ℕ) (step : Step) (t : Seen) : Type 0 where
   pub line : JournalLine
-  pub lacks : lacks_memory line.refused line.stopped ≡ true
+  pub stopped : is_some line.stopped ≡ true
   pub called : Called w number step line t
+
+-- The step is an open, which nothing but want of memory refuses at an end in this state.
+abbrev pub MayOpen : List EndSeen → State → Step → Type 0
+MayOpen ends s (Open end peer list) = open_refusal s (print_at ends peer) list ≡ None
+MayOpen ends s step = ⊥
+
+-- An open found no memory: all is as before, but that the end that was called keeps the moment of the world, where it kept an earlier one.
+pub record Noted (w : Seen) (step : Step) (t : Seen) : Type 0 where
+  pub end : EndSeen
+  pub is_end : slice_get w.ends (called_by step) ≡ Some end
+  pub opens : MayOpen w.ends end.state step
+  pub moment : t.moment ≡ w.moment
+  pub ends : t.ends ≡ with_state w.ends (called_by step) (at_moment end.state w.moment)
+  pub lines : t.lines ≡ w.lines

@@ -1,16 +1,18 @@
 //! The calls of ends that steps make.
 
-ghost use Rattle.std.specs.Prelude.{◌≡◌, ◌<◌, ◌≤◌, ◌^◌, [], false, length, IfSome, None, true};
+ghost use Rattle.std.specs.Prelude.{◌≡◌, ◌≢◌, ◌<◌, ◌≤◌, ◌^◌, [], false, length, IfSome, None, true};
+ghost use Rattle.endpoint.specs.Due.{open_refusal};
 ghost use Rattle.endpoint.specs.Event.{Cancel as CancelCall, Open as OpenCall, Receive, Tick as TickCall};
 ghost use Rattle.endpoint.specs.Log.{Step as StepOf, not_taken};
-ghost use Rattle.rendezvous_world.specs.Entering.{CallsAnEnd, event_by};
+ghost use Rattle.endpoint.specs.State.{at_moment};
+ghost use Rattle.rendezvous_world.specs.Entering.{CallsAnEnd, IsUndone, event_by};
 ghost use Rattle.rendezvous_world.specs.History.{answer_to_cancel, answer_to_datagram, answer_to_open, answer_to_tick};
-ghost use Rattle.rendezvous_world.specs.Stepping.{HasItsAnswer, is_call_memory, lacks_memory};
+ghost use Rattle.rendezvous_world.specs.Stepping.{HasItsAnswer, IsDoneOrRefused};
 
 use crate::draws::draws_of;
 use crate::journal::Refused;
 use crate::step::{Places, Step};
-use endpoint::{CallRefusal, Draws, Endpoint, Outbox, Stopped};
+use endpoint::{CallRefusal, Draws, Endpoint, OpenRefusal, Outbox, Stopped};
 use identity::Epd;
 use rtmfp_forms::Address;
 
@@ -21,21 +23,8 @@ pub(crate) struct Outcome {
     pub(crate) refused: Option<Refused>,
     /// How far it came, where it found no memory in the middle.
     pub(crate) stopped: Option<Stopped>,
-    /// It was refused for want of memory, and the end is as before.
+    /// It was refused for want of memory: it added nothing, and the end is as before, but that an open has noted the moment.
     pub(crate) undone: bool,
-}
-
-impl Outcome {
-    /// Whether the call found no memory.
-    pub(crate) fn lacks_memory(&self) -> bool
-        ensures { result ≡ lacks_memory self.now.refused self.now.stopped }
-    {
-        let is_memory = match &self.refused {
-            None => false,
-            Some(refused) => refused.is_memory(),
-        };
-        is_memory || self.stopped.is_some()
-    }
 }
 
 /// Makes the call of the step of a line at a moment. The fingerprint is that of the peer of an open, and the bytes those of the datagram that the step brings.
@@ -53,8 +42,8 @@ pub(crate) fn call_end(
     requires short { length bytes.old ≤ 2048 }
     requires empty { out.old.entries ≡ [] }
     ensures event { StepOf endpoint.old (event_by print.now line moment step.now bytes.old result.refused result.stopped out.new.entries) endpoint.new }
-    ensures answer { HasItsAnswer step.now result.refused result.stopped }
-    ensures undone { result.undone ≡ true → endpoint.new ≡ endpoint.old }
+    ensures answer { result.undone ≡ false → HasItsAnswer step.now result.refused result.stopped }
+    ensures undone { result.undone ≡ true → IsUndone print.now moment step.now endpoint.old endpoint.new }
 {
     let draws = draws_of(line);
     match step {
@@ -82,7 +71,9 @@ fn open(
     requires { out.old.entries ≡ [] }
     ensures event { StepOf endpoint.old (record { moment = moment; call = OpenCall print.now list.now draws.now; answer = answer_to_open result.refused out.new.entries; entries = out.new.entries }) endpoint.new }
     ensures stopped { result.stopped ≡ None }
-    ensures undone { result.undone ≡ false }
+    ensures answer { result.undone ≡ false → IsDoneOrRefused result.refused }
+    ensures refused { result.undone ≡ true → open_refusal endpoint.old print.now list.now ≡ None }
+    ensures noted { result.undone ≡ true → endpoint.new ≡ at_moment endpoint.old moment }
 {
     let epd = Epd { print: *print };
     match endpoint.open(&epd, list.as_slice(), moment, draws, out) {
@@ -94,8 +85,21 @@ fn open(
         Err(refusal) => Outcome {
             refused: Some(Refused::Open(refusal)),
             stopped: None,
-            undone: false,
+            undone: found_none_to_open(refusal),
         },
+    }
+}
+
+/// Whether an open was refused for want of memory.
+fn found_none_to_open(refusal: OpenRefusal) -> bool
+    ensures yes { result ≡ true → refusal ≡ OpenRefusal.Memory }
+    ensures no { result ≡ false → refusal ≢ OpenRefusal.Memory }
+{
+    match refusal {
+        OpenRefusal::Candidates(_) => false,
+        OpenRefusal::Start(_) => false,
+        OpenRefusal::SessionsFull(_) => false,
+        OpenRefusal::Memory => true,
     }
 }
 
@@ -104,6 +108,7 @@ fn cancel(endpoint: &mut Endpoint, n: u64, out: &mut Outbox) -> Outcome
     requires { out.old.entries ≡ [] }
     ensures event { StepOf endpoint.old (record { moment = 0; call = CancelCall n; answer = answer_to_cancel result.refused; entries = out.new.entries }) endpoint.new }
     ensures stopped { result.stopped ≡ None }
+    ensures answer { result.undone ≡ false → IsDoneOrRefused result.refused }
     ensures undone { result.undone ≡ true → endpoint.new ≡ endpoint.old }
 {
     match endpoint.cancel(n, out) {
@@ -115,14 +120,15 @@ fn cancel(endpoint: &mut Endpoint, n: u64, out: &mut Outbox) -> Outcome
         Err(refusal) => Outcome {
             refused: Some(Refused::Call(refusal)),
             stopped: None,
-            undone: is_memory(refusal),
+            undone: found_none_to_cancel(refusal),
         },
     }
 }
 
-/// Whether a call was refused for want of memory.
-fn is_memory(refusal: CallRefusal) -> bool
-    ensures { result ≡ is_call_memory refusal }
+/// Whether a cancel was refused for want of memory.
+fn found_none_to_cancel(refusal: CallRefusal) -> bool
+    ensures yes { result ≡ true → refusal ≡ CallRefusal.Memory }
+    ensures no { result ≡ false → refusal ≢ CallRefusal.Memory }
 {
     match refusal {
         CallRefusal::NoAttempt => false,

@@ -44,10 +44,10 @@ fn make_ready(
 }
 
 /// What a step that called an end answers.
-fn answered(lacks_memory: bool) -> Result<(), StepFault>
-    ensures { result ≡ answered lacks_memory }
+fn answered(is_stopped: bool) -> Result<(), StepFault>
+    ensures { result ≡ answered is_stopped }
 {
-    if lacks_memory {
+    if is_stopped {
         Err(StepFault::Memory)
     } else {
         Ok(())
@@ -55,7 +55,7 @@ fn answered(lacks_memory: bool) -> Result<(), StepFault>
 }
 
 impl World {
-    /// Makes the call of a step that nothing refuses, and enters its line in the journal. All that can fail before the call comes before it.
+    /// Makes the call of a step that nothing refuses, and enters its line in the journal. All that can fail before the call comes before it. A call that is refused for want of memory has no line.
     pub(crate) fn enter(
         &mut self,
         line: u64,
@@ -87,7 +87,7 @@ impl World {
         if outcome.undone {
             return Err(StepFault::Memory);
         }
-        let lacks_memory = outcome.lacks_memory();
+        let is_stopped = outcome.stopped.is_some();
         let count = count_among(end, out.entries());
         put(&mut self.starts, self.sent);
         self.sent += count as u128;
@@ -104,6 +104,6 @@ impl World {
                 out,
             },
         );
-        answered(lacks_memory)
+        answered(is_stopped)
     }
 }

@@ -1,38 +1,17 @@
 //! What was done in a run, line by line.
 
-ghost use Rattle.std.specs.Prelude.{◌≡◌, Some};
-ghost use Rattle.rendezvous_world.specs.Stepping.{is_memory};
+ghost use Rattle.std.specs.Prelude.{◌≡◌};
 
 use crate::step::Step;
 use endpoint::{CallRefusal, OpenRefusal, Outbox, Stopped};
 use rtmfp_base::Message;
 use std::marker::Model;
 
-/// Why an end refused a call. It is kept with the line, and no fault of the step.
+/// Why an end refused a call. It is kept with the line, and no fault of the step. A call that is refused for want of memory has no line.
 #[derive(Clone, Copy, Debug, PartialEq, Eq)]
 pub enum Refused {
     Open(OpenRefusal),
     Call(CallRefusal),
-}
-
-impl Refused {
-    /// Whether the call was refused for want of memory.
-    pub(crate) fn is_memory(&self) -> bool
-        ensures { result ≡ is_memory (Some self.now) }
-    {
-        match self {
-            Refused::Open(refusal) => match refusal {
-                OpenRefusal::Candidates(_) => false,
-                OpenRefusal::Start(_) => false,
-                OpenRefusal::SessionsFull(_) => false,
-                OpenRefusal::Memory => true,
-            },
-            Refused::Call(refusal) => match refusal {
-                CallRefusal::NoAttempt => false,
-                CallRefusal::Memory => true,
-            },
-        }
-    }
 }
 
 /// A step that called an end.
@@ -71,7 +50,7 @@ impl Model for Journal {
 }
 
 impl Journal {
-    /// One line for each step that called an end, refused calls too.
+    /// One line for each step that called an end, refused calls too. A call that is refused for want of memory has none.
     pub fn lines(&self) -> &[JournalLine]
         ensures { result.now ≡ self.now }
     {

@@ -54,7 +54,7 @@ impl World {
     ghost use Rattle.rendezvous_world.specs.Seen.{setup_at};
     ghost use Rattle.rendezvous_world.specs.Sent.{sent_in};
     ghost use Rattle.rendezvous_world.specs.Sound.{AreBelow, IsSound};
-    ghost use Rattle.rendezvous_world.specs.Stepping.{Stepped, StoppedIn};
+    ghost use Rattle.rendezvous_world.specs.Stepping.{Noted, Stepped, StoppedIn};
 
     /// A world without ends, at moment 0. It takes no memory.
     pub fn new(alloc: Global) -> World
@@ -77,14 +77,14 @@ impl World {
 
     /// Takes one step, which stands on this line of its script. `StepFault` has the reasons for which it is refused, in their order; a call that an end refuses is none.
     ///
-    /// Where no memory is found, all is as before, or the call had begun: then the journal has its line, with what it added.
+    /// Where no memory is found, all is as before. But a datagram or a tick that had begun has its line in the journal, with what it added, and an end that was to open an attempt keeps the moment.
     pub fn step(&mut self, line: u64, step: &Step) -> Result<(), StepFault>
         requires above { AreBelow self.old.lines line }
         requires fits { line < 2 ^ 32 }
         ensures ok { OnOk result (Stepped self.old line step.now self.new) }
         ensures refused { IfSome (step_fault self.old step.now) (λ fault. (result ≡ Err fault) × (self.new ≡ self.old)) }
         ensures memory { IfNone (step_fault self.old step.now) (IfErr result (λ fault. fault ≡ StepFault.Memory)) }
-        ensures err { OnErr result ((self.new ≡ self.old) ⊎ StoppedIn self.old line step.now self.new) }
+        ensures err { OnErr result ((self.new ≡ self.old) ⊎ (StoppedIn self.old line step.now self.new ⊎ Noted self.old step.now self.new)) }
 
         // The history of the journal is lawful, honest and fresh, and hence agreed.
         ensures sound { IsSound self.new }

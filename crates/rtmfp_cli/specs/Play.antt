@@ -79,7 +79,7 @@ report_since w t = told_next (names_of t) (length (sent_in w.lines)) (slice_get 
 
 -- ---- what is made of line n
 
--- What holds of a world after each line: each end stands for its own log, the history is lawful, honest and fresh, and hence agreed.
+-- What holds of a world after each line: each end stands for its own log, but that it may keep a later moment, the history is lawful, honest and fresh, and hence agreed.
 pub record HistoryHolds (w : Seen) : Type 0 where
   pub sound : IsSound w
   pub agreed : IsAgreed (setup_at w.ends) (history_of w)

@@ -4,8 +4,30 @@ use Rattle.rendezvous_world.specs.Seen.{Seen}
 use Rattle.rendezvous_world.specs.Sent.{sent_among}
 use Rattle.rendezvous_world.specs.Entering.{IsEntering}
 use Rattle.rendezvous_world.specs.Inside.{world_seen}
-use Rattle.rendezvous_world.proofs.Entered.{IsCalled, entered_kept, entered_as}
+use Rattle.rendezvous_world.proofs.Entered.{IsCalled, entered_kept, entered_as, undone_kept, undone_entered}
 use Rattle.rendezvous_world.proofs.world.World.enter.Goals as goal
+
+pub invariant_of-self-then-outcome : goal.invariant_of-self-then-outcome
+invariant_of-self-then-outcome c =
+    let i = c.self.inside in
+    let o = c.call_end-outcome in
+    let entering : IsEntering (world_seen i.moment i.ends.items i.journal) c.args.line c.args.end c.args.step c.args.datagram c.args.bytes.now =
+    subst (λ (w : Seen). IsEntering w c.args.line c.args.end c.args.step c.args.datagram c.args.bytes.now) (sym c.self.view_is) c.requires in
+    let peer_is = subst (λ (k : ℕ). c.index.result.now ≡ get_or i.named.items k c.index.result.now) c.peer.ensures c.index.ensures in
+    rw (c.make_ready.ensures.lines, c.make_ready.ensures.starts, c.journal.view_is)
+    (undone_kept i.moment i.ends.items i.named.items i.journal i.starts.items i.sent c.self.invariant c.args.line c.args.end c.args.step c.args.datagram c.args.bytes.now entering
+    c.index_mut-there.result.now o.new.endpoint c.index.result.now c.index_mut-there.ensures.value peer_is (o.ensures.undone c.if-outcome.true))
+
+pub returns-then-outcome : goal.returns-then-outcome
+returns-then-outcome c =
+    let i = c.self.inside in
+    let o = c.call_end-outcome in
+    let entering : IsEntering (world_seen i.moment i.ends.items i.journal) c.args.line c.args.end c.args.step c.args.datagram c.args.bytes.now =
+    subst (λ (w : Seen). IsEntering w c.args.line c.args.end c.args.step c.args.datagram c.args.bytes.now) (sym c.self.view_is) c.requires in
+    let peer_is = subst (λ (k : ℕ). c.index.result.now ≡ get_or i.named.items k c.index.result.now) c.peer.ensures c.index.ensures in
+    let entered = undone_entered i.moment i.ends.items i.named.items i.journal i.starts.items i.sent c.self.invariant c.args.line c.args.end c.args.step c.args.datagram c.args.bytes.now entering
+    c.index_mut-there.result.now o.new.endpoint c.index.result.now c.index_mut-there.ensures.value peer_is (o.ensures.undone c.if-outcome.true) in
+    rw (c.make_ready.ensures.lines, c.journal.view_is, ← c.self.view_is) entered
 
 pub invariant_of-self-2 : goal.invariant_of-self-2
 invariant_of-self-2 c =
@@ -18,7 +40,7 @@ invariant_of-self-2 c =
       peer = c.index.result.now;
       peer_is = subst (λ (k : ℕ). c.index.result.now ≡ get_or i.named.items k c.index.result.now) c.peer.ensures c.index.ensures;
       event = o.ensures.event;
-      answer = o.ensures.answer;
+      answer = o.ensures.answer c.if-outcome.false;
     } in
     let count = c.count_among-count.ensures.value ∙ ap (λ (es : List Entry). length (sent_among c.args.end es)) c.entries.ensures.entries in
     let fits : c.count_among-count.result < 2 ^ 64 = omega arith in
@@ -37,8 +59,8 @@ returns c =
       peer = c.index.result.now;
       peer_is = subst (λ (k : ℕ). c.index.result.now ≡ get_or i.named.items k c.index.result.now) c.peer.ensures c.index.ensures;
       event = o.ensures.event;
-      answer = o.ensures.answer;
+      answer = o.ensures.answer c.if-outcome.false;
     } in
     let entered = entered_as i.moment i.ends.items i.named.items i.journal i.starts.items i.sent c.self.invariant c.args.line c.args.end c.args.step c.args.datagram c.args.bytes.now entering
-    o.result.refused o.result.stopped o.new.out c.index_mut-there.result.now o.new.endpoint did c.lacks_memory-lacks_memory.result c.lacks_memory-lacks_memory.ensures in
+    o.result.refused o.result.stopped o.new.out c.index_mut-there.result.now o.new.endpoint did c.is_some-is_stopped.result c.is_some-is_stopped.ensures in
     rw (c.answered.ensures, c.put-2.ensures, c.make_ready.ensures.lines, c.journal.view_is, ← c.self.view_is) entered
