@@ -1,17 +1,8 @@
 -- The pairs of an ack, one after another.
 use Rattle.std.proofs.Common.{◌≡◌, ℕ, ◌+◌, ◌-◌, ◌<◌, ◌≤◌, List, [], ◌∷◌, ◌++◌, length, drop, get_or, refl, ap, sym, ◌∙◌, subst, arith, append_assoc}
-use Rattle.std.proofs.lemmas.Bool.{lt-ltb, le-ltb}
 use Rattle.flow_recv.specs.declared.spans.Span.{Span}
 use Rattle.flow_recv.specs.Receiver.{Apart, span}
 use Rattle.flow_recv.specs.Above.{spans_of}
-use Rattle.flow_recv.specs.Acking.{pair_bytes, pairs_in}
-
--- a pair that fits
-pub pairs_more : (room after : ℕ) (s : Span) (later : List Span) → length (pair_bytes after s) ≤ room → pairs_in room after (s ∷ later) ≡ pair_bytes after s ++ pairs_in (room - length (pair_bytes after s)) s.last later
-pairs_more room after s later le = rw (le-ltb room (length (pair_bytes after s)) le) refl
-
-pub pairs_end : (room after : ℕ) (s : Span) (later : List Span) → room < length (pair_bytes after s) → pairs_in room after (s ∷ later) ≡ []
-pairs_end room after s later lt = rw (lt-ltb room (length (pair_bytes after s)) lt) refl
 
 -- the next span
 pub record Next (after : ℕ) (s : Span) (later : List Span) : Type 0 where

@@ -127,7 +127,7 @@ pub fn mark_behind(through: u64, above: &mut Above, first: u64, forward: u64, nu
 
 /// Takes a forward number, and a number that was put in as a span of its own. The answer is the end of the first span.
 pub fn mark_alone(through: u64, above: &mut Above, forward: u64, number: u64) -> u64
-    ensures { (spans : List Span) → above.old ≡ with_number number spans → Apart (span 0 through ∷ spans) → lacks (span 0 through ∷ spans) number ≡ true → IsSpot (max through forward) number spans Spot.Alone → span 0 result ∷ above.new ≡ add_span number number (add_span 0 forward (span 0 through ∷ spans)) }
+    ensures { (spans : List Span) → above.old ≡ with_number number spans → Apart (span 0 through ∷ spans) → IsSpot (max through forward) number spans Spot.Alone → span 0 result ∷ above.new ≡ add_span number number (add_span 0 forward (span 0 through ∷ spans)) }
 {
     close(above, number, number);
     raise(through, above, forward)
