@@ -14,3 +14,6 @@ pub mod Pairs
 pub mod Laying
 pub mod Searching
 pub mod Telling
+pub mod Mapped
+pub mod Sameness
+pub mod Spots

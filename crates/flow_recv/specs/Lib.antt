@@ -5,3 +5,4 @@ pub mod Window
 pub mod Merging
 pub mod Sound
 pub mod Order
+pub mod Above

@@ -5,10 +5,10 @@ ghost use Rattle.rtmfp_forms.specs.Outgoing.{packet_limit};
 ghost use Rattle.flow_recv.specs.Receiver.{Apart, span};
 ghost use Rattle.flow_recv.specs.Acking.{pair_bytes, pairs_in};
 
+use crate::above::Above;
 use crate::spans::Span;
 use rtmfp_forms::Outgoing;
 use rtmfp_vlu::vlu_len;
-use std::collections::VecDeque;
 
 /// The length of the pair of a span.
 fn pair_len(after: u64, here: Span) -> usize
@@ -31,38 +31,41 @@ fn put_pair(after: u64, here: Span, out: &mut Outgoing)
 }
 
 /// The length of as many pairs as fit into so many bytes.
-pub fn pairs_len(room: usize, through: u64, above: &VecDeque<Span>) -> usize
-    requires { Apart (span 0 through ∷ above.now.items) }
-    ensures length { result ≡ length (pairs_in room through above.now.items) }
+pub fn pairs_len(room: usize, through: u64, above: &Above) -> usize
+    requires { Apart (span 0 through ∷ above.now) }
+    ensures length { result ≡ length (pairs_in room through above.now) }
     ensures within { result ≤ room }
 {
     let mut left = room;
     let mut after = through;
-    let mut at = 0;
-    while at < above.len() {
-        let here = above[at];
+    for (first, last) in above.iter() {
+        let here = Span {
+            first: *first,
+            last: *last,
+        };
         let len = pair_len(after, here);
         if len > left {
             break;
         }
         left -= len;
         after = here.last;
-        at += 1;
     }
     room - left
 }
 
 /// Puts as many pairs at the end as fit into so many bytes, for which there is room.
-pub fn put_pairs(room: usize, through: u64, above: &VecDeque<Span>, out: &mut Outgoing)
-    requires apart { Apart (span 0 through ∷ above.now.items) }
+pub fn put_pairs(room: usize, through: u64, above: &Above, out: &mut Outgoing)
+    requires apart { Apart (span 0 through ∷ above.now) }
     requires room { length out.old + room ≤ packet_limit }
-    ensures { out.new ≡ out.old ++ pairs_in room through above.now.items }
+    ensures { out.new ≡ out.old ++ pairs_in room through above.now }
 {
     let mut left = room;
     let mut after = through;
-    let mut at = 0;
-    while at < above.len() {
-        let here = above[at];
+    for (first, last) in above.iter() {
+        let here = Span {
+            first: *first,
+            last: *last,
+        };
         let len = pair_len(after, here);
         if len > left {
             break;
@@ -70,6 +73,5 @@ pub fn put_pairs(room: usize, through: u64, above: &VecDeque<Span>, out: &mut Ou
         put_pair(after, here, out);
         left -= len;
         after = here.last;
-        at += 1;
     }
 }

@@ -1,6 +1,7 @@
 //! The receiver of a flow (RFC 7016 section 3.6.3): it puts fragments together and hands messages over.
 #![tactic(auto)]
 
+mod above;
 mod acking;
 mod outcome;
 mod receiver;

@@ -2,22 +2,22 @@
 
 ghost use Rattle.std.specs.Prelude.{◌≡◌, ◌≢◌, ◌+◌, ◌-◌, ◌<◌, ◌≤◌, ◌∷◌, ◌++◌, ◌↔◌, ℕ, IfOk, IsOk, IsErr, OnOk, OnErr, IfErr, MatchOption, List, length, Some, None, Ok, Err, false, true, ◌==◌, ◌^◌, ◌&&◌, ◌||◌, not, nat_lt, nat_le, max, if◌then◌else◌};
 ghost use Rattle.std.specs.List.{filter};
-ghost use Rattle.std.specs.VecDeque.{deque_len, deque_capacity};
 ghost use Rattle.std.specs.Option.{option_map};
 ghost use Rattle.rtmfp_data_chunks.specs.Runs.{single, message_of};
 ghost use Rattle.rtmfp_data_chunks.specs.Taken.{chunk_of};
-ghost use Rattle.flow_recv.specs.Receiver.{Receiver, Apart, fresh, span, lacks, living, held_in, after_last, passes_buffer, add_run, beyond_buffer, taken, next_run, handed_next, is_alive, is_beside};
+ghost use Rattle.flow_recv.specs.Receiver.{Receiver, Apart, fresh, span, lacks, living, held_in, after_last, passes_buffer, add_run, add_span, beyond_buffer, taken, next_run, handed_next, is_alive, is_beside};
 ghost use Rattle.flow_recv.specs.Acking.{free_blocks, ack_head, ack_bytes, TellsStretches};
 ghost use Rattle.rtmfp_forms.specs.Outgoing.{packet_limit};
 ghost use Rattle.flow_recv.specs.Outcome.{refusal, took, message};
 ghost use Rattle.flow_recv.specs.Sound.{AllAlive, Sound};
 ghost use Rattle.flow_recv.specs.Order.{InOrder};
 
+use crate::above::Above;
 use crate::acking::{pairs_len, put_pairs};
 use crate::outcome::{FlowRefusal, Took};
 use crate::run::HeldRun;
 use crate::runs::{add_run, bytes_in, drop_dead, drop_dead_beside, living_bytes, ready_at};
-use crate::spans::{Span, lacks, mark, raised};
+use crate::spans::{Spot, lacks, mark_alone, mark_behind, mark_first, raise, raised, spot_of};
 use rtmfp_base::{Memory, Message};
 use rtmfp_data_chunks::UserData;
 use rtmfp_forms::{NoRoom, Outgoing};
@@ -36,7 +36,7 @@ pub struct FlowReceiver {
     alloc: Global,
     arriving: bool,
     through: u64,
-    above: VecDeque<Span>,
+    above: Above,
     runs: VecDeque<HeldRun>,
     held: u64,
     last: Option<u64>,
@@ -50,9 +50,9 @@ impl Model for FlowReceiver {
 
     ghost Value = { Receiver };
 
-    ghost view = { λ r. record { arriving = r.arriving; spans = span 0 r.through ∷ r.above.items; runs = r.runs.items; last = r.last; highest = r.highest } };
+    ghost view = { λ r. record { arriving = r.arriving; spans = span 0 r.through ∷ r.above; runs = r.runs.items; last = r.last; highest = r.highest } };
 
-    ghost invariant = { λ r. Laid (record { arriving = r.arriving; spans = span 0 r.through ∷ r.above.items; runs = r.runs.items; last = r.last; highest = r.highest }) r.held };
+    ghost invariant = { λ r. Laid (record { arriving = r.arriving; spans = span 0 r.through ∷ r.above; runs = r.runs.items; last = r.last; highest = r.highest }) r.held };
 }
 
 impl FlowReceiver {
@@ -64,7 +64,7 @@ impl FlowReceiver {
             alloc,
             arriving: first_metadata == ARRIVING,
             through: 0,
-            above: VecDeque::new(alloc),
+            above: Above::new(alloc),
             runs: VecDeque::new(alloc),
             held: 0,
             last: None,
@@ -89,11 +89,18 @@ impl FlowReceiver {
             return Err(refusal);
         }
         let missing = lacks(self.through, &self.above, u128::from(chunk.seq));
-        if hold(self.alloc, &mut self.above, &mut self.runs, missing, chunk).is_err() {
-            return Err(FlowRefusal::Memory);
-        }
         let near = chunk.forward <= self.through;
-        self.through = mark(self.through, &mut self.above, chunk.forward, chunk.seq);
+        let Ok(end) = admit(
+            self.alloc,
+            self.through,
+            &mut self.above,
+            &mut self.runs,
+            missing,
+            chunk,
+        ) else {
+            return Err(FlowRefusal::Memory);
+        };
+        self.through = end;
         let held = self.held + added_by(missing, chunk);
         self.held = drop_after(
             &mut self.runs,
@@ -189,18 +196,12 @@ impl FlowReceiver {
 }
 
 /// The bytes held as if a forward number were taken.
-fn held_after(
-    runs: &VecDeque<HeldRun>,
-    held: u64,
-    through: u64,
-    above: &VecDeque<Span>,
-    forward: u64,
-) -> u64
+fn held_after(runs: &VecDeque<HeldRun>, held: u64, through: u64, above: &Above, forward: u64) -> u64
     requires held { held ≡ held_in runs.now.items }
     requires few { held_in runs.now.items < 2 ^ 32 }
-    requires apart { Apart above.now.items }
-    requires alive { AllAlive (span 0 through ∷ above.now.items) runs.now.items }
-    ensures { result ≡ held_in (living (span 0 (max through forward) ∷ above.now.items) runs.now.items) }
+    requires apart { Apart above.now }
+    requires alive { AllAlive (span 0 through ∷ above.now) runs.now.items }
+    ensures { result ≡ held_in (living (span 0 (max through forward) ∷ above.now) runs.now.items) }
 {
     if forward <= through {
         return held;
@@ -216,13 +217,13 @@ fn drop_after(
     near: bool,
     number: u64,
     through: u64,
-    above: &VecDeque<Span>,
+    above: &Above,
 ) -> u64
-    requires apart { Apart above.now.items }
+    requires apart { Apart above.now }
     requires order { InOrder 0 runs.old.items }
     requires held { held ≡ held_in runs.old.items }
     requires few { held_in runs.old.items < 2 ^ 32 }
-    ensures kept { runs.new.items ≡ (if near then filter (λ y. not (is_beside number y) || is_alive (span 0 through ∷ above.now.items) y) runs.old.items else living (span 0 through ∷ above.now.items) runs.old.items) }
+    ensures kept { runs.new.items ≡ (if near then filter (λ y. not (is_beside number y) || is_alive (span 0 through ∷ above.now) y) runs.old.items else living (span 0 through ∷ above.now) runs.old.items) }
     ensures held { result ≡ held_in runs.new.items }
 {
     if near {
@@ -243,25 +244,56 @@ fn added_by(missing: bool, chunk: &UserData<'_>) -> u64
     }
 }
 
-/// Makes room for one more span where a number is missing, and holds its fragment where the chunk has no abandon.
-fn hold(
+/// Takes a forward number and a number, and holds the fragment where the number is missing and the chunk has no
+/// abandon. The answer is the end of the first span. Memory is found before anything that lasts changes.
+fn admit(
     alloc: Global,
-    above: &mut VecDeque<Span>,
+    through: u64,
+    above: &mut Above,
     runs: &mut VecDeque<HeldRun>,
     missing: bool,
     chunk: &UserData<'_>,
-) -> Result<(), AllocError>
-    requires { InOrder 0 runs.old.items }
-    ensures spans { above.new.items ≡ above.old.items }
-    ensures room { OnOk result (missing ≡ true → deque_len above.new < deque_capacity above.new) }
+) -> Result<u64, AllocError>
+    requires order { InOrder 0 runs.old.items }
+    requires apart { Apart (span 0 through ∷ above.old) }
+    requires missing { missing ≡ lacks (span 0 through ∷ above.old) chunk.now.seq }
+    ensures spans { IfOk result (λ end. span 0 end ∷ above.new ≡ add_span chunk.now.seq chunk.now.seq (add_span 0 chunk.now.forward (span 0 through ∷ above.old))) }
     ensures held { OnOk result (runs.new.items ≡ (if not chunk.now.abandon && missing then add_run (single chunk.now.seq chunk.now.part chunk.now.bytes.now) runs.old.items else runs.old.items)) }
-    ensures unchanged { OnErr result (runs.new.items ≡ runs.old.items) }
+    ensures same_spans { OnErr result (above.new ≡ above.old) }
+    ensures same_runs { OnErr result (runs.new.items ≡ runs.old.items) }
     ensures quiet { missing ≡ false → IsOk result }
 {
+    let forward = chunk.forward;
+    let number = chunk.seq;
     if !missing {
-        return Ok(());
+        return Ok(raise(through, above, forward));
     }
-    above.reserve(1)?;
+    match spot_of(through, above, forward, number) {
+        Spot::First => {
+            hold(alloc, runs, chunk)?;
+            Ok(mark_first(through, above, forward, number))
+        }
+        Spot::Behind(first) => {
+            hold(alloc, runs, chunk)?;
+            Ok(mark_behind(through, above, first, forward, number))
+        }
+        Spot::Alone => {
+            above.insert(number)?;
+            if hold(alloc, runs, chunk).is_err() {
+                let _ = above.remove(number);
+                return Err(AllocError);
+            }
+            Ok(mark_alone(through, above, forward, number))
+        }
+    }
+}
+
+/// Holds the fragment of a chunk without abandon.
+fn hold(alloc: Global, runs: &mut VecDeque<HeldRun>, chunk: &UserData<'_>) -> Result<(), AllocError>
+    requires { InOrder 0 runs.old.items }
+    ensures held { OnOk result (runs.new.items ≡ (if not chunk.now.abandon then add_run (single chunk.now.seq chunk.now.part chunk.now.bytes.now) runs.old.items else runs.old.items)) }
+    ensures unchanged { OnErr result (runs.new.items ≡ runs.old.items) }
+{
     if chunk.abandon {
         return Ok(());
     }

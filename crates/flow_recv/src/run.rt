@@ -5,10 +5,10 @@ ghost use Rattle.rtmfp_data_chunks.specs.Runs.{fits, joined, single, is_whole, h
 ghost use Rattle.flow_recv.specs.Merging.{over};
 ghost use Rattle.flow_recv.specs.Receiver.{Apart, is_alive, is_beside, span, lacks, hands};
 
-use crate::spans::{Span, lacks};
+use crate::above::Above;
+use crate::spans::lacks;
 use rtmfp_data_chunks::Part;
 use std::alloc::{AllocError, Global};
-use std::collections::VecDeque;
 use std::marker::Model;
 
 /// A run with its bytes. It has its front where its first fragment begins a message, its rear where its last one
@@ -185,9 +185,9 @@ impl HeldRun {
     }
 
     /// Whether it can still become a message: at an end that it lacks the next number is missing.
-    pub fn is_alive(&self, through: u64, above: &VecDeque<Span>) -> bool
-        requires { Apart above.now.items }
-        ensures { result ≡ is_alive (span 0 through ∷ above.now.items) self.now }
+    pub fn is_alive(&self, through: u64, above: &Above) -> bool
+        requires { Apart above.now }
+        ensures { result ≡ is_alive (span 0 through ∷ above.now) self.now }
     {
         (self.front || lacks(through, above, u128::from(self.first.saturating_sub(1))))
             && (self.rear || lacks(through, above, u128::from(self.last) + 1))

@@ -8,16 +8,16 @@ ghost use Rattle.flow_recv.specs.Merging.{merged};
 ghost use Rattle.flow_recv.specs.Order.{InOrder, AllOpen};
 ghost use Rattle.flow_recv.specs.Receiver.{Apart, is_alive, is_beside, living, held_in, add_run, join_before, join_next, fits_first, span, lacks, hands, first_of, without_first};
 
+use crate::above::Above;
 use crate::run::HeldRun;
-use crate::spans::Span;
 use rtmfp_data_chunks::Part;
 use std::alloc::{AllocError, Global};
 use std::collections::VecDeque;
 
 /// Drops the runs that can't become messages any more.
-pub fn drop_dead(runs: &mut VecDeque<HeldRun>, through: u64, above: &VecDeque<Span>)
-    requires { Apart above.now.items }
-    ensures { runs.new.items ≡ living (span 0 through ∷ above.now.items) runs.old.items }
+pub fn drop_dead(runs: &mut VecDeque<HeldRun>, through: u64, above: &Above)
+    requires { Apart above.now }
+    ensures { runs.new.items ≡ living (span 0 through ∷ above.now) runs.old.items }
 {
     runs.retain(|run| run.is_alive(through, above));
 }
@@ -50,12 +50,12 @@ pub fn drop_dead_beside(
     runs: &mut VecDeque<HeldRun>,
     number: u64,
     through: u64,
-    above: &VecDeque<Span>,
+    above: &Above,
 ) -> u64
-    requires apart { Apart above.now.items }
+    requires apart { Apart above.now }
     requires order { InOrder 0 runs.old.items }
     requires few { held_in runs.old.items < 2 ^ 32 }
-    ensures kept { runs.new.items ≡ filter (λ y. not (is_beside number y) || is_alive (span 0 through ∷ above.now.items) y) runs.old.items }
+    ensures kept { runs.new.items ≡ filter (λ y. not (is_beside number y) || is_alive (span 0 through ∷ above.now) y) runs.old.items }
     ensures dropped { held_in runs.new.items + result ≡ held_in runs.old.items }
 {
     let mut at = reaching(runs, number);
@@ -83,10 +83,10 @@ pub fn bytes_in(runs: &VecDeque<HeldRun>) -> u64
 }
 
 /// How many bytes the runs hold that can still become messages.
-pub fn living_bytes(runs: &VecDeque<HeldRun>, through: u64, above: &VecDeque<Span>) -> u64
+pub fn living_bytes(runs: &VecDeque<HeldRun>, through: u64, above: &Above) -> u64
     requires few { held_in runs.now.items < 2 ^ 32 }
-    requires apart { Apart above.now.items }
-    ensures { result ≡ held_in (living (span 0 through ∷ above.now.items) runs.now.items) }
+    requires apart { Apart above.now }
+    ensures { result ≡ held_in (living (span 0 through ∷ above.now) runs.now.items) }
 {
     let mut sum = 0;
     for at in 0..runs.len() {

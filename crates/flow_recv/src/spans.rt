@@ -1,12 +1,11 @@
 //! The numbers that aren't missing, as spans that go upward and don't touch.
 
-ghost use Rattle.std.specs.Prelude.{◌≡◌, ◌+◌, ◌<◌, ◌≤◌, ◌∷◌, OnOk, OnErr, IfOk, IsOk, List, length, nat_le, nat_lt, ◌++◌, take, drop, true, false};
-ghost use Rattle.std.specs.List.{AllWithin};
-ghost use Rattle.std.specs.VecDeque.{deque_len, deque_capacity};
+ghost use Rattle.std.specs.Prelude.{◌≡◌, ◌+◌, ◌<◌, ◌≤◌, ◌∷◌, List, nat_lt, max, true, false};
+ghost use Rattle.flow_recv.specs.declared.spans.Span.{Span};
 ghost use Rattle.flow_recv.specs.Receiver.{Apart, knows, lacks, add_span, span, end_of_first};
+ghost use Rattle.flow_recv.specs.Above.{IsSpot, closed, with_number};
 
-use std::alloc::AllocError;
-use std::collections::VecDeque;
+use crate::above::Above;
 
 /// The numbers from the first through the last.
 #[derive(Clone, Copy, Debug, PartialEq, Eq)]
@@ -15,29 +14,32 @@ pub struct Span {
     pub last: u64,
 }
 
-/// The place of the first span that ends at a number or above.
-fn place(spans: &VecDeque<Span>, number: u128) -> usize
-    requires { Apart spans.now.items }
-    ensures inside { result ≤ length spans.now.items }
-    ensures before { AllWithin (λ s. nat_lt s.last number ≡ true) spans.now.items 0 result }
-    ensures after { AllWithin (λ s. nat_lt s.last number ≡ false) spans.now.items result (length spans.now.items) }
-{
-    spans.partition_point(|span| u128::from(span.last) < number)
+/// What a number that is missing touches.
+#[derive(Clone, Copy)]
+pub enum Spot {
+    /// The first span, or a forward number.
+    First,
+    /// The span before it, which begins with this number.
+    Behind(u64),
+    /// No span before it.
+    Alone,
 }
 
 /// Whether one of the spans has the number.
-pub fn knows(spans: &VecDeque<Span>, number: u128) -> bool
-    requires { Apart spans.now.items }
-    ensures { result ≡ knows spans.now.items number }
+fn knows(spans: &Above, number: u128) -> bool
+    requires { Apart spans.now }
+    ensures { result ≡ knows spans.now number }
 {
-    let at = place(spans, number);
-    at < spans.len() && u128::from(spans[at].first) <= number
+    match spans.last_from(number) {
+        Some(here) => number <= u128::from(here.last),
+        None => false,
+    }
 }
 
 /// Whether a number is missing, where the first span is from 0 through one number and the others are above.
-pub fn lacks(through: u64, above: &VecDeque<Span>, number: u128) -> bool
-    requires { Apart above.now.items }
-    ensures { result ≡ lacks (span 0 through ∷ above.now.items) number }
+pub fn lacks(through: u64, above: &Above, number: u128) -> bool
+    requires { Apart above.now }
+    ensures { result ≡ lacks (span 0 through ∷ above.now) number }
 {
     u128::from(through) < number && !knows(above, number)
 }
@@ -49,82 +51,84 @@ fn is_apart(low: u64, high: u64) -> bool
     low < high && high - low > 1
 }
 
-/// Adds one number, and joins the spans that it touches.
-fn add_number(spans: &mut VecDeque<Span>, number: u64) -> Result<(), AllocError>
-    requires { Apart spans.old.items }
-    ensures added { OnOk result (spans.new.items ≡ add_span number number spans.old.items) }
-    ensures unchanged { OnErr result (spans.new.items ≡ spans.old.items) }
-    ensures room { deque_len spans.old < deque_capacity spans.old → IsOk result }
+/// What a number touches, where none through a forward number will be missing.
+pub fn spot_of(through: u64, above: &Above, forward: u64, number: u64) -> Spot
+    ensures { IsSpot (max through forward) number above.now result }
 {
-    spans.reserve(1)?;
-    let mut first = number;
-    let mut last = number;
-    let mut at = place(spans, u128::from(number.saturating_sub(1)));
-    while at < spans.len() {
-        let here = spans[at];
-        if is_apart(here.last, first) {
-            at += 1;
-            continue;
-        }
-        if is_apart(last, here.first) {
-            break;
-        }
-        first = first.min(here.first);
-        last = last.max(here.last);
-        let _ = spans.remove(at);
+    if !is_apart(through.max(forward), number) {
+        return Spot::First;
     }
-    spans.insert(at, Span { first, last })?;
-    Ok(())
+    match above.last_from(u128::from(number)) {
+        Some(here) => {
+            if is_apart(here.last, number) {
+                return Spot::Alone;
+            }
+            Spot::Behind(here.first)
+        }
+        None => Spot::Alone,
+    }
 }
 
 /// Nothing from 0 through a number is missing any more. The answer is the end of the first span.
-fn raise(through: u64, above: &mut VecDeque<Span>, to: u64) -> u64
-    ensures raised { span 0 result ∷ above.new.items ≡ add_span 0 to (span 0 through ∷ above.old.items) }
-    ensures room { deque_len above.old < deque_capacity above.old → deque_len above.new < deque_capacity above.new }
+pub fn raise(through: u64, above: &mut Above, to: u64) -> u64
+    ensures { span 0 result ∷ above.new ≡ add_span 0 to (span 0 through ∷ above.old) }
 {
     let mut end = through.max(to);
-    while above.len() > 0 {
-        let here = above[0];
-        if end < here.first && here.first - end > 1 {
+    while let Some(here) = above.first() {
+        if is_apart(end, here.first) {
             break;
         }
         end = end.max(here.last);
-        let _ = above.pop_front();
+        above.drop_first();
     }
     end
 }
 
 /// The greatest number at or below which none would be missing after a forward number.
-pub fn raised(through: u64, above: &VecDeque<Span>, to: u64) -> u64
-    ensures { result ≡ end_of_first (add_span 0 to (span 0 through ∷ above.now.items)) }
+pub fn raised(through: u64, above: &Above, to: u64) -> u64
+    requires { Apart above.now }
+    ensures { result ≡ end_of_first (add_span 0 to (span 0 through ∷ above.now)) }
 {
-    let mut end = through.max(to);
-    for at in 0..above.len() {
-        let here = above[at];
-        if end < here.first && here.first - end > 1 {
-            break;
-        }
-        end = end.max(here.last);
+    let end = through.max(to);
+    match above.last_from(u128::from(end) + 1) {
+        Some(here) => end.max(here.last),
+        None => end,
     }
-    end
 }
 
-/// Takes a forward number and then a number. The answer is the end of the first span. Where the number isn't
-/// missing it takes no memory.
-pub fn mark(through: u64, above: &mut VecDeque<Span>, forward: u64, number: u64) -> u64
-    requires apart { Apart (span 0 through ∷ above.old.items) }
-    requires room { lacks (span 0 through ∷ above.old.items) number ≡ true → deque_len above.old < deque_capacity above.old }
-    ensures { span 0 result ∷ above.new.items ≡ add_span number number (add_span 0 forward (span 0 through ∷ above.old.items)) }
+/// The span that begins with one number reaches to another, and the span that begins directly after that one is
+/// joined to it.
+fn close(above: &mut Above, first: u64, number: u64)
+    ensures { above.new ≡ closed first number above.old }
 {
-    let missing = lacks(through, above, u128::from(number));
-    let end = raise(through, above, forward);
-    if !missing {
-        return end;
-    }
-    if end < number && number - end > 1 {
-        return match add_number(above, number) {
-            Ok(()) | Err(_) => end,
-        };
-    }
-    raise(end, above, number)
+    let last = above.remove_after(number).unwrap_or(number);
+    above.set_end(first, last);
+}
+
+/// Takes a forward number, and a number that touches the first span then. The answer is the end of the first span.
+pub fn mark_first(through: u64, above: &mut Above, forward: u64, number: u64) -> u64
+    requires apart { Apart (span 0 through ∷ above.old) }
+    requires near { number ≤ max through forward + 1 }
+    ensures { span 0 result ∷ above.new ≡ add_span number number (add_span 0 forward (span 0 through ∷ above.old)) }
+{
+    raise(through, above, forward.max(number))
+}
+
+/// Takes a forward number, and a number that touches the span before it. The answer is the end of the first span.
+pub fn mark_behind(through: u64, above: &mut Above, first: u64, forward: u64, number: u64) -> u64
+    requires apart { Apart (span 0 through ∷ above.old) }
+    requires missing { lacks (span 0 through ∷ above.old) number ≡ true }
+    requires behind { IsSpot (max through forward) number above.old (Spot.Behind first) }
+    ensures { span 0 result ∷ above.new ≡ add_span number number (add_span 0 forward (span 0 through ∷ above.old)) }
+{
+    close(above, first, number);
+    raise(through, above, forward)
+}
+
+/// Takes a forward number, and a number that was put in as a span of its own. The answer is the end of the first span.
+pub fn mark_alone(through: u64, above: &mut Above, forward: u64, number: u64) -> u64
+    ensures { (spans : List Span) → above.old ≡ with_number number spans → Apart (span 0 through ∷ spans) → IsSpot (max through forward) number spans Spot.Alone → span 0 result ∷ above.new ≡ add_span number number (add_span 0 forward (span 0 through ∷ spans)) }
+{
+    close(above, number, number);
+    raise(through, above, forward)
 }

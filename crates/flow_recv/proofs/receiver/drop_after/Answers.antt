@@ -6,4 +6,4 @@ use Rattle.flow_recv.proofs.receiver.drop_after.Goals as goal
 
 pub bytes_in-requires : goal.bytes_in-requires
 bytes_in-requires c =
-    omega (arith, ap (λ (ys : List Run). held_in ys) c.drop_dead.ensures, living_le (span 0 c.args.through ∷ c.args.above.now.items) c.args.runs.now.items, c.requires.few)
+    omega (arith, ap (λ (ys : List Run). held_in ys) c.drop_dead.ensures, living_le (span 0 c.args.through ∷ c.args.above.now) c.args.runs.now.items, c.requires.few)

@@ -8,5 +8,5 @@ pub returns-then-forward-through : goal.returns-then-forward-through
 returns-then-forward-through c =
     let m : c.args.through ≡ max c.args.through c.args.forward = omega arith in
     c.requires.held
-    ∙ (ap (λ (ys : List Run). held_in ys) (sym (all_living (span 0 c.args.through ∷ c.args.above.now.items) c.args.runs.now.items c.requires.alive))
-    ∙ ap (λ t. held_in (living (span 0 t ∷ c.args.above.now.items) c.args.runs.now.items)) m)
+    ∙ (ap (λ (ys : List Run). held_in ys) (sym (all_living (span 0 c.args.through ∷ c.args.above.now) c.args.runs.now.items c.requires.alive))
+    ∙ ap (λ t. held_in (living (span 0 t ∷ c.args.above.now) c.args.runs.now.items)) m)

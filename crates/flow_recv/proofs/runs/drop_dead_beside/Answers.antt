@@ -12,7 +12,7 @@ pub loop-at-init : goal.loop-at-init
 loop-at-init c =
     let xs = c.args.runs.now.items in
     let at = c.reaching-at.result in
-    let spans = span 0 c.args.through ∷ c.args.above.now.items in
+    let spans = span 0 c.args.through ∷ c.args.above.now in
     let test = λ (y : Run). not (is_beside c.args.number y) || is_alive spans y in
     record {
       inside = c.reaching-at.ensures.inside;
@@ -25,7 +25,7 @@ pub loop-at-preserved : goal.loop-at-preserved
 loop-at-preserved c =
     let xs = c.loop-at.runs.items in
     let at = c.loop-at.at in
-    let spans = span 0 c.args.through ∷ c.args.above.now.items in
+    let spans = span 0 c.args.through ∷ c.args.above.now in
     let test = λ (y : Run). not (is_beside c.args.number y) || is_alive spans y in
     let lt : at < length xs = omega (arith, c.loop-at.runs.ok) in
     let y = c.index-in-loop-at.result.now in
@@ -47,7 +47,7 @@ pub returns-else-is_beside-clause-kept : goal.returns-else-is_beside-clause-kept
 returns-else-is_beside-clause-kept c =
     let xs = c.loop-at.runs.items in
     let at = c.loop-at.at in
-    let spans = span 0 c.args.through ∷ c.args.above.now.items in
+    let spans = span 0 c.args.through ∷ c.args.above.now in
     let test = λ (y : Run). not (is_beside c.args.number y) || is_alive spans y in
     let lt : at < length xs = omega (arith, c.loop-at.runs.ok) in
     let o : is_beside c.args.number c.index.result.now ≡ false = sym c.is_beside.ensures ∙ c.if-is_beside.false in

@@ -9,8 +9,8 @@ abbrev pub invariant-loop-at : goal.invariant-loop-at
 invariant-loop-at l = record {
   inside : l.at ≤ length l.runs.items;
   rest : Rest l.number (drop l.at l.runs.items);
-  kept : take l.at l.runs.items ++ filter (λ (y : Run). not (is_beside l.number y) || is_alive (span 0 l.through ∷ l.above.items) y) (drop l.at l.runs.items)
-      ≡ filter (λ (y : Run). not (is_beside l.number y) || is_alive (span 0 l.through ∷ l.above.items) y) l.fn.runs.items;
+  kept : take l.at l.runs.items ++ filter (λ (y : Run). not (is_beside l.number y) || is_alive (span 0 l.through ∷ l.above) y) (drop l.at l.runs.items)
+      ≡ filter (λ (y : Run). not (is_beside l.number y) || is_alive (span 0 l.through ∷ l.above) y) l.fn.runs.items;
   dropped : held_in l.runs.items + l.dropped ≡ held_in l.fn.runs.items;
 }
 

@@ -15,34 +15,28 @@ use Rattle.flow_recv.proofs.Laying.{order_held, order_taken, known_taken, held_w
 use Rattle.flow_recv.proofs.Telling.{top_taken}
 use Rattle.flow_recv.proofs.receiver.FlowReceiver.take.Goals as goal
 
-pub mark-self-inside-requires-clause-apart : goal.mark-self-inside-requires-clause-apart
-mark-self-inside-requires-clause-apart c =
-    let i = c.self.inside in
-    subst (λ (xs : List Span). Apart (span 0 i.through ∷ xs)) (sym c.hold.ensures.spans) c.self.invariant.sound.apart
-
 abbrev At : goal.After-took_by → Receiver
-At c = let i = c.self.inside in receiver i.arriving i.through i.above.items i.runs.items i.last i.highest
+At c = let i = c.self.inside in receiver i.arriving i.through i.above i.runs.items i.last i.highest
 
 abbrev New : goal.After-took_by → Receiver
 New c =
     let i = c.self.inside in
-    receiver i.arriving c.mark-self-inside.result c.mark-self-inside.new.above.items c.drop_after-self-inside.new.runs.items c.last_after-self-inside.result c.max-self-inside.result
+    receiver i.arriving c.in-Ok.end c.admit.new.above c.drop_after-self-inside.new.runs.items c.last_after-self-inside.result c.max-self-inside.result
 
 is_taken : (c : goal.After-took_by) → New c ≡ taken (At c) (chunk_of c.args.chunk.now)
 is_taken c =
     let i = c.self.inside in
     let d = chunk_of c.args.chunk.now in
-    let end = c.mark-self-inside.result in
-    let new = c.mark-self-inside.new.above.items in
+    let end = c.in-Ok.end in
+    let new = c.admit.new.above in
     let near = nat_le d.forward i.through in
-    let held = c.hold.new.runs.items in
+    let held = c.admit.new.runs.items in
     let runs = c.drop_after-self-inside.new.runs.items in
-    let spans : span 0 end ∷ new ≡ spans_after (At c) d =
-    c.mark-self-inside.ensures ∙ ap (λ (xs : List Span). add_span d.seq d.seq (add_span 0 d.forward (span 0 i.through ∷ xs))) c.hold.ensures.spans in
+    let spans : span 0 end ∷ new ≡ spans_after (At c) d = c.in-Ok.ensures.spans in
     let kept : held ≡ held_runs (At c) d = search rules in
     let left : runs ≡ cond near (filter (λ y. not (is_beside d.seq y) || is_alive (span 0 end ∷ new) y) held) (living (span 0 end ∷ new) held) =
     c.drop_after-self-inside.ensures.kept in
-    let after : runs ≡ runs_after (At c) d = runs_are (At c) d i.through end i.above.items new near held runs refl c.self.invariant.sound refl spans kept left in
+    let after : runs ≡ runs_after (At c) d = runs_are (At c) d i.through end i.above new near held runs refl c.self.invariant.sound refl spans kept left in
     taken_is (At c) d (span 0 end ∷ new) runs c.last_after-self-inside.result c.max-self-inside.result spans after c.last_after-self-inside.ensures c.max-self-inside.ensures
 
 is_sound : (c : goal.After-took_by) → Sound (New c)
@@ -70,23 +64,22 @@ pub drop_after-self-inside-requires-clause-apart : goal.drop_after-self-inside-r
 drop_after-self-inside-requires-clause-apart c =
     let i = c.self.inside in
     let d = chunk_of c.args.chunk.now in
-    let e = c.mark-self-inside.ensures ∙ ap (λ (xs : List Span). add_span d.seq d.seq (add_span 0 d.forward (span 0 i.through ∷ xs))) c.hold.ensures.spans in
-    let a = subst (λ (ss : List Span). Apart ss) (sym e) (apart_add d.seq d.seq (add_span 0 d.forward (span 0 i.through ∷ i.above.items)) (omega arith) (apart_add 0 d.forward (span 0 i.through ∷ i.above.items) (omega arith) c.self.invariant.sound.apart)) in a.2
+    let a = subst (λ (ss : List Span). Apart ss) (sym c.in-Ok.ensures.spans) (apart_add d.seq d.seq (add_span 0 d.forward (span 0 i.through ∷ i.above)) (omega arith) (apart_add 0 d.forward (span 0 i.through ∷ i.above) (omega arith) c.self.invariant.sound.apart)) in a.2
 
 pub drop_after-self-inside-requires-clause-order : goal.drop_after-self-inside-requires-clause-order
 drop_after-self-inside-requires-clause-order c =
     let i = c.self.inside in
     let d = chunk_of c.args.chunk.now in
-    let r = receiver i.arriving i.through i.above.items i.runs.items i.last i.highest in
-    let kept : c.hold.new.runs.items ≡ held_runs r d = search rules in
+    let r = receiver i.arriving i.through i.above i.runs.items i.last i.highest in
+    let kept : c.admit.new.runs.items ≡ held_runs r d = search rules in
     subst (InOrder 0) (sym kept) (order_held r d c.self.invariant.known c.self.invariant.order)
 
 pub drop_after-self-inside-requires-clause-held : goal.drop_after-self-inside-requires-clause-held
 drop_after-self-inside-requires-clause-held c =
     let i = c.self.inside in
     let d = chunk_of c.args.chunk.now in
-    let r = receiver i.arriving i.through i.above.items i.runs.items i.last i.highest in
-    let kept : c.hold.new.runs.items ≡ held_runs r d = search rules in
+    let r = receiver i.arriving i.through i.above i.runs.items i.last i.highest in
+    let kept : c.admit.new.runs.items ≡ held_runs r d = search rules in
     let added : c.added_by.result ≡ cond (holds r d) (length d.bytes) 0 = search rules in
     held_with r d i.held c.added_by.result c.self.invariant.sum added ∙ ap (λ (ys : List Run). held_in ys) (sym kept)
 
@@ -94,8 +87,8 @@ pub drop_after-self-inside-requires-clause-few : goal.drop_after-self-inside-req
 drop_after-self-inside-requires-clause-few c =
     let i = c.self.inside in
     let d = chunk_of c.args.chunk.now in
-    let r = receiver i.arriving i.through i.above.items i.runs.items i.last i.highest in
-    let kept : c.hold.new.runs.items ≡ held_runs r d = search rules in
+    let r = receiver i.arriving i.through i.above i.runs.items i.last i.highest in
+    let kept : c.admit.new.runs.items ≡ held_runs r d = search rules in
     let added : c.added_by.result ≡ cond (holds r d) (length d.bytes) 0 = search rules in
     let none : refusal c.args.self.now d ≡ None = search rules in
     let none' : refusal r d ≡ None = subst (λ (v : Receiver). refusal v d ≡ None) (sym c.self.view_is) none in
