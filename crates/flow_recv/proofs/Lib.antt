@@ -1,7 +1,6 @@
 pub mod Knowing
 pub mod Adding
 pub mod Holding
-pub mod Putting
 pub mod Joining
 pub mod Forward
 pub mod Bounds
@@ -14,3 +13,8 @@ pub mod Pairs
 pub mod Laying
 pub mod Searching
 pub mod Telling
+pub mod Keeping
+pub mod Finding
+pub mod Placing
+pub mod Walking
+pub mod Passing

@@ -2,6 +2,6 @@ pub mod Receiver
 pub mod Outcome
 pub mod Acking
 pub mod Window
-pub mod Merging
 pub mod Sound
 pub mod Order
+pub mod Keyed

@@ -2,6 +2,7 @@
 #![tactic(auto)]
 
 mod acking;
+mod held;
 mod outcome;
 mod receiver;
 mod run;
