@@ -1,9 +1,10 @@
 -- A forward number as if it were taken already.
-use Rattle.std.proofs.Common.{◌≡◌, ℕ, ◌+◌, ◌-◌, max, nat_le, nat_lt, cond, Option, Some, None, not, Bool, true, false, ◌&&◌, ◌||◌, List, [], ◌∷◌, refl, ap, sym, ◌∙◌, arith}
+use Rattle.std.proofs.Common.{◌≡◌, ℕ, ◌+◌, ◌-◌, ◌≤◌, ◌==◌, max, nat_le, nat_lt, cond, Option, Some, None, not, Bool, true, false, ◌&&◌, ◌||◌, List, [], ◌∷◌, refl, ap, sym, ◌∙◌, arith}
+use Rattle.std.proofs.lemmas.Bool.{ltb-false, le-ltb}
 use Rattle.std.proofs.lemmas.Bool.Decides.{nat_tests}
 use Rattle.flow_recv.specs.declared.spans.Span.{Span}
 use Rattle.rtmfp_data_chunks.specs.Runs.{Chunk, Run}
-use Rattle.flow_recv.specs.Receiver.{span, covers, knows, lacks, add_span, is_alive, living, held_in, end_of_first, passes_buffer, beyond_buffer}
+use Rattle.flow_recv.specs.Receiver.{span, covers, knows, lacks, add_span, is_alive, living, held_in, end_of_first, passes_buffer, beyond_buffer, counted}
 use Rattle.flow_recv.proofs.Knowing.{Formed, knows_add}
 
 covers_max : (n t f : ℕ) → (nat_le 0 n && nat_le n (max t f)) ≡ ((nat_le 0 n && nat_le n f) || (nat_le 0 n && nat_le n t))
@@ -46,3 +47,28 @@ beyond_from arriving t above runs last highest c held low m p formed h l em ep =
     ap (λ x. cond (x && nat_lt c.forward c.seq && p) (Some held) None) em
     ∙ (ap (λ x. cond (lacks (span 0 t ∷ above) c.seq && nat_lt c.forward c.seq && x) (Some held) None) p'
     ∙ ap (λ x. cond (lacks (span 0 t ∷ above) c.seq && nat_lt c.forward c.seq && passes_buffer (end_of_first (add_span 0 c.forward (span 0 t ∷ above)) + 1) (held_in (living (add_span 0 c.forward (span 0 t ∷ above)) runs)) c) (Some x) None) held')
+
+-- ---- what doesn't pass with more bytes
+
+less_false : (a h g k : ℕ) → g ≤ h → nat_lt a (h + k) ≡ false → nat_lt a (g + k) ≡ false
+less_false a h g k le e = le-ltb a (g + k) (let f = ltb-false a (h + k) e in omega (arith, f, le))
+
+either_false : (a b c d : Bool) → (a ≡ false → b ≡ false) → cond a true c ≡ false → d ≡ c → cond b true d ≡ false
+either_false true b c d h e f = absurd cc
+either_false false b c d h e f = ap (λ x. cond x true d) (h refl) ∙ (f ∙ e)
+
+passes_if : (low h g k seq : ℕ) (t : Bool) → g ≤ h → cond t (nat_lt 3145728 (h + k)) (cond (nat_lt 2097152 (h + k)) true (nat_lt (low + 65536) seq)) ≡ false
+    → cond t (nat_lt 3145728 (g + k)) (cond (nat_lt 2097152 (g + k)) true (nat_lt (low + 65536) seq)) ≡ false
+passes_if low h g k seq true le e = less_false 3145728 h g k le e
+passes_if low h g k seq false le e = either_false (nat_lt 2097152 (h + k)) (nat_lt 2097152 (g + k)) (nat_lt (low + 65536) seq) (nat_lt (low + 65536) seq) (λ f. less_false 2097152 h g k le f) e refl
+
+pub passes_less : (low h g : ℕ) (c : Chunk) → g ≤ h → passes_buffer low h c ≡ false → passes_buffer low g c ≡ false
+passes_less low h g c le e = passes_if low h g (counted c) c.seq (c.seq == low) le e
+
+pub none_passes : (m n p : Bool) (h : ℕ) → p ≡ false → None ≡ cond (m && n && p) (Some h) None
+none_passes m n p h e = none_if m n ∙ sym (ap (λ x. cond (m && n && x) (Some h) None) e)
+  where
+    none_if : (a b : Bool) → None ≡ cond (a && b && false) (Some h) None
+    none_if true true = refl
+    none_if true false = refl
+    none_if false b = refl

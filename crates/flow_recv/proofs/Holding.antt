@@ -1,7 +1,7 @@
 -- The bytes that runs hold.
-use Rattle.std.proofs.Common.{ℕ, ◌+◌, ◌<◌, ◌≤◌, cond, Bool, true, false, List, [], ◌∷◌, length, get_or, take, arith}
+use Rattle.std.proofs.Common.{ℕ, ◌≤◌, cond, Bool, true, false, List, [], ◌∷◌, length, arith}
 use Rattle.std.specs.List.{filter, sum_by}
-use Rattle.std.proofs.lemmas.List.Sums.{sum_by_more_le, sum_by-cons}
+use Rattle.std.proofs.lemmas.List.Sums.{sum_by-cons}
 use Rattle.flow_recv.specs.declared.spans.Span.{Span}
 use Rattle.rtmfp_data_chunks.specs.Runs.{Run}
 use Rattle.flow_recv.specs.Receiver.{living, held_in, is_alive, without_first}
@@ -18,10 +18,6 @@ filter_le f p (x ∷ xs) = filter_le_if f x (filter p xs) xs (p x) (filter_le f 
 
 pub living_le : (spans : List Span) (runs : List Run) → held_in (living spans runs) ≤ held_in runs
 living_le spans runs = filter_le (λ (y : Run). length y.bytes) (is_alive spans) runs
-
--- what is held so far and the next run are within what all hold
-pub living_more_le : (spans : List Span) (runs : List Run) (i : ℕ) (d : Run) → i < length runs → held_in (living spans (take i runs)) + length (get_or runs i d).bytes ≤ held_in runs
-living_more_le spans runs i d lt = omega (arith, living_le spans (take i runs), sum_by_more_le (λ (y : Run). length y.bytes) runs i d lt)
 
 without_if : (y : Run) (later zs : List Run) (t : Bool) → held_in zs ≤ held_in later → held_in (cond t later (y ∷ zs)) ≤ held_in (y ∷ later)
 without_if y later zs true h = let e : held_in later ≤ held_in (y ∷ later) = omega (arith, sum_by-cons (λ (z : Run). length z.bytes) y later) in e

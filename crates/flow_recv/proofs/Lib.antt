@@ -1,7 +1,6 @@
 pub mod Knowing
 pub mod Adding
 pub mod Holding
-pub mod Putting
 pub mod Joining
 pub mod Forward
 pub mod Bounds
@@ -17,3 +16,8 @@ pub mod Telling
 pub mod Mapped
 pub mod Sameness
 pub mod Spots
+pub mod Keeping
+pub mod Finding
+pub mod Placing
+pub mod Walking
+pub mod Passing

@@ -1,54 +1,79 @@
 -- The first run that passes a test, and the runs without it.
-use Rattle.std.proofs.Common.{◌≡◌, ℕ, zero, suc, ◌<◌, ◌≤◌, Bool, true, List, [], ◌∷◌, ◌++◌, length, get_or, take, drop, slice_get, Option, Some, None, refl, ap, sym, ◌∙◌, arith}
-use Rattle.std.specs.List.{remove}
-use Rattle.std.specs.Option.{option_map}
+use Rattle.std.proofs.Common.{◌≡◌, ℕ, ◌+◌, ◌≤◌, cond, Bool, true, false, List, [], ◌∷◌, length, Option, Some, None, refl, ap, sym, ◌∙◌, arith}
+use Rattle.std.specs.Option.{unwrap_or}
+use Rattle.std.proofs.lemmas.Bool.{eq-eqb}
+use Rattle.std.proofs.lemmas.List.Sums.{sum_by-cons}
 use Rattle.flow_recv.specs.Outcome.{message}
 use Rattle.flow_recv.specs.declared.spans.Span.{Span}
-use Rattle.rtmfp_data_chunks.specs.Runs.{Run, message_of}
-use Rattle.flow_recv.specs.Receiver.{Receiver, hands, first_of, without_first, next_run, handed_next}
+use Rattle.rtmfp_data_chunks.specs.Runs.{Run}
+use Rattle.flow_recv.specs.Receiver.{Receiver, hands, first_of, without_first, held_in}
+use Rattle.flow_recv.specs.Order.{InOrder, AllOpen}
+use Rattle.flow_recv.specs.Keyed.{run_at, without_run, IsFirstFrom, ready_at}
+use Rattle.flow_recv.proofs.Placing.{in_low, at_in, is_some, has_run}
+use Rattle.flow_recv.proofs.Searching.{none_ready}
 
-pub first_here : (test : Run → Bool) (xs : List Run) (at : ℕ) (y : Run) → at < length xs → y ≡ get_or xs at y → test y ≡ true → first_of test (drop at xs) ≡ slice_get xs at
-first_here test [] at y lt e t = absurd (omega arith)
-first_here test (x ∷ xs) zero y lt e t = let f : test x ≡ true = ap test (sym e) ∙ t in rw f refl
-first_here test (x ∷ xs) (suc at) y lt e t = first_here test xs at y (omega arith) e t
+one_here : (y : Run) (later : List Run) → run_at y.first (y ∷ later) ≡ Some y
+one_here y later = ap (λ t. cond t (Some y) (run_at y.first later)) (eq-eqb y.first y.first refl)
 
-pub without_here : (test : Run → Bool) (xs : List Run) (at : ℕ) (y : Run) → at < length xs → y ≡ get_or xs at y → test y ≡ true → take at xs ++ without_first test (drop at xs) ≡ remove xs at
-without_here test [] at y lt e t = absurd (omega arith)
-without_here test (x ∷ xs) zero y lt e t = let f : test x ≡ true = ap test (sym e) ∙ t in rw f refl
-without_here test (x ∷ xs) (suc at) y lt e t = ap (λ zs. x ∷ zs) (without_here test xs at y (omega arith) e t)
+-- where no run begins anywhere
+pub nothing_ready : (test : Run → Bool) (runs : List Run) → IsFirstFrom 0 runs None → (None ≡ first_of test runs) × (runs ≡ without_first test runs)
+nothing_ready test [] b = (refl, refl)
+nothing_ready test (y ∷ later) b = let n : Some y ≡ None = sym (one_here y later) ∙ b y.first (omega arith) in absurd cc
 
-pub get_end : {X : Type 0} (xs : List X) (at : ℕ) → length xs ≤ at → slice_get xs at ≡ None
-get_end [] at le = refl
-get_end (x ∷ xs) zero le = absurd (omega arith)
-get_end (x ∷ xs) (suc at) le = get_end xs at (omega arith)
+head_first : (f : ℕ) (y : Run) (later : List Run) → InOrder 0 (y ∷ later) → IsFirstFrom 0 (y ∷ later) (Some f) → f ≡ y.first
+head_first f y later h b =
+    let le : f ≤ y.first = b.2 y.first (omega arith) (is_some (run_at y.first (y ∷ later)) y (one_here y later)) in
+    let z = has_run (run_at f (y ∷ later)) b.1 in
+    let i = at_in f (y ∷ later) z.0 z.1 in
+    let g = in_low y.first (y ∷ later) z.0 (omega arith, h.1, h.2) i.0 in
+    omega (arith, le, g.0, i.1)
 
-pub get_in : {X : Type 0} (xs : List X) (at : ℕ) (y : X) → at < length xs → y ≡ get_or xs at y → slice_get xs at ≡ Some y
-get_in [] at y lt e = absurd (omega arith)
-get_in (x ∷ xs) zero y lt e = ap (λ z. Some z) (sym e)
-get_in (x ∷ xs) (suc at) y lt e = get_in xs at y (omega arith) e
+head_at : (f : ℕ) (y : Run) (later : List Run) → f ≡ y.first → run_at f (y ∷ later) ≡ Some y
+head_at f y later e = ap (λ n. run_at n (y ∷ later)) e ∙ one_here y later
 
-pub first_end : (test : Run → Bool) (xs : List Run) (at : ℕ) → length xs ≤ at → first_of test (drop at xs) ≡ slice_get xs at
-first_end test [] zero le = refl
-first_end test [] (suc at) le = refl
-first_end test (x ∷ xs) zero le = absurd (omega arith)
-first_end test (x ∷ xs) (suc at) le = first_end test xs at (omega arith)
+-- where the first run isn't ready in queueing order
+pub not_ready_first : (through f : ℕ) (runs : List Run) → InOrder 0 runs → AllOpen through runs → IsFirstFrom 0 runs (Some f) → ready_at through (run_at f runs) ≡ false
+    → (None ≡ first_of (hands false through) runs) × (runs ≡ without_first (hands false through) runs)
+not_ready_first through f [] h o b e = (refl, refl)
+not_ready_first through f (y ∷ later) h o b e =
+    let n : hands false through y ≡ false = sym (ap (ready_at through) (head_at f y later (head_first f y later h b))) ∙ e in
+    let r = none_ready through y later h o n in (sym r.0, sym r.1)
 
-pub remove_end : {X : Type 0} (xs : List X) (at : ℕ) → length xs ≤ at → remove xs at ≡ xs
-remove_end [] zero le = refl
-remove_end [] (suc at) le = refl
-remove_end (x ∷ xs) zero le = absurd (omega arith)
-remove_end (x ∷ xs) (suc at) le = ap (λ zs. x ∷ zs) (remove_end xs at (omega arith))
+-- where it is
+pub ready_first : (through f : ℕ) (runs : List Run) → InOrder 0 runs → IsFirstFrom 0 runs (Some f) → ready_at through (run_at f runs) ≡ true
+    → (run_at f runs ≡ first_of (hands false through) runs) × (without_run f runs ≡ without_first (hands false through) runs)
+ready_first through f [] h b e = (refl, refl)
+ready_first through f (y ∷ later) h b e =
+    let s = head_first f y later h b in
+    let n : hands false through y ≡ true = sym (ap (ready_at through) (head_at f y later s)) ∙ e in (
+      head_at f y later s ∙ sym (ap (λ t. cond t (Some y) (first_of (hands false through) later)) n),
+      ap (λ t. cond t later (y ∷ without_run f later)) (eq-eqb y.first f (sym s)) ∙ sym (ap (λ t. cond t later (y ∷ without_first (hands false through) later)) n),
+    )
+
+held_if : (test : Run → Bool) (y r : Run) (later : List Run) (t : Bool) → cond t (Some y) (first_of test later) ≡ Some r → (first_of test later ≡ Some r → held_in (without_first test later) + length r.bytes ≡ held_in later)
+    → held_in (cond t later (y ∷ without_first test later)) + length r.bytes ≡ held_in (y ∷ later)
+held_if test y r later true e ih =
+    let b = ap (λ (o : Option Run). length (unwrap_or o y).bytes) e in
+    let g : held_in later + length r.bytes ≡ held_in (y ∷ later) = omega (arith, b, sum_by-cons (λ (z : Run). length z.bytes) y later) in g
+held_if test y r later false e ih =
+    let i = ih e in
+    let g : held_in (y ∷ without_first test later) + length r.bytes ≡ held_in (y ∷ later) = omega (arith, i, sum_by-cons (λ (z : Run). length z.bytes) y later, sum_by-cons (λ (z : Run). length z.bytes) y (without_first test later)) in g
+
+-- the bytes without the run that is handed over
+pub held_handed : (test : Run → Bool) (runs : List Run) (r : Run) → first_of test runs ≡ Some r → held_in (without_first test runs) + length r.bytes ≡ held_in runs
+held_handed test [] r e = absurd cc
+held_handed test (y ∷ later) r e = held_if test y r later (test y) e (λ f. held_handed test later r f)
+
+none_if : (test : Run → Bool) (y : Run) (later : List Run) (t : Bool) → cond t (Some y) (first_of test later) ≡ None → (first_of test later ≡ None → without_first test later ≡ later) → cond t later (y ∷ without_first test later) ≡ y ∷ later
+none_if test y later true e ih = absurd cc
+none_if test y later false e ih = ap (λ zs. y ∷ zs) (ih e)
+
+pub without_none : (test : Run → Bool) (runs : List Run) → first_of test runs ≡ None → without_first test runs ≡ runs
+without_none test [] e = refl
+without_none test (y ∷ later) e = none_if test y later (test y) e (λ f. without_none test later f)
 
 abbrev pub receiver : Bool → ℕ → List Span → List Run → Option ℕ → ℕ → Receiver
 receiver arriving through above runs last highest = record { arriving = arriving; spans = record { first = 0; last = through } ∷ above; runs = runs; last = last; highest = highest }
-
-pub next_is : (arriving : Bool) (through : ℕ) (above : List Span) (runs : List Run) (last : Option ℕ) (highest at : ℕ) (o : Option Run) → first_of (hands arriving through) runs ≡ slice_get runs at → slice_get runs at ≡ o
-    → option_map message_of o ≡ option_map message_of (next_run (receiver arriving through above runs last highest))
-next_is arriving through above runs last highest at o e f = ap (option_map message_of) (sym f ∙ sym e)
-
-pub rest_is : (arriving : Bool) (through : ℕ) (above : List Span) (runs : List Run) (last : Option ℕ) (highest at : ℕ) (left : List Run) → without_first (hands arriving through) runs ≡ remove runs at → remove runs at ≡ left
-    → receiver arriving through above left last highest ≡ handed_next (receiver arriving through above runs last highest)
-rest_is arriving through above runs last highest at left e f = ap (λ xs. receiver arriving through above xs last highest) (sym f ∙ sym e)
 
 pub message_eq : (n k : ℕ) (b d : List ℕ) → n ≡ k → b ≡ d → message n b ≡ message k d
 message_eq n k b d e f = cc

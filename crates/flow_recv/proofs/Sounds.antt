@@ -1,11 +1,13 @@
 -- What a chunk that isn't refused leaves is sound.
-use Rattle.std.proofs.Common.{◌≡◌, ℕ, ◌<◌, nat_le, max, cond, not, Bool, true, false, ◌||◌, List, ◌∷◌, Option, Some, None, refl, ap, sym, ◌∙◌, arith}
+use Rattle.std.proofs.Common.{◌≡◌, ℕ, ◌<◌, ◌+◌, nat_le, max, cond, Bool, true, false, List, ◌∷◌, Option, Some, None, refl, ap, sym, ◌∙◌, arith}
 use Rattle.std.specs.List.{filter}
 use Rattle.std.proofs.lemmas.Bool.{leb-true}
 use Rattle.flow_recv.specs.declared.spans.Span.{Span}
 use Rattle.rtmfp_data_chunks.specs.Runs.{Chunk, Run, single}
-use Rattle.flow_recv.specs.Receiver.{Receiver, span, living, is_alive, is_beside, add_run, holds, spans_forward, spans_after, runs_after, beyond_buffer, taken, may_hand, handed_next}
+use Rattle.flow_recv.specs.Receiver.{Receiver, span, add_run, holds, spans_forward, spans_after, runs_after, beyond_buffer, taken, may_hand, handed_next}
 use Rattle.flow_recv.specs.Sound.{Sound}
+use Rattle.flow_recv.specs.Keyed.{stays}
+use Rattle.flow_recv.proofs.Passing.{passed_living}
 use Rattle.flow_recv.proofs.Knowing.{apart_formed, apart_add, from_zero_add}
 use Rattle.flow_recv.proofs.Taking.{bound_after}
 use Rattle.flow_recv.proofs.Windows.{keeps_within}
@@ -16,22 +18,22 @@ abbrev pub held_runs : Receiver → Chunk → List Run
 held_runs r c = cond (holds r c) (add_run (single c.seq c.part c.bytes) r.runs) r.runs
 
 after_if : (r : Receiver) (c : Chunk) (t : ℕ) (above : List Span) (near : Bool) → r.spans ≡ span 0 t ∷ above → Sound r → near ≡ nat_le c.forward t
-    → cond near (filter (λ y. not (is_beside c.seq y) || is_alive (spans_after r c) y) (held_runs r c)) (living (spans_after r c) (held_runs r c)) ≡ runs_after r c
+    → filter (stays (spans_after r c) c.seq c.seq) (cond near (held_runs r c) (filter (stays (spans_after r c) (t + 1) c.forward) (held_runs r c))) ≡ runs_after r c
 after_if r c t above true e s n =
     let le = leb-true c.forward t (sym n) in
     beside_living (spans_after r c) r.spans c.seq (held_runs r c) (knows_more r c t above e (apart_formed r.spans s.apart) le) (near_held r c s.alive)
-after_if r c t above false e s n = refl
+after_if r c t above false e s n = passed_living r c t above (held_runs r c) e (apart_formed r.spans s.apart) (near_held r c s.alive)
 
 -- what the code leaves of the runs is what is kept of them
-pub runs_are : (r : Receiver) (c : Chunk) (t end : ℕ) (above new : List Span) (near : Bool) (held runs : List Run) → r.spans ≡ span 0 t ∷ above → Sound r → near ≡ nat_le c.forward t
+pub runs_are : (r : Receiver) (c : Chunk) (t end : ℕ) (above new : List Span) (held runs : List Run) → r.spans ≡ span 0 t ∷ above → Sound r
     → span 0 end ∷ new ≡ spans_after r c
     → held ≡ held_runs r c
-    → runs ≡ cond near (filter (λ y. not (is_beside c.seq y) || is_alive (span 0 end ∷ new) y) held) (living (span 0 end ∷ new) held)
+    → runs ≡ filter (stays (span 0 end ∷ new) c.seq c.seq) (cond (nat_le c.forward t) held (filter (stays (span 0 end ∷ new) (t + 1) c.forward) held))
     → runs ≡ runs_after r c
-runs_are r c t end above new near held runs e s n f h k =
+runs_are r c t end above new held runs e s f h k =
     k
-    ∙ (ap (λ (ss : List Span). cond near (filter (λ y. not (is_beside c.seq y) || is_alive ss y) held) (living ss held)) f
-    ∙ (ap (λ (ys : List Run). cond near (filter (λ y. not (is_beside c.seq y) || is_alive (spans_after r c) y) ys) (living (spans_after r c) ys)) h ∙ after_if r c t above near e s n))
+    ∙ (ap (λ (ss : List Span). filter (stays ss c.seq c.seq) (cond (nat_le c.forward t) held (filter (stays ss (t + 1) c.forward) held))) f
+    ∙ (ap (λ (ys : List Run). filter (stays (spans_after r c) c.seq c.seq) (cond (nat_le c.forward t) ys (filter (stays (spans_after r c) (t + 1) c.forward) ys))) h ∙ after_if r c t above (nat_le c.forward t) e s refl))
 
 pub taken_is : (r : Receiver) (c : Chunk) (spans : List Span) (runs : List Run) (last : Option ℕ) (highest : ℕ) → spans ≡ spans_after r c → runs ≡ runs_after r c
     → last ≡ cond c.last (Some c.seq) r.last → highest ≡ max c.seq r.highest

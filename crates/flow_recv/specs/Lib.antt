@@ -2,7 +2,7 @@ pub mod Receiver
 pub mod Outcome
 pub mod Acking
 pub mod Window
-pub mod Merging
 pub mod Sound
 pub mod Order
 pub mod Above
+pub mod Keyed

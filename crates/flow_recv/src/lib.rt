@@ -3,6 +3,7 @@
 
 mod above;
 mod acking;
+mod held;
 mod outcome;
 mod receiver;
 mod run;

@@ -5,7 +5,8 @@ ghost use Rattle.std.specs.List.{filter};
 ghost use Rattle.std.specs.Option.{option_map};
 ghost use Rattle.rtmfp_data_chunks.specs.Runs.{single, message_of};
 ghost use Rattle.rtmfp_data_chunks.specs.Taken.{chunk_of};
-ghost use Rattle.flow_recv.specs.Receiver.{Receiver, Apart, fresh, span, lacks, living, held_in, after_last, passes_buffer, add_run, add_span, beyond_buffer, taken, next_run, handed_next, is_alive, is_beside};
+ghost use Rattle.flow_recv.specs.Receiver.{Receiver, Apart, fresh, span, lacks, living, held_in, after_last, passes_buffer, add_run, add_span, beyond_buffer, taken, next_run, handed_next};
+ghost use Rattle.flow_recv.specs.Keyed.{IsFree, stays};
 ghost use Rattle.flow_recv.specs.Acking.{free_blocks, ack_head, ack_bytes, TellsStretches};
 ghost use Rattle.rtmfp_forms.specs.Outgoing.{packet_limit};
 ghost use Rattle.flow_recv.specs.Outcome.{refusal, took, message};
@@ -14,16 +15,15 @@ ghost use Rattle.flow_recv.specs.Order.{InOrder};
 
 use crate::above::Above;
 use crate::acking::{pairs_len, put_pairs};
+use crate::held::HeldRuns;
 use crate::outcome::{FlowRefusal, Took};
-use crate::run::HeldRun;
-use crate::runs::{add_run, bytes_in, drop_dead, drop_dead_beside, living_bytes, ready_at};
+use crate::runs::{add_run, drop_dead, dying_bytes, take_ready};
 use crate::spans::{Spot, lacks, mark_alone, mark_behind, mark_first, raise, raised, spot_of};
 use rtmfp_base::{Memory, Message};
 use rtmfp_data_chunks::UserData;
 use rtmfp_forms::{NoRoom, Outgoing};
 use rtmfp_vlu::vlu_len;
 use std::alloc::{AllocError, Global};
-use std::collections::VecDeque;
 use std::marker::Model;
 
 /// The first byte of the metadata of a flow whose messages are handed over as they arrive, an `a`.
@@ -37,7 +37,7 @@ pub struct FlowReceiver {
     arriving: bool,
     through: u64,
     above: Above,
-    runs: VecDeque<HeldRun>,
+    runs: HeldRuns,
     held: u64,
     last: Option<u64>,
     highest: u64,
@@ -50,9 +50,9 @@ impl Model for FlowReceiver {
 
     ghost Value = { Receiver };
 
-    ghost view = { λ r. record { arriving = r.arriving; spans = span 0 r.through ∷ r.above; runs = r.runs.items; last = r.last; highest = r.highest } };
+    ghost view = { λ r. record { arriving = r.arriving; spans = span 0 r.through ∷ r.above; runs = r.runs; last = r.last; highest = r.highest } };
 
-    ghost invariant = { λ r. Laid (record { arriving = r.arriving; spans = span 0 r.through ∷ r.above; runs = r.runs.items; last = r.last; highest = r.highest }) r.held };
+    ghost invariant = { λ r. Laid (record { arriving = r.arriving; spans = span 0 r.through ∷ r.above; runs = r.runs; last = r.last; highest = r.highest }) r.held };
 }
 
 impl FlowReceiver {
@@ -65,7 +65,7 @@ impl FlowReceiver {
             arriving: first_metadata == ARRIVING,
             through: 0,
             above: Above::new(alloc),
-            runs: VecDeque::new(alloc),
+            runs: HeldRuns::new(alloc),
             held: 0,
             last: None,
             highest: 0,
@@ -89,10 +89,10 @@ impl FlowReceiver {
             return Err(refusal);
         }
         let missing = lacks(self.through, &self.above, u128::from(chunk.seq));
-        let near = chunk.forward <= self.through;
+        let before = self.through;
         let Ok(end) = admit(
             self.alloc,
-            self.through,
+            before,
             &mut self.above,
             &mut self.runs,
             missing,
@@ -102,14 +102,15 @@ impl FlowReceiver {
         };
         self.through = end;
         let held = self.held + added_by(missing, chunk);
-        self.held = drop_after(
+        let dropped = drop_after(
             &mut self.runs,
-            held,
-            near,
+            before,
+            chunk.forward,
             chunk.seq,
             self.through,
             &self.above,
         );
+        self.held = held - dropped;
         self.last = last_after(self.last, chunk);
         self.highest = chunk.seq.max(self.highest);
         Ok(took_by(missing, chunk))
@@ -122,8 +123,7 @@ impl FlowReceiver {
         ensures rest { self.new ≡ handed_next self.old }
         ensures no_memory { IsOk result }
     {
-        let at = ready_at(&self.runs, self.arriving, self.through);
-        let Some(run) = self.runs.remove(at) else {
+        let Some(run) = take_ready(&mut self.runs, self.arriving, self.through) else {
             return Ok(None);
         };
         self.held -= run.len() as u64;
@@ -182,6 +182,10 @@ impl FlowReceiver {
         ensures { result ≡ beyond_buffer self.now (chunk_of chunk.now) }
     {
         let lowest = u128::from(raised(self.through, &self.above, chunk.forward)) + 1;
+        // As a rule the bytes fit with those that the forward number drops, and none of these have to be counted.
+        if !passes_buffer(lowest, self.held, chunk) {
+            return None;
+        }
         let held = held_after(
             &self.runs,
             self.held,
@@ -196,41 +200,53 @@ impl FlowReceiver {
 }
 
 /// The bytes held as if a forward number were taken.
-fn held_after(runs: &VecDeque<HeldRun>, held: u64, through: u64, above: &Above, forward: u64) -> u64
-    requires held { held ≡ held_in runs.now.items }
-    requires few { held_in runs.now.items < 2 ^ 32 }
+fn held_after(runs: &HeldRuns, held: u64, through: u64, above: &Above, forward: u64) -> u64
+    requires held { held ≡ held_in runs.now }
+    requires few { held_in runs.now < 2 ^ 32 }
     requires apart { Apart above.now }
-    requires alive { AllAlive (span 0 through ∷ above.now) runs.now.items }
-    ensures { result ≡ held_in (living (span 0 (max through forward) ∷ above.now) runs.now.items) }
+    requires order { InOrder 0 runs.now }
+    requires alive { AllAlive (span 0 through ∷ above.now) runs.now }
+    ensures { result ≡ held_in (living (span 0 (max through forward) ∷ above.now) runs.now) }
 {
     if forward <= through {
         return held;
     }
-    living_bytes(runs, forward, above)
+    held - dying_bytes(runs, through + 1, forward, forward, above)
 }
 
-/// Drops the runs that can't become messages any more after a chunk, near where only those beside it can be such.
-/// The answer is how many bytes the others hold.
+/// Drops the runs beside the numbers that a forward number passes and that can't become messages any more. The answer
+/// is how many bytes they held.
+fn drop_passed(runs: &mut HeldRuns, before: u64, forward: u64, through: u64, above: &Above) -> u64
+    requires apart { Apart above.now }
+    requires order { InOrder 0 runs.old }
+    requires few { held_in runs.old < 2 ^ 32 }
+    ensures kept { runs.new ≡ (if nat_le forward before then runs.old else filter (stays (span 0 through ∷ above.now) (before + 1) forward) runs.old) }
+    ensures dropped { held_in runs.new + result ≡ held_in runs.old }
+{
+    if forward <= before {
+        return 0;
+    }
+    drop_dead(runs, before + 1, forward, through, above)
+}
+
+/// Drops the runs that can't become messages any more after a chunk: those beside its number, and those beside the
+/// numbers that its forward number passes. The answer is how many bytes they held.
 fn drop_after(
-    runs: &mut VecDeque<HeldRun>,
-    held: u64,
-    near: bool,
+    runs: &mut HeldRuns,
+    before: u64,
+    forward: u64,
     number: u64,
     through: u64,
     above: &Above,
 ) -> u64
     requires apart { Apart above.now }
-    requires order { InOrder 0 runs.old.items }
-    requires held { held ≡ held_in runs.old.items }
-    requires few { held_in runs.old.items < 2 ^ 32 }
-    ensures kept { runs.new.items ≡ (if near then filter (λ y. not (is_beside number y) || is_alive (span 0 through ∷ above.now) y) runs.old.items else living (span 0 through ∷ above.now) runs.old.items) }
-    ensures held { result ≡ held_in runs.new.items }
+    requires order { InOrder 0 runs.old }
+    requires few { held_in runs.old < 2 ^ 32 }
+    ensures kept { runs.new ≡ filter (stays (span 0 through ∷ above.now) number number) (if nat_le forward before then runs.old else filter (stays (span 0 through ∷ above.now) (before + 1) forward) runs.old) }
+    ensures dropped { held_in runs.new + result ≡ held_in runs.old }
 {
-    if near {
-        return held - drop_dead_beside(runs, number, through, above);
-    }
-    drop_dead(runs, through, above);
-    bytes_in(runs)
+    let passed = drop_passed(runs, before, forward, through, above);
+    passed + drop_dead(runs, number, number, through, above)
 }
 
 /// How many bytes a chunk adds, where its number is missing.
@@ -250,17 +266,18 @@ fn admit(
     alloc: Global,
     through: u64,
     above: &mut Above,
-    runs: &mut VecDeque<HeldRun>,
+    runs: &mut HeldRuns,
     missing: bool,
     chunk: &UserData<'_>,
 ) -> Result<u64, AllocError>
-    requires order { InOrder 0 runs.old.items }
+    requires order { InOrder 0 runs.old }
+    requires free { missing ≡ true → IsFree chunk.now.seq runs.old }
     requires apart { Apart (span 0 through ∷ above.old) }
     requires missing { missing ≡ lacks (span 0 through ∷ above.old) chunk.now.seq }
     ensures spans { IfOk result (λ end. span 0 end ∷ above.new ≡ add_span chunk.now.seq chunk.now.seq (add_span 0 chunk.now.forward (span 0 through ∷ above.old))) }
-    ensures held { OnOk result (runs.new.items ≡ (if not chunk.now.abandon && missing then add_run (single chunk.now.seq chunk.now.part chunk.now.bytes.now) runs.old.items else runs.old.items)) }
+    ensures held { OnOk result (runs.new ≡ (if not chunk.now.abandon && missing then add_run (single chunk.now.seq chunk.now.part chunk.now.bytes.now) runs.old else runs.old)) }
     ensures same_spans { OnErr result (above.new ≡ above.old) }
-    ensures same_runs { OnErr result (runs.new.items ≡ runs.old.items) }
+    ensures same_runs { OnErr result (runs.new ≡ runs.old) }
     ensures quiet { missing ≡ false → IsOk result }
 {
     let forward = chunk.forward;
@@ -289,10 +306,11 @@ fn admit(
 }
 
 /// Holds the fragment of a chunk without abandon.
-fn hold(alloc: Global, runs: &mut VecDeque<HeldRun>, chunk: &UserData<'_>) -> Result<(), AllocError>
-    requires { InOrder 0 runs.old.items }
-    ensures held { OnOk result (runs.new.items ≡ (if not chunk.now.abandon then add_run (single chunk.now.seq chunk.now.part chunk.now.bytes.now) runs.old.items else runs.old.items)) }
-    ensures unchanged { OnErr result (runs.new.items ≡ runs.old.items) }
+fn hold(alloc: Global, runs: &mut HeldRuns, chunk: &UserData<'_>) -> Result<(), AllocError>
+    requires order { InOrder 0 runs.old }
+    requires free { IsFree chunk.now.seq runs.old }
+    ensures held { OnOk result (runs.new ≡ (if not chunk.now.abandon then add_run (single chunk.now.seq chunk.now.part chunk.now.bytes.now) runs.old else runs.old)) }
+    ensures unchanged { OnErr result (runs.new ≡ runs.old) }
 {
     if chunk.abandon {
         return Ok(());

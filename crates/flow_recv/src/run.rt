@@ -1,9 +1,9 @@
 //! A run: a stretch of held fragments that fit, with its bytes.
 
-ghost use Rattle.std.specs.Prelude.{◌≡◌, ◌+◌, ◌<◌, ◌≤◌, ◌^◌, ◌∷◌, [], IfOk, OnOk, OnErr, List, ◌++◌, length, nat_lt, ◌||◌};
+ghost use Rattle.std.specs.Prelude.{◌≡◌, ◌+◌, ◌<◌, ◌≤◌, ◌^◌, ◌∷◌, [], IfOk, OnOk, OnErr, List, ◌++◌, length, false};
 ghost use Rattle.rtmfp_data_chunks.specs.Runs.{fits, joined, single, is_whole, has_front, has_rear};
-ghost use Rattle.flow_recv.specs.Merging.{over};
-ghost use Rattle.flow_recv.specs.Receiver.{Apart, is_alive, is_beside, span, lacks, hands};
+ghost use Rattle.flow_recv.specs.Receiver.{Apart, is_alive, span, lacks, hands};
+ghost use Rattle.flow_recv.specs.Keyed.{is_between};
 
 use crate::above::Above;
 use crate::spans::lacks;
@@ -41,7 +41,7 @@ fn has_front(part: Part) -> bool
 }
 
 /// Whether a part ends a message.
-fn has_rear(part: Part) -> bool
+pub fn has_rear(part: Part) -> bool
     ensures { result ≡ has_rear part }
 {
     match part {
@@ -116,46 +116,43 @@ impl HeldRun {
         Ok(())
     }
 
-    /// Joins a fragment and the run that follows it to the rear.
-    pub fn append_both(&mut self, bytes: &[u8], later: &HeldRun) -> Result<(), AllocError>
-        ensures joined { OnOk result (self.new ≡ over self.old bytes.now later.now) }
+    /// Joins a run that follows it to the rear.
+    pub fn append_run(&mut self, later: &HeldRun) -> Result<(), AllocError>
+        ensures joined { OnOk result (self.new ≡ joined self.old later.now) }
         ensures unchanged { OnErr result (self.new ≡ self.old) }
     {
-        self.bytes
-            .reserve(bytes.len().saturating_add(later.bytes.len()))?;
-        self.bytes.extend_from_slice(bytes)?;
         self.bytes.extend_from_slice(&later.bytes)?;
         self.last = later.last;
         self.rear = later.rear;
         Ok(())
     }
 
-    /// Whether all lies before a number.
-    pub fn is_before(&self, number: u64) -> bool
-        ensures { result ≡ nat_lt self.now.last number }
+    /// Whether it begins a message.
+    pub fn has_front(&self) -> bool
+        ensures { result ≡ self.now.front }
     {
-        self.last < number
+        self.front
     }
 
-    /// Whether another number lies between it and a number.
-    pub fn is_far_before(&self, number: u64) -> bool
-        ensures { result ≡ nat_lt (self.now.last + 1) number }
+    /// Whether it ends a message.
+    pub fn has_rear(&self) -> bool
+        ensures { result ≡ self.now.rear }
     {
-        self.last < number && number - self.last > 1
+        self.rear
     }
 
     /// Whether it is a whole message.
-    fn is_whole(&self) -> bool
+    pub fn is_whole(&self) -> bool
         ensures { result ≡ is_whole self.now }
     {
         self.front && self.rear
     }
 
-    /// Whether it may be handed over, where no number through one is missing.
-    pub fn is_ready(&self, arriving: bool, through: u64) -> bool
-        ensures { result ≡ hands arriving through self.now }
+    /// Whether it may be handed over in queueing order, where no number through one is missing.
+    pub fn is_ready(&self, through: u64) -> bool
+        ensures { result ≡ hands false through self.now }
     {
-        self.is_whole() && (arriving || self.first <= through)
+        self.is_whole() && self.first <= through
     }
 
     pub fn first(&self) -> u64
@@ -177,11 +174,11 @@ impl HeldRun {
         self.bytes
     }
 
-    /// Whether it has a number or lies directly before or after it.
-    pub fn is_beside(&self, number: u64) -> bool
-        ensures { result ≡ is_beside number self.now }
+    /// Whether it has one of the numbers between two, or lies directly before or after one.
+    pub fn is_between(&self, low: u64, high: u64) -> bool
+        ensures { result ≡ is_between low high self.now }
     {
-        self.first.saturating_sub(1) <= number && u128::from(number) <= u128::from(self.last) + 1
+        self.first.saturating_sub(1) <= high && u128::from(low) <= u128::from(self.last) + 1
     }
 
     /// Whether it can still become a message: at an end that it lacks the next number is missing.

@@ -1,228 +1,283 @@
-//! The runs of a flow, by rising number.
+//! The runs of a flow: how a fragment joins them, which are dropped, and which is next.
 
-ghost use Rattle.std.specs.Prelude.{◌≡◌, ℕ, ◌+◌, ◌<◌, ◌≤◌, ◌^◌, ◌∷◌, [], IfOk, OnOk, OnErr, List, ◌++◌, length, slice_get, slice_index_or, nat_lt, take, drop, not, ◌||◌, ◌&&◌, true, false};
-ghost use Rattle.std.specs.List.{remove, filter, sum_by, AllWithin};
-ghost use Rattle.std.specs.VecDeque.{deque_len};
+ghost use Rattle.std.specs.Prelude.{◌≡◌, ℕ, ◌+◌, ◌<◌, ◌≤◌, ◌^◌, ◌∷◌, [], IfOk, IfSome, IsSome, OnOk, OnErr, List, length, not, ◌||◌, ◌==◌, None, true};
+ghost use Rattle.std.specs.List.{filter};
+ghost use Rattle.std.specs.Option.{IsSomeAnd};
 ghost use Rattle.rtmfp_data_chunks.specs.Runs.{fits, joined, single};
-ghost use Rattle.flow_recv.specs.Merging.{merged};
 ghost use Rattle.flow_recv.specs.Order.{InOrder, AllOpen};
-ghost use Rattle.flow_recv.specs.Receiver.{Apart, is_alive, is_beside, living, held_in, add_run, join_before, join_next, fits_first, span, lacks, hands, first_of, without_first};
+ghost use Rattle.flow_recv.specs.Keyed.{run_at, IsFree, IsFollowed, IsFollowing, is_between, stays, stays_at, dead_bytes, Reaches, followed_at, following_at, ready_at};
+ghost use Rattle.flow_recv.specs.Receiver.{Apart, held_in, add_run, span, hands, first_of, without_first};
 
 use crate::above::Above;
+use crate::held::HeldRuns;
 use crate::run::HeldRun;
 use rtmfp_data_chunks::Part;
 use std::alloc::{AllocError, Global};
-use std::collections::VecDeque;
 
-/// Drops the runs that can't become messages any more.
-pub fn drop_dead(runs: &mut VecDeque<HeldRun>, through: u64, above: &Above)
-    requires { Apart above.now }
-    ensures { runs.new.items ≡ living (span 0 through ∷ above.now) runs.old.items }
+/// The number that the run begins with which a fragment follows and fits.
+fn followed(runs: &HeldRuns, number: u64, part: Part) -> Option<u64>
+    requires { InOrder 0 runs.now }
+    ensures { IsFollowed (single number part []) runs.now result }
 {
-    runs.retain(|run| run.is_alive(through, above));
-}
-
-/// The place of the first run that ends directly before a number or later.
-fn reaching(runs: &VecDeque<HeldRun>, number: u64) -> usize
-    requires { InOrder 0 runs.now.items }
-    ensures inside { result ≤ length runs.now.items }
-    ensures before { AllWithin (λ y. nat_lt (y.last + 1) number ≡ true) runs.now.items 0 result }
-    ensures after { AllWithin (λ y. nat_lt (y.last + 1) number ≡ false) runs.now.items result (length runs.now.items) }
-{
-    runs.partition_point(|run| run.is_far_before(number))
-}
-
-/// Drops the run at a place. The answer is how many bytes it held.
-fn drop_at(runs: &mut VecDeque<HeldRun>, at: usize) -> u64
-    requires { at < deque_len runs.old }
-    ensures rest { runs.new.items ≡ remove runs.old.items at }
-    ensures held { held_in runs.new.items + result ≡ held_in runs.old.items }
-{
-    match runs.remove(at) {
-        Some(run) => run.len() as u64,
-        None => 0,
-    }
-}
-
-/// Drops those of the runs beside a number that can't become messages any more. The answer is how many bytes they
-/// held.
-pub fn drop_dead_beside(
-    runs: &mut VecDeque<HeldRun>,
-    number: u64,
-    through: u64,
-    above: &Above,
-) -> u64
-    requires apart { Apart above.now }
-    requires order { InOrder 0 runs.old.items }
-    requires few { held_in runs.old.items < 2 ^ 32 }
-    ensures kept { runs.new.items ≡ filter (λ y. not (is_beside number y) || is_alive (span 0 through ∷ above.now) y) runs.old.items }
-    ensures dropped { held_in runs.new.items + result ≡ held_in runs.old.items }
-{
-    let mut at = reaching(runs, number);
-    let mut dropped = 0;
-    while at < runs.len() && runs[at].is_beside(number) {
-        if runs[at].is_alive(through, above) {
-            at += 1;
-            continue;
-        }
-        dropped += drop_at(runs, at);
-    }
-    dropped
-}
-
-/// How many bytes the runs hold.
-pub fn bytes_in(runs: &VecDeque<HeldRun>) -> u64
-    requires { held_in runs.now.items < 2 ^ 32 }
-    ensures { result ≡ held_in runs.now.items }
-{
-    let mut sum = 0;
-    for at in 0..runs.len() {
-        sum += runs[at].len() as u64;
-    }
-    sum
-}
-
-/// How many bytes the runs hold that can still become messages.
-pub fn living_bytes(runs: &VecDeque<HeldRun>, through: u64, above: &Above) -> u64
-    requires few { held_in runs.now.items < 2 ^ 32 }
-    requires apart { Apart above.now }
-    ensures { result ≡ held_in (living (span 0 through ∷ above.now) runs.now.items) }
-{
-    let mut sum = 0;
-    for at in 0..runs.len() {
-        let run = &runs[at];
-        if run.is_alive(through, above) {
-            sum += run.len() as u64;
-        }
-    }
-    sum
-}
-
-/// The place among the runs where a fragment belongs: at the run that it follows and fits, or before those that
-/// come later.
-fn place(runs: &VecDeque<HeldRun>, number: u64, part: Part) -> usize
-    requires { InOrder 0 runs.now.items }
-    ensures inside { result ≤ length runs.now.items }
-    ensures added { (bytes : List ℕ) → add_run (single number part bytes) runs.now.items ≡ take result runs.now.items ++ join_before (single number part bytes) (drop result runs.now.items) }
-{
-    runs.partition_point(|run| !run.is_followed_by(number, part) && run.is_before(number))
-}
-
-/// Whether the run at a place follows a fragment and fits.
-fn next_fits(runs: &VecDeque<HeldRun>, at: usize, number: u64, part: Part) -> bool
-    ensures { result ≡ fits_first (single number part []) (drop at runs.now.items) }
-{
-    at < runs.len() && runs[at].follows(number, part)
-}
-
-/// Joins a fragment to the run at a place, and both to the run after it.
-fn merge(runs: &mut VecDeque<HeldRun>, at: usize, bytes: &[u8]) -> Result<(), AllocError>
-    requires { at + 1 < deque_len runs.old }
-    ensures merged { OnOk result (runs.new.items ≡ take at runs.old.items ++ merged bytes.now (drop at runs.old.items)) }
-    ensures unchanged { OnErr result (runs.new.items ≡ runs.old.items) }
-{
-    let Some(later) = runs.remove(at + 1) else {
-        return Ok(());
+    let Some(first) = runs.below(number) else {
+        return None;
     };
-    match runs[at].append_both(bytes, &later) {
-        Ok(()) => Ok(()),
-        Err(refused) => {
-            runs.insert(at + 1, later)?;
-            Err(refused)
-        }
+    if is_followed_at(runs, first, number, part) {
+        return Some(first);
+    }
+    None
+}
+
+/// Whether a fragment follows and fits the run that begins with a number.
+fn is_followed_at(runs: &HeldRuns, first: u64, number: u64, part: Part) -> bool
+    ensures { result ≡ followed_at (single number part []) (run_at first runs.now) }
+{
+    match runs.at(first) {
+        Some(run) => run.is_followed_by(number, part),
+        None => false,
+    }
+}
+
+/// The number that the run begins with which follows a fragment and fits.
+fn following(runs: &HeldRuns, number: u64, part: Part) -> Option<u64>
+    requires { InOrder 0 runs.now }
+    ensures { IsFollowing (single number part []) runs.now result }
+{
+    let Some(first) = runs.after(number) else {
+        return None;
+    };
+    if follows_at(runs, first, number, part) {
+        return Some(first);
+    }
+    None
+}
+
+/// Whether the run that begins with a number follows a fragment and fits.
+fn follows_at(runs: &HeldRuns, first: u64, number: u64, part: Part) -> bool
+    ensures { result ≡ following_at (single number part []) (run_at first runs.now) }
+{
+    match runs.at(first) {
+        Some(run) => run.follows(number, part),
+        None => false,
+    }
+}
+
+/// A fragment and the run that begins with a number.
+fn before(
+    alloc: Global,
+    runs: &HeldRuns,
+    later: u64,
+    number: u64,
+    part: Part,
+    bytes: &[u8],
+) -> Result<HeldRun, AllocError>
+    ensures { IfOk result (λ x. IfSome (run_at later runs.now) (λ z. x ≡ joined (single number part bytes.now) z)) }
+{
+    match runs.at(later) {
+        Some(run) => HeldRun::single_before(alloc, number, part, bytes, run),
+        None => HeldRun::single(alloc, number, part, bytes),
     }
 }
 
 /// Joins a fragment to the run that it follows and fits, and both to the run after it where that one fits.
 fn extend(
-    runs: &mut VecDeque<HeldRun>,
-    at: usize,
-    number: u64,
-    part: Part,
-    bytes: &[u8],
-) -> Result<(), AllocError>
-    requires inside { at < deque_len runs.old }
-    requires fits { fits (slice_index_or runs.old.items at (single number part [])) (single number part []) ≡ true }
-    ensures joined { OnOk result (runs.new.items ≡ take at runs.old.items ++ join_before (single number part bytes.now) (drop at runs.old.items)) }
-    ensures unchanged { OnErr result (runs.new.items ≡ runs.old.items) }
-{
-    if next_fits(runs, at + 1, number, part) {
-        return merge(runs, at, bytes);
-    }
-    runs[at].append(number, part, bytes)
-}
-
-/// Puts a fragment before the runs that come later, joined to the first of them where it fits.
-fn put(
     alloc: Global,
-    runs: &mut VecDeque<HeldRun>,
-    at: usize,
+    runs: &mut HeldRuns,
+    first: u64,
     number: u64,
     part: Part,
     bytes: &[u8],
 ) -> Result<(), AllocError>
-    requires { at ≤ deque_len runs.old }
-    ensures put { OnOk result (runs.new.items ≡ take at runs.old.items ++ join_next (single number part bytes.now) (drop at runs.old.items)) }
-    ensures unchanged { OnErr result (runs.new.items ≡ runs.old.items) }
+    requires order { InOrder 0 runs.old }
+    requires free { IsFree number runs.old }
+    requires fits { IsSomeAnd (run_at first runs.old) (λ y. fits y (single number part []) ≡ true) }
+    ensures added { OnOk result (runs.new ≡ add_run (single number part bytes.now) runs.old) }
+    ensures unchanged { OnErr result (runs.new ≡ runs.old) }
 {
-    if next_fits(runs, at, number, part) {
-        let run = HeldRun::single_before(alloc, number, part, bytes, &runs[at])?;
-        runs[at] = run;
-        return Ok(());
-    }
-    runs.insert(at, HeldRun::single(alloc, number, part, bytes)?)?;
+    let Some(later) = following(runs, number, part) else {
+        return runs.append(first, number, part, bytes);
+    };
+    let both = before(alloc, runs, later, number, part, bytes)?;
+    runs.append_run(first, &both)?;
+    runs.remove(later);
     Ok(())
 }
 
-/// Adds a fragment, and joins it to the runs that it fits. A fragment that follows a run is appended in place.
-pub fn add_run(
+/// Adds a fragment that follows and fits no run, joined to the run after it where that one fits.
+fn put(
     alloc: Global,
-    runs: &mut VecDeque<HeldRun>,
+    runs: &mut HeldRuns,
     number: u64,
     part: Part,
     bytes: &[u8],
 ) -> Result<(), AllocError>
-    requires { InOrder 0 runs.old.items }
-    ensures added { OnOk result (runs.new.items ≡ add_run (single number part bytes.now) runs.old.items) }
-    ensures unchanged { OnErr result (runs.new.items ≡ runs.old.items) }
+    requires order { InOrder 0 runs.old }
+    requires free { IsFree number runs.old }
+    requires apart { IsFollowed (single number part []) runs.old None }
+    ensures added { OnOk result (runs.new ≡ add_run (single number part bytes.now) runs.old) }
+    ensures unchanged { OnErr result (runs.new ≡ runs.old) }
 {
-    let at = place(runs, number, part);
-    if at < runs.len() && runs[at].is_followed_by(number, part) {
-        return extend(runs, at, number, part, bytes);
-    }
-    put(alloc, runs, at, number, part, bytes)
+    let Some(later) = following(runs, number, part) else {
+        return runs.insert(HeldRun::single(alloc, number, part, bytes)?);
+    };
+    runs.insert(before(alloc, runs, later, number, part, bytes)?)?;
+    runs.remove(later);
+    Ok(())
 }
 
-/// The place of the first run that may be handed over, or the number of runs. In queueing order that is the first
-/// run, or none is.
-pub fn ready_at(runs: &VecDeque<HeldRun>, arriving: bool, through: u64) -> usize
-    requires order { InOrder 0 runs.now.items }
-    requires open { AllOpen through runs.now.items }
-    ensures inside { result ≤ length runs.now.items }
-    ensures first { first_of (hands arriving through) runs.now.items ≡ slice_get runs.now.items result }
-    ensures rest { without_first (hands arriving through) runs.now.items ≡ remove runs.now.items result }
+/// Adds a fragment whose number no run has, and joins it to the runs that it fits. One that follows a run is appended
+/// in place.
+pub fn add_run(
+    alloc: Global,
+    runs: &mut HeldRuns,
+    number: u64,
+    part: Part,
+    bytes: &[u8],
+) -> Result<(), AllocError>
+    requires order { InOrder 0 runs.old }
+    requires free { IsFree number runs.old }
+    ensures added { OnOk result (runs.new ≡ add_run (single number part bytes.now) runs.old) }
+    ensures unchanged { OnErr result (runs.new ≡ runs.old) }
+{
+    match followed(runs, number, part) {
+        Some(first) => extend(alloc, runs, first, number, part, bytes),
+        None => put(alloc, runs, number, part, bytes),
+    }
+}
+
+/// Where a walk begins that looks at the runs from a number on, and at the one directly before it.
+fn reaching(runs: &HeldRuns, low: u64) -> Option<u64>
+    requires { InOrder 0 runs.now }
+    ensures { Reaches low runs.now result }
+{
+    match runs.below(low) {
+        Some(first) => Some(first),
+        None => runs.from(low),
+    }
+}
+
+/// Whether the run that begins with a number stays, if these numbers came to be known.
+fn stays_at(runs: &HeldRuns, first: u64, low: u64, high: u64, through: u64, above: &Above) -> bool
+    requires { Apart above.now }
+    ensures { result ≡ stays_at (span 0 through ∷ above.now) low high (run_at first runs.now) }
+{
+    match runs.at(first) {
+        Some(run) => !run.is_between(low, high) || run.is_alive(through, above),
+        None => true,
+    }
+}
+
+/// Drops the run that begins with a number, unless it stays. The answer is how many bytes it held.
+fn drop_unless_stays(
+    runs: &mut HeldRuns,
+    first: u64,
+    low: u64,
+    high: u64,
+    through: u64,
+    above: &Above,
+) -> u64
+    requires apart { Apart above.now }
+    requires order { InOrder 0 runs.old }
+    ensures kept { runs.new ≡ filter (λ y. not (y.first == first) || stays (span 0 through ∷ above.now) low high y) runs.old }
+    ensures dropped { held_in runs.new + result ≡ held_in runs.old }
+{
+    if stays_at(runs, first, low, high, through, above) {
+        return 0;
+    }
+    match runs.remove(first) {
+        Some(run) => run.len() as u64,
+        None => 0,
+    }
+}
+
+/// How many bytes the run that begins with a number holds, unless it stays.
+fn bytes_unless_stays(
+    runs: &HeldRuns,
+    first: u64,
+    low: u64,
+    high: u64,
+    through: u64,
+    above: &Above,
+) -> u64
+    requires { Apart above.now }
+    ensures { result ≡ dead_bytes (stays (span 0 through ∷ above.now) low high) (run_at first runs.now) }
+{
+    match runs.at(first) {
+        Some(run) => {
+            if run.is_between(low, high) && !run.is_alive(through, above) {
+                return run.len() as u64;
+            }
+            0
+        }
+        None => 0,
+    }
+}
+
+/// Drops those of the runs that have one of the numbers between two or lie beside one, and that can't become messages
+/// any more. The answer is how many bytes they held.
+pub fn drop_dead(runs: &mut HeldRuns, low: u64, high: u64, through: u64, above: &Above) -> u64
+    requires apart { Apart above.now }
+    requires order { InOrder 0 runs.old }
+    requires few { held_in runs.old < 2 ^ 32 }
+    ensures kept { runs.new ≡ filter (stays (span 0 through ∷ above.now) low high) runs.old }
+    ensures dropped { held_in runs.new + result ≡ held_in runs.old }
+{
+    let mut next = reaching(runs, low);
+    let mut dropped = 0;
+    while let Some(first) = next {
+        if first.saturating_sub(1) > high {
+            break;
+        }
+        dropped += drop_unless_stays(runs, first, low, high, through, above);
+        next = runs.after(first);
+    }
+    dropped
+}
+
+/// How many bytes those runs hold.
+pub fn dying_bytes(runs: &HeldRuns, low: u64, high: u64, through: u64, above: &Above) -> u64
+    requires apart { Apart above.now }
+    requires order { InOrder 0 runs.now }
+    requires few { held_in runs.now < 2 ^ 32 }
+    ensures { held_in (filter (stays (span 0 through ∷ above.now) low high) runs.now) + result ≡ held_in runs.now }
+{
+    let mut next = reaching(runs, low);
+    let mut dying = 0;
+    while let Some(first) = next {
+        if first.saturating_sub(1) > high {
+            break;
+        }
+        dying += bytes_unless_stays(runs, first, low, high, through, above);
+        next = runs.after(first);
+    }
+    dying
+}
+
+/// Whether the run that begins with a number may be handed over in queueing order.
+fn is_ready_at(runs: &HeldRuns, first: u64, through: u64) -> bool
+    ensures { result ≡ ready_at through (run_at first runs.now) }
+{
+    match runs.at(first) {
+        Some(run) => run.is_ready(through),
+        None => false,
+    }
+}
+
+/// Takes out the first run that may be handed over. In queueing order that is the first run, or none is.
+pub fn take_ready(runs: &mut HeldRuns, arriving: bool, through: u64) -> Option<HeldRun>
+    requires order { InOrder 0 runs.old }
+    requires open { AllOpen through runs.old }
+    ensures run { result ≡ first_of (hands arriving through) runs.old }
+    ensures rest { runs.new ≡ without_first (hands arriving through) runs.old }
 {
     if arriving {
-        return whole_at(runs, through);
+        return runs.take_whole();
     }
-    if runs.len() == 0 {
-        return 0;
+    let Some(first) = runs.from(0) else {
+        return None;
+    };
+    if !is_ready_at(runs, first, through) {
+        return None;
     }
-    if runs[0].is_ready(false, through) {
-        return 0;
-    }
-    runs.len()
-}
-
-/// The place of the first run that may be handed over in arrival order, or the number of runs.
-fn whole_at(runs: &VecDeque<HeldRun>, through: u64) -> usize
-    ensures inside { result ≤ length runs.now.items }
-    ensures first { first_of (hands true through) runs.now.items ≡ slice_get runs.now.items result }
-    ensures rest { without_first (hands true through) runs.now.items ≡ remove runs.now.items result }
-{
-    let mut at = 0;
-    while at < runs.len() && !runs[at].is_ready(true, through) {
-        at += 1;
-    }
-    at
+    runs.remove(first)
 }

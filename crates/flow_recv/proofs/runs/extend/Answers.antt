@@ -1,20 +1,17 @@
-use Rattle.std.proofs.Common.{◌≡◌, ◌+◌, ◌<◌, suc, [], length, get_or, set, drop, true, false, ap, sym, ◌∙◌, arith}
-use Rattle.rtmfp_data_chunks.specs.Runs.{Run, single, fits}
-use Rattle.flow_recv.specs.Receiver.{fits_first}
-use Rattle.flow_recv.proofs.Joining.{append_is, any_default, on_ok}
+use Rattle.std.proofs.Common.{refl, ap, ◌∙◌}
+use Rattle.rtmfp_data_chunks.specs.Runs.{single}
+use Rattle.flow_recv.specs.Keyed.{without_run}
+use Rattle.flow_recv.proofs.Joining.{on_ok}
+use Rattle.flow_recv.proofs.Placing.{extended_one, extended_both}
 use Rattle.flow_recv.proofs.runs.extend.Goals as goal
 
-pub returns-clause-joined : goal.returns-clause-joined
-returns-clause-joined c =
-    let xs = c.args.runs.now.items in
-    let at = c.args.at in
+pub returns-in_default-clause-added : goal.returns-in_default-clause-added
+returns-in_default-clause-added c =
+    on_ok c.append.result (λ j. j ∙ extended_one c.args.runs.now (single c.args.number c.args.part c.args.bytes.now) c.args.first c.requires.order c.requires.fits c.in_default.ensures) c.append.ensures.appended
+
+pub returns-clause-added : goal.returns-clause-added
+returns-clause-added c =
     let one = single c.args.number c.args.part c.args.bytes.now in
-    let bare = single c.args.number c.args.part [] in
-    let y = c.index_mut.result.now in
-    let n : at + 1 ≡ suc at = omega arith in
-    let lt : at < length xs = omega (arith, c.args.runs.now.ok) in
-    let e : y ≡ get_or xs at bare = c.index_mut.ensures.value ∙ any_default xs at y bare lt in
-    let f : fits y bare ≡ true = ap (λ (a : Run). fits a bare) e ∙ c.requires.fits in
-    let none : fits_first bare (drop (suc at) xs) ≡ false =
-    ap (λ i. fits_first bare (drop i xs)) (sym n) ∙ (sym c.next_fits.ensures ∙ c.if-next_fits.false) in
-    on_ok c.append.result (λ j. ap (λ (v : Run). set xs at v) j ∙ append_is xs at c.args.number c.args.part c.args.bytes.now y y lt c.index_mut.ensures.value f none) c.append.ensures.joined
+    c.remove.ensures.rest
+    ∙ (ap (without_run c.in-Some.later) c.in_ok-append_run.ensures.appended
+    ∙ extended_both c.args.runs.now one c.in_ok-both.both c.args.first c.in-Some.later refl c.requires.order c.requires.free c.requires.fits c.in-Some.ensures c.in_ok-both.ensures)

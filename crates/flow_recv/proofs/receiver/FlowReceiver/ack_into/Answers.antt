@@ -20,8 +20,8 @@ returns-clause-ok c =
     let i = c.self.inside in
     let o = c.args.out.now in
     let flow = c.args.flow in
-    let r : Receiver = record { arriving = i.arriving; spans = span 0 i.through ∷ i.above; runs = i.runs.items; last = i.last; highest = i.highest } in
-    let blocks : c.free_blocks-blocks.result ≡ free_blocks (held_in i.runs.items) = c.free_blocks-blocks.ensures ∙ ap (λ (x : Receiver). free_blocks (held_in x.runs)) (sym c.self.view_is) in
+    let r : Receiver = record { arriving = i.arriving; spans = span 0 i.through ∷ i.above; runs = i.runs; last = i.last; highest = i.highest } in
+    let blocks : c.free_blocks-blocks.result ≡ free_blocks (held_in i.runs) = c.free_blocks-blocks.ensures ∙ ap (λ (x : Receiver). free_blocks (held_in x.runs)) (sym c.self.view_is) in
     let l : List ℕ = c.to_be_bytes.result in
     let head : ℕ = c.vlu_len.result + c.vlu_len-2.result + c.vlu_len-3.result in
     let room : ℕ = c.room-2.result - 3 - head in
@@ -30,8 +30,8 @@ returns-clause-ok c =
     c.append_vlu-3.ensures ∙ ap (λ (x : List ℕ). x ++ vlu i.through) (c.append_vlu-2.ensures ∙ ap (λ (x : List ℕ). x ++ vlu c.free_blocks-blocks.result) (c.append_vlu.ensures ∙ ap (λ (x : List ℕ). x ++ vlu flow) (c.append-2.ensures ∙ ap (λ (x : List ℕ). x ++ l) c.append.ensures))) in
     let put : c.put_pairs.new.out ≡ (((((o ++ 81 ∷ []) ++ l) ++ vlu flow) ++ vlu c.free_blocks-blocks.result) ++ vlu i.through) ++ q =
     c.put_pairs.ensures ∙ ap (λ (x : List ℕ). x ++ q) first in
-    let same : vlu c.free_blocks-blocks.result ≡ vlu (free_blocks (held_in i.runs.items)) = ap vlu blocks in
-    let long : head ≡ length (ack_head flow r) = omega (arith, c.vlu_len.ensures.length, c.vlu_len-2.ensures.length, c.vlu_len-3.ensures.length, ap (λ (x : List ℕ). length x) same, length-append (vlu flow ++ vlu (free_blocks (held_in i.runs.items))) (vlu i.through), length-append (vlu flow) (vlu (free_blocks (held_in i.runs.items)))) in
+    let same : vlu c.free_blocks-blocks.result ≡ vlu (free_blocks (held_in i.runs)) = ap vlu blocks in
+    let long : head ≡ length (ack_head flow r) = omega (arith, c.vlu_len.ensures.length, c.vlu_len-2.ensures.length, c.vlu_len-3.ensures.length, ap (λ (x : List ℕ). length x) same, length-append (vlu flow ++ vlu (free_blocks (held_in i.runs))) (vlu i.through), length-append (vlu flow) (vlu (free_blocks (held_in i.runs)))) in
     let left : room ≡ packet_limit - length o - 3 - length (ack_head flow r) = omega (arith, long, c.room-2.ensures) in
     let fit : q ≡ pairs_in (packet_limit - length o - 3 - length (ack_head flow r)) i.through i.above = ap (λ n. pairs_in n i.through i.above) left in
     let found : c.pairs_len.result ≡ length (pairs_in (packet_limit - length o - 3 - length (ack_head flow r)) i.through i.above) =
@@ -49,7 +49,7 @@ pub returns-clause-tells : goal.returns-clause-tells
 returns-clause-tells c =
     let i = c.self.inside in
     let o = c.args.out.now in
-    let r : Receiver = record { arriving = i.arriving; spans = span 0 i.through ∷ i.above; runs = i.runs.items; last = i.last; highest = i.highest } in
+    let r : Receiver = record { arriving = i.arriving; spans = span 0 i.through ∷ i.above; runs = i.runs; last = i.last; highest = i.highest } in
     let a = c.self.invariant.sound.apart in
     let top : i.highest < 2 ^ 64 = omega arith in
     let fit = all_fit i.highest r.spans top (apart_formed r.spans a) c.self.invariant.top in
@@ -59,7 +59,7 @@ pub returns-then-room-head-clause-tells : goal.returns-then-room-head-clause-tel
 returns-then-room-head-clause-tells c =
     let i = c.self.inside in
     let o = c.args.out.now in
-    let r : Receiver = record { arriving = i.arriving; spans = span 0 i.through ∷ i.above; runs = i.runs.items; last = i.last; highest = i.highest } in
+    let r : Receiver = record { arriving = i.arriving; spans = span 0 i.through ∷ i.above; runs = i.runs; last = i.last; highest = i.highest } in
     let a = c.self.invariant.sound.apart in
     let top : i.highest < 2 ^ 64 = omega arith in
     let fit = all_fit i.highest r.spans top (apart_formed r.spans a) c.self.invariant.top in

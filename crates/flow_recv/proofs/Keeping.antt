@@ -1,0 +1,433 @@
+-- The runs as a map by their first numbers, and the numbers of those that are whole.
+use Rattle.std.proofs.Common.{◌≡◌, ℕ, ◌+◌, ◌<◌, ◌≤◌, nat_lt, ◌==◌, cond, Bool, true, false, ◌&&◌, List, [], ◌∷◌, length, Option, Some, None, refl, ap, sym, ◌∙◌, subst, arith, inl, inr}
+use Rattle.std.specs.Prelude.{IfSome}
+use Rattle.std.specs.Ordering.{nat_cmp, is_eq, match_ordering}
+use Rattle.std.specs.declared.cmp.Ordering.TheVariants.{Less, Equal, Greater}
+use Rattle.std.specs.List.{AllByRecursion}
+use Rattle.std.specs.List.Sorted.{IsStrictlySortedBy}
+use Rattle.std.specs.Map.{keys_of, values_of, lookup, remove_entry, set_value}
+use Rattle.std.specs.BTreeMap.{insert_entry, is_at}
+use Rattle.std.specs.BTreeSet.{insert_key}
+use Rattle.std.specs.Set.{remove_key}
+use Rattle.std.proofs.lemmas.Map.Keys.{sorted_head, sorted_tail}
+use Rattle.std.proofs.lemmas.Bool.{cases_Bool, cases_lt, ltb-true, ltb-false, lt-ltb, le-ltb, ne_eqb, eqb-true, eq-eqb}
+use Rattle.rtmfp_data_chunks.specs.Runs.{Run, is_whole, joined, fits}
+use Rattle.flow_recv.specs.Receiver.{first_of, without_first}
+use Rattle.flow_recv.proofs.Bounds.{fits_parts}
+use Rattle.flow_recv.specs.Keyed.{run_at, without_run, with_run, changed_run, changed_entry, front_of, keyed, whole_firsts, IsKept}
+
+-- ---- how numbers compare
+
+less_if : (l e : Bool) → cond l Less (cond e Equal Greater) ≡ Less → l ≡ true
+less_if true e f = refl
+less_if false true f = absurd cc
+less_if false false f = absurd cc
+
+pub less_lt : (n k : ℕ) → nat_cmp n k ≡ Less → n < k
+less_lt n k e = ltb-true n k (less_if (nat_lt n k) (n == k) e)
+
+pub lt_less : (n k : ℕ) → n < k → nat_cmp n k ≡ Less
+lt_less n k lt = rw (lt-ltb n k lt) refl
+
+gt_greater : (n k : ℕ) → k < n → nat_cmp n k ≡ Greater
+gt_greater n k lt = rw (le-ltb n k (omega (arith, lt)), ne_eqb n k (λ e. omega (arith, e, lt))) refl
+
+pub eq_equal : (n k : ℕ) → n ≡ k → nat_cmp n k ≡ Equal
+eq_equal n k e = rw (le-ltb n k (omega (arith, e)), eq-eqb n k e) refl
+
+-- whether a key is a number, as a map asks
+abbrev pub is_key : ℕ → ℕ → Bool
+is_key n k = is_at (nat_cmp n) k
+
+pub is_key_is : (n k : ℕ) → is_key n k ≡ (k == n)
+is_key_is n k = elim (cases_lt n k) [
+  | inl lt ↦ ap is_eq (lt_less n k lt) ∙ sym (ne_eqb k n (λ e. omega (arith, e, lt)))
+  | inr ge ↦ elim (cases_lt k n) [
+    | inl lt ↦ ap is_eq (gt_greater n k lt) ∙ sym (ne_eqb k n (λ e. omega (arith, e, lt)))
+    | inr le ↦ ap is_eq (eq_equal n k (omega (arith, ge, le))) ∙ sym (eq-eqb k n (omega (arith, ge, le)))
+  ]
+]
+
+-- ---- the entries of a map
+
+pub values_keyed : (xs : List Run) → values_of (keyed xs) ≡ xs
+values_keyed [] = refl
+values_keyed (y ∷ later) = ap (λ zs. y ∷ zs) (values_keyed later)
+
+pub lookup_keyed : (n : ℕ) (xs : List Run) → lookup (is_key n) (keyed xs) ≡ run_at n xs
+lookup_keyed n [] = refl
+lookup_keyed n (y ∷ later) =
+    ap (λ t. cond t (Some y) (lookup (is_key n) (keyed later))) (is_key_is n y.first) ∙ ap (λ o. cond (y.first == n) (Some y) o) (lookup_keyed n later)
+
+remove_if : (n : ℕ) (y : Run) (later : List Run) (zs : List Run) (t : Bool) → cond t (keyed later) ((y.first, y) ∷ keyed zs) ≡ keyed (cond t later (y ∷ zs))
+remove_if n y later zs true = refl
+remove_if n y later zs false = refl
+
+pub remove_keyed : (n : ℕ) (xs : List Run) → remove_entry (is_key n) (keyed xs) ≡ keyed (without_run n xs)
+remove_keyed n [] = refl
+remove_keyed n (y ∷ later) =
+    ap (λ t. cond t (keyed later) ((y.first, y) ∷ remove_entry (is_key n) (keyed later))) (is_key_is n y.first)
+    ∙ (ap (λ es. cond (y.first == n) (keyed later) ((y.first, y) ∷ es)) (remove_keyed n later) ∙ remove_if n y later (without_run n later) (y.first == n))
+
+none_if : (y : Run) (o : Option Run) (t : Bool) → cond t (Some y) o ≡ None → (t ≡ false) × (o ≡ None)
+none_if y o true e = absurd cc
+none_if y o false e = (refl, e)
+
+insert_if : (n k : ℕ) (v : Run) (es fs : List (ℕ × Run)) → (k ≡ n → ⊥) → (xs : List Run) (y : Run) (zs : List Run) → k ≡ y.first → es ≡ keyed xs → fs ≡ keyed zs → n ≡ v.first
+    → match_ordering (nat_cmp n k) ((n, v) ∷ (k, y) ∷ es) ((k, v) ∷ es) ((k, y) ∷ fs) ≡ keyed (cond (nat_lt n k) (v ∷ y ∷ xs) (y ∷ zs))
+insert_if n k v es fs ne xs y zs e f g h = elim (cases_lt n k) [
+  | inl lt ↦ rw (lt_less n k lt, lt-ltb n k lt) (ap (λ m. (m, v) ∷ (k, y) ∷ es) h ∙ (ap (λ m. (v.first, v) ∷ (m, y) ∷ es) e ∙ ap (λ ds. (v.first, v) ∷ (y.first, y) ∷ ds) f))
+  | inr ge ↦
+      let gt : k < n = elim (cases_lt k n) [ inl lt ↦ lt | inr le ↦ absurd (ne (omega (arith, ge, le))) ] in
+      rw (gt_greater n k gt, le-ltb n k ge) (ap (λ m. (m, y) ∷ fs) e ∙ ap (λ ds. (y.first, y) ∷ ds) g)
+]
+
+pub insert_keyed : (x : Run) (xs : List Run) → run_at x.first xs ≡ None → insert_entry nat_cmp (keyed xs) x.first x ≡ keyed (with_run x xs)
+insert_keyed x [] e = refl
+insert_keyed x (y ∷ later) e =
+    let p = none_if y (run_at x.first later) (y.first == x.first) e in
+    insert_if x.first y.first x (keyed later) (insert_entry nat_cmp (keyed later) x.first x) (λ s. let t : true ≡ false = sym (eq-eqb y.first x.first s) ∙ p.0 in absurd cc) later y (with_run x later) refl refl (insert_keyed x later p.1) refl
+
+changed_if : (f : Run → Run) (y : Run) (later zs : List Run) (t : Bool) → (f y).first ≡ y.first → cond t ((y.first, f y) ∷ keyed later) ((y.first, y) ∷ keyed zs) ≡ keyed (cond t (f y ∷ later) (y ∷ zs))
+changed_if f y later zs true e = ap (λ m. (m, f y) ∷ keyed later) (sym e)
+changed_if f y later zs false e = refl
+
+pub changed_keyed : (f : Run → Run) (n : ℕ) (xs : List Run) → ((y : Run) → (f y).first ≡ y.first) → changed_entry f n (keyed xs) ≡ keyed (changed_run f n xs)
+changed_keyed f n [] h = refl
+changed_keyed f n (y ∷ later) h =
+    ap (λ es. cond (y.first == n) ((y.first, f y) ∷ keyed later) ((y.first, y) ∷ es)) (changed_keyed f n later h) ∙ changed_if f y later (changed_run f n later) (y.first == n) (h y)
+
+-- what was looked up, changed and written back
+set_if : (f : Run → Run) (n : ℕ) (e : ℕ × Run) (es : List (ℕ × Run)) (y : Run) (t u : Bool) → t ≡ u → cond t (Some e.1) (lookup (is_key n) es) ≡ Some y
+    → (lookup (is_key n) es ≡ Some y → set_value (is_key n) es (f y) ≡ changed_entry f n es)
+    → cond t ((e.0, f y) ∷ es) (e ∷ set_value (is_key n) es (f y)) ≡ cond u ((e.0, f e.1) ∷ es) (e ∷ changed_entry f n es)
+set_if f n e es y true true s h ih = let g : Some e.1 ≡ Some y = h in ap (λ v. (e.0, f v) ∷ es) (sym (some_eq e.1 y g))
+  where
+    some_eq : (a b : Run) → Some a ≡ Some b → a ≡ b
+    some_eq a b k = ap (λ (o : Option Run). Rattle.std.specs.Option.unwrap_or o a) k
+set_if f n e es y false false s h ih = ap (λ ds. e ∷ ds) (ih h)
+set_if f n e es y true false s h ih = absurd cc
+set_if f n e es y false true s h ih = absurd cc
+
+pub set_changed : (f : Run → Run) (n : ℕ) (es : List (ℕ × Run)) (y : Run) → lookup (is_key n) es ≡ Some y → set_value (is_key n) es (f y) ≡ changed_entry f n es
+set_changed f n [] y h = refl
+set_changed f n (e ∷ es) y h = set_if f n e es y (is_key n e.0) (e.0 == n) (is_key_is n e.0) h (λ g. set_changed f n es y g)
+
+same_if : (f : Run → Run) (n : ℕ) (e : ℕ × Run) (es : List (ℕ × Run)) (t u : Bool) → t ≡ u → cond t (Some e.1) (lookup (is_key n) es) ≡ None
+    → (lookup (is_key n) es ≡ None → changed_entry f n es ≡ es) → cond u ((e.0, f e.1) ∷ es) (e ∷ changed_entry f n es) ≡ e ∷ es
+same_if f n e es true u s h ih = absurd cc
+same_if f n e es false true s h ih = absurd cc
+same_if f n e es false false s h ih = ap (λ ds. e ∷ ds) (ih h)
+
+pub changed_none : (f : Run → Run) (n : ℕ) (es : List (ℕ × Run)) → lookup (is_key n) es ≡ None → changed_entry f n es ≡ es
+changed_none f n [] h = refl
+changed_none f n (e ∷ es) h = same_if f n e es (is_key n e.0) (e.0 == n) (is_key_is n e.0) h (λ g. changed_none f n es g)
+
+-- ---- the first numbers rise
+
+abbrev pub Rising : ℕ → List Run → Type 0
+Rising low [] = Unit {0}
+Rising low (y ∷ later) = (low ≤ y.first) × Rising (y.first + 1) later
+
+rising_from : (k : ℕ) (xs : List Run) → AllByRecursion (λ q. nat_cmp k q ≡ Less) (keys_of (keyed xs)) → IsStrictlySortedBy nat_cmp (keys_of (keyed xs)) → Rising (k + 1) xs
+rising_from k [] a s = tt
+rising_from k (y ∷ later) a s =
+    let lt = less_lt k y.first a.0 in (
+      omega (arith, lt),
+      rising_from y.first later (sorted_head nat_cmp y.first (keys_of (keyed later)) s) (sorted_tail nat_cmp y.first (keys_of (keyed later)) s),
+    )
+
+pub rising_keyed : (xs : List Run) → IsStrictlySortedBy nat_cmp (keys_of (keyed xs)) → Rising 0 xs
+rising_keyed [] s = tt
+rising_keyed (y ∷ later) s = (
+  omega arith,
+  rising_from y.first later (sorted_head nat_cmp y.first (keys_of (keyed later)) s) (sorted_tail nat_cmp y.first (keys_of (keyed later)) s),
+)
+
+abbrev pub Above : ℕ → List ℕ → Type 0
+Above low [] = Unit {0}
+Above low (k ∷ ks) = (low ≤ k) × Above (k + 1) ks
+
+above_less : (a b : ℕ) (ks : List ℕ) → a ≤ b → Above b ks → Above a ks
+above_less a b [] le h = tt
+above_less a b (k ∷ ks) le h = (omega (arith, le, h.0), h.1)
+
+above_if : (low : ℕ) (y : Run) (ks : List ℕ) (t : Bool) → low ≤ y.first → Above (y.first + 1) ks → Above low (cond t (y.first ∷ ks) ks)
+above_if low y ks true le h = (le, h)
+above_if low y ks false le h = above_less low (y.first + 1) ks (omega (arith, le)) h
+
+whole_above : (low : ℕ) (xs : List Run) → Rising low xs → Above low (whole_firsts xs)
+whole_above low [] h = tt
+whole_above low (y ∷ later) h = above_if low y (whole_firsts later) (is_whole y) h.0 (whole_above (y.first + 1) later h.1)
+
+pub at_below : (n low : ℕ) (xs : List Run) → n < low → Rising low xs → run_at n xs ≡ None
+at_below n low [] lt h = refl
+at_below n low (y ∷ later) lt h = rw (ne_eqb y.first n (λ e. omega (arith, e, lt, h.0))) (at_below n (y.first + 1) later (omega (arith, lt, h.0)) h.1)
+
+-- ---- the numbers of the whole runs
+
+insert_low : (n low : ℕ) (ks : List ℕ) → n < low → Above low ks → insert_key nat_cmp ks n ≡ n ∷ ks
+insert_low n low [] lt h = refl
+insert_low n low (k ∷ ks) lt h = rw (lt_less n k (omega (arith, lt, h.0))) refl
+
+insert_past : (n k : ℕ) (ks : List ℕ) → k < n → insert_key nat_cmp (k ∷ ks) n ≡ k ∷ insert_key nat_cmp ks n
+insert_past n k ks lt = rw (gt_greater n k lt) refl
+
+remove_low : (n low : ℕ) (ks : List ℕ) → n < low → Above low ks → remove_key (is_key n) ks ≡ ks
+remove_low n low [] lt h = refl
+remove_low n low (k ∷ ks) lt h =
+    ap (λ t. cond t ks (k ∷ remove_key (is_key n) ks)) (is_key_is n k ∙ ne_eqb k n (λ e. omega (arith, e, lt, h.0))) ∙ ap (λ zs. k ∷ zs) (remove_low n (k + 1) ks (omega (arith, lt, h.0)) h.1)
+
+remove_first : (n : ℕ) (ks : List ℕ) → remove_key (is_key n) (n ∷ ks) ≡ ks
+remove_first n ks = ap (λ t. cond t ks (n ∷ remove_key (is_key n) ks)) (is_key_is n n ∙ eq-eqb n n refl)
+
+remove_past : (n k : ℕ) (ks : List ℕ) → (k == n) ≡ false → remove_key (is_key n) (k ∷ ks) ≡ k ∷ remove_key (is_key n) ks
+remove_past n k ks ne = ap (λ t. cond t ks (k ∷ remove_key (is_key n) ks)) (is_key_is n k ∙ ne)
+
+-- without a run
+without_if : (n : ℕ) (y : Run) (later : List Run) (t w : Bool) → (y.first == n) ≡ t → is_whole y ≡ w → Rising (y.first + 1) later → whole_firsts (without_run n later) ≡ remove_key (is_key n) (whole_firsts later)
+    → whole_firsts (cond t later (y ∷ without_run n later)) ≡ remove_key (is_key n) (cond w (y.first ∷ whole_firsts later) (whole_firsts later))
+without_if n y later true true e f h ih = let s = eqb-true y.first n e in sym (ap (λ m. remove_key (is_key n) (m ∷ whole_firsts later)) s ∙ remove_first n (whole_firsts later))
+without_if n y later true false e f h ih =
+    let s = eqb-true y.first n e in sym (remove_low n (y.first + 1) (whole_firsts later) (omega (arith, s)) (whole_above (y.first + 1) later h))
+without_if n y later false true e f h ih = ap (λ w. cond w (y.first ∷ whole_firsts (without_run n later)) (whole_firsts (without_run n later))) f ∙ (ap (λ ks. y.first ∷ ks) ih ∙ sym (remove_past n y.first (whole_firsts later) e))
+without_if n y later false false e f h ih = ap (λ w. cond w (y.first ∷ whole_firsts (without_run n later)) (whole_firsts (without_run n later))) f ∙ ih
+
+pub whole_without : (n low : ℕ) (xs : List Run) → Rising low xs → whole_firsts (without_run n xs) ≡ remove_key (is_key n) (whole_firsts xs)
+whole_without n low [] h = refl
+whole_without n low (y ∷ later) h = without_if n y later (y.first == n) (is_whole y) refl refl h.1 (whole_without n (y.first + 1) later h.1)
+
+-- what the keys are with a number that is or isn't put among them
+abbrev pub marked : Bool → ℕ → List ℕ → List ℕ
+marked w n ks = cond w (insert_key nat_cmp ks n) ks
+
+marked_low : (w : Bool) (n low : ℕ) (ks : List ℕ) → n < low → Above low ks → marked w n ks ≡ cond w (n ∷ ks) ks
+marked_low true n low ks lt h = insert_low n low ks lt h
+marked_low false n low ks lt h = refl
+
+marked_past : (w v : Bool) (n k : ℕ) (ks : List ℕ) → k < n → cond v (k ∷ marked w n ks) (marked w n ks) ≡ marked w n (cond v (k ∷ ks) ks)
+marked_past true true n k ks lt = sym (insert_past n k ks lt)
+marked_past true false n k ks lt = refl
+marked_past false true n k ks lt = refl
+marked_past false false n k ks lt = refl
+
+-- with one more run
+pub whole_with : (x : Run) (low : ℕ) (xs : List Run) → Rising low xs → run_at x.first xs ≡ None → whole_firsts (with_run x xs) ≡ marked (is_whole x) x.first (whole_firsts xs)
+whole_with x low [] h e = one (is_whole x)
+  where
+    one : (t : Bool) → cond t (x.first ∷ []) [] ≡ marked t x.first []
+    one true = refl
+    one false = refl
+whole_with x low (y ∷ later) h e = elim (cases_lt x.first y.first) [
+  | inl lt ↦
+      ap (λ t. whole_firsts (cond t (x ∷ y ∷ later) (y ∷ with_run x later))) (lt-ltb x.first y.first lt)
+      ∙ sym (marked_low (is_whole x) x.first y.first (whole_firsts (y ∷ later)) lt (whole_above y.first (y ∷ later) (omega arith, h.1)))
+  | inr ge ↦
+      let p = none_if y (run_at x.first later) (y.first == x.first) e in
+      let gt : y.first < x.first = elim (cases_lt y.first x.first) [ inl lt ↦ lt | inr le ↦ let t : true ≡ false = sym (eq-eqb y.first x.first (omega (arith, ge, le))) ∙ p.0 in absurd cc ] in
+      ap (λ t. whole_firsts (cond t (x ∷ y ∷ later) (y ∷ with_run x later))) (le-ltb x.first y.first ge)
+      ∙ (ap (λ ks. cond (is_whole y) (y.first ∷ ks) ks) (whole_with x (y.first + 1) later h.1 p.1) ∙ marked_past (is_whole x) (is_whole y) x.first y.first (whole_firsts later) gt)
+]
+
+-- with a run changed that wasn't whole, so that it has the rear of another
+both : (f r : Bool) → cond f r false ≡ (f && r)
+both true r = refl
+both false r = refl
+
+changed_here : (y z : Run) (r : Bool) (later : List Run) → z.rear ≡ r → is_whole y ≡ false → Rising (y.first + 1) later
+    → cond (cond y.front z.rear false) (y.first ∷ whole_firsts later) (whole_firsts later) ≡ marked (y.front && r) y.first (cond (is_whole y) (y.first ∷ whole_firsts later) (whole_firsts later))
+changed_here y z r later e f h =
+    let ks = whole_firsts later in
+    ap (λ t. cond t (y.first ∷ ks) ks) (ap (λ q. cond y.front q false) e ∙ both y.front r)
+    ∙ (sym (marked_low (y.front && r) y.first (y.first + 1) ks (omega arith) (whole_above (y.first + 1) later h))
+    ∙ ap (λ t. marked (y.front && r) y.first (cond t (y.first ∷ ks) ks)) (sym f))
+
+front_none : (n low : ℕ) (xs : List Run) (r : Bool) → n < low → Rising low xs → (front_of (run_at n xs) && r) ≡ false
+front_none n low xs r lt h = ap (λ o. front_of o && r) (at_below n low xs lt h)
+
+if_here : (y : Run) (o : Option Run) (P : Run → Type 0) (t : Bool) → t ≡ true → IfSome (cond t (Some y) o) P → P y
+if_here y o P true e h = h
+if_here y o P false e h = absurd cc
+
+if_later : (y : Run) (o : Option Run) (P : Run → Type 0) (t : Bool) → t ≡ false → IfSome (cond t (Some y) o) P → IfSome o P
+if_later y o P true e h = absurd cc
+if_later y o P false e h = h
+
+pub whole_changed : (z : Run) (r : Bool) (n low : ℕ) (xs : List Run) → z.rear ≡ r → Rising low xs → IfSome (run_at n xs) (λ y. is_whole y ≡ false)
+    → whole_firsts (changed_run (λ y. joined y z) n xs) ≡ marked (front_of (run_at n xs) && r) n (whole_firsts xs)
+whole_changed z r n low [] e h i = refl
+whole_changed z r n low (y ∷ later) e h i = elim (cases_Bool (y.first == n)) [
+  | inl t ↦
+      let s = eqb-true y.first n t in
+      rw t (changed_here y z r later e (if_here y (run_at n later) (λ y. is_whole y ≡ false) (y.first == n) t i) h.1 ∙ ap (λ m. marked (y.front && r) m (whole_firsts (y ∷ later))) s)
+  | inr f ↦
+      let ih = whole_changed z r n (y.first + 1) later e h.1 (if_later y (run_at n later) (λ y. is_whole y ≡ false) (y.first == n) f i) in
+      rw f (ap (λ ks. cond (is_whole y) (y.first ∷ ks) ks) ih ∙ past_is f)
+]
+  where
+    past_is : (y.first == n) ≡ false → cond (is_whole y) (y.first ∷ marked (front_of (run_at n later) && r) n (whole_firsts later)) (marked (front_of (run_at n later) && r) n (whole_firsts later))
+        ≡ marked (front_of (run_at n later) && r) n (cond (is_whole y) (y.first ∷ whole_firsts later) (whole_firsts later))
+    past_is f = elim (cases_lt y.first n) [
+      | inl lt ↦ marked_past (front_of (run_at n later) && r) (is_whole y) n y.first (whole_firsts later) lt
+      | inr ge ↦ rw (front_none n (y.first + 1) later r (omega (arith, ge)) h.1) refl
+    ]
+
+-- ---- a number that is taken out again
+
+abbrev pub Lacks : ℕ → List ℕ → Type 0
+Lacks n [] = Unit {0}
+Lacks n (k ∷ ks) = ((k == n) ≡ false) × Lacks n ks
+
+remove_lacks : (n : ℕ) (ks : List ℕ) → Lacks n ks → remove_key (is_key n) ks ≡ ks
+remove_lacks n [] h = refl
+remove_lacks n (k ∷ ks) h = remove_past n k ks h.0 ∙ ap (λ zs. k ∷ zs) (remove_lacks n ks h.1)
+
+undo_insert : (n : ℕ) (ks : List ℕ) → Lacks n ks → remove_key (is_key n) (insert_key nat_cmp ks n) ≡ ks
+undo_insert n [] h = remove_first n []
+undo_insert n (k ∷ ks) h = elim (cases_lt n k) [
+  | inl lt ↦ ap (remove_key (is_key n)) (insert_if2 lt) ∙ remove_first n (k ∷ ks)
+  | inr ge ↦
+      let gt : k < n = elim (cases_lt k n) [ inl lt ↦ lt | inr le ↦ let t : true ≡ false = sym (eq-eqb k n (omega (arith, ge, le))) ∙ h.0 in absurd cc ] in
+      ap (remove_key (is_key n)) (insert_past n k ks gt) ∙ (remove_past n k (insert_key nat_cmp ks n) h.0 ∙ ap (λ zs. k ∷ zs) (undo_insert n ks h.1))
+]
+  where
+    insert_if2 : n < k → insert_key nat_cmp (k ∷ ks) n ≡ n ∷ k ∷ ks
+    insert_if2 lt = rw (lt_less n k lt) refl
+
+pub undo : (w : Bool) (n : ℕ) (ks : List ℕ) → Lacks n ks → remove_key (is_key n) (marked w n ks) ≡ ks
+undo true n ks h = undo_insert n ks h
+undo false n ks h = remove_lacks n ks h
+
+lacks_low : (n low : ℕ) (ks : List ℕ) → n < low → Above low ks → Lacks n ks
+lacks_low n low [] lt h = tt
+lacks_low n low (k ∷ ks) lt h = (ne_eqb k n (λ e. omega (arith, e, lt, h.0)), lacks_low n (k + 1) ks (omega (arith, lt, h.0)) h.1)
+
+lacks_if : (n : ℕ) (y : Run) (ks : List ℕ) (w : Bool) → (y.first == n) ≡ false → Lacks n ks → Lacks n (cond w (y.first ∷ ks) ks)
+lacks_if n y ks true e h = (e, h)
+lacks_if n y ks false e h = h
+
+pub lacks_not_whole : (n low : ℕ) (xs : List Run) → Rising low xs → IfSome (run_at n xs) (λ y. is_whole y ≡ false) → Lacks n (whole_firsts xs)
+lacks_not_whole n low [] h i = tt
+lacks_not_whole n low (y ∷ later) h i = elim (cases_Bool (y.first == n)) [
+  | inl t ↦
+      let s = eqb-true y.first n t in
+      rw (if_here y (run_at n later) (λ y. is_whole y ≡ false) (y.first == n) t i) (lacks_low n (y.first + 1) (whole_firsts later) (omega (arith, s)) (whole_above (y.first + 1) later h.1))
+  | inr f ↦ lacks_if n y (whole_firsts later) (is_whole y) f (lacks_not_whole n (y.first + 1) later h.1 (if_later y (run_at n later) (λ y. is_whole y ≡ false) (y.first == n) f i))
+]
+
+-- ---- the first whole run
+
+-- what is known where the whole runs begin with these numbers
+abbrev pub FirstWhole : ℕ → List Run → Type 0
+FirstWhole k xs = (run_at k xs ≡ first_of is_whole xs) × (without_run k xs ≡ without_first is_whole xs)
+
+first_if : (k : ℕ) (ks : List ℕ) (y : Run) (later : List Run) (w : Bool) → is_whole y ≡ w → Rising (y.first + 1) later → cond w (y.first ∷ whole_firsts later) (whole_firsts later) ≡ k ∷ ks
+    → (whole_firsts later ≡ k ∷ ks → FirstWhole k later) → FirstWhole k (y ∷ later)
+first_if k ks y later true e h s ih =
+    let m : y.first ≡ k = head_eq y.first k (whole_firsts later) ks s in
+    let t = eq-eqb y.first k m in
+    (rw (t, e) refl, rw (t, e) refl)
+  where
+    head_eq : (a b : ℕ) (ks1 ks2 : List ℕ) → a ∷ ks1 ≡ b ∷ ks2 → a ≡ b
+    head_eq a b ks1 ks2 p = ap (λ xs. Rattle.std.proofs.Common.get_or xs 0 a) p
+first_if k ks y later false e h s ih =
+    let a : Above (y.first + 1) (k ∷ ks) = Rattle.std.proofs.Common.subst (Above (y.first + 1)) s (whole_above (y.first + 1) later h) in
+    let f = ne_eqb y.first k (λ q. omega (arith, q, a.0)) in
+    let r = ih s in
+    (rw (f, e) r.0, rw (f, e) (ap (λ zs. y ∷ zs) r.1))
+
+pub first_whole : (k : ℕ) (ks : List ℕ) (low : ℕ) (xs : List Run) → Rising low xs → whole_firsts xs ≡ k ∷ ks → FirstWhole k xs
+first_whole k ks low [] h s = absurd cc
+first_whole k ks low (y ∷ later) h s = first_if k ks y later (is_whole y) refl h.1 s (λ g. first_whole k ks (y.first + 1) later h.1 g)
+
+no_whole_if : (y : Run) (later : List Run) (w : Bool) → is_whole y ≡ w → cond w (y.first ∷ whole_firsts later) (whole_firsts later) ≡ []
+    → (whole_firsts later ≡ [] → (first_of is_whole later ≡ None) × (without_first is_whole later ≡ later)) → (first_of is_whole (y ∷ later) ≡ None) × (without_first is_whole (y ∷ later) ≡ y ∷ later)
+no_whole_if y later true e s ih = absurd cc
+no_whole_if y later false e s ih = let r = ih s in (rw e r.0, rw e (ap (λ zs. y ∷ zs) r.1))
+
+pub no_whole : (xs : List Run) → whole_firsts xs ≡ [] → (first_of is_whole xs ≡ None) × (without_first is_whole xs ≡ xs)
+no_whole [] s = (refl, refl)
+no_whole (y ∷ later) s = no_whole_if y later (is_whole y) refl s (λ g. no_whole later g)
+
+-- ---- what a map and its set of numbers keep through each change
+
+keys_if : (f : Run → Run) (n : ℕ) (e : ℕ × Run) (es : List (ℕ × Run)) (t : Bool) → keys_of (changed_entry f n es) ≡ keys_of es → keys_of (cond t ((e.0, f e.1) ∷ es) (e ∷ changed_entry f n es)) ≡ keys_of (e ∷ es)
+keys_if f n e es true ih = refl
+keys_if f n e es false ih = ap (λ ks. e.0 ∷ ks) ih
+
+keys_changed : (f : Run → Run) (n : ℕ) (es : List (ℕ × Run)) → keys_of (changed_entry f n es) ≡ keys_of es
+keys_changed f n [] = refl
+keys_changed f n (e ∷ es) = keys_if f n e es (e.0 == n) (keys_changed f n es)
+
+rises : (es : List (ℕ × Run)) (ks : List ℕ) → IsKept es ks → Rising 0 (values_of es)
+rises es ks k = rising_keyed (values_of es) (subst (λ ds. IsStrictlySortedBy nat_cmp (keys_of ds)) k.keyed k.order)
+
+values_are : (fs : List (ℕ × Run)) (xs : List Run) → fs ≡ keyed xs → values_of fs ≡ xs
+values_are fs xs e = ap (λ ds. values_of ds) e ∙ values_keyed xs
+
+kept_from : (fs : List (ℕ × Run)) (ls : List ℕ) (xs : List Run) → IsStrictlySortedBy nat_cmp (keys_of fs) → fs ≡ keyed xs → ls ≡ whole_firsts xs → IsKept fs ls
+kept_from fs ls xs o e w =
+    let v = sym (values_are fs xs e) in
+    record { order = o; keyed = e ∙ ap keyed v; whole = w ∙ ap whole_firsts v }
+
+pub kept_changed : (es fs : List (ℕ × Run)) (ks ls : List ℕ) (z : Run) (r w : Bool) (n : ℕ) → IsKept es ks → fs ≡ changed_entry (λ y. joined y z) n es → z.rear ≡ r → w ≡ (front_of (lookup (is_key n) es) && r) → ls ≡ marked w n ks
+    → IfSome (run_at n (values_of es)) (λ y. is_whole y ≡ false) → IsKept fs ls × (values_of fs ≡ changed_run (λ y. joined y z) n (values_of es))
+kept_changed es fs ks ls z r w n k e f g h i =
+    let xs = values_of es in
+    let to : Run → Run = λ y. joined y z in
+    let all : fs ≡ keyed (changed_run to n xs) = e ∙ (ap (changed_entry to n) k.keyed ∙ changed_keyed to n xs (λ y. refl)) in
+    let order = subst (λ qs. IsStrictlySortedBy nat_cmp qs) (sym (ap keys_of e ∙ keys_changed to n es)) k.order in
+    let w' : w ≡ (front_of (run_at n xs) && r) = g ∙ ap (λ o. front_of o && r) (ap (λ ds. lookup (is_key n) ds) k.keyed ∙ lookup_keyed n xs) in
+    let whole : ls ≡ whole_firsts (changed_run to n xs) = h ∙ (ap (λ v. marked v n ks) w' ∙ (ap (λ qs. marked (front_of (run_at n xs) && r) n qs) k.whole ∙ sym (whole_changed z r n 0 xs f (rises es ks k) i))) in
+    (kept_from fs ls (changed_run to n xs) order all whole, values_are fs (changed_run to n xs) all)
+
+pub kept_undone : (es fs : List (ℕ × Run)) (ks ls : List ℕ) (w : Bool) (n : ℕ) → IsKept es ks → fs ≡ es → ls ≡ remove_key (is_key n) (marked w n ks) → IfSome (run_at n (values_of es)) (λ y. is_whole y ≡ false) → IsKept fs ls
+kept_undone es fs ks ls w n k e f i =
+    let lacks = subst (Lacks n) (sym k.whole) (lacks_not_whole n 0 (values_of es) (rises es ks k) i) in
+    let ls' : ls ≡ ks = f ∙ undo w n ks lacks in
+    subst (λ ds. IsKept ds ls) (sym e) (subst (IsKept es) (sym ls') k)
+
+absent : (o : Option Run) → o ≡ None → IfSome o (λ y. is_whole y ≡ false)
+absent None e = tt
+absent (Some y) e = absurd cc
+
+pub kept_with : (es fs : List (ℕ × Run)) (ks ls : List ℕ) (x : Run) (n : ℕ) (w : Bool) → IsKept es ks → IsStrictlySortedBy nat_cmp (keys_of fs) → fs ≡ insert_entry nat_cmp es n x → n ≡ x.first → w ≡ is_whole x → ls ≡ marked w n ks
+    → run_at x.first (values_of es) ≡ None → IsKept fs ls × (values_of fs ≡ with_run x (values_of es))
+kept_with es fs ks ls x n w k o e f g h none =
+    let xs = values_of es in
+    let all : fs ≡ keyed (with_run x xs) = e ∙ (ap (λ m. insert_entry nat_cmp es m x) f ∙ (ap (λ ds. insert_entry nat_cmp ds x.first x) k.keyed ∙ insert_keyed x xs none)) in
+    let whole : ls ≡ whole_firsts (with_run x xs) = h ∙ (ap (λ v. marked v n ks) g ∙ (ap (λ m. marked (is_whole x) m ks) f ∙ (ap (marked (is_whole x) x.first) k.whole ∙ sym (whole_with x 0 xs (rises es ks k) none)))) in
+    (kept_from fs ls (with_run x xs) o all whole, values_are fs (with_run x xs) all)
+
+pub kept_unchanged : (es fs : List (ℕ × Run)) (ks ls : List ℕ) (n m : ℕ) (w : Bool) → IsKept es ks → fs ≡ es → ls ≡ remove_key (is_key n) (marked w n ks) → n ≡ m → run_at m (values_of es) ≡ None → IsKept fs ls
+kept_unchanged es fs ks ls n m w k e f s none = kept_undone es fs ks ls w n k e f (absent (run_at n (values_of es)) (ap (λ q. run_at q (values_of es)) s ∙ none))
+
+pub kept_without : (es fs : List (ℕ × Run)) (ks ls : List ℕ) (n : ℕ) → IsKept es ks → IsStrictlySortedBy nat_cmp (keys_of fs) → fs ≡ remove_entry (is_key n) es → ls ≡ remove_key (is_key n) ks
+    → IsKept fs ls × (values_of fs ≡ without_run n (values_of es))
+kept_without es fs ks ls n k o e f =
+    let xs = values_of es in
+    let all : fs ≡ keyed (without_run n xs) = e ∙ (ap (remove_entry (is_key n)) k.keyed ∙ remove_keyed n xs) in
+    let whole : ls ≡ whole_firsts (without_run n xs) = f ∙ (ap (remove_key (is_key n)) k.whole ∙ sym (whole_without n 0 xs (rises es ks k))) in
+    (kept_from fs ls (without_run n xs) o all whole, values_are fs (without_run n xs) all)
+
+-- the first whole run is taken out
+pub kept_taken : (es fs : List (ℕ × Run)) (ks ls : List ℕ) (n : ℕ) → IsKept es ks → IsStrictlySortedBy nat_cmp (keys_of fs) → fs ≡ remove_entry (is_key n) es → ks ≡ n ∷ ls
+    → IsKept fs ls × (values_of fs ≡ without_first is_whole (values_of es)) × (lookup (is_key n) es ≡ first_of is_whole (values_of es))
+kept_taken es fs ks ls n k o e f =
+    let xs = values_of es in
+    let first = first_whole n ls 0 xs (rises es ks k) (sym k.whole ∙ f) in
+    let r = kept_without es fs ks ls n k o e (sym (ap (remove_key (is_key n)) f ∙ remove_first n ls)) in
+    (r.0, r.1 ∙ first.1, ap (λ ds. lookup (is_key n) ds) k.keyed ∙ (lookup_keyed n xs ∙ first.0))
+
+pub no_keys : (ks : List ℕ) → (0 < length ks → false ≡ true) → ks ≡ []
+no_keys [] h = refl
+no_keys (k ∷ ks) h = absurd (Rattle.std.proofs.lemmas.Bool.false≢true (h (omega arith)))
+
+-- what fits another isn't whole
+open_if : (f r : Bool) → r ≡ false → cond f r false ≡ false
+open_if true r e = e
+open_if false r e = refl
+
+pub fits_open : (o : Option Run) (x : Run) → IfSome o (λ y. fits y x ≡ true) → IfSome o (λ y. is_whole y ≡ false)
+fits_open None x i = tt
+fits_open (Some y) x i = open_if y.front y.rear (fits_parts y x i).1

@@ -1,0 +1,213 @@
+//! The runs of a flow as a map, by the number that each begins with.
+
+ghost use Rattle.std.specs.Prelude.{◌≡◌, ℕ, ◌<◌, ◌≤◌, ◌+◌, ◌∷◌, [], IfOk, IfSome, IfNone, OnOk, OnErr, List, Some, None, true, false, if◌then◌else◌, ◌&&◌};
+ghost use Rattle.std.specs.Option.{option_copied};
+ghost use Rattle.std.specs.Ordering.{nat_cmp};
+ghost use Rattle.std.specs.BTreeMap.{get};
+ghost use Rattle.std.specs.BTreeSet.{insert_key};
+ghost use Rattle.rtmfp_data_chunks.specs.Runs.{single, joined, fits, is_whole};
+ghost use Rattle.flow_recv.specs.Receiver.{first_of, without_first};
+ghost use Rattle.flow_recv.specs.Keyed.{run_at, without_run, with_run, changed_run, changed_entry, front_of, IsFirstFrom, IsLastBelow};
+
+use crate::run::{HeldRun, has_rear};
+use rtmfp_data_chunks::Part;
+use std::alloc::{AllocError, Global};
+use std::collections::{BTreeMap, BTreeSet};
+use std::marker::Model;
+use std::ops::Bound;
+
+/// The runs of a flow. Contracts see them by rising number.
+#[derive(Drop)]
+pub struct HeldRuns {
+    map: BTreeMap<u64, HeldRun>,
+    whole: BTreeSet<u64>,
+}
+
+impl Model for HeldRuns {
+    ghost use Rattle.std.specs.Prelude.{List};
+    ghost use Rattle.std.specs.Map.{values_of};
+    ghost use Rattle.rtmfp_data_chunks.specs.Runs.{Run};
+    ghost use Rattle.flow_recv.specs.Keyed.{IsKept};
+
+    ghost Value = { List Run };
+
+    ghost view = { λ r. values_of r.map.entries };
+
+    ghost invariant = { λ r. IsKept r.map.entries r.whole.keys };
+}
+
+impl HeldRuns {
+    pub fn new(alloc: Global) -> HeldRuns
+        ensures { result ≡ [] }
+    {
+        HeldRuns {
+            map: BTreeMap::new(alloc),
+            whole: BTreeSet::new(alloc),
+        }
+    }
+
+    /// The run that begins with a number.
+    pub fn at(&self, first: u64) -> Option<&HeldRun>
+        ensures { option_copied result ≡ run_at first self.now }
+    {
+        self.map.get(&first)
+    }
+
+    /// The number that the last run below a number begins with.
+    pub fn below(&self, number: u64) -> Option<u64>
+        ensures { IsLastBelow number self.now result }
+    {
+        match self.map.range(..number).next_back() {
+            Some((first, _)) => Some(*first),
+            None => None,
+        }
+    }
+
+    /// The number that the first run from a number on begins with.
+    pub fn from(&self, number: u64) -> Option<u64>
+        ensures { IsFirstFrom number self.now result }
+    {
+        match self.map.range(number..).next() {
+            Some((first, _)) => Some(*first),
+            None => None,
+        }
+    }
+
+    /// The number that the first run after one begins with.
+    pub fn after(&self, first: u64) -> Option<u64>
+        ensures { IsFirstFrom (first + 1) self.now result }
+    {
+        match self
+            .map
+            .range((Bound::Excluded(first), Bound::Unbounded))
+            .next()
+        {
+            Some((first, _)) => Some(*first),
+            None => None,
+        }
+    }
+
+    /// Takes out the run that begins with a number.
+    pub fn remove(&mut self, first: u64) -> Option<HeldRun>
+        ensures run { result ≡ run_at first self.old }
+        ensures rest { self.new ≡ without_run first self.old }
+    {
+        self.whole.remove(&first);
+        self.map.remove(&first)
+    }
+
+    /// Adds a run.
+    pub fn insert(&mut self, run: HeldRun) -> Result<(), AllocError>
+        requires { run_at run.first self.old ≡ None }
+        ensures added { OnOk result (self.new ≡ with_run run self.old) }
+        ensures unchanged { OnErr result (self.new ≡ self.old) }
+    {
+        let first = run.first();
+        mark_whole(&mut self.whole, first, run.is_whole())?;
+        if self.map.insert(first, run).is_ok() {
+            return Ok(());
+        }
+        self.whole.remove(&first);
+        Err(AllocError)
+    }
+
+    /// Appends a fragment to the run that begins with a number and that it follows and fits.
+    pub fn append(
+        &mut self,
+        first: u64,
+        number: u64,
+        part: Part,
+        bytes: &[u8],
+    ) -> Result<(), AllocError>
+        requires { IfSome (run_at first self.old) (λ y. fits y (single number part []) ≡ true) }
+        ensures appended { OnOk result (self.new ≡ changed_run (λ y. joined y (single number part bytes.now)) first self.old) }
+        ensures unchanged { OnErr result (self.new ≡ self.old) }
+    {
+        let whole = becomes_whole(&self.map, first, has_rear(part));
+        mark_whole(&mut self.whole, first, whole)?;
+        if append_at(&mut self.map, first, number, part, bytes).is_ok() {
+            return Ok(());
+        }
+        self.whole.remove(&first);
+        Err(AllocError)
+    }
+
+    /// Appends a later run to the run that begins with a number and that it follows and fits.
+    pub fn append_run(&mut self, first: u64, later: &HeldRun) -> Result<(), AllocError>
+        requires { IfSome (run_at first self.old) (λ y. fits y later.now ≡ true) }
+        ensures appended { OnOk result (self.new ≡ changed_run (λ y. joined y later.now) first self.old) }
+        ensures unchanged { OnErr result (self.new ≡ self.old) }
+    {
+        let whole = becomes_whole(&self.map, first, later.has_rear());
+        mark_whole(&mut self.whole, first, whole)?;
+        if append_run_at(&mut self.map, first, later).is_ok() {
+            return Ok(());
+        }
+        self.whole.remove(&first);
+        Err(AllocError)
+    }
+
+    /// Takes out the first run that is whole.
+    pub fn take_whole(&mut self) -> Option<HeldRun>
+        ensures run { result ≡ first_of is_whole self.old }
+        ensures rest { self.new ≡ without_first is_whole self.old }
+    {
+        let Some(first) = self.whole.pop_first() else {
+            return None;
+        };
+        self.map.remove(&first)
+    }
+}
+
+/// Whether the run that begins with a number is whole with a rear like this.
+fn becomes_whole(map: &BTreeMap<u64, HeldRun>, first: u64, rear: bool) -> bool
+    ensures { result ≡ (front_of (get nat_cmp map.now first) && rear) }
+{
+    match map.get(&first) {
+        Some(run) => run.has_front() && rear,
+        None => false,
+    }
+}
+
+/// Notes that the run which begins with a number is whole, where it is.
+fn mark_whole(whole: &mut BTreeSet<u64>, first: u64, is_whole: bool) -> Result<(), AllocError>
+    ensures marked { OnOk result (whole.new.keys ≡ (if is_whole then insert_key nat_cmp whole.old.keys first else whole.old.keys)) }
+    ensures unchanged { OnErr result (whole.new.keys ≡ whole.old.keys) }
+{
+    if is_whole {
+        whole.insert(first)?;
+    }
+    Ok(())
+}
+
+/// Appends a fragment to the run that begins with a number.
+fn append_at(
+    map: &mut BTreeMap<u64, HeldRun>,
+    first: u64,
+    number: u64,
+    part: Part,
+    bytes: &[u8],
+) -> Result<(), AllocError>
+    ensures appended { OnOk result (map.new.entries ≡ changed_entry (λ y. joined y (single number part bytes.now)) first map.old.entries) }
+    ensures unchanged { OnErr result (map.new.entries ≡ map.old.entries) }
+{
+    match map.get_mut(&first) {
+        Some(run) => run.append(number, part, bytes),
+        None => Ok(()),
+    }
+}
+
+/// Appends a later run to the run that begins with a number.
+fn append_run_at(
+    map: &mut BTreeMap<u64, HeldRun>,
+    first: u64,
+    later: &HeldRun,
+) -> Result<(), AllocError>
+    ensures appended { OnOk result (map.new.entries ≡ changed_entry (λ y. joined y later.now) first map.old.entries) }
+    ensures unchanged { OnErr result (map.new.entries ≡ map.old.entries) }
+{
+    match map.get_mut(&first) {
+        Some(run) => run.append_run(later),
+        None => Ok(()),
+    }
+}
