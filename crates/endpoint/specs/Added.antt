@@ -1,7 +1,19 @@
 -- An outbox, as contracts see it.
-use Rattle.std.specs.Prelude.{ℕ, List, refl}
+use Rattle.std.specs.Prelude.{ℕ, ◌≤◌, List, length, refl}
+use Rattle.std.specs.List.{All}
 use Rattle.std.specs.Coded.{Coded, code_by, coded×, coded_ℕ, coded_list}
 use Rattle.endpoint.specs.declared.entry.Entry.{Entry}
+use Rattle.endpoint.specs.declared.entry.Entry.TheVariants.{Fact, Discard, Out}
+
+-- An entry with a datagram has at most 1,200 bytes of it.
+abbrev pub IsShort : Entry → Type 0
+IsShort (Fact fact) = Unit {0}
+IsShort (Discard place cause) = Unit {0}
+IsShort (Out to datagram context) = length datagram ≤ 1200
+
+-- No datagram among the entries passes 1,200 bytes.
+abbrev pub AreShort : List Entry → Type 0
+AreShort entries = All IsShort entries
 
 pub record Added : Type 0 where
   pub entries : List Entry

@@ -1,6 +1,7 @@
 //! The entries that calls added, in order.
 
 ghost use Rattle.std.specs.Prelude.{◌≡◌, ◌<◌, ◌≤◌, ◌+◌, ◌++◌, [], ◌∷◌, IfOk, IsOk, OnOk, length};
+ghost use Rattle.endpoint.specs.Added.{AreShort, IsShort};
 
 use crate::entry::Entry;
 use rtmfp_base::Memory;
@@ -9,7 +10,7 @@ use std::marker::Model;
 
 /// The entries that calls of an end added, in order, and room for further ones.
 ///
-/// Contracts see the entries, the free room, and the room that `clear` gives again.
+/// Contracts see the entries, the free room, and the room that `clear` gives again. No datagram among the entries passes 1,200 bytes.
 #[derive(Drop)]
 pub struct Outbox {
     room: u32,
@@ -18,13 +19,13 @@ pub struct Outbox {
 
 impl Model for Outbox {
     ghost use Rattle.std.specs.Prelude.{◌-◌, ◌≤◌, vec_len, vec_capacity};
-    ghost use Rattle.endpoint.specs.Added.{Added};
+    ghost use Rattle.endpoint.specs.Added.{Added, AreShort};
 
     ghost Value = { Added };
 
     ghost view = { λ o. record { entries = o.entries.items; free = vec_capacity o.entries - vec_len o.entries; room = o.room } };
 
-    ghost invariant = { λ o. o.room ≤ vec_capacity o.entries };
+    ghost invariant = { λ o. (o.room ≤ vec_capacity o.entries) × AreShort o.entries.items };
 }
 
 impl Outbox {
@@ -38,7 +39,8 @@ impl Outbox {
 
     /// The entries, in the order in which they were added.
     pub fn entries(&self) -> &[Entry]
-        ensures { result.now ≡ self.now.entries }
+        ensures entries { result.now ≡ self.now.entries }
+        ensures short { AreShort self.now.entries }
     {
         self.entries.as_slice()
     }
@@ -63,9 +65,10 @@ impl Outbox {
         self.entries.reserve(count)
     }
 
-    /// Adds an entry for which there is room. It takes no memory.
+    /// Adds an entry for which there is room, and whose datagram, if it has one, is short enough. It takes no memory.
     pub(crate) fn add(&mut self, entry: Entry)
-        requires { 0 < self.old.free }
+        requires room { 0 < self.old.free }
+        requires short { IsShort entry }
         ensures entries { self.new.entries ≡ self.old.entries ++ entry ∷ [] }
         ensures free { self.old.free ≤ self.new.free + 1 }
         ensures room { self.new.room ≡ self.old.room }

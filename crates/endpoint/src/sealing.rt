@@ -1,6 +1,6 @@
 //! Datagrams that go out.
 
-ghost use Rattle.std.specs.Prelude.{◌≡◌, ◌+◌, length, IfOk};
+ghost use Rattle.std.specs.Prelude.{◌≡◌, ◌+◌, ◌≤◌, length, IfOk};
 ghost use Rattle.packet_scramble.specs.Datagram.{datagram};
 ghost use Rattle.crypto_profile.specs.Sealing.{sealed};
 
@@ -34,7 +34,8 @@ pub(crate) fn seal(
     plain: &Outgoing,
 ) -> Message
     requires { length blank.items ≡ 1200 }
-    ensures { result ≡ datagram sid (sealed keys.now sid number plain.now) }
+    ensures datagram { result ≡ datagram sid (sealed keys.now sid number plain.now) }
+    ensures short { length result ≤ 1200 }
 {
     let plain = plain.bytes();
     blank.truncate(PLAIN_AT + plain.len());

@@ -117,6 +117,7 @@ pub(crate) fn session_datagram(
     requires writable { IsWritable (chunk_of chunk.now) }
     requires fits { length (chunk_bytes (chunk_of chunk.now)) ≤ 1159 }
     ensures datagram { result ≡ session_datagram session.old moment (chunk_of chunk.now) }
+    ensures short { length result ≤ 1200 }
     ensures session { session.new ≡ after_seal session.old }
 {
     let mut packet = begin_packet(&session.head(moment));
@@ -129,6 +130,7 @@ fn sealed_in(blank: Vec<u8>, session: &mut Session, packet: &Outgoing) -> Messag
     requires blank { length blank.items ≡ 1200 }
     requires spent { is_spent session.old ≡ false }
     ensures datagram { result ≡ datagram session.old.joined.far (sealed_part session.old packet.now) }
+    ensures short { length result ≤ 1200 }
     ensures session { session.new ≡ after_seal session.old }
 {
     let sid = session.joined().far;
@@ -143,7 +145,8 @@ fn sealed_in(blank: Vec<u8>, session: &mut Session, packet: &Outgoing) -> Messag
 fn message_of(mut blank: Vec<u8>, sid: u32, part: &[u8]) -> Message
     requires blank { length blank.items ≡ 1200 }
     requires fits { length part.now ≤ 1196 }
-    ensures { result ≡ datagram sid part.now }
+    ensures datagram { result ≡ datagram sid part.now }
+    ensures short { length result ≤ 1200 }
 {
     blank.truncate(SEALED_AT + part.len());
     put_datagram(&mut blank, sid, part);

@@ -21,9 +21,6 @@ use Rattle.rendezvous_world.proofs.Refusing.{there_is, fault_left}
 
 -- ---- a datagram that was looked up
 
-short_is : (n : ℕ) → nat_lt 2048 n ≡ false → n ≤ 2048
-short_is n e = grind (arith, nat_tests)
-
 or_true : (a : Bool) → (a || true) ≡ true
 or_true true = refl
 or_true false = refl
@@ -61,14 +58,11 @@ sent_as : (sent : Sent) (bytes : List ℕ) (context : Context) → sent.datagram
 sent_as sent bytes context is same =
     both_true _ _ (ap (λ (b : List ℕ). bytes_eq b bytes) is ∙ bytes_same bytes) (ap (λ (c : Context). same_context c context) same ∙ context_same context)
 
-pub sent_known : (sent : List Sent) (o : Option Sent) (which : ℕ) (fetched : Fetched) (room bytes : List ℕ) → o ≡ nth sent which → IsFetched o (Some fetched) room → nat_lt 2048 fetched.length ≡ false → bytes ≡ take fetched.length room →
+pub sent_known : (sent : List Sent) (o : Option Sent) (which : ℕ) (fetched : Fetched) (room bytes : List ℕ) → o ≡ nth sent which → IsFetched o (Some fetched) room → bytes ≡ take fetched.length room →
     list_any (is_sent bytes fetched.context) sent ≡ true
-sent_known sent None which fetched room bytes same h small is = absurd h
-sent_known sent (Some one) which fetched room bytes same h small is =
-    any_nth (is_sent bytes fetched.context) sent which one (sym same) (sent_as one bytes fetched.context (sym (is ∙ h.bytes (short_is fetched.length small))) h.context)
-
-pub short_test : (n : ℕ) → n ≤ 2048 → nat_lt 2048 n ≡ false
-short_test n h = grind (arith, nat_tests)
+sent_known sent None which fetched room bytes same h is = absurd h
+sent_known sent (Some one) which fetched room bytes same h is =
+    any_nth (is_sent bytes fetched.context) sent which one (sym same) (sent_as one bytes fetched.context (sym (is ∙ h.bytes)) h.context)
 
 pub few_test : (n : ℕ) → n ≤ 1164 → nat_lt 1164 n ≡ false
 few_test n h = grind (arith, nat_tests)

@@ -1,12 +1,16 @@
 -- The datagram with a number, by the line that sent it.
-use Rattle.std.proofs.Common.{◌≡◌, ◌≢◌, ℕ, zero, suc, ◌+◌, ◌-◌, ◌<◌, ◌≤◌, ◌==◌, nat_lt, true, false, if◌then◌else◌, List, [], ◌∷◌, ◌++◌, length, get_or, Some, None, refl, sym, ap, ◌∙◌, subst, arith, append-nil}
+use Rattle.std.proofs.Common.{◌≡◌, ◌≢◌, ℕ, zero, suc, ◌+◌, ◌-◌, ◌<◌, ◌≤◌, ◌==◌, nat_lt, true, false, if◌then◌else◌, Bool, List, [], ◌∷◌, ◌++◌, length, get_or, Option, Some, None, IfSome, refl, sym, ap, ◌∙◌, subst, arith, append-nil}
 use Rattle.std.specs.List.{AllWithin}
 use Rattle.std.specs.List.Sorted.{IsPartitionedBy}
 use Rattle.std.proofs.lemmas.Bool.Decides.{nat_tests}
 use Rattle.std.proofs.lemmas.Bool.{ltb-true, ltb-false, lt-ltb}
+use Rattle.endpoint.specs.declared.entry.Entry.{Entry}
+use Rattle.endpoint.specs.declared.entry.Entry.TheVariants.{Fact, Discard, Out}
+use Rattle.endpoint.specs.Added.{AreShort}
 use Rattle.rendezvous_world.specs.declared.journal.JournalLine.{JournalLine}
+use Rattle.rendezvous_world.specs.declared.sent.Letter.{Letter}
 use Rattle.rendezvous_world.specs.Datagrams.{nth}
-use Rattle.rendezvous_world.specs.Inside.{count_in, starts_after}
+use Rattle.rendezvous_world.specs.Inside.{count_in, sent_found, sent_of, starts_after}
 use Rattle.rendezvous_world.specs.Sent.{Sent, sent_among, sent_in}
 
 -- ---- the nth of a list
@@ -111,3 +115,25 @@ found_at lines starts n (suc last) line is le some before after at =
     ∙ sym (at_line lines 0 n last line (subst (λ (ss : List ℕ). AllWithin (λ (s : ℕ). nat_lt s n ≡ true) ss 0 (suc last)) is before)
     (subst (λ (ss : List ℕ). AllWithin (λ (s : ℕ). nat_lt s n ≡ false) ss (suc last) (length ss)) is after) lt (at ∙ ap (λ (k : ℕ). get_or lines k line) z))
     ∙ ap (nth (sent_in lines)) (let y : n - 0 ≡ n = omega arith in y)
+
+-- ---- what is found is short
+
+short_step : (a b : Bool) (x sent : Sent) (o : Option Sent) → (if a then None else if b then Some x else o) ≡ Some sent → length x.datagram ≤ 1200 → (o ≡ Some sent → length sent.datagram ≤ 1200) → length sent.datagram ≤ 1200
+short_step true b x sent o e h more = absurd (cc)
+short_step false true x sent o e h more = let same : x ≡ sent = cc in subst (λ (s : Sent). length s.datagram ≤ 1200) same h
+short_step false false x sent o e h more = more e
+
+others_short : (entry : Entry) (entries : List Entry) → AreShort (entry ∷ entries) → AreShort entries
+others_short entry entries h k d lt = h (suc k) d (omega arith)
+
+nth_short : (by : ℕ) (entries : List Entry) (n : ℕ) (sent : Sent) → AreShort entries → nth (sent_among by entries) n ≡ Some sent → length sent.datagram ≤ 1200
+nth_short by [] n sent h e = absurd (cc)
+nth_short by (Fact fact ∷ rest) n sent h e = nth_short by rest n sent (others_short (Fact fact) rest h) e
+nth_short by (Discard place cause ∷ rest) n sent h e = nth_short by rest n sent (others_short (Discard place cause) rest h) e
+nth_short by (Out to datagram context ∷ rest) n sent h e =
+    short_step (n == 0) (n == 1) (record { by = by; to = to; datagram = datagram; context = context }) sent (nth (sent_among by rest) (n - 1)) e (h 0 (Out to datagram context) (omega arith))
+    (λ f. nth_short by rest (n - 1) sent (others_short (Out to datagram context) rest h) f)
+
+pub found_short : (by : ℕ) (entries : List Entry) (n : ℕ) (found : Option Letter) → AreShort entries → sent_found found ≡ nth (sent_among by entries) n → IfSome found (λ letter. length letter.datagram.now ≤ 1200)
+found_short by entries n None h e = tt
+found_short by entries n (Some letter) h e = nth_short by entries n (sent_of letter) h (sym e)

@@ -111,11 +111,12 @@ abbrev pub is_same : Option Context → Context → Bool
 is_same None other = false
 is_same (Some context) other = same_context context other
 
--- The front of the room is the datagram that was found, if it fits.
+-- The front of the room is the datagram that was found.
 pub record IsFetchedAs (sent : Sent) (fetched : Fetched) (room : List ℕ) : Type 0 where
   pub context : sent.context ≡ fetched.context
   pub size : length sent.datagram ≡ fetched.length
-  pub bytes : fetched.length ≤ 2048 → take fetched.length room ≡ sent.datagram
+  pub short : fetched.length ≤ 1200
+  pub bytes : take fetched.length room ≡ sent.datagram
 
 abbrev pub IsFetched : Option Sent → Option Fetched → List ℕ → Type 0
 IsFetched None None room = Unit {0}

@@ -49,17 +49,10 @@ is_outside most count = (count == 0) || nat_lt most count
 abbrev pub is_like : List ℕ → List ℕ → EndSeen → Bool
 is_like name cert end = bytes_eq end.name name || bytes_eq (own_of end.setup) (sha256 cert)
 
--- a datagram of more than 2,048 bytes, which no end takes
-abbrev pub is_long : Option (List ℕ) → Bool
-is_long None = false
-is_long (Some bytes) = nat_lt 2048 (length bytes)
-
 abbrev pub is_bad : Seen → Step → Bool
 is_bad w (End name max_peers max_sessions cert) =
     list_any (is_like name cert) w.ends || nat_le 1024 (length w.ends) || is_outside 1048576 max_peers || is_outside 65536 max_sessions
 is_bad w (At moment) = nat_lt moment w.moment
-is_bad w (Deliver number end from) = is_long (datagram_of (sent_in w.lines) (Deliver number end from))
-is_bad w (Bent number place end from) = is_long (datagram_of (sent_in w.lines) (Bent number place end from))
 is_bad w (Inject end from bytes) = nat_lt 2048 (length bytes)
 is_bad w (Forge end from plain) = nat_lt 1164 (length plain)
 is_bad w step = false

@@ -1,6 +1,6 @@
 //! Steps that bring a datagram to an end.
 
-ghost use Rattle.std.specs.Prelude.{◌≡◌, ◌<◌, ◌≤◌, ◌^◌, IfOk, Some, length, nat_lt};
+ghost use Rattle.std.specs.Prelude.{◌≡◌, ◌<◌, ◌≤◌, ◌^◌, IfOk, Some, length};
 ghost use Rattle.endpoint.specs.Laws.{AreBytes};
 ghost use Rattle.rendezvous_world.specs.Datagrams.{nth};
 ghost use Rattle.rendezvous_world.specs.Entering.{IsBringing, IsDone, IsFetched, WasSentIn, is_same};
@@ -20,6 +20,9 @@ use std::alloc::Global;
 /// The most bytes of a datagram that reaches an end.
 const MOST_BYTES: usize = 2048;
 
+/// The most bytes of a datagram that an end sends.
+const MOST_SENT: usize = 1200;
+
 /// The most bytes of a plain packet that is forged.
 const MOST_PLAIN: usize = 1164;
 
@@ -34,15 +37,6 @@ pub(crate) struct Fetched {
     pub(crate) context: Context,
 }
 
-impl Fetched {
-    /// Whether it has more bytes than an end takes.
-    fn is_long(&self) -> bool
-        ensures { result ≡ nat_lt 2048 self.now.length }
-    {
-        self.length > MOST_BYTES
-    }
-}
-
 /// A copy of a datagram.
 fn keep(alloc: Global, datagram: &[u8]) -> Result<Message, Memory>
     ensures kept { IfOk result (λ message. message ≡ datagram.now) }
@@ -52,21 +46,15 @@ fn keep(alloc: Global, datagram: &[u8]) -> Result<Message, Memory>
 }
 
 impl World {
-    /// Looks up a sent datagram, and copies it to the front of a buffer if it fits.
+    /// Looks up a sent datagram, and copies it to the front of a buffer, in which each fits.
     fn fetch(&self, number: u64, room: &mut [u8]) -> Option<Fetched>
-        requires { length room.old ≡ 2048 }
+        requires { length room.old ≡ 1200 }
         ensures { IsFetched (nth (sent_in self.now.lines) number) result room.new }
     {
         match find(self.journal.lines(), &self.starts, u128::from(number)) {
             None => None,
             Some(letter) => {
                 let length = letter.datagram.len();
-                if length > MOST_BYTES {
-                    return Some(Fetched {
-                        length,
-                        context: letter.context,
-                    });
-                }
                 let (front, _) = room.split_at_mut(length);
                 front.copy_from_slice(letter.datagram);
                 Some(Fetched {
@@ -135,14 +123,11 @@ impl World {
         if self.lacks(end) {
             return Err(StepFault::NoEnd);
         }
-        let mut room = [0; MOST_BYTES];
+        let mut room = [0; MOST_SENT];
         let found = match self.fetch(number, &mut room) {
             Some(found) => found,
             None => return Err(StepFault::NoDatagram),
         };
-        if found.is_long() {
-            return Err(StepFault::BadStep);
-        }
         let (bytes, _) = room.split_at_mut(found.length);
         let step = Step::Deliver {
             number,
@@ -168,16 +153,13 @@ impl World {
         if self.lacks(end) {
             return Err(StepFault::NoEnd);
         }
-        let mut room = [0; MOST_BYTES];
+        let mut room = [0; MOST_SENT];
         let found = match self.fetch(number, &mut room) {
             Some(found) => found,
             None => return Err(StepFault::NoDatagram),
         };
         if place >= found.length {
             return Err(StepFault::NoDatagram);
-        }
-        if found.is_long() {
-            return Err(StepFault::BadStep);
         }
         let (bytes, _) = room.split_at_mut(found.length);
         bytes[place] ^= 1;

@@ -1,6 +1,6 @@
 //! The datagrams that ends sent, in their order over the whole run.
 
-ghost use Rattle.std.specs.Prelude.{◌≡◌, ◌-◌, ◌<◌, ◌≤◌, ℕ, false, get_or, length, nat_lt, true};
+ghost use Rattle.std.specs.Prelude.{◌≡◌, ◌-◌, ◌<◌, ◌≤◌, ℕ, IfSome, false, get_or, length, nat_lt, true};
 ghost use Rattle.std.specs.List.{AllWithin};
 ghost use Rattle.std.specs.List.Sorted.{IsPartitionedBy};
 ghost use Rattle.rendezvous_world.specs.Datagrams.{nth};
@@ -100,7 +100,8 @@ pub(crate) fn find<'a>(
     number: u128,
 ) -> Option<Letter<'a>>
     requires { starts.now ≡ starts_after 0 lines.now }
-    ensures { sent_found result ≡ nth (sent_in lines.now) number }
+    ensures letter { sent_found result ≡ nth (sent_in lines.now) number }
+    ensures short { IfSome result (λ letter. length letter.datagram.now ≤ 1200) }
 {
     let behind = count_below(starts, number);
     if behind == 0 {

@@ -12,6 +12,6 @@ slice_bounds-message_of-end c =
 
 pub returns-in-Some-clause-datagram : goal.returns-in-Some-clause-datagram
 returns-in-Some-clause-datagram c =
-    c.message_of.ensures
+    c.message_of.ensures.datagram
     ∙ ap (λ (j : Joined). datagram j.far (take (c.in-Some.len - 4) (drop 4 c.seal.new.out))) c.joined.ensures
     ∙ ap (datagram c.args.session.now.joined.far) (sealed_between c.args.session.now c.args.packet.now (replicate 1200 0) c.seal.new.out c.in-Some.len (omega arith) c.requires.spent c.in-Some.ensures.length c.in-Some.ensures.written)

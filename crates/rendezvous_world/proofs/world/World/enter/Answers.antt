@@ -20,7 +20,7 @@ invariant_of-self-2 c =
       event = o.ensures.event;
       answer = o.ensures.answer;
     } in
-    let count = c.count_among-count.ensures.value ∙ ap (λ (es : List Entry). length (sent_among c.args.end es)) c.entries.ensures in
+    let count = c.count_among-count.ensures.value ∙ ap (λ (es : List Entry). length (sent_among c.args.end es)) c.entries.ensures.entries in
     let fits : c.count_among-count.result < 2 ^ 64 = omega arith in
     rw (c.put-2.ensures, c.put.ensures, c.make_ready.ensures.lines, c.make_ready.ensures.starts, c.journal.view_is)
     (entered_kept i.moment i.ends.items i.named.items i.journal i.starts.items i.sent c.self.invariant c.args.line c.args.end c.args.step c.args.datagram c.args.bytes.now entering
