@@ -9,4 +9,4 @@ loop-line-preserved c =
     let items = c.lines-line-items.result.now in
     let i = c.loop-line.line-index in
     c.in_ok-count.ensures.more (all_entries (take i items)) c.loop-line.invariant
-    ∙ ap tally_of (entries_more items i c.line-item.result c.entries.result.now c.line-item.is c.loop-line-test.true c.entries.ensures)
+    ∙ ap tally_of (entries_more items i c.line-item.result c.entries.result.now c.line-item.is c.loop-line-test.true c.entries.ensures.entries)
