@@ -15,7 +15,7 @@ use Rattle.rendezvous_world.specs.Stepping.{Called, Stepped, StoppedIn, Noted}
 use Rattle.rendezvous_world.specs.Sound.{IsSound, AreBelow}
 use Rattle.rendezvous_world.specs.Kept.{IsWorld}
 
--- Where what each step keeps holds of a world, its history is lawful, honest and fresh, and each end stands for its own log.
+-- Where what each step keeps holds of a world, its history is lawful, honest and fresh, and each end stands for its own log, but that it may keep a later moment.
 abbrev pub EveryWorldIsSound : Type 0
 EveryWorldIsSound = (w : Seen) → IsWorld w → IsSound w
 
@@ -40,7 +40,7 @@ abbrev pub IsSized : Seen → Step → Type 0
 IsSized w (End name max_peers max_sessions cert) = IsCertificate cert
 IsSized w step = AreBytes (bytes_or_none (datagram_of (sent_in w.lines) step))
 
--- A step that isn't refused keeps it, whether it was done or found no memory.
+-- A step that isn't refused keeps it, whether it was done or found no memory, also where an end has noted the moment alone.
 abbrev pub EveryStepKeepsAWorld : Type 0
 EveryStepKeepsAWorld =
     (w : Seen) (number : ℕ) (step : Step) (t : Seen) → IsWorld w → AreBelow w.lines number → number < 2 ^ 32 → IsSized w step → step_fault w step ≡ None →

@@ -3,7 +3,7 @@
 ghost use Rattle.rendezvous_world.specs.Kept.{IsWorld};
 ghost use Rattle.rendezvous_world.specs.Laws.{EveryWorldIsSound, EveryWorldIsAgreed, EveryCallKeepsAWorld, EveryStepKeepsAWorld, empty_world};
 
-/// The history of each world is lawful, honest and fresh, and each end stands for its own log.
+/// The history of each world is lawful, honest and fresh, and each end stands for its own log, but that it may keep a later moment.
 pub fn every_world_is_sound()
     ensures { EveryWorldIsSound }
 {}
