@@ -1,6 +1,8 @@
 -- The runs as a map by their first numbers, and the numbers of those that are whole.
 use Rattle.std.proofs.Common.{◌≡◌, ℕ, ◌+◌, ◌<◌, ◌≤◌, nat_lt, ◌==◌, cond, Bool, true, false, ◌&&◌, List, [], ◌∷◌, length, Option, Some, None, refl, ap, sym, ◌∙◌, subst, arith, inl, inr}
 use Rattle.std.specs.Prelude.{IfSome}
+use Rattle.std.specs.Option.{IsSomeAnd}
+use Rattle.std.proofs.lemmas.Map.Steps.{set_value_same}
 use Rattle.std.specs.Ordering.{nat_cmp, is_eq, match_ordering}
 use Rattle.std.specs.declared.cmp.Ordering.TheVariants.{Less, Equal, Greater}
 use Rattle.std.specs.List.{AllByRecursion}
@@ -11,7 +13,7 @@ use Rattle.std.specs.BTreeSet.{insert_key}
 use Rattle.std.specs.Set.{remove_key}
 use Rattle.std.proofs.lemmas.Map.Keys.{sorted_head, sorted_tail}
 use Rattle.std.proofs.lemmas.Bool.{cases_Bool, cases_lt, ltb-true, ltb-false, lt-ltb, le-ltb, ne_eqb, eqb-true, eq-eqb}
-use Rattle.rtmfp_data_chunks.specs.Runs.{Run, is_whole, joined, fits}
+use Rattle.rtmfp_data_chunks.specs.Runs.{Run, is_whole, fits}
 use Rattle.flow_recv.specs.Receiver.{first_of, without_first}
 use Rattle.flow_recv.proofs.Bounds.{fits_parts}
 use Rattle.flow_recv.specs.Keyed.{run_at, without_run, with_run, changed_run, changed_entry, front_of, keyed, whole_firsts, IsKept}
@@ -230,17 +232,23 @@ whole_with x low (y ∷ later) h e = elim (cases_lt x.first y.first) [
 ]
 
 -- with a run changed that wasn't whole, so that it has the rear of another
-both : (f r : Bool) → cond f r false ≡ (f && r)
+pub both : (f r : Bool) → cond f r false ≡ (f && r)
 both true r = refl
 both false r = refl
 
-changed_here : (y z : Run) (r : Bool) (later : List Run) → z.rear ≡ r → is_whole y ≡ false → Rising (y.first + 1) later
-    → cond (cond y.front z.rear false) (y.first ∷ whole_firsts later) (whole_firsts later) ≡ marked (y.front && r) y.first (cond (is_whole y) (y.first ∷ whole_firsts later) (whole_firsts later))
-changed_here y z r later e f h =
+-- what changes a run so
+pub record Rears (f : Run → Run) (r : Bool) : Type 0 where
+  pub first : (y : Run) → (f y).first ≡ y.first
+  pub whole : (y : Run) → is_whole (f y) ≡ (y.front && r)
+
+changed_here : (f : Run → Run) (r : Bool) (y : Run) (later : List Run) → Rears f r → is_whole y ≡ false → Rising (y.first + 1) later
+    → whole_firsts (f y ∷ later) ≡ marked (y.front && r) y.first (whole_firsts (y ∷ later))
+changed_here f r y later c e h =
     let ks = whole_firsts later in
-    ap (λ t. cond t (y.first ∷ ks) ks) (ap (λ q. cond y.front q false) e ∙ both y.front r)
+    ap (λ t. cond t ((f y).first ∷ ks) ks) (c.whole y)
+    ∙ (ap (λ m. cond (y.front && r) (m ∷ ks) ks) (c.first y)
     ∙ (sym (marked_low (y.front && r) y.first (y.first + 1) ks (omega arith) (whole_above (y.first + 1) later h))
-    ∙ ap (λ t. marked (y.front && r) y.first (cond t (y.first ∷ ks) ks)) (sym f))
+    ∙ ap (λ t. marked (y.front && r) y.first (cond t (y.first ∷ ks) ks)) (sym e)))
 
 front_none : (n low : ℕ) (xs : List Run) (r : Bool) → n < low → Rising low xs → (front_of (run_at n xs) && r) ≡ false
 front_none n low xs r lt h = ap (λ o. front_of o && r) (at_below n low xs lt h)
@@ -253,16 +261,16 @@ if_later : (y : Run) (o : Option Run) (P : Run → Type 0) (t : Bool) → t ≡ 
 if_later y o P true e h = absurd cc
 if_later y o P false e h = h
 
-pub whole_changed : (z : Run) (r : Bool) (n low : ℕ) (xs : List Run) → z.rear ≡ r → Rising low xs → IfSome (run_at n xs) (λ y. is_whole y ≡ false)
-    → whole_firsts (changed_run (λ y. joined y z) n xs) ≡ marked (front_of (run_at n xs) && r) n (whole_firsts xs)
-whole_changed z r n low [] e h i = refl
-whole_changed z r n low (y ∷ later) e h i = elim (cases_Bool (y.first == n)) [
+pub whole_changed : (f : Run → Run) (r : Bool) (n low : ℕ) (xs : List Run) → Rears f r → Rising low xs → IfSome (run_at n xs) (λ y. is_whole y ≡ false)
+    → whole_firsts (changed_run f n xs) ≡ marked (front_of (run_at n xs) && r) n (whole_firsts xs)
+whole_changed f r n low [] c h i = refl
+whole_changed f r n low (y ∷ later) c h i = elim (cases_Bool (y.first == n)) [
   | inl t ↦
       let s = eqb-true y.first n t in
-      rw t (changed_here y z r later e (if_here y (run_at n later) (λ y. is_whole y ≡ false) (y.first == n) t i) h.1 ∙ ap (λ m. marked (y.front && r) m (whole_firsts (y ∷ later))) s)
-  | inr f ↦
-      let ih = whole_changed z r n (y.first + 1) later e h.1 (if_later y (run_at n later) (λ y. is_whole y ≡ false) (y.first == n) f i) in
-      rw f (ap (λ ks. cond (is_whole y) (y.first ∷ ks) ks) ih ∙ past_is f)
+      rw t (changed_here f r y later c (if_here y (run_at n later) (λ y. is_whole y ≡ false) (y.first == n) t i) h.1 ∙ ap (λ m. marked (y.front && r) m (whole_firsts (y ∷ later))) s)
+  | inr e ↦
+      let ih = whole_changed f r n (y.first + 1) later c h.1 (if_later y (run_at n later) (λ y. is_whole y ≡ false) (y.first == n) e i) in
+      rw e (ap (λ ks. cond (is_whole y) (y.first ∷ ks) ks) ih ∙ past_is e)
 ]
   where
     past_is : (y.first == n) ≡ false → cond (is_whole y) (y.first ∷ marked (front_of (run_at n later) && r) n (whole_firsts later)) (marked (front_of (run_at n later) && r) n (whole_firsts later))
@@ -370,15 +378,14 @@ kept_from fs ls xs o e w =
     let v = sym (values_are fs xs e) in
     record { order = o; keyed = e ∙ ap keyed v; whole = w ∙ ap whole_firsts v }
 
-pub kept_changed : (es fs : List (ℕ × Run)) (ks ls : List ℕ) (z : Run) (r w : Bool) (n : ℕ) → IsKept es ks → fs ≡ changed_entry (λ y. joined y z) n es → z.rear ≡ r → w ≡ (front_of (lookup (is_key n) es) && r) → ls ≡ marked w n ks
-    → IfSome (run_at n (values_of es)) (λ y. is_whole y ≡ false) → IsKept fs ls × (values_of fs ≡ changed_run (λ y. joined y z) n (values_of es))
-kept_changed es fs ks ls z r w n k e f g h i =
+pub kept_changed : (es fs : List (ℕ × Run)) (ks ls : List ℕ) (to : Run → Run) (r w : Bool) (n : ℕ) → IsKept es ks → fs ≡ changed_entry to n es → Rears to r → w ≡ (front_of (lookup (is_key n) es) && r) → ls ≡ marked w n ks
+    → IfSome (run_at n (values_of es)) (λ y. is_whole y ≡ false) → IsKept fs ls × (values_of fs ≡ changed_run to n (values_of es))
+kept_changed es fs ks ls to r w n k e f g h i =
     let xs = values_of es in
-    let to : Run → Run = λ y. joined y z in
-    let all : fs ≡ keyed (changed_run to n xs) = e ∙ (ap (changed_entry to n) k.keyed ∙ changed_keyed to n xs (λ y. refl)) in
+    let all : fs ≡ keyed (changed_run to n xs) = e ∙ (ap (changed_entry to n) k.keyed ∙ changed_keyed to n xs f.first) in
     let order = subst (λ qs. IsStrictlySortedBy nat_cmp qs) (sym (ap keys_of e ∙ keys_changed to n es)) k.order in
     let w' : w ≡ (front_of (run_at n xs) && r) = g ∙ ap (λ o. front_of o && r) (ap (λ ds. lookup (is_key n) ds) k.keyed ∙ lookup_keyed n xs) in
-    let whole : ls ≡ whole_firsts (changed_run to n xs) = h ∙ (ap (λ v. marked v n ks) w' ∙ (ap (λ qs. marked (front_of (run_at n xs) && r) n qs) k.whole ∙ sym (whole_changed z r n 0 xs f (rises es ks k) i))) in
+    let whole : ls ≡ whole_firsts (changed_run to n xs) = h ∙ (ap (λ v. marked v n ks) w' ∙ (ap (λ qs. marked (front_of (run_at n xs) && r) n qs) k.whole ∙ sym (whole_changed to r n 0 xs f (rises es ks k) i))) in
     (kept_from fs ls (changed_run to n xs) order all whole, values_are fs (changed_run to n xs) all)
 
 pub kept_undone : (es fs : List (ℕ × Run)) (ks ls : List ℕ) (w : Bool) (n : ℕ) → IsKept es ks → fs ≡ es → ls ≡ remove_key (is_key n) (marked w n ks) → IfSome (run_at n (values_of es)) (λ y. is_whole y ≡ false) → IsKept fs ls
@@ -409,6 +416,76 @@ kept_without es fs ks ls n k o e f =
     let all : fs ≡ keyed (without_run n xs) = e ∙ (ap (remove_entry (is_key n)) k.keyed ∙ remove_keyed n xs) in
     let whole : ls ≡ whole_firsts (without_run n xs) = f ∙ (ap (remove_key (is_key n)) k.whole ∙ sym (whole_without n 0 xs (rises es ks k))) in
     (kept_from fs ls (without_run n xs) o all whole, values_are fs (without_run n xs) all)
+
+-- a run is changed, and a later one is dropped
+pub kept_joined : (es fs : List (ℕ × Run)) (ks ms ls : List ℕ) (to : Run → Run) (r w : Bool) (n g : ℕ) → IsKept es ks → IsStrictlySortedBy nat_cmp (keys_of fs) → fs ≡ remove_entry (is_key g) (changed_entry to n es) → Rears to r
+    → w ≡ (front_of (lookup (is_key n) es) && r) → ms ≡ marked w n ks → ls ≡ remove_key (is_key g) ms → IfSome (run_at n (values_of es)) (λ y. is_whole y ≡ false)
+    → IsKept fs ls × (values_of fs ≡ without_run g (changed_run to n (values_of es)))
+kept_joined es fs ks ms ls to r w n g k o e f h m l i =
+    let c = kept_changed es (changed_entry to n es) ks ms to r w n k refl f h m i in
+    let d = kept_without (changed_entry to n es) fs ms ls g c.0 o e l in
+    (d.0, d.1 ∙ ap (without_run g) c.1)
+
+-- ---- a run that is taken out and put back, or not
+
+back_if : (z : Run) (f : Run → Run) (n : ℕ) (e : ℕ × Run) (es : List (ℕ × Run)) (t : Bool) → (e.0 == n) ≡ t → changed_entry (λ y. z) n (changed_entry f n es) ≡ changed_entry (λ y. z) n es
+    → changed_entry (λ y. z) n (cond t ((e.0, f e.1) ∷ es) (e ∷ changed_entry f n es)) ≡ cond t ((e.0, z) ∷ es) (e ∷ changed_entry (λ y. z) n es)
+back_if z f n e es true s ih = ap (λ t. cond t ((e.0, z) ∷ es) ((e.0, f e.1) ∷ changed_entry (λ y. z) n es)) s
+back_if z f n e es false s ih = ap (λ t. cond t ((e.0, z) ∷ changed_entry f n es) (e ∷ changed_entry (λ y. z) n (changed_entry f n es))) s ∙ ap (λ ds. e ∷ ds) ih
+
+put_over : (z : Run) (f : Run → Run) (n : ℕ) (es : List (ℕ × Run)) → changed_entry (λ y. z) n (changed_entry f n es) ≡ changed_entry (λ y. z) n es
+put_over z f n [] = refl
+put_over z f n (e ∷ es) = back_if z f n e es (e.0 == n) refl (put_over z f n es)
+
+pub put_back : (z : Run) (f : Run → Run) (n : ℕ) (es : List (ℕ × Run)) → lookup (is_key n) es ≡ Some z → changed_entry (λ y. z) n (changed_entry f n es) ≡ es
+put_back z f n es h = put_over z f n es ∙ (sym (set_changed (λ y. z) n es z h) ∙ set_value_same (is_key n) es z h)
+
+gone_if : (f : Run → Run) (n : ℕ) (e : ℕ × Run) (es : List (ℕ × Run)) (t : Bool) → is_key n e.0 ≡ t → remove_entry (is_key n) (changed_entry f n es) ≡ remove_entry (is_key n) es
+    → remove_entry (is_key n) (cond t ((e.0, f e.1) ∷ es) (e ∷ changed_entry f n es)) ≡ cond t es (e ∷ remove_entry (is_key n) es)
+gone_if f n e es true s ih = ap (λ t. cond t es ((e.0, f e.1) ∷ remove_entry (is_key n) es)) s
+gone_if f n e es false s ih = ap (λ t. cond t (changed_entry f n es) (e ∷ remove_entry (is_key n) (changed_entry f n es))) s ∙ ap (λ ds. e ∷ ds) ih
+
+gone : (f : Run → Run) (n : ℕ) (es : List (ℕ × Run)) → remove_entry (is_key n) (changed_entry f n es) ≡ remove_entry (is_key n) es
+gone f n [] = refl
+gone f n (e ∷ es) = gone_if f n e es (e.0 == n) (is_key_is n e.0) (gone f n es) ∙ sym (ap (λ t. cond t es (e ∷ remove_entry (is_key n) es)) (is_key_is n e.0))
+
+gone_past : (f h : Run → Run) (n g : ℕ) (e : ℕ × Run) (es : List (ℕ × Run)) (t : Bool) → is_key g e.0 ≡ false
+    → remove_entry (is_key g) (changed_entry h g es) ≡ remove_entry (is_key g) es
+    → remove_entry (is_key g) (changed_entry f n (changed_entry h g es)) ≡ remove_entry (is_key g) (changed_entry f n es)
+    → remove_entry (is_key g) (cond t ((e.0, f e.1) ∷ changed_entry h g es) (e ∷ changed_entry f n (changed_entry h g es))) ≡ remove_entry (is_key g) (cond t ((e.0, f e.1) ∷ es) (e ∷ changed_entry f n es))
+gone_past f h n g e es true k a b =
+    ap (λ c. cond c (changed_entry h g es) ((e.0, f e.1) ∷ remove_entry (is_key g) (changed_entry h g es))) k
+    ∙ (ap (λ ds. (e.0, f e.1) ∷ ds) a ∙ sym (ap (λ c. cond c es ((e.0, f e.1) ∷ remove_entry (is_key g) es)) k))
+gone_past f h n g e es false k a b =
+    ap (λ c. cond c (changed_entry f n (changed_entry h g es)) (e ∷ remove_entry (is_key g) (changed_entry f n (changed_entry h g es)))) k
+    ∙ (ap (λ ds. e ∷ ds) b ∙ sym (ap (λ c. cond c (changed_entry f n es) (e ∷ remove_entry (is_key g) (changed_entry f n es))) k))
+
+pub gone_later : (f h : Run → Run) (n g : ℕ) (es : List (ℕ × Run)) → (n == g) ≡ false → remove_entry (is_key g) (changed_entry f n (changed_entry h g es)) ≡ remove_entry (is_key g) (changed_entry f n es)
+gone_later f h n g [] ne = refl
+gone_later f h n g (e ∷ es) ne = elim (cases_Bool (e.0 == g)) [
+  | inl t ↦
+      let s : (e.0 == n) ≡ false = ne_eqb e.0 n (λ q. let u = eqb-true e.0 g t in let v : true ≡ false = sym (eq-eqb n g (sym q ∙ u)) ∙ ne in cc) in
+      let k : is_key g e.0 ≡ true = is_key_is g e.0 ∙ t in
+      ap (λ b. remove_entry (is_key g) (changed_entry f n (cond b ((e.0, h e.1) ∷ es) (e ∷ changed_entry h g es)))) t
+      ∙ (ap (λ b. remove_entry (is_key g) (cond b ((e.0, f (h e.1)) ∷ es) ((e.0, h e.1) ∷ changed_entry f n es))) s
+      ∙ (ap (λ b. cond b (changed_entry f n es) ((e.0, h e.1) ∷ remove_entry (is_key g) (changed_entry f n es))) k
+      ∙ sym (ap (λ b. remove_entry (is_key g) (cond b ((e.0, f e.1) ∷ es) (e ∷ changed_entry f n es))) s
+      ∙ ap (λ b. cond b (changed_entry f n es) (e ∷ remove_entry (is_key g) (changed_entry f n es))) k)))
+  | inr t ↦
+      ap (λ b. remove_entry (is_key g) (changed_entry f n (cond b ((e.0, h e.1) ∷ es) (e ∷ changed_entry h g es)))) t
+      ∙ gone_past f h n g e es (e.0 == n) (is_key_is g e.0 ∙ t) (gone h g es) (gone_later f h n g es ne)
+]
+
+pub opened : (o : Option Run) (P : Run → Type 0) → IsSomeAnd o P → (z : Run) × (o ≡ Some z) × P z
+opened None P h = absurd h
+opened (Some z) P h = (z, refl, h)
+
+pub is_some_and : (o : Option Run) (z : Run) (P : Run → Type 0) → o ≡ Some z → P z → IsSomeAnd o P
+is_some_and o z P e h = subst (λ p. IsSomeAnd p P) (sym e) h
+
+pub some_and : {P Q : Run → Type 0} (o : Option Run) → ((z : Run) → o ≡ Some z → P z → Q z) → IsSomeAnd o P → IsSomeAnd o Q
+some_and None f h = h
+some_and (Some z) f h = f z refl h
 
 -- the first whole run is taken out
 pub kept_taken : (es fs : List (ℕ × Run)) (ks ls : List ℕ) (n : ℕ) → IsKept es ks → IsStrictlySortedBy nat_cmp (keys_of fs) → fs ≡ remove_entry (is_key n) es → ks ≡ n ∷ ls

@@ -1,5 +1,5 @@
 -- Where a fragment belongs among the runs.
-use Rattle.std.proofs.Common.{◌≡◌, ℕ, ◌+◌, ◌<◌, ◌≤◌, ◌==◌, cond, not, Bool, true, false, List, [], ◌∷◌, ◌++◌, Option, Some, None, refl, ap, sym, ◌∙◌, subst, arith, inl, inr}
+use Rattle.std.proofs.Common.{◌≡◌, ℕ, ◌+◌, ◌<◌, ◌≤◌, ◌==◌, cond, not, Bool, true, false, List, [], ◌∷◌, Option, Some, None, refl, ap, sym, ◌∙◌, subst, arith, inl, inr}
 use Rattle.std.specs.Prelude.{IsSome, IfSome}
 use Rattle.std.specs.Option.{IsSomeAnd, unwrap_or}
 use Rattle.std.proofs.lemmas.Bool.{cases_Bool, cases_lt, lt-ltb, le-ltb, ne_eqb, eqb-true, eq-eqb}
@@ -8,7 +8,7 @@ use Rattle.flow_recv.specs.declared.spans.Span.{Span}
 use Rattle.rtmfp_data_chunks.specs.Runs.{Run, fits, joined}
 use Rattle.flow_recv.specs.Receiver.{knows, lacks, add_run, join_next}
 use Rattle.flow_recv.specs.Order.{InOrder, AllKnown}
-use Rattle.flow_recv.specs.Keyed.{run_at, without_run, with_run, changed_run, IsFree, IsFirstFrom, IsLastBelow, IsFollowed, IsFollowing, followed_at, following_at}
+use Rattle.flow_recv.specs.Keyed.{run_at, without_run, with_run, changed_run, over, IsFree, IsFirstFrom, IsLastBelow, IsFollowed, IsFollowing, followed_at, following_at}
 use Rattle.flow_recv.proofs.Bounds.{fits_parts}
 
 -- ---- members
@@ -167,16 +167,9 @@ here_changed f n y later e = ap (λ t. cond t (f y ∷ later) (y ∷ changed_run
 pub here_at : (n : ℕ) (y z : Run) (later : List Run) → (y.first == n) ≡ true → run_at n (y ∷ later) ≡ Some z → y ≡ z
 here_at n y z later e f = some_eq y z (sym (ap (λ t. cond t (Some y) (run_at n later)) e) ∙ f)
 
-append-assoc : (a b c : List ℕ) → a ++ (b ++ c) ≡ (a ++ b) ++ c
-append-assoc [] b c = refl
-append-assoc (x ∷ a) b c = ap (λ zs. x ∷ zs) (append-assoc a b c)
-
-join_both : (y x z : Run) → joined y (joined x z) ≡ joined (joined y x) z
-join_both y x z = ap (λ (bs : List ℕ). record { first = y.first; last = z.last; front = y.front; rear = z.rear; bytes = bs }) (append-assoc y.bytes x.bytes z.bytes)
-
 -- the run after the fragment is the next one
 next_run : (x y z : Run) (later : List Run) → x.first ≡ x.last → InOrder x.first later → IsFree x.first later → run_at z.first later ≡ Some z → fits x z ≡ true
-    → joined y (joined x z) ∷ without_run z.first later ≡ join_next (joined y x) later
+    → over y x.bytes z ∷ without_run z.first later ≡ join_next (joined y x) later
 next_run x y z [] s h free e f = absurd cc
 next_run x y z (w ∷ later) s h free e f =
     let p = fits_parts x z f in
@@ -185,8 +178,8 @@ next_run x y z (w ∷ later) s h free e f =
       | inl t ↦
           let g : w ≡ z = here_at z.first w z later t e in
           let u : fits (joined y x) w ≡ true = ap (λ (a : Run). fits (joined y x) a) g ∙ f in
-          ap (λ (zs : List Run). joined y (joined x z) ∷ zs) (here_without z.first w later t)
-          ∙ (ap (λ (a : Run). a ∷ later) (join_both y x z ∙ ap (λ (a : Run). joined (joined y x) a) (sym g)) ∙ sym (next_yes (joined y x) w later u))
+          ap (λ (zs : List Run). over y x.bytes z ∷ zs) (here_without z.first w later t)
+          ∙ (ap (λ (a : Run). over y x.bytes a ∷ later) (sym g) ∙ sym (next_yes (joined y x) w later u))
       | inr n ↦
           let q = at_in z.first later z (sym (skip_at z.first w later n) ∙ e) in
           let l = in_low (w.last + 1) later z h.2 q.0 in
@@ -195,12 +188,12 @@ next_run x y z (w ∷ later) s h free e f =
 
 -- the fragment joined to the run before it and to the one after it
 pub extends_both : (low : ℕ) (runs : List Run) (x y z : Run) → x.first ≡ x.last → InOrder low runs → IsFree x.first runs → run_at y.first runs ≡ Some y → fits y x ≡ true → run_at z.first runs ≡ Some z → fits x z ≡ true
-    → without_run z.first (changed_run (λ v. joined v (joined x z)) y.first runs) ≡ add_run x runs
+    → without_run z.first (changed_run (λ v. over v x.bytes z) y.first runs) ≡ add_run x runs
 extends_both low [] x y z s h free e f g k = absurd cc
 extends_both low (w ∷ later) x y z s h free e f g k =
     let p = fits_parts y x f in
     let r = fits_parts x z k in
-    let to : Run → Run = λ v. joined v (joined x z) in
+    let to : Run → Run = λ v. over v x.bytes z in
     elim (cases_Bool (w.first == y.first)) [
       | inl t ↦
           let same : w ≡ y = here_at y.first w y later t e in
@@ -312,8 +305,11 @@ free_none n low (y ∷ later) h f = skip_at n y later (ne_eqb y.first n (λ e. f
 
 -- ---- the same by the numbers that the runs begin with
 
-there : (o : Option Run) (y : Run) (P : Run → Type 0) → o ≡ Some y → IfSome o P → P y
-there o y P e h = subst (λ p. IfSome p P) e h
+if_there : (o : Option Run) (y : Run) (P : Run → Type 0) → o ≡ Some y → IfSome o P → P y
+if_there o y P e h = subst (λ p. IfSome p P) e h
+
+there_and : (o : Option Run) (y : Run) (P : Run → Type 0) → o ≡ Some y → IsSomeAnd o P → P y
+there_and o y P e h = subst (λ p. IsSomeAnd p P) e h
 
 pub extended_one : (runs : List Run) (x : Run) (f : ℕ) → InOrder 0 runs → IsSomeAnd (run_at f runs) (λ y. fits y x ≡ true) → IsFollowing x runs None → changed_run (λ v. joined v x) f runs ≡ add_run x runs
 extended_one runs x f h a b =
@@ -321,23 +317,35 @@ extended_one runs x f h a b =
     let n = (at_in f runs y.0 y.1).1 in
     ap (λ m. changed_run (λ v. joined v x) m runs) (sym n) ∙ extends_one 0 runs x y.0 h (ap (λ m. run_at m runs) n ∙ y.1) y.2 b
 
-pub extended_both : (runs : List Run) (x b : Run) (f g : ℕ) → x.first ≡ x.last → InOrder 0 runs → IsFree x.first runs → IsSomeAnd (run_at f runs) (λ y. fits y x ≡ true) → IsSomeAnd (run_at g runs) (λ z. fits x z ≡ true)
-    → IfSome (run_at g runs) (λ z. b ≡ joined x z) → without_run g (changed_run (λ v. joined v b) f runs) ≡ add_run x runs
-extended_both runs x b f g s h free a c e =
+pub extended_both : (runs new : List Run) (x : Run) (f g : ℕ) → x.first ≡ x.last → InOrder 0 runs → IsFree x.first runs → IsSomeAnd (run_at f runs) (λ y. fits y x ≡ true) → IsSomeAnd (run_at g runs) (λ z. fits x z ≡ true)
+    → IsSomeAnd (run_at g runs) (λ z. new ≡ without_run g (changed_run (λ v. over v x.bytes z) f runs)) → new ≡ add_run x runs
+extended_both runs new x f g s h free a c e =
     let y = opens_if (run_at f runs) (λ v. fits v x ≡ true) a in
     let z = opens_if (run_at g runs) (λ v. fits x v ≡ true) c in
     let n = (at_in f runs y.0 y.1).1 in
     let m = (at_in g runs z.0 z.1).1 in
-    let q : b ≡ joined x z.0 = there (run_at g runs) z.0 (λ v. b ≡ joined x v) z.1 e in
-    ap (λ k. without_run k (changed_run (λ v. joined v b) f runs)) (sym m)
-    ∙ (ap (λ k. without_run z.0.first (changed_run (λ v. joined v b) k runs)) (sym n)
-    ∙ (ap (λ (w : Run). without_run z.0.first (changed_run (λ v. joined v w) y.0.first runs)) q
+    there_and (run_at g runs) z.0 (λ v. new ≡ without_run g (changed_run (λ w. over w x.bytes v) f runs)) z.1 e
+    ∙ (ap (λ k. without_run k (changed_run (λ v. over v x.bytes z.0) f runs)) (sym m)
+    ∙ (ap (λ k. without_run z.0.first (changed_run (λ v. over v x.bytes z.0) k runs)) (sym n)
     ∙ extends_both 0 runs x y.0 z.0 s h free (ap (λ k. run_at k runs) n ∙ y.1) y.2 (ap (λ k. run_at k runs) m ∙ z.1) z.2))
+
+-- the two neighbours are two runs
+pub neighbours_apart : (runs : List Run) (x : Run) (f g : ℕ) → x.first ≡ x.last → InOrder 0 runs → IsSomeAnd (run_at f runs) (λ y. fits y x ≡ true) → IsSomeAnd (run_at g runs) (λ z. fits x z ≡ true) → (f == g) ≡ false
+neighbours_apart runs x f g s h a c =
+    let y = opens_if (run_at f runs) (λ v. fits v x ≡ true) a in
+    let z = opens_if (run_at g runs) (λ v. fits x v ≡ true) c in
+    let i = at_in f runs y.0 y.1 in
+    let m = (at_in g runs z.0 z.1).1 in
+    let l = in_low 0 runs y.0 h i.0 in
+    let p = fits_parts y.0 x y.2 in
+    let q = fits_parts x z.0 z.2 in
+    let n = i.1 in
+    ne_eqb f g (λ e. omega (arith, e, n, m, l.1, p.0, q.0, s))
 
 pub both_first : (runs : List Run) (x b : Run) (g : ℕ) → IsSomeAnd (run_at g runs) (λ z. fits x z ≡ true) → IfSome (run_at g runs) (λ z. b ≡ joined x z) → b.first ≡ x.first
 both_first runs x b g c e =
     let z = opens_if (run_at g runs) (λ v. fits x v ≡ true) c in
-    ap (λ (w : Run). w.first) (there (run_at g runs) z.0 (λ v. b ≡ joined x v) z.1 e)
+    ap (λ (w : Run). w.first) (if_there (run_at g runs) z.0 (λ v. b ≡ joined x v) z.1 e)
 
 pub put_both : (runs : List Run) (x b : Run) (g : ℕ) → x.first ≡ x.last → InOrder 0 runs → IsFree x.first runs → IsFollowed x runs None → IsSomeAnd (run_at g runs) (λ z. fits x z ≡ true)
     → IfSome (run_at g runs) (λ z. b ≡ joined x z) → without_run g (with_run b runs) ≡ add_run x runs
@@ -345,4 +353,4 @@ put_both runs x b g s h free a c e =
     let z = opens_if (run_at g runs) (λ v. fits x v ≡ true) c in
     let m = (at_in g runs z.0 z.1).1 in
     ap (λ k. without_run k (with_run b runs)) (sym m)
-    ∙ (ap (λ (w : Run). without_run z.0.first (with_run w runs)) (there (run_at g runs) z.0 (λ v. b ≡ joined x v) z.1 e) ∙ puts_both 0 runs x z.0 s h free a (ap (λ k. run_at k runs) m ∙ z.1) z.2)
+    ∙ (ap (λ (w : Run). without_run z.0.first (with_run w runs)) (if_there (run_at g runs) z.0 (λ v. b ≡ joined x v) z.1 e) ∙ puts_both 0 runs x z.0 s h free a (ap (λ k. run_at k runs) m ∙ z.1) z.2)

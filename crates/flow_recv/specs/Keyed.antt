@@ -1,5 +1,5 @@
 -- The runs by the number that each begins with.
-use Rattle.std.specs.Prelude.{ℕ, ◌≡◌, ◌==◌, ◌-◌, ◌+◌, ◌<◌, ◌≤◌, nat_lt, nat_le, ◌&&◌, ◌||◌, not, Bool, true, false, if◌then◌else◌, List, [], ◌∷◌, Option, Some, None, IsSome, length}
+use Rattle.std.specs.Prelude.{ℕ, ◌≡◌, ◌==◌, ◌-◌, ◌+◌, ◌<◌, ◌≤◌, nat_lt, nat_le, ◌&&◌, ◌||◌, not, Bool, true, false, if◌then◌else◌, List, [], ◌∷◌, ◌++◌, Option, Some, None, IsSome, length}
 use Rattle.std.specs.Option.{IsSomeAnd}
 use Rattle.std.specs.Map.{keys_of, values_of}
 use Rattle.std.specs.Ordering.{nat_cmp}
@@ -33,6 +33,18 @@ changed_run f n (y ∷ later) = if y.first == n then f y ∷ later else y ∷ ch
 abbrev pub changed_entry : (Run → Run) → ℕ → List (ℕ × Run) → List (ℕ × Run)
 changed_entry f n [] = []
 changed_entry f n (e ∷ later) = if e.0 == n then (e.0, f e.1) ∷ later else e ∷ changed_entry f n later
+
+-- without its bytes
+abbrev pub emptied : Run → Run
+emptied y = record { first = y.first; last = y.last; front = y.front; rear = y.rear; bytes = [] }
+
+-- two runs and the bytes between them, joined
+abbrev pub over : Run → List ℕ → Run → Run
+over y bytes z = record { first = y.first; last = z.last; front = y.front; rear = z.rear; bytes = (y.bytes ++ bytes) ++ z.bytes }
+
+abbrev pub rear_of : Option Run → Bool
+rear_of None = false
+rear_of (Some y) = y.rear
 
 abbrev pub front_of : Option Run → Bool
 front_of None = false

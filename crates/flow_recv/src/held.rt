@@ -1,13 +1,14 @@
 //! The runs of a flow as a map, by the number that each begins with.
 
-ghost use Rattle.std.specs.Prelude.{◌≡◌, ℕ, ◌<◌, ◌≤◌, ◌+◌, ◌∷◌, [], IfOk, IfSome, IfNone, OnOk, OnErr, List, Some, None, true, false, if◌then◌else◌, ◌&&◌};
-ghost use Rattle.std.specs.Option.{option_copied};
+ghost use Rattle.std.specs.Prelude.{◌≡◌, ℕ, ◌<◌, ◌≤◌, ◌+◌, ◌∷◌, [], IfOk, IfSome, IsSome, OnOk, OnErr, List, true, false, ◌==◌, if◌then◌else◌, ◌&&◌};
+ghost use Rattle.std.specs.Option.{option_copied, IsSomeAnd};
+ghost use Rattle.std.specs.Map.{remove_entry};
 ghost use Rattle.std.specs.Ordering.{nat_cmp};
-ghost use Rattle.std.specs.BTreeMap.{get};
+ghost use Rattle.std.specs.BTreeMap.{get, is_at, IsOrdered};
 ghost use Rattle.std.specs.BTreeSet.{insert_key};
 ghost use Rattle.rtmfp_data_chunks.specs.Runs.{single, joined, fits, is_whole};
 ghost use Rattle.flow_recv.specs.Receiver.{first_of, without_first};
-ghost use Rattle.flow_recv.specs.Keyed.{run_at, without_run, with_run, changed_run, changed_entry, front_of, IsFirstFrom, IsLastBelow};
+ghost use Rattle.flow_recv.specs.Keyed.{run_at, without_run, with_run, changed_run, changed_entry, front_of, rear_of, emptied, over, IsFirstFrom, IsLastBelow};
 
 use crate::run::{HeldRun, has_rear};
 use rtmfp_data_chunks::Part;
@@ -132,15 +133,25 @@ impl HeldRuns {
         Err(AllocError)
     }
 
-    /// Appends a later run to the run that begins with a number and that it follows and fits.
-    pub fn append_run(&mut self, first: u64, later: &HeldRun) -> Result<(), AllocError>
-        requires { IfSome (run_at first self.old) (λ y. fits y later.now ≡ true) }
-        ensures appended { OnOk result (self.new ≡ changed_run (λ y. joined y later.now) first self.old) }
+    /// Joins a fragment and the run after it to the run that it follows and fits.
+    pub fn join(
+        &mut self,
+        alloc: Global,
+        first: u64,
+        later: u64,
+        bytes: &[u8],
+    ) -> Result<(), AllocError>
+        requires apart { (first == later) ≡ false }
+        requires open { IfSome (run_at first self.old) (λ y. is_whole y ≡ false) }
+        requires there { IsSome (run_at later self.old) }
+        ensures joined { OnOk result (IsSomeAnd (run_at later self.old) (λ z. self.new ≡ without_run later (changed_run (λ y. over y bytes.now z) first self.old))) }
         ensures unchanged { OnErr result (self.new ≡ self.old) }
     {
-        let whole = becomes_whole(&self.map, first, later.has_rear());
+        let rear = has_rear_at(&self.map, later);
+        let whole = becomes_whole(&self.map, first, rear);
         mark_whole(&mut self.whole, first, whole)?;
-        if append_run_at(&mut self.map, first, later).is_ok() {
+        if join_at(&mut self.map, alloc, first, later, bytes).is_ok() {
+            self.whole.remove(&later);
             return Ok(());
         }
         self.whole.remove(&first);
@@ -197,17 +208,78 @@ fn append_at(
     }
 }
 
-/// Appends a later run to the run that begins with a number.
-fn append_run_at(
+/// Whether the run that begins with a number ends a message.
+fn has_rear_at(map: &BTreeMap<u64, HeldRun>, first: u64) -> bool
+    ensures { result ≡ rear_of (get nat_cmp map.now first) }
+{
+    match map.get(&first) {
+        Some(run) => run.has_rear(),
+        None => false,
+    }
+}
+
+/// Takes out the run that begins with a number. Its numbers stay, with no bytes.
+fn take_out_at(map: &mut BTreeMap<u64, HeldRun>, alloc: Global, first: u64) -> Option<HeldRun>
+    ensures run { result ≡ get nat_cmp map.old first }
+    ensures left { map.new.entries ≡ changed_entry emptied first map.old.entries }
+{
+    match map.get_mut(&first) {
+        Some(run) => Some(run.take_out(alloc)),
+        None => None,
+    }
+}
+
+/// Puts a run back where it was taken out.
+fn put_back_at(map: &mut BTreeMap<u64, HeldRun>, first: u64, run: HeldRun)
+    ensures { map.new.entries ≡ changed_entry (λ y. run) first map.old.entries }
+{
+    match map.get_mut(&first) {
+        Some(left) => *left = run,
+        None => {}
+    }
+}
+
+/// Appends a fragment and a later run to the run that begins with a number.
+fn append_both_at(
     map: &mut BTreeMap<u64, HeldRun>,
     first: u64,
+    bytes: &[u8],
     later: &HeldRun,
 ) -> Result<(), AllocError>
-    ensures appended { OnOk result (map.new.entries ≡ changed_entry (λ y. joined y later.now) first map.old.entries) }
+    ensures appended { OnOk result (map.new.entries ≡ changed_entry (λ y. over y bytes.now later.now) first map.old.entries) }
     ensures unchanged { OnErr result (map.new.entries ≡ map.old.entries) }
 {
     match map.get_mut(&first) {
-        Some(run) => run.append_run(later),
+        Some(run) => run.append_both(bytes, later),
         None => Ok(()),
+    }
+}
+
+/// Joins a fragment and the run that begins with a later number to the run that begins with a number.
+fn join_at(
+    map: &mut BTreeMap<u64, HeldRun>,
+    alloc: Global,
+    first: u64,
+    later: u64,
+    bytes: &[u8],
+) -> Result<(), AllocError>
+    requires apart { (first == later) ≡ false }
+    requires there { IsSome (get nat_cmp map.old later) }
+    ensures joined { OnOk result (IsSomeAnd (get nat_cmp map.old later) (λ z. map.new.entries ≡ remove_entry (is_at (nat_cmp later)) (changed_entry (λ y. over y bytes.now z) first map.old.entries))) }
+    ensures ordered { OnOk result (IsOrdered nat_cmp map.new) }
+    ensures unchanged { OnErr result (map.new.entries ≡ map.old.entries) }
+{
+    let Some(run) = take_out_at(map, alloc, later) else {
+        return Err(AllocError);
+    };
+    match append_both_at(map, first, bytes, &run) {
+        Ok(()) => {
+            map.remove(&later);
+            Ok(())
+        }
+        Err(refused) => {
+            put_back_at(map, later, run);
+            Err(refused)
+        }
     }
 }

@@ -3,13 +3,14 @@
 ghost use Rattle.std.specs.Prelude.{◌≡◌, ◌+◌, ◌<◌, ◌≤◌, ◌^◌, ◌∷◌, [], IfOk, OnOk, OnErr, List, ◌++◌, length, false};
 ghost use Rattle.rtmfp_data_chunks.specs.Runs.{fits, joined, single, is_whole, has_front, has_rear};
 ghost use Rattle.flow_recv.specs.Receiver.{Apart, is_alive, span, lacks, hands};
-ghost use Rattle.flow_recv.specs.Keyed.{is_between};
+ghost use Rattle.flow_recv.specs.Keyed.{is_between, emptied, over};
 
 use crate::above::Above;
 use crate::spans::lacks;
 use rtmfp_data_chunks::Part;
 use std::alloc::{AllocError, Global};
 use std::marker::Model;
+use std::mem;
 
 /// A run with its bytes. It has its front where its first fragment begins a message, its rear where its last one
 /// ends it.
@@ -116,11 +117,29 @@ impl HeldRun {
         Ok(())
     }
 
-    /// Joins a run that follows it to the rear.
-    pub fn append_run(&mut self, later: &HeldRun) -> Result<(), AllocError>
-        ensures joined { OnOk result (self.new ≡ joined self.old later.now) }
+    /// Takes it out, with its bytes. What is left has its numbers and no bytes.
+    pub fn take_out(&mut self, alloc: Global) -> HeldRun
+        ensures out { result ≡ self.old }
+        ensures left { self.new ≡ emptied self.old }
+    {
+        let bytes = mem::replace(&mut self.bytes, Vec::new(alloc));
+        HeldRun {
+            first: self.first,
+            last: self.last,
+            front: self.front,
+            rear: self.rear,
+            bytes,
+        }
+    }
+
+    /// Joins a fragment and the run that follows it to the rear.
+    pub fn append_both(&mut self, bytes: &[u8], later: &HeldRun) -> Result<(), AllocError>
+        ensures joined { OnOk result (self.new ≡ over self.old bytes.now later.now) }
         ensures unchanged { OnErr result (self.new ≡ self.old) }
     {
+        self.bytes
+            .reserve(bytes.len().saturating_add(later.bytes.len()))?;
+        self.bytes.extend_from_slice(bytes)?;
         self.bytes.extend_from_slice(&later.bytes)?;
         self.last = later.last;
         self.rear = later.rear;

@@ -97,10 +97,7 @@ fn extend(
     let Some(later) = following(runs, number, part) else {
         return runs.append(first, number, part, bytes);
     };
-    let both = before(alloc, runs, later, number, part, bytes)?;
-    runs.append_run(first, &both)?;
-    runs.remove(later);
-    Ok(())
+    runs.join(alloc, first, later, bytes)
 }
 
 /// Adds a fragment that follows and fits no run, joined to the run after it where that one fits.
