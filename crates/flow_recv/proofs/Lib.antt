@@ -21,3 +21,4 @@ pub mod Finding
 pub mod Placing
 pub mod Walking
 pub mod Passing
+pub mod Wholes

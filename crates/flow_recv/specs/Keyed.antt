@@ -60,6 +60,10 @@ abbrev pub whole_firsts : List Run → List ℕ
 whole_firsts [] = []
 whole_firsts (y ∷ later) = if is_whole y then y.first ∷ whole_firsts later else whole_firsts later
 
+abbrev pub AllWhole : List Run → Type 0
+AllWhole [] = Unit {0}
+AllWhole (y ∷ later) = (is_whole y ≡ true) × AllWhole later
+
 -- the entries rise and have the numbers that their runs begin with, and the keys are those of the whole runs
 pub record IsKept (entries : List (ℕ × Run)) (keys : List ℕ) : Type 0 where
   pub order : IsStrictlySortedBy nat_cmp (keys_of entries)

@@ -8,7 +8,7 @@ ghost use Rattle.std.specs.BTreeMap.{get, is_at, IsOrdered};
 ghost use Rattle.std.specs.BTreeSet.{insert_key};
 ghost use Rattle.rtmfp_data_chunks.specs.Runs.{single, joined, fits, is_whole};
 ghost use Rattle.flow_recv.specs.Receiver.{first_of, without_first};
-ghost use Rattle.flow_recv.specs.Keyed.{run_at, without_run, with_run, changed_run, changed_entry, front_of, rear_of, emptied, over, IsFirstFrom, IsLastBelow};
+ghost use Rattle.flow_recv.specs.Keyed.{AllWhole, run_at, without_run, with_run, changed_run, changed_entry, front_of, rear_of, emptied, over, IsFirstFrom, IsLastBelow};
 
 use crate::run::{HeldRun, has_rear};
 use rtmfp_data_chunks::Part;
@@ -45,6 +45,13 @@ impl HeldRuns {
             map: BTreeMap::new(alloc),
             whole: BTreeSet::new(alloc),
         }
+    }
+
+    /// Whether each run is whole.
+    pub fn are_whole(&self) -> bool
+        ensures { result ≡ true → AllWhole self.now }
+    {
+        self.map.len() == self.whole.len()
     }
 
     /// The run that begins with a number.

@@ -211,7 +211,7 @@ fn bytes_unless_stays(
 }
 
 /// Drops those of the runs that have one of the numbers between two or lie beside one, and that can't become messages
-/// any more. The answer is how many bytes they held.
+/// any more. The answer is how many bytes they held. A whole run is a message already.
 pub fn drop_dead(runs: &mut HeldRuns, low: u64, high: u64, through: u64, above: &Above) -> u64
     requires apart { Apart above.now }
     requires order { InOrder 0 runs.old }
@@ -219,6 +219,9 @@ pub fn drop_dead(runs: &mut HeldRuns, low: u64, high: u64, through: u64, above: 
     ensures kept { runs.new ≡ filter (stays (span 0 through ∷ above.now) low high) runs.old }
     ensures dropped { held_in runs.new + result ≡ held_in runs.old }
 {
+    if runs.are_whole() {
+        return 0;
+    }
     let mut next = reaching(runs, low);
     let mut dropped = 0;
     while let Some(first) = next {
@@ -238,6 +241,9 @@ pub fn dying_bytes(runs: &HeldRuns, low: u64, high: u64, through: u64, above: &A
     requires few { held_in runs.now < 2 ^ 32 }
     ensures { held_in (filter (stays (span 0 through ∷ above.now) low high) runs.now) + result ≡ held_in runs.now }
 {
+    if runs.are_whole() {
+        return 0;
+    }
     let mut next = reaching(runs, low);
     let mut dying = 0;
     while let Some(first) = next {

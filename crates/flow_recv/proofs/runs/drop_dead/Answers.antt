@@ -5,6 +5,7 @@ use Rattle.flow_recv.specs.Receiver.{span}
 use Rattle.flow_recv.specs.Order.{InOrder}
 use Rattle.flow_recv.specs.Keyed.{stays, is_left}
 use Rattle.flow_recv.proofs.Laying.{order_filter}
+use Rattle.flow_recv.proofs.Wholes.{wholes_stay}
 use Rattle.flow_recv.proofs.Walking.{walk_begins, walk_step, goes_left}
 use Rattle.flow_recv.proofs.runs.drop_dead.Goals as goal
 
@@ -34,3 +35,6 @@ loop-next-preserved c =
       kept = step ∙ walk_step f test old c.after-next.result (goes_left f test old new c.after-next.result c.requires.order order step c.after-next.ensures);
       dropped = omega (arith, c.drop_unless_stays-dropped.ensures.dropped, c.loop-next.invariant.dropped);
     }
+
+pub returns-then-are_whole-clause-kept : goal.returns-then-are_whole-clause-kept
+returns-then-are_whole-clause-kept c = sym (wholes_stay (span 0 c.args.through ∷ c.args.above.now) c.args.low c.args.high c.args.runs.now (c.are_whole.ensures c.if-are_whole.true))
