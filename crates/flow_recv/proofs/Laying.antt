@@ -69,10 +69,6 @@ order_next : (low : ℕ) (x : Run) (runs : List Run) → low ≤ x.first → x.f
 order_next low x [] lo up h = (lo, up, tt)
 order_next low x (y ∷ later) lo up h = order_next_if low x y later (fits x y) refl lo up h
 
-stop_if : (f : Bool) (l n : ℕ) → f ≡ false → (not f && nat_lt l n) ≡ false → n ≤ l
-stop_if true l n e g = absurd cc
-stop_if false l n e g = let k : nat_lt l n ≡ false = g in ltb-false l n k
-
 go_if : (f : Bool) (l n : ℕ) → (not f && nat_lt l n) ≡ true → l < n
 go_if true l n g = absurd cc
 go_if false l n g = let k : nat_lt l n ≡ true = g in ltb-true l n k

@@ -1,17 +1,11 @@
 -- The first run that may be handed over in queueing order.
-use Rattle.std.proofs.Common.{◌≡◌, ℕ, zero, suc, ◌+◌, ◌-◌, ◌<◌, ◌≤◌, nat_lt, nat_le, cond, not, min, max, Some, Bool, true, false, ◌&&◌, ◌||◌, List, [], ◌∷◌, ◌++◌, length, get_or, take, drop, Option, None, refl, ap, sym, ◌∙◌, subst, arith, inl, inr}
-use Rattle.std.specs.Prelude.{IsSome, OnSome}
-use Rattle.std.specs.List.{AllWithin, remove}
-use Rattle.std.specs.List.Sorted.{IsPartitionedBy}
-use Rattle.std.proofs.lemmas.Bool.{cases_Bool, cases_lt, ltb-true, ltb-false, lt-ltb, le-leb, lt-leb}
-use Rattle.rtmfp_data_chunks.specs.HandsOver.{IsIn}
+use Rattle.std.proofs.Common.{◌≡◌, ℕ, ◌+◌, ◌-◌, ◌<◌, ◌≤◌, nat_le, cond, not, Bool, true, false, ◌||◌, List, [], ◌∷◌, None, refl, ap, sym, ◌∙◌, arith, inl, inr}
+use Rattle.std.proofs.lemmas.Bool.{cases_lt, le-leb, lt-leb}
 use Rattle.flow_recv.specs.declared.spans.Span.{Span}
 use Rattle.rtmfp_data_chunks.specs.Runs.{Run}
-use Rattle.flow_recv.specs.Receiver.{Apart, covers, knows, lacks, span, add_span, hands, first_of, without_first}
+use Rattle.flow_recv.specs.Receiver.{covers, knows, lacks, span, hands, first_of, without_first}
 use Rattle.flow_recv.specs.Order.{InOrder, AllOpen}
 use Rattle.flow_recv.specs.Sound.{AllAlive}
-use Rattle.flow_recv.proofs.Knowing.{known_above}
-use Rattle.flow_recv.proofs.Adding.{add_join}
 use Rattle.flow_recv.proofs.Bounds.{alive_is}
 
 -- ---- the first run in queueing order

@@ -1,8 +1,7 @@
 -- What a chunk that isn't refused leaves.
-use Rattle.std.proofs.Common.{◌≡◌, ℕ, ◌+◌, ◌<◌, ◌≤◌, nat_lt, ◌==◌, cond, not, Bool, true, false, ◌&&◌, ◌||◌, List, ◌∷◌, length, Option, Some, None, refl, ap, sym, ◌∙◌, subst, arith, inl, inr}
+use Rattle.std.proofs.Common.{◌≡◌, ℕ, ◌+◌, ◌<◌, ◌≤◌, nat_lt, ◌==◌, cond, not, Bool, true, false, ◌&&◌, ◌||◌, length, Option, Some, None, refl, ap, sym, ◌∙◌, subst, arith, inl, inr}
 use Rattle.std.proofs.lemmas.Bool.{cases_Bool, lt-ltb, ltb-false}
 use Rattle.std.proofs.lemmas.Bool.Decides.{nat_tests}
-use Rattle.flow_recv.specs.declared.spans.Span.{Span}
 use Rattle.rtmfp_data_chunks.specs.Runs.{Chunk, single}
 use Rattle.flow_recv.specs.Receiver.{Receiver, span, covers, lacks, knows, end_of_first, living, held_in, add_run, spans_forward, runs_forward, spans_after, runs_after, holds, counted, passes_buffer, beyond_buffer, after_final}
 use Rattle.flow_recv.specs.declared.outcome.FlowRefusal.{FlowRefusal}
@@ -78,10 +77,6 @@ after_none (Some n) f e = absurd cc
 
 pub not_beyond : (r : Receiver) (c : Chunk) → refusal r c ≡ None → beyond_buffer r c ≡ None
 not_beyond r c e = beyond_none (beyond_buffer r c) (after_none (after_final r c) (beyond (beyond_buffer r c)) e)
-
-pub formed_after : (r : Receiver) (c : Chunk) (s : Span) (above : List Span) → Formed r.spans → s ∷ above ≡ spans_after r c → Formed above
-formed_after r c s above formed e =
-    let f : Formed (s ∷ above) = subst Formed (sym e) (formed_add c.seq c.seq (spans_forward r c) (omega arith) (formed_add 0 c.forward r.spans (omega arith) formed)) in f.1
 
 -- a fragment that is held has no more bytes than the buffer
 added_if : (r : Receiver) (c : Chunk) (t : Bool) → (c.abandon ≡ false → c.forward < c.seq) → beyond_buffer r c ≡ None → holds r c ≡ t → cond t (length c.bytes) 0 ≤ 3145728

@@ -1,5 +1,5 @@
 -- Whole runs stay.
-use Rattle.std.proofs.Common.{◌≡◌, ℕ, ◌+◌, ◌-◌, ◌<◌, ◌≤◌, cond, not, Bool, true, false, ◌||◌, List, [], ◌∷◌, length, refl, ap, sym, ◌∙◌, arith}
+use Rattle.std.proofs.Common.{◌≡◌, ℕ, ◌+◌, ◌-◌, ◌≤◌, cond, not, Bool, true, false, ◌||◌, List, [], ◌∷◌, length, refl, ap, ◌∙◌, arith}
 use Rattle.std.specs.List.{filter}
 use Rattle.flow_recv.specs.declared.spans.Span.{Span}
 use Rattle.rtmfp_data_chunks.specs.Runs.{Run, is_whole}

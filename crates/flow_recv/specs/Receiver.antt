@@ -1,5 +1,5 @@
 -- What a receiving flow keeps, and how each call changes it.
-use Rattle.std.specs.Prelude.{ℕ, ◌≡◌, ◌<◌, ◌≤◌, ◌+◌, ◌-◌, ◌==◌, if◌then◌else◌, nat_le, nat_lt, min, max, not, Bool, true, false, ◌&&◌, List, [], ◌∷◌, Option, Some, None, length}
+use Rattle.std.specs.Prelude.{ℕ, ◌≡◌, ◌<◌, ◌≤◌, ◌+◌, ◌-◌, ◌==◌, if◌then◌else◌, nat_le, nat_lt, min, max, not, Bool, true, ◌&&◌, List, [], ◌∷◌, Option, Some, None, length}
 use Rattle.std.specs.List.{filter, sum_by, list_any}
 use Rattle.rtmfp_data_chunks.specs.HandsOver.{IsIn}
 use Rattle.flow_recv.specs.declared.spans.Span.{Span}
@@ -60,11 +60,6 @@ through_in r = end_of_first r.spans
 abbrev pub join_next : Run → List Run → List Run
 join_next x [] = x ∷ []
 join_next x (y ∷ later) = if fits x y then joined x y ∷ later else x ∷ y ∷ later
-
--- the first of the runs follows x and fits
-abbrev pub fits_first : Run → List Run → Bool
-fits_first x [] = false
-fits_first x (y ∷ later) = fits x y
 
 abbrev pub join_before : Run → List Run → List Run
 join_before x [] = x ∷ []
