@@ -12,6 +12,3 @@ pub use address_list::Addresses;
 pub use reading::{ChunkFault, read_chunk};
 pub use view::ChunkView;
 pub use writing::write_chunk;
-
-#[cfg(test)]
-mod tests;

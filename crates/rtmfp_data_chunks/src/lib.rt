@@ -15,6 +15,3 @@ pub use cursor::DataCursor;
 pub use user_data::{Part, UserData};
 pub use view::{DataFault, DataView};
 pub use writing::write_data;
-
-#[cfg(test)]
-mod tests;

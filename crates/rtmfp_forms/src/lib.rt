@@ -12,6 +12,3 @@ pub use fault::FormFault;
 pub use option_writing::{append_options, options_len, write_options};
 pub use options::{OptionView, Options, read_options};
 pub use outgoing::{NoRoom, Outgoing};
-
-#[cfg(test)]
-mod tests;

@@ -6,6 +6,3 @@ mod writing;
 
 pub use reading::{VluFault, read_vlu};
 pub use writing::{vlu_len, write_vlu};
-
-#[cfg(test)]
-mod tests;
