@@ -104,7 +104,7 @@ module _ (bytes : List ℕ) (context : Context) where
   unsent_not o sent is e = not_false (list_any (is_sent bytes context) sent) (sym (ap (λ (x : Option Context). is_unsent_in x bytes sent) is) ∙ e)
 
 -- the test of the end with this number
-forged_there : (ends : List EndSeen) (who : ℕ) (end : EndSeen) (bytes : List ℕ) (sent : List Sent) → slice_get ends who ≡ Some end → is_forged_at ends who bytes sent ≡ is_unsent_in (opens_in end.state bytes) bytes sent
+pub forged_there : (ends : List EndSeen) (who : ℕ) (end : EndSeen) (bytes : List ℕ) (sent : List Sent) → slice_get ends who ≡ Some end → is_forged_at ends who bytes sent ≡ is_unsent_in (opens_in end.state bytes) bytes sent
 forged_there [] who end bytes sent e = absurd (cc)
 forged_there (x ∷ ends) zero end bytes sent e = let same : x ≡ end = cc in ap (λ (y : EndSeen). is_unsent_in (opens_in y.state bytes) bytes sent) same
 forged_there (x ∷ ends) (suc who) end bytes sent e =

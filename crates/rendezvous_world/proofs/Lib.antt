@@ -13,3 +13,4 @@ pub mod Agreeing
 pub mod Refusing
 pub mod Pieces
 pub mod Fetching
+pub mod Dishonest

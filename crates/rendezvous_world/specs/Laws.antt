@@ -1,16 +1,20 @@
 -- The laws of worlds.
-use Rattle.std.specs.Prelude.{ℕ, ◌≡◌, ◌<◌, ◌^◌, ◌⊎◌, [], None}
+use Rattle.std.specs.Prelude.{ℕ, ◌≡◌, ◌<◌, ◌^◌, ◌⊎◌, List, [], slice_get, None, Some, true}
 use Rattle.identity.specs.Certificates.{IsCertificate}
+use Rattle.rtmfp_forms.specs.Address.{AddressParts}
+use Rattle.endpoint.specs.declared.config.Draws.{Draws}
+use Rattle.endpoint.specs.Event.{Receive}
+use Rattle.endpoint.specs.History.{IsHonestCall, facts_at}
 use Rattle.endpoint.specs.Laws.{AreBytes}
 use Rattle.endpoint.specs.Agreed.{IsAgreed}
 use Rattle.rendezvous_world.specs.declared.journal.JournalLine.{JournalLine}
 use Rattle.rendezvous_world.specs.declared.step.Step.{Step}
 use Rattle.rendezvous_world.specs.declared.step.Step.TheVariants.{End}
-use Rattle.rendezvous_world.specs.Seen.{Seen, setup_at}
+use Rattle.rendezvous_world.specs.Seen.{EndSeen, Seen, setup_at}
 use Rattle.rendezvous_world.specs.Sent.{sent_in}
 use Rattle.rendezvous_world.specs.Datagrams.{datagram_of}
 use Rattle.rendezvous_world.specs.History.{bytes_or_none, history_of}
-use Rattle.rendezvous_world.specs.Faults.{step_fault}
+use Rattle.rendezvous_world.specs.Faults.{is_forged_at, step_fault}
 use Rattle.rendezvous_world.specs.Stepping.{Called, Stepped, StoppedIn, Noted}
 use Rattle.rendezvous_world.specs.Sound.{IsSound, AreBelow}
 use Rattle.rendezvous_world.specs.Kept.{IsWorld}
@@ -28,6 +32,12 @@ abbrev pub EveryCallKeepsAWorld : Type 0
 EveryCallKeepsAWorld =
     (w : Seen) (number : ℕ) (step : Step) (line : JournalLine) (t : Seen) → IsWorld w → AreBelow w.lines number → number < 2 ^ 32 → step_fault w step ≡ None →
     Called w number step line t → AreBytes (bytes_or_none line.datagram) → IsWorld t
+
+-- A datagram for which a step is refused as forged would break that the history is honest: taken next by that end, with whatever values, it wasn't sent in the context in which it opens.
+abbrev pub EveryForgedDatagramIsDishonest : Type 0
+EveryForgedDatagramIsDishonest =
+    (w : Seen) (who : ℕ) (end : EndSeen) (bytes : List ℕ) (from : AddressParts) (draws : Draws) → IsWorld w → slice_get w.ends who ≡ Some end →
+    is_forged_at w.ends who bytes (sent_in w.lines) ≡ true → IsHonestCall (setup_at w.ends who) (facts_at who (history_of w)) (history_of w) (Receive from bytes draws) → ⊥
 
 -- ---- a whole run
 

@@ -11,3 +11,4 @@ pub mod Inside
 pub mod Kept
 pub mod Laws
 pub mod Pairs
+pub mod Edges

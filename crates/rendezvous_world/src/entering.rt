@@ -13,7 +13,7 @@ use rtmfp_base::{Memory, Message};
 use std::alloc::Global;
 
 /// How many entries of a call need no further memory for their list.
-const ROOM: u32 = 4;
+const ROOM: u32 = 1;
 
 /// Puts an item at the end, where there is room.
 pub(crate) fn put<T: Drop>(items: &mut Vec<T>, item: T)

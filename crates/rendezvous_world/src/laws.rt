@@ -1,7 +1,7 @@
 //! What holds of every world. The functions do nothing: the contract of each is its law.
 
 ghost use Rattle.rendezvous_world.specs.Kept.{IsWorld};
-ghost use Rattle.rendezvous_world.specs.Laws.{EveryWorldIsSound, EveryWorldIsAgreed, EveryCallKeepsAWorld, EveryStepKeepsAWorld, empty_world};
+ghost use Rattle.rendezvous_world.specs.Laws.{EveryWorldIsSound, EveryWorldIsAgreed, EveryCallKeepsAWorld, EveryForgedDatagramIsDishonest, EveryStepKeepsAWorld, empty_world};
 
 /// The history of each world is lawful, honest and fresh, and each end stands for its own log, but that it may keep a later moment.
 pub fn every_world_is_sound()
@@ -22,4 +22,9 @@ pub fn every_call_keeps_a_world()
 pub fn every_step_keeps_a_world()
     ensures first { IsWorld empty_world }
     ensures next { EveryStepKeepsAWorld }
+{}
+
+/// Where a step is refused as forged, the history with its datagram wouldn't be honest. With `every_step_keeps_a_world`, whose histories are honest, a datagram is refused as forged exactly where it has to be.
+pub fn every_forged_datagram_is_dishonest()
+    ensures { EveryForgedDatagramIsDishonest }
 {}

@@ -4,6 +4,7 @@
 mod bringing;
 mod calls;
 mod draws;
+pub mod edges;
 mod end;
 mod entering;
 mod forgery;

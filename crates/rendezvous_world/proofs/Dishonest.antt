@@ -1,0 +1,122 @@
+-- A step that is refused as forged would break that the history is honest.
+use Rattle.std.proofs.Common.{◌≡◌, ℕ, ◌==◌, List, [], ◌∷◌, ◌++◌, slice_get, Bool, true, false, if◌then◌else◌, not, ◌&&◌, ◌||◌, Option, Some, None, inl, inr, ◌⊎◌, refl, sym, ap, ◌∙◌, subst, arith}
+use Rattle.std.specs.Str.{bytes_eq}
+use Rattle.std.specs.List.{list_any}
+use Rattle.std.proofs.lemmas.Bool.Decides.{nat_tests}
+use Rattle.std.proofs.lemmas.Slice.Eq.{bytes_eq-Decides}
+use Rattle.crypto_profile.specs.declared.keys.Context.{Context}
+use Rattle.crypto_profile.specs.declared.keys.Context.TheVariants.{Startup, Session}
+use Rattle.endpoint.specs.declared.entry.Entry.{Entry}
+use Rattle.endpoint.specs.declared.entry.Entry.TheVariants.{Fact, Discard, Out}
+use Rattle.endpoint.specs.declared.config.Draws.{Draws}
+use Rattle.rtmfp_forms.specs.Address.{AddressParts}
+use Rattle.endpoint.specs.Event.{Setup, Receive}
+use Rattle.endpoint.specs.History.{History, HasOut, WasSent, IsHonestCall, facts_at, log_of}
+use Rattle.endpoint.specs.OpensIn.{opens_in, OpensAt}
+use Rattle.endpoint.proofs.Opened.{opens_in_told}
+use Rattle.rendezvous_world.specs.declared.journal.JournalLine.{JournalLine}
+use Rattle.rendezvous_world.specs.Seen.{EndSeen, Seen, setup_at}
+use Rattle.rendezvous_world.specs.Sent.{Sent, sent_among, sent_in}
+use Rattle.rendezvous_world.specs.History.{happened, after_lines, history_of}
+use Rattle.rendezvous_world.specs.Faults.{same_context, is_sent, is_unsent_in, is_forged_at}
+use Rattle.rendezvous_world.specs.Sound.{StandsUpTo}
+use Rattle.rendezvous_world.specs.Kept.{IsWorld}
+use Rattle.rendezvous_world.proofs.Ends.{setup_is}
+use Rattle.rendezvous_world.proofs.Forging.{forged_there}
+use Rattle.rendezvous_world.specs.Laws.{EveryForgedDatagramIsDishonest}
+use Rattle.rendezvous_world.proofs.Noting.{opens_noted}
+
+same_list : (x : List ℕ) → bytes_eq x x ≡ true
+same_list x = (bytes_eq-Decides x x).1 refl
+
+same_nat : (a : ℕ) → (a == a) ≡ true
+same_nat a = grind (arith, nat_tests)
+
+same_flag : (a : Bool) → (if a then a else not a) ≡ true
+same_flag true = refl
+same_flag false = refl
+
+all_true : (a b c d e f g : Bool) → a ≡ true → b ≡ true → c ≡ true → d ≡ true → e ≡ true → f ≡ true → g ≡ true → (a && b && c && d && e && f && g) ≡ true
+all_true a b c d e f g pa pb pc pd pe pf pg = cc
+
+same_itself : (c : Context) → same_context c c ≡ true
+same_itself Startup = refl
+same_itself (Session ni nr fp_i fp_r sid_i sid_r way) =
+    all_true (bytes_eq ni ni) (bytes_eq nr nr) (bytes_eq fp_i fp_i) (bytes_eq fp_r fp_r) (sid_i == sid_i) (sid_r == sid_r) (if way then way else not way)
+    (same_list ni) (same_list nr) (same_list fp_i) (same_list fp_r) (same_nat sid_i) (same_nat sid_r) (same_flag way)
+
+module _ (bytes : List ℕ) (context : Context) where
+  sent_itself : (by : ℕ) (to : AddressParts) (datagram : List ℕ) (sealed_for : Context) → datagram ≡ bytes → sealed_for ≡ context →
+      is_sent bytes context (record { by = by; to = to; datagram = datagram; context = sealed_for }) ≡ true
+  sent_itself by to datagram sealed_for e f =
+      ap (λ (x : List ℕ). bytes_eq x bytes && same_context sealed_for context) e
+      ∙ ap (λ (c : Context). bytes_eq bytes bytes && same_context c context) f
+      ∙ ap (λ (b : Bool). b && same_context context context) (same_list bytes) ∙ same_itself context
+
+  or_first : (a b : Bool) → a ≡ true → (a || b) ≡ true
+  or_first a b e = cc
+
+  or_second : (a b : Bool) → b ≡ true → (a || b) ≡ true
+  or_second true b e = refl
+  or_second false b e = e
+
+  in_entries : (by : ℕ) (entries : List Entry) (rest : List Sent) → HasOut bytes context entries → list_any (is_sent bytes context) (sent_among by entries ++ rest) ≡ true
+  in_entries by [] rest h = absurd h
+  in_entries by (Fact fact ∷ entries) rest (inl h) = absurd h
+  in_entries by (Fact fact ∷ entries) rest (inr h) = in_entries by entries rest h
+  in_entries by (Discard place cause ∷ entries) rest (inl h) = absurd h
+  in_entries by (Discard place cause ∷ entries) rest (inr h) = in_entries by entries rest h
+  in_entries by (Out to datagram sealed_for ∷ entries) rest (inl h) =
+      or_first (is_sent bytes context (record { by = by; to = to; datagram = datagram; context = sealed_for })) (list_any (is_sent bytes context) (sent_among by entries ++ rest)) (sent_itself by to datagram sealed_for h.0 h.1)
+  in_entries by (Out to datagram sealed_for ∷ entries) rest (inr h) =
+      or_second (is_sent bytes context (record { by = by; to = to; datagram = datagram; context = sealed_for })) (list_any (is_sent bytes context) (sent_among by entries ++ rest)) (in_entries by entries rest h)
+
+  past_entries : (by : ℕ) (entries : List Entry) (rest : List Sent) → list_any (is_sent bytes context) rest ≡ true → list_any (is_sent bytes context) (sent_among by entries ++ rest) ≡ true
+  past_entries by [] rest e = e
+  past_entries by (Fact fact ∷ entries) rest e = past_entries by entries rest e
+  past_entries by (Discard place cause ∷ entries) rest e = past_entries by entries rest e
+  past_entries by (Out to datagram sealed_for ∷ entries) rest e =
+      or_second (is_sent bytes context (record { by = by; to = to; datagram = datagram; context = sealed_for })) (list_any (is_sent bytes context) (sent_among by entries ++ rest)) (past_entries by entries rest e)
+
+  in_lines : (ends : List EndSeen) (lines : List JournalLine) (earlier : History) → WasSent bytes context (after_lines ends lines earlier) → WasSent bytes context earlier ⊎ (list_any (is_sent bytes context) (sent_in lines) ≡ true)
+  in_lines ends [] earlier h = inl h
+  in_lines ends (line ∷ lines) earlier h = elim (in_lines ends lines (happened ends line ∷ earlier) h) [
+    | inl early ↦ (elim early [
+      | inl here ↦ inr (in_entries line.end line.out.entries (sent_in lines) here)
+      | inr before ↦ inl before
+    ])
+    | inr later ↦ inr (past_entries line.end line.out.entries (sent_in lines) later)
+  ]
+
+  not_true : (b : Bool) → not b ≡ true → b ≡ true → ⊥
+  not_true true e f = absurd (cc)
+  not_true false e f = absurd (cc)
+
+  unsent_context : (o : Option Context) (sent : List Sent) → is_unsent_in o bytes sent ≡ true → (c : Context) × (o ≡ Some c)
+  unsent_context None sent e = absurd (cc)
+  unsent_context (Some c) sent e = (c, refl)
+
+module _ (w : Seen) (is : IsWorld w) where
+  -- The datagram opens at the end, and none with its bytes was sent in that context: a history in which it comes next isn't honest.
+  pub dishonest : (who : ℕ) (end : EndSeen) (bytes : List ℕ) (from : AddressParts) (draws : Draws) → slice_get w.ends who ≡ Some end →
+      is_unsent_in (opens_in end.state bytes) bytes (sent_in w.lines) ≡ true →
+      IsHonestCall (setup_at w.ends who) (facts_at who (history_of w)) (history_of w) (Receive from bytes draws) → ⊥
+  dishonest who end bytes from draws there unsent honest =
+      let stands : StandsUpTo w.moment end.setup (log_of who (history_of w)) end.state = is.stand who end there in
+      let found = unsent_context bytes Startup (opens_in end.state bytes) (sent_in w.lines) unsent in
+      let opens : opens_in stands.told bytes ≡ Some found.0 = sym (opens_noted end.state stands.told stands.noted bytes stands.state) ∙ found.1 in
+      let at : OpensAt end.setup (facts_at who (history_of w)) bytes found.0 =
+      opens_in_told end.setup (log_of who (history_of w)) stands.told bytes (is.given who end there).sized (is.calls who) stands.stands found.0 opens in
+      let ours : IsHonestCall end.setup (facts_at who (history_of w)) (history_of w) (Receive from bytes draws) =
+      subst (λ (setup : Setup). IsHonestCall setup (facts_at who (history_of w)) (history_of w) (Receive from bytes draws)) (setup_is w.ends who end there) honest in
+      let was : WasSent bytes found.0 (history_of w) = ours found.0 at.plain at.named at.opens in
+      let none : not (list_any (is_sent bytes found.0) (sent_in w.lines)) ≡ true =
+      sym (ap (λ (o : Option Context). is_unsent_in o bytes (sent_in w.lines)) found.1) ∙ unsent in
+      elim (in_lines bytes found.0 w.ends w.lines [] was) [
+        | inl never ↦ never
+        | inr sent ↦ not_true bytes found.0 (list_any (is_sent bytes found.0) (sent_in w.lines)) none sent
+      ]
+
+pub every_forged_datagram_is_dishonest : EveryForgedDatagramIsDishonest
+every_forged_datagram_is_dishonest w who end bytes from draws is there forged =
+    dishonest w is who end bytes from draws there (sym (forged_there w.ends who end bytes (sent_in w.lines) there) ∙ forged)
