@@ -10,8 +10,6 @@ mod nonces;
 mod refusals;
 mod sent;
 mod tally;
-#[cfg(test)]
-mod tests;
 
 pub use entries::push_entries;
 pub use refusals::{push_call_refusal, push_open_refusal};

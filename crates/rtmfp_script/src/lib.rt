@@ -11,6 +11,3 @@ mod reading;
 pub use line::{Places, Said, ScriptLine};
 pub use number::read_number;
 pub use reading::read_line;
-
-#[cfg(test)]
-mod tests;

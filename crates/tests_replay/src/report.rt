@@ -1,11 +1,11 @@
-//! The lines against texts that were written by hand.
+//! The lines of a report against texts that were written by hand.
 
-use crate::{Tally, push_call_refusal, push_entries, push_open_refusal, push_summary};
 use crypto_profile::{Context, Keys, seal_in_place};
 use endpoint::{CallRefusal, Entry, OpenRefusal};
 use glare_core::{Fact, Joined, StartRefusal, Why};
 use rtmfp_base::Message;
 use rtmfp_forms::Address;
+use rtmfp_report::{Tally, push_call_refusal, push_entries, push_open_refusal, push_summary};
 use rtmfp_text::{Name, Named, Text};
 use startup::Cause;
 use std::alloc::Global;
@@ -207,5 +207,97 @@ fn a_summary(rt: HostRuntime) -> Result<(), Fail> {
     let mut text = Text::new(rt.alloc());
     push_summary(8, 100, &tally, 7, &mut text)?;
     assert!(rt; text.bytes() == SUMMARY.as_bytes());
+    Ok(())
+}
+
+/// Each cause of a discard, in the order of the rules. What has a value has its own here.
+const CAUSES: [Cause; 29] = [
+    Cause::Short,
+    Cause::UnknownSession,
+    Cause::BadTag,
+    Cause::Repeated,
+    Cause::BadPacket(1),
+    Cause::UnknownChunk(0xfe),
+    Cause::Malformed(2),
+    Cause::WrongPlace,
+    Cause::NotSelected,
+    Cause::NoAttempt,
+    Cause::WrongPeer,
+    Cause::WrongState,
+    Cause::BadCookie,
+    Cause::BadSignature,
+    Cause::WrongResponder,
+    Cause::OwnCertificate,
+    Cause::Stale(3),
+    Cause::Glare(4),
+    Cause::PeersFull(5),
+    Cause::SessionsFull(6),
+    Cause::SecondKeying,
+    Cause::UnknownFlow,
+    Cause::BeyondBuffer(7),
+    Cause::AfterFinal(8),
+    Cause::AckBeyond(9),
+    Cause::CandidatesFull(10),
+    Cause::Fragment,
+    Cause::FlowsFull(11),
+    Cause::Wide(12),
+];
+
+const CAUSE_NAMES: &str =
+    "short\nunknown-session\nbad-tag\nrepeated\nbad-packet 1\nunknown-chunk fe\nmalformed 2\nwrong-place\nnot-selected\nno-attempt\nwrong-peer\nwrong-state\nbad-cookie\nbad-signature\nwrong-responder\nown-certificate\nstale 3\nglare 4\npeers-full 5\nsessions-full 6\nsecond-keying\nunknown-flow\nbeyond-buffer 7\nafter-final 8\nack-beyond 9\ncandidates-full 10\nfragment\nflows-full 11\nwide 12\n";
+
+/// Adds the report of one entry that sends nothing.
+fn report(alloc: Global, entry: Entry, text: &mut Text) -> Result<(), Fail> {
+    let entries = [entry];
+    let mut scratch = Vec::new(alloc);
+    let name = name_of(b"a")?;
+    let sent = push_entries(&SECRET, &ends()?, 1, &name, 0, &entries, &mut scratch, text)?;
+    match sent {
+        0 => Ok(()),
+        _ => Err(Fail::from("a datagram was counted")),
+    }
+}
+
+#[test]
+fn each_cause_has_its_name(rt: HostRuntime) -> Result<(), Fail> {
+    let mut want = Text::new(rt.alloc());
+    for name in CAUSE_NAMES.lines() {
+        want.push("1 a drop 9 ")?;
+        want.push(name)?;
+        want.push("\n")?;
+    }
+    let mut text = Text::new(rt.alloc());
+    for cause in CAUSES {
+        report(rt.alloc(), Entry::Discard { place: 9, cause }, &mut text)?;
+    }
+    assert_eq!(rt; text.bytes(), want.bytes());
+    Ok(())
+}
+
+#[test]
+fn each_end_of_a_session_has_its_name(rt: HostRuntime) -> Result<(), Fail> {
+    let whys = [
+        Why::Cancelled,
+        Why::Expired,
+        Why::Glare,
+        Why::Override,
+        Why::Unconfirmed,
+        Why::Near,
+        Why::Far,
+        Why::Idle,
+    ];
+    let mut text = Text::new(rt.alloc());
+    for why in whys {
+        let ended = Fact::Ended {
+            peer: [2; 32],
+            near: 3,
+            why,
+        };
+        report(rt.alloc(), Entry::Fact(ended), &mut text)?;
+    }
+    assert_eq!(rt;
+        text.bytes(),
+        b"1 a ended near=3 cancelled\n1 a ended near=3 expired\n1 a ended near=3 glare\n1 a ended near=3 override\n1 a ended near=3 unconfirmed\n1 a ended near=3 near\n1 a ended near=3 far\n1 a ended near=3 idle\n".as_slice()
+    );
     Ok(())
 }

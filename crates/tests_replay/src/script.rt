@@ -1,6 +1,7 @@
-use super::*;
-use rtmfp_base::Memory;
+//! The lines of a script, each read and told again in words.
+
 use rtmfp_forms::Address;
+use rtmfp_script::{Said, ScriptLine, read_line};
 use rtmfp_text::{Text, push_address};
 use std::alloc::{AllocError, Global};
 use std::test::Fail;
