@@ -1,0 +1,11 @@
+//! The tests of the program's crates, a module a crate. They use public items alone.
+#![tactic(auto)]
+
+#[cfg(test)]
+mod host;
+#[cfg(test)]
+mod replay;
+#[cfg(test)]
+mod show;
+#[cfg(test)]
+mod words;
