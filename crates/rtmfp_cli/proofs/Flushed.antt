@@ -2,14 +2,14 @@
 use Rattle.std.proofs.Common.{◌≡◌, ℕ, ◌≤◌, inl, inr, List, [], ◌++◌, refl, sym, ◌∙◌, arith, append-nil, subst, Option, Some, None, IfSome}
 use Rattle.rtmfp_host.specs.Faults.{Rose}
 use Rattle.rtmfp_host.specs.Writing.{Appends}
-use Rattle.rtmfp_cli.specs.declared.status.Status.{Status as RunStatus}
-use Rattle.rtmfp_cli.specs.declared.status.Status.TheVariants as status
+use Rattle.rtmfp_lines.specs.declared.status.Status.{Status as RunStatus}
+use Rattle.rtmfp_lines.specs.declared.status.Status.TheVariants as status
 use Rattle.rtmfp_cli.specs.declared.doing.Doing.{Doing}
 use Rattle.rtmfp_cli.specs.Doing.{IsBadLine, IsForgedLine}
 use Rattle.rtmfp_cli.specs.Outside.{Outside}
-use Rattle.rtmfp_cli.specs.Lines.{lines_of}
+use Rattle.rtmfp_lines.specs.Lines.{lines_of}
 use Rattle.rtmfp_cli.specs.Script.{HasDone, AllDone, SomeDone, StopsOn, TooMany, TakenDone, CutShort, ScriptEnds}
-use Rattle.rtmfp_cli.proofs.Streams.{appends_more}
+use Rattle.rtmfp_lines.proofs.Streams.{appends_more}
 use Rattle.rtmfp_cli.specs.Run.{Finishes}
 
 -- the sink has passed on what it held, and nothing else has changed

@@ -3,11 +3,11 @@ use Rattle.std.proofs.Common.{ℕ, ◌≤◌, inl, inr, List, [], length, take, 
 use Rattle.std.proofs.Math.Seq.{take-length}
 use Rattle.rtmfp_host.specs.Faults.{Rose}
 use Rattle.rtmfp_host.specs.Writing.{Appends}
-use Rattle.rtmfp_cli.specs.declared.status.Status.{Status}
-use Rattle.rtmfp_cli.specs.declared.status.Status.TheVariants as status
-use Rattle.rtmfp_cli.specs.Generated.{GeneratedEnds, summary_of}
+use Rattle.rtmfp_lines.specs.declared.status.Status.{Status}
+use Rattle.rtmfp_lines.specs.declared.status.Status.TheVariants as status
+use Rattle.rtmfp_play.specs.Generated.{GeneratedEnds, summary_of}
 use Rattle.rtmfp_cli.specs.Run.{Finishes}
-use Rattle.rtmfp_cli.proofs.Streams.{appends_more}
+use Rattle.rtmfp_lines.proofs.Streams.{appends_more}
 
 still : (a b c : Option (List ℕ)) (text : List ℕ) → Appends a b text → Appends b c [] → Appends a c text
 still a b c text p q = let P : List ℕ → Type 0 = λ xs. Appends a c xs in subst P (append-nil text) (appends_more a b c text [] p q)

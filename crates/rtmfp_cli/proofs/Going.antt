@@ -4,17 +4,17 @@ use Rattle.std.proofs.lemmas.List.{length-append}
 use Rattle.rtmfp_host.specs.Faults.{Rose}
 use Rattle.rtmfp_host.specs.Taking.{Consumes, IsAtEnd}
 use Rattle.rtmfp_host.specs.Writing.{Appends}
-use Rattle.rtmfp_cli.specs.declared.status.Status.{Status as RunStatus}
-use Rattle.rtmfp_cli.specs.declared.status.Status.TheVariants as status
+use Rattle.rtmfp_lines.specs.declared.status.Status.{Status as RunStatus}
+use Rattle.rtmfp_lines.specs.declared.status.Status.TheVariants as status
 use Rattle.rtmfp_cli.specs.declared.script_run.Turn.TheVariants.{Ended}
 use Rattle.rtmfp_cli.specs.Outside.{Outside}
-use Rattle.rtmfp_cli.specs.Lines.{NoLf, lines_of, whole_lines}
+use Rattle.rtmfp_lines.specs.Lines.{NoLf, lines_of, whole_lines}
 use Rattle.rtmfp_cli.specs.declared.doing.Doing.{Doing}
 use Rattle.rtmfp_cli.specs.Doing.{Does, IsBadLine, IsForgedLine}
 use Rattle.rtmfp_cli.specs.Script.{Runs, HasDone, AllDone, SomeDone, StopsOn, TooMany, TakenDone, CutShort, IsPartOfNext, Told, ScriptEnds, max_lines}
 use Rattle.rtmfp_cli.specs.Turning.{Takes, DoesOne, DoesRest, DoesNone, DoesPart, NextLine, Turned, Closed}
-use Rattle.rtmfp_cli.proofs.LinesLaws.{with_ends, NoneHasLf, lines_of-with_ends, whole_lines-with_ends, with_ends-more, none_has_lf-more}
-use Rattle.rtmfp_cli.proofs.Streams.{consumes_none, consumes_more, appends_none, appends_more}
+use Rattle.rtmfp_lines.proofs.LinesLaws.{with_ends, NoneHasLf, lines_of-with_ends, whole_lines-with_ends, with_ends-more, none_has_lf-more}
+use Rattle.rtmfp_lines.proofs.Streams.{consumes_none, consumes_more, appends_none, appends_more}
 
 -- the lines that were handled so far, of what was taken from the source, and what they left
 pub record Going (first doing : Doing) (start now : Outside) (n : ℕ) (pending : List ℕ) : Type 0 where

@@ -1,15 +1,4 @@
-pub mod Windows
-pub mod LfLaws
-pub mod Streams
-pub mod Lists
-pub mod ChunkLines
-pub mod LinesLaws
 pub mod Turns
 pub mod Going
 pub mod Flushed
-pub mod Payloads
-pub mod Texts
-pub mod Refused
-pub mod Played
-pub mod Generation
 pub mod GeneratedFlushed

@@ -3,24 +3,24 @@ use Rattle.std.proofs.Common.{◌≡◌, ◌≢◌, ℕ, ◌+◌, ◌<◌, inl, 
 use Rattle.std.proofs.lemmas.List.{length-append, length-take-le, take-append-drop}
 use Rattle.rtmfp_host.specs.Taking.{IsAtEnd}
 use Rattle.rtmfp_host.specs.Writing.{Appends}
-use Rattle.rtmfp_cli.specs.declared.status.Status.{Status as RunStatus}
-use Rattle.rtmfp_cli.specs.declared.status.Status.TheVariants as status
+use Rattle.rtmfp_lines.specs.declared.status.Status.{Status as RunStatus}
+use Rattle.rtmfp_lines.specs.declared.status.Status.TheVariants as status
 use Rattle.rtmfp_cli.specs.declared.script_run.Turn.{Turn}
 use Rattle.rtmfp_cli.specs.declared.script_run.Turn.TheVariants.{Went, Ended}
 use Rattle.rtmfp_cli.specs.Outside.{Outside}
-use Rattle.rtmfp_cli.specs.Lines.{NoLf, lines_of}
-use Rattle.rtmfp_cli.specs.Reading.{HasRead, StartsWithLine, IsTooLong}
+use Rattle.rtmfp_lines.specs.Lines.{NoLf, lines_of}
+use Rattle.rtmfp_lines.specs.Reading.{HasRead, StartsWithLine, IsTooLong}
 use Rattle.rtmfp_cli.specs.declared.doing.Doing.{Doing}
 use Rattle.rtmfp_cli.specs.declared.doing.Doing.TheVariants.{Showing, Playing}
 use Rattle.rtmfp_cli.specs.Doing.{Does, IsBadLine, IsForgedLine, limit_of}
 use Rattle.rtmfp_script.specs.Grammar.{line_limit}
 use Rattle.rendezvous_world.specs.Seen.{Seen}
-use Rattle.rtmfp_cli.specs.Play.{IsBadPlay}
-use Rattle.rtmfp_cli.specs.ShowLine.{IsNoPacket, show_limit}
+use Rattle.rtmfp_play.specs.Play.{IsBadPlay}
+use Rattle.rtmfp_show.specs.ShowLine.{IsNoPacket, show_limit}
 use Rattle.rtmfp_cli.specs.Script.{Runs}
 use Rattle.rtmfp_cli.specs.Turning.{Takes, DoesRest, DoesNone, DoesPart, Turned, Printed}
-use Rattle.rtmfp_cli.proofs.LinesLaws.{FirstLine, line_there, lines_of-lf, lines_of-last, first_line}
-use Rattle.rtmfp_cli.proofs.Streams.{appends_more}
+use Rattle.rtmfp_lines.proofs.LinesLaws.{FirstLine, line_there, lines_of-lf, lines_of-last, first_line}
+use Rattle.rtmfp_lines.proofs.Streams.{appends_more}
 
 -- the outside before and after, by what a turn changes of it
 pub record Between (before after : Outside) (old bytes : List ℕ) (mid : Option (List ℕ)) : Type 0 where

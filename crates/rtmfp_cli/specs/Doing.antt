@@ -2,13 +2,13 @@
 use Rattle.std.specs.Prelude.{ℕ, ◌<◌, ◌^◌, List}
 use Rattle.rtmfp_cli.specs.declared.doing.Doing.{Doing}
 use Rattle.rtmfp_cli.specs.declared.doing.Doing.TheVariants.{Showing, Playing}
-use Rattle.rtmfp_cli.specs.declared.doing.Said.{Said}
-use Rattle.rtmfp_cli.specs.declared.doing.Said.TheVariants.{Text, Bad, Forged}
+use Rattle.rtmfp_play.specs.declared.said.Said.{Said}
+use Rattle.rtmfp_play.specs.declared.said.Said.TheVariants.{Text, Bad, Forged}
 use Rattle.rtmfp_script.specs.Grammar.{line_limit}
 use Rattle.rendezvous_world.specs.Laws.{empty_world}
 use Rattle.rendezvous_world.specs.Sound.{AreBelow}
-use Rattle.rtmfp_cli.specs.Play.{Plays, IsBadPlay, IsForgedPlay}
-use Rattle.rtmfp_cli.specs.ShowLine.{ShowsLine, IsNoPacket, show_limit}
+use Rattle.rtmfp_play.specs.Play.{Plays, IsBadPlay, IsForgedPlay}
+use Rattle.rtmfp_show.specs.ShowLine.{ShowsLine, IsNoPacket, show_limit}
 
 -- the longest line
 abbrev pub limit_of : Doing → ℕ

@@ -2,8 +2,8 @@
 use Rattle.std.specs.Prelude.{◌≡◌, ℕ, ◌≤◌, ◌⊎◌, List, [], Option}
 use Rattle.rtmfp_host.specs.Faults.{Rose}
 use Rattle.rtmfp_host.specs.Writing.{Appends}
-use Rattle.rtmfp_cli.specs.declared.status.Status.{Status as RunStatus}
-use Rattle.rtmfp_cli.specs.declared.status.Status.TheVariants.{Done, SinkFault}
+use Rattle.rtmfp_lines.specs.declared.status.Status.{Status as RunStatus}
+use Rattle.rtmfp_lines.specs.declared.status.Status.TheVariants.{Done, SinkFault}
 
 -- what passing on the last bytes does to a status
 pub record Finishes (status result : RunStatus) (before : Option (List ℕ)) (before_faults : ℕ) (after : Option (List ℕ)) (after_faults : ℕ) : Type 0 where

@@ -3,10 +3,10 @@ use Rattle.std.specs.Prelude.{◌≡◌, ℕ, ◌+◌, ◌≤◌, ◌⊎◌, Lis
 use Rattle.rtmfp_host.specs.Writing.{Appends}
 use Rattle.rtmfp_host.specs.Faults.{Rose}
 use Rattle.rtmfp_cli.specs.declared.doing.Doing.{Doing}
-use Rattle.rtmfp_cli.specs.declared.status.Status.{Status}
-use Rattle.rtmfp_cli.specs.declared.status.Status.TheVariants as status
+use Rattle.rtmfp_lines.specs.declared.status.Status.{Status}
+use Rattle.rtmfp_lines.specs.declared.status.Status.TheVariants as status
 use Rattle.rtmfp_cli.specs.Outside.{Outside}
-use Rattle.rtmfp_cli.specs.Lines.{lines_of, whole_lines}
+use Rattle.rtmfp_lines.specs.Lines.{lines_of, whole_lines}
 use Rattle.rtmfp_cli.specs.Doing.{Does, IsBadLine, IsForgedLine}
 
 -- the most lines that a source may have

@@ -3,12 +3,12 @@ use Rattle.std.specs.Prelude.{◌≡◌, ℕ, ◌≤◌, ◌⊎◌, List, [], �
 use Rattle.rtmfp_host.specs.Taking.{Consumes, IsAtEnd}
 use Rattle.rtmfp_host.specs.Writing.{Appends}
 use Rattle.rtmfp_cli.specs.declared.doing.Doing.{Doing}
-use Rattle.rtmfp_cli.specs.declared.status.Status.{Status as RunStatus}
-use Rattle.rtmfp_cli.specs.declared.status.Status.TheVariants as status
+use Rattle.rtmfp_lines.specs.declared.status.Status.{Status as RunStatus}
+use Rattle.rtmfp_lines.specs.declared.status.Status.TheVariants as status
 use Rattle.rtmfp_cli.specs.declared.script_run.Turn.{Turn}
 use Rattle.rtmfp_cli.specs.declared.script_run.Turn.TheVariants.{Went, Ended}
 use Rattle.rtmfp_cli.specs.Outside.{Outside}
-use Rattle.rtmfp_cli.specs.Lines.{NoLf, lines_of}
+use Rattle.rtmfp_lines.specs.Lines.{NoLf, lines_of}
 use Rattle.rtmfp_cli.specs.Doing.{Does, IsBadLine, IsForgedLine}
 use Rattle.rtmfp_cli.specs.Script.{Runs}
 

@@ -2,9 +2,9 @@
 ghost use Rattle.std.specs.Prelude.{◌≡◌, ◌+◌, ◌-◌, ◌<◌, ◌≤◌, ◌^◌, length, IfOk};
 ghost use Rattle.rtmfp_cli.specs.Doing.{IsNext, ShownAs, Tells, limit_of};
 
-use crate::play::{LINE_LIMIT, play_line};
-use crate::show::{LIMIT, show_line};
 use rendezvous_world::World;
+use rtmfp_play::{LINE_LIMIT, Said, play_line};
+use rtmfp_show::{LIMIT, show_line};
 use rtmfp_text::Text;
 use std::alloc::{AllocError, Global};
 
@@ -15,16 +15,6 @@ pub enum Doing {
     Showing,
     /// A line is one of a script, and its step is done in this world.
     Playing(World),
-}
-
-/// What a line was.
-pub(crate) enum Said {
-    /// It was done, and this text is to be written.
-    Text,
-    /// It is outside the grammar, or can't be done.
-    Bad,
-    /// It brings a datagram that nobody sent.
-    Forged,
 }
 
 impl Doing {

@@ -6,11 +6,10 @@ ghost use Rattle.rtmfp_cli.specs.Outside.{outside};
 ghost use Rattle.rtmfp_cli.specs.Script.{ScriptEnds};
 ghost use Rattle.rtmfp_cli.specs.Turning.{Closed, Printed, Turned};
 
-use crate::buffer::Buffer;
-use crate::doing::{Doing, Said};
-use crate::lines::{Next, next_line};
-use crate::status::Status;
+use crate::doing::Doing;
 use rtmfp_host::{Sink, Source, Wrote};
+use rtmfp_lines::{Buffer, Next, Status, next_line};
+use rtmfp_play::Said;
 use rtmfp_text::Text;
 use std::alloc::Global;
 

@@ -2,17 +2,17 @@
 ghost use Rattle.std.specs.Prelude.{◌≡◌, ◌↔◌, ◌⊎◌, ◌≤◌, ℕ, Some, None};
 ghost use Rattle.rtmfp_words.specs.Words.{IsFaulty, IsGenerate, IsReplay, IsShow};
 ghost use Rattle.rtmfp_cli.specs.Doing.{IsNext, playing, showing};
-ghost use Rattle.rtmfp_cli.specs.Generated.{GeneratedEnds};
+ghost use Rattle.rtmfp_play.specs.Generated.{GeneratedEnds};
 ghost use Rattle.rtmfp_cli.specs.Outside.{outside};
 ghost use Rattle.rtmfp_cli.specs.Run.{Finishes};
 ghost use Rattle.rtmfp_cli.specs.Script.{ScriptEnds};
 
 use crate::doing::Doing;
-use crate::generated::generate;
 use crate::script_run::run_script;
-use crate::status::Status;
 use rendezvous_world::World;
 use rtmfp_host::{Sink, Source, Wrote};
+use rtmfp_lines::Status;
+use rtmfp_play::generate;
 use rtmfp_words::{Command, read_command};
 use std::alloc::Global;
 

@@ -17,6 +17,3 @@ pub use sink::{Sink, Wrote};
 pub use source::{Source, Taken};
 pub use stream_sink::StreamSink;
 pub use stream_source::StreamSource;
-
-#[cfg(test)]
-mod tests;

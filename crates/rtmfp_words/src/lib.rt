@@ -6,6 +6,3 @@ mod option;
 mod words;
 
 pub use command::{Command, read_command};
-
-#[cfg(test)]
-mod tests;

@@ -1,5 +1,5 @@
 use Rattle.std.proofs.Common.{List, ℕ, take, subst, sym}
-use Rattle.rtmfp_cli.specs.Reading.{IsTooLong}
+use Rattle.rtmfp_lines.specs.Reading.{IsTooLong}
 use Rattle.rtmfp_cli.specs.Outside.{outside}
 use Rattle.rtmfp_cli.specs.Turning.{Printed, Turned}
 use Rattle.rtmfp_cli.specs.declared.script_run.Turn.TheVariants.{Went, Ended}

@@ -1,7 +1,7 @@
 use Rattle.std.proofs.Common.{◌≡◌, ℕ, Option, Some, sym, ap, ◌∙◌, subst}
 use Rattle.rtmfp_words.specs.declared.command.Command.{Command}
 use Rattle.rtmfp_words.specs.declared.command.Command.TheVariants.{Generate}
-use Rattle.rtmfp_cli.specs.Generated.{GeneratedEnds}
+use Rattle.rtmfp_play.specs.Generated.{GeneratedEnds}
 use Rattle.rtmfp_cli.proofs.top_call.run.Goals as goal
 
 -- the words say one pair of numbers

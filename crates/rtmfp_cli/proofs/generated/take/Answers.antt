@@ -1,9 +1,0 @@
-use Rattle.rtmfp_cli.proofs.Refused.{below_after}
-use Rattle.rtmfp_cli.proofs.generated.take.Goals as goal
-
-pub returns-in-Ok : goal.returns-in-Ok
-returns-in-Ok c = record {
-  ok = c.in-Ok.ensures.ok;
-  below = below_after c.args.world.now c.args.line c.args.step.now c.step.new.self c.requires.above c.in-Ok.ensures.ok;
-  err = tt;
-}

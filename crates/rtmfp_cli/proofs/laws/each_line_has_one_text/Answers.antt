@@ -1,5 +1,0 @@
-use Rattle.rtmfp_cli.proofs.Texts.{line_same}
-use Rattle.rtmfp_cli.proofs.laws.each_line_has_one_text.Goals as goal
-
-pub returns : goal.returns
-returns c = line_same

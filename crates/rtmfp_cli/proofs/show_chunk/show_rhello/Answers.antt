@@ -1,7 +1,0 @@
-use Rattle.rtmfp_cli.specs.ChunkText.{chunk_text}
-use Rattle.rtmfp_text.proofs.Pushes.{push_then, push_end}
-use Rattle.rtmfp_cli.proofs.show_chunk.show_rhello.Goals as goal
-
-pub returns : goal.returns
-unfolding chunk_text
-returns c = (push_then _ c.in_ok-push_field.ensures (push_then _ c.in_ok-push_field-2.ensures (push_end _ c.in_ok-push_field-3.ensures))).joined

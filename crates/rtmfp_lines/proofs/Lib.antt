@@ -1,0 +1,4 @@
+pub mod Windows
+pub mod LfLaws
+pub mod LinesLaws
+pub mod Streams

@@ -1,0 +1,4 @@
+pub mod Pending
+pub mod Lines
+pub mod Reading
+pub mod Status

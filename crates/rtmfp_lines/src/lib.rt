@@ -1,0 +1,11 @@
+//! The lines of a source: they are read in whatever pieces it gives, and a run over them ends with a
+//! status.
+#![tactic(auto)]
+
+mod buffer;
+mod lines;
+mod status;
+
+pub use buffer::Buffer;
+pub use lines::{Next, next_line};
+pub use status::Status;

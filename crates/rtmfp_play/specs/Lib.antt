@@ -1,0 +1,4 @@
+pub mod Play
+pub mod Playing
+pub mod Generated
+pub mod Generating

@@ -1,0 +1,10 @@
+//! What `replay` does: the lines of a script, one by one, and runs that are generated.
+#![tactic(auto)]
+
+mod generated;
+mod play;
+mod said;
+
+pub use generated::{MOST_STEPS, generate};
+pub use play::{LINE_LIMIT, play_line};
+pub use said::Said;

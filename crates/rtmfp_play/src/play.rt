@@ -1,0 +1,280 @@
+//! What `replay` does with a line of a script.
+ghost use Rattle.std.specs.Prelude.{◌≡◌, ◌++◌, ◌+◌, ◌<◌, ◌≤◌, ◌^◌, IfOk, OnOk, length, slice_get};
+ghost use Rattle.rendezvous_world.specs.Seen.{group_secret};
+ghost use Rattle.rtmfp_report.specs.EntryText.{entries_text};
+ghost use Rattle.rendezvous_world.specs.Sent.{sent_in};
+ghost use Rattle.rendezvous_world.specs.Sound.{AreBelow};
+ghost use Rattle.rtmfp_play.specs.Play.{name_at, number_of, step_by, step_by_both, step_said, told_next, told_of};
+ghost use Rattle.rtmfp_play.specs.Playing.{PlayedAs, SteppedAs};
+
+use crate::said::Said;
+use rendezvous_world::{JournalLine, Places, Refused, Step, StepFault, World};
+use rtmfp_base::Message;
+use rtmfp_forms::Address;
+use rtmfp_report::{push_call_refusal, push_entries, push_open_refusal};
+use rtmfp_script::{Said as LineSaid, ScriptLine, read_line};
+use rtmfp_text::{Name, Named, Text};
+use std::alloc::{AllocError, Global};
+
+/// The longest line of a script, in bytes without its LF.
+pub const LINE_LIMIT: usize = 2_097_664;
+
+/// The secret of the group of every end of a script.
+const SECRET: [u8; 32] = [0; 32];
+
+/// Does a line of a script, and makes the text of its report.
+pub fn play_line(
+    alloc: Global,
+    world: &mut World,
+    number: u64,
+    line: &[u8],
+    text: &mut Text,
+) -> Result<Said, AllocError>
+    requires short { length line.now ≤ LINE_LIMIT }
+    requires above { AreBelow world.old.lines number }
+    requires fits { number < 2 ^ 32 }
+    ensures played { IfOk result (λ said. PlayedAs said world.old number line.now world.new text.new) }
+    ensures above { IfOk result (λ said. said ≡ Said.Text → AreBelow world.new.lines (number + 1)) }
+{
+    text.clear();
+    match read_line(alloc, line) {
+        Err(_) => Err(AllocError),
+        Ok(LineSaid::Nothing) => Ok(Said::Text),
+        Ok(LineSaid::Outside) => Ok(Said::Bad),
+        Ok(LineSaid::Step(said)) => match step_said(alloc, world.named(), said)? {
+            Some(step) => take_step(alloc, world, number, &step, text),
+            None => Ok(Said::Bad),
+        },
+    }
+}
+
+/// Takes a step, and adds the text of its report.
+fn take_step(
+    alloc: Global,
+    world: &mut World,
+    number: u64,
+    step: &Step,
+    text: &mut Text,
+) -> Result<Said, AllocError>
+    requires above { AreBelow world.old.lines number }
+    requires fits { number < 2 ^ 32 }
+    ensures stepped { IfOk result (λ said. SteppedAs said world.old number step.now world.new text.old text.new) }
+    ensures above { IfOk result (λ said. said ≡ Said.Text → AreBelow world.new.lines (number + 1)) }
+{
+    let lines = world.journal().lines().len();
+    let sent = sent_so_far(world)?;
+    match world.step(number, step) {
+        Ok(()) => {
+            push_line(
+                alloc,
+                world.named(),
+                sent,
+                world.journal().lines(),
+                lines,
+                text,
+            )?;
+            Ok(Said::Text)
+        }
+        Err(StepFault::NoEnd) => Ok(Said::Bad),
+        Err(StepFault::NoDatagram) => Ok(Said::Bad),
+        Err(StepFault::BadStep) => Ok(Said::Bad),
+        Err(StepFault::Forged) => Ok(Said::Forged),
+        Err(StepFault::Memory) => Err(AllocError),
+    }
+}
+
+/// How many datagrams were sent so far. That there are 2^64-1 counts as want of memory.
+pub fn sent_so_far(world: &World) -> Result<u64, AllocError>
+    ensures { IfOk result (λ count. count ≡ length (sent_in world.now.lines)) }
+{
+    let count = world.sent_count();
+    if count == u64::MAX {
+        return Err(AllocError);
+    }
+    Ok(count)
+}
+
+// ---- the step that a line says
+
+/// The step that a line says, among these ends; none where one that it names isn't there.
+fn step_said(alloc: Global, ends: &[Named], said: ScriptLine) -> Result<Option<Step>, AllocError>
+    ensures { IfOk result (λ step. step ≡ step_said ends.now said) }
+{
+    match said {
+        ScriptLine::End {
+            name,
+            peers,
+            sessions,
+            cert,
+        } => Ok(Some(Step::End {
+            name,
+            max_peers: peers,
+            max_sessions: sessions,
+            cert,
+        })),
+        ScriptLine::At { moment } => Ok(Some(Step::At { moment })),
+        ScriptLine::Open { name, peer, places } => open_said(
+            alloc,
+            ends,
+            &name,
+            &peer,
+            places.as_slice(),
+        ),
+        ScriptLine::Cancel { name, number } => Ok(cancel_said(ends, &name, number)),
+        ScriptLine::Tick { name } => Ok(tick_said(ends, &name)),
+        ScriptLine::Deliver { number, name, from } => Ok(deliver_said(ends, number, &name, from)),
+        ScriptLine::Bent {
+            number,
+            place,
+            name,
+            from,
+        } => Ok(bent_said(ends, number, place as usize, &name, from)),
+        ScriptLine::Inject { name, from, bytes } => Ok(inject_said(ends, &name, from, bytes)),
+        ScriptLine::Forge { name, from, bytes } => Ok(forge_said(ends, &name, from, bytes)),
+    }
+}
+
+/// The number of the first end with this name.
+fn number_of(ends: &[Named], name: &Name) -> Option<usize>
+    ensures { result ≡ number_of ends.now name.now }
+{
+    ends.iter().position(|end| end.name.bytes() == name.bytes())
+}
+
+fn open_said(
+    alloc: Global,
+    ends: &[Named],
+    name: &Name,
+    peer: &Name,
+    places: &[Address],
+) -> Result<Option<Step>, AllocError>
+    ensures { IfOk result (λ step. step ≡ step_by_both (number_of ends.now name.now) (number_of ends.now peer.now) (λ end other. Step.Open end other places.now)) }
+{
+    let Some(end) = number_of(ends, name) else {
+        return Ok(None);
+    };
+    let Some(peer) = number_of(ends, peer) else {
+        return Ok(None);
+    };
+    let list = Places::of(Vec::from_slice(alloc, places)?);
+    Ok(Some(Step::Open { end, peer, list }))
+}
+
+fn cancel_said(ends: &[Named], name: &Name, n: u64) -> Option<Step>
+    ensures { result ≡ step_by (number_of ends.now name.now) (λ end. Step.Cancel end n) }
+{
+    let end = number_of(ends, name)?;
+    Some(Step::Cancel { end, n })
+}
+
+fn tick_said(ends: &[Named], name: &Name) -> Option<Step>
+    ensures { result ≡ step_by (number_of ends.now name.now) (λ end. Step.Tick end) }
+{
+    let end = number_of(ends, name)?;
+    Some(Step::Tick { end })
+}
+
+fn deliver_said(ends: &[Named], number: u64, name: &Name, from: Address) -> Option<Step>
+    ensures { result ≡ step_by (number_of ends.now name.now) (λ end. Step.Deliver number end from) }
+{
+    let end = number_of(ends, name)?;
+    Some(Step::Deliver { number, end, from })
+}
+
+fn bent_said(ends: &[Named], number: u64, place: usize, name: &Name, from: Address) -> Option<Step>
+    ensures { result ≡ step_by (number_of ends.now name.now) (λ end. Step.Bent number place end from) }
+{
+    let end = number_of(ends, name)?;
+    Some(Step::Bent {
+        number,
+        place,
+        end,
+        from,
+    })
+}
+
+fn inject_said(ends: &[Named], name: &Name, from: Address, bytes: Message) -> Option<Step>
+    ensures { result ≡ step_by (number_of ends.now name.now) (λ end. Step.Inject end from bytes) }
+{
+    let end = number_of(ends, name)?;
+    Some(Step::Inject { end, from, bytes })
+}
+
+fn forge_said(ends: &[Named], name: &Name, from: Address, plain: Message) -> Option<Step>
+    ensures { result ≡ step_by (number_of ends.now name.now) (λ end. Step.Forge end from plain) }
+{
+    let end = number_of(ends, name)?;
+    Some(Step::Forge { end, from, plain })
+}
+
+// ---- the report
+
+/// Adds what is told of the line of the journal at this place, if there is one, where so many datagrams were sent before it.
+fn push_line(
+    alloc: Global,
+    ends: &[Named],
+    sent: u64,
+    lines: &[JournalLine],
+    at: usize,
+    text: &mut Text,
+) -> Result<(), AllocError>
+    ensures { OnOk result (text.new ≡ text.old ++ told_next ends.now sent (slice_get lines.now at)) }
+{
+    match lines.get(at) {
+        Some(line) => push_told(alloc, ends, sent, line, text),
+        None => Ok(()),
+    }
+}
+
+/// Adds what is told of a line of the journal.
+fn push_told(
+    alloc: Global,
+    ends: &[Named],
+    sent: u64,
+    line: &JournalLine,
+    text: &mut Text,
+) -> Result<(), AllocError>
+    ensures { OnOk result (text.new ≡ text.old ++ told_of ends.now sent line.now line.now.refused) }
+{
+    let name = name_at(ends, line.end);
+    match &line.refused {
+        Some(Refused::Open(refusal)) => push_open_refusal(line.line, &name, refusal, text),
+        Some(Refused::Call(refusal)) => push_call_refusal(line.line, &name, refusal, text),
+        None => push_done(alloc, ends, &name, sent, line, text),
+    }
+}
+
+/// Adds what a call did.
+fn push_done(
+    alloc: Global,
+    ends: &[Named],
+    name: &Name,
+    sent: u64,
+    line: &JournalLine,
+    text: &mut Text,
+) -> Result<(), AllocError>
+    ensures { OnOk result (text.new ≡ text.old ++ entries_text group_secret ends.now line.now.line name.now sent line.now.out.entries) }
+{
+    let mut scratch = Vec::new(alloc);
+    push_entries(
+        &SECRET,
+        ends,
+        line.line,
+        name,
+        sent,
+        line.out.entries(),
+        &mut scratch,
+        text,
+    )?;
+    Ok(())
+}
+
+/// The name of the end with this number; no name where it isn't there.
+fn name_at(ends: &[Named], who: usize) -> Name
+    ensures { result ≡ name_at ends.now who }
+{
+    match ends.get(who) {
+        Some(end) => end.name.again(),
+        None => Name::none(),
+    }
+}

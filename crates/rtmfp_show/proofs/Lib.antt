@@ -1,0 +1,4 @@
+pub mod ChunkLines
+pub mod Payloads
+pub mod Texts
+pub mod Lists

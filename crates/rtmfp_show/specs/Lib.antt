@@ -1,0 +1,6 @@
+pub mod ChunkText
+pub mod DataText
+pub mod ShowText
+pub mod ShowLine
+pub mod Adding
+pub mod OneText
