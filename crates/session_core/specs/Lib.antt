@@ -7,3 +7,4 @@ pub mod Hearing
 pub mod Meeting
 pub mod Closing
 pub mod Edges
+pub mod Calls
