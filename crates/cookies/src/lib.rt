@@ -13,6 +13,7 @@ use crypto_profile::{hmac, same_bytes};
 use rtmfp_forms::{Address, FormFault, read_address, write_address};
 use std::marker::Model;
 
+pub mod edges;
 pub mod laws;
 #[cfg(test)]
 mod tests;

@@ -1,8 +1,9 @@
 //! The keys: each is an HMAC under the group secret.
 
-ghost use Rattle.std.specs.Prelude.{◌≡◌};
+ghost use Rattle.std.specs.Prelude.{◌≡◌, List, ℕ, []};
 ghost use Rattle.crypto_profile.specs.Hmac.{hmac};
 ghost use Rattle.crypto_profile.specs.Keys.{enc_label, mac_label, session_text, sign_key_of};
+ghost use Rattle.crypto_profile.specs.Macs.{HoldsText};
 
 use crate::mac::{RunningHmac, hmac};
 use std::marker::Model;
@@ -56,16 +57,16 @@ impl Model for Keys {
 impl Keys {
     ghost use Rattle.std.specs.Prelude.{◌≡◌, []};
     ghost use Rattle.crypto_profile.specs.Keys.{keys_of};
-    ghost use Rattle.crypto_profile.specs.Macs.{HoldsText};
 
     /// The keys of a context under the group secret.
     pub fn of(secret: &[u8; 32], context: &Context) -> Keys
         ensures { result ≡ keys_of secret.now context.now }
     {
+        let under = RunningHmac::new(secret);
         match context {
             Context::Startup => Keys::prepared(
-                hmac(secret, b"rtmfp startup enc"),
-                hmac(secret, b"rtmfp startup mac"),
+                under.finish_with(b"rtmfp startup enc"),
+                under.finish_with(b"rtmfp startup mac"),
             ),
             Context::Session {
                 ni,
@@ -77,7 +78,7 @@ impl Keys {
                 to_responder,
             } => {
                 let enc = session_key(
-                    secret,
+                    &under,
                     enc_label(*to_responder),
                     ni,
                     nr,
@@ -87,7 +88,7 @@ impl Keys {
                     *sid_r,
                 );
                 let mac = session_key(
-                    secret,
+                    &under,
                     mac_label(*to_responder),
                     ni,
                     nr,
@@ -161,8 +162,9 @@ fn mac_label(to_responder: bool) -> &'static [u8]
     }
 }
 
+// A key of a session, by an HMAC under the group secret that has taken in no text.
 fn session_key(
-    secret: &[u8; 32],
+    under: &RunningHmac,
     label: &[u8],
     ni: &[u8; 16],
     nr: &[u8; 16],
@@ -171,9 +173,9 @@ fn session_key(
     sid_i: u32,
     sid_r: u32,
 ) -> [u8; 32]
-    ensures { result ≡ hmac secret.now (session_text label.now ni.now nr.now fp_i.now fp_r.now sid_i sid_r) }
+    ensures { (secret : List ℕ) → HoldsText secret [] under.now → result ≡ hmac secret (session_text label.now ni.now nr.now fp_i.now fp_r.now sid_i sid_r) }
 {
-    let mut mac = RunningHmac::new(secret);
+    let mut mac = under.copy();
     mac.update(label);
     mac.update(ni);
     mac.update(nr);

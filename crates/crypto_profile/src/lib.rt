@@ -6,6 +6,7 @@
 #![tactic(auto)]
 
 mod comparing;
+pub mod edges;
 mod keys;
 pub mod laws;
 mod mac;

@@ -3,6 +3,7 @@
 
 mod cert;
 mod discriminator;
+pub mod edges;
 pub mod laws;
 mod order;
 #[cfg(test)]

@@ -1,3 +1,5 @@
 pub mod Hears
 pub mod Seals
 pub mod Meets
+pub mod Courses
+pub mod Folds

@@ -6,3 +6,5 @@ pub mod Sealed
 pub mod Hearing
 pub mod Meeting
 pub mod Closing
+pub mod Edges
+pub mod Calls

@@ -55,12 +55,16 @@ pub(crate) fn count_of(part: &[u8]) -> u64
     u64::from_be_bytes(count)
 }
 
-/// Whether a part opens under keys and a session ID, with a number of a session.
+/// Whether a part opens under keys and a session ID, with a number of a session. The number is tested before the tag, which
+/// costs most.
 pub(crate) fn opens_under(keys: &Keys, sid: u32, part: &[u8]) -> bool
     ensures { result ≡ opens_under keys.now sid part.now }
 {
-    match open_refusal(keys, sid, part) {
-        None => has_session_number(part),
-        Some(_) => false,
+    if part.len() < HEAD_LEN {
+        return false;
     }
+    if !has_session_number(part) {
+        return false;
+    }
+    open_refusal(keys, sid, part).is_none()
 }

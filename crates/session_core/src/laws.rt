@@ -1,5 +1,6 @@
 //! What sessions keep, for callers' proofs. The functions do nothing: the contract of each is its law.
 
+ghost use Rattle.session_core.specs.Calls.{AddressIsTheLast, CourseIsByTheTable, EndsStay, StampIsTheLast, TakenIsTheLast, TripIsByTheSamples, WindowIsByAcksAndLosses};
 ghost use Rattle.session_core.specs.Meeting.{ContextsMeet, SealedOpensThere};
 ghost use Rattle.session_core.specs.Hearing.{HearsByTaken, OpensSomePlain, OpensThisPlain};
 
@@ -22,4 +23,21 @@ pub fn the_contexts_of_two_ends_meet()
 /// What one end of a session seals opens at the other.
 pub fn what_one_end_seals_opens_at_the_other()
     ensures { SealedOpensThere }
+{}
+
+/// After whatever list of calls, the moment of the last datagram is that of the last head taken, or of the beginning; so are the
+/// last timestamp and the address. The round trip and the window are by what came of samples, acks and losses.
+pub fn values_are_folds_over_the_calls()
+    ensures taken { TakenIsTheLast }
+    ensures stamp { StampIsTheLast }
+    ensures address { AddressIsTheLast }
+    ensures trip { TripIsByTheSamples }
+    ensures window { WindowIsByAcksAndLosses }
+    ensures ends { EndsStay }
+{}
+
+/// After whatever list of calls, the stage and the moments of its beginning, of the last close and of the last keepalive are
+/// those to which the table of the calls leads.
+pub fn a_session_goes_by_the_table_of_its_calls()
+    ensures { CourseIsByTheTable }
 {}

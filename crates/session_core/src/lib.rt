@@ -5,6 +5,7 @@
 #![tactic(auto)]
 
 mod congestion;
+pub mod edges;
 mod hearing;
 pub mod laws;
 mod sealing;

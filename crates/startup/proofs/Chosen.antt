@@ -1,5 +1,5 @@
 -- What is chosen of the rows.
-use Rattle.std.proofs.Common.{ℕ, ◌≡◌, ◌<◌, List, [], ◌∷◌, Option, Some, None, is_some, true, false, refl, sym, ap, ◌∙◌, arith}
+use Rattle.std.proofs.Common.{ℕ, ◌≡◌, ◌<◌, List, [], ◌∷◌, Option, Some, None, is_some, true, false, refl, sym, ap, arith}
 use Rattle.glare_core.specs.declared.facts.Why.{Why}
 use Rattle.startup.specs.declared.attempt.Row.{Row}
 use Rattle.startup.specs.State.{AttemptState}

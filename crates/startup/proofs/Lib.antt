@@ -11,3 +11,4 @@ pub mod Choices
 pub mod Startups
 pub mod Falling
 pub mod Chosen
+pub mod Standing

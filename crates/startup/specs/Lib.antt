@@ -7,3 +7,5 @@ pub mod Sought
 pub mod Keyings
 pub mod Read
 pub mod Refusals
+pub mod Edges
+pub mod Offsets

@@ -1,4 +1,4 @@
-use Rattle.std.proofs.Common.{◌≡◌, ap, ◌∙◌, is_some}
+use Rattle.std.proofs.Common.{ap, ◌∙◌, is_some}
 use Rattle.rtmfp_base.proofs.Places.{place_tells}
 use Rattle.startup.specs.Rows.{near_in, attempt_in}
 use Rattle.startup.proofs.looking.has_row.Goals as goal

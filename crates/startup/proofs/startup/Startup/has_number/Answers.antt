@@ -1,4 +1,4 @@
-use Rattle.std.proofs.Common.{◌≡◌, ap, ◌∙◌, is_some, List}
+use Rattle.std.proofs.Common.{ap, ◌∙◌, is_some, List}
 use Rattle.startup.specs.declared.attempt.Row.{Row}
 use Rattle.startup.specs.Rows.{table_of}
 use Rattle.glare_core.specs.declared.facts.Why.TheVariants.{Cancelled}

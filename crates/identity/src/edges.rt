@@ -1,0 +1,43 @@
+//! The forms of certificates and discriminators, and the order of fingerprints, at their edges and one beside. The functions
+//! do nothing: the contract of each states what the definitions that the other contracts cite are there.
+
+ghost use Rattle.std.specs.Prelude.{◌≡◌, ◌∷◌, ◌++◌, ℕ, List, [], Bool, true, false, Option, Some, None, replicate};
+ghost use Rattle.identity.specs.declared.cert.CertFault.TheVariants.{Short, LongName, NotAscii};
+ghost use Rattle.identity.specs.Certificates.{certificate_fault};
+ghost use Rattle.identity.specs.Discriminators.{discriminator_of};
+ghost use Rattle.identity.specs.Order.{is_above};
+
+/// A certificate has 16 instance bytes of any value and a name of 1 to 64 bytes below 0x80. The first fault counts, in the
+/// order of short, long and not ASCII.
+pub fn a_certificate_has_17_to_80_bytes()
+    ensures none { certificate_fault [] ≡ Some Short }
+    ensures short { certificate_fault (replicate 16 0x61) ≡ Some Short }
+    ensures shortest { certificate_fault (replicate 17 0x61) ≡ None }
+    ensures longest { certificate_fault (replicate 80 0x61) ≡ None }
+    ensures long { certificate_fault (replicate 81 0x61) ≡ Some LongName }
+    ensures instance { certificate_fault (replicate 16 0xff ++ 0x7f ∷ []) ≡ None }
+    ensures first_of_name { certificate_fault (replicate 16 0 ++ 0x80 ∷ []) ≡ Some NotAscii }
+    ensures last_of_name { certificate_fault (replicate 79 0 ++ 0x80 ∷ []) ≡ Some NotAscii }
+    ensures short_before_ascii { certificate_fault (replicate 16 0x80) ≡ Some Short }
+    ensures long_before_ascii { certificate_fault (replicate 81 0x80) ≡ Some LongName }
+{}
+
+/// A discriminator is the byte 1 and the 32 bytes of a fingerprint.
+pub fn a_discriminator_has_33_bytes()
+    ensures none { discriminator_of [] ≡ None }
+    ensures short { discriminator_of (1 ∷ replicate 31 7) ≡ None }
+    ensures right { discriminator_of (1 ∷ replicate 32 7) ≡ Some (record { print = replicate 32 7 }) }
+    ensures long { discriminator_of (1 ∷ replicate 33 7) ≡ None }
+    ensures below { discriminator_of (0 ∷ replicate 32 7) ≡ None }
+    ensures above { discriminator_of (2 ∷ replicate 32 7) ≡ None }
+{}
+
+/// The first byte that differs decides, and bytes have no sign.
+pub fn the_first_byte_that_differs_decides()
+    ensures equal { is_above (5 ∷ 5 ∷ []) (5 ∷ 5 ∷ []) ≡ false }
+    ensures first { is_above (6 ∷ 0 ∷ []) (5 ∷ 255 ∷ []) ≡ true }
+    ensures first_below { is_above (5 ∷ 255 ∷ []) (6 ∷ 0 ∷ []) ≡ false }
+    ensures second { is_above (5 ∷ 6 ∷ []) (5 ∷ 5 ∷ []) ≡ true }
+    ensures second_below { is_above (5 ∷ 5 ∷ []) (5 ∷ 6 ∷ []) ≡ false }
+    ensures high { is_above (128 ∷ []) (127 ∷ []) ≡ true }
+{}

@@ -1,0 +1,25 @@
+-- Short names for the values at which the rules' edges are stated.
+use Rattle.std.specs.Prelude.{◌≡◌, ℕ, List, [], ◌∷◌, false, replicate}
+use Rattle.std.specs.FinMap.{entries}
+use Rattle.rtmfp_forms.specs.Address.{AddressParts}
+use Rattle.startup.specs.declared.attempt.Stage.TheVariants.{Hello, Keying}
+use Rattle.startup.specs.State.{AttemptState, Attempts}
+
+-- 10.0.0.last, port 1935
+abbrev pub v4 : ℕ → ℕ → AddressParts
+v4 origin last = record { v6 = false; origin = origin; host = 10 ∷ 0 ∷ 0 ∷ last ∷ replicate 12 0; port = 1935 }
+
+-- an attempt, but with these moments of its start and of its last sending, and after so many repeats
+abbrev pub timed : ℕ → ℕ → ℕ → AttemptState → AttemptState
+timed start last gap a = record a { start = start; last = last; gap = gap }
+
+-- an attempt, but in the hello stage, or in the keying stage with an address and a cookie
+abbrev pub in_hello : AttemptState → AttemptState
+in_hello a = record a { stage = Hello }
+
+abbrev pub in_keying : AddressParts → List ℕ → AttemptState → AttemptState
+in_keying at cookie a = record a { stage = Keying at cookie }
+
+-- the attempts are two, under the near ids 5 and 6
+abbrev pub AreTwo : Attempts → AttemptState → AttemptState → Type 0
+AreTwo attempts a b = entries attempts ≡ (5, a) ∷ (6, b) ∷ []
