@@ -1,0 +1,7 @@
+mod Logs
+mod Brings
+mod Starting
+mod Bearing
+mod Opening
+mod Sending
+mod Ending
