@@ -417,7 +417,7 @@ module _ (setup : Setup) (past : List Stamped) (s : State) (tied : Tied setup pa
 -- ---- logs
 
 -- the moment of an end is the last of its log
-moment_goes : (setup : Setup) (past : List Stamped) (log : List Event) (s t : State) → IsSetup setup → AreCalls log → Tied setup past s → Leads s log t → t.moment ≡ last_moment s.moment log
+pub moment_goes : (setup : Setup) (past : List Stamped) (log : List Event) (s t : State) → IsSetup setup → AreCalls log → Tied setup past s → Leads s log t → t.moment ≡ last_moment s.moment log
 moment_goes setup past [] s t is calls tied leads = ap (λ (x : State). x.moment) (sym leads)
 moment_goes setup past (e ∷ log) s t is calls tied leads =
     let noted : State = at_moment s e.moment in
