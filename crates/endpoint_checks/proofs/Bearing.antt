@@ -1,6 +1,6 @@
 -- What the table refuses of a Born.
-use Rattle.std.proofs.Common.{ℕ, ◌+◌, ◌<◌, ◌≤◌, List, [], ◌∷◌, length, drop, length-drop, max, ◌≡◌, ◌≢◌, ◌⊎◌, inl, inr, refl, sym, ap, subst, ◌∙◌, cond, Option, Some, None, true, false, if◌then◌else◌, arith}
-use Rattle.std.specs.Prelude.{Bool, ◌==◌, ◌||◌, not, filter}
+use Rattle.std.proofs.Common.{ℕ, ◌+◌, ◌<◌, ◌≤◌, List, [], ◌∷◌, length, drop, length-drop, max, ◌≡◌, ◌≢◌, ◌⊎◌, inl, inr, refl, sym, ap, subst, ◌∙◌, cond, Some, None, true, false, arith}
+use Rattle.std.specs.Prelude.{Bool, ◌==◌, ◌||◌}
 use Rattle.std.specs.List.{list_any}
 use Rattle.std.specs.Str.{bytes_eq}
 use Rattle.crypto_profile.specs.declared.keys.Context.TheVariants.{Startup}
@@ -11,26 +11,24 @@ use Rattle.sha2.specs.Sha256.{sha256}
 use Rattle.crypto_profile.specs.Hmac.{hmac}
 use Rattle.crypto_profile.specs.Keys.{sign_key_of}
 use Rattle.identity.specs.Certificates.{IsCertificate}
-use Rattle.endpoint.specs.Event.{Call, Receive}
+use Rattle.endpoint.specs.Event.{Receive}
 use Rattle.rtmfp_packet.specs.Walk.{Placed}
 use Rattle.cookies.specs.Cookie.{IsCookieOf}
 use Rattle.cookies.proofs.Reading.{one_place_and_moment}
-use Rattle.glare_core.specs.declared.facts.Why.{Why}
-use Rattle.glare_core.specs.declared.facts.Why.TheVariants.{Override, Cancelled}
+use Rattle.glare_core.specs.declared.facts.Why.TheVariants.{Cancelled}
 use Rattle.glare_core.specs.declared.facts.Fact.{Fact}
-use Rattle.glare_core.specs.declared.facts.Fact.TheVariants.{Started, Born, Opened, Ended}
+use Rattle.glare_core.specs.declared.facts.Fact.TheVariants.{Started, Ended}
 use Rattle.glare_core.specs.declared.facts.Held.{Held}
 use Rattle.glare_core.specs.declared.facts.Held.TheVariants.{Opening, HalfOpen}
 use Rattle.glare_core.specs.declared.facts.Joined.{Joined}
-use Rattle.glare_core.specs.Standing.{held, seen, peers_in, peer_of, with_peer}
-use Rattle.endpoint.specs.declared.config.Draws.{Draws}
+use Rattle.glare_core.specs.Standing.{held, peers_in, peer_of}
 use Rattle.endpoint.specs.Event.{Setup, own_of}
 use Rattle.endpoint.specs.Past.{ids_in_use}
 use Rattle.endpoint.specs.Keying.{IsFirst, IsSigned, chunks_of, initiator_part}
 use Rattle.endpoint.specs.Admissible.{Admissible, Offer}
 use Rattle.endpoint.specs.Lawful.{WayMade, IsLawful}
 use Rattle.endpoint_checks.specs.Brings.{Keying, BringsKeying}
-use Rattle.endpoint_checks.specs.Births.{born_in, BirthsRefused, KeyingsRefused, LaterBirthsRefused, TheTableRefusesBirths, TheTableRefusesKeyings, TheTableRefusesLaterBirths}
+use Rattle.endpoint_checks.specs.Births.{born_in, TheTableRefusesBirths, TheTableRefusesKeyings, TheTableRefusesLaterBirths}
 use Rattle.endpoint_checks.proofs.Logs.{same, other}
 use Rattle.endpoint_checks.proofs.Brings.{one_packet, one_first, one_keying, OneKeying, signed_here}
 

@@ -1,8 +1,7 @@
 -- A datagram brings one keying.
-use Rattle.std.proofs.Common.{ℕ, List, [], ◌∷◌, ◌++◌, length, ◌≡◌, ◌≢◌, ◌⊎◌, inl, inr, refl, sym, ap, subst, ◌∙◌, Ok, Err, Result, arith, take, drop, length-append, length-drop}
+use Rattle.std.proofs.Common.{ℕ, List, [], ◌∷◌, ◌++◌, length, ◌≡◌, inl, inr, refl, sym, ap, subst, ◌∙◌, Ok, Err, Result, arith, take, drop, length-append}
 use Rattle.std.proofs.lemmas.List.{take_at}
 use Rattle.crypto_profile.specs.declared.keys.Context.{Context}
-use Rattle.crypto_profile.specs.declared.keys.Context.TheVariants.{Startup}
 use Rattle.crypto_profile.specs.Hmac.{hmac}
 use Rattle.crypto_profile.specs.Keys.{sign_key_of}
 use Rattle.crypto_profile.proofs.Opened.{opens_by_its_tag}
@@ -12,11 +11,10 @@ use Rattle.rtmfp_packet.specs.declared.head.PacketFault.{PacketFault}
 use Rattle.rtmfp_packet.specs.Reading.{PacketReading}
 use Rattle.rtmfp_packet.proofs.Readings.{packet_reading_same}
 use Rattle.rtmfp_chunks.specs.declared.reading.ChunkFault.{ChunkFault}
-use Rattle.rtmfp_chunks.specs.Chunk.{Chunk, IHello, FIHello, RHello, Redirect, CookieChange, IIKeying, RIKeying, Ping, PingReply, Close, CloseAck, Fragment, Spells}
+use Rattle.rtmfp_chunks.specs.Chunk.{Chunk, IIKeying, RIKeying, Spells}
 use Rattle.rtmfp_chunks.proofs.ReadingLaws.{reading_same}
 use Rattle.endpoint.specs.Contexts.{ReadsUnder}
-use Rattle.endpoint.specs.Keying.{IsFirst, IsAmong, IsSigned, chunks_of}
-use Rattle.endpoint_checks.specs.Brings.{Keying, BringsKeying, Answer, BringsAnswer}
+use Rattle.endpoint.specs.Keying.{IsFirst, IsSigned}
 
 -- what opens in a context reads as one packet
 whole_or : Whole → Result Whole PacketFault → Whole

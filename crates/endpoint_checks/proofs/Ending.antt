@@ -1,14 +1,12 @@
 -- What the table refuses of an Ended.
-use Rattle.std.proofs.Common.{ℕ, ◌+◌, ◌≤◌, List, [], ◌∷◌, ◌≡◌, ◌≢◌, inl, inr, ◌⊎◌, sym, ap, subst, refl, cond, Option, Some, None, true, false, ◌∙◌, arith}
+use Rattle.std.proofs.Common.{ℕ, ◌+◌, ◌≤◌, List, [], ◌∷◌, ◌≡◌, inl, inr, sym, ap, subst, refl, cond, Some, None, true, false, ◌∙◌, arith}
 use Rattle.std.specs.Prelude.{Bool}
 use Rattle.std.specs.Str.{bytes_eq}
-use Rattle.glare_core.specs.declared.facts.Fact.TheVariants.{Started}
 use Rattle.glare_core.specs.declared.facts.Held.{Held}
 use Rattle.glare_core.specs.declared.facts.Held.TheVariants.{Opening, HalfOpen, KeptAsResponder, KeptAsInitiator}
 use Rattle.glare_core.specs.Things.{IsAttempt, IsSession, near_of}
-use Rattle.endpoint.specs.declared.entry.Entry.TheVariants.{Fact as FactEntry}
-use Rattle.endpoint.specs.Past.{stamped, Stamped, WasDone}
-use Rattle.endpoint_checks.specs.Ends.{CancelsRefused, ExpiriesRefused, WaysRefused, OthersRefused, TheTableRefusesCancels, TheTableRefusesExpiries, TheTableRefusesWays, TheTableRefusesOtherEnds}
+use Rattle.endpoint.specs.Past.{Stamped, WasDone}
+use Rattle.endpoint_checks.specs.Ends.{TheTableRefusesCancels, TheTableRefusesExpiries, TheTableRefusesWays, TheTableRefusesOtherEnds}
 use Rattle.endpoint_checks.proofs.Logs.{same, other}
 
 -- ---- what is held where one thing was begun

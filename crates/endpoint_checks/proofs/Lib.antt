@@ -5,3 +5,5 @@ mod Bearing
 mod Opening
 mod Sending
 mod Ending
+mod Stories
+mod Quarrels

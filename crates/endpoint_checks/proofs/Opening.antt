@@ -1,5 +1,5 @@
 -- What the table refuses of an Opened and of a Confirmed.
-use Rattle.std.proofs.Common.{ℕ, ◌≤◌, ◌<◌, List, [], ◌∷◌, length, drop, length-drop, ◌≡◌, ◌≢◌, ◌⊎◌, inl, inr, refl, sym, ap, subst, ◌∙◌, cond, Option, Some, None, true, false, arith}
+use Rattle.std.proofs.Common.{ℕ, ◌≤◌, ◌<◌, List, [], ◌∷◌, length, drop, length-drop, ◌≡◌, inl, inr, refl, sym, ap, subst, ◌∙◌, cond, Option, Some, None, true, false, arith}
 use Rattle.std.specs.Prelude.{Bool}
 use Rattle.std.specs.Str.{bytes_eq}
 use Rattle.crypto_profile.specs.declared.keys.Context.TheVariants.{Startup}
@@ -10,17 +10,16 @@ use Rattle.rtmfp_packet.specs.Whole.{Whole}
 use Rattle.rtmfp_packet.specs.Walk.{Placed}
 use Rattle.rtmfp_chunks.specs.Chunk.{RIKeying, Spells}
 use Rattle.glare_core.specs.declared.facts.Held.{Held}
-use Rattle.glare_core.specs.declared.facts.Held.TheVariants.{Opening, HalfOpen, KeptAsResponder, KeptAsInitiator}
+use Rattle.glare_core.specs.declared.facts.Held.TheVariants.{Opening, HalfOpen}
 use Rattle.glare_core.specs.declared.facts.Joined.{Joined}
 use Rattle.glare_core.specs.Standing.{confirmed}
 use Rattle.glare_core.specs.Things.{near_of}
-use Rattle.glare_core.specs.Tells.{as_responder}
-use Rattle.endpoint.specs.Event.{Setup, own_of}
-use Rattle.endpoint.specs.Contexts.{session_context, inward, OpensUnder}
+use Rattle.endpoint.specs.Event.{own_of}
+use Rattle.endpoint.specs.Contexts.{inward}
 use Rattle.endpoint.specs.Keying.{IsAmong, IsSigned, chunks_of, responder_part}
 use Rattle.endpoint.specs.Lawful.{AnswersAttempt}
 use Rattle.endpoint_checks.specs.Brings.{Answer, BringsAnswer}
-use Rattle.endpoint_checks.specs.Opens.{OpeningsRefused, AnswersRefused, ConfirmsRefused, TheTableRefusesOpenings, TheTableRefusesAnswers, TheTableRefusesConfirms}
+use Rattle.endpoint_checks.specs.Opens.{TheTableRefusesOpenings, TheTableRefusesAnswers, TheTableRefusesConfirms}
 use Rattle.endpoint_checks.proofs.Logs.{same, other}
 use Rattle.endpoint_checks.proofs.Brings.{one_packet, one_answer, OneAnswer, signed_here}
 

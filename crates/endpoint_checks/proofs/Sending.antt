@@ -1,5 +1,5 @@
 -- What the table refuses of a datagram that goes out.
-use Rattle.std.proofs.Common.{ℕ, ◌+◌, ◌≤◌, ◌<◌, List, [], ◌∷◌, ◌++◌, length, drop, length-append, ◌≡◌, ◌≢◌, ◌⊎◌, inl, inr, refl, sym, ap, subst, ◌∙◌, cond, Option, Some, None, Ok, true, false, arith}
+use Rattle.std.proofs.Common.{ℕ, ◌≤◌, List, [], length, drop, length-append, ◌≡◌, ◌⊎◌, inl, inr, refl, sym, ap, subst, ◌∙◌, cond, Some, None, Ok, true, false, arith}
 use Rattle.std.specs.Prelude.{Bool}
 use Rattle.std.specs.Str.{bytes_eq}
 use Rattle.std.specs.Int.{w32, to_be_bytes}
@@ -7,28 +7,25 @@ use Rattle.std.proofs.lemmas.List.{drop_at}
 use Rattle.std.proofs.lemmas.Slice.Eq.{bytes_eq-Decides}
 use Rattle.crypto_profile.specs.declared.keys.Context.{Context}
 use Rattle.crypto_profile.specs.declared.keys.Context.TheVariants.{Startup, Session}
-use Rattle.crypto_profile.specs.Keys.{Keys, keys_of}
+use Rattle.crypto_profile.specs.Keys.{keys_of}
 use Rattle.crypto_profile.specs.Opening.{plain_of}
-use Rattle.crypto_profile.specs.Sealing.{sealed, sealed_in, number_of}
+use Rattle.crypto_profile.specs.Sealing.{sealed_in, number_of}
 use Rattle.crypto_profile.proofs.Opened.{sealed_opens, sealed_carries}
 use Rattle.packet_scramble.specs.Datagram.{datagram, scrambled}
-use Rattle.rtmfp_packet.specs.Whole.{Whole}
 use Rattle.rtmfp_packet.specs.Reading.{PacketReading}
 use Rattle.rtmfp_chunks.specs.Chunk.{Chunk, IIKeying, RIKeying}
 use Rattle.glare_core.specs.declared.facts.Fact.{Fact}
-use Rattle.glare_core.specs.declared.facts.Fact.TheVariants.{Started, Born, Opened, Ended}
 use Rattle.glare_core.specs.declared.facts.Held.{Held}
 use Rattle.glare_core.specs.declared.facts.Held.TheVariants.{Opening, HalfOpen, KeptAsResponder, KeptAsInitiator}
 use Rattle.glare_core.specs.declared.facts.Joined.{Joined}
-use Rattle.glare_core.specs.Standing.{held, opened}
-use Rattle.glare_core.specs.Tells.{as_initiator, as_responder}
+use Rattle.glare_core.specs.Standing.{opened}
+use Rattle.glare_core.specs.Tells.{as_responder}
 use Rattle.endpoint.specs.Event.{Setup, own_of}
 use Rattle.endpoint.specs.Past.{Stamped, facts_of}
 use Rattle.endpoint.specs.Contexts.{session_context, outward, HeldUnder}
-use Rattle.endpoint.specs.Keying.{KeyingsAre, initiator_part, responder_part}
+use Rattle.endpoint.specs.Keying.{initiator_part, responder_part}
 use Rattle.endpoint.specs.Lawful.{OutLine, KeyingOfAttempt, KeyingOfBorn, IsBornHere, InSession, IsFarOf}
-use Rattle.endpoint_checks.specs.Sends.{HasChunk, SendsRefused, NumbersRefused, KeyingsSentRefused, AnswersSentRefused, InSessionsRefused, TheTableRefusesSends, TheTableRefusesNumbers, TheTableRefusesKeyingsSent, TheTableRefusesAnswersSent, TheTableRefusesSendsInSessions}
-use Rattle.endpoint_checks.proofs.Logs.{same}
+use Rattle.endpoint_checks.specs.Sends.{HasChunk, TheTableRefusesSends, TheTableRefusesNumbers, TheTableRefusesKeyingsSent, TheTableRefusesAnswersSent, TheTableRefusesSendsInSessions}
 
 -- ---- what stands behind the session ID
 

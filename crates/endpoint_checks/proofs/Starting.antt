@@ -1,11 +1,11 @@
 -- What the table refuses of a Started.
-use Rattle.std.proofs.Common.{ℕ, ◌==◌, List, [], ◌∷◌, ◌≡◌, sym, ap, subst, refl, cond, Option, Some, None, true, false, ◌∙◌, arith}
+use Rattle.std.proofs.Common.{ℕ, ◌==◌, [], ◌∷◌, ◌≡◌, sym, ap, refl, cond, Some, None, true, false, ◌∙◌, arith}
 use Rattle.std.specs.Prelude.{Bool}
 use Rattle.std.specs.List.{list_any}
 use Rattle.std.specs.Str.{bytes_eq}
 use Rattle.glare_core.specs.declared.facts.Held.{Held}
 use Rattle.glare_core.specs.declared.facts.Held.TheVariants.{Opening, HalfOpen}
-use Rattle.endpoint_checks.specs.Starts.{StartsRefused, TheTableRefusesStarts}
+use Rattle.endpoint_checks.specs.Starts.{TheTableRefusesStarts}
 use Rattle.endpoint_checks.proofs.Logs.{same, last_lawful}
 
 taken : (b : Bool) (h : Held) → b ≡ true → cond b (Some h) None ≡ None → ⊥

@@ -10,8 +10,8 @@ use Rattle.rtmfp_packet.specs.declared.head.Mode.TheVariants.{Startup as Startup
 use Rattle.rtmfp_packet.specs.Whole.{Whole}
 use Rattle.cookies.specs.Cookie.{IsCookieOf, cookie_of}
 use Rattle.identity.specs.Certificates.{IsCertificate}
-use Rattle.glare_core.specs.declared.facts.Why.TheVariants.{Cancelled, Override, Glare}
-use Rattle.glare_core.specs.declared.facts.Fact.TheVariants.{Started, Born, Opened, Confirmed, Ended}
+use Rattle.glare_core.specs.declared.facts.Why.TheVariants.{Cancelled, Override}
+use Rattle.glare_core.specs.declared.facts.Fact.TheVariants.{Started, Born, Opened, Ended}
 use Rattle.glare_core.specs.declared.facts.Joined.{Joined}
 use Rattle.endpoint.specs.declared.config.Draws.{Draws}
 use Rattle.endpoint.specs.declared.entry.Entry.TheVariants.{Fact as FactEntry}

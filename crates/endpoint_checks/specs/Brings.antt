@@ -1,8 +1,6 @@
 -- Datagrams with keyings, as the checks speak of them.
-use Rattle.std.specs.Prelude.{ℕ, ◌≡◌, ◌<◌, ◌≤◌, ◌^◌, List, [], ◌∷◌, ◌++◌, length}
+use Rattle.std.specs.Prelude.{ℕ, ◌≡◌, List, [], ◌∷◌, ◌++◌}
 use Rattle.crypto_profile.specs.declared.keys.Context.TheVariants.{Startup}
-use Rattle.crypto_profile.specs.Sealing.{sealed_in}
-use Rattle.packet_scramble.specs.Datagram.{datagram}
 use Rattle.rtmfp_packet.specs.Whole.{Whole}
 use Rattle.rtmfp_packet.specs.Walk.{Placed}
 use Rattle.rtmfp_chunks.specs.Chunk.{IIKeying, RIKeying, Spells}

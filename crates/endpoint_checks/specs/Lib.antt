@@ -5,3 +5,4 @@ pub mod Births
 pub mod Opens
 pub mod Sends
 pub mod Ends
+pub mod Histories

@@ -5,7 +5,7 @@ use Rattle.crypto_profile.specs.Keys.{sign_key_of}
 use Rattle.crypto_profile.specs.Sealing.{Opens, number_of}
 use Rattle.packet_scramble.specs.Datagram.{sid_of}
 use Rattle.rtmfp_forms.specs.Address.{AddressParts}
-use Rattle.glare_core.specs.declared.facts.Fact.TheVariants.{Started, Born, Opened, Confirmed, Ended}
+use Rattle.glare_core.specs.declared.facts.Fact.TheVariants.{Started, Born, Opened, Confirmed}
 use Rattle.glare_core.specs.declared.facts.Joined.{Joined}
 use Rattle.glare_core.specs.Tells.{as_responder}
 use Rattle.endpoint.specs.declared.config.Draws.{Draws}

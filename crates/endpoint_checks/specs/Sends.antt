@@ -10,12 +10,12 @@ use Rattle.rtmfp_packet.specs.Walk.{Placed}
 use Rattle.rtmfp_packet.specs.Reading.{PacketReading}
 use Rattle.rtmfp_chunks.specs.Chunk.{Chunk, IIKeying, RIKeying, Spells}
 use Rattle.glare_core.specs.declared.facts.Why.TheVariants.{Cancelled, Override}
-use Rattle.glare_core.specs.declared.facts.Fact.TheVariants.{Started, Born, Opened, Confirmed, Ended}
+use Rattle.glare_core.specs.declared.facts.Fact.TheVariants.{Started, Born, Opened, Ended}
 use Rattle.glare_core.specs.declared.facts.Joined.{Joined}
 use Rattle.glare_core.specs.Tells.{as_initiator, as_responder}
 use Rattle.endpoint.specs.declared.entry.Entry.{Entry}
-use Rattle.endpoint.specs.declared.entry.Entry.TheVariants.{Fact as FactEntry, Discard, Out}
-use Rattle.endpoint.specs.Event.{Setup, own_of, Call, Event}
+use Rattle.endpoint.specs.declared.entry.Entry.TheVariants.{Fact as FactEntry, Out}
+use Rattle.endpoint.specs.Event.{Setup, own_of, Call}
 use Rattle.endpoint.specs.Contexts.{session_context}
 use Rattle.endpoint.specs.Keying.{IsAmong, chunks_of, initiator_part, responder_part}
 use Rattle.endpoint_checks.specs.Logs.{doing, says, IsRefused}

@@ -5,6 +5,7 @@
 
 ghost use Rattle.endpoint_checks.specs.Births.{TheTableRefusesBirths, TheTableRefusesKeyings, TheTableRefusesLaterBirths};
 ghost use Rattle.endpoint_checks.specs.Ends.{TheTableRefusesCancels, TheTableRefusesExpiries, TheTableRefusesOtherEnds, TheTableRefusesWays};
+ghost use Rattle.endpoint_checks.specs.Histories.{HistoriesRefuseDisagreed, HistoriesRefuseForged, HistoriesRefuseForgedInSessions, HistoriesRefuseStale};
 ghost use Rattle.endpoint_checks.specs.Opens.{TheTableRefusesAnswers, TheTableRefusesConfirms, TheTableRefusesOpenings};
 ghost use Rattle.endpoint_checks.specs.Sends.{TheTableRefusesAnswersSent, TheTableRefusesKeyingsSent, TheTableRefusesNumbers, TheTableRefusesSends, TheTableRefusesSendsInSessions};
 ghost use Rattle.endpoint_checks.specs.Starts.{TheTableRefusesStarts};
@@ -87,4 +88,20 @@ pub fn answers_sent()
 /// Datagrams that go out in the context of a session that isn't held, towards this end, or under another session ID than the peer's.
 pub fn sends_in_sessions()
     ensures { TheTableRefusesSendsInSessions }
+{}
+
+/// Histories in which an end takes a datagram that nobody sent in its context before.
+pub fn forged()
+    ensures startup { HistoriesRefuseForged }
+    ensures sessions { HistoriesRefuseForgedInSessions }
+{}
+
+/// Histories in which a nonce was drawn twice, or in which two ends have one fingerprint.
+pub fn stale()
+    ensures { HistoriesRefuseStale }
+{}
+
+/// Histories in which two ends keep different sessions, or in which attempts open, are born or end otherwise than agreed histories allow.
+pub fn disagreed()
+    ensures { HistoriesRefuseDisagreed }
 {}
