@@ -2,10 +2,10 @@
 use Rattle.std.proofs.Common.{ℕ, ◌≡◌, List, [], Option, Some, None, refl, sym, ap, subst, ◌∙◌, arith}
 use Rattle.std.specs.FinMap.{get}
 use Rattle.glare_core.specs.declared.facts.Held.{Held}
-use Rattle.glare_core.specs.declared.facts.Held.TheVariants.{Opening as AttemptHeld, HalfOpen, KeptAsResponder, KeptAsInitiator}
+use Rattle.glare_core.specs.declared.facts.Held.TheVariants.{Opening as AttemptHeld}
 use Rattle.glare_core.specs.declared.facts.Joined.{Joined}
 use Rattle.glare_core.specs.Standing.{held}
-use Rattle.glare_core.specs.Things.{IsSession, near_of}
+use Rattle.glare_core.specs.Things.{near_of}
 use Rattle.glare_core.specs.Ledger.{held_with}
 use Rattle.glare_core.proofs.Accounts.{reads_held, reads_floor, reads_started, reads_knows, reads_rows}
 use Rattle.startup.specs.State.{AttemptState, peer_of_attempt}
@@ -14,11 +14,11 @@ use Rattle.session_core.specs.declared.stage.Role.TheVariants.{Initiator, Respon
 use Rattle.session_core.specs.declared.stage.Stage.{Stage}
 use Rattle.session_core.specs.declared.stage.Stage.TheVariants.{Opening, Open, NearClose, FarLinger, Closed}
 use Rattle.session_core.specs.Session.{SessionState}
-use Rattle.endpoint.specs.Event.{Setup, Event}
+use Rattle.endpoint.specs.Event.{Setup}
 use Rattle.endpoint.specs.Past.{Stamped, facts_of, past_of, last_moment}
 use Rattle.endpoint.specs.State.{State, fresh}
-use Rattle.endpoint.specs.OfTheLog.{IsThing, AttemptIsHeld, AttemptIsThere, SessionIsHeld, SessionIsThere, IsOfTheLog, TheStateIsOfTheLog}
-use Rattle.endpoint.proofs.Tied.{Tied, SessionTied, StageFits, thing_of, peer_at, fresh_tied}
+use Rattle.endpoint.specs.OfTheLog.{IsThing, AttemptIsThere, SessionIsThere, IsOfTheLog, TheStateIsOfTheLog}
+use Rattle.endpoint.proofs.Tied.{Tied, StageFits, thing_of, peer_at, fresh_tied}
 use Rattle.endpoint.proofs.Logged.{tied_to_log}
 use Rattle.endpoint.proofs.Complete.{moment_goes}
 

@@ -1,5 +1,5 @@
 -- What an end keeps is what its log says.
-use Rattle.std.specs.Prelude.{ℕ, ◌≡◌, List, [], length, Option, Some}
+use Rattle.std.specs.Prelude.{ℕ, ◌≡◌, List, [], length, Some}
 use Rattle.std.specs.List.{list_any}
 use Rattle.std.specs.Str.{bytes_eq}
 use Rattle.std.specs.FinMap.{get}

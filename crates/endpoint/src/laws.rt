@@ -37,12 +37,12 @@ pub fn agreed_logs()
     ensures kept { LogsKeepTheSame }
 {}
 
-/// Where an end takes a datagram whole whose first initiator's keying is admissible by its log, the session is born in that call, and its keying goes out directly after the Born.
+/// Where an end takes a datagram whose first initiator's keying is admissible by its log, and goes through that keying before memory is wanting, the session is born in that call, and its keying goes out directly after the Born.
 pub fn admissible_keyings_bear()
     ensures { AdmissibleKeyingsBear }
 {}
 
-/// A responder's keying that nothing discards, under the session ID of an attempt, opens the attempt's session.
+/// Where an end takes a datagram under the session ID of an attempt, and goes through a responder's keying that nothing discards, the attempt's session is opened in that call, and a ping without bytes goes out in it directly after the Opened.
 pub fn keyings_without_cause_open()
     ensures { KeyingsWithoutCauseOpen }
 {}
