@@ -3,7 +3,7 @@ use Rattle.std.proofs.Common.{◌≡◌, ◌≢◌, ℕ, ◌+◌, ◌^◌, ◌<�
 use Rattle.std.specs.Int.{w64, to_be_bytes}
 use Rattle.std.specs.FinMap.{get}
 use Rattle.std.proofs.lemmas.Bool.Decides.{nat_tests}
-use Rattle.std.proofs.lemmas.List.{length-take-le}
+use Rattle.std.proofs.lemmas.List.{length-take-le, take-append-drop, append-nil}
 use Rattle.sha2.specs.Sha256.{sha256}
 use Rattle.sha2.proofs.Facts256.{length-sha256}
 use Rattle.rtmfp_base.proofs.Maps.{get_inserted}
@@ -11,11 +11,13 @@ use Rattle.rtmfp_vlu.proofs.Bytes.{IsBytes, IsBytes-drop}
 use Rattle.rtmfp_forms.specs.Address.{AddressParts}
 use Rattle.rtmfp_packet.specs.declared.head.Mode.{Mode}
 use Rattle.rtmfp_packet.specs.declared.head.Mode.TheVariants.{Startup as FromStartup}
-use Rattle.rtmfp_packet.specs.Head.{mode_number}
+use Rattle.rtmfp_packet.specs.Head.{mode_number, head_bytes}
+use Rattle.rtmfp_packet.specs.Whole.{Whole}
 use Rattle.rtmfp_packet.specs.Walk.{Placed}
 use Rattle.rtmfp_packet.proofs.Readings.{packet_reading_same}
 use Rattle.rtmfp_chunks.specs.declared.reading.ChunkFault.{ChunkFault}
-use Rattle.rtmfp_chunks.specs.Chunk.{Chunk, IHello, FIHello, RHello, Redirect, CookieChange, IIKeying, RIKeying, Ping, PingReply, Close, CloseAck, Fragment}
+use Rattle.rtmfp_chunks.specs.Chunk.{Chunk, IHello, FIHello, RHello, Redirect, CookieChange, IIKeying, RIKeying, Ping, PingReply, Close, CloseAck, Fragment, parts_of}
+use Rattle.rtmfp_chunks.proofs.WritingLaws.{parts_bytes-spell}
 use Rattle.rtmfp_chunks.specs.FieldReading.{chunk_reading}
 use Rattle.crypto_profile.specs.declared.keys.Context.TheVariants.{Startup as StartupContext}
 use Rattle.crypto_profile.specs.Keys.{keys_of}
@@ -41,26 +43,29 @@ use Rattle.startup.specs.State.{StartupState}
 use Rattle.startup.specs.Packets.{rikeying_packet}
 use Rattle.startup.specs.Attempts.{after_rhello, rhello_keying, after_cookie_change, cookie_change_keying}
 use Rattle.startup.specs.Keyings.{InitiatorKeying, keying_of, initiator_hello_answer, fault_in, responder_keying_in, session_answer, born_session, again_or_birth, keyed_with, keyed_reading, after_again_or_birth, after_keyed_with, after_keyed_reading, opened, opened_reading, after_opening}
-use Rattle.session_core.specs.Session.{SessionState, new_session}
+use Rattle.session_core.specs.Session.{SessionState, new_session, head_at}
+use Rattle.session_core.specs.Sealed.{number_bytes}
+use Rattle.glare_core.specs.Tells.{as_initiator}
+use Rattle.endpoint.specs.Contexts.{session_context}
 use Rattle.session_core.specs.declared.stage.Role.TheVariants.{Initiator}
 use Rattle.endpoint.specs.declared.config.Draws.{Draws}
 use Rattle.endpoint.specs.declared.place.Place.{Place}
 use Rattle.endpoint.specs.declared.place.Place.TheVariants.{Startup, Attempt}
 use Rattle.endpoint.specs.declared.entry.Entry.{Entry}
 use Rattle.endpoint.specs.declared.entry.Entry.TheVariants.{Fact as FactEntry, Discard, Out}
-use Rattle.endpoint.specs.Event.{Setup, own_of, Receive, Event}
+use Rattle.endpoint.specs.Event.{Setup, own_of, Receive, Answer as CallAnswer, Began, Done, NotOpened, Refused, Stopped, OutOfMemory, Event}
 use Rattle.endpoint.specs.Past.{Stamped, stamped, onto, facts_of, past_of, last_moment}
 use Rattle.endpoint.specs.Keying.{IsFirst, chunks_of}
 use Rattle.endpoint.specs.Admissible.{Admissible, Offer}
 use Rattle.endpoint.specs.Lawful.{AnswersAttempt}
 use Rattle.endpoint.specs.State.{State, Did, nothing, after_entries, then_do, fact_entries, with_startup, free_from, fresh, at_moment}
-use Rattle.endpoint.specs.Sending.{last_count, startup_number, startup_datagram, session_datagram, sent_answer, sent_if, sent_by}
-use Rattle.endpoint.specs.Admission.{Admission, Rejected, Admitted, place_of, sid_at, opened_by, placed, opened_found, opened_datagram, admission, admitted, admitted_packet, packet_in, has_mode}
+use Rattle.endpoint.specs.Sending.{last_count, startup_number, startup_datagram, session_packet, session_datagram, sent_answer, sent_if, sent_by}
+use Rattle.endpoint.specs.Admission.{Admission, Rejected, Admitted, place_of, sid_at, opened_by, placed, opened_found, opened_datagram, admission, admitted, admitted_packet, packet_in, has_mode, confirming}
 use Rattle.endpoint.specs.Causes.{is_known, form_cause, takes, last_cause, chunk_cause}
-use Rattle.endpoint.specs.Due.{with_born, keying_done, initiator_keyed, responder_keyed, with_opened, opening_done, read_done, effect, discarded_or, chunk_did, keyed_after, chunks_did, received}
-use Rattle.endpoint.specs.Log.{Leads}
+use Rattle.endpoint.specs.Due.{with_born, keying_done, initiator_keyed, responder_keyed, with_opened, opening_done, read_done, effect, discarded_or, chunk_did, keyed_after, chunks_did, received, part_received}
+use Rattle.endpoint.specs.Log.{Answers, Leads}
 use Rattle.endpoint.specs.Laws.{IsSetup, IsCall, AreCalls}
-use Rattle.endpoint.specs.Complete.{at_initiator, IsOfOffer, IsBornAndTold, AdmissibleKeyingsBear, OpensItsSession, KeyingsWithoutCauseOpen}
+use Rattle.endpoint.specs.Complete.{WentThrough, IsPing, outs_in, at_initiator, IsOfOffer, IsBornAndTold, AdmissibleKeyingsBear, OpensItsSession, KeyingsWithoutCauseOpen}
 use Rattle.endpoint.proofs.Bytes.{of_bytes, plain_is}
 use Rattle.endpoint.proofs.Reading.{packet_reads}
 use Rattle.endpoint.proofs.Facts.{all_none, test_fails}
@@ -75,7 +80,8 @@ use Rattle.endpoint.proofs.Chunked.{chunks_go, read_ok, opening_of}
 use Rattle.endpoint.proofs.Logged.{answers_go, tied_to_log}
 use Rattle.endpoint.proofs.OutBirths.{small_free}
 use Rattle.endpoint.proofs.OutLaw.{count_of_log}
-use Rattle.endpoint.proofs.Few.{few_chunks, few_of_log}
+use Rattle.endpoint.proofs.Few.{few_chunks, few_of_log, outs_append}
+use Rattle.endpoint.proofs.OutPackets.{one_whole, session_reads}
 use Rattle.endpoint.proofs.ReadsBack.{none_all, less_is_other, IsBearing, read_as, is_bearing}
 use Rattle.endpoint.proofs.AnswerCarried.{keying_answers}
 
@@ -301,7 +307,7 @@ module _ (setup : Setup) (past : List Stamped) (u : State) (tied : Tied setup pa
 
 module _ (setup : Setup) (past : List Stamped) (s : State) (tied : Tied setup past s) (from : AddressParts) (datagram : List ℕ) (draws : Draws) (offer : Offer) (now : ℕ)
     (a : Admissible setup (facts_of past) now from datagram offer) (at : s.moment ≡ now) (most : setup.config.max_sessions ≤ 65536) (fits : IsCall (Receive from datagram draws))
-    (other : offer.peer ≢ own_of setup) where
+    (other : offer.peer ≢ own_of setup) (gone rest : List Placed) (goes : chunks_of a.packet ≡ gone ++ rest) (firstly : IsFirst a.chunk gone) where
   abbrev part : List ℕ
   part = drop 4 datagram
 
@@ -342,8 +348,11 @@ module _ (setup : Setup) (past : List Stamped) (s : State) (tied : Tied setup pa
   kind : a.chunk.kind ≡ 0x38
   kind = a.spells.0
 
-  cut : Split a.chunk (chunks_of a.packet)
-  cut = split a.chunk (chunks_of a.packet) kind a.first
+  cut : Split a.chunk gone
+  cut = split a.chunk gone kind firstly
+
+  in_all : chunks_of a.packet ≡ cut.front ++ (a.chunk ∷ (cut.back ++ rest))
+  in_all = goes ∙ ap (λ (cs : List Placed). cs ++ rest) cut.whole ∙ append_assoc cut.front (a.chunk ∷ cut.back) rest
 
   abbrev first : Did
   first = chunks_did Startup from draws false s cut.front
@@ -352,7 +361,7 @@ module _ (setup : Setup) (past : List Stamped) (s : State) (tied : Tied setup pa
   u = first.state
 
   after_front : Goes setup (Receive from datagram draws) past s first
-  after_front = chunks_go setup from datagram draws most fits.2 a.packet Startup came false [] cut.front (a.chunk ∷ cut.back) s past (record { whole = cut.whole; keyed = λ e c none is. none }) tied
+  after_front = chunks_go setup from datagram draws most fits.2 a.packet Startup came false [] cut.front (a.chunk ∷ (cut.back ++ rest)) s past (record { whole = in_all; keyed = λ e c none is. none }) tied
 
   abbrev told : List Stamped
   told = onto s.moment first.entries past
@@ -381,16 +390,16 @@ module _ (setup : Setup) (past : List Stamped) (s : State) (tied : Tied setup pa
   abbrev later : List Entry
   later = (chunks_did Startup from draws (keyed_after false a.chunk) (chunk_did Startup from draws false u a.chunk).state cut.back).entries
 
-  in_two : (received from draws (Admitted s Startup a.packet)).entries ≡ first.entries ++ ((chunk_did Startup from draws false u a.chunk).entries ++ later)
+  in_two : (chunks_did Startup from draws false s gone).entries ≡ first.entries ++ ((chunk_did Startup from draws false u a.chunk).entries ++ later)
   in_two =
       ap (λ (cs : List Placed). (chunks_did Startup from draws false s cs).entries) cut.whole
       ∙ ap (λ (d : Did). d.entries) (front_then from draws cut.front (a.chunk ∷ cut.back) cut.others s)
 
-  few_so : u.sealed ≤ s.sealed + length (received from draws (Admitted s Startup a.packet)).entries
+  few_so : u.sealed ≤ s.sealed + outs_in (chunks_did Startup from draws false s gone).entries
   few_so =
-      omega (arith, few_chunks Startup from draws false cut.front s, ap length in_two, length-append first.entries ((chunk_did Startup from draws false u a.chunk).entries ++ later))
+      omega (arith, few_chunks Startup from draws false cut.front s, ap outs_in in_two, outs_append first.entries ((chunk_did Startup from draws false u a.chunk).entries ++ later))
 
-  bears : (u.sealed == last_count) ≡ false → count (facts_of past) < 2 ^ 64 → (x : Joined) × IsOfOffer offer draws.nonce (facts_of past) x × IsBornAndTold setup from x (received from draws (Admitted s Startup a.packet)).entries
+  bears : (u.sealed == last_count) ≡ false → count (facts_of past) < 2 ^ 64 → (x : Joined) × IsOfOffer offer draws.nonce (facts_of past) x × IsBornAndTold setup from x (chunks_did Startup from draws false s gone).entries
   bears some counted =
       let x : Joined = j setup told u after_front.tied from draws a.chunk.payload keying bearing some in
       let made : Option Fact = way setup told u after_front.tied from draws a.chunk.payload keying bearing some in
@@ -417,15 +426,42 @@ module _ (setup : Setup) (past : List Stamped) (s : State) (tied : Tied setup pa
 -- ---- logs
 
 -- the moment of an end is the last of its log
-moment_goes : (setup : Setup) (past : List Stamped) (log : List Event) (s t : State) → IsSetup setup → AreCalls log → Tied setup past s → Leads s log t → t.moment ≡ last_moment s.moment log
+pub moment_goes : (setup : Setup) (past : List Stamped) (log : List Event) (s t : State) → IsSetup setup → AreCalls log → Tied setup past s → Leads s log t → t.moment ≡ last_moment s.moment log
 moment_goes setup past [] s t is calls tied leads = ap (λ (x : State). x.moment) (sym leads)
 moment_goes setup past (e ∷ log) s t is calls tied leads =
     let noted : State = at_moment s e.moment in
     let one = answers_go setup past noted leads.0 e.call e.answer e.entries is (tied_alike setup past s (max s.moment e.moment) s.sealed tied) calls.0 leads.1 in
     moment_goes setup (onto noted.moment e.entries past) log leads.0 t is calls.1 one.tied leads.2 ∙ ap (λ (m : ℕ). last_moment m log) one.moment
 
+-- what a call adds that has gone through these chunks of a packet
+went_entries : (noted t u : State) (place : Place) (from : AddressParts) (datagram : List ℕ) (draws : Draws) (answer : CallAnswer) (entries : List Entry) (packet : Whole) (gone : List Placed) →
+    Answers noted (Receive from datagram draws) answer entries t → admission noted datagram ≡ Admitted u place packet → confirming u place ≡ nothing u → WentThrough answer (chunks_of packet) gone →
+    entries ≡ (chunks_did place from draws false u gone).entries
+went_entries noted t u place from datagram draws (Began n) entries packet gone step at quiet went = absurd went
+went_entries noted t u place from datagram draws Done entries packet gone step at quiet went =
+    step.entries ∙ ap (λ (x : Admission). (received from draws x).entries) at ∙ ap (λ (d : Did). (then_do d (λ v. chunks_did place from draws false v (chunks_of packet))).entries) quiet
+    ∙ ap (λ (cs : List Placed). (chunks_did place from draws false u cs).entries) (sym went)
+went_entries noted t u place from datagram draws (NotOpened refusal) entries packet gone step at quiet went = absurd went
+went_entries noted t u place from datagram draws (Refused refusal) entries packet gone step at quiet went = absurd went
+went_entries noted t u place from datagram draws (Stopped stop) entries packet gone step at quiet went =
+    step.1.entries
+    ∙ ap (λ (b : Bool). (if b then part_received from draws (admission noted datagram) stop.chunks else nothing noted).entries) went.0
+    ∙ ap (λ (x : Admission). (part_received from draws x stop.chunks).entries) at
+    ∙ ap (λ (d : Did). (then_do d (λ v. chunks_did place from draws false v (take stop.chunks (chunks_of packet)))).entries) quiet
+    ∙ ap (λ (cs : List Placed). (chunks_did place from draws false u cs).entries) (sym went.1)
+went_entries noted t u place from datagram draws OutOfMemory entries packet gone step at quiet went = absurd went
+
+-- these are the first of the packet's chunks
+went_first : (answer : CallAnswer) (chunks gone : List Placed) → WentThrough answer chunks gone → (rest : List Placed) × (chunks ≡ gone ++ rest)
+went_first (Began n) chunks gone went = absurd went
+went_first Done chunks gone went = ([], sym went ∙ sym (append-nil gone))
+went_first (NotOpened refusal) chunks gone went = absurd went
+went_first (Refused refusal) chunks gone went = absurd went
+went_first (Stopped stop) chunks gone went = (drop stop.chunks chunks, sym (take-append-drop stop.chunks chunks) ∙ ap (λ (cs : List Placed). cs ++ drop stop.chunks chunks) (sym went.1))
+went_first OutOfMemory chunks gone went = absurd went
+
 pub admissible_keyings_bear : AdmissibleKeyingsBear
-admissible_keyings_bear setup log s t moment from datagram draws entries offer is calls stands fits step a other few =
+admissible_keyings_bear setup log s t moment from datagram draws answer entries offer gone is calls stands fits step a went firstly other few =
     let past : List Stamped = past_of 0 [] log in
     let before : Tied setup past s = tied_to_log setup log s is calls stands in
     let noted : State = at_moment s moment in
@@ -433,13 +469,14 @@ admissible_keyings_bear setup log s t moment from datagram draws entries offer i
     let last : s.moment ≡ last_moment 0 log = moment_goes setup [] log (fresh setup) s is calls (fresh_tied setup) stands in
     let now : ℕ = max (last_moment 0 log) moment in
     let at : noted.moment ≡ now = ap (λ (m : ℕ). max m moment) last in
-    let so = admission_so setup past noted tied from datagram draws offer now a at is.sessions fits other in
-    let entries_are : entries ≡ (received from draws (Admitted noted Startup a.packet)).entries = step.entries ∙ ap (λ (x : Admission). (received from draws x).entries) so in
-    let left : State = u setup past noted tied from datagram draws offer now a at is.sessions fits other in
-    let sealed_few : left.sealed ≤ noted.sealed + length (received from draws (Admitted noted Startup a.packet)).entries =
-    few_so setup past noted tied from datagram draws offer now a at is.sessions fits other in
-    let room : left.sealed < last_count = omega (arith, sealed_few, few_of_log setup log s stands, ap length entries_are, few) in
-    let born = bears setup past noted tied from datagram draws offer now a at is.sessions fits other (less_is_other left.sealed last_count room) (count_of_log setup log s is calls stands) in
+    let cut = went_first answer (chunks_of a.packet) gone went in
+    let so = admission_so setup past noted tied from datagram draws offer now a at is.sessions fits other gone cut.0 cut.1 firstly in
+    let entries_are : entries ≡ (chunks_did Startup from draws false noted gone).entries = went_entries noted t noted Startup from datagram draws answer entries a.packet gone step so refl went in
+    let left : State = u setup past noted tied from datagram draws offer now a at is.sessions fits other gone cut.0 cut.1 firstly in
+    let sealed_few : left.sealed ≤ noted.sealed + outs_in (chunks_did Startup from draws false noted gone).entries =
+    few_so setup past noted tied from datagram draws offer now a at is.sessions fits other gone cut.0 cut.1 firstly in
+    let room : left.sealed < last_count = omega (arith, sealed_few, few_of_log setup log s stands, ap outs_in entries_are, few) in
+    let born = bears setup past noted tied from datagram draws offer now a at is.sessions fits other gone cut.0 cut.1 firstly (less_is_other left.sealed last_count room) (count_of_log setup log s is calls stands) in
     (born.0, born.1, subst (IsBornAndTold setup from born.0) (sym entries_are) born.2)
 
 -- ---- responders' keyings
@@ -462,8 +499,21 @@ module _ (s : State) (near : ℕ) (from : AddressParts) (draws : Draws) (c : Pla
       ap (λ (o : Option Fact). (opening_done s near from o).entries) opened_as
       ∙ ap (λ (o : Option SessionState). FactEntry (Opened session) ∷ (sent_by after_it near from (Ping []) o).entries) (get_inserted s.sessions near kept)
 
-  pub opens_its_session : OpensItsSession s near from (responder_keyed s near from c.payload).entries
-  opens_its_session = record {
+  -- what goes out is a ping
+  is_ping : IsPing s.startup.secret (session_context (as_initiator s.startup.ledger.own session) true) session.far (session_datagram kept s.moment (Ping []))
+  is_ping = record {
+    number = number_bytes (kept.sealed + 1);
+    plain = session_packet kept s.moment (Ping []);
+    is = refl;
+    packet = one_whole (head_at kept s.moment) (head_bytes (head_at kept s.moment)) 0x01 [];
+    reads = session_reads kept s.moment (Ping []) (omega arith);
+    chunk = record { kind = 0x01; at = length (head_bytes (head_at kept s.moment)); payload = [] };
+    only = refl;
+    spells = (refl, parts_bytes-spell (parts_of (Ping [])) tt);
+  }
+
+  pub opens_its_session : (entries before later : List Entry) → entries ≡ before ++ ((responder_keyed s near from c.payload).entries ++ later) → OpensItsSession s near from entries
+  opens_its_session entries before later e = record {
     attempt = opens.a;
     there = opens.there;
     j = session;
@@ -471,12 +521,17 @@ module _ (s : State) (near : ℕ) (from : AddressParts) (draws : Draws) (c : Pla
     n = refl;
     ni = refl;
     id = refl;
+    before = before;
     sent = session_datagram kept s.moment (Ping []);
-    are = entries_are;
+    later = later;
+    are = e ∙ ap (λ (es : List Entry). before ++ (es ++ later)) entries_are;
+    ping = is_ping;
   }
 
-pub keyings_without_cause_open : KeyingsWithoutCauseOpen
-keyings_without_cause_open s near keyed_before from draws c kind none =
+-- a keying that has no cause opens its session, whatever came before it
+one_opens : (s : State) (near : ℕ) (keyed_before keyed : Bool) (from : AddressParts) (draws : Draws) (c : Placed) → c.kind ≡ 0x78 → chunk_cause s (Attempt near) keyed_before from c ≡ None →
+    OpensAttempt s near c.payload × (chunk_did (Attempt near) from draws keyed s c ≡ responder_keyed s near from c.payload)
+one_opens s near keyed_before keyed from draws c kind none =
     let all = all_none (causes s (Attempt near) keyed_before from c) none in
     let that : Placed = record { kind = 0x78; at = c.at; payload = c.payload } in
     let as_kind : ℕ → Placed = λ x. record { kind = x; at = c.at; payload = c.payload } in
@@ -485,7 +540,35 @@ keyings_without_cause_open s near keyed_before from draws c kind none =
     let read = read_ok (responder_keying_in c.payload) formed in
     let last = ap (last_cause s (Attempt near) keyed_before from) (sym is) ∙ all.1.1.1.1.0 in
     let opens : OpensAttempt s near c.payload = opening_of s near c.payload read.0 read.1 last in
-    let no_cause : chunk_cause s (Attempt near) keyed_before from that ≡ None = ap (chunk_cause s (Attempt near) keyed_before from) (sym is) ∙ none in
-    let did : chunk_did (Attempt near) from draws keyed_before s c ≡ responder_keyed s near from c.payload =
-    ap (chunk_did (Attempt near) from draws keyed_before s) is ∙ ap (λ (o : Option Cause). discarded_or s c.at o (responder_keyed s near from c.payload)) no_cause in
-    subst (λ (d : Did). OpensItsSession s near from d.entries) (sym did) (opens_its_session s near from draws c opens)
+    let no_cause : chunk_cause s (Attempt near) keyed from that ≡ None = ap (chunk_cause s (Attempt near) keyed_before from) (sym is) ∙ none in
+    let did : chunk_did (Attempt near) from draws keyed s c ≡ responder_keyed s near from c.payload =
+    ap (chunk_did (Attempt near) from draws keyed s) is ∙ ap (λ (o : Option Cause). discarded_or s c.at o (responder_keyed s near from c.payload)) no_cause in
+    (opens, did)
+
+-- whether a keying was among chunks
+keyed_among : Bool → List Placed → Bool
+keyed_among keyed [] = keyed
+keyed_among keyed (c ∷ cs) = keyed_among (keyed_after keyed c) cs
+
+-- chunks one after another add what each of them adds
+gone_in_two : (place : Place) (from : AddressParts) (draws : Draws) (keyed : Bool) (front : List Placed) (c : Placed) (back : List Placed) (s : State) →
+    (chunks_did place from draws keyed s (front ++ c ∷ back)).entries ≡ (chunks_did place from draws keyed s front).entries
+    ++ ((chunk_did place from draws (keyed_among keyed front) (chunks_did place from draws keyed s front).state c).entries
+    ++ (chunks_did place from draws (keyed_after (keyed_among keyed front) c) (chunk_did place from draws (keyed_among keyed front) (chunks_did place from draws keyed s front).state c).state back).entries)
+unfolding keyed_among
+gone_in_two place from draws keyed [] c back s = refl
+gone_in_two place from draws keyed (x ∷ front) c back s =
+    let one : Did = chunk_did place from draws keyed s x in
+    ap (λ (es : List Entry). one.entries ++ es) (gone_in_two place from draws (keyed_after keyed x) front c back one.state)
+    ∙ sym (append_assoc one.entries (chunks_did place from draws (keyed_after keyed x) one.state front).entries _)
+
+pub keyings_without_cause_open : KeyingsWithoutCauseOpen
+keyings_without_cause_open s t u moment near from datagram draws answer entries packet front back c keyed_before step at went kind none =
+    let v : State = (chunks_did (Attempt near) from draws false u front).state in
+    let one = one_opens v near keyed_before (keyed_among false front) from draws c kind none in
+    let later : List Entry = (chunks_did (Attempt near) from draws (keyed_after (keyed_among false front) c) (chunk_did (Attempt near) from draws (keyed_among false front) v c).state back).entries in
+    let are : entries ≡ (chunks_did (Attempt near) from draws false u front).entries ++ ((responder_keyed v near from c.payload).entries ++ later) =
+    went_entries (at_moment s moment) t u (Attempt near) from datagram draws answer entries packet (front ++ c ∷ back) step at refl went
+    ∙ gone_in_two (Attempt near) from draws false front c back u
+    ∙ ap (λ (d : Did). (chunks_did (Attempt near) from draws false u front).entries ++ (d.entries ++ later)) one.1 in
+    opens_its_session v near from draws c one.0 entries (chunks_did (Attempt near) from draws false u front).entries later are

@@ -1,5 +1,5 @@
--- An end never sealed more startup packets than its log has entries.
-use Rattle.std.proofs.Common.{◌≡◌, ℕ, zero, suc, ◌+◌, ◌≤◌, List, [], ◌∷◌, ◌++◌, length, take, drop, Bool, true, false, ◌==◌, if◌then◌else◌, Option, Some, None, Result, Ok, Err, refl, ap, ◌∙◌, arith, length-append}
+-- An end never sealed more startup packets than datagrams went out by its log.
+use Rattle.std.proofs.Common.{◌≡◌, ℕ, zero, suc, ◌+◌, ◌≤◌, List, [], ◌∷◌, ◌++◌, take, drop, Bool, true, false, ◌==◌, if◌then◌else◌, Option, Some, None, Result, Ok, Err, refl, ap, ◌∙◌, arith}
 use Rattle.std.specs.FinMap.{get}
 use Rattle.rtmfp_forms.specs.Address.{AddressParts}
 use Rattle.rtmfp_packet.specs.declared.head.PacketHead.{PacketHead}
@@ -23,6 +23,7 @@ use Rattle.startup.specs.Attempts.{begin_spread, after_begin, after_rhello, rhel
 use Rattle.startup.specs.Due.{due, after_due}
 use Rattle.startup.specs.Keyings.{initiator_hello_answer, keyed, after_keying, opened, after_opening}
 use Rattle.glare_core.specs.Calls.{started_fact}
+use Rattle.crypto_profile.specs.declared.keys.Context.{Context}
 use Rattle.crypto_profile.specs.declared.keys.Context.TheVariants.{Startup as StartupContext}
 use Rattle.session_core.specs.Session.{SessionState, is_opening, confirmed, context_of}
 use Rattle.session_core.specs.Sealed.{after_seal}
@@ -40,11 +41,17 @@ use Rattle.endpoint.specs.Sending.{last_count, startup_datagram, session_datagra
 use Rattle.endpoint.specs.Admission.{Admission, Rejected, Admitted, admission, admitted, admitted_packet, opened_datagram, sid_at, counted_by, counted_at, timed_by, timed_at, confirming_by, confirming, packet_in, has_mode, mode_at}
 use Rattle.endpoint.specs.Causes.{chunk_cause}
 use Rattle.endpoint.specs.Due.{opening, cancelling, due_done, tick_once, ticks, with_born, keying_done, initiator_keyed, with_opened, opening_done, responder_keyed, read_done, effect, discarded_or, chunk_did, keyed_after, chunks_did, received, part_received}
+use Rattle.endpoint.specs.Complete.{outs_in, outs_of}
 use Rattle.endpoint.specs.Log.{Answers, Leads, StandsFor, stopped}
 
--- no more were sealed than entries were added
+-- how many datagrams went out, of two lists one after the other
+pub outs_append : (xs ys : List Entry) → outs_in (xs ++ ys) ≡ outs_in xs + outs_in ys
+outs_append [] ys = omega arith
+outs_append (x ∷ xs) ys = omega (arith, outs_append xs ys)
+
+-- no more were sealed than datagrams went out
 abbrev pub Few : State → Did → Type 0
-Few s d = d.state.sealed ≤ s.sealed + length d.entries
+Few s d = d.state.sealed ≤ s.sealed + outs_in d.entries
 
 pub few_nothing : (s : State) → Few s (nothing s)
 few_nothing s = omega arith
@@ -54,22 +61,22 @@ few_same : (s : State) (d : Did) → d.state.sealed ≡ s.sealed → Few s d
 few_same s d e = omega (arith, e)
 
 pub few_then : (s : State) (d : Did) (next : State → Did) → Few s d → Few d.state (next d.state) → Few s (then_do d next)
-few_then s d next p q = omega (arith, p, q, length-append d.entries (next d.state).entries)
+few_then s d next p q = omega (arith, p, q, outs_append d.entries (next d.state).entries)
 
 few_after : (s t : State) (entries : List Entry) (d : Did) → t.sealed ≡ s.sealed → Few t d → Few s (after_entries entries d)
-few_after s t entries d e p = omega (arith, e, p, length-append entries d.entries)
+few_after s t entries d e p = omega (arith, e, p, outs_append entries d.entries)
 
 few_from : (s t : State) (d : Did) → t.sealed ≡ s.sealed → Few t d → Few s d
 few_from s t d e p = omega (arith, e, p)
 
 -- ---- datagrams that go out
 
-few_one : (b : Bool) (s : State) (entry : Entry) → Few s (if b then nothing s else record { state = with_sealed s (s.sealed + 1); entries = entry ∷ [] })
-few_one true s entry = omega arith
-few_one false s entry = omega arith
+few_one : (b : Bool) (s : State) (to : AddressParts) (sent : List ℕ) (context : Context) → Few s (if b then nothing s else record { state = with_sealed s (s.sealed + 1); entries = Out to sent context ∷ [] })
+few_one true s to sent context = omega arith
+few_one false s to sent context = omega arith
 
 few_startup : (s : State) (to : AddressParts) (sid : ℕ) (plain : List ℕ) → Few s (sent_startup s to sid plain)
-few_startup s to sid plain = few_one (s.sealed == last_count) s (Out to (startup_datagram s sid plain) StartupContext)
+few_startup s to sid plain = few_one (s.sealed == last_count) s to (startup_datagram s sid plain) StartupContext
 
 few_answer : (s : State) (answer : Answer) → Few s (sent_answer s answer)
 few_answer s answer = few_startup s answer.to answer.sid answer.plain
@@ -259,10 +266,10 @@ few_ticks (suc count) s =
     few_then s (tick_once s) (ticks count) (few_due (with_startup s (after_due s.startup s.moment)) (due s.startup s.moment))
     (few_ticks count (tick_once s).state)
 
-few_does : (s t : State) (entries : List Entry) (d : Did) → Few s d → Does d t [] entries → t.sealed ≤ s.sealed + length entries
-few_does s t entries d p does = omega (arith, p, ap (λ (u : State). u.sealed) does.state, ap length does.entries)
+few_does : (s t : State) (entries : List Entry) (d : Did) → Few s d → Does d t [] entries → t.sealed ≤ s.sealed + outs_in entries
+few_does s t entries d p does = omega (arith, p, ap (λ (u : State). u.sealed) does.state, ap outs_in does.entries)
 
-few_answers : (s t : State) (call : Call) (answer : CallAnswer) (entries : List Entry) → Answers s call answer entries t → t.sealed ≤ s.sealed + length entries
+few_answers : (s t : State) (call : Call) (answer : CallAnswer) (entries : List Entry) → Answers s call answer entries t → t.sealed ≤ s.sealed + outs_in entries
 few_answers s t (Open peer candidates draws) (Began n) entries h = few_does s t entries (opening s peer candidates draws) (few_opening s peer candidates draws) h.2
 few_answers s t (Open peer candidates draws) (NotOpened refusal) entries h = few_does s t entries (nothing s) (few_nothing s) h.1
 few_answers s t (Cancel n) Done entries h = few_does s t entries (cancelling s n) (few_same s (cancelling s n) refl) h.1
@@ -277,17 +284,17 @@ few_answers s t _ _ entries h = absurd h
 
 -- ---- logs
 
-onto_length : (now : ℕ) (entries : List Entry) (past : List Stamped) → length (onto now entries past) ≡ length entries + length past
-onto_length now [] past = omega arith
-onto_length now (x ∷ xs) past = omega (arith, onto_length now xs (stamped now x ∷ past))
+onto_outs : (now : ℕ) (entries : List Entry) (past : List Stamped) → outs_of (onto now entries past) ≡ outs_in entries + outs_of past
+onto_outs now [] past = omega arith
+onto_outs now (x ∷ xs) past = omega (arith, onto_outs now xs (stamped now x ∷ past))
 
-few_leads : (log : List Event) (last : ℕ) (past : List Stamped) (s t : State) → Leads s log t → t.sealed + length past ≤ s.sealed + length (past_of last past log)
+few_leads : (log : List Event) (last : ℕ) (past : List Stamped) (s t : State) → Leads s log t → t.sealed + outs_of past ≤ s.sealed + outs_of (past_of last past log)
 few_leads [] last past s t leads = omega (arith, ap (λ (u : State). u.sealed) leads)
 few_leads (e ∷ log) last past s t leads =
     let now : ℕ = moment_at last e in
     let one = few_answers (at_moment s e.moment) leads.0 e.call e.answer e.entries leads.1 in
     let rest = few_leads log now (onto now e.entries past) leads.0 t leads.2 in
-    omega (arith, one, rest, onto_length now e.entries past)
+    omega (arith, one, rest, onto_outs now e.entries past)
 
-pub few_of_log : (setup : Setup) (log : List Event) (s : State) → StandsFor setup log s → s.sealed ≤ length (past_of 0 [] log)
+pub few_of_log : (setup : Setup) (log : List Event) (s : State) → StandsFor setup log s → s.sealed ≤ outs_of (past_of 0 [] log)
 few_of_log setup log s stands = omega (arith, few_leads log 0 [] (fresh setup) s stands)

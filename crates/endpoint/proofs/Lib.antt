@@ -68,4 +68,6 @@ mod AgreedLogs
 mod Few
 mod ReadsBack
 mod Complete
-mod AnswerCarried
+pub mod AnswerCarried
+mod OfTheLog
+mod Falling

@@ -105,6 +105,13 @@ echo_fits (Some s) moment = if_fits (nat_lt (moment - s.at) 128000) ((s.value + 
     if_fits true value = omega arith
     if_fits false value = tt
 
+-- a packet of a session is read so
+pub session_reads : (session : SessionState) (moment : ℕ) (chunk : Chunk) → length (payload_bytes chunk) < 2 ^ 16 →
+    PacketReading (session_packet session moment chunk) (Ok (one_whole (head_at session moment) (head_bytes (head_at session moment)) (kind_of chunk) (payload_bytes chunk)))
+session_reads session moment chunk short =
+    one_reads (head_at session moment) (head_bytes (head_at session moment)) (kind_of chunk) (payload_bytes chunk)
+    (head_bytes-spells (head_at session moment) (tick_fits moment) (echo_fits session.stamp moment)) (kind_small chunk) short
+
 pub session_alone : (session : SessionState) (moment : ℕ) (chunk : Chunk) (packet : Whole) → length (payload_bytes chunk) < 2 ^ 16 → PacketReading (session_packet session moment chunk) (Ok packet) →
     Alone (kind_of chunk) (payload_bytes chunk) packet
 session_alone session moment chunk packet short reads =

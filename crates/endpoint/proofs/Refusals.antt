@@ -1,31 +1,47 @@
--- A walk over chunks that are only discarded.
-use Rattle.std.proofs.Common.{ℕ, ◌≡◌, ◌≤◌, Bool, List, ◌∷◌, length, Option, Some, None, IsSome, refl, sym, ◌∙◌, subst, arith}
+-- A walk over chunks that add nothing but discards.
+use Rattle.std.proofs.Common.{ℕ, ◌≡◌, ◌≤◌, ◌⊎◌, inl, inr, Bool, List, ◌∷◌, length, Option, Some, None, IsSome, refl, sym, ap, ◌∙◌, subst, arith}
 use Rattle.rtmfp_forms.specs.Address.{AddressParts}
 use Rattle.rtmfp_packet.specs.Walk.{Placed}
+use Rattle.rtmfp_chunks.specs.Chunk.{row_of}
+use Rattle.rtmfp_chunks.specs.FieldReading.{chunk_reading}
+use Rattle.rtmfp_chunks.specs.FieldReading as X
 use Rattle.startup.specs.declared.cause.Cause.{Cause}
 use Rattle.endpoint.specs.declared.config.Draws.{Draws}
 use Rattle.endpoint.specs.declared.place.Place.{Place}
 use Rattle.endpoint.specs.Added.{Added}
-use Rattle.endpoint.specs.State.{State, Did, Done}
-use Rattle.endpoint.specs.Due.{AreRefused, chunk_did, discarded_or, effect, keyed_after}
+use Rattle.endpoint.specs.State.{State, Did, Done, nothing}
+use Rattle.endpoint.specs.Due.{AreQuiet, chunk_did, discarded_or, discards_among, discards_for, effect, keyed_after, read_done}
 use Rattle.endpoint.specs.Causes.{chunk_cause}
 
--- what is left has causes, and there is room for their discards
+-- what is left adds nothing but discards, and there is room for these
 pub record IsRoomy (s : State) (place : Place) (from : AddressParts) (keyed : Bool) (rest : List Placed) (free : ℕ) : Type 0 where
-  pub refused : AreRefused s place from keyed rest
-  pub room : length rest ≤ free
+  pub refused : AreQuiet s place from keyed rest
+  pub room : discards_among s place from keyed rest ≤ free
 
-discard_leaves : (s : State) (at : ℕ) (cause : Option Cause) (d : Did) → IsSome cause → ((discarded_or s at cause d).state ≡ s) × (length (discarded_or s at cause d).entries ≡ 1)
-discard_leaves s at None d some = absurd (cc)
-discard_leaves s at (Some cause) d some = (refl, refl)
+-- an answer to a ping is read as one, or not at all
+reply_reads : (s : State) (place : Place) (from : AddressParts) (payload : List ℕ) → read_done s place from (chunk_reading 0x41 payload) ≡ nothing s
+unfolding chunk_reading row_of X.chunk_at X.row_at X.chunk_with
+reply_reads s place from payload = refl
 
--- A chunk with a cause leaves the rest as it is, and takes one place.
+reply_does : (s : State) (place : Place) (from : AddressParts) (draws : Draws) (c : Placed) → c.kind ≡ 0x41 → effect s place from draws c ≡ nothing s
+reply_does s place from draws c e =
+    let as_kind : ℕ → Placed = λ x. record { kind = x; at = c.at; payload = c.payload } in
+    ap (λ (x : ℕ). effect s place from draws (as_kind x)) e ∙ reply_reads s place from c.payload
+
+quiet_leaves : (s : State) (at : ℕ) (cause : Option Cause) (d : Did) (kind : ℕ) → (kind ≡ 0x41 → d ≡ nothing s) → IsSome cause ⊎ (kind ≡ 0x41) →
+    ((discarded_or s at cause d).state ≡ s) × (length (discarded_or s at cause d).entries ≡ discards_for cause)
+quiet_leaves s at None d kind reply (inl none) = absurd (cc)
+quiet_leaves s at None d kind reply (inr e) = (ap (λ (x : Did). x.state) (reply e), ap (λ (x : Did). length x.entries) (reply e))
+quiet_leaves s at (Some cause) d kind reply quiet = (refl, refl)
+
+-- A chunk that adds nothing but its discard leaves the rest as it is, and takes the place for it.
 pub one_refused : (place : Place) (from : AddressParts) (draws : Draws) (keyed : Bool) (s new : State) (c : Placed) (rest : List Placed) (before after : Added) →
     IsRoomy s place from keyed (c ∷ rest) before.free → Done (chunk_did place from draws keyed s c) new before after → IsRoomy new place from (keyed_after keyed c) rest after.free
 one_refused place from draws keyed s new c rest before after roomy done =
-    let leaves = discard_leaves s c.at (chunk_cause s place keyed from c) (effect s place from draws c) roomy.refused.0 in
+    let leaves = quiet_leaves s c.at (chunk_cause s place keyed from c) (effect s place from draws c) c.kind (reply_does s place from draws c) roomy.refused.0 in
     let same : new ≡ s = done.state ∙ leaves.0 in
+    let room : discards_among s place from (keyed_after keyed c) rest ≤ after.free = omega (arith, roomy.room, done.free, leaves.1) in
     record {
-      refused = subst (λ t. AreRefused t place from (keyed_after keyed c) rest) (sym same) roomy.refused.1;
-      room = omega (arith, roomy.room, done.free, leaves.1);
+      refused = subst (λ t. AreQuiet t place from (keyed_after keyed c) rest) (sym same) roomy.refused.1;
+      room = subst (λ t. discards_among t place from (keyed_after keyed c) rest ≤ after.free) (sym same) room;
     }

@@ -1,5 +1,5 @@
 -- What each call of an end does, item by item.
-use Rattle.std.specs.Prelude.{IsSome, ℕ, zero, suc, ◌==◌, ◌||◌, ◌≡◌, nat_lt, Bool, false, if◌then◌else◌, List, [], ◌∷◌, ◌++◌, length, take, Option, Some, None, Result, Ok, Err}
+use Rattle.std.specs.Prelude.{IsSome, ℕ, zero, suc, ◌+◌, ◌⊎◌, ◌==◌, ◌||◌, ◌≡◌, nat_lt, Bool, false, if◌then◌else◌, List, [], ◌∷◌, ◌++◌, length, take, Option, Some, None, Result, Ok, Err}
 use Rattle.std.specs.FinMap.{remove, insert}
 use Rattle.rtmfp_forms.specs.Address.{AddressParts}
 use Rattle.rtmfp_chunks.specs.declared.reading.ChunkFault.{ChunkFault}
@@ -188,18 +188,33 @@ abbrev pub part_received : AddressParts → Draws → Admission → ℕ → Did
 part_received from draws (Rejected s cause) count = nothing s
 part_received from draws (Admitted s place packet) count = then_do (confirming s place) (λ t. chunks_did place from draws false t (take count (chunks_of packet)))
 
--- ---- datagrams that are only refused
+-- ---- datagrams that add nothing but discards
 
--- Each of these chunks has a cause.
-abbrev pub AreRefused : State → Place → AddressParts → Bool → List Placed → Type 0
-AreRefused s place from keyed_before [] = Unit {0}
-AreRefused s place from keyed_before (c ∷ cs) = IsSome (chunk_cause s place keyed_before from c) × AreRefused s place from (keyed_after keyed_before c) cs
+-- The chunk is discarded, or it is an answer to a ping, which does nothing.
+abbrev pub IsQuiet : State → Place → Bool → AddressParts → Placed → Type 0
+IsQuiet s place keyed_before from c = IsSome (chunk_cause s place keyed_before from c) ⊎ (c.kind ≡ 0x41)
 
--- The datagram is refused, or it confirms nothing and each of its chunks is discarded; then so many discards are added.
-abbrev pub IsRefused : AddressParts → Admission → Type 0
-IsRefused from (Rejected s cause) = Unit {0}
-IsRefused from (Admitted s place packet) = (confirms s place ≡ false) × AreRefused s place from false (chunks_of packet)
+abbrev pub AreQuiet : State → Place → AddressParts → Bool → List Placed → Type 0
+AreQuiet s place from keyed_before [] = Unit {0}
+AreQuiet s place from keyed_before (c ∷ cs) = IsQuiet s place keyed_before from c × AreQuiet s place from (keyed_after keyed_before c) cs
 
-abbrev pub discards : Admission → ℕ
-discards (Rejected s cause) = 1
-discards (Admitted s place packet) = length (chunks_of packet)
+-- one for a cause
+abbrev pub discards_for : Option Cause → ℕ
+discards_for None = 0
+discards_for (Some cause) = 1
+
+-- how many of these chunks are discarded
+abbrev pub discards_among : State → Place → AddressParts → Bool → List Placed → ℕ
+discards_among s place from keyed_before [] = 0
+discards_among s place from keyed_before (c ∷ cs) =
+    discards_for (chunk_cause s place keyed_before from c) + discards_among s place from (keyed_after keyed_before c) cs
+
+-- The datagram adds discards alone, or nothing: it is refused, or it confirms nothing and each of its chunks is discarded or does nothing.
+abbrev pub AddsDiscards : AddressParts → Admission → Type 0
+AddsDiscards from (Rejected s cause) = Unit {0}
+AddsDiscards from (Admitted s place packet) = (confirms s place ≡ false) × AreQuiet s place from false (chunks_of packet)
+
+-- how many discards these are
+abbrev pub discards : AddressParts → Admission → ℕ
+discards from (Rejected s cause) = 1
+discards from (Admitted s place packet) = discards_among s place from false (chunks_of packet)

@@ -13,6 +13,7 @@ pub mod Causes
 pub mod Due
 pub mod Log
 pub mod Laws
+pub mod OfTheLog
 pub mod Agreed
 pub mod Kept
 pub mod Keeping

@@ -16,7 +16,7 @@ use Rattle.endpoint.specs.Added.{Added}
 use Rattle.endpoint.specs.State.{State, Did, Does, nothing, fresh, at_moment, Done as DoneIn}
 use Rattle.endpoint.specs.Admission.{Admission, Rejected, Admitted, admission, confirms}
 use Rattle.endpoint.specs.Keying.{chunks_of}
-use Rattle.endpoint.specs.Due.{open_refusal, opening, cancelling, ticks, received, part_received, IsRefused, discards}
+use Rattle.endpoint.specs.Due.{open_refusal, opening, cancelling, ticks, received, part_received, AddsDiscards, discards}
 
 -- ---- what a call may answer, add and leave, from a state in which its moment is noted
 
@@ -128,4 +128,4 @@ pub record IsTaken (s : State) (from : AddressParts) (draws : Draws) (a : Admiss
   pub ok : OnOk result (DoneIn (received from draws a) new before after)
   pub stop : IfErr result (λ stop. IsStop a stop)
   pub stopped : IfErr result (λ stop. DoneIn (stopped s from draws a stop) new before after)
-  pub enough : IsRefused from a → discards a ≤ before.free → IsOk result
+  pub enough : AddsDiscards from a → discards from a ≤ before.free → IsOk result

@@ -1,6 +1,6 @@
 //! One chunk of a datagram: why it is discarded, or what it does.
 
-ghost use Rattle.std.specs.Prelude.{◌≡◌, ◌<◌, ◌≤◌, ◌^◌, Bool, ℕ, Err, IsOk, IsSome, None, Ok, OnErr, OnOk, length, nat_lt};
+ghost use Rattle.std.specs.Prelude.{◌≡◌, ◌<◌, ◌≤◌, ◌^◌, Bool, ℕ, Err, IsOk, None, Ok, OnErr, OnOk, length, nat_lt};
 ghost use Rattle.glare_core.specs.Calls.{where_true};
 ghost use Rattle.identity.specs.Certificates.{certificate_fault};
 ghost use Rattle.rtmfp_chunks.specs.Chunk.{PingReply, chunk_of, kind_of};
@@ -9,7 +9,7 @@ ghost use Rattle.rtmfp_packet.specs.Chunks.{shown};
 ghost use Rattle.startup.specs.Attempts.{after_cookie_change, after_rhello, cookie_change_cause, cookie_change_keying, rhello_cause, rhello_keying};
 ghost use Rattle.startup.specs.Keyings.{initiator_hello_answer, initiator_hello_cause};
 ghost use Rattle.endpoint.specs.Admission.{sid_at};
-ghost use Rattle.endpoint.specs.Due.{chunk_did, discarded, effect, read_done};
+ghost use Rattle.endpoint.specs.Due.{IsQuiet, chunk_did, discarded, discards_for, effect, read_done};
 ghost use Rattle.endpoint.specs.Causes.{chunk_cause, form_cause, initiator_keying_cause, is_known, last_cause, read_cause, responder_keying_cause, takes, view_fault};
 ghost use Rattle.endpoint.specs.Sending.{sent_answer, sent_if, sent_in_session};
 ghost use Rattle.endpoint.specs.State.{Done, nothing, with_startup};
@@ -233,6 +233,7 @@ impl Endpoint {
         requires last { (keyed_before : Bool) × (last_cause self.old place keyed_before from.now (shown chunk.now) ≡ None) }
         ensures ok { OnOk result (Done (effect self.old place from.now draws.now (shown chunk.now)) self.new out.old out.new) }
         ensures err { OnErr result (Done (nothing self.old) self.new out.old out.new) }
+        ensures quiet { chunk.now.kind ≡ 0x41 → IsOk result }
     {
         if chunk.kind == IIKEYING {
             return self.initiator_keyed(from, draws, chunk.payload, out);
@@ -258,6 +259,7 @@ impl Endpoint {
         requires form { (len : ℕ) × (view_fault len (chunk_of view.now) ≡ None) }
         ensures ok { OnOk result (Done (read_done self.old place from.now (Ok (chunk_of view.now))) self.new out.old out.new) }
         ensures err { OnErr result (Done (nothing self.old) self.new out.old out.new) }
+        ensures quiet { kind_of (chunk_of view.now) ≡ 0x41 → IsOk result }
     {
         match view {
             ChunkView::IHello { epd, tag } => self.answer_hello(epd, tag, from, out),
@@ -389,8 +391,8 @@ impl Endpoint {
         requires { chunk.now.at < 2 ^ 32 }
         ensures ok { OnOk result (Done (chunk_did place from.now draws.now keyed_before self.old (shown chunk.now)) self.new out.old out.new) }
         ensures err { OnErr result (Done (nothing self.old) self.new out.old out.new) }
-        // A chunk that is only discarded asks for no memory where there is room.
-        ensures enough { IsSome (chunk_cause self.old place keyed_before from.now (shown chunk.now)) → 0 < out.old.free → IsOk result }
+        // A chunk that adds nothing but its discard asks for no memory where there is room.
+        ensures enough { IsQuiet self.old place keyed_before from.now (shown chunk.now) → discards_for (chunk_cause self.old place keyed_before from.now (shown chunk.now)) ≤ out.old.free → IsOk result }
     {
         match self.chunk_cause(place, keyed_before, from, chunk) {
             Some(cause) => self.discard(chunk.at, cause, out),

@@ -3,6 +3,7 @@
 ghost use Rattle.endpoint.specs.Agreed.{EveryLawfulHistoryIsAgreed, EachEndStatesItsLog, EachPrefixIsAMoment, LogsKeepTheSame};
 ghost use Rattle.endpoint.specs.Complete.{AdmissibleKeyingsBear, KeyingsWithoutCauseOpen};
 ghost use Rattle.endpoint.specs.Laws.{EveryLogIsLawful, TheLedgerIsOfTheLog, UsesAreWithin};
+ghost use Rattle.endpoint.specs.OfTheLog.{TheStateIsOfTheLog};
 
 /// Each log that an end stands for is lawful: each of its entries meets its line of the table.
 pub fn every_log_is_lawful()
@@ -12,6 +13,11 @@ pub fn every_log_is_lawful()
 /// What an end holds and counts is what the facts of its log say, and each of these facts is lawful.
 pub fn ledger_of_the_log()
     ensures { TheLedgerIsOfTheLog }
+{}
+
+/// What an end keeps is what its log says: the session IDs in use, the attempts, the sessions with their stages, the rows of its peers, and its moment.
+pub fn state_of_the_log()
+    ensures { TheStateIsOfTheLog }
 {}
 
 /// There are never more attempts and sessions than may be.
@@ -31,12 +37,12 @@ pub fn agreed_logs()
     ensures kept { LogsKeepTheSame }
 {}
 
-/// Where an end takes a datagram whole whose first initiator's keying is admissible by its log, the session is born in that call, and its keying goes out directly after the Born.
+/// Where an end takes a datagram whose first initiator's keying is admissible by its log, and goes through that keying before memory is wanting, the session is born in that call, and its keying goes out directly after the Born.
 pub fn admissible_keyings_bear()
     ensures { AdmissibleKeyingsBear }
 {}
 
-/// A responder's keying that nothing discards, under the session ID of an attempt, opens the attempt's session.
+/// Where an end takes a datagram under the session ID of an attempt, and goes through a responder's keying that nothing discards, the attempt's session is opened in that call, and a ping without bytes goes out in it directly after the Opened.
 pub fn keyings_without_cause_open()
     ensures { KeyingsWithoutCauseOpen }
 {}

@@ -5,7 +5,7 @@ ghost use Rattle.std.specs.List.{AllByRecursion};
 ghost use Rattle.std.specs.FinMap.{get};
 ghost use Rattle.rtmfp_packet.specs.Chunks.{left, shown};
 ghost use Rattle.endpoint.specs.Admission.{admission, admitted_packet, confirming, confirming_by, confirms, confirms_by, counted_at, counted_by, packet_in, taken_packet, timed_at, timed_by};
-ghost use Rattle.endpoint.specs.Due.{AreRefused, IsRefused, chunks_did, discarded, discards, keyed_after, received};
+ghost use Rattle.endpoint.specs.Due.{AddsDiscards, AreQuiet, chunks_did, discarded, discards, discards_among, keyed_after, received};
 ghost use Rattle.endpoint.specs.Keying.{AreNear};
 ghost use Rattle.endpoint.specs.Log.{Extends, IsStop, IsTaken, not_taken, receive_event, stopped};
 ghost use Rattle.endpoint.specs.State.{Done, at_moment, nothing};
@@ -34,7 +34,7 @@ const NOT_TAKEN: Stopped = Stopped {
 impl Endpoint {
     /// Takes a datagram, which came from an address (RFC 7016 section 3.5). It is opened in place, and its chunks are gone through in order; a chunk that is refused adds its Discard and changes nothing else.
     ///
-    /// Where no memory is found the call stops: `Stopped` tells whether the datagram was taken, and how many of its chunks were gone through. Where it wasn't taken all is as before but for the moment. Datagrams that are only refused ask for no memory where the outbox has room.
+    /// Where no memory is found the call stops: `Stopped` tells whether the datagram was taken, and how many of its chunks were gone through. Where it wasn't taken all is as before but for the moment. A datagram that adds discards alone, or nothing, asks for no memory where the outbox has room for them.
     pub fn receive(
         &mut self,
         from: Address,
@@ -47,7 +47,7 @@ impl Endpoint {
         ensures ok { OnOk result (Done (received from draws.now (admission (at_moment self.old moment) datagram.old)) self.new out.old out.new) }
         ensures stop { IfErr result (λ stop. IsStop (admission (at_moment self.old moment) datagram.old) stop) }
         ensures stopped { IfErr result (λ stop. Done (stopped (at_moment self.old moment) from draws.now (admission (at_moment self.old moment) datagram.old) stop) self.new out.old out.new) }
-        ensures enough { IsRefused from (admission (at_moment self.old moment) datagram.old) → discards (admission (at_moment self.old moment) datagram.old) ≤ out.old.free → IsOk result }
+        ensures enough { AddsDiscards from (admission (at_moment self.old moment) datagram.old) → discards from (admission (at_moment self.old moment) datagram.old) ≤ out.old.free → IsOk result }
 
         // The end stands for its log with this call.
         ensures stands { Extends self.old self.new (receive_event from moment datagram.old draws.now result out.old.entries out.new.entries) }
@@ -262,7 +262,7 @@ impl Endpoint {
         ensures ok { OnOk result (Done (received from.now draws.now (taken_packet self.old place part.now packet.now)) self.new out.old out.new) }
         ensures stop { IfErr result (λ stop. IsStop (taken_packet self.old place part.now packet.now) stop) }
         ensures stopped { IfErr result (λ stop. Done (stopped self.old from.now draws.now (taken_packet self.old place part.now packet.now) stop) self.new out.old out.new) }
-        ensures enough { IsRefused from.now (taken_packet self.old place part.now packet.now) → discards (taken_packet self.old place part.now packet.now) ≤ out.old.free → IsOk result }
+        ensures enough { AddsDiscards from.now (taken_packet self.old place part.now packet.now) → discards from.now (taken_packet self.old place part.now packet.now) ≤ out.old.free → IsOk result }
     {
         match self.enter(place, part, packet.head(), out) {
             Ok(()) => self.walk(place, from, draws, packet.chunks(), out),
@@ -319,7 +319,7 @@ impl Endpoint {
         ensures ok { OnOk result (Done (chunks_did place from.now draws.now false self.old (left chunks.entry)) self.new out.old out.new) }
         ensures stop { IfErr result (λ stop. (stop.taken ≡ true) × (stop.chunks < length (left chunks.entry))) }
         ensures stopped { IfErr result (λ stop. Done (chunks_did place from.now draws.now false self.old (take stop.chunks (left chunks.entry))) self.new out.old out.new) }
-        ensures enough { AreRefused self.old place from.now false (left chunks.entry) → length (left chunks.entry) ≤ out.old.free → IsOk result }
+        ensures enough { AreQuiet self.old place from.now false (left chunks.entry) → discards_among self.old place from.now false (left chunks.entry) ≤ out.old.free → IsOk result }
     {
         let mut gone = 0u32;
         let mut keyed = false;

@@ -1,6 +1,6 @@
 //! What time makes due.
 
-ghost use Rattle.std.specs.Prelude.{◌≡◌, ◌≤◌, ℕ, None, OnErr, OnOk, Some};
+ghost use Rattle.std.specs.Prelude.{◌≡◌, ◌≤◌, ℕ, IsSome, None, OnErr, OnOk, Some};
 ghost use Rattle.startup.specs.Due.{due, due_sends};
 ghost use Rattle.endpoint.specs.Due.{tick_once, ticks};
 ghost use Rattle.endpoint.specs.Log.{Extends, tick_event};
@@ -18,10 +18,11 @@ use std::alloc::AllocError;
 impl Endpoint {
     /// Does all that is due: attempts that weren't answered in time end, and hellos and keyings go out again, by rising session IDs.
     ///
-    /// For want of memory it does a part of it, and what it didn't is still due.
+    /// For want of memory it does a part of it: what it did stands, and the first thing that found none, and what comes after it, is still due.
     pub fn tick(&mut self, moment: u64, draws: &Draws, out: &mut Outbox) -> Result<(), Memory>
         ensures some { (count : ℕ) × Done (ticks count (at_moment self.old moment)) self.new out.old out.new }
         ensures all { OnOk result (due self.new.startup self.new.moment ≡ None) }
+        ensures left { OnErr result (IsSome (due self.new.startup self.new.moment)) }
 
         // The end stands for its log with this call.
         ensures stands { Extends self.old self.new (tick_event moment draws.now result out.old.entries out.new.entries) }
@@ -33,16 +34,17 @@ impl Endpoint {
     fn do_due(&mut self, moment: u64, out: &mut Outbox) -> Result<(), Memory>
         ensures some { (count : ℕ) × Done (ticks count (at_moment self.old moment)) self.new out.old out.new }
         ensures all { OnOk result (due self.new.startup self.new.moment ≡ None) }
+        ensures left { OnErr result (IsSome (due self.new.startup self.new.moment)) }
     {
         self.advance(moment);
-        // Each attempt is due once at a moment, so this ends before the turns do.
-        for _ in 0..=self.startup.attempts() {
-            match self.startup.due_sends(self.moment) {
-                Some(count) => self.tick_once(count, out)?,
-                None => return Ok(()),
+        // Each attempt is due once at a moment, so this ends.
+        while let Some(count) = self.startup.due_sends(self.moment) {
+            match self.tick_once(count, out) {
+                Ok(()) => {}
+                Err(_) => return Err(Memory),
             }
         }
-        Err(Memory)
+        Ok(())
     }
 
     /// Does the first thing that is due, which sends so many datagrams.

@@ -1,11 +1,14 @@
-use Rattle.endpoint.specs.State.{at_moment}
+use Rattle.std.proofs.Common.{◌≡◌, Some, subst, sym}
+use Rattle.startup.specs.Due.{due_sends}
+use Rattle.endpoint.specs.State.{State, at_moment}
 use Rattle.endpoint.proofs.Begun.{one_done}
+use Rattle.endpoint.proofs.Falling.{tick_falls}
 use Rattle.endpoint.proofs.endpoint.Endpoint.do_due.Goals as goal
 
-pub loop-preserved : goal.loop-preserved
-loop-preserved c =
-    one_done (at_moment c.args.self.now c.args.moment) c.loop.self c.tick_once.new.self c.args.out.now c.loop.out c.tick_once.new.out c.loop.invariant c.in_ok-tick_once-in-Some.ensures.ok
+pub loop-count-smaller : goal.loop-count-smaller
+loop-count-smaller c =
+    tick_falls c.loop-count.self c.tick_once.new.self c.in-Some.count (subst (λ (s : State). due_sends s.startup s.moment ≡ Some c.in-Some.count) c.self.view_is (sym c.in-Some.ensures)) c.in-Ok.ensures.ok.state
 
-pub returns-in_ok-tick_once-in-Some-clause-some : goal.returns-in_ok-tick_once-in-Some-clause-some
-returns-in_ok-tick_once-in-Some-clause-some c =
-    one_done (at_moment c.args.self.now c.args.moment) c.loop.self c.tick_once.new.self c.args.out.now c.loop.out c.tick_once.new.out c.loop.invariant c.in_ok-tick_once-in-Some.ensures.ok
+pub loop-count-preserved : goal.loop-count-preserved
+loop-count-preserved c =
+    one_done (at_moment c.args.self.now c.args.moment) c.loop-count.self c.tick_once.new.self c.args.out.now c.loop-count.out c.tick_once.new.out c.loop-count.invariant c.in-Ok.ensures.ok

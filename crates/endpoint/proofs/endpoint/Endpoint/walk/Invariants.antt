@@ -1,7 +1,7 @@
 use Rattle.std.proofs.Common.{◌≡◌, ◌+◌, ◌<◌, ◌≤◌, ◌^◌, false, length}
 use Rattle.std.specs.List.{AllByRecursion}
 use Rattle.rtmfp_packet.specs.Chunks.{left}
-use Rattle.endpoint.specs.Due.{AreRefused}
+use Rattle.endpoint.specs.Due.{AreQuiet, discards_among}
 use Rattle.endpoint.proofs.Steps.{IsGone}
 use Rattle.endpoint.proofs.Refusals.{IsRoomy}
 use Rattle.endpoint.proofs.endpoint.Endpoint.walk.Given as goal
@@ -11,7 +11,7 @@ invariant-loop-chunk l = record {
   so_far : IsGone l.place l.from l.draws l.fn.self (left l.fn.chunks) l.fn.out l.gone l.keyed (left l.chunks) l.self l.out;
   near : AllByRecursion (λ c. c.at < 2 ^ 32) (left l.chunks);
   fits : l.gone + length (left l.chunks) ≡ length (left l.fn.chunks);
-  roomy : AreRefused l.fn.self l.place l.from false (left l.fn.chunks) → length (left l.fn.chunks) ≤ l.fn.out.free → IsRoomy l.self l.place l.from l.keyed (left l.chunks) l.out.free;
+  roomy : AreQuiet l.fn.self l.place l.from false (left l.fn.chunks) → discards_among l.fn.self l.place l.from false (left l.fn.chunks) ≤ l.fn.out.free → IsRoomy l.self l.place l.from l.keyed (left l.chunks) l.out.free;
 }
 
 abbrev pub decreases-loop-chunk : goal.decreases-loop-chunk

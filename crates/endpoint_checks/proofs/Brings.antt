@@ -1,0 +1,100 @@
+-- A datagram brings one keying.
+use Rattle.std.proofs.Common.{ℕ, List, [], ◌∷◌, ◌++◌, length, ◌≡◌, inl, inr, refl, sym, ap, subst, ◌∙◌, Ok, Err, Result, arith, take, drop, length-append}
+use Rattle.std.proofs.lemmas.List.{take_at}
+use Rattle.crypto_profile.specs.declared.keys.Context.{Context}
+use Rattle.crypto_profile.specs.Hmac.{hmac}
+use Rattle.crypto_profile.specs.Keys.{sign_key_of}
+use Rattle.crypto_profile.proofs.Opened.{opens_by_its_tag}
+use Rattle.rtmfp_packet.specs.Whole.{Whole}
+use Rattle.rtmfp_packet.specs.Walk.{Placed}
+use Rattle.rtmfp_packet.specs.declared.head.PacketFault.{PacketFault}
+use Rattle.rtmfp_packet.specs.Reading.{PacketReading}
+use Rattle.rtmfp_packet.proofs.Readings.{packet_reading_same}
+use Rattle.rtmfp_chunks.specs.declared.reading.ChunkFault.{ChunkFault}
+use Rattle.rtmfp_chunks.specs.Chunk.{Chunk, IIKeying, RIKeying, Spells}
+use Rattle.rtmfp_chunks.proofs.ReadingLaws.{reading_same}
+use Rattle.endpoint.specs.Contexts.{ReadsUnder}
+use Rattle.endpoint.specs.Keying.{IsFirst, IsSigned}
+
+-- what opens in a context reads as one packet
+whole_or : Whole → Result Whole PacketFault → Whole
+whole_or w (Ok p) = p
+whole_or w (Err fault) = w
+
+pub one_packet : (secret : List ℕ) (context : Context) (sid : ℕ) (sent : List ℕ) (p q : Whole) → ReadsUnder secret context sid sent p → ReadsUnder secret context sid sent q → p ≡ q
+unfolding whole_or
+one_packet secret context sid sent p q a b =
+    let left = ((opens_by_its_tag secret context sid (drop 4 sent) a.plain).0 a.opens.opens).2 in
+    let right = ((opens_by_its_tag secret context sid (drop 4 sent) b.plain).0 b.opens.opens).2 in
+    let same : a.plain ≡ b.plain = left ∙ sym right in
+    ap (whole_or p) (packet_reading_same b.plain (Ok p) (Ok q) (subst (λ (x : List ℕ). PacketReading x (Ok p)) same a.reads) b.reads)
+
+-- the first of its type is one
+pub one_first : (c d : Placed) (cs : List Placed) → IsFirst c cs → IsFirst d cs → c.kind ≡ d.kind → c ≡ d
+one_first c d [] a b e = absurd a
+one_first c d (x ∷ cs) (inl p) (inl q) e = p ∙ sym q
+one_first c d (x ∷ cs) (inl p) (inr q) e = absurd (q.0 (sym (ap (λ (y : Placed). y.kind) p) ∙ e))
+one_first c d (x ∷ cs) (inr p) (inl q) e = absurd (p.0 (sym (ap (λ (y : Placed). y.kind) q) ∙ sym e))
+one_first c d (x ∷ cs) (inr p) (inr q) e = one_first c d cs p.1 q.1 e
+
+-- ---- the fields of a keying that was read
+
+near_in : Result Chunk ChunkFault → ℕ
+near_in (Ok (IIKeying near cookie cert part sign)) = near
+near_in (Ok (RIKeying near part sign)) = near
+near_in read = 0
+
+cookie_in : Result Chunk ChunkFault → List ℕ
+cookie_in (Ok (IIKeying near cookie cert part sign)) = cookie
+cookie_in read = []
+
+cert_in : Result Chunk ChunkFault → List ℕ
+cert_in (Ok (IIKeying near cookie cert part sign)) = cert
+cert_in read = []
+
+part_in : Result Chunk ChunkFault → List ℕ
+part_in (Ok (IIKeying near cookie cert part sign)) = part
+part_in (Ok (RIKeying near part sign)) = part
+part_in read = []
+
+sign_in : Result Chunk ChunkFault → List ℕ
+sign_in (Ok (IIKeying near cookie cert part sign)) = sign
+sign_in (Ok (RIKeying near part sign)) = sign
+sign_in read = []
+
+-- two keyings that one payload spells
+pub record OneKeying (near near' : ℕ) (cookie cookie' cert cert' part part' sign sign' : List ℕ) : Type 0 where
+  pub near_is : near ≡ near'
+  pub cookie_is : cookie ≡ cookie'
+  pub cert_is : cert ≡ cert'
+  pub part_is : part ≡ part'
+  pub sign_is : sign ≡ sign'
+
+pub one_keying : (kind : ℕ) (payload : List ℕ) (near near' : ℕ) (cookie cookie' cert cert' part part' sign sign' : List ℕ) → Spells (IIKeying near cookie cert part sign) kind payload →
+    Spells (IIKeying near' cookie' cert' part' sign') kind payload → OneKeying near near' cookie cookie' cert cert' part part' sign sign'
+unfolding near_in cookie_in cert_in part_in sign_in
+one_keying kind payload near near' cookie cookie' cert cert' part part' sign sign' a b =
+    let e = reading_same kind payload (Ok (IIKeying near cookie cert part sign)) (Ok (IIKeying near' cookie' cert' part' sign')) a b in
+    record { near_is = ap near_in e; cookie_is = ap cookie_in e; cert_is = ap cert_in e; part_is = ap part_in e; sign_is = ap sign_in e }
+
+pub record OneAnswer (near near' : ℕ) (part part' sign sign' : List ℕ) : Type 0 where
+  pub near_is : near ≡ near'
+  pub part_is : part ≡ part'
+  pub sign_is : sign ≡ sign'
+
+pub one_answer : (kind : ℕ) (payload : List ℕ) (near near' : ℕ) (part part' sign sign' : List ℕ) → Spells (RIKeying near part sign) kind payload → Spells (RIKeying near' part' sign') kind payload →
+    OneAnswer near near' part part' sign sign'
+unfolding near_in part_in sign_in
+one_answer kind payload near near' part part' sign sign' a b =
+    let e = reading_same kind payload (Ok (RIKeying near part sign)) (Ok (RIKeying near' part' sign')) a b in
+    record { near_is = ap near_in e; part_is = ap part_in e; sign_is = ap sign_in e }
+
+-- ---- a signature
+
+-- A payload that is signed with its last bytes is signed with these.
+pub signed_here : (secret payload before sign sign' : List ℕ) → IsSigned secret payload sign' → sign' ≡ sign → payload ≡ before ++ sign → sign ≡ hmac (sign_key_of secret) before
+signed_here secret payload before sign sign' s same whole =
+    let both : s.before ++ sign' ≡ before ++ sign = sym s.whole ∙ whole in
+    let size : length s.before ≡ length before = omega (arith, ap length both, length-append s.before sign', length-append before sign, ap length same) in
+    let front : s.before ≡ before = sym (take_at s.before sign' (length before) size) ∙ ap (take (length before)) both ∙ take_at before sign (length before) refl in
+    sym same ∙ s.signature ∙ ap (hmac (sign_key_of secret)) front

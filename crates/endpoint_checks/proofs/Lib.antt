@@ -1,0 +1,9 @@
+mod Logs
+mod Brings
+mod Starting
+mod Bearing
+mod Opening
+mod Sending
+mod Ending
+mod Stories
+mod Quarrels

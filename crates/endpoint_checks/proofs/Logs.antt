@@ -1,0 +1,25 @@
+-- Facts of short logs.
+use Rattle.std.proofs.Common.{ℕ, List, [], ◌∷◌, ◌++◌, ◌≡◌, ◌≢◌, true, false, refl}
+use Rattle.std.specs.Str.{bytes_eq}
+use Rattle.std.proofs.lemmas.Slice.Eq.{bytes_eq-Decides}
+use Rattle.std.specs.Prelude.{Bool}
+use Rattle.endpoint.specs.Event.{Setup, Event, moment_at}
+use Rattle.endpoint.specs.Past.{Stamped, onto, past_of, last_moment}
+use Rattle.endpoint.specs.Lawful.{EntriesLawful, LawfulFrom}
+
+-- bytes are themselves, and no others
+pub same : (x y : List ℕ) → x ≡ y → bytes_eq x y ≡ true
+same x y e = (bytes_eq-Decides x y).1 e
+
+pub other : (x y : List ℕ) → x ≢ y → bytes_eq x y ≡ false
+other x y differ = by (bytes_eq x y) refl
+  where
+    by : (b : Bool) → bytes_eq x y ≡ b → bytes_eq x y ≡ false
+    by true e = absurd (differ ((bytes_eq-Decides x y).0 e))
+    by false e = e
+
+-- the last event of a lawful log is judged by what was done before
+pub last_lawful : (setup : Setup) (last : ℕ) (past : List Stamped) (log : List Event) (e : Event) → LawfulFrom setup last past (log ++ e ∷ []) →
+    EntriesLawful setup (moment_at (last_moment last log) e) e.call (past_of last past log) e.entries
+last_lawful setup last past [] e h = h.0
+last_lawful setup last past (d ∷ log) e h = last_lawful setup (moment_at last d) (onto (moment_at last d) d.entries past) log e h.1

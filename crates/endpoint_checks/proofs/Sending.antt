@@ -1,0 +1,236 @@
+-- What the table refuses of a datagram that goes out.
+use Rattle.std.proofs.Common.{ℕ, ◌≤◌, List, [], length, drop, length-append, ◌≡◌, ◌⊎◌, inl, inr, refl, sym, ap, subst, ◌∙◌, cond, Some, None, Ok, true, false, arith}
+use Rattle.std.specs.Prelude.{Bool}
+use Rattle.std.specs.Str.{bytes_eq}
+use Rattle.std.specs.Int.{w32, to_be_bytes}
+use Rattle.std.proofs.lemmas.List.{drop_at}
+use Rattle.std.proofs.lemmas.Slice.Eq.{bytes_eq-Decides}
+use Rattle.crypto_profile.specs.declared.keys.Context.{Context}
+use Rattle.crypto_profile.specs.declared.keys.Context.TheVariants.{Startup, Session}
+use Rattle.crypto_profile.specs.Keys.{keys_of}
+use Rattle.crypto_profile.specs.Opening.{plain_of}
+use Rattle.crypto_profile.specs.Sealing.{sealed_in, number_of}
+use Rattle.crypto_profile.proofs.Opened.{sealed_opens, sealed_carries}
+use Rattle.packet_scramble.specs.Datagram.{datagram, scrambled}
+use Rattle.rtmfp_packet.specs.Reading.{PacketReading}
+use Rattle.rtmfp_chunks.specs.Chunk.{Chunk, IIKeying, RIKeying}
+use Rattle.glare_core.specs.declared.facts.Fact.{Fact}
+use Rattle.glare_core.specs.declared.facts.Held.{Held}
+use Rattle.glare_core.specs.declared.facts.Held.TheVariants.{Opening, HalfOpen, KeptAsResponder, KeptAsInitiator}
+use Rattle.glare_core.specs.declared.facts.Joined.{Joined}
+use Rattle.glare_core.specs.Standing.{opened}
+use Rattle.glare_core.specs.Tells.{as_responder}
+use Rattle.endpoint.specs.Event.{Setup, own_of}
+use Rattle.endpoint.specs.Past.{Stamped, facts_of}
+use Rattle.endpoint.specs.Contexts.{session_context, outward, HeldUnder}
+use Rattle.endpoint.specs.Keying.{initiator_part, responder_part}
+use Rattle.endpoint.specs.Lawful.{OutLine, KeyingOfAttempt, KeyingOfBorn, IsBornHere, InSession, IsFarOf}
+use Rattle.endpoint_checks.specs.Sends.{HasChunk, TheTableRefusesSends, TheTableRefusesNumbers, TheTableRefusesKeyingsSent, TheTableRefusesAnswersSent, TheTableRefusesSendsInSessions}
+
+-- ---- what stands behind the session ID
+
+behind : (sid : ℕ) (part sent : List ℕ) → sent ≡ datagram sid part → drop 4 sent ≡ part
+behind sid part sent e = ap (drop 4) e ∙ drop_at (to_be_bytes w32 (scrambled sid part)) part 4 refl
+
+long_enough : (secret : List ℕ) (context : Context) (sid : ℕ) (number plain sent : List ℕ) → length number ≡ 16 → sent ≡ datagram sid (sealed_in secret context sid number plain) → 36 ≤ length sent
+long_enough secret context sid number plain sent size e =
+    let part : List ℕ = sealed_in secret context sid number plain in
+    let four : length (to_be_bytes w32 (scrambled sid part)) ≡ 4 = refl in
+    omega (arith, ap length e, length-append (to_be_bytes w32 (scrambled sid part)) part, four, (sealed_carries (keys_of secret context) sid number plain size).1)
+
+number_is : (setup : Setup) (past : List Stamped) (sent : List ℕ) (context : Context) (line : OutLine setup past sent context) → number_of (drop 4 sent) ≡ line.number
+number_is setup past sent context line =
+    ap number_of (behind line.sid (sealed_in setup.secret context line.sid line.number line.plain) sent line.is) ∙ (sealed_carries (keys_of setup.secret context) line.sid line.number line.plain line.numbered).0
+
+plain_is : (secret : List ℕ) (context : Context) (sid : ℕ) (number plain sent : List ℕ) → length number ≡ 16 → sent ≡ datagram sid (sealed_in secret context sid number plain) → plain_of (keys_of secret context) (drop 4 sent) ≡ plain
+plain_is secret context sid number plain sent size e =
+    ap (plain_of (keys_of secret context)) (behind sid (sealed_in secret context sid number plain) sent e) ∙ (sealed_opens (keys_of secret context) sid number plain size).1
+
+-- the packet of the datagram is the one that the table judges
+reads_there : (setup : Setup) (past : List Stamped) (sent : List ℕ) (context : Context) (chunk : Chunk) (line : OutLine setup past sent context) (has : HasChunk setup.secret context sent chunk) → PacketReading line.plain (Ok has.packet)
+reads_there setup past sent context chunk line has =
+    let one : has.plain ≡ line.plain =
+    sym (plain_is setup.secret context has.sid has.number has.plain sent has.numbered has.is) ∙ plain_is setup.secret context line.sid line.number line.plain sent line.numbered line.is in
+    subst (λ (b : List ℕ). PacketReading b (Ok has.packet)) one has.reads
+
+-- ---- each datagram
+
+pub sends_refused : TheTableRefusesSends
+sends_refused setup moment c to sent context = record {
+  short = λ short h. let line = h.0.0 in let long = long_enough setup.secret context line.sid line.number line.plain sent line.numbered line.is in omega (arith, long, short);
+  unsealed = λ none h. let line = h.0.0 in none line.sid line.number line.plain line.is;
+}
+
+pub numbers_refused : TheTableRefusesNumbers
+numbers_refused setup moment c d first second sent again e = record {
+  in_startup = λ h. let line = h.0.1.0 in line.once tt (inl (refl, e ∙ number_is _ _ again Startup line));
+  in_two_calls = λ h. let line = h.1.0.0 in line.once tt (inl (refl, e ∙ number_is _ _ again Startup line));
+  in_session = λ peer ni near x y fp_i fp_r sid_i sid_r to_responder h.
+      let line = h.1.0.1.0 in line.once (λ none. none, tt) (inl (refl, e ∙ number_is _ _ again (Session x y fp_i fp_r sid_i sid_r to_responder) line));
+}
+
+-- ---- what is held where one thing was begun
+
+true_is : (p q : List ℕ) (x y : Held) → cond (bytes_eq p q) (Some x) None ≡ Some y → (p ≡ q) × (x ≡ y)
+true_is p q x y e = by (bytes_eq p q) refl e
+  where
+    by : (b : Bool) → bytes_eq p q ≡ b → cond b (Some x) None ≡ Some y → (p ≡ q) × (x ≡ y)
+    by true t is = ((bytes_eq-Decides p q).0 t, let inner : x ≡ y = cc in inner)
+    by false t is = absurd (let clash : None ≡ Some y = is in cc)
+
+none_left : (b : Bool) (x y : Held) → cond b None (cond b (Some x) None) ≡ Some y → ⊥
+none_left true x y e = cc
+none_left false x y e = cc
+
+nothing : (y : Held) → None ≡ Some y → ⊥
+nothing y e = cc
+
+near_in : Held → ℕ
+near_in (Opening n near ni) = near
+near_in (HalfOpen j) = 0
+near_in (KeptAsResponder j) = 0
+near_in (KeptAsInitiator j) = 0
+
+session_in : Joined → Held → Joined
+session_in other (HalfOpen j) = j
+session_in other (Opening n near ni) = other
+session_in other (KeptAsResponder j) = other
+session_in other (KeptAsInitiator j) = other
+
+part_with : List ℕ → Held → List ℕ
+part_with peer (Opening n near ni) = initiator_part ni n peer
+part_with peer (HalfOpen j) = []
+part_with peer (KeptAsResponder j) = []
+part_with peer (KeptAsInitiator j) = []
+
+-- what is held where the attempt was opened is no attempt, and no session that was born
+no_opening : (a b : Bool) (j : Joined) (n near n' near' : ℕ) (ni ni' : List ℕ) → a ≡ b →
+    cond a (opened j (cond b (Some (Opening n near ni)) None)) (cond b (Some (Opening n near ni)) None) ≡ Some (Opening n' near' ni') → ⊥
+no_opening true true j n near n' near' ni ni' e is = cc
+no_opening true false j n near n' near' ni ni' e is = cc
+no_opening false true j n near n' near' ni ni' e is = cc
+no_opening false false j n near n' near' ni ni' e is = cc
+
+no_born : (a b : Bool) (j s : Joined) (n near : ℕ) (ni : List ℕ) → (cond a (opened j (cond b (Some (Opening n near ni)) None)) (cond b (Some (Opening n near ni)) None) ≡ Some (HalfOpen s)) ⊎
+    (cond a (opened j (cond b (Some (Opening n near ni)) None)) (cond b (Some (Opening n near ni)) None) ≡ Some (KeptAsResponder s)) → ⊥
+no_born true true j s n near ni (inl is) = cc
+no_born true true j s n near ni (inr is) = cc
+no_born true false j s n near ni (inl is) = cc
+no_born true false j s n near ni (inr is) = cc
+no_born false true j s n near ni (inl is) = cc
+no_born false true j s n near ni (inr is) = cc
+no_born false false j s n near ni (inl is) = cc
+no_born false false j s n near ni (inr is) = cc
+
+module _ (setup : Setup) (past : List Stamped) (sent : List ℕ) (context : Context) (line : OutLine setup past sent context) where
+  attempt_of : (near : ℕ) (cookie cert part sign : List ℕ) → HasChunk setup.secret context sent (IIKeying near cookie cert part sign) → KeyingOfAttempt setup context (facts_of past) near cert part
+  attempt_of near cookie cert part sign has =
+      (line.keyings has.packet (reads_there setup past sent context (IIKeying near cookie cert part sign) line has)).initiators has.placed near cookie cert part sign has.among has.spells
+
+  born_of : (near : ℕ) (part sign : List ℕ) → HasChunk setup.secret context sent (RIKeying near part sign) → KeyingOfBorn setup context (facts_of past) line.sid near part
+  born_of near part sign has =
+      (line.keyings has.packet (reads_there setup past sent context (RIKeying near part sign) line has)).responders has.placed near part sign has.among has.spells
+
+pub keyings_sent_refused : TheTableRefusesKeyingsSent
+unfolding near_in part_with
+keyings_sent_refused setup moment c d to sent context peer ni near cookie cert part sign has = record {
+  other_context = λ differ h. differ (attempt_of setup _ sent context h.1.0.0 near cookie cert part sign has).startup;
+  other_cert = λ differ h. differ (attempt_of setup _ sent context h.1.0.0 near cookie cert part sign has).own;
+  no_attempt = λ h. let k = attempt_of setup _ sent context h.0.0 near cookie cert part sign has in nothing (Opening k.n near k.ni) k.is_held;
+  other_id = λ differ h.
+      let k = attempt_of setup _ sent context h.1.0.0 near cookie cert part sign has in
+      differ (sym (ap near_in (true_is peer k.peer (Opening 1 5 ni) (Opening k.n near k.ni) k.is_held).1));
+  other_part = λ differ h.
+      let k = attempt_of setup _ sent context h.1.0.0 near cookie cert part sign has in
+      let is = true_is peer k.peer (Opening 1 5 ni) (Opening k.n near k.ni) k.is_held in
+      differ (k.values ∙ sym (ap (part_with k.peer) is.1) ∙ ap (initiator_part ni 1) (sym is.0));
+  over = λ h. let k = attempt_of setup _ sent context h.1.0.0 near cookie cert part sign has in none_left (bytes_eq peer k.peer) (Opening 1 5 ni) (Opening k.n near k.ni) k.is_held;
+  is_open = λ j e h.
+      let k = attempt_of setup _ sent context h.1.0.0 near cookie cert part sign has in
+      no_opening (bytes_eq j.peer k.peer) (bytes_eq peer k.peer) j 1 5 k.n near ni k.ni (ap (λ (p : List ℕ). bytes_eq p k.peer) e) k.is_held;
+}
+
+-- ---- sessions that were born
+
+born_is : (j s : Joined) → IsBornHere (cond (bytes_eq j.peer s.peer) (Some (HalfOpen j)) None) s → j ≡ s
+unfolding session_in
+born_is j s (inl e) = ap (session_in s) (true_is j.peer s.peer (HalfOpen j) (HalfOpen s) e).1
+born_is j s (inr e) = absurd (let clash = (true_is j.peer s.peer (HalfOpen j) (KeptAsResponder s) e).1 in cc)
+
+no_birth : (s : Joined) → IsBornHere None s → ⊥
+no_birth s (inl e) = cc
+no_birth s (inr e) = cc
+
+birth_over : (b : Bool) (j s : Joined) → IsBornHere (cond b None (cond b (Some (HalfOpen j)) None)) s → ⊥
+birth_over b j s (inl e) = none_left b (HalfOpen j) (HalfOpen s) e
+birth_over b j s (inr e) = none_left b (HalfOpen j) (KeptAsResponder s) e
+
+pub answers_sent_refused : TheTableRefusesAnswersSent
+answers_sent_refused setup moment c d to sent context j near part sign has = record {
+  other_context = λ differ h. differ (born_of setup _ sent context h.1.0.0 near part sign has).startup;
+  no_session = λ h. let b = born_of setup _ sent context h.0.0 near part sign has in no_birth b.j b.is_held;
+  other_id = λ differ h.
+      let b = born_of setup _ sent context h.1.0.0 near part sign has in
+      differ (b.near_is ∙ sym (ap (λ (s : Joined). s.near) (born_is j b.j b.is_held)));
+  other_part = λ differ h.
+      let b = born_of setup _ sent context h.1.0.0 near part sign has in
+      differ (b.values ∙ sym (ap (λ (s : Joined). responder_part s.nr s.k (own_of setup) s.ni) (born_is j b.j b.is_held)));
+  under_another = λ none h.
+      let b = born_of setup _ sent context h.1.0.0 near part sign has in
+      let sid : h.1.0.0.sid ≡ j.far = b.sid_is ∙ sym (ap (λ (s : Joined). s.far) (born_is j b.j b.is_held)) in
+      none h.1.0.0.number h.1.0.0.plain (h.1.0.0.is ∙ ap (λ (id : ℕ). datagram id (sealed_in setup.secret context id h.1.0.0.number h.1.0.0.plain)) sid);
+  over = λ h. let b = born_of setup _ sent context h.1.0.0 near part sign has in birth_over (bytes_eq j.peer b.j.peer) j b.j b.is_held;
+  opened_here = λ peer ni o h. let b = born_of setup _ sent context h.1.0.0 near part sign has in no_born (bytes_eq o.peer b.j.peer) (bytes_eq peer b.j.peer) o b.j 1 5 ni b.is_held;
+}
+
+-- ---- in sessions
+
+in_session : (setup : Setup) (facts : List Fact) (sid : ℕ) (x y fp_i fp_r : List ℕ) (sid_i sid_r : ℕ) (to_responder : Bool) → InSession setup facts sid (Session x y fp_i fp_r sid_i sid_r to_responder) →
+    (thing : Held) × (near : ℕ) × HeldUnder facts near thing × (Session x y fp_i fp_r sid_i sid_r to_responder ≡ outward (own_of setup) thing) × IsFarOf thing sid
+in_session setup facts sid x y fp_i fp_r sid_i sid_r to_responder h = h
+
+direction : Context → Bool
+direction Startup = false
+direction (Session x y fp_i fp_r sid_i sid_r to_responder) = to_responder
+
+no_startup : (x y fp_i fp_r : List ℕ) (sid_i sid_r : ℕ) (to_responder : Bool) → Session x y fp_i fp_r sid_i sid_r to_responder ≡ Startup → ⊥
+no_startup x y fp_i fp_r sid_i sid_r to_responder e = cc
+
+true_isnt_false : true ≡ false → ⊥
+true_isnt_false e = cc
+
+false_isnt_true : false ≡ true → ⊥
+false_isnt_true e = cc
+
+-- an end that opened a session sends to its responder
+opened_sends : (a b : Bool) (own ni : List ℕ) (j : Joined) (thing : Held) → a ≡ b →
+    cond a (opened j (cond b (Some (Opening 1 5 ni)) None)) (cond b (Some (Opening 1 5 ni)) None) ≡ Some thing → thing ≡ KeptAsInitiator j
+opened_sends true true own ni j thing e is = let inner : KeptAsInitiator j ≡ thing = cc in sym inner
+opened_sends true false own ni j thing e is = absurd (cc)
+opened_sends false true own ni j thing e is = absurd (cc)
+opened_sends false false own ni j thing e is = absurd (let clash : None ≡ Some thing = is in cc)
+
+pub sends_in_sessions_refused : TheTableRefusesSendsInSessions
+unfolding direction
+sends_in_sessions_refused setup moment c d to sent x y fp_i fp_r sid_i sid_r to_responder j = record {
+  nothing_held = λ h. let s = h.0.0.session in nothing s.0 s.2.is_held;
+  attempt_held = λ peer ni h.
+      let s = h.1.0.0.session in
+      no_startup x y fp_i fp_r sid_i sid_r to_responder (s.3 ∙ ap (outward (own_of setup)) (sym (true_is peer s.2.peer (Opening 1 5 ni) s.0 s.2.is_held).1));
+  other_values = λ differ h.
+      let s = h.1.0.0.session in
+      differ (s.3 ∙ ap (outward (own_of setup)) (sym (true_is j.peer s.2.peer (HalfOpen j) s.0 s.2.is_held).1));
+  towards = λ h.
+      let s = h.1.0.0.session in
+      true_isnt_false (ap direction (s.3 ∙ ap (outward (own_of setup)) (sym (true_is j.peer s.2.peer (HalfOpen j) s.0 s.2.is_held).1)));
+  opened_towards = λ ni h.
+      let s = h.1.0.0.session in
+      false_isnt_true (ap direction (s.3 ∙ ap (outward (own_of setup)) (opened_sends (bytes_eq j.peer s.2.peer) (bytes_eq j.peer s.2.peer) (own_of setup) ni j s.0 refl s.2.is_held)));
+  under_another = λ none h.
+      let line = h.1.0.0 in
+      let s = line.session in
+      let is : HalfOpen j ≡ s.0 = (true_is j.peer s.2.peer (HalfOpen j) s.0 s.2.is_held).1 in
+      let far : line.sid ≡ j.far = subst (λ (t : Held). IsFarOf t line.sid) (sym is) s.4 in
+      none line.number line.plain (line.is ∙ ap (λ (id : ℕ). datagram id (sealed_in setup.secret (session_context (as_responder (own_of setup) j) false) id line.number line.plain)) far);
+  over = λ h. let s = h.1.0.0.session in none_left (bytes_eq j.peer s.2.peer) (HalfOpen j) s.0 s.2.is_held;
+}

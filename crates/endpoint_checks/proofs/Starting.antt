@@ -1,0 +1,34 @@
+-- What the table refuses of a Started.
+use Rattle.std.proofs.Common.{ℕ, ◌==◌, [], ◌∷◌, ◌≡◌, sym, ap, refl, cond, Some, None, true, false, ◌∙◌, arith}
+use Rattle.std.specs.Prelude.{Bool}
+use Rattle.std.specs.List.{list_any}
+use Rattle.std.specs.Str.{bytes_eq}
+use Rattle.glare_core.specs.declared.facts.Held.{Held}
+use Rattle.glare_core.specs.declared.facts.Held.TheVariants.{Opening, HalfOpen}
+use Rattle.endpoint_checks.specs.Starts.{TheTableRefusesStarts}
+use Rattle.endpoint_checks.proofs.Logs.{same, last_lawful}
+
+taken : (b : Bool) (h : Held) → b ≡ true → cond b (Some h) None ≡ None → ⊥
+taken true h e none = cc
+taken false h e none = cc
+
+pub starts_refused : TheTableRefusesStarts
+starts_refused setup moment candidates draws peer n near ni = record {
+  in_cancel = λ m h. h.0.0.1.by;
+  in_receive = λ from datagram h. h.0.0.1.by;
+  in_tick = λ h. h.0.0.1.by;
+  other_peer = λ towards differ h. differ h.0.0.1.by.0;
+  other_nonce = λ differ h. differ h.0.0.1.by.1;
+  itself = λ e h. h.0.0.0.other e;
+  again = λ id nonce h. taken (bytes_eq peer peer) (Opening 1 id nonce) (same peer peer refl) h.1.0.0.0.free;
+  with_session = λ c j e h. taken (bytes_eq j.peer peer) (HalfOpen j) (same j.peer peer e) h.1.0.0.0.free;
+  first_number = λ differ h. differ h.0.0.0.next;
+  second_number = λ differ c d other id nonce h. differ h.1.1.0.0.0.next;
+  wide_number = λ log wide h. let small = (last_lawful setup 0 [] log _ h).0.2 in omega (arith, small, wide);
+  zero = λ h. h.0.0.1.id.some refl;
+  of_attempt = λ c other nonce h. let clash : true ≡ false = h.1.0.0.1.id.unused in cc;
+  of_born = λ c j e h. let clash = ap (λ (x : ℕ). list_any (λ id. id == 5) (x ∷ [])) (sym e) ∙ h.1.0.0.1.id.unused in cc;
+  of_confirmed = λ c d j e h. let clash = ap (λ (x : ℕ). list_any (λ id. id == 5) (x ∷ [])) (sym e) ∙ h.1.1.0.0.1.id.unused in cc;
+  of_opened = λ c d other nonce j h. let clash : true ≡ false = h.1.1.0.0.1.id.unused in cc;
+  of_another = λ c d e first second nonce h. let clash : true ≡ false = h.1.1.1.0.0.1.id.unused in cc;
+}

@@ -1,0 +1,86 @@
+-- Histories that aren't honest, aren't fresh, or aren't agreed.
+use Rattle.std.proofs.Common.{ℕ, List, [], ◌∷◌, length, drop, ◌≡◌, ◌⊎◌, inl, inr, refl, sym, subst, cond, Some, None, true, false, arith}
+use Rattle.std.specs.Prelude.{Bool}
+use Rattle.std.specs.Str.{bytes_eq}
+use Rattle.crypto_profile.specs.declared.keys.Context.{Context}
+use Rattle.crypto_profile.specs.declared.keys.Context.TheVariants.{Startup}
+use Rattle.crypto_profile.specs.Sealing.{sealed_in, Opens}
+use Rattle.packet_scramble.specs.Datagram.{datagram, sid_of}
+use Rattle.glare_core.specs.declared.facts.Fact.{Fact}
+use Rattle.glare_core.specs.declared.facts.Fact.TheVariants.{Started, Born}
+use Rattle.glare_core.specs.declared.facts.Held.{Held}
+use Rattle.glare_core.specs.declared.facts.Held.TheVariants.{Opening, HalfOpen}
+use Rattle.glare_core.specs.Tells.{as_responder}
+use Rattle.endpoint.specs.declared.entry.Entry.TheVariants.{Out}
+use Rattle.endpoint.specs.Event.{Setup, own_of}
+use Rattle.endpoint.specs.Contexts.{session_context, inward, OpensUnder, ContextOf}
+use Rattle.endpoint.specs.History.{History, IsOut, WasSent}
+use Rattle.endpoint.proofs.AnswerCarried.{opens_again}
+use Rattle.endpoint_checks.specs.Histories.{did, HistoriesRefuseForged, HistoriesRefuseForgedInSessions, HistoriesRefuseStale}
+use Rattle.endpoint_checks.proofs.Logs.{same}
+
+-- ---- honest
+
+holds : (b : Bool) (x : Held) → b ≡ true → cond b (Some x) None ≡ Some x
+holds true x e = refl
+holds false x e = absurd (cc)
+
+-- a datagram that opens in the startup context under session ID 0 was sent in it
+sent_so : (setup : Setup) (facts : List Fact) (earlier : History) (number plain : List ℕ) → length number ≡ 16 →
+    ((context : Context) (p : List ℕ) → ContextOf (own_of setup) facts (sid_of (datagram 0 (sealed_in setup.secret Startup 0 number plain))) context →
+    OpensUnder setup.secret context (sid_of (datagram 0 (sealed_in setup.secret Startup 0 number plain))) (datagram 0 (sealed_in setup.secret Startup 0 number plain)) p → WasSent (datagram 0 (sealed_in setup.secret Startup 0 number plain)) context earlier) →
+    WasSent (datagram 0 (sealed_in setup.secret Startup 0 number plain)) Startup earlier
+sent_so setup facts earlier number plain size honest =
+    let opens = opens_again setup.secret 0 number plain (omega arith) size in
+    honest Startup plain (inl (opens.id, refl)) (record { id = refl; opens = subst (λ (sid : ℕ). Opens setup.secret Startup sid (drop 4 (datagram 0 (sealed_in setup.secret Startup 0 number plain))) plain) (sym opens.id) opens.opens })
+
+-- the one entry of the one event before
+one_out : (P : Type 0) → (P ⊎ ⊥) ⊎ ⊥ → P
+one_out P (inl (inl p)) = p
+one_out P (inl (inr none)) = absurd none
+one_out P (inr none) = absurd none
+
+-- and of the event before a statement
+out_then : (P : Type 0) → (P ⊎ ⊥) ⊎ ((⊥ ⊎ ⊥) ⊎ ⊥) → P
+out_then P (inl (inl p)) = p
+out_then P (inl (inr none)) = absurd none
+out_then P (inr later) = absurd (one_out ⊥ later)
+
+pub forged_refused : HistoriesRefuseForged
+forged_refused ends from to draws number plain other_bytes peer ni context n size = record {
+  unsent = λ h. let sent = sent_so (ends 0) [] [] number plain size h.0 in sent;
+  others_sent = λ differ h. differ (one_out (IsOut (datagram 0 (sealed_in (ends 0).secret Startup 0 number plain)) Startup (Out to other_bytes Startup)) (sent_so (ends 0) [] (did 1 (Out to other_bytes Startup ∷ []) ∷ []) number plain size h.0)).0;
+  other_context = λ differ h. differ (one_out (IsOut (datagram 0 (sealed_in (ends 0).secret Startup 0 number plain)) Startup (Out to (datagram 0 (sealed_in (ends 0).secret Startup 0 number plain)) context)) (sent_so (ends 0) [] (did 1 (Out to (datagram 0 (sealed_in (ends 0).secret Startup 0 number plain)) context ∷ []) ∷ []) number plain size h.0)).1;
+  sent_later = λ h. let sent = sent_so (ends 0) [] [] number plain size h.1.0 in sent;
+  sent_itself = λ h. let sent = sent_so (ends 0) [] [] number plain size h.0 in sent;
+  under_attempt = λ h.
+      let opens = opens_again (ends 0).secret 5 number plain (omega arith) size in
+      let there : ContextOf (own_of (ends 0)) (Started peer n 5 ni ∷ []) (sid_of (datagram 5 (sealed_in (ends 0).secret Startup 5 number plain))) Startup =
+      inr (Opening n 5 ni, record { peer = peer; is_held = holds (bytes_eq peer peer) (Opening n 5 ni) (same peer peer refl); id = sym opens.id }, refl) in
+      let sent = h.0 Startup plain there (record { id = refl; opens = subst (λ (sid : ℕ). Opens (ends 0).secret Startup sid (drop 4 (datagram 5 (sealed_in (ends 0).secret Startup 5 number plain))) plain) (sym opens.id) opens.opens }) in
+      one_out ⊥ sent;
+}
+
+pub forged_in_sessions_refused : HistoriesRefuseForgedInSessions
+forged_in_sessions_refused ends from to draws sent plain context j opens = record {
+  unsent = λ h. one_out ⊥ (h.0 (session_context (as_responder (own_of (ends 0)) j) true) plain there again);
+  other_context = λ differ h. differ (out_then (IsOut sent (session_context (as_responder (own_of (ends 0)) j) true) (Out to sent context)) (h.0 (session_context (as_responder (own_of (ends 0)) j) true) plain there again)).1;
+}
+  where
+    there : ContextOf (own_of (ends 0)) (Born j ∷ []) (sid_of sent) (session_context (as_responder (own_of (ends 0)) j) true)
+    there = inr (HalfOpen j, record { peer = j.peer; is_held = holds (bytes_eq j.peer j.peer) (HalfOpen j) (same j.peer j.peer refl); id = sym opens.id }, refl)
+
+    again : OpensUnder (ends 0).secret (session_context (as_responder (own_of (ends 0)) j) true) (sid_of sent) sent plain
+    again = record { id = refl; opens = subst (λ (sid : ℕ). Opens (ends 0).secret (inward (own_of (ends 0)) (HalfOpen j)) sid (drop 4 sent) plain) (sym opens.id) opens.opens }
+
+-- ---- fresh
+
+pub stale_refused : HistoriesRefuseStale
+stale_refused ends p q ni n m near id j k = record {
+  attempts = λ f. f.nonces.0 (inl refl);
+  one_end = λ f. f.nonces.0 (inl refl);
+  in_one_call = λ f. f.nonces.0 (inl refl);
+  attempt_and_session = λ e f. f.nonces.0 (inl (sym e));
+  sessions = λ e f. f.nonces.0 (inl e);
+  prints = λ e f. let one : 0 ≡ 1 = f.prints 0 1 (inl refl) (inr (inl refl)) e in omega (arith, one);
+}

@@ -1,0 +1,42 @@
+-- Datagrams with keyings, as the checks speak of them.
+use Rattle.std.specs.Prelude.{ℕ, ◌≡◌, List, [], ◌∷◌, ◌++◌}
+use Rattle.crypto_profile.specs.declared.keys.Context.TheVariants.{Startup}
+use Rattle.rtmfp_packet.specs.Whole.{Whole}
+use Rattle.rtmfp_packet.specs.Walk.{Placed}
+use Rattle.rtmfp_chunks.specs.Chunk.{IIKeying, RIKeying, Spells}
+use Rattle.endpoint.specs.Contexts.{ReadsUnder}
+use Rattle.endpoint.specs.Keying.{IsFirst, chunks_of}
+
+-- what an initiator's keying says; the signature ends its payload
+pub record Keying : Type 0 where
+  pub near : ℕ
+  pub cookie : List ℕ
+  pub cert : List ℕ
+  pub part : List ℕ
+  pub before : List ℕ
+  pub sign : List ℕ
+
+-- The datagram opens in the startup context under session ID 0, and its first initiator's keying says this.
+pub record BringsKeying (secret sent : List ℕ) (k : Keying) : Type 0 where
+  pub packet : Whole
+  pub reads : ReadsUnder secret Startup 0 sent packet
+  pub chunk : Placed
+  pub first : IsFirst chunk (chunks_of packet)
+  pub spells : Spells (IIKeying k.near k.cookie k.cert k.part k.sign) chunk.kind chunk.payload
+  pub payload : chunk.payload ≡ k.before ++ k.sign
+
+-- what a responder's keying says
+pub record Answer : Type 0 where
+  pub near : ℕ
+  pub part : List ℕ
+  pub before : List ℕ
+  pub sign : List ℕ
+
+-- The datagram opens in the startup context under this session ID, and a responder's keying that says this is its only chunk.
+pub record BringsAnswer (secret : List ℕ) (sid : ℕ) (sent : List ℕ) (a : Answer) : Type 0 where
+  pub packet : Whole
+  pub reads : ReadsUnder secret Startup sid sent packet
+  pub chunk : Placed
+  pub only : chunks_of packet ≡ chunk ∷ []
+  pub spells : Spells (RIKeying a.near a.part a.sign) chunk.kind chunk.payload
+  pub payload : chunk.payload ≡ a.before ++ a.sign

@@ -1,0 +1,24 @@
+-- Short logs, and when one is refused.
+use Rattle.std.specs.Prelude.{ℕ, List, [], ◌∷◌}
+use Rattle.glare_core.specs.declared.facts.Fact.{Fact}
+use Rattle.glare_core.specs.declared.facts.Joined.{Joined}
+use Rattle.endpoint.specs.declared.entry.Entry.{Entry}
+use Rattle.endpoint.specs.declared.entry.Entry.TheVariants.{Fact as FactEntry}
+use Rattle.endpoint.specs.Event.{Setup, Call, Done, Event}
+use Rattle.endpoint.specs.Lawful.{IsLawful}
+
+-- a call at a moment, and what it added; the table reads no answer
+abbrev pub doing : ℕ → Call → List Entry → Event
+doing moment call entries = record { moment = moment; call = call; answer = Done; entries = entries }
+
+-- one fact as the entries of a call
+abbrev pub says : Fact → List Entry
+says fact = FactEntry fact ∷ []
+
+-- The log isn't lawful.
+abbrev pub IsRefused : Setup → List Event → Type 0
+IsRefused setup log = IsLawful setup log → ⊥
+
+-- a session with this near id, of the first attempt of its initiator
+abbrev pub joined : List ℕ → ℕ → ℕ → List ℕ → List ℕ → Joined
+joined peer near far ni nr = record { peer = peer; n = 1; near = near; far = far; ni = ni; nr = nr; k = 0 }

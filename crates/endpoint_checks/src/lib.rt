@@ -1,0 +1,107 @@
+//! What the table of lawful logs refuses: for each line and each of its conditions a short log that breaks just this one. The functions do nothing: the contract of each says which logs aren't lawful.
+//!
+//! That each log of an end is lawful is `endpoint`'s law; here stands that this law says something.
+#![tactic(auto)]
+
+ghost use Rattle.endpoint_checks.specs.Births.{TheTableRefusesBirths, TheTableRefusesKeyings, TheTableRefusesLaterBirths};
+ghost use Rattle.endpoint_checks.specs.Ends.{TheTableRefusesCancels, TheTableRefusesExpiries, TheTableRefusesOtherEnds, TheTableRefusesWays};
+ghost use Rattle.endpoint_checks.specs.Histories.{HistoriesRefuseDisagreed, HistoriesRefuseForged, HistoriesRefuseForgedInSessions, HistoriesRefuseStale};
+ghost use Rattle.endpoint_checks.specs.Opens.{TheTableRefusesAnswers, TheTableRefusesConfirms, TheTableRefusesOpenings};
+ghost use Rattle.endpoint_checks.specs.Sends.{TheTableRefusesAnswersSent, TheTableRefusesKeyingsSent, TheTableRefusesNumbers, TheTableRefusesSends, TheTableRefusesSendsInSessions};
+ghost use Rattle.endpoint_checks.specs.Starts.{TheTableRefusesStarts};
+
+/// Attempts that start without an open towards their peer, with another nonce, another number, or a session ID that is 0 or in use.
+pub fn starts()
+    ensures { TheTableRefusesStarts }
+{}
+
+/// Attempts that end as cancelled without that cancel.
+pub fn cancels()
+    ensures { TheTableRefusesCancels }
+{}
+
+/// Attempts that end as expired outside of a tick, or in one that comes too early.
+pub fn expiries()
+    ensures { TheTableRefusesExpiries }
+{}
+
+/// Attempts and sessions that make way for a session that isn't born directly after.
+pub fn ways()
+    ensures { TheTableRefusesWays }
+{}
+
+/// Sessions that end for causes for which no end ends one yet.
+pub fn other_ends()
+    ensures { TheTableRefusesOtherEnds }
+{}
+
+/// Sessions that are born as the first thing that an end does, with a session ID, a nonce, a count or an offer that no birth has, or of a datagram that doesn't open to a startup packet.
+pub fn births()
+    ensures { TheTableRefusesBirths }
+{}
+
+/// Sessions that are born of a keying that isn't the datagram's first, names another responder or another peer, isn't signed, or has a cookie that isn't good.
+pub fn keyings()
+    ensures { TheTableRefusesKeyings }
+{}
+
+/// Sessions that are born where something is held with the peer, of a keying that isn't new, or where there is no row or no place.
+pub fn later_births()
+    ensures { TheTableRefusesLaterBirths }
+{}
+
+/// Attempts that open without an answer, and answers to no attempt.
+pub fn openings()
+    ensures { TheTableRefusesOpenings }
+{}
+
+/// Attempts that open to a responder's keying that isn't signed or says something else.
+pub fn answers()
+    ensures { TheTableRefusesAnswers }
+{}
+
+/// Sessions that are confirmed without a datagram that opens in them, or that aren't half-open.
+pub fn confirms()
+    ensures { TheTableRefusesConfirms }
+{}
+
+/// Datagrams that go out and aren't sealed in their context.
+pub fn sends()
+    ensures { TheTableRefusesSends }
+{}
+
+/// Datagrams that go out with one number in one context.
+pub fn numbers()
+    ensures { TheTableRefusesNumbers }
+{}
+
+/// Initiators' keyings that go out without an attempt that is held, or that say something else than it.
+pub fn keyings_sent()
+    ensures { TheTableRefusesKeyingsSent }
+{}
+
+/// Responders' keyings that go out without a session that was born here and is held, or that say something else than it.
+pub fn answers_sent()
+    ensures { TheTableRefusesAnswersSent }
+{}
+
+/// Datagrams that go out in the context of a session that isn't held, towards this end, or under another session ID than the peer's.
+pub fn sends_in_sessions()
+    ensures { TheTableRefusesSendsInSessions }
+{}
+
+/// Histories in which an end takes a datagram that nobody sent in its context before.
+pub fn forged()
+    ensures startup { HistoriesRefuseForged }
+    ensures sessions { HistoriesRefuseForgedInSessions }
+{}
+
+/// Histories in which a nonce was drawn twice, or in which two ends have one fingerprint.
+pub fn stale()
+    ensures { HistoriesRefuseStale }
+{}
+
+/// Histories in which two ends keep different sessions, or in which attempts open, are born or end otherwise than agreed histories allow.
+pub fn disagreed()
+    ensures { HistoriesRefuseDisagreed }
+{}
