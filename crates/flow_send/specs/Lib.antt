@@ -7,3 +7,4 @@ pub mod Acks
 pub mod Steady
 pub mod Deadlines
 pub mod Flow
+pub mod Edges
