@@ -8,3 +8,4 @@ pub mod Steady
 pub mod Deadlines
 pub mod Flow
 pub mod Edges
+pub mod Calls
