@@ -40,6 +40,23 @@ pub fn flow_limit()
     ensures exactly_full { choice 0 1000 (record (sender_of 0 (number_in State.Flying 1 0 [] ∷ number_in State.Unsent 0 0 [] ∷ [])) { told = Some 0 }) ≡ Send 2 (number_in State.Unsent 0 0 []) }
 {}
 
+/// What is in flight and the fragment fill the session's window at most. Room counts the type, the length and the flags,
+/// which are four bytes, the flow, the number, its distance from the forward number, and the fragment. A notice counts as a
+/// fragment of no bytes.
+#[tactic(auto, unfolding(rtmfp_vlu::specs::Vlu::vlu, rtmfp_vlu::specs::Vlu::groups_before))]
+pub fn window_and_room()
+    ensures full { chunk_refusal (flow_of (sender_of 200 [])) false 12 996 1000 (Send 201 (number_in State.Unsent 0 0 (1 ∷ 2 ∷ 3 ∷ 4 ∷ []))) ≡ None }
+    ensures too_full { chunk_refusal (flow_of (sender_of 200 [])) false 12 997 1000 (Send 201 (number_in State.Unsent 0 0 (1 ∷ 2 ∷ 3 ∷ 4 ∷ []))) ≡ Some NoChunk.Window }
+    ensures no_room { chunk_refusal (flow_of (sender_of 200 [])) false 11 996 1000 (Send 201 (number_in State.Unsent 0 0 (1 ∷ 2 ∷ 3 ∷ 4 ∷ []))) ≡ Some NoChunk.Room }
+    ensures window_first { chunk_refusal (flow_of (sender_of 200 [])) false 11 997 1000 (Send 201 (number_in State.Unsent 0 0 (1 ∷ 2 ∷ 3 ∷ 4 ∷ []))) ≡ Some NoChunk.Window }
+    ensures notice { chunk_refusal (flow_of (sender_of 200 [])) false 8 1000 1000 Notify ≡ None }
+    ensures nothing { chunk_refusal (flow_of (sender_of 200 [])) false 8 1000 1000 Nothing ≡ Some NoChunk.Nothing }
+    ensures first_in_a_datagram { chunk_options (flow_of (sender_of 200 [])) true ≡ Some [] }
+    ensures second_in_a_datagram { chunk_options (flow_of (sender_of 200 [])) false ≡ None }
+    ensures after_an_ack { chunk_options (flow_of (record (sender_of 200 []) { told = Some 0 })) true ≡ None }
+    ensures metadata_and_the_answered_flow { flow_options (0x61 ∷ []) (Some 5) ≡ record { kind = 0; value = 0x61 ∷ [] } ∷ record { kind = 10; value = 5 ∷ [] } ∷ [] }
+{}
+
 /// The lowest lost number is sent before the lowest unsent one, and a notice where there is neither: where the last
 /// cumulative ack is below the forward number and no notice was sent within the resend time. What is in flight doesn't
 /// hinder it.
