@@ -30,7 +30,7 @@ not_yet handed y = not (has_number y.first handed)
 abbrev ready_yet : ℕ → List Message → Run → Bool
 ready_yet t handed y = cond (is_ready t y) (not_yet handed y) false
 
-dead_whole : (f r b a : Bool) → cond f r false ≡ true → cond f (cond r false (not a)) (cond b (cond r false (not a)) true) ≡ false
+pub dead_whole : (f r b a : Bool) → cond f r false ≡ true → cond f (cond r false (not a)) (cond b (cond r false (not a)) true) ≡ false
 dead_whole true true b a e = refl
 dead_whole true false b a e = absurd cc
 dead_whole false r b a e = absurd cc

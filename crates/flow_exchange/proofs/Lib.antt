@@ -12,6 +12,7 @@ pub mod Dropping
 pub mod Standing
 pub mod Handed
 pub mod Following
+pub mod Refusing
 pub mod Speaking
 pub mod Pairing
 pub mod Samples

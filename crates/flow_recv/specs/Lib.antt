@@ -6,3 +6,4 @@ pub mod Sound
 pub mod Order
 pub mod Above
 pub mod Keyed
+pub mod Edges

@@ -3,6 +3,7 @@
 
 mod above;
 mod acking;
+pub mod edges;
 mod held;
 mod outcome;
 mod receiver;

@@ -11,3 +11,5 @@ pub mod Tellings
 pub mod Queuings
 pub mod Chosen
 pub mod Quiet
+pub mod Standings
+pub mod Calling

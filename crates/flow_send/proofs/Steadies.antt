@@ -1,8 +1,9 @@
 -- Each call leaves a sender steady.
-use Rattle.std.proofs.Common.{◌≡◌, ℕ, zero, suc, ◌+◌, ◌-◌, ◌/◌, ◌^◌, ◌<◌, ◌≤◌, nat_le, nat_lt, max, cond, not, ◌==◌, Bool, true, false, ◌&&◌, ◌||◌, List, [], ◌∷◌, ◌++◌, length, drop, Option, Some, None, refl, ap, sym, ◌∙◌, subst, arith, inl, inr, ◌⊎◌, length-append, length-drop, eq-eqb}
+use Rattle.std.proofs.Common.{◌≡◌, ℕ, zero, suc, ◌+◌, ◌-◌, ◌*◌, ◌/◌, ◌^◌, ◌<◌, ◌≤◌, nat_le, nat_lt, max, cond, not, ◌==◌, Bool, true, false, ◌&&◌, ◌||◌, List, [], ◌∷◌, ◌++◌, length, drop, Option, Some, None, refl, ap, sym, ◌∙◌, subst, arith, inl, inr, ◌⊎◌, length-append, length-drop, eq-eqb}
 use Rattle.std.specs.List.{filter, sum_by, list_any}
 use Rattle.std.proofs.lemmas.Bool.{cases_eq, cases_lt, eqb-true, ne_eqb, le-leb, lt-ltb, leb-true, ltb-true, ltb-false}
 use Rattle.std.proofs.lemmas.Bool.Decides.{nat_tests}
+use Rattle.std.proofs.lemmas.List.{length-take}
 use Rattle.std.proofs.lemmas.List.Sums.{sum_by_push}
 use Rattle.rtmfp_data_chunks.specs.Fragments.{Message, fragment_count, fragments_of_length}
 use Rattle.flow_send.specs.declared.state.State.{State}
@@ -13,7 +14,7 @@ use Rattle.flow_send.specs.Rows.{Row, end_row, is_unsent, is_flying, is_lost, is
 use Rattle.flow_send.specs.Sender.{Sender, new_sender, next_of, with_rows, bytes_held, fragments_held, new_row, rows_of, waiting_of, queued, has_number, message_at, without_message, give_up, give_up_row, abandoned_with, finished, is_late, lost_if_late, lost_late}
 use Rattle.flow_send.specs.Choice.{Choice, Nothing, Send, Notify, first_in, or_else, is_quiet, next_choice, within_limit, choice_bytes, choice, count_up, sent_row, put_at, sent_after}
 use Rattle.flow_send.specs.Acks.{Told, in_range, tells, greatest, acknowledge, acknowledge_row, is_third, count_ack, last_place, rows_acknowledged, rows_told, still_waits, told_by}
-use Rattle.flow_send.specs.Steady.{is_fresh, RowOk, AllOk, Line, AllWait, line_end, end_of, IsLast, Steady}
+use Rattle.flow_send.specs.Steady.{is_fresh, RowOk, AllOk, Line, AllWait, line_end, end_of, IsLast, AllShort, IsBounded, Steady}
 use Rattle.flow_send.proofs.Fronts.{front_dropped, front_append, news_front, front_map, front_put}
 use Rattle.flow_send.proofs.Numbered.{map_length, map_is}
 use Rattle.flow_send.proofs.Keeping.{ok_map, ok_append, ok_drop, waits_map, waits_settle, all_wait_by, all_wait_filter, all_wait_append, all_wait_push, waits_later, line_push, line_filter, line_without, line_inside_at, sum_filter, sum_without, front_fits}
@@ -59,7 +60,7 @@ steady_new first one fits = record {
 
 -- queue
 fresh_ok : (sent n : ℕ) (m : Message) → sent < n → RowOk sent n (new_row m n)
-fresh_ok sent n m lt = record { old = λ le. absurd (omega (arith, le, lt)); fresh = λ l. refl; empty = λ e. absurd cc }
+fresh_ok sent n m lt = record { old = λ le. absurd (omega (arith, le, lt)); fresh = λ l. refl; empty = λ e. absurd cc; short = omega (arith, length-take 1000 (drop (1000 * (n - m.number)) m.bytes)) }
 
 news_ok : (sent : ℕ) (m : Message) (n count : ℕ) → sent < n → AllOk sent n (rows_of m n count)
 news_ok sent m n zero lt = tt
@@ -120,7 +121,7 @@ steady_finished s k none room =
       numbers = room;
       last = next;
       below = omega (arith, next, k.below);
-      rows = ok_append s.sent (s.forward + 1) s.rows (one ∷ []) k.rows (record { old = λ le. absurd (omega (arith, le, k.below)); fresh = λ l. refl; empty = λ e. absurd cc }, tt);
+      rows = ok_append s.sent (s.forward + 1) s.rows (one ∷ []) k.rows (record { old = λ le. absurd (omega (arith, le, k.below)); fresh = λ l. refl; empty = λ e. absurd cc; short = omega arith }, tt);
       front = front_append s.rows (one ∷ []) k.front refl;
       line = subst (λ (i : ℕ). Line 0 i s.waiting) old k.line;
       waits = all_wait_append (s.forward + 1) s.rows (one ∷ []) s.waiting k.waits;
@@ -161,6 +162,7 @@ lose_ok sent k r f o = record {
   old = λ le. refl;
   fresh = λ lt. absurd (let a = o.fresh lt in let b = (flying_old r.state f).0 in let c : false ≡ true = sym b ∙ a in cc);
   empty = λ e. absurd cc;
+  short = o.short;
 }
 
 late_ok : (moment resend sent k : ℕ) (r : Row) (t : Bool) → is_late moment resend r ≡ t → RowOk sent k r → RowOk sent k (cond t (record r { state = Lost }) r)
@@ -180,7 +182,7 @@ steady_lost s moment resend k =
 -- abandon
 give_ok_if : (sent k : ℕ) (r : Row) (t : Bool) → is_acknowledged r.state ≡ t → RowOk sent k r → RowOk sent k (cond t r (let_go Abandoned r))
 give_ok_if sent k r true e o = o
-give_ok_if sent k r false e o = record { old = λ le. refl; fresh = λ lt. refl; empty = λ e. refl }
+give_ok_if sent k r false e o = record { old = λ le. refl; fresh = λ lt. refl; empty = λ e. refl; short = omega arith }
 
 give_up_ok : (x : Waiting) (sent k : ℕ) (r : Row) (t : Bool) → RowOk sent k r → RowOk sent k (cond t (give_up_row r) r)
 give_up_ok x sent k r true o = give_ok_if sent k r (is_acknowledged r.state) refl o
@@ -238,6 +240,7 @@ raise_ok sent more n r le h o = record {
   old = λ l. elim (cases_lt sent n) [ inl lt ↦ h lt l | inr ge ↦ o.old ge ];
   fresh = λ lt. o.fresh (omega (arith, le, lt));
   empty = o.empty;
+  short = o.short;
 }
 
 raise_all : (sent n at : ℕ) (rows : List Row) → n < at → AllOk sent at rows → AllOk (max sent n) at rows
@@ -272,8 +275,8 @@ found_low test at n r (x ∷ rows) e = low_if test at n r x rows (test x.state) 
         (omega (arith, p.0), omega (arith, p.0), ap (λ (y : Row). test y.state) (sym p.1) ∙ f)
     low_if test at n r x rows false f ih e = let l = ih e in (omega (arith, l.0), omega (arith, l.1), l.2)
 
-sent_here : (more n moment place : ℕ) (r : Row) → n ≤ more → RowOk more n (sent_row moment place r)
-sent_here more n moment place r le = record { old = λ l. refl; fresh = λ lt. absurd (omega (arith, le, lt)); empty = λ e. absurd cc }
+sent_here : (more n moment place : ℕ) (r : Row) → n ≤ more → length r.fragment.bytes ≤ 1000 → RowOk more n (sent_row moment place r)
+sent_here more n moment place r le few = record { old = λ l. refl; fresh = λ lt. absurd (omega (arith, le, lt)); empty = λ e. absurd cc; short = few }
 
 sent_all : (test : State → Bool) (sent at n moment place : ℕ) (r : Row) (rows : List Row) → ((y : Row) → test y.state ≡ false → (n ≤ sent) ⊎ (is_unsent y.state ≡ false)) → AllOk sent at rows → first_in test at rows ≡ Send n r
     → AllOk (max sent n) at (map_rows (put_at n (sent_row moment place r)) at rows)
@@ -286,7 +289,7 @@ sent_all test sent at n moment place r (x ∷ rows) h a e = all_if test sent at 
         → cond t (Send at x) (first_in test (at + 1) rows) ≡ Send n r → AllOk (max sent n) at (map_rows (put_at n (sent_row moment place r)) at (x ∷ rows))
     all_if test sent at n moment place r x rows true f h a ih low e =
         let p = send_eq at n x r e in
-        let one : RowOk (max sent n) at (sent_row moment place r) = sent_here (max sent n) at moment place r (omega (arith, p.0)) in
+        let one : RowOk (max sent n) at (sent_row moment place r) = sent_here (max sent n) at moment place r (omega (arith, p.0)) (subst (λ (y : Row). length y.fragment.bytes ≤ 1000) p.1 a.0.short) in
         subst (λ (xs : List Row). AllOk (max sent n) at xs) (sym (put_here n at (sent_row moment place r) x rows p.0)) (one, raise_all sent n (at + 1) rows (omega (arith, p.0)) a.1)
     all_if test sent at n moment place r x rows false f h a ih low e =
         let l = low e in
@@ -435,14 +438,14 @@ told_below a n e = below_if (nat_le n a.upto) refl e
 
 ack_ok_if : (sent k : ℕ) (r : Row) (t : Bool) → is_acknowledged r.state ≡ t → k ≤ sent → RowOk sent k r → RowOk sent k (cond t r (let_go Acknowledged r))
 ack_ok_if sent k r true e le o = o
-ack_ok_if sent k r false e le o = record { old = λ l. refl; fresh = λ lt. absurd (omega (arith, le, lt)); empty = λ x. absurd cc }
+ack_ok_if sent k r false e le o = record { old = λ l. refl; fresh = λ lt. absurd (omega (arith, le, lt)); empty = λ x. absurd cc; short = omega arith }
 
 ack_ok : (a : Told) (sent k : ℕ) (r : Row) (t : Bool) → tells a k ≡ t → greatest a.upto a.ranges ≤ sent → RowOk sent k r → RowOk sent k (cond t (acknowledge_row r) r)
 ack_ok a sent k r true e le o = let b = told_below a k e in ack_ok_if sent k r (is_acknowledged r.state) refl (omega (arith, b, le)) o
 ack_ok a sent k r false e le o = o
 
 counted_ok : (sent k acks : ℕ) (r : Row) → RowOk sent k r → RowOk sent k (record r { acks = acks })
-counted_ok sent k acks r o = record { old = o.old; fresh = o.fresh; empty = o.empty }
+counted_ok sent k acks r o = record { old = o.old; fresh = o.fresh; empty = o.empty; short = o.short }
 
 count_ok : (place sent k : ℕ) (r : Row) (t u : Bool) → is_third place r ≡ t → RowOk sent k r → RowOk sent k (cond t (record r { state = Lost }) (cond u (record r { acks = r.acks + 1 }) r))
 count_ok place sent k r true u e o = lose_ok sent k r ((and_true (is_flying r.state) (nat_lt r.place place) ((and_true (is_flying r.state && nat_lt r.place place) (nat_le 2 r.acks) e).0)).0) o
@@ -481,3 +484,11 @@ steady_told s a k le =
     let t = settled_steady s rows (filter keep s.waiting) k (told_length a s) (told_ok a s k le) (line_filter 0 (end_of s) keep s.waiting k.line) (all_wait_filter at rows s.waiting)
     (sum_filter (λ (w : Waiting). w.size) keep s.waiting) (sum_filter (λ (w : Waiting). w.count) keep s.waiting) in
     record { bytes = t.bytes; fragments = t.fragments; numbers = t.numbers; last = t.last; below = t.below; rows = t.rows; front = t.front; line = t.line; waits = t.waits }
+
+-- its bounds
+all_short : (sent n : ℕ) (rows : List Row) → AllOk sent n rows → AllShort rows
+all_short sent n [] a = tt
+all_short sent n (r ∷ rows) a = (a.0.short, all_short sent (n + 1) rows a.1)
+
+pub bounded : (s : Sender) → Steady s → IsBounded s
+bounded s k = record { bytes = k.bytes; fragments = k.fragments; each = all_short s.sent (s.forward + 1) s.rows k.rows }

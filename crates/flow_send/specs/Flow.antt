@@ -4,6 +4,7 @@ use Rattle.rtmfp_vlu.specs.Vlu.{vlu}
 use Rattle.rtmfp_forms.specs.Options.{OptionParts, options_bytes}
 use Rattle.rtmfp_data_chunks.specs.Fragments.{Message, fragments_of_length}
 use Rattle.rtmfp_data_chunks.specs.Runs.{Chunk}
+use Rattle.rtmfp_data_chunks.specs.Chunk.{UserParts}
 use Rattle.flow_send.specs.declared.outcome.QueueRefusal.{QueueRefusal}
 use Rattle.flow_send.specs.declared.outcome.QueueRefusal.TheVariants.{Finished, TooLong, Backlog, SequenceSpent}
 use Rattle.flow_send.specs.declared.outcome.NoChunk.{NoChunk}
@@ -59,6 +60,10 @@ options_length (Some options) = length (options_bytes options)
 
 abbrev pub data_length : ℕ → Option (List OptionParts) → Chunk → ℕ
 data_length flow options c = 4 + length (vlu flow) + length (vlu c.seq) + length (vlu (c.seq - c.forward)) + options_length options + length c.bytes
+
+-- the chunk as it is written
+abbrev pub user_data : ℕ → Option (List OptionParts) → Chunk → UserParts
+user_data flow options c = record { part = c.part; abandon = c.abandon; last = c.last; flow = flow; seq = c.seq; forward = c.forward; options = options; bytes = c.bytes }
 
 -- until a first ack the first chunk of the flow in a datagram has the options
 abbrev pub is_told : Option ℕ → Bool

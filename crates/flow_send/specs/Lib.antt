@@ -7,3 +7,5 @@ pub mod Acks
 pub mod Steady
 pub mod Deadlines
 pub mod Flow
+pub mod Edges
+pub mod Calls

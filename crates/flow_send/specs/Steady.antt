@@ -10,11 +10,13 @@ use Rattle.flow_send.specs.Acks.{still_waits}
 abbrev pub is_fresh : State → Bool
 is_fresh state = is_unsent state || is_abandoned state
 
--- A number up to the highest one sent was sent or is abandoned, and one above was never sent. What is abandoned holds no bytes.
+-- A number up to the highest one sent was sent or is abandoned, and one above was never sent. What is abandoned holds no
+-- bytes, and no fragment has more than 1,000.
 pub record RowOk (sent n : ℕ) (r : Row) : Type 0 where
   pub old : n ≤ sent → is_unsent r.state ≡ false
   pub fresh : sent < n → is_fresh r.state ≡ true
   pub empty : is_abandoned r.state ≡ true → length r.fragment.bytes ≡ 0
+  pub short : length r.fragment.bytes ≤ 1000
 
 abbrev pub AllOk : ℕ → ℕ → List Row → Type 0
 AllOk sent n [] = Unit {0}
@@ -58,6 +60,17 @@ pub record Steady (s : Sender) : Type 0 where
   pub front : IsGreatest s
   pub line : Line 0 (end_of s) s.waiting
   pub waits : AllWait (s.forward + 1) s.rows s.waiting
+
+-- no fragment has more than 1,000 bytes
+abbrev pub AllShort : List Row → Type 0
+AllShort [] = Unit {0}
+AllShort (r ∷ rows) = (length r.fragment.bytes ≤ 1000) × AllShort rows
+
+-- what is held of the messages that wait, and each fragment
+pub record IsBounded (s : Sender) : Type 0 where
+  pub bytes : bytes_held s ≤ 2097152
+  pub fragments : fragments_held s ≤ 65536
+  pub each : AllShort s.rows
 
 -- each message from the first one on that begins above a number still waits
 abbrev pub Late : ℕ → ℕ → List Row → List Waiting → Type 0

@@ -3,7 +3,9 @@
 
 mod acking;
 mod backlog;
+pub mod edges;
 mod fragments;
+pub mod laws;
 mod outcome;
 mod pick;
 mod row;

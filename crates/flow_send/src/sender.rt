@@ -8,7 +8,7 @@ ghost use Rattle.rtmfp_data_chunks.specs.Taken.{chunk_of};
 ghost use Rattle.flow_send.specs.Rows.{any_row, in_flight};
 ghost use Rattle.flow_send.specs.Sender.{Sender, new_sender, next_of, queued, waits, abandoned, abandoned_if, first_number, overdue, finish_by, lost_late, is_late};
 ghost use Rattle.flow_send.specs.Acks.{told, beyond, new_bytes, makes_lost, told_by};
-ghost use Rattle.flow_send.specs.Steady.{Steady, IsGreatest};
+ghost use Rattle.flow_send.specs.Steady.{Steady, IsGreatest, IsBounded};
 ghost use Rattle.flow_send.specs.Choice.{Nothing, Notify, choice, next_choice, notice_due, choice_bytes, chunk_for, within_limit, is_quiet, sent_after};
 ghost use Rattle.flow_send.specs.Picked.{picked, picked_if, IsThere};
 ghost use Rattle.flow_send.specs.Flow.{Flow, flow_options, with_sender, is_finished, queue_refusal, next_message, data_length, chunk_options, chunk_refusal};
@@ -75,6 +75,7 @@ impl Model for FlowSender {
 
 impl FlowSender {
     /// A sender that has sent nothing. Its options are the metadata, and the flow that it answers where there is one.
+    /// Of the priorities 7 is the highest.
     pub fn new(
         alloc: Global,
         id: u64,
@@ -83,7 +84,9 @@ impl FlowSender {
         priority: u8,
         first: u64,
     ) -> Result<FlowSender, Memory>
-        requires { 1 ≤ first }
+        requires metadata { length metadata.now ≤ 64 }
+        requires priority { priority ≤ 7 }
+        requires first { 1 ≤ first }
         ensures { IfOk result (λ f. f ≡ record { id = id; options = flow_options metadata.now answers; priority = priority; sender = new_sender first }) }
     {
         Ok(FlowSender {
@@ -216,6 +219,8 @@ impl FlowSender {
         ensures bytes { result ≡ in_flight self.now.sender.rows }
         // So at any moment the forward number is the greatest one at or below which all is acknowledged or abandoned.
         ensures forward { IsGreatest self.now.sender }
+        // At most 2,097,152 bytes and 65,536 fragments of messages are held, and a fragment has at most 1,000 bytes.
+        ensures bounds { IsBounded self.now.sender }
     {
         self.rows.flight()
     }

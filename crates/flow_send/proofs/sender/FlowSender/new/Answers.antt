@@ -23,7 +23,7 @@ listed c = options_in-spelled (flow_options c.args.metadata.now c.args.answers) 
 
 pub invariant_of-result : goal.invariant_of-result
 invariant_of-result c = (
-  subst Steady (sym (fresh c)) (steady_new c.args.first c.requires c.ranges.first.fits),
+  subst Steady (sym (fresh c)) (steady_new c.args.first c.requires.first c.ranges.first.fits),
   subst (λ (os : List OptionParts). OptionsSpell os c.in_ok-spelled.field-0.items) (sym (listed c)) c.in_ok-spelled.ensures,
   λ none. c.in_ok-new.ensures.room,
 )
