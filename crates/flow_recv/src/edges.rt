@@ -15,7 +15,7 @@ use crate::outcome::{FlowRefusal, Took};
 pub fn last_number()
     ensures at_it { refusal (record (fresh false) { last = Some 5; highest = 5 }) (fragment Whole 5 0 []) ≡ None }
     ensures below_it { refusal (record (fresh false) { last = Some 5; highest = 5 }) (fragment Whole 4 0 []) ≡ None }
-    ensures above_it { refusal (record (fresh false) { last = Some 5; highest = 5 }) (fragment Whole 6 0 []) ≡ Some (FlowRefusal.AfterFinal 5) }
+    ensures above_it { refusal (record (fresh false) { last = Some 5; highest = 4 }) (fragment Whole 6 0 []) ≡ Some (FlowRefusal.AfterFinal 5) }
     ensures marked_again { refusal (record (fresh false) { last = Some 5; highest = 5 }) (marked_last 5) ≡ None }
     ensures marked_below { refusal (record (fresh false) { last = Some 5; highest = 5 }) (marked_last 4) ≡ Some (FlowRefusal.AfterFinal 5) }
     ensures marked_above { refusal (record (fresh false) { last = Some 5; highest = 5 }) (marked_last 6) ≡ Some (FlowRefusal.AfterFinal 5) }

@@ -13,6 +13,3 @@ mod spans;
 
 pub use outcome::{FlowRefusal, Took};
 pub use receiver::FlowReceiver;
-
-#[cfg(test)]
-mod tests;

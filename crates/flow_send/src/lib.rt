@@ -20,6 +20,3 @@ pub use outcome::{AckFault, Acked, NoChunk, NotQueued, QueueRefusal};
 pub use pick::Pick;
 pub use sender::FlowSender;
 pub use waiting::MessageOptions;
-
-#[cfg(test)]
-mod tests;
