@@ -14,7 +14,8 @@ use Rattle.flow_send.specs.Acks.{told_by, greatest}
 use Rattle.rtmfp_data_chunks.specs.HandsOver.{IsIn, HandsOver, HandsOnce}
 use Rattle.flow_exchange.specs.Exchange.{Ack, InRanges, Acknowledges, World, start, Event, Queued, Abandoned, Finished, Sent, Taken, Told as Ack_sent, Heard, Handed, after, Fragment_of, Notice, End_of, MaySend, May, IsNext}
 use Rattle.flow_exchange.specs.Sending.{queues, finishes, abandons, abandons_one, sends}
-use Rattle.flow_exchange.specs.Pair.{Happening, Queues, Abandons, AbandonsFirst, AbandonsOverdue, Finishes, Loses, Sends, Takes, Hands, Acks, Hears, Pair, pair, sender_of, with_sender, refuses, takes, hands_next, span_pair, later_spans, ack_by, hears, happens, exchanged}
+use Rattle.flow_recv.specs.Acking.{later_spans}
+use Rattle.flow_exchange.specs.Pair.{Happening, Queues, Abandons, AbandonsFirst, AbandonsOverdue, Finishes, Loses, Sends, Takes, Hands, Acks, Hears, Pair, pair, sender_of, with_sender, refuses, takes, hands_next, span_pair, ack_by, hears, happens, exchanged}
 use Rattle.flow_exchange.proofs.Handing.{InOrder, in_order_step, in_order_start, in_order_owes, Arriving, arriving_step, arriving_start}
 use Rattle.flow_exchange.proofs.Dropping.{filter_among}
 use Rattle.flow_exchange.proofs.Standing.{Proper, Stood, stands_taken}

@@ -34,7 +34,3 @@ notice = refl
 -- the end
 ended : (exchanged (pair 1 false) (Finishes ∷ Sends 0 1000 ∷ Takes 0 ∷ [])).receiver ≡ record { arriving = false; spans = span 0 1 ∷ []; runs = []; last = Some 1; highest = 1 }
 ended = refl
-
--- a begin whose next number is given up is dropped
-dropped : (exchanged (pair 1 false) (Finishes ∷ Sends 0 1000 ∷ Takes 0 ∷ [])).receiver.runs ≡ []
-dropped = refl

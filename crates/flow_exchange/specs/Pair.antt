@@ -3,6 +3,7 @@ use Rattle.std.specs.Prelude.{ℕ, ◌||◌, if◌then◌else◌, nat_lt, Bool, 
 use Rattle.std.specs.Option.{is_some}
 use Rattle.flow_recv.specs.declared.spans.Span.{Span}
 use Rattle.rtmfp_data_chunks.specs.Runs.{Chunk, Run, message_of}
+use Rattle.flow_recv.specs.Acking.{later_spans}
 use Rattle.flow_recv.specs.Receiver.{Receiver, fresh, taken, after_final, beyond_buffer, end_of_first, next_run, handed_next}
 use Rattle.flow_send.specs.declared.waiting.MessageOptions.{MessageOptions}
 use Rattle.flow_send.specs.Sender.{Sender, new_sender, first_number, overdue, lost_late}
@@ -55,10 +56,6 @@ hands_next p (Some y) = record { sender = p.sender; receiver = handed_next p.rec
 -- the ack tells the end of the first span, and some of the others
 abbrev pub span_pair : Span → ℕ × ℕ
 span_pair s = (s.first, s.last)
-
-abbrev pub later_spans : List Span → List Span
-later_spans [] = []
-later_spans (s ∷ later) = later
 
 abbrev pub ack_by : Receiver → ℕ → Ack
 ack_by r pairs = record { upto = end_of_first r.spans; ranges = map span_pair (take pairs (later_spans r.spans)) }

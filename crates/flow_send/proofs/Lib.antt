@@ -12,4 +12,5 @@ pub mod Queuings
 pub mod Chosen
 pub mod Quiet
 pub mod Standings
+pub mod Resends
 pub mod Calling

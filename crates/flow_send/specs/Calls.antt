@@ -1,10 +1,11 @@
 -- Any calls of a sender, one after another, and what they did.
-use Rattle.std.specs.Prelude.{ℕ, ◌≡◌, ◌+◌, ◌-◌, ◌^◌, ◌<◌, ◌≤◌, nat_lt, min, max, not, Bool, true, false, ◌&&◌, ◌||◌, List, [], ◌∷◌, Option, Some, None, length}
+use Rattle.std.specs.Prelude.{ℕ, ◌≡◌, ◌+◌, ◌-◌, ◌^◌, ◌<◌, ◌≤◌, ◌==◌, nat_lt, min, max, not, if◌then◌else◌, Bool, true, false, ◌&&◌, ◌||◌, List, [], ◌∷◌, Option, Some, None, length}
 use Rattle.rtmfp_data_chunks.specs.Fragments.{Message}
+use Rattle.flow_send.specs.declared.state.State.{State}
 use Rattle.flow_send.specs.declared.waiting.MessageOptions.{MessageOptions}
 use Rattle.flow_send.specs.declared.waiting.Waiting.{Waiting}
 use Rattle.flow_send.specs.declared.outcome.QueueRefusal.{QueueRefusal}
-use Rattle.flow_send.specs.Rows.{Row, is_acknowledged, is_abandoned}
+use Rattle.flow_send.specs.Rows.{Row, is_unsent, is_flying, is_lost, is_acknowledged, is_abandoned}
 use Rattle.flow_send.specs.Sender.{Sender, new_sender, next_of, queued, message_at, has_number, abandoned, finished, lost_late}
 use Rattle.flow_send.specs.Choice.{Choice, Nothing, Send, Notify, choice, sent_after}
 use Rattle.flow_send.specs.Acks.{Told, tells, beyond, told_by}
@@ -91,6 +92,24 @@ greatest_sent first (Sent n moment ∷ earlier) = max (greatest_sent first earli
 greatest_sent first (Noticed n moment ∷ earlier) = max (greatest_sent first earlier) n
 greatest_sent first (_ ∷ earlier) = greatest_sent first earlier
 
+-- how many sendings there were, and how many of number n
+abbrev pub sendings : List Done → ℕ
+sendings [] = 0
+sendings (Sent n moment ∷ earlier) = sendings earlier + 1
+sendings (Noticed n moment ∷ earlier) = sendings earlier + 1
+sendings (_ ∷ earlier) = sendings earlier
+
+abbrev pub times_sent : List Done → ℕ → ℕ
+times_sent [] n = 0
+times_sent (Sent k moment ∷ earlier) n = if k == n then times_sent earlier n + 1 else times_sent earlier n
+times_sent (_ ∷ earlier) n = times_sent earlier n
+
+-- the moment of the last one of number n, and its place in the order of all sendings, where counts stand still at 64 bits
+abbrev pub last_sending : List Done → ℕ → Option (ℕ × ℕ)
+last_sending [] n = None
+last_sending (Sent k moment ∷ earlier) n = if k == n then Some (moment, min (sendings earlier + 1) (2 ^ 64 - 1)) else last_sending earlier n
+last_sending (_ ∷ earlier) n = last_sending earlier n
+
 -- the moment of the last notice
 abbrev pub last_notice : List Done → Option ℕ
 last_notice [] = None
@@ -128,6 +147,7 @@ pub record TellsLast (first : ℕ) (w : Sending) : Type 0 where
   pub sent : w.sender.sent ≡ greatest_sent first w.done
   pub notice : w.sender.notice ≡ last_notice w.done
   pub finish : w.sender.finish ≡ end_number w.done
+  pub order : w.sender.order ≡ min (sendings w.done) (2 ^ 64 - 1)
 
 -- a number is acknowledged exactly where a heard ack tells it, and abandoned exactly where else it is one of an abandoned message
 pub record Stands (done : List Done) (n : ℕ) (r : Row) : Type 0 where
@@ -138,6 +158,21 @@ abbrev pub AllStand : List Done → ℕ → List Row → Type 0
 AllStand done n [] = Unit {0}
 AllStand done n (r ∷ rows) = Stands done n r × AllStand done (n + 1) rows
 
+-- it was sent, and is neither settled nor to be sent for the first time
+abbrev pub is_out : State → Bool
+is_out state = is_flying state || is_lost state
+
+-- Each sending of a number but the first follows a loss. The resends are those, where counts stand still at 32 bits
+pub record SentAs (done : List Done) (n : ℕ) (r : Row) : Type 0 where
+  pub unsent : is_unsent r.state ≡ true → times_sent done n ≡ 0
+  pub some : is_out r.state ≡ true → 1 ≤ times_sent done n
+  pub resends : r.resends ≡ min (times_sent done n - 1) (2 ^ 32 - 1)
+  pub last : is_out r.state ≡ true → last_sending done n ≡ Some (r.moment, r.place)
+
+abbrev pub AllSent : List Done → ℕ → List Row → Type 0
+AllSent done n [] = Unit {0}
+AllSent done n (r ∷ rows) = SentAs done n r × AllSent done (n + 1) rows
+
 -- the forward number is the greatest one at or below which all is over: the number after it isn't, or isn't given yet
 pub record IsForward (first : ℕ) (w : Sending) : Type 0 where
   pub over : (n : ℕ) → n ≤ w.sender.forward → is_over first w.done n ≡ true
@@ -146,4 +181,5 @@ pub record IsForward (first : ℕ) (w : Sending) : Type 0 where
 pub record StandsFor (first : ℕ) (w : Sending) : Type 0 where
   pub last : TellsLast first w
   pub rows : AllStand w.done (w.sender.forward + 1) w.sender.rows
+  pub sent : AllSent w.done (w.sender.forward + 1) w.sender.rows
   pub forward : IsForward first w

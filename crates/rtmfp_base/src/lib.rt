@@ -6,6 +6,3 @@ mod message;
 
 pub use memory::Memory;
 pub use message::Message;
-
-#[cfg(test)]
-mod tests;

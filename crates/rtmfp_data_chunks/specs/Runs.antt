@@ -154,15 +154,6 @@ abbrev pub has_number : ℕ → List Message → Bool
 has_number n [] = false
 has_number n (m ∷ ms) = if m.number == n then true else has_number n ms
 
-abbrev pub not_in : List Message → Message → Bool
-not_in ms m = not (has_number m.number ms)
-
--- in arrival order: all whole runs, in the order in which chunks made them whole
-unfoldable pub handed_as_made : List Chunk → List Message
-handed_as_made [] = []
-handed_as_made (c ∷ earlier) =
-    handed_as_made earlier ++ filter (not_in (handed_as_made earlier)) (map message_of (filter is_whole (runs_of (c ∷ earlier))))
-
 -- a run that isn't dead and hasn't been handed over
 abbrev pub is_kept : List Chunk → List Message → Run → Bool
 is_kept taken handed y = if is_dead (missing_of taken) y then false else not (has_number y.first handed)

@@ -1,4 +1,6 @@
-use super::*;
+//! Bytes that a value owns.
+
+use rtmfp_base::{Memory, Message};
 
 #[test]
 fn a_copy_has_the_same_bytes(rt: HostRuntime) -> Result<(), Memory> {

@@ -1,6 +1,8 @@
+//! A receiver of a flow.
+
 ghost use Rattle.std.specs.Prelude.{◌≡◌, ◌≤◌, false};
 
-use super::*;
+use flow_recv::{FlowReceiver, FlowRefusal, Took};
 use rtmfp_base::Memory;
 use rtmfp_data_chunks::{Part, UserData};
 use rtmfp_forms::{NoRoom, Outgoing};
@@ -82,6 +84,43 @@ fn nothing_is_taken_after_the_last_number(rt: HostRuntime) {
         ..fragment(2, Part::Whole, &[])
     };
     assert_eq!(rt; flow.take(&notice), Ok(Took::ForwardOnly));
+}
+
+/// What an ack tells beside its flow, 2: the free blocks, and the number at or below which none is missing.
+fn told(flow: &FlowReceiver) -> Option<(u8, u8, u8)> {
+    let mut out = Outgoing::new(0x03);
+    match flow.ack_into(2, &mut out) {
+        Ok(()) => match out.bytes() {
+            [_, 0x51, 0, _, 2, high, low, through, ..] => Some((*high, *low, *through)),
+            _ => None,
+        },
+        Err(NoRoom) => None,
+    }
+}
+
+#[test]
+fn a_forward_number_drops_the_runs_that_it_ends(rt: HostRuntime) {
+    let mut flow = FlowReceiver::new(rt.alloc(), 0);
+    for (seq, part) in [(2, Part::Whole), (4, Part::Begin)] {
+        assert_eq!(rt;
+            flow.take(&fragment(seq, part, &[0x55; 600])),
+            Ok(Took::New)
+        );
+    }
+    // 1,200 bytes are held, so that 2,046 blocks are free.
+    assert_eq!(rt; told(&flow), Some((0x8f, 0x7e, 0)));
+    let notice = UserData {
+        abandon: true,
+        seq: 5,
+        forward: 5,
+        ..fragment(5, Part::Whole, &[])
+    };
+    assert_eq!(rt; flow.take(&notice), Ok(Took::ForwardOnly));
+    // The begin lacks its next number, which is given up. The whole one stays, and is ready.
+    assert_eq!(rt; told(&flow), Some((0x8f, 0x7f, 5)));
+    assert_eq!(rt; next(&mut flow), Some((2, Some(0x55))));
+    assert_eq!(rt; told(&flow), Some((0x90, 0x00, 5)));
+    assert_eq!(rt; next(&mut flow), None);
 }
 
 #[test]

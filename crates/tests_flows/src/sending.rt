@@ -1,4 +1,8 @@
-use super::*;
+//! A sender of a flow.
+
+use flow_send::{
+    AckFault, Acked, FlowSender, MessageOptions, NoChunk, NotQueued, Pick, QueueRefusal,
+};
 use rtmfp_base::Memory;
 use rtmfp_data_chunks::AckedRanges;
 use std::alloc::Global;
@@ -8,8 +12,8 @@ const PLAIN: MessageOptions = MessageOptions {
     resends: None,
 };
 
-fn new_flow(alloc: Global, metadata: &[u8]) -> Result<FlowSender, Memory> {
-    FlowSender::new(alloc, 2, metadata, None, 0, 1)
+fn new_flow(alloc: Global) -> Result<FlowSender, Memory> {
+    FlowSender::new(alloc, 2, &[], None, 0, 1)
 }
 
 /// Sends all that is next, with no limit, and counts the chunks.
@@ -31,7 +35,7 @@ fn send_all(flow: &mut FlowSender, moment: u64) -> u64 {
 fn messages_are_refused_at_these_limits(rt: HostRuntime) -> Result<(), Memory> {
     let mut largest = Vec::new(rt.alloc());
     largest.resize(1_048_577, 0x55)?;
-    let mut flow = new_flow(rt.alloc(), &[])?;
+    let mut flow = new_flow(rt.alloc())?;
     assert_eq!(rt;
         flow.queue(largest.as_slice(), PLAIN),
         Err(QueueRefusal::TooLong(1_048_576))
@@ -90,8 +94,19 @@ fn chunks_come_at_these_limits(rt: HostRuntime) -> Result<(), Memory> {
 }
 
 #[test]
+fn room_counts_the_distance_of_the_forward_number(rt: HostRuntime) -> Result<(), Memory> {
+    // Number 201 takes two bytes and its distance from 200 one: a head of 4 bytes, 1 + 2 + 1, and the fragment.
+    let mut flow = FlowSender::new(rt.alloc(), 2, &[], None, 0, 201)?;
+    assert_eq!(rt; flow.queue(&[0x55; 4], PLAIN), Ok(201));
+    let no_room = flow.next_chunk(false, 11, 0, 4, 0, 1000);
+    assert_eq!(rt; no_room, Err(NoChunk::Room));
+    assert_eq!(rt; flow.next_chunk(false, 12, 0, 4, 0, 1000), Ok(Pick::Row(0)));
+    Ok(())
+}
+
+#[test]
 fn acks_tell_of_what_was_sent(rt: HostRuntime) -> Result<(), Memory> {
-    let mut flow = new_flow(rt.alloc(), &[])?;
+    let mut flow = new_flow(rt.alloc())?;
     for _ in 0..5 {
         assert!(rt; flow.queue(&[0x55; 10], PLAIN).is_ok());
     }
@@ -119,7 +134,7 @@ fn acks_tell_of_what_was_sent(rt: HostRuntime) -> Result<(), Memory> {
 
 #[test]
 fn messages_are_abandoned_while_they_wait(rt: HostRuntime) -> Result<(), Memory> {
-    let mut flow = new_flow(rt.alloc(), &[])?;
+    let mut flow = new_flow(rt.alloc())?;
     let late = MessageOptions {
         deadline: Some(50),
         ..PLAIN

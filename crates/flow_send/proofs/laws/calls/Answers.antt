@@ -9,3 +9,6 @@ returns-clause-rows c first cs one fits = (stands first cs one fits).rows
 
 pub returns-clause-forward : goal.returns-clause-forward
 returns-clause-forward c first cs one fits = (stands first cs one fits).forward
+
+pub returns-clause-sent : goal.returns-clause-sent
+returns-clause-sent c first cs one fits = (stands first cs one fits).sent
