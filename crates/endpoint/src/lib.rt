@@ -21,10 +21,6 @@ mod sending;
 mod session_ids;
 mod session_sending;
 mod sessions;
-#[cfg(test)]
-mod startup_tests;
-#[cfg(test)]
-mod tests;
 mod ticking;
 
 pub use answers::{CallRefusal, OpenRefusal, Stopped};

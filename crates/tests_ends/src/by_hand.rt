@@ -1,7 +1,7 @@
 //! Two ends by hand, datagram by datagram, and datagrams that a member of the group makes.
 
-use crate::{Config, Draws, Endpoint, Entry, Outbox, outgoing_kinds};
 use crypto_profile::{Context, Keys, open_in_place, seal_in_place};
+use endpoint::{Config, Draws, Endpoint, Entry, Outbox, outgoing_kinds};
 use glare_core::Fact;
 use identity::{CertFault, Certificate, Epd};
 use packet_scramble::{scramble, unscramble};
@@ -50,12 +50,12 @@ pub(crate) fn draws(word: u32) -> Draws {
 /// A datagram on its way.
 #[derive(Clone, Copy)]
 pub(crate) struct Letter {
-    bytes: [u8; 2048],
-    len: usize,
+    pub(crate) bytes: [u8; 2048],
+    pub(crate) len: usize,
 }
 
 impl Letter {
-    fn of(datagram: &[u8]) -> Letter {
+    pub(crate) fn of(datagram: &[u8]) -> Letter {
         let mut bytes = [0; 2048];
         let len = datagram.len().min(2048);
         for i in 0..len {
@@ -84,7 +84,7 @@ fn kind_of(datagram: &[u8], context: &Context) -> u8 {
 }
 
 /// The entries of an outbox in one line.
-fn text_of(alloc: Global, out: &Outbox) -> Result<String, AllocError> {
+pub(crate) fn text_of(alloc: Global, out: &Outbox) -> Result<String, AllocError> {
     let mut text = String::new(alloc);
     for entry in out.entries() {
         let word = match entry {
@@ -110,7 +110,7 @@ fn text_of(alloc: Global, out: &Outbox) -> Result<String, AllocError> {
 }
 
 /// The last datagram of an outbox.
-fn last_of(out: &Outbox) -> Letter {
+pub(crate) fn last_of(out: &Outbox) -> Letter {
     let mut last = Letter::of(&[]);
     for entry in out.entries() {
         if let Entry::Out { datagram, .. } = entry {

@@ -3,12 +3,12 @@
 ghost use Rattle.rtmfp_chunks.specs.Chunk.{chunk_of};
 ghost use Rattle.rtmfp_chunks.specs.Writing.{IsWritable};
 
-use crate::tests::{
+use crate::by_hand::{
     ANSWERER, CALLER, GROUP, answers, draws, end, epd_of, hello_of, passes, place, sealed,
 };
-use crate::{Config, Endpoint};
 use cookies::CookieMaker;
 use crypto_profile::{Context, hmac, sign_key};
+use endpoint::{Config, Endpoint};
 use identity::{CertFault, Certificate};
 use rtmfp_chunks::{ChunkView, write_chunk};
 use rtmfp_forms::Outgoing;
