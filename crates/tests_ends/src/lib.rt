@@ -6,6 +6,8 @@ mod by_hand;
 #[cfg(test)]
 mod handshake;
 #[cfg(test)]
+mod library;
+#[cfg(test)]
 mod refusals;
 #[cfg(test)]
 mod rows;
