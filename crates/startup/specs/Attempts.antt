@@ -46,16 +46,15 @@ has_cookie cookie a = is_cookie_of cookie a.stage
 -- ---- changing what is kept
 
 abbrev pub with_ledger : StartupState → Ledger → StartupState
-with_ledger s ledger = record { cert = s.cert; secret = s.secret; cookie_secret = s.cookie_secret; ledger = ledger; attempts = s.attempts }
+with_ledger s ledger = record s { ledger = ledger }
 
 -- an attempt put under its near id
 abbrev pub with_attempt : StartupState → ℕ → AttemptState → StartupState
-with_attempt s near a = record { cert = s.cert; secret = s.secret; cookie_secret = s.cookie_secret; ledger = s.ledger; attempts = insert s.attempts near a }
+with_attempt s near a = record s { attempts = insert s.attempts near a }
 
 -- a fact noted, and the attempt with this near id forgotten
 abbrev pub without_attempt : StartupState → ℕ → Fact → StartupState
-without_attempt s near fact =
-    record { cert = s.cert; secret = s.secret; cookie_secret = s.cookie_secret; ledger = noted s.ledger fact; attempts = remove s.attempts near }
+without_attempt s near fact = record s { ledger = noted s.ledger fact; attempts = remove s.attempts near }
 
 -- ---- packets
 
@@ -168,18 +167,7 @@ rhello_cause s tag cookie cert = hello_cause_among s.attempts tag cookie (sha256
 
 -- an attempt that was answered, from an address with a cookie
 abbrev pub answered : AttemptState → AddressParts → List ℕ → ℕ → AttemptState
-answered a from cookie moment =
-    record {
-      peer = a.peer;
-      n = a.n;
-      ni = a.ni;
-      tag = a.tag;
-      start = a.start;
-      candidates = a.candidates;
-      stage = Keying from cookie;
-      last = moment;
-      gap = 0;
-    }
+answered a from cookie moment = record a { stage = Keying from cookie; last = moment; gap = 0 }
 
 abbrev pub after_answer : StartupState → Option (ℕ × AttemptState) → AddressParts → List ℕ → ℕ → StartupState
 after_answer s None from cookie moment = s
@@ -224,18 +212,7 @@ with_cookie cookie (Keying at old) = Keying at cookie
 
 -- an attempt that sends its keying with another cookie
 abbrev pub recookied : AttemptState → List ℕ → ℕ → AttemptState
-recookied a cookie moment =
-    record {
-      peer = a.peer;
-      n = a.n;
-      ni = a.ni;
-      tag = a.tag;
-      start = a.start;
-      candidates = a.candidates;
-      stage = with_cookie cookie a.stage;
-      last = moment;
-      gap = a.gap;
-    }
+recookied a cookie moment = record a { stage = with_cookie cookie a.stage; last = moment }
 
 abbrev pub after_change : StartupState → Option (ℕ × AttemptState) → List ℕ → ℕ → StartupState
 after_change s None cookie moment = s

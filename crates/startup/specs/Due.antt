@@ -32,18 +32,7 @@ is_due moment a = is_over moment a || is_repeat_due moment a
 
 -- a repeat is sent: the next one comes a longer gap later
 abbrev pub repeated : AttemptState → ℕ → AttemptState
-repeated a moment =
-    record {
-      peer = a.peer;
-      n = a.n;
-      ni = a.ni;
-      tag = a.tag;
-      start = a.start;
-      candidates = a.candidates;
-      stage = a.stage;
-      last = moment;
-      gap = min (a.gap + 1) 4;
-    }
+repeated a moment = record a { last = moment; gap = min (a.gap + 1) 4 }
 
 -- what is sent again: the hellos to all candidates, or the keying, under the signature key with the own certificate
 abbrev pub repeat_signed : List ℕ → List ℕ → ℕ → AttemptState → Stage → Due

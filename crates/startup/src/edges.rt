@@ -17,8 +17,8 @@ ghost use Rattle.startup.specs.declared.cause.Cause.{Cause};
 ghost use Rattle.startup.specs.declared.cause.Cause.TheVariants.{BadCookie, BadSignature, Malformed, NoAttempt, OwnCertificate, SessionsFull as CauseFull, Wide, WrongPeer, WrongResponder, WrongState};
 ghost use Rattle.startup.specs.declared.answer.Due.TheVariants.{Ended as EndDue, Hello as HelloDue, Keying as KeyingDue};
 ghost use Rattle.startup.specs.State.{AttemptState, Attempts, StartupState};
-ghost use Rattle.startup.specs.Attempts.{answered, begun_attempt, change_cause_among, changed, ended_attempt, has_tag, hello_cause, hello_cause_among, keying_signed, lowest, places_of, recookied, wide};
-ghost use Rattle.startup.specs.Due.{due_of, gap_of, is_over, is_repeat_due, repeat_signed, repeated, sends};
+ghost use Rattle.startup.specs.Attempts.{after_answer, after_change, answered, begun_attempt, change_cause_among, changed, ended_attempt, has_tag, hello_cause, hello_cause_among, keying_signed, lowest, places_of, recookied, wide, with_attempt, without_attempt};
+ghost use Rattle.startup.specs.Due.{after_due_of, due_of, gap_of, is_over, is_repeat_due, repeat_signed, repeated, sends};
 ghost use Rattle.startup.specs.Keyings.{InitiatorKeying, ResponderKeying, attempt_cause, cert_offset, change_answer, cookie_cause, formed_initiator, formed_responder, heard_cause, initiator_cause, initiator_hello_answer, is_own, keying_of, named_cause, responder_cause, session_answer};
 ghost use Rattle.startup.specs.Refusals.{rhello_refusal_with};
 ghost use Rattle.startup.specs.Packets.{cookiechange_packet, ihello_packet, iikeying_signed, initiator_part, initiator_part_in, is_signed, responder_part, responder_part_in, rhello_packet, rikeying_packet};
@@ -45,6 +45,8 @@ pub fn an_attempt_is_over_after_95_seconds()
     ensures over { (a : AttemptState) → is_over 96000 (timed 1000 90000 4 a) ≡ true }
     ensures last_repeat { (s : StartupState) (a : AttemptState) → due_of s 95999 (Some (5, in_hello (timed 1000 90000 4 a))) ≡ Some (HelloDue (record { to = a.candidates; plain = ihello_packet (1 ∷ a.peer) a.tag })) }
     ensures end { (s : StartupState) (a : AttemptState) → due_of s 96000 (Some (5, in_hello (timed 1000 90000 4 a))) ≡ Some (EndDue (ended_attempt (5, a) LastedTooLong)) }
+    ensures after_end { (s : StartupState) (a : AttemptState) → after_due_of s 96000 (Some (5, timed 1000 90000 4 a)) ≡ without_attempt s 5 (ended_attempt (5, a) LastedTooLong) }
+    ensures after_repeat { (s : StartupState) (a : AttemptState) → after_due_of s 95999 (Some (5, timed 1000 90000 4 a)) ≡ with_attempt s 5 (timed 1000 95999 4 a) }
     ensures nothing_sent { (a : AttemptState) → sends 96000 (timed 1000 90000 4 a) ≡ 0 }
 {}
 
@@ -64,6 +66,7 @@ pub fn an_attempt_begins_with_its_hello()
 
 /// An answer begins the keying stage: its gaps begin anew at 1,000 ms, and the attempt lasts as long as before.
 pub fn the_keying_stage_begins_again_at_the_first_gap()
+    ensures kept { (s : StartupState) (a : AttemptState) (from : AddressParts) (cookie : List ℕ) (moment : ℕ) → after_answer s (Some (5, a)) from cookie moment ≡ with_attempt s 5 (answered a from cookie moment) }
     ensures answered { (a : AttemptState) (from : AddressParts) (cookie : List ℕ) → answered (in_hello (timed 0 1000 3 a)) from cookie 3000 ≡ in_keying from cookie (timed 0 3000 0 a) }
     ensures before { (a : AttemptState) (from : AddressParts) (cookie : List ℕ) → is_repeat_due 3999 (answered (timed 0 1000 3 a) from cookie 3000) ≡ false }
     ensures again { (a : AttemptState) (from : AddressParts) (cookie : List ℕ) → is_repeat_due 4000 (answered (timed 0 1000 3 a) from cookie 3000) ≡ true }
@@ -71,6 +74,7 @@ pub fn the_keying_stage_begins_again_at_the_first_gap()
 
 /// A change of a cookie counts as a sending, and leaves the gap as it was: only a repeat goes on to the next one.
 pub fn a_change_of_a_cookie_counts_as_a_sending()
+    ensures kept { (s : StartupState) (a : AttemptState) (cookie : List ℕ) (moment : ℕ) → after_change s (Some (5, a)) cookie moment ≡ with_attempt s 5 (recookied a cookie moment) }
     ensures changed { (a : AttemptState) (at : AddressParts) (old new : List ℕ) → recookied (in_keying at old (timed 0 1000 2 a)) new 3000 ≡ in_keying at new (timed 0 3000 2 a) }
     ensures before { (a : AttemptState) (at : AddressParts) (old new : List ℕ) → is_repeat_due 5249 (recookied (in_keying at old (timed 0 1000 2 a)) new 3000) ≡ false }
     ensures again { (a : AttemptState) (at : AddressParts) (old new : List ℕ) → is_repeat_due 5250 (recookied (in_keying at old (timed 0 1000 2 a)) new 3000) ≡ true }
