@@ -15,8 +15,6 @@ use std::marker::Model;
 
 pub mod edges;
 pub mod laws;
-#[cfg(test)]
-mod tests;
 
 const MOMENT_LEN: usize = 8;
 

@@ -11,8 +11,6 @@ mod keys;
 pub mod laws;
 mod mac;
 mod sealing;
-#[cfg(test)]
-mod tests;
 mod window;
 
 pub use comparing::same_bytes;

@@ -8,8 +8,6 @@ mod given;
 pub mod laws;
 mod peers;
 mod rows;
-#[cfg(test)]
-mod tests;
 
 pub use answers::{HearRefusal, Heard, Keying, StartRefusal};
 pub use facts::{Fact, Held, Joined, Why};

@@ -6,8 +6,6 @@ mod discriminator;
 pub mod edges;
 pub mod laws;
 mod order;
-#[cfg(test)]
-mod tests;
 
 pub use cert::{CertFault, Certificate};
 pub use discriminator::Epd;

@@ -57,6 +57,3 @@ pub fn unscramble(ssid: u32, sealed: &[u8]) -> u32
 {
     ssid ^ first_word_of(sealed) ^ second_word_of(sealed)
 }
-
-#[cfg(test)]
-mod tests;

@@ -12,8 +12,6 @@ mod sealing;
 mod session;
 mod stage;
 mod stamps;
-#[cfg(test)]
-mod tests;
 mod trips;
 
 pub use hearing::Unheard;

@@ -20,10 +20,6 @@ mod refusing;
 mod rows;
 mod sending;
 mod startup;
-#[cfg(test)]
-mod tests_attempts;
-#[cfg(test)]
-mod tests_keying;
 
 pub use answer::{Answer, Due, KeyRefusal, Keyed, Spread};
 pub use cause::Cause;

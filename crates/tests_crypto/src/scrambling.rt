@@ -1,4 +1,6 @@
-use crate::{scramble, unscramble};
+//! Session IDs scrambled by hand.
+
+use packet_scramble::{scramble, unscramble};
 
 #[test]
 fn a_session_id_is_scrambled_by_two_words(rt: HostRuntime) {

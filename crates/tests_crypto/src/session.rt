@@ -1,7 +1,10 @@
-use crate::{Role, Session, SessionDue, Stage, Unheard};
+//! Packets between the two ends of a session, and a session's times.
+
 use glare_core::Joined;
+use packet_scramble::{scramble, unscramble};
 use rtmfp_forms::{Address, Outgoing};
 use rtmfp_packet::{Mode, PacketHead, begin_packet};
+use session_core::{Role, Session, SessionDue, Stage, Unheard};
 
 const INITIATOR: [u8; 32] = [3; 32];
 
@@ -54,18 +57,75 @@ fn ping(session: &Session, moment: u64) -> Outgoing {
     packet
 }
 
-// The value is that of another program, over Python's hmac.
+/// The datagrams that scripts/baseline/vectors.py computes: a ping of the initiator at 1,000 ms, and the responder's answer at
+/// 1,500 ms.
+const PING: &[u8] =
+    b"\xc4\x12\xea\xfe\x4d\x22\x39\x4f\x89\x30\xd3\xb7\x2d\xe8\x6d\x57\xec\x51\x92\x01\x00\x00\x00\x00\x00\x00\x00\x00\x00\x00\x00\x00\x00\x00\x00\x01\xc7\xab\x50\xc4\x8e\xe6";
+
+const PINGREPLY: &[u8] =
+    b"\xee\x22\x51\x64\x82\xe2\xa8\x4b\x6c\xc0\xf9\x2a\xc3\x45\xb8\x68\x11\xcd\x86\x95\x00\x00\x00\x00\x00\x00\x00\x00\x00\x00\x00\x00\x00\x00\x00\x01\x20\xb3\x04\xe9\x13\x22\x94\xbb";
+
+/// The sealed part of the ping.
+const PING_PART: &[u8; 38] =
+    b"\x4d\x22\x39\x4f\x89\x30\xd3\xb7\x2d\xe8\x6d\x57\xec\x51\x92\x01\x00\x00\x00\x00\x00\x00\x00\x00\x00\x00\x00\x00\x00\x00\x00\x01\xc7\xab\x50\xc4\x8e\xe6";
+
+/// The same ping under a number that has a byte other than 0 among its first 8, sealed under the right keys.
+const PING_OF_NO_SESSION: &[u8; 38] =
+    b"\xf1\xfc\x2d\xf9\x3a\xb7\x96\x51\x69\x13\x90\x09\x8a\x65\x36\xdd\x00\x00\x00\x00\x00\x00\x00\x01\x00\x00\x00\x00\x00\x00\x00\x01\x46\x60\x3a\x29\xfa\xbc";
+
+// Whether the session's next packet is this datagram, under the session ID at the other end.
+fn is_sent(session: &mut Session, packet: &Outgoing, far: u32, expected: &[u8]) -> bool {
+    let mut out = [9u8; 1200];
+    let Some(len) = session.seal(packet, &mut out) else {
+        return false;
+    };
+    if len < 4 || len > 1200 {
+        return false;
+    }
+    let ssid = scramble(far, &out[4..len]);
+    out[..4].copy_from_slice(&ssid.to_be_bytes());
+    out[..len] == expected[..]
+}
+
 #[test]
-fn a_first_packet_is_that_of_another_program(rt: HostRuntime) {
+fn datagrams_are_those_of_another_program(rt: HostRuntime) {
+    let mut first = initiator();
+    let packet = ping(&first, 1000);
+    assert!(rt; is_sent(&mut first, &packet, 6, PING));
+    let mut second = responder();
+    let taken = PacketHead {
+        critical: false,
+        reverse: false,
+        stamp: Some(250),
+        echo: None,
+        mode: Mode::Initiator,
+    };
+    second.take_stamps(&taken, 1000);
+    let mut reply = begin_packet(&second.head(1500));
+    assert!(rt; reply.put(&[0x41, 0, 0]).is_ok());
+    assert!(rt; is_sent(&mut second, &reply, 5, PINGREPLY));
+    assert!(rt; unscramble(0xee22_5164, PINGREPLY.get(4..).unwrap_or(&[])) == 5);
+}
+
+#[test]
+fn a_sealed_packet_leaves_the_bytes_beside_it(rt: HostRuntime) {
     let mut session = initiator();
     let packet = ping(&session, 1000);
     let mut out = [9u8; 1200];
     assert!(rt; session.seal(&packet, &mut out) == Some(42));
-    let sealed =
-        b"\x4d\x22\x39\x4f\x89\x30\xd3\xb7\x2d\xe8\x6d\x57\xec\x51\x92\x01\x00\x00\x00\x00\x00\x00\x00\x00\x00\x00\x00\x00\x00\x00\x00\x01\xc7\xab\x50\xc4\x8e\xe6";
-    assert!(rt; out[4..42] == sealed[..]);
     assert!(rt; out[..4] == [9; 4]);
-    assert!(rt; out[42] == 9);
+    assert!(rt; out[42..] == [9; 1158][..]);
+}
+
+#[test]
+fn a_number_of_no_session_is_a_bad_tag(rt: HostRuntime) {
+    let mut session = responder();
+    let mut part = *PING_OF_NO_SESSION;
+    assert!(rt; !session.opens(&part));
+    assert!(rt; session.hear(&mut part) == Err(Unheard::BadTag));
+    assert!(rt; part[..] == PING_OF_NO_SESSION[..]);
+    let mut other = *PING_PART;
+    assert!(rt; session.hear(&mut other) == Ok(32..38));
 }
 
 // The sealed part of an end's ping.
@@ -222,4 +282,67 @@ fn round_trips_and_losses_are_counted(rt: HostRuntime) {
     assert!(rt; session.window() == 524_288);
     session.lost(true);
     assert!(rt; session.window() == 4380);
+}
+
+#[test]
+fn a_session_takes_and_closes_at_its_moments(rt: HostRuntime) {
+    let mut session = initiator();
+    session.take_stamps(&echo_head(0), 100_000);
+    assert!(rt; session.due(219_999) == None);
+    assert!(rt; session.due(220_000) == Some(SessionDue::Idle));
+    assert!(rt; session.stage() == Stage::Closed);
+    assert!(rt; session.due(u64::MAX) == None);
+    let mut closed = initiator();
+    assert!(rt; closed.close(2000));
+    assert!(rt; closed.due(87_000) == Some(SessionDue::RepeatClose));
+    assert!(rt; closed.due(91_999) == None);
+    assert!(rt; closed.due(92_000) == Some(SessionDue::Over));
+    assert!(rt; closed.stage() == Stage::Closed);
+    assert!(rt; closed.due(u64::MAX) == None);
+}
+
+#[test]
+fn a_head_without_a_stamp_keeps_the_echo(rt: HostRuntime) {
+    let mut session = initiator();
+    let stamped = PacketHead {
+        stamp: Some(7),
+        ..echo_head(0)
+    };
+    session.take_stamps(&stamped, 1000);
+    session.take_stamps(&echo_head(0), 2000);
+    assert!(rt; session.head(2004).echo == Some(258));
+}
+
+// The resend time after one echo that is so many units before the moment.
+fn resend_of(units: u16) -> u64 {
+    let mut session = initiator();
+    session.take_stamps(&echo_head(250u16.wrapping_sub(units)), 1000);
+    session.resend_after()
+}
+
+#[test]
+fn a_resend_time_has_its_limits(rt: HostRuntime) {
+    assert!(rt; resend_of(0) == 250);
+    assert!(rt; resend_of(4) == 250);
+    assert!(rt; resend_of(5) == 260);
+    assert!(rt; resend_of(816) == 9992);
+    assert!(rt; resend_of(817) == 10_000);
+    assert!(rt; resend_of(32_767) == 10_000);
+    assert!(rt; resend_of(32_768) == 1000);
+}
+
+#[test]
+fn a_window_grows_to_its_threshold_and_then_slowly(rt: HostRuntime) {
+    let mut session = initiator();
+    session.acknowledged(100_000);
+    session.acknowledged(1000);
+    assert!(rt; session.window() == 105_380);
+    session.acknowledged(u64::MAX);
+    session.lost(false);
+    assert!(rt; session.window() == 524_288);
+    session.lost(true);
+    session.acknowledged(300_000);
+    assert!(rt; session.window() == 304_380);
+    session.acknowledged(1000);
+    assert!(rt; session.window() == 304_383);
 }

@@ -1,4 +1,6 @@
-use crate::{CookieMaker, CookieTest};
+//! Cookies, and what their tests answer at the limits.
+
+use cookies::{CookieMaker, CookieTest};
 use rtmfp_forms::Address;
 
 fn maker() -> CookieMaker {

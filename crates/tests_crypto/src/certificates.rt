@@ -1,6 +1,6 @@
 //! Outside vectors: the digests of three texts, and the forms at their edges.
 
-use crate::{CertFault, Certificate, Epd, prevails};
+use identity::{CertFault, Certificate, Epd, prevails};
 use std::test::Fail;
 
 const FOX: &[u8] = b"The quick brown fox jumps over the lazy dog";

@@ -3,10 +3,10 @@
 ghost use Rattle.std.specs.Prelude.{ℕ, ◌≡◌, None, IfOk};
 ghost use Rattle.std.specs.FinMap.{get};
 
-use crate::{Due, Startup};
 use glare_core::{Fact, Why};
 use identity::{CertFault, Certificate, Epd};
 use rtmfp_forms::Address;
+use startup::{Due, Startup};
 use std::alloc::Global;
 use std::test::Fail;
 
@@ -97,5 +97,51 @@ fn gaps_grow_until_the_end(rt: HostRuntime) -> Result<(), Fail> {
     assert_eq!(rt; last, 94_179);
     assert_eq!(rt; next_due(&mut end, last), Some((95_000, true)));
     assert_eq!(rt; next_due(&mut end, last), None);
+    Ok(())
+}
+
+/// Whether the hello is due at a moment and goes to these places, in this order.
+fn is_repeated_to(end: &mut Startup, moment: u64, places: &[Address]) -> bool {
+    match end.due(moment) {
+        Some(Due::Hello(spread)) => spread.places() == places,
+        _ => false,
+    }
+}
+
+#[test]
+fn a_repeated_hello_goes_to_each_place(rt: HostRuntime) -> Result<(), Fail> {
+    let mut end = end(rt.alloc())?;
+    let candidates = [place(2, 1935), place(1, 1935), place(2, 1935)];
+    let begun = end.begin(&Epd { print: PEER }, &candidates, 20, NI, TAG, 0);
+    assert!(rt; begun.is_ok());
+    assert!(rt; is_repeated_to(&mut end, 1000, &candidates[..2]));
+    Ok(())
+}
+
+#[test]
+fn the_keying_stage_begins_again_at_the_first_gap(rt: HostRuntime) -> Result<(), Fail> {
+    let peer = Certificate::read(b"0123456789abcdefanswerer")?;
+    let mut end = end(rt.alloc())?;
+    let begun = end.begin(
+        &Epd {
+            print: peer.print(),
+        },
+        &[place(1, 1935)],
+        20,
+        NI,
+        TAG,
+        0,
+    );
+    assert!(rt; begun.is_ok());
+    assert!(rt; end.due(1000).is_some());
+    assert!(rt; end.due(2500).is_some());
+    assert!(rt;
+        end.responder_hello(&TAG, &[1; 31], peer.bytes(), &place(1, 1935), 3000)
+            .is_ok()
+    );
+    assert!(rt; end.due(3999).is_none());
+    assert!(rt; end.due(4000).is_some());
+    assert!(rt; end.due(5499).is_none());
+    assert!(rt; end.due(5500).is_some());
     Ok(())
 }

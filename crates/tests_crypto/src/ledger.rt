@@ -2,7 +2,7 @@
 
 ghost use Rattle.std.specs.Prelude.{◌≡◌};
 
-use crate::{Fact, HearRefusal, Heard, Held, Joined, Keying, Peers, StartRefusal, Why};
+use glare_core::{Fact, HearRefusal, Heard, Held, Joined, Keying, Peers, StartRefusal, Why};
 
 const OWN: [u8; 32] = [5; 32];
 /// A peer over which this end prevails.

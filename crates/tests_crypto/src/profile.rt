@@ -1,4 +1,6 @@
-use crate::{
+//! Outside vectors of the profile, and a replay window at its limits.
+
+use crypto_profile::{
     Context, Keys, ReplayWindow, SealFault, Seen, hmac, open_in_place, seal_in_place, sign_key,
 };
 
