@@ -1,4 +1,4 @@
-use Rattle.std.proofs.Common.{◌≡◌, Some, subst, sym}
+use Rattle.std.proofs.Common.{◌≡◌, Some, rules, subst, sym}
 use Rattle.startup.specs.Due.{due_sends}
 use Rattle.endpoint.specs.State.{State, at_moment}
 use Rattle.endpoint.proofs.Begun.{one_done}
@@ -12,3 +12,7 @@ loop-count-smaller c =
 pub loop-count-preserved : goal.loop-count-preserved
 loop-count-preserved c =
     one_done (at_moment c.args.self.now c.args.moment) c.loop-count.self c.tick_once.new.self c.args.out.now c.loop-count.out c.tick_once.new.out c.loop-count.invariant c.in-Ok.ensures.ok
+
+-- so that a wrong body is refused fast
+pub returns-in-Err-clause-all : goal.returns-in-Err-clause-all
+returns-in-Err-clause-all c = search rules
