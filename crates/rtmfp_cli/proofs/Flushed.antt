@@ -1,111 +1,149 @@
 -- Passing on the last bytes changes nothing of what was done.
-use Rattle.std.proofs.Common.{◌≡◌, ℕ, ◌≤◌, inl, inr, List, [], ◌++◌, refl, sym, ◌∙◌, arith, append-nil, subst, Option, Some, None, IfSome}
+use Rattle.std.proofs.Common.{◌≡◌, ℕ, inl, inr, List, [], ◌∷◌, ◌++◌, refl, sym, ◌∙◌, append-nil, subst, Option, Some, None, IfSome}
 use Rattle.rtmfp_host.specs.Faults.{Rose}
 use Rattle.rtmfp_host.specs.Writing.{Appends}
 use Rattle.rtmfp_lines.specs.declared.status.Status.{Status as RunStatus}
 use Rattle.rtmfp_lines.specs.declared.status.Status.TheVariants as status
+use Rattle.rtmfp_lines.specs.Outside.{NothingFailed, Outside, Settled, SinkFailed, SinkSeen, outside}
+use Rattle.rtmfp_lines.specs.Lines.{lines_of}
+use Rattle.rtmfp_lines.proofs.Streams.{appends_still}
 use Rattle.rtmfp_cli.specs.declared.doing.Doing.{Doing}
 use Rattle.rtmfp_cli.specs.Doing.{IsBadLine, IsForgedLine}
-use Rattle.rtmfp_cli.specs.Outside.{Outside}
-use Rattle.rtmfp_lines.specs.Lines.{lines_of}
-use Rattle.rtmfp_cli.specs.Script.{HasDone, AllDone, SomeDone, StopsOn, TooMany, TakenDone, CutShort, ScriptEnds}
-use Rattle.rtmfp_lines.proofs.Streams.{appends_more}
-use Rattle.rtmfp_cli.specs.Run.{Finishes}
-
--- the sink has passed on what it held, and nothing else has changed
-pub record Flushes (mid after : Outside) : Type 0 where
-  pub left : after.left ≡ mid.left
-  pub written : Appends mid.written after.written []
-  pub source : after.source_faults ≡ mid.source_faults
-  pub sink : mid.sink_faults ≤ after.sink_faults
-
-flushed_text : (start mid after : Outside) (text : List ℕ) → Flushes mid after → Appends start.written mid.written text → Appends start.written after.written text
-flushed_text start mid after text flushes written =
-    let P : List ℕ → Type 0 = λ xs. Appends start.written after.written xs in
-    subst P (append-nil text) (appends_more start.written mid.written after.written text [] written flushes.written)
-
-flushed_lines : (doing : Doing) (start mid after : Outside) (lines : List (List ℕ)) → Flushes mid after → HasDone doing start mid lines → HasDone doing start after lines
-flushed_lines doing start mid after lines flushes has =
-    record { left = has.left; text = has.text; ran = has.ran; written = flushed_text start mid after has.text flushes has.written }
-
-stops_after : (Kind : Doing → ℕ → List ℕ → Type 0) (doing : Doing) (n : ℕ) (start mid after : Outside) (script : List ℕ) → Flushes mid after → StopsOn Kind doing script n start mid → StopsOn Kind doing script n start after
-stops_after Kind doing n start mid after script flushes stops =
-    record { lines = stops.lines; line = stops.line; stops = stops.stops; within = stops.within; has = record { left = stops.has.left; text = stops.has.text; ran = stops.has.ran; written = flushed_text start mid after stops.has.text flushes stops.has.written }; kind = stops.kind }
+use Rattle.rtmfp_cli.specs.Script.{HasDone, HasTaken, AllDone, SomeDone, StopsOn, TooMany, CutShort, EndsWhere, IsWhole, ScriptEnds}
+use Rattle.rtmfp_cli.specs.Run.{Finishes, PassesOn, Stays}
 
 told_map : (o : Option (List ℕ)) (P Q : List ℕ → Type 0) → ((script : List ℕ) → P script → Q script) → IfSome o P → IfSome o Q
 told_map None P Q h p = tt
 told_map (Some script) P Q h p = h script p
 
-rose_after : (a b c : ℕ) → b ≤ c → Rose a b → Rose a c
-rose_after a b c le rose = omega arith
+-- the lines are done, and their text is written, as before
+flushed : (doing : Doing) (start mid : Outside) (sink : SinkSeen) (lines : List (List ℕ)) → Appends mid.sink.written sink.written [] → HasDone doing start mid lines → HasDone doing start (outside mid.source sink) lines
+flushed doing start mid sink lines kept has =
+    record { left = has.left; text = has.text; ran = has.ran; holds = has.holds; written = appends_still start.sink.written mid.sink.written sink.written has.text has.written kept }
 
-pub flushed : (doing : Doing) (s : RunStatus) (start mid after : Outside) → Flushes mid after → ScriptEnds doing s start mid → ScriptEnds doing s start after
-flushed doing status.Done start mid after flushes ends =
-    told_map start.left (λ script. AllDone doing script start mid) (λ script. AllDone doing script start after)
-    (λ script all. record { read = flushes.left ∙ all.read; count = all.count; has = flushed_lines doing start mid after (lines_of script) flushes all.has }) ends
-flushed doing status.Memory start mid after flushes ends =
-    told_map start.left (λ script. SomeDone doing script start mid) (λ script. SomeDone doing script start after)
-    (λ script some. record { lines = some.lines; more = some.more; split = some.split; has = flushed_lines doing start mid after some.lines flushes some.has }) ends
-flushed doing status.BadWords start mid after flushes ends = ends
-flushed doing (status.BadScript n) start mid after flushes ends =
-    told_map start.left (λ script. StopsOn IsBadLine doing script n start mid) (λ script. StopsOn IsBadLine doing script n start after)
-    (λ script stops. stops_after IsBadLine doing n start mid after script flushes stops) ends
-flushed doing (status.Forged n) start mid after flushes ends =
-    told_map start.left (λ script. StopsOn IsForgedLine doing script n start mid) (λ script. StopsOn IsForgedLine doing script n start after)
-    (λ script stops. stops_after IsForgedLine doing n start mid after script flushes stops) ends
-flushed doing status.SinkFault start mid after flushes ends = (
-  rose_after start.sink_faults mid.sink_faults after.sink_faults flushes.sink ends.0,
-  told_map start.left (λ script. CutShort doing script start mid) (λ script. CutShort doing script start after)
-      (λ script cut. record {
-        lines = cut.lines;
-        more = cut.more;
-        split = cut.split;
-        left = cut.left;
-        text = cut.text;
-        ran = cut.ran;
-        part = cut.part;
-        next = cut.next;
-        written = flushed_text start mid after (cut.text ++ cut.part) flushes cut.written;
-      }) ends.1,
-)
-flushed doing status.SourceFault start mid after flushes ends = (
-  let P : ℕ → Type 0 = λ n. Rose start.source_faults n in subst P (sym flushes.source) ends.0,
-  told_map start.left (λ script. TakenDone doing script start mid) (λ script. TakenDone doing script start after)
-      (λ script some. record { taken = some.taken; rest = some.rest; split = some.split; left = flushes.left ∙ some.left; has = flushed_lines doing start mid after _ flushes some.has }) ends.1,
-)
-flushed doing status.ScriptLong start mid after flushes ends =
-    told_map start.left (λ script. TooMany doing script start mid) (λ script. TooMany doing script start after)
-    (λ script many. record { lines = many.lines; line = many.line; stops = many.stops; has = flushed_lines doing start mid after many.lines flushes many.has }) ends
+-- and they are all that was passed on, perhaps in part
+cut : (doing : Doing) (start mid : Outside) (sink : SinkSeen) (script : List ℕ) (lines more : List (List ℕ)) → lines_of script ≡ lines ++ more → HasTaken doing script lines mid.source → Appends mid.sink.written sink.written [] →
+    HasDone doing start mid lines → CutShort doing script start (outside mid.source sink)
+cut doing start mid sink script lines more split took kept has =
+    let P : List ℕ → Type 0 = λ xs. Appends start.sink.written sink.written xs in
+    record {
+      lines = lines;
+      more = more;
+      split = split;
+      took = took;
+      left = has.left;
+      text = has.text;
+      ran = has.ran;
+      holds = has.holds;
+      part = [];
+      next = inl refl;
+      written = subst P (sym (append-nil has.text)) (appends_still start.sink.written mid.sink.written sink.written has.text has.written kept);
+    }
 
--- all was done, and the last bytes were not passed on
-not_flushed : (doing : Doing) (start mid after : Outside) → Flushes mid after → Rose start.sink_faults after.sink_faults → ScriptEnds doing status.Done start mid → ScriptEnds doing status.SinkFault start after
-not_flushed doing start mid after flushes rose ends = (
-  rose,
-  told_map start.left (λ script. AllDone doing script start mid) (λ script. CutShort doing script start after)
-      (λ script all. record {
-        lines = lines_of script;
-        more = [];
-        split = sym (append-nil (lines_of script));
-        left = all.has.left;
-        text = all.has.text;
-        ran = all.has.ran;
-        part = [];
-        next = inl refl;
-        written = (let P : List ℕ → Type 0 = λ xs. Appends start.written after.written xs in subst P (sym (append-nil all.has.text)) (flushed_text start mid after all.has.text flushes all.has.written));
-      }) ends,
-)
+stopped : (Kind : Doing → ℕ → List ℕ → Type 0) (doing : Doing) (n : ℕ) (start mid : Outside) (sink : SinkSeen) (script : List ℕ) → Appends mid.sink.written sink.written [] → StopsOn Kind doing script n start mid →
+    StopsOn Kind doing script n start (outside mid.source sink)
+stopped Kind doing n start mid sink script kept stops = record {
+  lines = stops.lines;
+  line = stops.line;
+  stops = stops.stops;
+  within = stops.within;
+  took = stops.took;
+  has = record { left = stops.has.left; text = stops.has.text; ran = stops.has.ran; holds = stops.has.holds; written = appends_still start.sink.written mid.sink.written sink.written stops.has.text stops.has.written kept };
+  kind = stops.kind;
+}
 
-rose_from : (a b c : ℕ) → a ≤ b → Rose b c → Rose a c
-rose_from a b c le rose = omega arith
+stopped_cut : (Kind : Doing → ℕ → List ℕ → Type 0) (doing : Doing) (n : ℕ) (start mid : Outside) (sink : SinkSeen) (script : List ℕ) → Appends mid.sink.written sink.written [] → StopsOn Kind doing script n start mid →
+    CutShort doing script start (outside mid.source sink)
+stopped_cut Kind doing n start mid sink script kept stops = cut doing start mid sink script stops.lines (stops.line ∷ stops.stops.more) stops.stops.split stops.took kept stops.has
+
+whole : (start mid : Outside) (sink : SinkSeen) → NothingFailed start mid → Settled mid.sink sink → IsWhole start (outside mid.source sink)
+whole start mid sink calm settled = record { source = calm.source; sink = record { passed = settled.passed; faults = settled.faults ∙ calm.sink } }
+
+failed : (start mid : Outside) (sink : SinkSeen) → NothingFailed start mid → Rose mid.sink.faults sink.faults → SinkFailed start (outside mid.source sink)
+failed start mid sink calm rose = let P : ℕ → Type 0 = λ n. Rose n sink.faults in record { rose = subst P calm.sink rose; source = calm.source }
+
+-- by what passing on has answered
+answered : (doing : Doing) (s result : RunStatus) (start mid : Outside) (sink : SinkSeen) → PassesOn s result mid.sink sink → NothingFailed start mid → (IsWhole start (outside mid.source sink) → ScriptEnds doing s start (outside mid.source sink)) →
+    (SinkFailed start (outside mid.source sink) → ScriptEnds doing status.SinkFault start (outside mid.source sink)) → ScriptEnds doing result start (outside mid.source sink)
+answered doing s result start mid sink passes calm done cut =
+    let P : RunStatus → Type 0 = λ x. ScriptEnds doing x start (outside mid.source sink) in
+    elim passes.answer [
+      | inl kept ↦ subst P (sym kept.0) (done (whole start mid sink calm kept.1))
+      | inr rose ↦ subst P (sym rose.0) (cut (failed start mid sink calm rose.1))
+    ]
+
+stays : (doing : Doing) (s result : RunStatus) (start mid : Outside) (sink : SinkSeen) → Stays s result mid.sink sink → ScriptEnds doing s start mid → ScriptEnds doing result start (outside mid.source sink)
+stays doing s result start mid sink same ends =
+    let P : RunStatus → Type 0 = λ x. ScriptEnds doing x start (outside mid.source sink) in
+    let Q : SinkSeen → Type 0 = λ k. ScriptEnds doing s start (outside mid.source k) in
+    subst P (sym same.same) (subst Q (sym same.sink) ends)
 
 -- how a run ends once the sink has passed on what it held, or failed to
-pub run_ends : (doing : Doing) (s result : RunStatus) (start mid after : Outside) → Flushes mid after → start.sink_faults ≤ mid.sink_faults → Finishes s result mid.written mid.sink_faults after.written after.sink_faults →
-    ScriptEnds doing s start mid → ScriptEnds doing result start after
-run_ends doing s result start mid after flushes before finishes ends =
-    elim finishes.answer [
-      | inl same ↦ (let P : RunStatus → Type 0 = λ x. ScriptEnds doing x start after in subst P (sym same) (flushed doing s start mid after flushes ends))
-      | inr failed ↦ (
-          let P : RunStatus → Type 0 = λ x. ScriptEnds doing x start after in
-          let Q : RunStatus → Type 0 = λ x. ScriptEnds doing x start mid in
-          subst P (sym failed.1) (not_flushed doing start mid after flushes (rose_from start.sink_faults mid.sink_faults after.sink_faults before failed.2) (subst Q failed.0 ends)))
-    ]
+pub run_ends : (doing : Doing) (s result : RunStatus) (start mid : Outside) (sink : SinkSeen) → Finishes s result mid.sink sink → EndsWhere NothingFailed doing s start mid → ScriptEnds doing result start (outside mid.source sink)
+run_ends doing status.Done result start mid sink finishes ends =
+    let after = outside mid.source sink in
+    let kept = finishes.written in
+    answered doing status.Done result start mid sink finishes ends.0 (
+    λ good. (
+      good,
+      told_map start.source.left (λ script. AllDone doing script start mid) (λ script. AllDone doing script start after)
+          (λ script all. record { read = all.read; count = all.count; took = all.took; has = flushed doing start mid sink (lines_of script) kept all.has }) ends.1,
+    )
+    ) (
+    λ bad. (
+      bad,
+      told_map start.source.left (λ script. AllDone doing script start mid) (λ script. CutShort doing script start after)
+          (λ script all. cut doing start mid sink script (lines_of script) [] (sym (append-nil (lines_of script))) all.took kept all.has) ends.1,
+    )
+    )
+run_ends doing status.Memory result start mid sink finishes ends =
+    let after = outside mid.source sink in
+    let kept = finishes.written in
+    answered doing status.Memory result start mid sink finishes ends.0 (
+    λ good. (
+      good,
+      told_map start.source.left (λ script. SomeDone doing script start mid) (λ script. SomeDone doing script start after)
+          (λ script some. record { lines = some.lines; more = some.more; split = some.split; took = some.took; has = flushed doing start mid sink some.lines kept some.has }) ends.1,
+    )
+    ) (
+    λ bad. (
+      bad,
+      told_map start.source.left (λ script. SomeDone doing script start mid) (λ script. CutShort doing script start after)
+          (λ script some. cut doing start mid sink script some.lines some.more some.split some.took kept some.has) ends.1,
+    )
+    )
+run_ends doing status.BadWords result start mid sink finishes ends = absurd ends
+run_ends doing (status.BadScript n) result start mid sink finishes ends =
+    let after = outside mid.source sink in
+    let kept = finishes.written in
+    answered doing (status.BadScript n) result start mid sink finishes ends.0 (
+    λ good. (good, told_map start.source.left (λ script. StopsOn IsBadLine doing script n start mid) (λ script. StopsOn IsBadLine doing script n start after) (λ script stops. stopped IsBadLine doing n start mid sink script kept stops) ends.1)
+    ) (
+    λ bad. (bad, told_map start.source.left (λ script. StopsOn IsBadLine doing script n start mid) (λ script. CutShort doing script start after) (λ script stops. stopped_cut IsBadLine doing n start mid sink script kept stops) ends.1)
+    )
+run_ends doing (status.Forged n) result start mid sink finishes ends =
+    let after = outside mid.source sink in
+    let kept = finishes.written in
+    answered doing (status.Forged n) result start mid sink finishes ends.0 (
+    λ good. (good, told_map start.source.left (λ script. StopsOn IsForgedLine doing script n start mid) (λ script. StopsOn IsForgedLine doing script n start after) (λ script stops. stopped IsForgedLine doing n start mid sink script kept stops) ends.1)
+    ) (
+    λ bad. (bad, told_map start.source.left (λ script. StopsOn IsForgedLine doing script n start mid) (λ script. CutShort doing script start after) (λ script stops. stopped_cut IsForgedLine doing n start mid sink script kept stops) ends.1)
+    )
+run_ends doing status.SinkFault result start mid sink finishes ends = stays doing status.SinkFault result start mid sink finishes ends
+run_ends doing status.SourceFault result start mid sink finishes ends = stays doing status.SourceFault result start mid sink finishes ends
+run_ends doing status.ScriptLong result start mid sink finishes ends =
+    let after = outside mid.source sink in
+    let kept = finishes.written in
+    answered doing status.ScriptLong result start mid sink finishes ends.0 (
+    λ good. (
+      good,
+      told_map start.source.left (λ script. TooMany doing script start mid) (λ script. TooMany doing script start after)
+          (λ script many. record { lines = many.lines; line = many.line; stops = many.stops; took = many.took; has = flushed doing start mid sink many.lines kept many.has }) ends.1,
+    )
+    ) (
+    λ bad. (
+      bad,
+      told_map start.source.left (λ script. TooMany doing script start mid) (λ script. CutShort doing script start after)
+          (λ script many. cut doing start mid sink script many.lines (many.line ∷ many.stops.more) many.stops.split many.took kept many.has) ends.1,
+    )
+    )

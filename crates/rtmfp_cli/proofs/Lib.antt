@@ -1,4 +1,4 @@
 pub mod Turns
+pub mod Holding
 pub mod Going
 pub mod Flushed
-pub mod GeneratedFlushed

@@ -1,15 +1,16 @@
 -- What one turn of a run does, by what stands in front.
 use Rattle.std.proofs.Common.{◌≡◌, ◌≢◌, ℕ, ◌+◌, ◌<◌, inl, inr, List, [], ◌∷◌, ◌++◌, length, take, drop, refl, sym, ap, ◌∙◌, arith, append_assoc, append-nil, subst, Option, Some, None, IfSome}
 use Rattle.std.proofs.lemmas.List.{length-append, length-take-le, take-append-drop}
+use Rattle.rtmfp_host.specs.Faults.{Rose}
 use Rattle.rtmfp_host.specs.Taking.{IsAtEnd}
 use Rattle.rtmfp_host.specs.Writing.{Appends}
 use Rattle.rtmfp_lines.specs.declared.status.Status.{Status as RunStatus}
 use Rattle.rtmfp_lines.specs.declared.status.Status.TheVariants as status
 use Rattle.rtmfp_cli.specs.declared.script_run.Turn.{Turn}
 use Rattle.rtmfp_cli.specs.declared.script_run.Turn.TheVariants.{Went, Ended}
-use Rattle.rtmfp_cli.specs.Outside.{Outside}
+use Rattle.rtmfp_lines.specs.Outside.{NothingFailed, Outside, SinkFailed, SinkSeen, SourceFailed, outside}
 use Rattle.rtmfp_lines.specs.Lines.{NoLf, lines_of}
-use Rattle.rtmfp_lines.specs.Reading.{HasRead, StartsWithLine, IsTooLong}
+use Rattle.rtmfp_lines.specs.Reading.{Asks, HasRead, IsPart, StartsWithLine, IsTooLong}
 use Rattle.rtmfp_cli.specs.declared.doing.Doing.{Doing}
 use Rattle.rtmfp_cli.specs.declared.doing.Doing.TheVariants.{Showing, Playing}
 use Rattle.rtmfp_cli.specs.Doing.{Does, IsBadLine, IsForgedLine, limit_of}
@@ -18,22 +19,33 @@ use Rattle.rendezvous_world.specs.Seen.{Seen}
 use Rattle.rtmfp_play.specs.Play.{IsBadPlay}
 use Rattle.rtmfp_show.specs.ShowLine.{IsNoPacket, show_limit}
 use Rattle.rtmfp_cli.specs.Script.{Runs}
-use Rattle.rtmfp_cli.specs.Turning.{Takes, DoesRest, DoesNone, DoesPart, Turned, Printed}
+use Rattle.rtmfp_cli.specs.Turning.{Takes, DoesRest, DoesNone, DoesPart, StopsReading, Turned, Printed}
 use Rattle.rtmfp_lines.proofs.LinesLaws.{FirstLine, line_there, lines_of-lf, lines_of-last, first_line}
 use Rattle.rtmfp_lines.proofs.Streams.{appends_more}
 
--- the outside before and after, by what a turn changes of it
-pub record Between (before after : Outside) (old bytes : List ℕ) (mid : Option (List ℕ)) : Type 0 where
-  pub read : HasRead before.left after.left old bytes
-  pub kept : Appends before.written mid []
+-- the outside before a turn and after it has read, by what was read
+pub record Between (limit : ℕ) (before mid : Outside) (old bytes : List ℕ) : Type 0 where
+  pub read : HasRead before.source.left mid.source.left old bytes
+  pub asks : Asks limit before.source mid.source old bytes
+  pub kept : Appends before.sink.written mid.sink.written []
 
-takes : (before after : Outside) (old bytes : List ℕ) (mid : Option (List ℕ)) → Between before after old bytes mid → Takes before after old bytes
-takes before after old bytes mid between = record { got = between.read.got; consumed = between.read.consumed; joined = between.read.joined }
+pub between_at : (limit most : ℕ) (before mid : Outside) (old bytes : List ℕ) → limit ≡ most → Between limit before mid old bytes → Between most before mid old bytes
+between_at limit most before mid old bytes e between = let P : ℕ → Type 0 = λ n. Between n before mid old bytes in subst P e between
 
-pub none_written : (before after : Outside) (old bytes : List ℕ) (mid : Option (List ℕ)) → Between before after old bytes mid → after.written ≡ mid → DoesNone before after old bytes
-none_written before after old bytes mid between same =
-    let P : Option (List ℕ) → Type 0 = λ o. Appends before.written o [] in
-    record { takes = takes before after old bytes mid between; written = subst P (sym same) between.kept }
+takes : (limit : ℕ) (before mid : Outside) (sink : SinkSeen) (old bytes : List ℕ) → Between limit before mid old bytes → Takes limit before (outside mid.source sink) old bytes
+takes limit before mid sink old bytes between = record { got = between.read.got; consumed = between.read.consumed; joined = between.read.joined; asks = between.asks }
+
+pub none_written : (limit : ℕ) (before mid : Outside) (sink : SinkSeen) (old bytes : List ℕ) → Between limit before mid old bytes → sink.written ≡ mid.sink.written → DoesNone limit before (outside mid.source sink) old bytes
+none_written limit before mid sink old bytes between same =
+    let P : Option (List ℕ) → Type 0 = λ o. Appends before.sink.written o [] in
+    record { takes = takes limit before mid sink old bytes between; written = subst P (sym same) between.kept }
+
+-- nothing failed while it read, and then
+calm : (before mid : Outside) (sink : SinkSeen) → NothingFailed before mid → sink.faults ≡ mid.sink.faults → NothingFailed before (outside mid.source sink)
+calm before mid sink still same = record { source = still.source; sink = same ∙ still.sink }
+
+fails : (before mid : Outside) (sink : SinkSeen) → NothingFailed before mid → Rose mid.sink.faults sink.faults → SinkFailed before (outside mid.source sink)
+fails before mid sink still rose = let P : ℕ → Type 0 = λ n. Rose n sink.faults in record { rose = subst P still.sink rose; source = still.source }
 
 -- a line and its LF stand in front
 whole_line : (limit len : ℕ) (bytes rest : List ℕ) → StartsWithLine limit bytes len → lines_of (bytes ++ rest) ≡ take len bytes ∷ lines_of (drop (len + 1) bytes ++ rest)
@@ -47,31 +59,48 @@ next_whole : (P : List ℕ → Type 0) (left : Option (List ℕ)) (limit len : �
 next_whole P None limit len bytes starts p = tt
 next_whole P (Some rest) limit len bytes starts p = (take len bytes, lines_of (drop (len + 1) bytes ++ rest), whole_line limit len bytes rest starts, p)
 
-pub line_turned : (turn : Turn) (doing left : Doing) (n limit len : ℕ) (before after : Outside) (old bytes : List ℕ) (mid : Option (List ℕ)) → Between before after old bytes mid → StartsWithLine limit bytes len →
-    Printed turn doing left n (take len bytes) mid after.written → Turned turn doing left n before after old (drop (len + 1) bytes)
-line_turned Went doing left n limit len before after old bytes mid between starts printed =
-    let whole : Takes before after old (take len bytes ++ 10 ∷ drop (len + 1) bytes) = subst (Takes before after old) starts.joined (takes before after old bytes mid between) in
-    record { line = take len bytes; text = printed.0; takes = whole; no_lf = starts.no_lf; does = printed.1; written = appends_more before.written mid after.written [] printed.0 between.kept printed.2 }
-line_turned (Ended status.Done) doing left n limit len before after old bytes mid between starts printed = absurd printed
-line_turned (Ended status.Memory) doing left n limit len before after old bytes mid between starts printed = (bytes, none_written before after old bytes mid between printed)
-line_turned (Ended status.BadWords) doing left n limit len before after old bytes mid between starts printed = printed
-line_turned (Ended (status.BadScript m)) doing left n limit len before after old bytes mid between starts printed =
-    (printed.0, (bytes, none_written before after old bytes mid between printed.2, next_whole (IsBadLine doing n) after.left limit len bytes starts printed.1))
-line_turned (Ended (status.Forged m)) doing left n limit len before after old bytes mid between starts printed =
-    (printed.0, (bytes, none_written before after old bytes mid between printed.2, next_whole (IsForgedLine doing n) after.left limit len bytes starts printed.1))
-line_turned (Ended status.SinkFault) doing left n limit len before after old bytes mid between starts printed =
+pub line_turned : (turn : Turn) (doing left : Doing) (n limit len : ℕ) (before mid : Outside) (sink : SinkSeen) (old bytes : List ℕ) → Between (limit_of doing) before mid old bytes → NothingFailed before mid →
+    limit ≡ limit_of doing → StartsWithLine limit bytes len → Printed turn doing left n (take len bytes) mid.sink.written sink.written mid.sink.faults sink.faults → Turned turn doing left n before (outside mid.source sink) old (drop (len + 1) bytes)
+line_turned Went doing left n limit len before mid sink old bytes between still e starts printed =
+    let after = outside mid.source sink in
+    let whole : Takes (limit_of doing) before after old (take len bytes ++ 10 ∷ drop (len + 1) bytes) =
+    subst (Takes (limit_of doing) before after old) starts.joined (takes (limit_of doing) before mid sink old bytes between) in
+    record {
+      line = take len bytes;
+      text = printed.0;
+      takes = whole;
+      no_lf = starts.no_lf;
+      fits = omega (arith, starts.size, starts.fits, e);
+      does = printed.1;
+      written = appends_more before.sink.written mid.sink.written sink.written [] printed.0 between.kept printed.2;
+      calm = calm before mid sink still printed.3;
+    }
+line_turned (Ended status.Done) doing left n limit len before mid sink old bytes between still e starts printed = absurd printed
+line_turned (Ended status.Memory) doing left n limit len before mid sink old bytes between still e starts printed =
+    (calm before mid sink still printed.1, (bytes, none_written (limit_of doing) before mid sink old bytes between printed.0))
+line_turned (Ended status.BadWords) doing left n limit len before mid sink old bytes between still e starts printed = printed
+line_turned (Ended (status.BadScript m)) doing left n limit len before mid sink old bytes between still e starts printed = (
+  printed.0,
+  (calm before mid sink still printed.3, (bytes, none_written (limit_of doing) before mid sink old bytes between printed.2, next_whole (IsBadLine doing n) mid.source.left limit len bytes starts printed.1)),
+)
+line_turned (Ended (status.Forged m)) doing left n limit len before mid sink old bytes between still e starts printed = (
+  printed.0,
+  (calm before mid sink still printed.3, (bytes, none_written (limit_of doing) before mid sink old bytes between printed.2, next_whole (IsForgedLine doing n) mid.source.left limit len bytes starts printed.1)),
+)
+line_turned (Ended status.SinkFault) doing left n limit len before mid sink old bytes between still e starts printed =
     record {
       bytes = bytes;
       part = take printed.1 printed.0;
-      takes = takes before after old bytes mid between;
-      next = inr (left, printed.0, printed.1, refl, next_whole (λ line. Does doing n line left printed.0) after.left limit len bytes starts printed.2);
-      written = appends_more before.written mid after.written [] (take printed.1 printed.0) between.kept printed.3;
+      takes = takes (limit_of doing) before mid sink old bytes between;
+      next = inr (left, printed.0, printed.1, refl, next_whole (λ line. Does doing n line left printed.0) mid.source.left limit len bytes starts printed.2);
+      written = appends_more before.sink.written mid.sink.written sink.written [] (take printed.1 printed.0) between.kept printed.3;
+      failed = fails before mid sink still printed.4;
     }
-line_turned (Ended status.SourceFault) doing left n limit len before after old bytes mid between starts printed = absurd printed
-line_turned (Ended status.ScriptLong) doing left n limit len before after old bytes mid between starts printed = printed
+line_turned (Ended status.SourceFault) doing left n limit len before mid sink old bytes between still e starts printed = absurd printed
+line_turned (Ended status.ScriptLong) doing left n limit len before mid sink old bytes between still e starts printed = printed
 
 -- a last line without LF is all that is there
-last_line : (bytes : List ℕ) → NoLf bytes → bytes ≢ [] → lines_of bytes ≡ bytes ∷ []
+pub last_line : (bytes : List ℕ) → NoLf bytes → bytes ≢ [] → lines_of bytes ≡ bytes ∷ []
 last_line [] free some = absurd (some refl)
 last_line (b ∷ bytes) free some = lines_of-last b bytes free
 
@@ -85,53 +114,67 @@ one_done doing left n line text lines e does =
     let P : List (List ℕ) → Type 0 = λ ls. Runs n doing ls left text in
     subst P (sym e) (left, text, [], does, (refl, refl), sym (append-nil text))
 
-pub last_done : (doing left : Doing) (n : ℕ) (before after : Outside) (old bytes : List ℕ) (mid : Option (List ℕ)) → Between before after old bytes mid → NoLf bytes → bytes ≢ [] → IsAtEnd after.left →
-    Printed Went doing left n bytes mid after.written → DoesRest doing n before after old
-last_done doing left n before after old bytes mid between free some end printed =
+pub last_done : (doing left : Doing) (n : ℕ) (before mid : Outside) (sink : SinkSeen) (old bytes : List ℕ) → Between (limit_of doing) before mid old bytes → NothingFailed before mid → IsPart (limit_of doing) bytes → bytes ≢ [] →
+    IsAtEnd mid.source.left → Printed Went doing left n bytes mid.sink.written sink.written mid.sink.faults sink.faults → DoesRest doing n before (outside mid.source sink) old
+last_done doing left n before mid sink old bytes between still part some end printed =
     record {
       bytes = bytes;
       left = left;
       text = printed.0;
-      takes = takes before after old bytes mid between;
+      takes = takes (limit_of doing) before mid sink old bytes between;
       end = end;
-      count = omega (arith, ap (λ (ls : List (List ℕ)). length ls) (last_line bytes free some));
-      ran = one_done doing left n bytes printed.0 (lines_of bytes) (last_line bytes free some) printed.1;
-      written = appends_more before.written mid after.written [] printed.0 between.kept printed.2;
+      part = part;
+      count = omega (arith, ap (λ (ls : List (List ℕ)). length ls) (last_line bytes part.1 some));
+      ran = one_done doing left n bytes printed.0 (lines_of bytes) (last_line bytes part.1 some) printed.1;
+      written = appends_more before.sink.written mid.sink.written sink.written [] printed.0 between.kept printed.2;
+      calm = calm before mid sink still printed.3;
     }
 
-pub last_turned : (s : RunStatus) (doing left : Doing) (n : ℕ) (before after : Outside) (old bytes new : List ℕ) (mid : Option (List ℕ)) → Between before after old bytes mid → NoLf bytes → bytes ≢ [] → IsAtEnd after.left →
-    Printed (Ended s) doing left n bytes mid after.written → Turned (Ended s) doing left n before after old new
-last_turned status.Done doing left n before after old bytes new mid between free some end printed = absurd printed
-last_turned status.Memory doing left n before after old bytes new mid between free some end printed = (bytes, none_written before after old bytes mid between printed)
-last_turned status.BadWords doing left n before after old bytes new mid between free some end printed = printed
-last_turned (status.BadScript m) doing left n before after old bytes new mid between free some end printed =
-    (printed.0, (bytes, none_written before after old bytes mid between printed.2, next_last (IsBadLine doing n) after.left bytes free some end printed.1))
-last_turned (status.Forged m) doing left n before after old bytes new mid between free some end printed =
-    (printed.0, (bytes, none_written before after old bytes mid between printed.2, next_last (IsForgedLine doing n) after.left bytes free some end printed.1))
-last_turned status.SinkFault doing left n before after old bytes new mid between free some end printed =
+pub last_turned : (s : RunStatus) (doing left : Doing) (n : ℕ) (before mid : Outside) (sink : SinkSeen) (old bytes new : List ℕ) → Between (limit_of doing) before mid old bytes → NothingFailed before mid → NoLf bytes → bytes ≢ [] →
+    IsAtEnd mid.source.left → Printed (Ended s) doing left n bytes mid.sink.written sink.written mid.sink.faults sink.faults → Turned (Ended s) doing left n before (outside mid.source sink) old new
+last_turned status.Done doing left n before mid sink old bytes new between still free some end printed = absurd printed
+last_turned status.Memory doing left n before mid sink old bytes new between still free some end printed =
+    (calm before mid sink still printed.1, (bytes, none_written (limit_of doing) before mid sink old bytes between printed.0))
+last_turned status.BadWords doing left n before mid sink old bytes new between still free some end printed = printed
+last_turned (status.BadScript m) doing left n before mid sink old bytes new between still free some end printed = (
+  printed.0,
+  (calm before mid sink still printed.3, (bytes, none_written (limit_of doing) before mid sink old bytes between printed.2, next_last (IsBadLine doing n) mid.source.left bytes free some end printed.1)),
+)
+last_turned (status.Forged m) doing left n before mid sink old bytes new between still free some end printed = (
+  printed.0,
+  (calm before mid sink still printed.3, (bytes, none_written (limit_of doing) before mid sink old bytes between printed.2, next_last (IsForgedLine doing n) mid.source.left bytes free some end printed.1)),
+)
+last_turned status.SinkFault doing left n before mid sink old bytes new between still free some end printed =
     record {
       bytes = bytes;
       part = take printed.1 printed.0;
-      takes = takes before after old bytes mid between;
-      next = inr (left, printed.0, printed.1, refl, next_last (λ line. Does doing n line left printed.0) after.left bytes free some end printed.2);
-      written = appends_more before.written mid after.written [] (take printed.1 printed.0) between.kept printed.3;
+      takes = takes (limit_of doing) before mid sink old bytes between;
+      next = inr (left, printed.0, printed.1, refl, next_last (λ line. Does doing n line left printed.0) mid.source.left bytes free some end printed.2);
+      written = appends_more before.sink.written mid.sink.written sink.written [] (take printed.1 printed.0) between.kept printed.3;
+      failed = fails before mid sink still printed.4;
     }
-last_turned status.SourceFault doing left n before after old bytes new mid between free some end printed = absurd printed
-last_turned status.ScriptLong doing left n before after old bytes new mid between free some end printed = printed
+last_turned status.SourceFault doing left n before mid sink old bytes new between still free some end printed = absurd printed
+last_turned status.ScriptLong doing left n before mid sink old bytes new between still free some end printed = printed
 
 -- nothing is left
-pub end_turned : (doing : Doing) (n : ℕ) (before after : Outside) (old bytes : List ℕ) → Between before after old bytes after.written → bytes ≡ [] → IsAtEnd after.left → DoesRest doing n before after old
-end_turned doing n before after old bytes between none end =
+pub end_turned : (doing : Doing) (n : ℕ) (before after : Outside) (old bytes : List ℕ) → Between (limit_of doing) before after old bytes → NothingFailed before after → bytes ≡ [] → IsAtEnd after.source.left → DoesRest doing n before after old
+end_turned doing n before after old bytes between still none end =
     record {
       bytes = [];
       left = doing;
       text = [];
-      takes = subst (Takes before after old) none (takes before after old bytes after.written between);
+      takes = subst (Takes (limit_of doing) before after old) none (takes (limit_of doing) before after after.sink old bytes between);
       end = end;
+      part = (omega arith, tt);
       count = omega arith;
       ran = (refl, refl);
       written = between.kept;
+      calm = still;
     }
+
+-- the source failed
+pub reading_stopped : (limit : ℕ) (before after : Outside) (old bytes : List ℕ) → Between limit before after old bytes → SourceFailed before after → after.sink.passed ≡ after.sink.written → IsPart limit bytes → StopsReading limit before after old
+reading_stopped limit before after old bytes between failed passed part = (failed, passed, (bytes, none_written limit before after after.sink old bytes between refl, part))
 
 too_long_to_show : (front tail : List ℕ) → show_limit < length front → IsNoPacket (front ++ tail)
 too_long_to_show front tail long b shows = omega (arith, shows.fits, long, length-append front tail)
@@ -162,14 +205,14 @@ next_long doing n (Some rest) bytes long =
     let whole = ap (λ xs. xs ++ rest) (sym (take-append-drop (limit_of doing + 1) bytes)) ∙ append_assoc front (drop (limit_of doing + 1) bytes) rest in
     (front ++ first.tail, first.more, ap lines_of whole ∙ first.lines, long_is_bad doing n front first.tail (omega (arith, size)))
 
-pub long_turned : (doing left : Doing) (n : ℕ) (before after : Outside) (old bytes new : List ℕ) → Between before after old bytes after.written → IsTooLong (limit_of doing) bytes →
+pub long_turned : (doing left : Doing) (n : ℕ) (before after : Outside) (old bytes new : List ℕ) → Between (limit_of doing) before after old bytes → NothingFailed before after → IsTooLong (limit_of doing) bytes →
     Turned (Ended (status.BadScript n)) doing left n before after old new
-long_turned doing left n before after old bytes new between long =
-    (refl, (bytes, none_written before after old bytes after.written between refl, next_long doing n after.left bytes long))
+long_turned doing left n before after old bytes new between still long =
+    (refl, (still, (bytes, none_written (limit_of doing) before after after.sink old bytes between refl, next_long doing n after.source.left bytes long)))
 
-pub nothing_turned : (doing : Doing) (n : ℕ) (before after : Outside) (old bytes : List ℕ) → Between before after old bytes after.written → DoesPart doing n before after old
-nothing_turned doing n before after old bytes between =
-    record { bytes = bytes; part = []; takes = takes before after old bytes after.written between; next = inl refl; written = between.kept }
+pub nothing_turned : (doing : Doing) (n : ℕ) (before after : Outside) (old bytes : List ℕ) → Between (limit_of doing) before after old bytes → SinkFailed before after → DoesPart doing n before after old
+nothing_turned doing n before after old bytes between failed =
+    record { bytes = bytes; part = []; takes = takes (limit_of doing) before after after.sink old bytes between; next = inl refl; written = between.kept; failed = failed }
 
 -- a line or a part of one stands in front, where none may
 some_line : (left : Option (List ℕ)) (b : ℕ) (bytes : List ℕ) →

@@ -7,7 +7,7 @@ use Rattle.rtmfp_play.specs.declared.said.Said.TheVariants.{Text, Bad, Forged}
 use Rattle.rtmfp_script.specs.Grammar.{line_limit}
 use Rattle.rendezvous_world.specs.Laws.{empty_world}
 use Rattle.rendezvous_world.specs.Sound.{AreBelow}
-use Rattle.rtmfp_play.specs.Play.{Plays, IsBadPlay, IsForgedPlay}
+use Rattle.rtmfp_play.specs.Play.{Plays, HistoryHolds, IsBadPlay, IsForgedPlay}
 use Rattle.rtmfp_show.specs.ShowLine.{ShowsLine, IsNoPacket, show_limit}
 
 -- the longest line
@@ -54,3 +54,8 @@ showing = Showing
 
 abbrev pub playing : Doing
 playing = Playing empty_world
+
+-- Of the world that the lines so far leave the history holds.
+abbrev pub Holds : Doing → Type 0
+Holds Showing = Unit {0}
+Holds (Playing w) = HistoryHolds w

@@ -1,5 +1,5 @@
-pub mod Outside
 pub mod Doing
 pub mod Script
 pub mod Turning
 pub mod Run
+pub mod Laws

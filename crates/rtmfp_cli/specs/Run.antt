@@ -1,12 +1,28 @@
 -- The end of a run.
-use Rattle.std.specs.Prelude.{◌≡◌, ℕ, ◌≤◌, ◌⊎◌, List, [], Option}
+use Rattle.std.specs.Prelude.{◌≡◌, ◌⊎◌, []}
 use Rattle.rtmfp_host.specs.Faults.{Rose}
 use Rattle.rtmfp_host.specs.Writing.{Appends}
 use Rattle.rtmfp_lines.specs.declared.status.Status.{Status as RunStatus}
-use Rattle.rtmfp_lines.specs.declared.status.Status.TheVariants.{Done, SinkFault}
+use Rattle.rtmfp_lines.specs.declared.status.Status.TheVariants.{Done, Memory, BadWords, BadScript, Forged, SinkFault, SourceFault, ScriptLong}
+use Rattle.rtmfp_lines.specs.Outside.{Settled, SinkSeen}
 
--- what passing on the last bytes does to a status
-pub record Finishes (status result : RunStatus) (before : Option (List ℕ)) (before_faults : ℕ) (after : Option (List ℕ)) (after_faults : ℕ) : Type 0 where
-  pub written : Appends before after []
-  pub later : before_faults ≤ after_faults
-  pub answer : (result ≡ status) ⊎ ((status ≡ Done) × (result ≡ SinkFault) × Rose before_faults after_faults)
+-- all that the sink held was passed on, and the status stays; or the sink failed there
+pub record PassesOn (status result : RunStatus) (before after : SinkSeen) : Type 0 where
+  pub written : Appends before.written after.written []
+  pub answer : ((result ≡ status) × Settled before after) ⊎ ((result ≡ SinkFault) × Rose before.faults after.faults)
+
+-- Where the outside has failed nothing more is done.
+pub record Stays (status result : RunStatus) (before after : SinkSeen) : Type 0 where
+  pub same : result ≡ status
+  pub sink : after ≡ before
+
+-- what the end of a run over lines does to a status
+abbrev pub Finishes : RunStatus → RunStatus → SinkSeen → SinkSeen → Type 0
+Finishes Done result before after = PassesOn Done result before after
+Finishes Memory result before after = PassesOn Memory result before after
+Finishes BadWords result before after = PassesOn BadWords result before after
+Finishes (BadScript n) result before after = PassesOn (BadScript n) result before after
+Finishes (Forged n) result before after = PassesOn (Forged n) result before after
+Finishes SinkFault result before after = Stays SinkFault result before after
+Finishes SourceFault result before after = Stays SourceFault result before after
+Finishes ScriptLong result before after = PassesOn ScriptLong result before after

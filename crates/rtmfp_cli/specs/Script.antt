@@ -1,17 +1,19 @@
 -- How a run over the lines of a source ends, and what it has written then.
-use Rattle.std.specs.Prelude.{◌≡◌, ℕ, ◌+◌, ◌≤◌, ◌⊎◌, List, [], ◌∷◌, ◌++◌, length, take, Some, IfSome}
+use Rattle.std.specs.Prelude.{◌≡◌, ℕ, ◌+◌, ◌≤◌, ◌⊎◌, List, [], ◌∷◌, ◌++◌, length, take, Option, Some, IfSome}
+use Rattle.std.specs.List.{AllByRecursion}
 use Rattle.rtmfp_host.specs.Writing.{Appends}
-use Rattle.rtmfp_host.specs.Faults.{Rose}
 use Rattle.rtmfp_cli.specs.declared.doing.Doing.{Doing}
 use Rattle.rtmfp_lines.specs.declared.status.Status.{Status}
 use Rattle.rtmfp_lines.specs.declared.status.Status.TheVariants as status
-use Rattle.rtmfp_cli.specs.Outside.{Outside}
+use Rattle.rtmfp_lines.specs.Outside.{Outside, Settled, SinkFailed, SourceFailed, SourceSeen}
 use Rattle.rtmfp_lines.specs.Lines.{lines_of, whole_lines}
-use Rattle.rtmfp_cli.specs.Doing.{Does, IsBadLine, IsForgedLine}
+use Rattle.rtmfp_cli.specs.Doing.{Does, Holds, IsBadLine, IsForgedLine, limit_of}
 
 -- the most lines that a source may have
 abbrev pub max_lines : ℕ
 max_lines = 1000000
+
+-- ---- what was done
 
 -- lines, from line n on, one after another: what they leave, and the text that is written of them
 abbrev pub Runs : ℕ → Doing → List (List ℕ) → Doing → List ℕ → Type 0
@@ -19,12 +21,36 @@ Runs n doing [] left text = (left ≡ doing) × (text ≡ [])
 Runs n doing (line ∷ lines) left text =
     (middle : Doing) × (first : List ℕ) × (rest : List ℕ) × Does doing n line middle first × Runs (n + 1) middle lines left rest × (text ≡ first ++ rest)
 
--- these first lines were done, their text was written, and nothing else
+-- these first lines were done, their text was written, and nothing else; what they leave holds
 pub record HasDone (doing : Doing) (before after : Outside) (lines : List (List ℕ)) : Type 0 where
   pub left : Doing
   pub text : List ℕ
   pub ran : Runs 1 doing lines left text
-  pub written : Appends before.written after.written text
+  pub holds : Holds left
+  pub written : Appends before.sink.written after.sink.written text
+
+-- ---- what was read
+
+-- no line of these bytes, whole or begun, is over its limit, and there are no more than there may be
+pub record AreWithin (doing : Doing) (bytes : List ℕ) : Type 0 where
+  pub short : AllByRecursion (λ line. length line ≤ limit_of doing) (lines_of bytes)
+  pub few : length (lines_of bytes) ≤ max_lines
+
+-- Nothing was taken, or the last read was needed: in what was taken without it each whole line was done, no line is over
+-- its limit, and there is none too many.
+abbrev pub WasNeeded : Doing → List (List ℕ) → (taken rest : List ℕ) → Option (List ℕ) → Type 0
+WasNeeded doing lines taken rest asked = (taken ≡ []) ⊎ ((front : List ℕ) × (got : List ℕ) × (later : List (List ℕ))
+    × (taken ≡ front ++ got) × (asked ≡ Some (got ++ rest)) × (lines ≡ whole_lines front ++ later) × AreWithin doing front)
+
+-- what was taken from the source of a script, of which these lines were done
+pub record HasTaken (doing : Doing) (script : List ℕ) (lines : List (List ℕ)) (after : SourceSeen) : Type 0 where
+  pub taken : List ℕ
+  pub rest : List ℕ
+  pub split : script ≡ taken ++ rest
+  pub left : after.left ≡ Some rest
+  pub needed : WasNeeded doing lines taken rest after.asked
+
+-- ---- how a run ends
 
 -- a script has these lines, and then this one as line n
 pub record StopsAt (script : List ℕ) (n : ℕ) (lines : List (List ℕ)) (line : List ℕ) : Type 0 where
@@ -34,8 +60,9 @@ pub record StopsAt (script : List ℕ) (n : ℕ) (lines : List (List ℕ)) (line
 
 -- all lines were done, and the source was read to its end
 pub record AllDone (doing : Doing) (script : List ℕ) (before after : Outside) : Type 0 where
-  pub read : after.left ≡ Some []
+  pub read : after.source.left ≡ Some []
   pub count : length (lines_of script) ≤ max_lines
+  pub took : HasTaken doing script (lines_of script) after.source
   pub has : HasDone doing before after (lines_of script)
 
 -- the first lines were done, and no other
@@ -43,6 +70,7 @@ pub record SomeDone (doing : Doing) (script : List ℕ) (before after : Outside)
   pub lines : List (List ℕ)
   pub more : List (List ℕ)
   pub split : lines_of script ≡ lines ++ more
+  pub took : HasTaken doing script lines after.source
   pub has : HasDone doing before after lines
 
 -- the lines before line n were done, and line n is of this kind after them
@@ -51,6 +79,7 @@ pub record StopsOn (Kind : Doing → ℕ → List ℕ → Type 0) (doing : Doing
   pub line : List ℕ
   pub stops : StopsAt script n lines line
   pub within : n ≤ max_lines
+  pub took : HasTaken doing script lines after.source
   pub has : HasDone doing before after lines
   pub kind : Kind has.left n line
 
@@ -59,14 +88,17 @@ pub record TooMany (doing : Doing) (script : List ℕ) (before after : Outside) 
   pub lines : List (List ℕ)
   pub line : List ℕ
   pub stops : StopsAt script (max_lines + 1) lines line
+  pub took : HasTaken doing script lines after.source
   pub has : HasDone doing before after lines
 
--- the whole lines of what was taken from the source were done
+-- The whole lines of what was taken from the source were done, and in it no line is over its limit, and there is none too
+-- many: so another read was needed.
 pub record TakenDone (doing : Doing) (script : List ℕ) (before after : Outside) : Type 0 where
   pub taken : List ℕ
   pub rest : List ℕ
   pub split : script ≡ taken ++ rest
-  pub left : after.left ≡ Some rest
+  pub left : after.source.left ≡ Some rest
+  pub within : AreWithin doing taken
   pub has : HasDone doing before after (whole_lines taken)
 
 -- nothing, or the first bytes of the text of line n, the next one
@@ -80,24 +112,36 @@ pub record CutShort (doing : Doing) (script : List ℕ) (before after : Outside)
   pub lines : List (List ℕ)
   pub more : List (List ℕ)
   pub split : lines_of script ≡ lines ++ more
+  pub took : HasTaken doing script lines after.source
   pub left : Doing
   pub text : List ℕ
   pub ran : Runs 1 doing lines left text
+  pub holds : Holds left
   pub part : List ℕ
   pub next : IsPartOfNext left (length lines + 1) more part
-  pub written : Appends before.written after.written (text ++ part)
+  pub written : Appends before.sink.written after.sink.written (text ++ part)
 
 -- where the source tells its bytes
 abbrev pub Told : Outside → (List ℕ → Type 0) → Type 0
-Told before P = IfSome before.left P
+Told before P = IfSome before.source.left P
 
--- how a run over the source ends with each status
+-- How a run over the source ends with each status, where nothing has failed but by the status, and this holds of the outside
+-- where nothing has.
+abbrev pub EndsWhere : (Outside → Outside → Type 0) → Doing → Status → Outside → Outside → Type 0
+EndsWhere P doing status.Done before after = P before after × Told before (λ script. AllDone doing script before after)
+EndsWhere P doing status.Memory before after = P before after × Told before (λ script. SomeDone doing script before after)
+EndsWhere P doing status.BadWords before after = ⊥
+EndsWhere P doing (status.BadScript n) before after = P before after × Told before (λ script. StopsOn IsBadLine doing script n before after)
+EndsWhere P doing (status.Forged n) before after = P before after × Told before (λ script. StopsOn IsForgedLine doing script n before after)
+EndsWhere P doing status.SinkFault before after = SinkFailed before after × Told before (λ script. CutShort doing script before after)
+EndsWhere P doing status.SourceFault before after =
+    SourceFailed before after × (after.sink.passed ≡ after.sink.written) × Told before (λ script. TakenDone doing script before after)
+EndsWhere P doing status.ScriptLong before after = P before after × Told before (λ script. TooMany doing script before after)
+
+-- nothing has failed, and all that was written was passed on
+pub record IsWhole (before after : Outside) : Type 0 where
+  pub source : after.source.faults ≡ before.source.faults
+  pub sink : Settled before.sink after.sink
+
 abbrev pub ScriptEnds : Doing → Status → Outside → Outside → Type 0
-ScriptEnds doing status.Done before after = Told before (λ script. AllDone doing script before after)
-ScriptEnds doing status.Memory before after = Told before (λ script. SomeDone doing script before after)
-ScriptEnds doing status.BadWords before after = ⊥
-ScriptEnds doing (status.BadScript n) before after = Told before (λ script. StopsOn IsBadLine doing script n before after)
-ScriptEnds doing (status.Forged n) before after = Told before (λ script. StopsOn IsForgedLine doing script n before after)
-ScriptEnds doing status.SinkFault before after = Rose before.sink_faults after.sink_faults × Told before (λ script. CutShort doing script before after)
-ScriptEnds doing status.SourceFault before after = Rose before.source_faults after.source_faults × Told before (λ script. TakenDone doing script before after)
-ScriptEnds doing status.ScriptLong before after = Told before (λ script. TooMany doing script before after)
+ScriptEnds doing status before after = EndsWhere IsWhole doing status before after

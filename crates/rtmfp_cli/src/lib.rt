@@ -2,8 +2,11 @@
 #![tactic(auto)]
 
 mod doing;
+pub mod laws;
 mod script_run;
+mod standard;
 mod top_call;
 
 pub use rtmfp_lines::Status;
+pub use standard::run_program;
 pub use top_call::run;

@@ -1,9 +1,8 @@
 //! A run over the lines of a source: each is read, done and its text written before the next.
 ghost use Rattle.std.specs.Prelude.{◌≡◌, ◌*◌, ◌+◌, ◌-◌, ◌<◌, ◌≤◌, ◌^◌, length};
-ghost use Rattle.rtmfp_host.specs.Faults.{Rose};
-ghost use Rattle.rtmfp_cli.specs.Doing.{IsNext, limit_of};
-ghost use Rattle.rtmfp_cli.specs.Outside.{outside};
-ghost use Rattle.rtmfp_cli.specs.Script.{ScriptEnds};
+ghost use Rattle.rtmfp_cli.specs.Doing.{Holds, IsNext, limit_of};
+ghost use Rattle.rtmfp_lines.specs.Outside.{NothingFailed, outside, seen_sink, seen_source};
+ghost use Rattle.rtmfp_cli.specs.Script.{EndsWhere};
 ghost use Rattle.rtmfp_cli.specs.Turning.{Closed, Printed, Turned};
 
 use crate::doing::Doing;
@@ -36,9 +35,7 @@ fn do_line<K: Sink>(
 ) -> Turn
     requires fits { length line.now ≤ limit_of doing.old }
     requires next { IsNext doing.old number }
-    ensures printed { Printed result doing.old doing.new number line.now (K.written sink.old) (K.written sink.new) }
-    ensures later { K.faults sink.old ≤ K.faults sink.new }
-    ensures failed { result ≡ Turn.Ended Status.SinkFault → Rose (K.faults sink.old) (K.faults sink.new) }
+    ensures printed { Printed result doing.old doing.new number line.now (K.written sink.old) (K.written sink.new) (K.faults sink.old) (K.faults sink.new) }
     ensures limit { limit_of doing.new ≡ limit_of doing.old }
     ensures next { result ≡ Turn.Went → number < 2 ^ 32 - 1 → IsNext doing.new (number + 1) }
 {
@@ -65,15 +62,11 @@ fn next_turn<S: Source, K: Sink>(
 ) -> Turn
     requires room { 2 * limit_of doing.old < buffer.old.capacity }
     requires next { IsNext doing.old number }
-    ensures turned { Turned result doing.old doing.new number (outside (S.left source.old) (S.faults source.old) (K.written sink.old) (K.faults sink.old))
-        (outside (S.left source.new) (S.faults source.new) (K.written sink.new) (K.faults sink.new)) buffer.old.bytes buffer.new.bytes }
+    ensures turned { Turned result doing.old doing.new number (outside (seen_source (S.left source.old) (S.asked source.old) (S.faults source.old)) (seen_sink (K.written sink.old) (K.passed sink.old) (K.faults sink.old)))
+        (outside (seen_source (S.left source.new) (S.asked source.new) (S.faults source.new)) (seen_sink (K.written sink.new) (K.passed sink.new) (K.faults sink.new))) buffer.old.bytes buffer.new.bytes }
     ensures capacity { buffer.new.capacity ≡ buffer.old.capacity }
     ensures limit { limit_of doing.new ≡ limit_of doing.old }
     ensures next { result ≡ Turn.Went → number < 2 ^ 32 - 1 → IsNext doing.new (number + 1) }
-    ensures source { S.faults source.old ≤ S.faults source.new }
-    ensures sink { K.faults sink.old ≤ K.faults sink.new }
-    ensures source_failed { result ≡ Turn.Ended Status.SourceFault → Rose (S.faults source.old) (S.faults source.new) }
-    ensures sink_failed { result ≡ Turn.Ended Status.SinkFault → Rose (K.faults sink.old) (K.faults sink.new) }
 {
     match next_line(buffer, doing.limit(), source, sink) {
         Next::Line(len) => {
@@ -95,12 +88,8 @@ fn next_turn<S: Source, K: Sink>(
 /// Whether the source ends behind the last line that it may have.
 fn close_script<S: Source, K: Sink>(buffer: &mut Buffer, source: &mut S, sink: &mut K) -> Status
     requires { 0 < buffer.old.capacity }
-    ensures closed { Closed result (outside (S.left source.old) (S.faults source.old) (K.written sink.old) (K.faults sink.old))
-        (outside (S.left source.new) (S.faults source.new) (K.written sink.new) (K.faults sink.new)) buffer.old.bytes }
-    ensures source { S.faults source.old ≤ S.faults source.new }
-    ensures sink { K.faults sink.old ≤ K.faults sink.new }
-    ensures source_failed { result ≡ Status.SourceFault → Rose (S.faults source.old) (S.faults source.new) }
-    ensures sink_failed { result ≡ Status.SinkFault → Rose (K.faults sink.old) (K.faults sink.new) }
+    ensures { Closed result (outside (seen_source (S.left source.old) (S.asked source.old) (S.faults source.old)) (seen_sink (K.written sink.old) (K.passed sink.old) (K.faults sink.old)))
+        (outside (seen_source (S.left source.new) (S.asked source.new) (S.faults source.new)) (seen_sink (K.written sink.new) (K.passed sink.new) (K.faults sink.new))) buffer.old.bytes }
 {
     // A line of no byte is one too many, so that one byte suffices.
     match next_line(buffer, 0, source, sink) {
@@ -120,10 +109,10 @@ pub(crate) fn run_script<S: Source, K: Sink>(
     source: &mut S,
     sink: &mut K,
 ) -> Status
-    requires { IsNext doing 1 }
-    ensures ends { ScriptEnds doing result (outside (S.left source.old) (S.faults source.old) (K.written sink.old) (K.faults sink.old))
-        (outside (S.left source.new) (S.faults source.new) (K.written sink.new) (K.faults sink.new)) }
-    ensures sink { K.faults sink.old ≤ K.faults sink.new }
+    requires next { IsNext doing 1 }
+    requires holds { Holds doing }
+    ensures { EndsWhere NothingFailed doing result (outside (seen_source (S.left source.old) (S.asked source.old) (S.faults source.old)) (seen_sink (K.written sink.old) (K.passed sink.old) (K.faults sink.old)))
+        (outside (seen_source (S.left source.new) (S.asked source.new) (S.faults source.new)) (seen_sink (K.written sink.new) (K.passed sink.new) (K.faults sink.new))) }
 {
     let Ok(mut buffer) = Buffer::new(alloc, 2 * doing.limit() + PIECE) else {
         return Status::Memory;

@@ -1,10 +1,10 @@
 //! The top call.
-ghost use Rattle.std.specs.Prelude.{◌≡◌, ◌↔◌, ◌⊎◌, ◌≤◌, ℕ, Some, None};
+ghost use Rattle.std.specs.Prelude.{◌≡◌, ◌↔◌, ℕ};
 ghost use Rattle.rtmfp_words.specs.Words.{IsFaulty, IsGenerate, IsReplay, IsShow};
-ghost use Rattle.rtmfp_cli.specs.Doing.{IsNext, playing, showing};
+ghost use Rattle.rtmfp_cli.specs.Doing.{Holds, IsNext, playing, showing};
 ghost use Rattle.rtmfp_play.specs.Generated.{GeneratedEnds};
-ghost use Rattle.rtmfp_cli.specs.Outside.{outside};
-ghost use Rattle.rtmfp_cli.specs.Run.{Finishes};
+ghost use Rattle.rtmfp_lines.specs.Outside.{outside, seen_sink, seen_source};
+ghost use Rattle.rtmfp_cli.specs.Run.{Finishes, PassesOn};
 ghost use Rattle.rtmfp_cli.specs.Script.{ScriptEnds};
 
 use crate::doing::Doing;
@@ -30,23 +30,23 @@ pub fn run<S: Source, K: Sink>(
     ensures bad_words { (result ≡ Status.BadWords) ↔ IsFaulty words.now }
 
     // Other words leave no text, and nothing is read.
-    ensures nothing_read { result ≡ Status.BadWords → S.left source.new ≡ S.left source.old }
-    ensures nothing_written { result ≡ Status.BadWords → K.written sink.new ≡ K.written sink.old }
+    ensures nothing_read { result ≡ Status.BadWords → source.new ≡ source.old }
+    ensures nothing_written { result ≡ Status.BadWords → sink.new ≡ sink.old }
 
-    ensures show { IsShow words.now → ScriptEnds showing result (outside (S.left source.old) (S.faults source.old) (K.written sink.old) (K.faults sink.old))
-        (outside (S.left source.new) (S.faults source.new) (K.written sink.new) (K.faults sink.new)) }
-    ensures replay { IsReplay words.now → ScriptEnds playing result (outside (S.left source.old) (S.faults source.old) (K.written sink.old) (K.faults sink.old))
-        (outside (S.left source.new) (S.faults source.new) (K.written sink.new) (K.faults sink.new)) }
-    ensures generate { (seed steps : ℕ) → IsGenerate words.now seed steps → GeneratedEnds seed steps result (K.written sink.old) (K.faults sink.old) (K.written sink.new) (K.faults sink.new) }
+    ensures show { IsShow words.now → ScriptEnds showing result (outside (seen_source (S.left source.old) (S.asked source.old) (S.faults source.old)) (seen_sink (K.written sink.old) (K.passed sink.old) (K.faults sink.old)))
+        (outside (seen_source (S.left source.new) (S.asked source.new) (S.faults source.new)) (seen_sink (K.written sink.new) (K.passed sink.new) (K.faults sink.new))) }
+    ensures replay { IsReplay words.now → ScriptEnds playing result (outside (seen_source (S.left source.old) (S.asked source.old) (S.faults source.old)) (seen_sink (K.written sink.old) (K.passed sink.old) (K.faults sink.old)))
+        (outside (seen_source (S.left source.new) (S.asked source.new) (S.faults source.new)) (seen_sink (K.written sink.new) (K.passed sink.new) (K.faults sink.new))) }
+    ensures generate { (seed steps : ℕ) → IsGenerate words.now seed steps → GeneratedEnds seed steps result (seen_sink (K.written sink.old) (K.passed sink.old) (K.faults sink.old)) (seen_sink (K.written sink.new) (K.passed sink.new) (K.faults sink.new)) }
 
     // A generated script needs no source.
-    ensures unread { (seed steps : ℕ) → IsGenerate words.now seed steps → S.left source.new ≡ S.left source.old }
+    ensures unread { (seed steps : ℕ) → IsGenerate words.now seed steps → source.new ≡ source.old }
 {
     match read_command(words) {
         None => Status::BadWords,
         Some(Command::Show) => over_lines(alloc, Doing::Showing, source, sink),
         Some(Command::Replay) => over_lines(alloc, Doing::Playing(World::new(alloc)), source, sink),
-        Some(Command::Generate { seed, steps }) => over_steps(alloc, seed, steps, sink),
+        Some(Command::Generate { seed, steps }) => generate(alloc, seed, steps, sink),
     }
 }
 
@@ -57,29 +57,38 @@ fn over_lines<S: Source, K: Sink>(
     source: &mut S,
     sink: &mut K,
 ) -> Status
-    requires { IsNext doing 1 }
-    ensures { ScriptEnds doing result (outside (S.left source.old) (S.faults source.old) (K.written sink.old) (K.faults sink.old))
-        (outside (S.left source.new) (S.faults source.new) (K.written sink.new) (K.faults sink.new)) }
+    requires next { IsNext doing 1 }
+    requires holds { Holds doing }
+    ensures { ScriptEnds doing result (outside (seen_source (S.left source.old) (S.asked source.old) (S.faults source.old)) (seen_sink (K.written sink.old) (K.passed sink.old) (K.faults sink.old)))
+        (outside (seen_source (S.left source.new) (S.asked source.new) (S.faults source.new)) (seen_sink (K.written sink.new) (K.passed sink.new) (K.faults sink.new))) }
 {
     let status = run_script(alloc, doing, source, sink);
     finish(status, sink)
 }
 
-/// Does so many generated steps.
-fn over_steps<K: Sink>(alloc: Global, seed: u64, steps: u64, sink: &mut K) -> Status
-    requires { steps ≤ 100000 }
-    ensures { GeneratedEnds seed steps result (K.written sink.old) (K.faults sink.old) (K.written sink.new) (K.faults sink.new) }
+/// Passes on what the sink still holds, unless the outside has failed: the text of the lines that were done
+/// isn't lost, however the run ended. All was passed on before the source was asked in vain.
+fn finish<K: Sink>(status: Status, sink: &mut K) -> Status
+    ensures { Finishes status result (seen_sink (K.written sink.old) (K.passed sink.old) (K.faults sink.old)) (seen_sink (K.written sink.new) (K.passed sink.new) (K.faults sink.new)) }
 {
-    let status = generate(alloc, seed, steps, sink);
-    finish(status, sink)
+    match status {
+        Status::SinkFault => Status::SinkFault,
+        Status::SourceFault => Status::SourceFault,
+        Status::Done => pass_on(Status::Done, sink),
+        Status::Memory => pass_on(Status::Memory, sink),
+        Status::BadWords => pass_on(Status::BadWords, sink),
+        Status::BadScript(line) => pass_on(Status::BadScript(line), sink),
+        Status::Forged(line) => pass_on(Status::Forged(line), sink),
+        Status::ScriptLong => pass_on(Status::ScriptLong, sink),
+    }
 }
 
-/// Passes on what the sink still holds. A run that was done isn't where this fails.
-fn finish<K: Sink>(status: Status, sink: &mut K) -> Status
-    ensures { Finishes status result (K.written sink.old) (K.faults sink.old) (K.written sink.new) (K.faults sink.new) }
+/// Passes on what the sink still holds.
+fn pass_on<K: Sink>(status: Status, sink: &mut K) -> Status
+    ensures { PassesOn status result (seen_sink (K.written sink.old) (K.passed sink.old) (K.faults sink.old)) (seen_sink (K.written sink.new) (K.passed sink.new) (K.faults sink.new)) }
 {
     match sink.flush() {
-        Wrote::Failed if status == Status::Done => Status::SinkFault,
-        _ => status,
+        Wrote::Done => status,
+        Wrote::Failed => Status::SinkFault,
     }
 }

@@ -3,3 +3,4 @@ pub mod Taking
 pub mod Writing
 pub mod Memory
 pub mod Plan
+pub mod Parts

@@ -1,6 +1,6 @@
 //! Sources over bytes in memory.
 ghost use Rattle.std.specs.Prelude.{◌≡◌, ◌<◌, ◌≤◌, ◌↔◌, length, IsTrue, Some};
-ghost use Rattle.rtmfp_host.specs.Faults.{Rose};
+ghost use Rattle.rtmfp_host.specs.Faults.{CountsTaken};
 ghost use Rattle.rtmfp_host.specs.Taking.{Takes};
 
 use crate::plan::Plan;
@@ -11,13 +11,14 @@ use crate::{Source, Taken};
 pub struct MemorySource {
     bytes: Vec<u8>,
     at: usize,
+    asked_at: usize,
     piece: usize,
     ghost within: { at ≤ length bytes.items },
     ghost some_piece: { 0 < piece },
 }
 
 impl MemorySource {
-    ghost use Rattle.rtmfp_host.specs.Memory.{source_left};
+    ghost use Rattle.rtmfp_host.specs.Memory.{source_asked, source_left};
 
     /// A source that gives these bytes, as many at a time as the reader asks for.
     pub fn new(bytes: Vec<u8>) -> MemorySource
@@ -34,19 +35,31 @@ impl MemorySource {
         MemorySource {
             bytes,
             at: 0,
+            asked_at: 0,
             piece,
         }
+    }
+
+    /// A read that gives nothing.
+    fn asked_in_vain(&mut self)
+        ensures left { source_left self.new ≡ source_left self.old }
+        ensures asked { source_asked self.new ≡ source_left self.old }
+    {
+        self.asked_at = self.at;
     }
 }
 
 impl Source for MemorySource {
-    ghost use Rattle.rtmfp_host.specs.Memory.{source_left};
+    ghost use Rattle.rtmfp_host.specs.Memory.{source_asked, source_left};
 
     ghost left = { λ s. Some (source_left s) };
+
+    ghost asked = { λ s. Some (source_asked s) };
 
     ghost faults = { λ _. 0 };
 
     fn read(&mut self, buf: &mut [u8]) -> Taken {
+        self.asked_at = self.at;
         let rest = &self.bytes[self.at..];
         let count = rest.len().min(self.piece).min(buf.len());
         if count == 0 {
@@ -84,18 +97,20 @@ impl FaultySource {
 }
 
 impl Source for FaultySource {
-    ghost use Rattle.rtmfp_host.specs.Memory.{faulty_source_left, source_plan, source_faults};
+    ghost use Rattle.rtmfp_host.specs.Memory.{faulty_source_asked, faulty_source_left, source_plan, source_faults};
     ghost use Rattle.rtmfp_host.specs.Plan.{fails_now, after_call};
 
     ghost left = { λ s. Some (faulty_source_left s) };
+
+    ghost asked = { λ s. Some (faulty_source_asked s) };
 
     ghost faults = { source_faults };
 
     fn read(&mut self, buf: &mut [u8]) -> Taken
         requires { 0 < length buf.old }
         ensures bytes { Takes (Some (faulty_source_left self.old)) (Some (faulty_source_left self.new)) result buf.new }
-        ensures later { source_faults self.old ≤ source_faults self.new }
-        ensures failed { result ≡ Taken.Failed → Rose (source_faults self.old) (source_faults self.new) }
+        ensures asked { Some (faulty_source_asked self.new) ≡ Some (faulty_source_left self.old) }
+        ensures faults { CountsTaken result (source_faults self.old) (source_faults self.new) }
 
         // It fails exactly where it was to.
         ensures fails { (result ≡ Taken.Failed) ↔ IsTrue (fails_now (source_plan self.old)) }
@@ -103,6 +118,7 @@ impl Source for FaultySource {
     {
         if self.plan.next_fails() {
             self.faults = self.faults.saturating_add(1);
+            self.source.asked_in_vain();
             return Taken::Failed;
         }
         self.source.read(buf)

@@ -1,6 +1,6 @@
 //! A sink over any writer, as standard output.
-ghost use Rattle.std.specs.Prelude.{◌≡◌, ◌≤◌, ◌↔◌, IsTrue, None};
-ghost use Rattle.rtmfp_host.specs.Faults.{Rose};
+ghost use Rattle.std.specs.Prelude.{◌≡◌, ◌↔◌, IsTrue, None};
+ghost use Rattle.rtmfp_host.specs.Faults.{CountsWrote};
 
 use crate::{Sink, Wrote};
 use std::io::Write;
@@ -24,8 +24,7 @@ impl<W: Write + Drop> StreamSink<W> {
     /// The answer of a call of the writer; a fault is counted.
     fn answer(&mut self, done: bool) -> Wrote
         ensures done { (result ≡ Wrote.Done) ↔ IsTrue done }
-        ensures later { self.old.faults ≤ self.new.faults }
-        ensures failed { result ≡ Wrote.Failed → Rose self.old.faults self.new.faults }
+        ensures faults { CountsWrote result self.old.faults self.new.faults }
     {
         if done {
             return Wrote::Done;
@@ -37,6 +36,10 @@ impl<W: Write + Drop> StreamSink<W> {
 
 impl<W: Write + Drop> Sink for StreamSink<W> {
     ghost written = { λ _. None };
+
+    ghost passed = { λ _. None };
+
+    ghost in_order = { λ _. tt };
 
     ghost faults = { λ s. s.faults };
 

@@ -23,6 +23,8 @@ impl<R: Read + Drop> StreamSource<R> {
 impl<R: Read + Drop> Source for StreamSource<R> {
     ghost left = { λ _. None };
 
+    ghost asked = { λ _. None };
+
     ghost faults = { λ s. s.faults };
 
     fn read(&mut self, buf: &mut [u8]) -> Taken {

@@ -1,11 +1,12 @@
 -- Reading one line from a source, in whatever pieces it gives.
-use Rattle.std.specs.Prelude.{◌≡◌, ◌≢◌, ℕ, ◌+◌, ◌<◌, ◌≤◌, List, [], ◌∷◌, ◌++◌, length, take, drop, slice_index, Option, Some, None}
+use Rattle.std.specs.Prelude.{◌≡◌, ◌≢◌, ℕ, ◌+◌, ◌<◌, ◌≤◌, ◌⊎◌, List, [], ◌∷◌, ◌++◌, length, take, drop, slice_index, Option, Some, None}
 use Rattle.rtmfp_host.specs.Taking.{Consumes, IsAtEnd}
 use Rattle.rtmfp_lines.specs.declared.lines.Found.{Found}
 use Rattle.rtmfp_lines.specs.declared.lines.Found.TheVariants as found
 use Rattle.rtmfp_lines.specs.declared.lines.Next.{Next}
 use Rattle.rtmfp_lines.specs.declared.lines.Next.TheVariants as next
 use Rattle.rtmfp_lines.specs.Lines.{NoLf}
+use Rattle.rtmfp_lines.specs.Outside.{Outside, SourceSeen, NothingFailed, SourceFailed, SinkFailed}
 
 -- a line of so many bytes stands in front, and its LF
 pub record StartsWithLine (limit : ℕ) (bytes : List ℕ) (len : ℕ) : Type 0 where
@@ -37,6 +38,33 @@ pub record HasRead (before after : Option (List ℕ)) (old new : List ℕ) : Typ
   pub got : List ℕ
   pub consumed : Consumes before after got
   pub joined : new ≡ old ++ got
+
+-- Before the last read a part of a line stood there, so that it was needed; what it gave stands behind that.
+pub record LastRead (limit : ℕ) (asked left : Option (List ℕ)) (bytes : List ℕ) : Type 0 where
+  pub part : List ℕ
+  pub got : List ℕ
+  pub is_part : IsPart limit part
+  pub joined : bytes ≡ part ++ got
+  pub consumed : Consumes asked left got
+
+-- nothing was read
+pub record NotRead (before after : SourceSeen) (old new : List ℕ) : Type 0 where
+  pub left : after.left ≡ before.left
+  pub asked : after.asked ≡ before.asked
+  pub bytes : new ≡ old
+
+-- each read of the source was needed
+abbrev pub Asks : ℕ → SourceSeen → SourceSeen → List ℕ → List ℕ → Type 0
+Asks limit before after old new = NotRead before after old new ⊎ LastRead limit after.asked after.left new
+
+-- what has failed; all that the sink held was passed on before the source was asked in vain
+abbrev pub NextFaults : Next → Outside → Outside → Type 0
+NextFaults (next.Line len) before after = NothingFailed before after
+NextFaults next.Last before after = NothingFailed before after
+NextFaults next.End before after = NothingFailed before after
+NextFaults next.TooLong before after = NothingFailed before after
+NextFaults next.SourceFailed before after = SourceFailed before after × (after.sink.passed ≡ after.sink.written)
+NextFaults next.SinkFailed before after = SinkFailed before after
 
 -- what stands in the buffer after a line was read
 abbrev pub LineStands : ℕ → Option (List ℕ) → Next → List ℕ → Type 0

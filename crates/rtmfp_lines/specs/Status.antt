@@ -1,5 +1,6 @@
--- The number of each status.
-use Rattle.std.specs.Prelude.{ℕ}
+-- The number of each status, and what the program prints of it.
+use Rattle.std.specs.Prelude.{ℕ, List, [], ◌∷◌, codes, decimal}
+use Rattle.rtmfp_text.specs.Words.{text_of}
 use Rattle.rtmfp_lines.specs.declared.status.Status.{Status as RunStatus}
 use Rattle.rtmfp_lines.specs.declared.status.Status.TheVariants.{Done, Memory, BadWords, BadScript, Forged, SinkFault, SourceFault, ScriptLong}
 
@@ -12,3 +13,18 @@ status_code (Forged n) = 4
 status_code SinkFault = 6
 status_code SourceFault = 7
 status_code ScriptLong = 10
+
+-- words, a number and LF
+unfoldable pub numbered : List ℕ → ℕ → List ℕ
+numbered words n = text_of (words ∷ decimal n ∷ codes "\n" ∷ [])
+
+-- what is printed on standard error
+abbrev pub complaint : RunStatus → List ℕ
+complaint Done = []
+complaint Memory = codes "rtmfp: out of memory\n"
+complaint BadWords = codes "rtmfp: bad command line\n"
+complaint (BadScript n) = numbered (codes "rtmfp: bad line ") n
+complaint (Forged n) = numbered (codes "rtmfp: forged datagram at line ") n
+complaint SinkFault = codes "rtmfp: write fault\n"
+complaint SourceFault = codes "rtmfp: read fault\n"
+complaint ScriptLong = codes "rtmfp: more than 1000000 lines\n"

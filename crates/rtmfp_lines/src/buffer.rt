@@ -1,6 +1,6 @@
 //! Bytes that were read and not handled yet.
 ghost use Rattle.std.specs.Prelude.{◌≡◌, ◌+◌, ◌-◌, ◌*◌, ◌<◌, ◌≤◌, [], length, take, drop, IfOk};
-ghost use Rattle.rtmfp_host.specs.Faults.{Rose};
+ghost use Rattle.rtmfp_host.specs.Faults.{CountsTaken};
 ghost use Rattle.rtmfp_lines.specs.Pending.{Fills, ReadsBehind};
 
 use rtmfp_host::{Source, Taken};
@@ -77,8 +77,8 @@ impl Buffer {
         requires { 2 * length self.old.bytes < self.old.capacity }
         ensures filled { Fills (S.left source.old) (S.left source.new) result self.old.bytes self.new.bytes }
         ensures capacity { self.new.capacity ≡ self.old.capacity }
-        ensures later { S.faults source.old ≤ S.faults source.new }
-        ensures failed { result ≡ Taken.Failed → Rose (S.faults source.old) (S.faults source.new) }
+        ensures asked { S.asked source.new ≡ S.left source.old }
+        ensures faults { CountsTaken result (S.faults source.old) (S.faults source.new) }
     {
         self.compact();
         match read_behind(source, &mut self.storage, self.end) {
@@ -97,8 +97,8 @@ fn read_behind<S: Source>(source: &mut S, bytes: &mut [u8], end: usize) -> Taken
     requires { end < length bytes.old }
     ensures behind { ReadsBehind (S.left source.old) (S.left source.new) end result bytes.old bytes.new }
     ensures length { length bytes.new ≡ length bytes.old }
-    ensures later { S.faults source.old ≤ S.faults source.new }
-    ensures failed { result ≡ Taken.Failed → Rose (S.faults source.old) (S.faults source.new) }
+    ensures asked { S.asked source.new ≡ S.left source.old }
+    ensures faults { CountsTaken result (S.faults source.old) (S.faults source.new) }
 {
     let (_, room) = bytes.split_at_mut(end);
     source.read(room)

@@ -3,6 +3,7 @@
 #![tactic(auto)]
 
 mod buffer;
+pub mod laws;
 mod lines;
 mod status;
 

@@ -1,9 +1,9 @@
 //! Lines read from a source in whatever pieces it gives.
 ghost use Rattle.std.specs.Prelude.{◌≡◌, ◌+◌, ◌*◌, ◌^◌, ◌<◌, ◌≤◌, [], length, take, drop};
-ghost use Rattle.rtmfp_host.specs.Faults.{Rose};
 ghost use Rattle.rtmfp_host.specs.Writing.{Appends};
 ghost use Rattle.rtmfp_lines.specs.Lines.{NoLf};
-ghost use Rattle.rtmfp_lines.specs.Reading.{Finds, IsFirstLf, ReadsLine};
+ghost use Rattle.rtmfp_lines.specs.Outside.{outside, seen_sink, seen_source};
+ghost use Rattle.rtmfp_lines.specs.Reading.{Asks, Finds, IsFirstLf, NextFaults, ReadsLine};
 
 use crate::buffer::Buffer;
 use memchr::memchr;
@@ -77,10 +77,11 @@ pub fn next_line<S: Source, K: Sink>(
     ensures read { ReadsLine limit (S.left source.old) (S.left source.new) result buffer.old.bytes buffer.new.bytes }
     ensures written { Appends (K.written sink.old) (K.written sink.new) [] }
     ensures capacity { buffer.new.capacity ≡ buffer.old.capacity }
-    ensures source { S.faults source.old ≤ S.faults source.new }
-    ensures sink { K.faults sink.old ≤ K.faults sink.new }
-    ensures source_failed { result ≡ Next.SourceFailed → Rose (S.faults source.old) (S.faults source.new) }
-    ensures sink_failed { result ≡ Next.SinkFailed → Rose (K.faults sink.old) (K.faults sink.new) }
+    ensures asks { Asks limit (seen_source (S.left source.old) (S.asked source.old) (S.faults source.old)) (seen_source (S.left source.new) (S.asked source.new) (S.faults source.new))
+        buffer.old.bytes buffer.new.bytes }
+    ensures faults { NextFaults result
+        (outside (seen_source (S.left source.old) (S.asked source.old) (S.faults source.old)) (seen_sink (K.written sink.old) (K.passed sink.old) (K.faults sink.old)))
+        (outside (seen_source (S.left source.new) (S.asked source.new) (S.faults source.new)) (seen_sink (K.written sink.new) (K.passed sink.new) (K.faults sink.new))) }
 {
     let mut scanned = 0;
     'reading: loop {

@@ -1,35 +1,28 @@
 //! How a run ended.
-ghost use Rattle.std.specs.Prelude.{◌≡◌};
-ghost use Rattle.rtmfp_lines.specs.Status.{status_code};
+ghost use Rattle.std.specs.Prelude.{◌≡◌, ◌++◌, OnOk};
+ghost use Rattle.rtmfp_lines.specs.Status.{complaint, numbered, status_code};
 
-use thiserror::Error;
+use rtmfp_text::Text;
+use std::alloc::AllocError;
 
-/// How a run ended. Its text is what the program prints of it.
-#[derive(Clone, Copy, Debug, PartialEq, Eq, Error)]
+/// How a run ended (own).
+#[derive(Clone, Copy, Debug, PartialEq, Eq)]
 pub enum Status {
     /// The source was read to its end.
-    #[error("done")]
     Done,
     /// There was no memory.
-    #[error("out of memory")]
     Memory,
     /// The words of the command line are not in the grammar.
-    #[error("bad command line")]
     BadWords,
     /// This line, counted from 1, is the first outside the grammar.
-    #[error("bad line {0}")]
     BadScript(u64),
     /// The step of this line brings a datagram that nobody sent.
-    #[error("forged datagram at line {0}")]
     Forged(u64),
     /// The sink failed.
-    #[error("write fault")]
     SinkFault,
     /// The source failed.
-    #[error("read fault")]
     SourceFault,
     /// The source has more lines than it may have.
-    #[error("more than 1000000 lines")]
     ScriptLong,
 }
 
@@ -49,4 +42,30 @@ impl Status {
             Status::ScriptLong => 10,
         }
     }
+
+    /// Adds what the program prints of it on standard error: nothing where the run was done, else one line.
+    pub fn complain(self, text: &mut Text) -> Result<(), AllocError>
+        ensures { OnOk result (text.new ≡ text.old ++ complaint self) }
+    {
+        match self {
+            Status::Done => Ok(()),
+            Status::Memory => text.push("rtmfp: out of memory\n"),
+            Status::BadWords => text.push("rtmfp: bad command line\n"),
+            Status::BadScript(line) => push_numbered("rtmfp: bad line ", line, text),
+            Status::Forged(line) => push_numbered("rtmfp: forged datagram at line ", line, text),
+            Status::SinkFault => text.push("rtmfp: write fault\n"),
+            Status::SourceFault => text.push("rtmfp: read fault\n"),
+            Status::ScriptLong => text.push("rtmfp: more than 1000000 lines\n"),
+        }
+    }
+}
+
+/// Adds words, the number of a line, and LF.
+fn push_numbered(words: &str, line: u64, text: &mut Text) -> Result<(), AllocError>
+    ensures { OnOk result (text.new ≡ text.old ++ numbered words.now line) }
+{
+    text.push(words)?;
+    text.push_number(line)?;
+    text.push("\n")?;
+    Ok(())
 }

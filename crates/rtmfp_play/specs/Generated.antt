@@ -17,6 +17,7 @@ use Rattle.rendezvous_world.specs.declared.step.StepFault.{StepFault}
 use Rattle.rendezvous_world.specs.declared.step.StepFault.TheVariants.{Forged}
 use Rattle.rtmfp_host.specs.Faults.{Rose}
 use Rattle.rtmfp_host.specs.Writing.{Appends}
+use Rattle.rtmfp_lines.specs.Outside.{Settled, SinkSeen}
 use Rattle.rtmfp_lines.specs.declared.status.Status.{Status}
 use Rattle.rtmfp_lines.specs.declared.status.Status.TheVariants as status
 use Rattle.rtmfp_play.specs.Play.{HistoryHolds, IsBadStep}
@@ -139,11 +140,11 @@ pub record HasWritten (seed steps : ℕ) (before after : Option (List ℕ)) (sho
   pub holds : HistoryHolds world
   pub written : Appends before after (shorten (summary_of steps world))
 
--- By its status, what it has written and the count of the sink's faults. Other statuses don't come.
-abbrev pub GeneratedEnds : ℕ → ℕ → Status → Option (List ℕ) → ℕ → Option (List ℕ) → ℕ → Type 0
-GeneratedEnds seed steps status.Done before faults after later = HasWritten seed steps before after (λ text. text)
-GeneratedEnds seed steps status.Memory before faults after later = Appends before after []
-GeneratedEnds seed steps (status.BadScript line) before faults after later = StopsAtLine IsBadStep seed steps line × Appends before after []
-GeneratedEnds seed steps (status.Forged line) before faults after later = StopsAtLine IsForgedStep seed steps line × Appends before after []
-GeneratedEnds seed steps status.SinkFault before faults after later = ((k : ℕ) × HasWritten seed steps before after (take k)) × Rose faults later
-GeneratedEnds seed steps other before faults after later = ⊥
+-- By its status: what it has written and passed on, and what has failed. Other statuses don't come.
+abbrev pub GeneratedEnds : ℕ → ℕ → Status → SinkSeen → SinkSeen → Type 0
+GeneratedEnds seed steps status.Done before after = HasWritten seed steps before.written after.written (λ text. text) × Settled before after
+GeneratedEnds seed steps status.Memory before after = after ≡ before
+GeneratedEnds seed steps (status.BadScript line) before after = StopsAtLine IsBadStep seed steps line × (after ≡ before)
+GeneratedEnds seed steps (status.Forged line) before after = StopsAtLine IsForgedStep seed steps line × (after ≡ before)
+GeneratedEnds seed steps status.SinkFault before after = ((k : ℕ) × HasWritten seed steps before.written after.written (take k)) × Rose before.faults after.faults
+GeneratedEnds seed steps other before after = ⊥

@@ -1,11 +1,12 @@
 -- What the parts of a generated run do.
-use Rattle.std.specs.Prelude.{ℕ, ◌+◌, ◌≤◌, ◌≡◌, List, [], take, Option, IfErr, OnOk, Result}
+use Rattle.std.specs.Prelude.{ℕ, ◌+◌, ◌≡◌, List, take, Option, IfErr, OnOk, Result}
 use Rattle.rendezvous_world.specs.declared.step.Step.{Step}
 use Rattle.rendezvous_world.specs.declared.step.StepFault.{StepFault}
 use Rattle.rendezvous_world.specs.Seen.{Seen}
 use Rattle.rendezvous_world.specs.Faults.{step_fault}
 use Rattle.rendezvous_world.specs.Sound.{AreBelow}
 use Rattle.rendezvous_world.specs.Stepping.{Stepped}
+use Rattle.rtmfp_lines.specs.Outside.{Settled, SinkSeen}
 use Rattle.rtmfp_lines.specs.declared.status.Status.{Status}
 use Rattle.rtmfp_lines.specs.declared.status.Status.TheVariants as status
 use Rattle.rtmfp_play.specs.Play.{IsBadStep}
@@ -33,9 +34,13 @@ RunEnds Stops (status.BadScript line) = Stops IsBadStep line
 RunEnds Stops (status.Forged line) = Stops IsForgedStep line
 RunEnds Stops other = ⊥
 
--- The summary was written, or a first part of it, or no memory was found for it.
-abbrev pub Summarizes : ℕ → Seen → Status → Option (List ℕ) → ℕ → Option (List ℕ) → ℕ → Type 0
-Summarizes steps w status.Done before faults after later = Appends before after (summary_of steps w) × (faults ≤ later)
-Summarizes steps w status.Memory before faults after later = Appends before after [] × (faults ≤ later)
-Summarizes steps w status.SinkFault before faults after later = ((k : ℕ) × Appends before after (take k (summary_of steps w))) × Rose faults later × (faults ≤ later)
-Summarizes steps w other before faults after later = ⊥
+-- The text was written and passed on, or a first part of it was written.
+abbrev pub HandsOver : List ℕ → Status → SinkSeen → SinkSeen → Type 0
+HandsOver text status.Done before after = Appends before.written after.written text × Settled before after
+HandsOver text status.SinkFault before after = ((k : ℕ) × Appends before.written after.written (take k text)) × Rose before.faults after.faults
+HandsOver text other before after = ⊥
+
+-- The summary was written, or no memory was found for it.
+abbrev pub Summarizes : ℕ → Seen → Status → SinkSeen → SinkSeen → Type 0
+Summarizes steps w status.Memory before after = after ≡ before
+Summarizes steps w result before after = HandsOver (summary_of steps w) result before after

@@ -1,12 +1,12 @@
 //! The generated run: eight ends, and steps that a sequence of numbers picks.
 ghost use Rattle.std.specs.Prelude.{◌≡◌, ◌+◌, ◌<◌, ◌≤◌, ◌^◌, ◌++◌, ◌∷◌, [], IfErr, IfOk, OnOk, codes};
-ghost use Rattle.rtmfp_host.specs.Faults.{Rose};
 ghost use Rattle.rendezvous_world.specs.Laws.{empty_world};
 ghost use Rattle.rendezvous_world.specs.Sent.{sent_in};
 ghost use Rattle.rendezvous_world.specs.Sound.{AreBelow};
 ghost use Rattle.rtmfp_play.specs.Generated.{Begun, GeneratedEnds, Generates, StopsAtEnd, StopsAtStep, delivery, delivery_or_tick, end_place, end_step, generated_step, next_number, summary_of};
 ghost use Rattle.rtmfp_play.specs.Play.{HistoryHolds};
-ghost use Rattle.rtmfp_play.specs.Generating.{RunEnds, Summarizes, TakesStep};
+ghost use Rattle.rtmfp_lines.specs.Outside.{seen_sink};
+ghost use Rattle.rtmfp_play.specs.Generating.{HandsOver, RunEnds, Summarizes, TakesStep};
 
 use crate::play::sent_so_far;
 use identity::Certificate;
@@ -35,8 +35,7 @@ const PAUSE: u64 = 500;
 /// Does so many generated steps, and writes their summary.
 pub fn generate<K: Sink>(alloc: Global, seed: u64, steps: u64, sink: &mut K) -> Status
     requires { steps ≤ MOST_STEPS }
-    ensures ends { GeneratedEnds seed steps result (K.written sink.old) (K.faults sink.old) (K.written sink.new) (K.faults sink.new) }
-    ensures later { K.faults sink.old ≤ K.faults sink.new }
+    ensures { GeneratedEnds seed steps result (seen_sink (K.written sink.old) (K.passed sink.old) (K.faults sink.old)) (seen_sink (K.written sink.new) (K.passed sink.new) (K.faults sink.new)) }
 {
     let mut world = World::new(alloc);
     if let Err(status) = begin(&mut world) {
@@ -240,16 +239,26 @@ fn holds(world: &World)
 
 /// Writes the line of a run that is over.
 fn write_summary<K: Sink>(alloc: Global, world: &World, steps: u64, sink: &mut K) -> Status
-    ensures summary { Summarizes steps world.now result (K.written sink.old) (K.faults sink.old) (K.written sink.new) (K.faults sink.new) }
+    ensures summary { Summarizes steps world.now result (seen_sink (K.written sink.old) (K.passed sink.old) (K.faults sink.old)) (seen_sink (K.written sink.new) (K.passed sink.new) (K.faults sink.new)) }
     ensures holds { HistoryHolds world.now }
 {
     holds(world);
     let mut text = Text::new(alloc);
-    if summarize(world, steps, &mut text).is_err() {
-        return Status::Memory;
+    match summarize(world, steps, &mut text) {
+        Ok(()) => hand_over(text.bytes(), sink),
+        Err(_) => Status::Memory,
     }
-    match sink.write(text.bytes()) {
-        Wrote::Done => Status::Done,
+}
+
+/// Writes a text and passes it on.
+fn hand_over<K: Sink>(text: &[u8], sink: &mut K) -> Status
+    ensures { HandsOver text.now result (seen_sink (K.written sink.old) (K.passed sink.old) (K.faults sink.old)) (seen_sink (K.written sink.new) (K.passed sink.new) (K.faults sink.new)) }
+{
+    match sink.write(text) {
+        Wrote::Done => match sink.flush() {
+            Wrote::Done => Status::Done,
+            Wrote::Failed => Status::SinkFault,
+        },
         Wrote::Failed => Status::SinkFault,
     }
 }

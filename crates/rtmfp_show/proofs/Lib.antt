@@ -2,3 +2,4 @@ pub mod ChunkLines
 pub mod Payloads
 pub mod Texts
 pub mod Lists
+pub mod Naming

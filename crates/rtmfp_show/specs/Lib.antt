@@ -4,3 +4,4 @@ pub mod ShowText
 pub mod ShowLine
 pub mod Adding
 pub mod OneText
+pub mod Names

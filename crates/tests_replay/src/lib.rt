@@ -2,7 +2,11 @@
 #![tactic(auto)]
 
 #[cfg(test)]
+mod cli;
+#[cfg(test)]
 mod host;
+#[cfg(test)]
+mod lines;
 #[cfg(test)]
 mod replay;
 #[cfg(test)]

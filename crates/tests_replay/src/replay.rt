@@ -359,6 +359,89 @@ open a b 10.0.0.2:1935\n\
 ",
 };
 
+const OVERRIDE: Row = Row {
+    script: "\
+end a 65536 4096 The quick brown fox jumps over the lazy dog\n\
+end b 65536 4096 The quick brown fox jumps over the lazy dog.\n\
+open a b 10.0.0.2:1935\n\
+deliver 1 b 10.0.0.1:1935\n\
+deliver 2 a 10.0.0.2:1935\n\
+deliver 3 b 10.0.0.1:1935\n\
+cancel a 1\n\
+open a b 10.0.0.2:1935\n\
+deliver 5 b 10.0.0.1:1935\n\
+deliver 6 a 10.0.0.2:1935\n\
+deliver 7 b 10.0.0.1:1935\n\
+",
+    status: Status::Done,
+    report: "\
+3 a started peer=b n=1 near=3 ni=3\n\
+3 a sent 1 10.0.0.2:1935 ihello\n\
+4 b sent 2 10.0.0.1:1935 rhello\n\
+5 a sent 3 10.0.0.2:1935 iikeying\n\
+6 b born peer=a n=1 near=6 far=3 ni=3 nr=6 k=0\n\
+6 b sent 4 10.0.0.1:1935 rikeying\n\
+7 a ended near=3 cancelled\n\
+8 a started peer=b n=2 near=8 ni=8\n\
+8 a sent 5 10.0.0.2:1935 ihello\n\
+9 b sent 6 10.0.0.1:1935 rhello\n\
+10 a sent 7 10.0.0.2:1935 iikeying\n\
+11 b ended near=6 override\n\
+11 b born peer=a n=2 near=11 far=8 ni=8 nr=b k=0\n\
+11 b sent 8 10.0.0.1:1935 rikeying\n\
+",
+};
+
+/// A comment and an empty line are counted, a last line may stand without LF, a cancel needs an attempt of its number,
+/// and an attempt is repeated and then expires.
+const TIMES: Row = Row {
+    script: "\
+# two ends\n\
+\n\
+end a 65536 4096 The quick brown fox jumps over the lazy dog\n\
+end b 65536 4096 The quick brown fox jumps over the lazy dog.\n\
+cancel a 1\n\
+open a b 10.0.0.2:1935\n\
+cancel a 2\n\
+at 999\n\
+tick a\n\
+at 94999\n\
+tick a\n\
+at 95000\n\
+tick a",
+    status: Status::Done,
+    report: "\
+5 a refused no-attempt\n\
+6 a started peer=b n=1 near=6 ni=6\n\
+6 a sent 1 10.0.0.2:1935 ihello\n\
+7 a refused no-attempt\n\
+11 a sent 2 10.0.0.2:1935 ihello\n\
+13 a ended near=6 expired\n\
+",
+};
+
+/// The bytes were made apart from this program: a plain packet that opens, and that nobody sent.
+const FORGED_BY_INJECT: Row = Row {
+    script: "\
+end a 65536 4096 The quick brown fox jumps over the lazy dog\n\
+end b 65536 4096 The quick brown fox jumps over the lazy dog.\n\
+open a b 10.0.0.2:1935\n\
+inject b 10.0.0.1:1935 f3c13152dd4b532b2e8a6279421e678998a7793cffffffffffffffffffffffffffffffffe7c11d5a60\n\
+open b a 10.0.0.1:1935\n\
+",
+    status: Status::Forged(4),
+    report: "\
+3 a started peer=b n=1 near=3 ni=3\n\
+3 a sent 1 10.0.0.2:1935 ihello\n\
+",
+};
+
+const BACK_IN_TIME: Row = Row {
+    script: "at 5\nat 4\n",
+    status: Status::BadScript(2),
+    report: "",
+};
+
 /// Whether a script ends so, with this report.
 fn is_reported(alloc: Global, row: &Row) -> Result<bool, Fail> {
     let (status, text) = ran(alloc, &["replay"], row.script)?;
@@ -372,6 +455,8 @@ fn attempts_open_whatever_is_lost_or_crosses(rt: HostRuntime) -> Result<(), Fail
     assert!(rt; is_reported(rt.alloc(), &THE_WINNERS_KEYING_IS_LOST)?);
     assert!(rt; is_reported(rt.alloc(), &ONE_KEYING_THREE_TIMES)?);
     assert!(rt; is_reported(rt.alloc(), &BOTH_CANCELLED)?);
+    assert!(rt; is_reported(rt.alloc(), &OVERRIDE)?);
+    assert!(rt; is_reported(rt.alloc(), &TIMES)?);
     Ok(())
 }
 
@@ -382,6 +467,8 @@ fn datagrams_of_others_are_refused(rt: HostRuntime) -> Result<(), Fail> {
     assert!(rt; is_reported(rt.alloc(), &INJECTED_BYTES)?);
     assert!(rt; is_reported(rt.alloc(), &NO_SUCH_DATAGRAM)?);
     assert!(rt; is_reported(rt.alloc(), &FORGED)?);
+    assert!(rt; is_reported(rt.alloc(), &FORGED_BY_INJECT)?);
+    assert!(rt; is_reported(rt.alloc(), &BACK_IN_TIME)?);
     Ok(())
 }
 
@@ -412,11 +499,21 @@ fn generated_runs_are_summarized(rt: HostRuntime) -> Result<(), Fail> {
             "1",
             "ends=8 steps=1 sent=1 started=1 born=0 opened=0 confirmed=0 ended=0 dropped=0 kept=0\n",
         ),
-        // These two are what the plain program of `scripts/baseline` prints, which was written apart from this one.
+        // These are what the plain program of `scripts/baseline` prints, which was written apart from this one.
         (
             "10",
             "100",
             "ends=8 steps=100 sent=46 started=10 born=2 opened=2 confirmed=1 ended=0 dropped=31 kept=3\n",
+        ),
+        (
+            "1",
+            "100000",
+            "ends=8 steps=100000 sent=332 started=38 born=28 opened=28 confirmed=21 ended=10 dropped=68459 kept=49\n",
+        ),
+        (
+            "1",
+            "100000",
+            "ends=8 steps=100000 sent=332 started=38 born=28 opened=28 confirmed=21 ended=10 dropped=68459 kept=49\n",
         ),
         (
             "3",

@@ -1,7 +1,7 @@
 ghost use Rattle.std.specs.Prelude.{◌<◌};
 
 use rtmfp_cli::{Status, run};
-use rtmfp_host::{FaultySink, FaultySource, MemorySource};
+use rtmfp_host::{FaultySink, FaultySource, MemorySink, MemorySource};
 use std::alloc::Global;
 use std::test::Fail;
 
@@ -20,7 +20,12 @@ fn shown(
     let words = vec![in alloc; String::from_str(alloc, "show")?]?;
     let bytes = MemorySource::in_pieces(Vec::from_slice(alloc, input.as_bytes())?, piece);
     let mut source = FaultySource::new(bytes, Vec::from_slice(alloc, failing_reads)?);
-    let mut sink = FaultySink::new(alloc, Vec::from_slice(alloc, failing_writes)?);
+    let mut sink = FaultySink::new(
+        alloc,
+        Vec::from_slice(alloc, failing_writes)?,
+        Vec::new(alloc),
+        0,
+    );
     let status = run(alloc, words.as_slice(), &mut source, &mut sink);
     let written = sink.written().ok_or("a sink that kept all")?;
     let text = std::str::from_utf8(written).ok().ok_or("text")?;
@@ -203,25 +208,99 @@ fn takes_the_one_word_show(rt: HostRuntime) -> Result<(), Fail> {
             owned.push(String::from_str(alloc, word)?)?;
         }
         let mut source = MemorySource::new(Vec::from_slice(alloc, b"00\n")?);
-        let mut sink = FaultySink::new(alloc, Vec::new(alloc));
+        let mut sink = MemorySink::new(alloc);
         let status = run(alloc, owned.as_slice(), &mut source, &mut sink);
         assert_eq!(rt; status, Status::BadWords);
     }
     Ok(())
 }
 
+/// One packet a line, with all that a row is to have: lines of packets whose heads and chunks have ignored bits and
+/// bytes, of each type whose payload is empty, and of a number that has none after it.
+const EDGES: &str = "\
+83\n\
+f3\n\
+08\n\
+0c\n\
+033000000f0000700000710000790000380000780000010000410000\
+1000001100001800005000005100005e00000c00004c00007f0000\n\
+011000054c02030141110002\
+4c42\n\
+0118000302ffff5e00040263aabb\n\
+0110000d000281ffffffffffffffff7e0111000100110001\
+00\n\
+01000001aaff000010000400020301000000110001\
+00\n\
+";
+
+const EDGES_TEXT: &str = "\
+packet mode=3 critical=1 reverse=0 stamp=- echo=-\n\
+padding 0\n\
+packet mode=3 critical=1 reverse=1 stamp=- echo=-\n\
+padding 0\n\
+bad mode-zero\n\
+bad mode-zero\n\
+packet mode=3 critical=0 reverse=0 stamp=- echo=-\n\
+1 malformed ihello 0\n\
+4 malformed fihello 0\n\
+7 malformed rhello 0\n\
+10 malformed redirect 0\n\
+13 malformed cookiechange 0\n\
+16 malformed iikeying 0\n\
+19 malformed rikeying 0\n\
+22 ping bytes=-\n\
+25 pingreply bytes=-\n\
+28 malformed data 0\n\
+31 malformed next 0\n\
+34 malformed probe 0\n\
+37 malformed ackbits 0\n\
+40 malformed ackranges 0\n\
+43 malformed exception 0\n\
+46 close\n\
+49 closeack\n\
+52 malformed fragment 0\n\
+padding 0\n\
+packet mode=1 critical=0 reverse=0 stamp=- echo=-\n\
+1 data part=whole abandon=0 final=0 flow=2 seq=3 forward=2 opts=- bytes=41\n\
+9 next part=whole abandon=0 final=0 flow=2 seq=4 forward=2 opts=- bytes=42\n\
+padding 0\n\
+packet mode=1 critical=0 reverse=0 stamp=- echo=-\n\
+1 probe flow=2\n\
+7 exception flow=2 code=99\n\
+padding 0\n\
+packet mode=1 critical=0 reverse=0 stamp=- echo=-\n\
+1 data part=whole abandon=0 final=0 flow=2 seq=18446744073709551614 forward=18446744073709551613 opts=- bytes=-\n\
+17 next part=whole abandon=0 final=0 flow=2 seq=18446744073709551615 forward=18446744073709551613 opts=- bytes=-\n\
+21 malformed next 0\n\
+padding 0\n\
+packet mode=1 critical=0 reverse=0 stamp=- echo=-\n\
+8 data part=whole abandon=0 final=0 flow=2 seq=3 forward=2 opts=- bytes=-\n\
+18 next part=whole abandon=0 final=0 flow=2 seq=4 forward=2 opts=- bytes=-\n\
+padding 0\n\
+";
+
 #[test]
-fn names_each_status(rt: HostRuntime) -> Result<(), Fail> {
-    let table = [
-        (Status::Memory, "out of memory"),
-        (Status::BadWords, "bad command line"),
-        (Status::BadScript(12), "bad line 12"),
-        (Status::SinkFault, "write fault"),
-        (Status::SourceFault, "read fault"),
-        (Status::ScriptLong, "more than 1000000 lines"),
-    ];
-    for (status, text) in table {
-        assert_eq!(rt; format!(in rt.alloc(); "{status}")?.as_str(), text);
+fn shows_edges(rt: HostRuntime) -> Result<(), Fail> {
+    let (status, text) = shown(rt.alloc(), EDGES, 4096, &[], &[])?;
+    assert_eq!(rt; text.as_str(), EDGES_TEXT);
+    assert_eq!(rt; status, Status::Done);
+    Ok(())
+}
+
+#[test]
+fn shows_lines_up_to_the_limit(rt: HostRuntime) -> Result<(), Fail> {
+    let alloc = rt.alloc();
+    let mut line = String::from_str(alloc, "03")?;
+    for _ in 0..2047 {
+        line.push_str("ff")?;
     }
+    let (status, text) = shown(alloc, line.as_str(), 4096, &[], &[])?;
+    let whole = format!(in alloc; "{HEAD}padding 2047\n")?;
+    assert_eq!(rt; status, Status::Done);
+    assert_eq!(rt; text.as_str(), whole.as_str());
+    line.push_str("ff")?;
+    let (status, text) = shown(alloc, line.as_str(), 4096, &[], &[])?;
+    assert_eq!(rt; status, Status::BadScript(1));
+    assert_eq!(rt; text.as_str(), "");
     Ok(())
 }

@@ -1,15 +1,27 @@
 use Rattle.std.proofs.Common.{refl}
-use Rattle.rtmfp_cli.proofs.Turns.{none_written, line_is_there, starts_is_some, not_none}
+use Rattle.rtmfp_lines.specs.Outside.{outside, seen_sink, seen_source}
+use Rattle.rtmfp_cli.proofs.Turns.{none_written, line_is_there, starts_is_some, not_none, reading_stopped}
 use Rattle.rtmfp_cli.proofs.script_run.close_script.Goals as goal
 
-pub returns-in-Line-clause-closed : goal.returns-in-Line-clause-closed
-returns-in-Line-clause-closed g c =
-    let read = c.in-Line.ensures.read in
+pub returns-in-Line : goal.returns-in-Line
+returns-in-Line g c =
+    let e = c.in-Line.ensures in
     let bytes = c.next_line.new.buffer.bytes in
-    (bytes, none_written _ _ c.args.buffer.now.bytes bytes _ (record { read = read.0; kept = c.in-Line.ensures.written }) refl, line_is_there _ bytes (starts_is_some 0 c.in-Line.field-0 bytes read.1))
+    let read = c.next_line.new.source in
+    let made = c.next_line.new.sink in
+    let now = outside (seen_source (g.S.Source.left read) (g.S.Source.asked read) (g.S.Source.faults read)) (seen_sink (g.K.Sink.written made) (g.K.Sink.passed made) (g.K.Sink.faults made)) in
+    (e.faults, (bytes, none_written 0 _ now now.sink c.args.buffer.now.bytes bytes (record { read = e.read.0; asks = e.asks; kept = e.written }) refl, line_is_there _ bytes (starts_is_some 0 c.in-Line.field-0 bytes e.read.1)))
 
-pub returns-in-TooLong-clause-closed : goal.returns-in-TooLong-clause-closed
-returns-in-TooLong-clause-closed g c =
-    let read = c.in-TooLong.ensures.read in
+pub returns-in-TooLong : goal.returns-in-TooLong
+returns-in-TooLong g c =
+    let e = c.in-TooLong.ensures in
     let bytes = c.next_line.new.buffer.bytes in
-    (bytes, none_written _ _ c.args.buffer.now.bytes bytes _ (record { read = read.0; kept = c.in-TooLong.ensures.written }) refl, line_is_there _ bytes (not_none 0 bytes read.1.0))
+    let read = c.next_line.new.source in
+    let made = c.next_line.new.sink in
+    let now = outside (seen_source (g.S.Source.left read) (g.S.Source.asked read) (g.S.Source.faults read)) (seen_sink (g.K.Sink.written made) (g.K.Sink.passed made) (g.K.Sink.faults made)) in
+    (e.faults, (bytes, none_written 0 _ now now.sink c.args.buffer.now.bytes bytes (record { read = e.read.0; asks = e.asks; kept = e.written }) refl, line_is_there _ bytes (not_none 0 bytes e.read.1.0)))
+
+pub returns-in-SourceFailed : goal.returns-in-SourceFailed
+returns-in-SourceFailed g c =
+    let e = c.in-SourceFailed.ensures in
+    reading_stopped 0 _ _ c.args.buffer.now.bytes c.next_line.new.buffer.bytes (record { read = e.read.0; asks = e.asks; kept = e.written }) e.faults.0 e.faults.1 e.read.1

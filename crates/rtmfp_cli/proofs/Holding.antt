@@ -1,0 +1,38 @@
+-- What lines leave holds.
+use Rattle.std.proofs.Common.{◌≡◌, ℕ, ◌+◌, List, [], ◌∷◌, inl, inr, sym, subst}
+use Rattle.rendezvous_world.specs.Seen.{Seen}
+use Rattle.rendezvous_world.specs.Laws.{empty_world}
+use Rattle.rendezvous_world.proofs.Keeping.{new_world}
+use Rattle.rendezvous_world.proofs.Sounds.{every_world_is_sound}
+use Rattle.rendezvous_world.proofs.Agreeing.{agreed}
+use Rattle.rtmfp_play.specs.Play.{HistoryHolds, Plays}
+use Rattle.rtmfp_cli.specs.declared.doing.Doing.{Doing}
+use Rattle.rtmfp_cli.specs.declared.doing.Doing.TheVariants.{Showing, Playing}
+use Rattle.rtmfp_cli.specs.Doing.{Does, Holds}
+use Rattle.rtmfp_cli.specs.Script.{Runs}
+
+-- a run begins with a world that holds
+pub empty_holds : HistoryHolds empty_world
+empty_holds = record { sound = every_world_is_sound empty_world new_world; agreed = agreed empty_world new_world }
+
+pub holds_first : (w : Seen) → w ≡ empty_world → HistoryHolds w
+holds_first w e = subst HistoryHolds (sym e) empty_holds
+
+plays_holds : (w : Seen) (n : ℕ) (line : List ℕ) (t : Seen) (text : List ℕ) → HistoryHolds w → Plays w n line t text → HistoryHolds t
+plays_holds w n line t text holds plays =
+    elim plays [
+      | inl nothing ↦ subst HistoryHolds (sym nothing.same) holds
+      | inr step ↦ step.holds
+    ]
+
+-- one line more
+pub does_hold : (doing : Doing) (n : ℕ) (line : List ℕ) (left : Doing) (text : List ℕ) → Holds doing → Does doing n line left text → Holds left
+does_hold Showing n line Showing text holds does = tt
+does_hold Showing n line (Playing t) text holds does = absurd does
+does_hold (Playing w) n line Showing text holds does = tt
+does_hold (Playing w) n line (Playing t) text holds does = plays_holds w n line t text holds does
+
+-- many lines
+pub runs_hold : (n : ℕ) (doing left : Doing) (lines : List (List ℕ)) (text : List ℕ) → Holds doing → Runs n doing lines left text → Holds left
+runs_hold n doing left [] text holds ran = subst Holds (sym ran.0) holds
+runs_hold n doing left (line ∷ lines) text holds ran = runs_hold (n + 1) ran.0 left lines ran.2 (does_hold doing n line ran.0 ran.1 holds ran.3) ran.4

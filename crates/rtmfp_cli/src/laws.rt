@@ -1,0 +1,13 @@
+//! What holds of all runs over lines. The functions do nothing: the contract of each is its law.
+ghost use Rattle.rtmfp_cli.specs.Laws.{EveryRunHolds, Limits};
+
+/// No run of a script leaves two ends that keep different sessions with each other: its history is lawful,
+/// honest and fresh, and so it is agreed.
+pub fn every_run_holds()
+    ensures { EveryRunHolds }
+{}
+
+/// The most lines of a source, and the longest line of each command in bytes without its LF (own).
+pub fn limits()
+    ensures { Limits }
+{}
