@@ -1,17 +1,21 @@
 //! A plain Rust program that prints what `rtmfp replay --generate N --steps K` prints: the bar for its speed.
-//! With `--script` it prints the script of that run, and with `--report` the report of it.
+//! With `--script` it prints the script of that run, and with `--report` the report of it. Without a seed it reads a
+//! script from its input, and prints the report of each line.
 #[path = "replay/crypto.rs"]
 mod crypto;
 #[path = "replay/end.rs"]
 mod end;
 #[path = "replay/report.rs"]
 mod report;
+#[path = "replay/script.rs"]
+mod script;
 #[path = "replay/wire.rs"]
 mod wire;
 
-use crypto::Context;
+use crypto::{Context, Print};
 use end::{Draws, End, Entry, Fact, Group, Refusal};
 use std::collections::{HashMap, HashSet};
+use std::io::{self, BufRead, BufWriter, Write};
 use std::process::ExitCode;
 use std::rc::Rc;
 use wire::{Address, Host};
@@ -46,6 +50,8 @@ struct Sent {
 pub struct World {
     group: Rc<Group>,
     pub ends: Vec<End>,
+    by_name: HashMap<String, usize>,
+    by_print: HashMap<Print, usize>,
     moment: u64,
     pub journal: Vec<JournalLine>,
     sent: Vec<Sent>,
@@ -61,7 +67,29 @@ enum StepFault {
 impl World {
     fn new() -> Self {
         let group = Rc::new(Group::new([0; 32]));
-        World { group, ends: Vec::new(), moment: 0, journal: Vec::new(), sent: Vec::new(), contexts: HashMap::new() }
+        World {
+            group,
+            ends: Vec::new(),
+            by_name: HashMap::new(),
+            by_print: HashMap::new(),
+            moment: 0,
+            journal: Vec::new(),
+            sent: Vec::new(),
+            contexts: HashMap::new(),
+        }
+    }
+
+    pub fn end_named(&self, name: &str) -> Option<usize> {
+        self.by_name.get(name).copied()
+    }
+
+    pub fn name_of(&self, print: &Print) -> &str {
+        self.by_print.get(print).map_or("-", |end| &self.ends[*end].name)
+    }
+
+    /// Whether a datagram has this number; they are counted from 1.
+    pub fn was_numbered(&self, number: usize) -> bool {
+        (1..=self.sent.len()).contains(&number)
     }
 
     fn step(&mut self, line: u64, step: Step) -> Result<(), StepFault> {
@@ -70,9 +98,11 @@ impl World {
         let end = match &step {
             Step::End { name, max_peers, max_sessions, cert } => {
                 let end = End::new(name.clone(), *max_peers, *max_sessions, cert.clone().into_bytes(), self.group.clone());
-                if self.ends.iter().any(|other| other.name == end.name || other.print == end.print) {
+                if self.by_name.contains_key(name) || self.by_print.contains_key(&end.print) {
                     return Err(StepFault::BadStep);
                 }
+                self.by_name.insert(name.clone(), self.ends.len());
+                self.by_print.insert(end.print, self.ends.len());
                 self.ends.push(end);
                 None
             }
@@ -190,9 +220,41 @@ fn run(seed: u64, steps: u64) -> Result<World, (StepFault, u64)> {
     Ok(world)
 }
 
-fn words() -> Option<(u64, u64, HashSet<String>)> {
+/// Does a script line by line, and prints what each did.
+fn run_script() -> io::Result<Result<(), (StepFault, u64)>> {
+    let mut out = BufWriter::with_capacity(1 << 16, io::stdout().lock());
+    let mut input = io::stdin().lock();
+    let (mut world, mut line, mut number, mut sent) = (World::new(), String::new(), 0, 0);
+    while input.read_line(&mut line)? > 0 {
+        number += 1;
+        match script::read_line(&world, line.trim_end_matches('\n')) {
+            Err(()) => return out.flush().map(|()| Err((StepFault::BadStep, number))),
+            Ok(None) => {}
+            Ok(Some(step)) => match world.step(number, step) {
+                Err(fault) => return out.flush().map(|()| Err((fault, number))),
+                Ok(()) => {
+                    if let Some(done) = world.journal.last() {
+                        report::write_line(&mut out, &world, done, &mut sent)?;
+                    }
+                }
+            },
+        }
+        line.clear();
+    }
+    out.flush().map(Ok)
+}
+
+enum Task {
+    Script,
+    Generate { seed: u64, steps: u64, flags: HashSet<String> },
+}
+
+fn task() -> Option<Task> {
     let (mut seed, mut steps, mut flags) = (None, None, HashSet::new());
-    let mut words = std::env::args().skip(1);
+    let mut words = std::env::args().skip(1).peekable();
+    if words.peek().is_none() {
+        return Some(Task::Script);
+    }
     while let Some(word) = words.next() {
         match word.as_str() {
             "--generate" => seed = Some(words.next()?.parse().ok()?),
@@ -201,26 +263,35 @@ fn words() -> Option<(u64, u64, HashSet<String>)> {
             _ => return None,
         }
     }
-    Some((seed?, steps?, flags))
+    Some(Task::Generate { seed: seed?, steps: steps?, flags })
 }
 
 fn main() -> ExitCode {
-    let Some((seed, steps, flags)) = words() else {
-        eprintln!("replay: bad command line");
-        return ExitCode::from(2);
+    let done = match task() {
+        None => {
+            eprintln!("replay: bad command line");
+            return ExitCode::from(2);
+        }
+        Some(Task::Script) => run_script().expect("a script is read, and its report written"),
+        Some(Task::Generate { seed, steps, flags }) => run(seed, steps).map(|world| {
+            if flags.contains("--script") {
+                report::print_script(&world);
+            } else if flags.contains("--report") {
+                report::print_report(&world);
+            } else {
+                println!("{}", world.summary(steps));
+            }
+        }),
     };
-    match run(seed, steps) {
-        Ok(world) if flags.contains("--script") => report::print_script(&world),
-        Ok(world) if flags.contains("--report") => report::print_report(&world),
-        Ok(world) => println!("{}", world.summary(steps)),
+    match done {
+        Ok(()) => ExitCode::SUCCESS,
         Err((StepFault::BadStep, line)) => {
             eprintln!("replay: bad line {line}");
-            return ExitCode::from(3);
+            ExitCode::from(3)
         }
         Err((StepFault::Forged, line)) => {
             eprintln!("replay: forged datagram at line {line}");
-            return ExitCode::from(4);
+            ExitCode::from(4)
         }
     }
-    ExitCode::SUCCESS
 }

@@ -49,6 +49,7 @@ mod Begun
 mod Taking
 mod Near
 pub mod Opened
+mod NamedContexts
 pub mod Drawn
 mod FactsAlone
 mod HeldTold

@@ -18,5 +18,6 @@ pub mod Agreed
 pub mod Kept
 pub mod Keeping
 pub mod OpensIn
+pub mod NamedContext
 pub mod Kinds
 pub mod Complete

@@ -1,7 +1,8 @@
 //! The context in which a datagram opens.
 
-ghost use Rattle.std.specs.Prelude.{◌≡◌, ◌≤◌, length};
+ghost use Rattle.std.specs.Prelude.{◌≡◌, ◌≤◌, Some, length};
 ghost use Rattle.std.specs.FinMap.{get};
+ghost use Rattle.endpoint.specs.NamedContext.{context_towards, named_context};
 ghost use Rattle.endpoint.specs.OpensIn.{OpensByTheLog, context_in_session, context_in_startup, opens_in};
 
 use crate::admission::{PLAIN_AT, SEALED_AT, word_of};
@@ -23,6 +24,43 @@ impl Endpoint {
         ensures log { OpensByTheLog self.now datagram.now result }
     {
         self.find_context(datagram)
+    }
+
+    /// The context that a datagram's session ID names at this end, whether or not the datagram opens in it. None where it names none, or the datagram has fewer than 36 bytes.
+    ///
+    /// A datagram opens in no other. The tag isn't computed.
+    pub fn named_context(&self, datagram: &[u8]) -> Option<Context>
+        ensures named { result ≡ named_context self.now datagram.now }
+        ensures opens { (context : Context) → opens_in self.now datagram.now ≡ Some context → result ≡ Some context }
+    {
+        self.find_named(datagram)
+    }
+
+    /// The context that a datagram's session ID names.
+    fn find_named(&self, datagram: &[u8]) -> Option<Context>
+        ensures { result ≡ named_context self.now datagram.now }
+    {
+        if datagram.len() < PLAIN_AT {
+            return None;
+        }
+        let (head, part) = datagram.split_at(SEALED_AT);
+        let sid = unscramble(word_of(head), part);
+        match self.place_of(sid) {
+            Some(Place::Startup) => Some(Context::Startup),
+            Some(Place::Attempt(_)) => Some(Context::Startup),
+            Some(Place::Session(near)) => self.context_towards(near),
+            None => None,
+        }
+    }
+
+    /// A session's context towards this end.
+    fn context_towards(&self, near: u32) -> Option<Context>
+        ensures { result ≡ context_towards (get self.now.sessions near) }
+    {
+        match sessions::place_of(&self.sessions, near) {
+            Some(place) => Some(self.sessions[place].context(false)),
+            None => None,
+        }
     }
 
     /// The context in which a datagram opens, by what is kept.

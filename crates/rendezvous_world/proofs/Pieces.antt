@@ -1,5 +1,5 @@
 -- Parts of lists, and ends among ends.
-use Rattle.std.proofs.Common.{◌≡◌, ℕ, zero, suc, ◌-◌, ◌<◌, ◌≤◌, true, false, List, [], ◌∷◌, ◌++◌, map, length, drop, get_or, Option, Some, None, refl, sym, ap, ◌∙◌, subst, arith}
+use Rattle.std.proofs.Common.{◌≡◌, ℕ, zero, suc, ◌-◌, ◌<◌, ◌≤◌, true, false, List, [], ◌∷◌, ◌++◌, map, length, drop, get_or, Option, Some, None, not, refl, sym, ap, ◌∙◌, subst, arith}
 use Rattle.std.specs.List.{list_any}
 use Rattle.sha2.specs.Sha256.{sha256}
 use Rattle.identity.specs.Certificates.{IsCertificate}
@@ -43,6 +43,24 @@ forged_there (e ∷ ends) (suc k) there bytes sent is lt =
 pub same_sent : (known : Option Context) (context : Context) (bytes : List ℕ) (sent : List Sent) → is_same known context ≡ true → WasSentIn known bytes sent → list_any (is_sent bytes context) sent ≡ true
 same_sent None context bytes sent e h = absurd (cc)
 same_sent (Some k) context bytes sent e h = subst (λ (x : Context). list_any (is_sent bytes x) sent ≡ true) (same_context_is k context e) h
+
+-- ---- forged, by the context that a session ID names
+
+-- a datagram opens in no other context than this one
+abbrev pub OpensOnlyIn : Option Context → Option Context → Type 0
+OpensOnlyIn named opens = (context : Context) → opens ≡ Some context → named ≡ Some context
+
+pub unsent_nowhere : (opens : Option Context) (bytes : List ℕ) (sent : List Sent) → OpensOnlyIn None opens → is_unsent_in opens bytes sent ≡ false
+unsent_nowhere None bytes sent only = refl
+unsent_nowhere (Some c) bytes sent only = let e = only c refl in absurd (cc)
+
+pub sent_where_named : (opens : Option Context) (named : Context) (bytes : List ℕ) (sent : List Sent) → OpensOnlyIn (Some named) opens → list_any (is_sent bytes named) sent ≡ true
+    → is_unsent_in opens bytes sent ≡ false
+sent_where_named None named bytes sent only there = refl
+sent_where_named (Some c) named bytes sent only there =
+    let e = only c refl in
+    let same : named ≡ c = cc in
+    ap not (subst (λ (x : Context). list_any (is_sent bytes x) sent ≡ true) same there)
 
 -- ---- another moment
 

@@ -65,7 +65,7 @@ impl World {
         }
     }
 
-    /// Whether a datagram that reaches an end is forged. Where it was sent in a context, that is looked at first.
+    /// Whether a datagram that reaches an end is forged. One that was sent in the context that its session ID names there isn't, whatever its tag; only of others the tag is computed.
     fn is_forged(&self, end: usize, bytes: &[u8], known: &Option<Context>) -> bool
         requires there { end < length self.now.ends }
         requires short { length bytes.now ≤ 2048 }
@@ -73,11 +73,22 @@ impl World {
         ensures { result ≡ is_forged_by self.now end (Some bytes.now) }
     {
         let there = &self.ends[end];
+        match there.endpoint.named_context(bytes) {
+            None => false,
+            Some(context) => !is_same(known, &context) && self.is_unsent(end, bytes),
+        }
+    }
+
+    /// Whether a datagram opens at an end in some context, in which it wasn't sent.
+    fn is_unsent(&self, end: usize, bytes: &[u8]) -> bool
+        requires there { end < length self.now.ends }
+        requires short { length bytes.now ≤ 2048 }
+        ensures { result ≡ is_forged_by self.now end (Some bytes.now) }
+    {
+        let there = &self.ends[end];
         match there.endpoint.opens_in(bytes) {
             None => false,
-            Some(context) => {
-                !is_same(known, &context) && !is_sent_in(self.journal.lines(), bytes, &context)
-            }
+            Some(context) => !is_sent_in(self.journal.lines(), bytes, &context),
         }
     }
 

@@ -330,10 +330,11 @@ impl End {
             Place::Session(near) => &self.sessions[&near].inward,
             _ => &self.group.startup,
         };
-        let (number, plain) = keys.open(sid, datagram).ok_or(Cause::BadTag)?;
-        if matches!(place, Place::Session(_)) && number[..8] != [0; 8] {
+        // A number that no packet of a session has needs no tag.
+        if matches!(place, Place::Session(_)) && datagram[20..28] != [0; 8] {
             return Err(Cause::BadTag);
         }
+        let (number, plain) = keys.open(sid, datagram).ok_or(Cause::BadTag)?;
         Ok(Unsealed { place, context: context.clone(), number: u64::from_be_bytes(number[8..].try_into().unwrap()), plain })
     }
 

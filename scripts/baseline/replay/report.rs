@@ -1,8 +1,7 @@
 //! The texts of a run: its script and its report, as `rtmfp replay` reads and writes them.
-use crate::crypto::Print;
 use crate::end::{Cause, Entry, Fact, Joined, Refusal, Why};
 use crate::wire::{Address, Host};
-use crate::{Step, World};
+use crate::{JournalLine, Step, World};
 use std::io::{self, BufWriter, Write};
 
 struct At(Address);
@@ -39,42 +38,48 @@ pub fn print_report(world: &World) {
     let mut out = BufWriter::new(io::stdout().lock());
     let mut sent = 0;
     for line in &world.journal {
-        let Some(end) = line.end else { continue };
-        let mut put = |text: String| writeln!(out, "{} {} {text}", line.line, world.ends[end].name).expect("a report is written");
-        if let Some(refused) = &line.refused {
-            put(format!("refused {}", refusal(refused)));
-        }
-        for entry in &line.entries {
-            put(match entry {
-                Entry::Fact(fact) => fact_text(world, fact),
-                Entry::Discard { place, cause } => format!("drop {place} {}", cause_text(cause)),
-                Entry::Out(o) => {
-                    sent += 1;
-                    format!("sent {sent} {} {}", At(o.to), kind_name(o.kind))
-                }
-            });
-        }
+        write_line(&mut out, world, line, &mut sent).expect("a report is written");
     }
 }
 
-fn peer_name<'a>(world: &'a World, peer: &Print) -> &'a str {
-    world.ends.iter().find(|end| end.print == *peer).map_or("-", |end| &end.name)
+/// The report of one line, before which so many datagrams were sent.
+pub fn write_line(out: &mut impl Write, world: &World, line: &JournalLine, sent: &mut u64) -> io::Result<()> {
+    let Some(end) = line.end else { return Ok(()) };
+    let name = &world.ends[end].name;
+    if let Some(refused) = &line.refused {
+        writeln!(out, "{} {name} refused {}", line.line, refusal(refused))?;
+    }
+    for entry in &line.entries {
+        write!(out, "{} {name} ", line.line)?;
+        match entry {
+            Entry::Fact(fact) => write_fact(out, world, fact)?,
+            Entry::Discard { place, cause } => writeln!(out, "drop {place} {}", cause_text(cause))?,
+            Entry::Out(o) => {
+                *sent += 1;
+                writeln!(out, "sent {sent} {} {}", At(o.to), kind_name(o.kind))?;
+            }
+        }
+    }
+    Ok(())
 }
 
-fn nonce(bytes: &[u8; 16]) -> String {
-    format!("{:x}", u128::from_be_bytes(*bytes))
+fn number(bytes: &[u8; 16]) -> u128 {
+    u128::from_be_bytes(*bytes)
 }
 
-fn fact_text(world: &World, fact: &Fact) -> String {
-    let joined = |j: &Joined| {
-        let (peer, ni, nr) = (peer_name(world, &j.peer), nonce(&j.ni), nonce(&j.nr));
-        format!("peer={peer} n={} near={} far={} ni={ni} nr={nr} k={}", j.n, j.near, j.far, j.k)
-    };
+fn write_joined(out: &mut impl Write, world: &World, word: &str, j: &Joined) -> io::Result<()> {
+    let (peer, ni, nr) = (world.name_of(&j.peer), number(&j.ni), number(&j.nr));
+    writeln!(out, "{word} peer={peer} n={} near={} far={} ni={ni:x} nr={nr:x} k={}", j.n, j.near, j.far, j.k)
+}
+
+fn write_fact(out: &mut impl Write, world: &World, fact: &Fact) -> io::Result<()> {
     match fact {
-        Fact::Started { peer, n, near, ni } => format!("started peer={} n={n} near={near} ni={}", peer_name(world, peer), nonce(ni)),
-        Fact::Born(j) => format!("born {}", joined(j)),
-        Fact::Opened(j) => format!("opened {}", joined(j)),
-        Fact::Confirmed { near } => format!("confirmed near={near}"),
+        Fact::Started { peer, n, near, ni } => {
+            writeln!(out, "started peer={} n={n} near={near} ni={:x}", world.name_of(peer), number(ni))
+        }
+        Fact::Born(j) => write_joined(out, world, "born", j),
+        Fact::Opened(j) => write_joined(out, world, "opened", j),
+        Fact::Confirmed { near } => writeln!(out, "confirmed near={near}"),
         Fact::Ended { near, why } => {
             let why = match why {
                 Why::Cancelled => "cancelled",
@@ -82,7 +87,7 @@ fn fact_text(world: &World, fact: &Fact) -> String {
                 Why::Glare => "glare",
                 Why::Override => "override",
             };
-            format!("ended near={near} {why}")
+            writeln!(out, "ended near={near} {why}")
         }
     }
 }

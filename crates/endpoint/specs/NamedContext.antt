@@ -1,0 +1,27 @@
+-- The context that a datagram's session ID names at an end, whether or not the datagram opens in it.
+use Rattle.std.specs.Prelude.{ℕ, nat_lt, false, if◌then◌else◌, List, length, Option, Some, None}
+use Rattle.std.specs.FinMap.{get}
+use Rattle.crypto_profile.specs.declared.keys.Context.{Context}
+use Rattle.crypto_profile.specs.declared.keys.Context.TheVariants.{Startup as StartupContext}
+use Rattle.packet_scramble.specs.Datagram.{sid_of}
+use Rattle.session_core.specs.Session.{SessionState, context_of}
+use Rattle.endpoint.specs.declared.place.Place.{Place}
+use Rattle.endpoint.specs.declared.place.Place.TheVariants.{Startup, Attempt, Session}
+use Rattle.endpoint.specs.State.{State}
+use Rattle.endpoint.specs.Admission.{place_of}
+
+-- a session's context towards this end
+abbrev pub context_towards : Option SessionState → Option Context
+context_towards None = None
+context_towards (Some session) = Some (context_of session false)
+
+-- that of a place: startup, but for a session
+abbrev pub context_of_place : State → Option Place → Option Context
+context_of_place s None = None
+context_of_place s (Some Startup) = Some StartupContext
+context_of_place s (Some (Attempt near)) = Some StartupContext
+context_of_place s (Some (Session near)) = context_towards (get s.sessions near)
+
+-- A datagram of fewer than 36 bytes names none.
+abbrev pub named_context : State → List ℕ → Option Context
+named_context s datagram = if nat_lt (length datagram) 36 then None else context_of_place s (place_of s (sid_of datagram))
