@@ -1,5 +1,5 @@
 -- The names of chunks, and the longest line, a second time.
-use Rattle.std.specs.Prelude.{◌≡◌, ℕ, List, codes, ◌++◌}
+use Rattle.std.specs.Prelude.{◌≡◌, ◌⊎◌, ℕ, List, codes, ◌++◌}
 use Rattle.rtmfp_chunks.specs.Chunk.{Chunk, kind_of}
 use Rattle.rtmfp_data_chunks.specs.Chunk.{DataChunk}
 use Rattle.rtmfp_data_chunks.specs.Spelling.{kind_of as data_kind}
@@ -8,9 +8,9 @@ use Rattle.rtmfp_show.specs.ChunkText.{chunk_text}
 use Rattle.rtmfp_show.specs.DataText.{data_text}
 use Rattle.rtmfp_show.specs.ShowLine.{show_limit}
 
--- a space, the name, and more
+-- a space and the name, and then nothing or a space and more
 abbrev pub BeginsWith : List ℕ → List ℕ → Type 0
-BeginsWith name text = (rest : List ℕ) × (text ≡ codes " " ++ (name ++ rest))
+BeginsWith name text = (text ≡ codes " " ++ name) ⊎ ((rest : List ℕ) × (text ≡ codes " " ++ (name ++ (codes " " ++ rest))))
 
 -- the text of a chunk begins with the name of its type
 pub record EachTextHasItsName : Type 0 where

@@ -17,3 +17,12 @@ reading-preserved g c =
       source = search rules;
       sink = search rules;
     }
+
+pub returns-in-Failed-fill-clause-faults : goal.returns-in-Failed-fill-clause-faults
+returns-in-Failed-fill-clause-faults g c = search rules
+
+pub returns-in-Failed-fill-clause-read : goal.returns-in-Failed-fill-clause-read
+returns-in-Failed-fill-clause-read g c = search rules
+
+pub returns-in-End-2-clause-read : goal.returns-in-End-2-clause-read
+returns-in-End-2-clause-read g c = search rules
