@@ -1,4 +1,5 @@
 use Rattle.std.proofs.Common.{◌≤◌, length, ap, ◌∙◌, subst, arith}
+use Rattle.std.proofs.lemmas.Grind.{common_steps}
 use Rattle.std.specs.FinMap.{get}
 use Rattle.startup.specs.State.{SpreadParts}
 use Rattle.endpoint.specs.State.{State}
@@ -23,3 +24,7 @@ send_each-requires-clause-enough c =
 pub send_each-requires-clause-room : goal.send_each-requires-clause-room
 send_each-requires-clause-room c =
     omega (arith, few_places c.args.candidates.now, ap length (c.places.ensures.places ∙ ap (λ (s : SpreadParts). s.to) c.in-Ok.ensures.spread), c.in_ok-make_room.ensures.ok, c.add.ensures.free)
+
+-- so that a wrong body is refused fast
+pub returns-in-Ok-clause-ok : goal.returns-in-Ok-clause-ok
+returns-in-Ok-clause-ok c = grind (arith, common_steps)
