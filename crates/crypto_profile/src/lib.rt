@@ -16,5 +16,5 @@ mod window;
 pub use comparing::same_bytes;
 pub use keys::{Context, Keys, sign_key};
 pub use mac::hmac;
-pub use sealing::{SealFault, open_in_place, open_refusal, seal_in_place};
+pub use sealing::{SealFault, decipher_in_place, open_in_place, open_refusal, seal_in_place};
 pub use window::{ReplayWindow, Seen};

@@ -74,6 +74,19 @@ pub fn open_in_place(keys: &Keys, sid: u32, buf: &mut [u8]) -> Result<Range<usiz
     Ok(HEAD_LEN..buf.len())
 }
 
+/// Deciphers a sealed part in place, whatever its tag: its plain packet then stands from byte 32 on.
+pub fn decipher_in_place(keys: &Keys, buf: &mut [u8])
+    requires { 32 ≤ length buf.old }
+    ensures head { take 32 buf.new ≡ take 32 buf.old }
+    ensures plain { drop 32 buf.new ≡ plain_of keys.now buf.old }
+{
+    let (head, packet) = buf.split_at_mut(HEAD_LEN);
+    let (_, carried) = head.split_at(TAG_LEN);
+    let mut number = [0u8; 16];
+    number.copy_from_slice(carried);
+    cipher(keys, &number, packet);
+}
+
 // The first 16 bytes of the HMAC of a session ID and what follows the tag.
 fn tag(keys: &Keys, sid: u32, rest: &[u8]) -> [u8; 16]
     ensures { result ≡ tag_of keys.now.mac sid rest.now }

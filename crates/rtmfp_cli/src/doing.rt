@@ -2,8 +2,7 @@
 ghost use Rattle.std.specs.Prelude.{◌≡◌, ◌+◌, ◌-◌, ◌<◌, ◌≤◌, ◌^◌, length, IfOk};
 ghost use Rattle.rtmfp_cli.specs.Doing.{IsNext, ShownAs, Tells, limit_of};
 
-use rendezvous_world::World;
-use rtmfp_play::{LINE_LIMIT, Said, play_line};
+use rtmfp_play::{LINE_LIMIT, Playing, Said, play_line};
 use rtmfp_show::{LIMIT, show_line};
 use rtmfp_text::Text;
 use std::alloc::{AllocError, Global};
@@ -13,8 +12,8 @@ use std::alloc::{AllocError, Global};
 pub enum Doing {
     /// A line is a packet, and is shown.
     Showing,
-    /// A line is one of a script, and its step is done in this world.
-    Playing(World),
+    /// A line is one of a script, and its step is done in this run's world.
+    Playing(Playing),
 }
 
 impl Doing {
@@ -44,7 +43,7 @@ impl Doing {
     {
         match self {
             Doing::Showing => show(line, text),
-            Doing::Playing(world) => play_line(alloc, world, number, line, text),
+            Doing::Playing(playing) => play_line(alloc, playing, number, line, text),
         }
     }
 }

@@ -9,10 +9,9 @@ ghost use Rattle.rtmfp_cli.specs.Script.{ScriptEnds};
 
 use crate::doing::Doing;
 use crate::script_run::run_script;
-use rendezvous_world::World;
 use rtmfp_host::{Sink, Source, Wrote};
 use rtmfp_lines::Status;
-use rtmfp_play::generate;
+use rtmfp_play::{Playing, generate};
 use rtmfp_words::{Command, read_command};
 use std::alloc::Global;
 
@@ -45,7 +44,12 @@ pub fn run<S: Source, K: Sink>(
     match read_command(words) {
         None => Status::BadWords,
         Some(Command::Show) => over_lines(alloc, Doing::Showing, source, sink),
-        Some(Command::Replay) => over_lines(alloc, Doing::Playing(World::new(alloc)), source, sink),
+        Some(Command::Replay) => over_lines(
+            alloc,
+            Doing::Playing(Playing::new(alloc)),
+            source,
+            sink,
+        ),
         Some(Command::Generate { seed, steps }) => generate(alloc, seed, steps, sink),
     }
 }

@@ -3,8 +3,10 @@
 
 mod generated;
 mod play;
+mod playing;
 mod said;
 
 pub use generated::{MOST_STEPS, generate};
-pub use play::{LINE_LIMIT, play_line};
+pub use play::LINE_LIMIT;
+pub use playing::{Playing, play_line};
 pub use said::Said;

@@ -11,7 +11,7 @@ use crate::said::Said;
 use rendezvous_world::{JournalLine, Places, Refused, Step, StepFault, World};
 use rtmfp_base::Message;
 use rtmfp_forms::Address;
-use rtmfp_report::{push_call_refusal, push_entries, push_open_refusal};
+use rtmfp_report::{GroupKeys, push_call_refusal, push_entries, push_open_refusal};
 use rtmfp_script::{Said as LineSaid, ScriptLine, read_line};
 use rtmfp_text::{Name, Named, Text};
 use std::alloc::{AllocError, Global};
@@ -19,17 +19,17 @@ use std::alloc::{AllocError, Global};
 /// The longest line of a script, in bytes without its LF.
 pub const LINE_LIMIT: usize = 2_097_664;
 
-/// The secret of the group of every end of a script.
-const SECRET: [u8; 32] = [0; 32];
-
-/// Does a line of a script, and makes the text of its report.
-pub fn play_line(
+/// Does a line of a script in a world, and makes the text of its report by the keys of the group. `scratch` holds a datagram meanwhile, and its memory is used again.
+pub(crate) fn play_in(
     alloc: Global,
     world: &mut World,
+    keys: &GroupKeys,
+    scratch: &mut Vec<u8>,
     number: u64,
     line: &[u8],
     text: &mut Text,
 ) -> Result<Said, AllocError>
+    requires keys { keys.now ≡ group_secret }
     requires short { length line.now ≤ LINE_LIMIT }
     requires above { AreBelow world.old.lines number }
     requires fits { number < 2 ^ 32 }
@@ -42,7 +42,7 @@ pub fn play_line(
         Ok(LineSaid::Nothing) => Ok(Said::Text),
         Ok(LineSaid::Outside) => Ok(Said::Bad),
         Ok(LineSaid::Step(said)) => match step_said(alloc, world.named(), said)? {
-            Some(step) => take_step(alloc, world, number, &step, text),
+            Some(step) => take_step(world, keys, scratch, number, &step, text),
             None => Ok(Said::Bad),
         },
     }
@@ -50,12 +50,14 @@ pub fn play_line(
 
 /// Takes a step, and adds the text of its report.
 fn take_step(
-    alloc: Global,
     world: &mut World,
+    keys: &GroupKeys,
+    scratch: &mut Vec<u8>,
     number: u64,
     step: &Step,
     text: &mut Text,
 ) -> Result<Said, AllocError>
+    requires keys { keys.now ≡ group_secret }
     requires above { AreBelow world.old.lines number }
     requires fits { number < 2 ^ 32 }
     ensures stepped { IfOk result (λ said. SteppedAs said world.old number step.now world.new text.old text.new) }
@@ -66,11 +68,12 @@ fn take_step(
     match world.step(number, step) {
         Ok(()) => {
             push_line(
-                alloc,
+                keys,
                 world.named(),
                 sent,
                 world.journal().lines(),
                 lines,
+                scratch,
                 text,
             )?;
             Ok(Said::Text)
@@ -211,59 +214,64 @@ fn forge_said(ends: &[Named], name: &Name, from: Address, plain: Message) -> Opt
 
 /// Adds what is told of the line of the journal at this place, if there is one, where so many datagrams were sent before it.
 fn push_line(
-    alloc: Global,
+    keys: &GroupKeys,
     ends: &[Named],
     sent: u64,
     lines: &[JournalLine],
     at: usize,
+    scratch: &mut Vec<u8>,
     text: &mut Text,
 ) -> Result<(), AllocError>
+    requires { keys.now ≡ group_secret }
     ensures { OnOk result (text.new ≡ text.old ++ told_next ends.now sent (slice_get lines.now at)) }
 {
     match lines.get(at) {
-        Some(line) => push_told(alloc, ends, sent, line, text),
+        Some(line) => push_told(keys, ends, sent, line, scratch, text),
         None => Ok(()),
     }
 }
 
 /// Adds what is told of a line of the journal.
 fn push_told(
-    alloc: Global,
+    keys: &GroupKeys,
     ends: &[Named],
     sent: u64,
     line: &JournalLine,
+    scratch: &mut Vec<u8>,
     text: &mut Text,
 ) -> Result<(), AllocError>
+    requires { keys.now ≡ group_secret }
     ensures { OnOk result (text.new ≡ text.old ++ told_of ends.now sent line.now line.now.refused) }
 {
     let name = name_at(ends, line.end);
     match &line.refused {
         Some(Refused::Open(refusal)) => push_open_refusal(line.line, &name, refusal, text),
         Some(Refused::Call(refusal)) => push_call_refusal(line.line, &name, refusal, text),
-        None => push_done(alloc, ends, &name, sent, line, text),
+        None => push_done(keys, ends, &name, sent, line, scratch, text),
     }
 }
 
 /// Adds what a call did.
 fn push_done(
-    alloc: Global,
+    keys: &GroupKeys,
     ends: &[Named],
     name: &Name,
     sent: u64,
     line: &JournalLine,
+    scratch: &mut Vec<u8>,
     text: &mut Text,
 ) -> Result<(), AllocError>
+    requires { keys.now ≡ group_secret }
     ensures { OnOk result (text.new ≡ text.old ++ entries_text group_secret ends.now line.now.line name.now sent line.now.out.entries) }
 {
-    let mut scratch = Vec::new(alloc);
     push_entries(
-        &SECRET,
+        keys,
         ends,
         line.line,
         name,
         sent,
         line.out.entries(),
-        &mut scratch,
+        scratch,
         text,
     )?;
     Ok(())

@@ -4,6 +4,7 @@ ghost use Rattle.rtmfp_report.specs.EntryText.{counted_after, drop_text, entries
 
 use crate::causes::push_cause;
 use crate::facts::push_fact;
+use crate::group_keys::GroupKeys;
 use crate::lines::push_head;
 use crate::sent::push_sent;
 use endpoint::Entry;
@@ -13,9 +14,9 @@ use std::alloc::AllocError;
 
 /// Adds the lines of what the end with this name did in a line of the script, one for each entry, in their order. The peers of facts are called as among `ends`. `sent` datagrams were sent before; it gives how many were sent after.
 ///
-/// The names of the chunks of a datagram are found by the group secret; `scratch` holds the datagram meanwhile, and its memory is used again. More than 2^64-1 datagrams count as want of memory.
+/// The names of the chunks of a datagram are found by the group's keys; `scratch` holds the datagram meanwhile, and its memory is used again. More than 2^64-1 datagrams count as want of memory.
 pub fn push_entries(
-    secret: &[u8; 32],
+    keys: &GroupKeys,
     ends: &[Named],
     line: u64,
     name: &Name,
@@ -24,14 +25,14 @@ pub fn push_entries(
     scratch: &mut Vec<u8>,
     text: &mut Text,
 ) -> Result<u64, AllocError>
-    ensures text { OnOk result (text.new ≡ text.old ++ entries_text secret.now ends.now line name.now sent entries.now) }
+    ensures text { OnOk result (text.new ≡ text.old ++ entries_text keys.now ends.now line name.now sent entries.now) }
     ensures count { IfOk result (λ count. count ≡ sent_after sent entries.now) }
 {
     let mut count = sent;
     let mut rest = entries;
     while let [entry, others @ ..] = rest {
         count = count_after(count, entry)?;
-        push_entry(secret, ends, line, name, count, entry, scratch, text)?;
+        push_entry(keys, ends, line, name, count, entry, scratch, text)?;
         rest = others;
     }
     Ok(count)
@@ -50,7 +51,7 @@ fn count_after(sent: u64, entry: &Entry) -> Result<u64, AllocError>
 
 /// Adds the line of an entry.
 fn push_entry(
-    secret: &[u8; 32],
+    keys: &GroupKeys,
     ends: &[Named],
     line: u64,
     name: &Name,
@@ -59,24 +60,24 @@ fn push_entry(
     scratch: &mut Vec<u8>,
     text: &mut Text,
 ) -> Result<(), AllocError>
-    ensures { OnOk result (text.new ≡ text.old ++ entry_text secret.now ends.now line name.now number entry.now) }
+    ensures { OnOk result (text.new ≡ text.old ++ entry_text keys.now ends.now line name.now number entry.now) }
 {
     push_head(line, name, text)?;
-    push_told(secret, ends, number, entry, scratch, text)?;
+    push_told(keys, ends, number, entry, scratch, text)?;
     text.push("\n")?;
     Ok(())
 }
 
 /// Adds what an entry tells. A datagram that goes out has this number.
 fn push_told(
-    secret: &[u8; 32],
+    keys: &GroupKeys,
     ends: &[Named],
     number: u64,
     entry: &Entry,
     scratch: &mut Vec<u8>,
     text: &mut Text,
 ) -> Result<(), AllocError>
-    ensures { OnOk result (text.new ≡ text.old ++ told_text secret.now ends.now number entry.now) }
+    ensures { OnOk result (text.new ≡ text.old ++ told_text keys.now ends.now number entry.now) }
 {
     match entry {
         Entry::Fact(fact) => push_fact(ends, fact, text),
@@ -85,7 +86,7 @@ fn push_told(
             to,
             datagram,
             context,
-        } => push_sent(secret, number, to, datagram.bytes(), context, scratch, text),
+        } => push_sent(keys, number, to, datagram.bytes(), context, scratch, text),
     }
 }
 

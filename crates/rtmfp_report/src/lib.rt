@@ -2,9 +2,9 @@
 #![tactic(auto)]
 
 mod causes;
-mod deciphering;
 mod entries;
 mod facts;
+mod group_keys;
 mod lines;
 mod nonces;
 mod refusals;
@@ -12,5 +12,6 @@ mod sent;
 mod tally;
 
 pub use entries::push_entries;
+pub use group_keys::GroupKeys;
 pub use refusals::{push_call_refusal, push_open_refusal};
 pub use tally::{Tally, push_summary};

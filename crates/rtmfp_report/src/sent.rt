@@ -3,8 +3,8 @@ ghost use Rattle.std.specs.Prelude.{◌≡◌, ◌++◌, OnOk};
 ghost use Rattle.endpoint.specs.Kinds.{kinds_in, kinds_left};
 ghost use Rattle.rtmfp_report.specs.SentText.{behind_pluses, kinds_text, sent_kinds, sent_text};
 
-use crate::deciphering::{CIPHERED_AT, decipher};
-use crypto_profile::{Context, Keys};
+use crate::group_keys::GroupKeys;
+use crypto_profile::Context;
 use endpoint::{Kinds, outgoing_kinds};
 use rtmfp_forms::Address;
 use rtmfp_text::{Text, kind_name, push_address};
@@ -13,9 +13,12 @@ use std::alloc::AllocError;
 /// The bytes of a datagram before its sealed part.
 const SEALED_AT: usize = 4;
 
+/// The bytes of a sealed part before its ciphertext.
+const CIPHERED_AT: usize = 32;
+
 /// Adds a datagram that goes out: its number, where it goes, and the names of its chunks.
 pub(crate) fn push_sent(
-    secret: &[u8; 32],
+    keys: &GroupKeys,
     number: u64,
     to: &Address,
     datagram: &[u8],
@@ -23,25 +26,25 @@ pub(crate) fn push_sent(
     scratch: &mut Vec<u8>,
     text: &mut Text,
 ) -> Result<(), AllocError>
-    ensures { OnOk result (text.new ≡ text.old ++ sent_text secret.now number to.now datagram.now context.now) }
+    ensures { OnOk result (text.new ≡ text.old ++ sent_text keys.now number to.now datagram.now context.now) }
 {
     text.push_number_field("sent ", number)?;
     text.push(" ")?;
     push_address(to, text)?;
     text.push(" ")?;
-    push_sent_kinds(secret, datagram, context, scratch, text)?;
+    push_sent_kinds(keys, datagram, context, scratch, text)?;
     Ok(())
 }
 
 /// Adds the names of the chunks of a datagram that was sealed in this context.
 fn push_sent_kinds(
-    secret: &[u8; 32],
+    keys: &GroupKeys,
     datagram: &[u8],
     context: &Context,
     scratch: &mut Vec<u8>,
     text: &mut Text,
 ) -> Result<(), AllocError>
-    ensures { OnOk result (text.new ≡ text.old ++ kinds_text (sent_kinds secret.now context.now datagram.now)) }
+    ensures { OnOk result (text.new ≡ text.old ++ kinds_text (sent_kinds keys.now context.now datagram.now)) }
 {
     if datagram.len() < SEALED_AT + CIPHERED_AT {
         return text.push("none");
@@ -49,7 +52,7 @@ fn push_sent_kinds(
     let (_, part) = datagram.split_at(SEALED_AT);
     scratch.clear();
     scratch.extend_from_slice(part)?;
-    decipher(&Keys::of(secret, context), scratch.as_mut_slice());
+    keys.decipher(context, scratch.as_mut_slice());
     let (_, plain) = scratch.as_slice().split_at(CIPHERED_AT);
     push_kinds(plain, text)
 }

@@ -5,7 +5,9 @@ use endpoint::{CallRefusal, Entry, OpenRefusal};
 use glare_core::{Fact, Joined, StartRefusal, Why};
 use rtmfp_base::Message;
 use rtmfp_forms::Address;
-use rtmfp_report::{Tally, push_call_refusal, push_entries, push_open_refusal, push_summary};
+use rtmfp_report::{
+    GroupKeys, Tally, push_call_refusal, push_entries, push_open_refusal, push_summary,
+};
 use rtmfp_text::{Name, Named, Text};
 use startup::Cause;
 use std::alloc::Global;
@@ -99,7 +101,7 @@ fn facts_and_discards(rt: HostRuntime) -> Result<(), Fail> {
     let mut text = Text::new(rt.alloc());
     let mut scratch = Vec::new(rt.alloc());
     let sent = push_entries(
-        &SECRET,
+        &GroupKeys::of(&SECRET),
         &ends()?,
         7,
         &name_of(b"a")?,
@@ -156,7 +158,7 @@ fn datagrams(rt: HostRuntime) -> Result<(), Fail> {
     let mut text = Text::new(alloc);
     let mut scratch = Vec::new(alloc);
     let sent = push_entries(
-        &SECRET,
+        &GroupKeys::of(&SECRET),
         &ends()?,
         8,
         &name_of(b"a")?,
@@ -251,7 +253,16 @@ fn report(alloc: Global, entry: Entry, text: &mut Text) -> Result<(), Fail> {
     let entries = [entry];
     let mut scratch = Vec::new(alloc);
     let name = name_of(b"a")?;
-    let sent = push_entries(&SECRET, &ends()?, 1, &name, 0, &entries, &mut scratch, text)?;
+    let sent = push_entries(
+        &GroupKeys::of(&SECRET),
+        &ends()?,
+        1,
+        &name,
+        0,
+        &entries,
+        &mut scratch,
+        text,
+    )?;
     match sent {
         0 => Ok(()),
         _ => Err(Fail::from("a datagram was counted")),

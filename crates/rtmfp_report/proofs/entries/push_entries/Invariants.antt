@@ -4,7 +4,7 @@ use Rattle.rtmfp_report.proofs.entries.push_entries.Given as goal
 
 abbrev pub invariant-loop-rest : goal.invariant-loop-rest
 invariant-loop-rest l =
-    (l.text ++ entries_text l.secret l.ends l.line l.name l.count l.rest ≡ l.fn.text ++ entries_text l.secret l.ends l.line l.name l.sent l.entries)
+    (l.text ++ entries_text l.keys l.ends l.line l.name l.count l.rest ≡ l.fn.text ++ entries_text l.keys l.ends l.line l.name l.sent l.entries)
     × (sent_after l.count l.rest ≡ sent_after l.sent l.entries)
 
 abbrev pub decreases-loop-rest : goal.decreases-loop-rest

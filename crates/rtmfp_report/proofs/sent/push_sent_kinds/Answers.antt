@@ -9,4 +9,4 @@ pub returns-then-datagram : goal.returns-then-datagram
 returns-then-datagram c =
     let short : length c.args.datagram.now < 36 = omega arith in
     let P : List ℕ → Type 0 = λ xs. OnOk c.push.result (c.push.new.self ≡ c.args.text.now ++ xs) in
-    subst P (sym (ap kinds_text (no_kinds (keys_of c.args.secret.now c.args.context.now) c.args.datagram.now short))) c.push.ensures
+    subst P (sym (ap kinds_text (no_kinds (keys_of c.args.keys.now c.args.context.now) c.args.datagram.now short))) c.push.ensures

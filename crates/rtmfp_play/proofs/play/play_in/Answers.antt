@@ -3,7 +3,7 @@ use Rattle.rtmfp_script.specs.declared.line.Said.{Said as LineSaid}
 use Rattle.rtmfp_script.specs.Lines.{Says}
 use Rattle.rtmfp_play.specs.Play.{step_said}
 use Rattle.rtmfp_play.proofs.Played.{below_next, line_played, line_bad}
-use Rattle.rtmfp_play.proofs.play.play_line.Goals as goal
+use Rattle.rtmfp_play.proofs.play.play_in.Goals as goal
 
 pub returns-in-Ok-Nothing-clause-above : goal.returns-in-Ok-Nothing-clause-above
 returns-in-Ok-Nothing-clause-above c = λ _. below_next c.args.world.now.lines c.args.number c.requires.above

@@ -1,0 +1,84 @@
+//! The state of a run over the lines of a script.
+
+ghost use Rattle.std.specs.Prelude.{◌≡◌, ◌+◌, ◌<◌, ◌≤◌, ◌^◌, IfOk, length};
+ghost use Rattle.rendezvous_world.specs.Sound.{AreBelow};
+ghost use Rattle.rtmfp_play.specs.Playing.{PlayedAs};
+
+use crate::play::{LINE_LIMIT, play_in};
+use crate::said::Said;
+use rendezvous_world::World;
+use rtmfp_report::GroupKeys;
+use rtmfp_text::Text;
+use std::alloc::{AllocError, Global};
+use std::marker::Model;
+
+/// The secret of the group of every end of a script.
+const SECRET: [u8; 32] = [0; 32];
+
+/// A world whose steps are the lines of a script, and what their reports are made with.
+///
+/// Contracts see the world.
+#[derive(Drop)]
+pub struct Playing {
+    world: World,
+    /// The keys of the group of every end.
+    keys: GroupKeys,
+    /// Holds a datagram while its report is made; its memory is used again.
+    scratch: Vec<u8>,
+}
+
+impl Model for Playing {
+    ghost use Rattle.std.specs.Prelude.{◌≡◌};
+    ghost use Rattle.rendezvous_world.specs.contracts.world.World as world_type;
+    ghost use Rattle.rendezvous_world.specs.Seen.{Seen, group_secret};
+
+    ghost Value = { Seen };
+
+    ghost coded = { world_type.the_row.coded };
+
+    ghost view = { λ p. p.world };
+
+    ghost invariant = { λ p. p.keys ≡ group_secret };
+}
+
+impl Playing {
+    ghost use Rattle.std.specs.Prelude.{◌≡◌, []};
+
+    /// A run over a script of which no line was done.
+    pub fn new(alloc: Global) -> Playing
+        ensures moment { result.moment ≡ 0 }
+        ensures ends { result.ends ≡ [] }
+        ensures lines { result.lines ≡ [] }
+    {
+        Playing {
+            world: World::new(alloc),
+            keys: GroupKeys::of(&SECRET),
+            scratch: Vec::new(alloc),
+        }
+    }
+}
+
+/// Does a line of a script, and makes the text of its report.
+pub fn play_line(
+    alloc: Global,
+    playing: &mut Playing,
+    number: u64,
+    line: &[u8],
+    text: &mut Text,
+) -> Result<Said, AllocError>
+    requires short { length line.now ≤ LINE_LIMIT }
+    requires above { AreBelow playing.old.lines number }
+    requires fits { number < 2 ^ 32 }
+    ensures played { IfOk result (λ said. PlayedAs said playing.old number line.now playing.new text.new) }
+    ensures above { IfOk result (λ said. said ≡ Said.Text → AreBelow playing.new.lines (number + 1)) }
+{
+    play_in(
+        alloc,
+        &mut playing.world,
+        &playing.keys,
+        &mut playing.scratch,
+        number,
+        line,
+        text,
+    )
+}
