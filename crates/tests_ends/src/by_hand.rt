@@ -289,6 +289,32 @@ fn pings_in_a_session(rt: HostRuntime) -> Result<(), Fail> {
     Ok(())
 }
 
+/// Gives an end a packet of the session of the handshake, sealed with this count.
+fn hears(
+    alloc: Global,
+    end: &mut Endpoint,
+    count: u64,
+    plain: &[u8],
+    expected: &str,
+) -> Result<bool, Fail> {
+    let mut letter = sealed(&to_responder()?, 6, count, plain);
+    Ok(passes(alloc, end, 1, 8, &mut letter, expected)?)
+}
+
+#[test]
+fn a_packet_of_a_session_that_is_refused_spends_its_number(rt: HostRuntime) -> Result<(), Fail> {
+    let alloc = rt.alloc();
+    let mut a = end(alloc, CALLER)?;
+    let mut b = end(alloc, ANSWERER)?;
+    assert!(rt; bears(alloc, &mut a, &mut b)?);
+    assert!(rt; hears(alloc, &mut b, 7, &[], "drop 0 BadPacket(1); ")?);
+    assert!(rt; hears(alloc, &mut b, 7, &[], "drop 0 Repeated; ")?);
+    assert!(rt; hears(alloc, &mut b, 8, &[0x02], "drop 0 WrongPlace; ")?);
+    assert!(rt; hears(alloc, &mut b, 8, &[0x01], "drop 0 Repeated; ")?);
+    assert!(rt; hears(alloc, &mut b, 9, &[0x01], "confirmed 6; ")?);
+    Ok(())
+}
+
 #[test]
 fn time_and_cancelling(rt: HostRuntime) -> Result<(), Fail> {
     let alloc = rt.alloc();
