@@ -1,4 +1,5 @@
 pub mod Turns
 pub mod Holding
+pub mod Reporting
 pub mod Going
 pub mod Flushed

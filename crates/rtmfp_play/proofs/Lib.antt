@@ -1,3 +1,4 @@
 pub mod Refused
 pub mod Played
+pub mod Reported
 pub mod Generation
