@@ -3,10 +3,11 @@ use Rattle.std.specs.Prelude.{◌≡◌, ℕ, ◌+◌, ◌<◌, ◌≤◌, List,
 use Rattle.rtmfp_text.specs.declared.names.Named.{Named}
 use Rattle.rendezvous_world.specs.declared.journal.JournalLine.{JournalLine}
 use Rattle.rendezvous_world.specs.Inside.{count_in}
+use Rattle.rendezvous_world.specs.Same.{AreSameWorlds}
 use Rattle.rendezvous_world.specs.Seen.{Seen}
 use Rattle.rtmfp_play.specs.Play.{names_of, told_of}
 use Rattle.rtmfp_cli.specs.declared.doing.Doing.{Doing}
-use Rattle.rtmfp_cli.specs.declared.doing.Doing.TheVariants.{Playing}
+use Rattle.rtmfp_cli.specs.declared.doing.Doing.TheVariants.{Playing, Showing}
 use Rattle.rtmfp_cli.specs.Doing.{Holds, limit_of, playing, showing}
 use Rattle.rtmfp_cli.specs.Script.{Runs, max_lines}
 
@@ -24,6 +25,18 @@ IsReport names before sent (line ∷ lines) text =
 -- What is written of a script is the report of the journal that its lines leave: no line of the journal is left out, and nothing else is written.
 abbrev pub EachTextIsTheReport : Type 0
 EachTextIsTheReport = (lines : List (List ℕ)) (w : Seen) (text : List ℕ) → Runs 1 playing lines (Playing w) text → IsReport (names_of w) 0 0 w.lines text
+
+-- What two runs leave is the same but for the room that outboxes of a journal have left, which is a matter of memory.
+abbrev pub AreSame : Doing → Doing → Type 0
+AreSame Showing Showing = Unit {0}
+AreSame Showing (Playing t) = ⊥
+AreSame (Playing w) Showing = ⊥
+AreSame (Playing w) (Playing t) = AreSameWorlds w t
+
+-- What lines leave, and the text that is written of them, are decided by the lines.
+abbrev pub EachScriptHasOneRun : Type 0
+EachScriptHasOneRun =
+    (n : ℕ) (doing left other : Doing) (lines : List (List ℕ)) (text words : List ℕ) → Runs n doing lines left text → Runs n doing lines other words → AreSame left other × (text ≡ words)
 
 pub record Limits : Type 0 where
   pub lines : max_lines ≡ 1000000
