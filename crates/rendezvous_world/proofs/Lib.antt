@@ -5,6 +5,7 @@ pub mod Sounds
 pub mod Keeping
 pub mod Noting
 pub mod Calling
+pub mod Decided
 pub mod Finding
 pub mod Answered
 pub mod Entered

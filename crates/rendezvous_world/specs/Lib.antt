@@ -12,3 +12,4 @@ pub mod Kept
 pub mod Laws
 pub mod Pairs
 pub mod Edges
+pub mod Same

@@ -1,4 +1,6 @@
 pub mod Turns
 pub mod Holding
+pub mod Reporting
+pub mod OneRun
 pub mod Going
 pub mod Flushed

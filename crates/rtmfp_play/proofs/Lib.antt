@@ -1,3 +1,5 @@
 pub mod Refused
 pub mod Played
+pub mod Reported
+pub mod OneText
 pub mod Generation

@@ -1,0 +1,320 @@
+-- What a step that was done leaves is decided by the world before it, but for the room of the new line's outbox.
+use Rattle.std.proofs.Common.{◌≡◌, ◌≢◌, ℕ, zero, suc, List, [], ◌∷◌, ◌++◌, length, map, slice_get, Bool, true, false, Option, Some, None, refl, sym, ap, subst, ◌∙◌}
+use Rattle.std.specs.Prelude.{IsSome, IfSome, IfNone, is_some}
+use Rattle.std.proofs.lemmas.List.{length-map, map-append}
+use Rattle.rtmfp_forms.specs.Address.{AddressParts}
+use Rattle.glare_core.specs.declared.facts.Fact.{Fact}
+use Rattle.startup.specs.State.{AttemptState, StartupState}
+use Rattle.startup.specs.Attempts.{cancel_fact, lowest}
+use Rattle.startup.specs.declared.answer.Due.{Due}
+use Rattle.startup.specs.Due.{after_due, after_due_of, due, due_of, is_due}
+use Rattle.endpoint.specs.declared.config.Draws.{Draws}
+use Rattle.endpoint.specs.declared.entry.Entry.{Entry}
+use Rattle.endpoint.specs.declared.answers.OpenRefusal.{OpenRefusal}
+use Rattle.endpoint.specs.declared.answers.OpenRefusal.TheVariants.{Memory as NoMemoryToOpen}
+use Rattle.endpoint.specs.declared.answers.CallRefusal.{CallRefusal}
+use Rattle.endpoint.specs.declared.answers.CallRefusal.TheVariants.{NoAttempt, Memory as NoMemoryToCall}
+use Rattle.endpoint.specs.declared.answers.Stopped.{Stopped as Stop}
+use Rattle.endpoint.specs.Event.{Call, Open as OpenCall, Cancel as CancelCall, Receive, Tick as TickCall, Answer, Began, Done, NotOpened, Refused as RefusedCall, Stopped, OutOfMemory, Event}
+use Rattle.endpoint.specs.State.{State, Did, Does, after_entries, at_moment, nothing, then_do, with_startup}
+use Rattle.endpoint.specs.Admission.{admission}
+use Rattle.endpoint.specs.Due.{cancelling, due_done, open_refusal, opening, received, tick_once, ticks}
+use Rattle.endpoint.specs.Log.{Answers, Step as StepOf, not_opened}
+use Rattle.rendezvous_world.specs.declared.journal.JournalLine.{JournalLine}
+use Rattle.rendezvous_world.specs.declared.journal.Refused.{Refused}
+use Rattle.rendezvous_world.specs.declared.journal.Refused.TheVariants.{Open as OpenRefused, Call as CallRefused}
+use Rattle.rendezvous_world.specs.declared.step.Step.{Step}
+use Rattle.rendezvous_world.specs.declared.step.Step.TheVariants.{End, At, Open, Cancel, Deliver, Bent, Inject, Forge, Tick}
+use Rattle.rendezvous_world.specs.Seen.{EndSeen, Seen}
+use Rattle.rendezvous_world.specs.Same.{AreSameWorlds, without_room}
+use Rattle.rendezvous_world.specs.Sent.{Sent, sent_among, sent_in}
+use Rattle.rendezvous_world.specs.Datagrams.{datagram_of}
+use Rattle.rendezvous_world.specs.History.{answer_of, call_of, event_of, moment_given}
+use Rattle.rendezvous_world.specs.Stepping.{Called, HasItsAnswer, Stepped, new_end, new_setup, with_end, with_moment, with_state}
+
+-- ---- ticks
+
+-- where nothing is due nothing more is done
+none_due : (s : State) (found : Option (ℕ × AttemptState)) → due_of s.startup s.moment found ≡ None → due_done (with_startup s (after_due_of s.startup s.moment found)) (due_of s.startup s.moment found) ≡ nothing s
+none_due s None e = refl
+none_due s (Some found) e = absurd (cc)
+
+idle : (s : State) → due s.startup s.moment ≡ None → tick_once s ≡ nothing s
+idle s e = none_due s (lowest (is_due s.moment) s.startup.attempts) e
+
+ticks_idle : (count : ℕ) (s : State) → due s.startup s.moment ≡ None → ticks count s ≡ nothing s
+ticks_idle zero s e = refl
+ticks_idle (suc count) s e = ap (λ (d : Did). then_do d (ticks count)) (idle s e) ∙ ap (λ (d : Did). after_entries [] d) (ticks_idle count s e)
+
+-- so all that is due is done in one way
+ticks_same : (count other : ℕ) (s : State) → due (ticks count s).state.startup (ticks count s).state.moment ≡ None → due (ticks other s).state.startup (ticks other s).state.moment ≡ None → ticks count s ≡ ticks other s
+ticks_same zero other s e f = sym (ticks_idle other s e)
+ticks_same (suc count) zero s e f = ticks_idle (suc count) s f
+ticks_same (suc count) (suc other) s e f = ap (λ (d : Did). after_entries (tick_once s).entries d) (ticks_same count other (tick_once s).state e f)
+
+-- ---- a call of an end
+
+-- the answer isn't for want of memory
+abbrev pub IsWhole : Answer → Type 0
+IsWhole (Began n) = Unit {0}
+IsWhole Done = Unit {0}
+IsWhole (NotOpened refusal) = refusal ≢ NoMemoryToOpen
+IsWhole (RefusedCall refusal) = refusal ≢ NoMemoryToCall
+IsWhole (Stopped stop) = ⊥
+IsWhole OutOfMemory = ⊥
+
+pub record SameAnswer (a b : Answer) (xs ys : List Entry) (t r : State) : Type 0 where
+  pub answer : a ≡ b
+  pub entries : xs ≡ ys
+  pub state : t ≡ r
+
+same_did : (a b : Answer) (d e : Did) (xs ys : List Entry) (t r : State) → a ≡ b → d ≡ e → Does d t [] xs → Does e r [] ys → SameAnswer a b xs ys t r
+same_did a b d e xs ys t r answers same h k = record {
+  answer = answers;
+  entries = h.entries ∙ ap (λ (x : Did). [] ++ x.entries) same ∙ sym k.entries;
+  state = h.state ∙ ap (λ (x : Did). x.state) same ∙ sym k.state;
+}
+
+one_open : (s : State) (peer : List ℕ) (candidates : List AddressParts) (draws : Draws) (a b : Answer) (xs ys : List Entry) (t r : State) → IsWhole a → IsWhole b →
+    Answers s (OpenCall peer candidates draws) a xs t → Answers s (OpenCall peer candidates draws) b ys r → SameAnswer a b xs ys t r
+one_open s peer candidates draws (Began n) (Began m) xs ys t r p q h k =
+    same_did (Began n) (Began m) (opening s peer candidates draws) (opening s peer candidates draws) xs ys t r (ap Began (h.1 ∙ sym k.1)) refl h.2 k.2
+one_open s peer candidates draws (Began n) (NotOpened refusal) xs ys t r p q h k = absurd (q (k.0 ∙ ap not_opened h.0))
+one_open s peer candidates draws (Began n) other xs ys t r p q h k = absurd k
+one_open s peer candidates draws (NotOpened refusal) (Began m) xs ys t r p q h k = absurd (p (h.0 ∙ ap not_opened k.0))
+one_open s peer candidates draws (NotOpened refusal) (NotOpened other) xs ys t r p q h k =
+    same_did (NotOpened refusal) (NotOpened other) (nothing s) (nothing s) xs ys t r (ap NotOpened (h.0 ∙ sym k.0)) refl h.1 k.1
+one_open s peer candidates draws (NotOpened refusal) other xs ys t r p q h k = absurd k
+one_open s peer candidates draws answer other xs ys t r p q h k = absurd h
+
+-- a cancel that isn't refused for want of memory has no attempt
+no_attempt : (o : Option Fact) (refusal : CallRefusal) → IfNone o (refusal ≡ NoAttempt) → IfSome o (λ fact. refusal ≡ NoMemoryToCall) → refusal ≢ NoMemoryToCall → refusal ≡ NoAttempt
+no_attempt None refusal none some p = none
+no_attempt (Some fact) refusal none some p = absurd (p some)
+
+not_both : (o : Option Fact) (refusal : CallRefusal) → IsSome o → IfSome o (λ fact. refusal ≡ NoMemoryToCall) → refusal ≢ NoMemoryToCall → ⊥
+not_both None refusal is some p = absurd (cc)
+not_both (Some fact) refusal is some p = p some
+
+one_cancel : (s : State) (n : ℕ) (a b : Answer) (xs ys : List Entry) (t r : State) → IsWhole a → IsWhole b → Answers s (CancelCall n) a xs t → Answers s (CancelCall n) b ys r → SameAnswer a b xs ys t r
+one_cancel s n Done Done xs ys t r p q h k = same_did Done Done (cancelling s n) (cancelling s n) xs ys t r refl refl h.1 k.1
+one_cancel s n Done (RefusedCall refusal) xs ys t r p q h k = absurd (not_both (cancel_fact s.startup n) refusal h.0 k.1 q)
+one_cancel s n Done other xs ys t r p q h k = absurd k
+one_cancel s n (RefusedCall refusal) Done xs ys t r p q h k = absurd (not_both (cancel_fact s.startup n) refusal k.0 h.1 p)
+one_cancel s n (RefusedCall refusal) (RefusedCall other) xs ys t r p q h k =
+    same_did (RefusedCall refusal) (RefusedCall other) (nothing s) (nothing s) xs ys t r
+    (ap RefusedCall (no_attempt (cancel_fact s.startup n) refusal h.0 h.1 p ∙ sym (no_attempt (cancel_fact s.startup n) other k.0 k.1 q))) refl h.2 k.2
+one_cancel s n (RefusedCall refusal) other xs ys t r p q h k = absurd k
+one_cancel s n answer other xs ys t r p q h k = absurd h
+
+one_receive : (s : State) (from : AddressParts) (datagram : List ℕ) (draws : Draws) (a b : Answer) (xs ys : List Entry) (t r : State) → IsWhole a → IsWhole b →
+    Answers s (Receive from datagram draws) a xs t → Answers s (Receive from datagram draws) b ys r → SameAnswer a b xs ys t r
+one_receive s from datagram draws Done Done xs ys t r p q h k =
+    same_did Done Done (received from draws (admission s datagram)) (received from draws (admission s datagram)) xs ys t r refl refl h k
+one_receive s from datagram draws Done (Stopped stop) xs ys t r p q h k = absurd q
+one_receive s from datagram draws Done other xs ys t r p q h k = absurd k
+one_receive s from datagram draws (Stopped stop) other xs ys t r p q h k = absurd p
+one_receive s from datagram draws answer other xs ys t r p q h k = absurd h
+
+one_tick : (s : State) (draws : Draws) (a b : Answer) (xs ys : List Entry) (t r : State) → IsWhole a → IsWhole b → Answers s (TickCall draws) a xs t → Answers s (TickCall draws) b ys r → SameAnswer a b xs ys t r
+one_tick s draws Done Done xs ys t r p q h k =
+    let e : due (ticks h.0.0 s).state.startup (ticks h.0.0 s).state.moment ≡ None = subst (λ (x : State). due x.startup x.moment ≡ None) h.0.1.state h.1 in
+    let f : due (ticks k.0.0 s).state.startup (ticks k.0.0 s).state.moment ≡ None = subst (λ (x : State). due x.startup x.moment ≡ None) k.0.1.state k.1 in
+    same_did Done Done (ticks h.0.0 s) (ticks k.0.0 s) xs ys t r refl (ticks_same h.0.0 k.0.0 s e f) h.0.1 k.0.1
+one_tick s draws Done OutOfMemory xs ys t r p q h k = absurd q
+one_tick s draws Done other xs ys t r p q h k = absurd k
+one_tick s draws OutOfMemory other xs ys t r p q h k = absurd p
+one_tick s draws answer other xs ys t r p q h k = absurd h
+
+one_call : (s : State) (call : Call) (a b : Answer) (xs ys : List Entry) (t r : State) → IsWhole a → IsWhole b → Answers s call a xs t → Answers s call b ys r → SameAnswer a b xs ys t r
+one_call s (OpenCall peer candidates draws) a b xs ys t r p q h k = one_open s peer candidates draws a b xs ys t r p q h k
+one_call s (CancelCall n) a b xs ys t r p q h k = one_cancel s n a b xs ys t r p q h k
+one_call s (Receive from datagram draws) a b xs ys t r p q h k = one_receive s from datagram draws a b xs ys t r p q h k
+one_call s (TickCall draws) a b xs ys t r p q h k = one_tick s draws a b xs ys t r p q h k
+
+-- ---- what a line tells of its answer
+
+whole : (step : Step) (refused : Option Refused) (stopped : Option Stop) (entries : List Entry) → HasItsAnswer step refused stopped → is_some stopped ≡ false → IsWhole (answer_of step refused stopped entries)
+whole (End name max_peers max_sessions cert) refused stopped entries h none = absurd h
+whole (At moment) refused stopped entries h none = absurd h
+whole (Open end peer list) None stopped entries h none = tt
+whole (Open end peer list) (Some (OpenRefused refusal)) stopped entries h none = λ e. h.1.opened (ap (λ (x : OpenRefusal). Some (OpenRefused x)) e)
+whole (Open end peer list) (Some (CallRefused refusal)) stopped entries h none = λ e. h.1.called (ap (λ (x : CallRefusal). Some (CallRefused x)) e)
+whole (Cancel end n) None stopped entries h none = tt
+whole (Cancel end n) (Some (OpenRefused refusal)) stopped entries h none = λ e. h.1.opened (ap (λ (x : OpenRefusal). Some (OpenRefused x)) e)
+whole (Cancel end n) (Some (CallRefused refusal)) stopped entries h none = λ e. h.1.called (ap (λ (x : CallRefusal). Some (CallRefused x)) e)
+whole (Deliver number end from) refused None entries h none = tt
+whole (Deliver number end from) refused (Some stop) entries h none = absurd (cc)
+whole (Bent number place end from) refused None entries h none = tt
+whole (Bent number place end from) refused (Some stop) entries h none = absurd (cc)
+whole (Inject end from bytes) refused None entries h none = tt
+whole (Inject end from bytes) refused (Some stop) entries h none = absurd (cc)
+whole (Forge end from plain) refused None entries h none = tt
+whole (Forge end from plain) refused (Some stop) entries h none = absurd (cc)
+whole (Tick end) refused None entries h none = tt
+whole (Tick end) refused (Some stop) entries h none = absurd (cc)
+
+-- two answers that are the same were refused for the same
+one_refusal : (step : Step) (a b : Option Refused) (p q : Option Stop) (xs ys : List Entry) → HasItsAnswer step a p → HasItsAnswer step b q → answer_of step a p xs ≡ answer_of step b q ys → a ≡ b
+one_refusal (End name max_peers max_sessions cert) a b p q xs ys h k e = absurd h
+one_refusal (At moment) a b p q xs ys h k e = absurd h
+one_refusal (Open end peer list) None None p q xs ys h k e = refl
+one_refusal (Open end peer list) None (Some (OpenRefused r)) p q xs ys h k e = absurd (cc)
+one_refusal (Open end peer list) None (Some (CallRefused r)) p q xs ys h k e = absurd (cc)
+one_refusal (Open end peer list) (Some (OpenRefused r)) None p q xs ys h k e = absurd (cc)
+one_refusal (Open end peer list) (Some (CallRefused r)) None p q xs ys h k e = absurd (cc)
+one_refusal (Open end peer list) (Some (OpenRefused r)) (Some (OpenRefused s)) p q xs ys h k e = let same : r ≡ s = cc in ap (λ (x : OpenRefusal). Some (OpenRefused x)) same
+one_refusal (Open end peer list) (Some (OpenRefused r)) (Some (CallRefused s)) p q xs ys h k e = absurd (cc)
+one_refusal (Open end peer list) (Some (CallRefused r)) (Some (OpenRefused s)) p q xs ys h k e = absurd (cc)
+one_refusal (Open end peer list) (Some (CallRefused r)) (Some (CallRefused s)) p q xs ys h k e = let same : r ≡ s = cc in ap (λ (x : CallRefusal). Some (CallRefused x)) same
+one_refusal (Cancel end n) None None p q xs ys h k e = refl
+one_refusal (Cancel end n) None (Some (OpenRefused r)) p q xs ys h k e = absurd (cc)
+one_refusal (Cancel end n) None (Some (CallRefused r)) p q xs ys h k e = absurd (cc)
+one_refusal (Cancel end n) (Some (OpenRefused r)) None p q xs ys h k e = absurd (cc)
+one_refusal (Cancel end n) (Some (CallRefused r)) None p q xs ys h k e = absurd (cc)
+one_refusal (Cancel end n) (Some (OpenRefused r)) (Some (OpenRefused s)) p q xs ys h k e = let same : r ≡ s = cc in ap (λ (x : OpenRefusal). Some (OpenRefused x)) same
+one_refusal (Cancel end n) (Some (OpenRefused r)) (Some (CallRefused s)) p q xs ys h k e = absurd (cc)
+one_refusal (Cancel end n) (Some (CallRefused r)) (Some (OpenRefused s)) p q xs ys h k e = absurd (cc)
+one_refusal (Cancel end n) (Some (CallRefused r)) (Some (CallRefused s)) p q xs ys h k e = let same : r ≡ s = cc in ap (λ (x : CallRefusal). Some (CallRefused x)) same
+one_refusal (Deliver number end from) a b p q xs ys h k e = h ∙ sym k
+one_refusal (Bent number place end from) a b p q xs ys h k e = h ∙ sym k
+one_refusal (Inject end from bytes) a b p q xs ys h k e = h ∙ sym k
+one_refusal (Forge end from plain) a b p q xs ys h k e = h ∙ sym k
+one_refusal (Tick end) a b p q xs ys h k e = h.0 ∙ sym k.0
+
+none_is : (o : Option Stop) → is_some o ≡ false → o ≡ None
+none_is None e = refl
+none_is (Some stop) e = absurd (cc)
+
+-- ---- a step that calls an end
+
+same_some : (x y : EndSeen) → ◌≡◌ {A = Option EndSeen} (Some x) (Some y) → x ≡ y
+same_some x y e = cc
+
+-- Two lines of a journal tell the same.
+pub record SameLine (k l : JournalLine) : Type 0 where
+  pub line : k.line ≡ l.line
+  pub end : k.end ≡ l.end
+  pub moment : k.moment ≡ l.moment
+  pub step : k.step ≡ l.step
+  pub datagram : k.datagram ≡ l.datagram
+  pub refused : k.refused ≡ l.refused
+  pub stopped : k.stopped ≡ l.stopped
+  pub entries : k.out.entries ≡ l.out.entries
+
+pub record SameCall (k l : JournalLine) (t s : Seen) : Type 0 where
+  pub line : SameLine k l
+  pub ends : t.ends ≡ s.ends
+
+-- the event of a line whose step is known
+whole_event : (ends : List EndSeen) (step : Step) (k : JournalLine) → k.step ≡ step → HasItsAnswer step k.refused k.stopped → is_some k.stopped ≡ false → IsWhole (event_of ends k).answer
+whole_event ends step k e answer none = subst (λ (x : Step). IsWhole (answer_of x k.refused k.stopped k.out.entries)) (sym e) (whole step k.refused k.stopped k.out.entries answer none)
+
+one_event : (s o : State) (e f : Event) (t r : State) → s ≡ o → e.moment ≡ f.moment → e.call ≡ f.call → IsWhole e.answer → IsWhole f.answer → StepOf s e t → StepOf o f r → SameAnswer e.answer f.answer e.entries f.entries t r
+one_event s o e f t r states moments calls p q h k =
+    let a : Answers (at_moment s f.moment) f.call f.answer f.entries r = subst (λ (x : State). Answers (at_moment x f.moment) f.call f.answer f.entries r) (sym states) k in
+    let b : Answers (at_moment s e.moment) f.call f.answer f.entries r = subst (λ (m : ℕ). Answers (at_moment s m) f.call f.answer f.entries r) (sym moments) a in
+    let c : Answers (at_moment s e.moment) e.call f.answer f.entries r = subst (λ (x : Call). Answers (at_moment s e.moment) x f.answer f.entries r) (sym calls) b in
+    one_call (at_moment s e.moment) e.call e.answer f.answer e.entries f.entries t r p q h c
+
+one_step : (w v : Seen) (n : ℕ) (step : Step) (k l : JournalLine) (t s : Seen) → w.moment ≡ v.moment → w.ends ≡ v.ends → sent_in w.lines ≡ sent_in v.lines → is_some k.stopped ≡ false → is_some l.stopped ≡ false →
+    Called w n step k t → Called v n step l s → SameCall k l t s
+one_step w v n step k l t s moments ends sent p q a b =
+    let lines : k.line ≡ l.line = a.is_line.line ∙ sym b.is_line.line in
+    let who : k.end ≡ l.end = a.is_line.end ∙ sym b.is_line.end in
+    let when : k.moment ≡ l.moment = a.is_line.moment ∙ moments ∙ sym b.is_line.moment in
+    let steps : k.step ≡ l.step = a.is_line.step ∙ sym b.is_line.step in
+    let datagrams : k.datagram ≡ l.datagram = a.is_line.datagram ∙ ap (λ (x : List Sent). datagram_of x step) sent ∙ sym b.is_line.datagram in
+    let found : slice_get w.ends k.end ≡ slice_get v.ends l.end = ap (λ (x : List EndSeen). slice_get x k.end) ends ∙ ap (λ (i : ℕ). slice_get v.ends i) who in
+    let same_end : a.end ≡ b.end = same_some a.end b.end (sym a.is_end ∙ found ∙ b.is_end) in
+    let given : moment_given k.moment k.step ≡ moment_given l.moment l.step = ap (λ (m : ℕ). moment_given m k.step) when ∙ ap (λ (x : Step). moment_given l.moment x) steps in
+    let calls : call_of w.ends k.line k.datagram k.step ≡ call_of v.ends l.line l.datagram l.step =
+    ap (λ (x : List EndSeen). call_of x k.line k.datagram k.step) ends
+    ∙ ap (λ (x : ℕ). call_of v.ends x k.datagram k.step) lines
+    ∙ ap (λ (x : Option (List ℕ)). call_of v.ends l.line x k.step) datagrams
+    ∙ ap (λ (x : Step). call_of v.ends l.line l.datagram x) steps in
+    let done : SameAnswer (event_of w.ends k).answer (event_of v.ends l).answer k.out.entries l.out.entries a.state b.state =
+    one_event a.end.state b.end.state (event_of w.ends k) (event_of v.ends l) a.state b.state (ap (λ (x : EndSeen). x.state) same_end) given calls
+    (whole_event w.ends step k a.is_line.step a.is_line.answer p) (whole_event v.ends step l b.is_line.step b.is_line.answer q) a.event b.event in
+    let answers : answer_of step k.refused k.stopped k.out.entries ≡ answer_of step l.refused l.stopped l.out.entries =
+    ap (λ (x : Step). answer_of x k.refused k.stopped k.out.entries) (sym a.is_line.step) ∙ done.answer ∙ ap (λ (x : Step). answer_of x l.refused l.stopped l.out.entries) b.is_line.step in
+    record {
+      line = record {
+        line = lines;
+        end = who;
+        moment = when;
+        step = steps;
+        datagram = datagrams;
+        refused = one_refusal step k.refused l.refused k.stopped l.stopped k.out.entries l.out.entries a.is_line.answer b.is_line.answer answers;
+        stopped = none_is k.stopped p ∙ sym (none_is l.stopped q);
+        entries = done.entries;
+      };
+      ends = a.ends ∙ ap (λ (x : List EndSeen). with_state x k.end a.state) ends ∙ ap (λ (i : ℕ). with_state v.ends i a.state) who ∙ ap (λ (x : State). with_state v.ends l.end x) done.state ∙ sym b.ends;
+    }
+
+-- ---- lines of the journal
+
+made : (line end moment : ℕ) (step : Step) (datagram : Option (List ℕ)) (refused : Option Refused) (stopped : Option Stop) (entries : List Entry) → JournalLine
+made line end moment step datagram refused stopped entries = record {
+  line = line;
+  end = end;
+  moment = moment;
+  step = step;
+  datagram = datagram;
+  refused = refused;
+  stopped = stopped;
+  out = record { entries = entries; free = 0; room = 0 };
+}
+
+is_made : (k : JournalLine) → without_room k ≡ made k.line k.end k.moment k.step k.datagram k.refused k.stopped k.out.entries
+unfolding made
+is_made k = refl
+
+same_made : (k l : JournalLine) → SameLine k l → made k.line k.end k.moment k.step k.datagram k.refused k.stopped k.out.entries ≡ made l.line l.end l.moment l.step l.datagram l.refused l.stopped l.out.entries
+same_made k l same = cc
+
+same_line : (k l : JournalLine) → SameLine k l → without_room k ≡ without_room l
+same_line k l same = is_made k ∙ same_made k l same ∙ sym (is_made l)
+
+sent_stays : (lines : List JournalLine) → sent_in (map without_room lines) ≡ sent_in lines
+sent_stays [] = refl
+sent_stays (line ∷ lines) = ap (λ (l : List Sent). sent_among line.end line.out.entries ++ l) (sent_stays lines)
+
+pub same_sent : (lines others : List JournalLine) → map without_room lines ≡ map without_room others → sent_in lines ≡ sent_in others
+same_sent lines others e = sym (sent_stays lines) ∙ ap sent_in e ∙ sent_stays others
+
+pub same_length : (lines others : List JournalLine) → map without_room lines ≡ map without_room others → length lines ≡ length others
+same_length lines others e = sym (length-map lines without_room) ∙ ap (λ (l : List JournalLine). length l) e ∙ length-map others without_room
+
+-- ---- what a step leaves
+
+same_called : (w v : Seen) (n : ℕ) (step : Step) (t s : Seen) → AreSameWorlds w v → (k : JournalLine) × (is_some k.stopped ≡ false) × Called w n step k t → (l : JournalLine) × (is_some l.stopped ≡ false) × Called v n step l s → AreSameWorlds t s
+same_called w v n step t s before h k =
+    let same : SameCall h.0 k.0 t s = one_step w v n step h.0 k.0 t s before.moment before.ends (same_sent w.lines v.lines before.lines) h.1 k.1 h.2 k.2 in
+    record {
+      moment = h.2.moment ∙ before.moment ∙ sym k.2.moment;
+      ends = same.ends;
+      lines =
+          ap (λ (l : List JournalLine). map without_room l) h.2.lines
+          ∙ map-append without_room w.lines (h.0 ∷ [])
+          ∙ ap (λ (l : List JournalLine). l ++ without_room h.0 ∷ []) before.lines
+          ∙ ap (λ (x : JournalLine). map without_room v.lines ++ x ∷ []) (same_line h.0 k.0 same.line)
+          ∙ sym (map-append without_room v.lines (k.0 ∷ []))
+          ∙ sym (ap (λ (l : List JournalLine). map without_room l) k.2.lines);
+    }
+
+pub same_by : (w v x y : Seen) → x ≡ w → y ≡ v → AreSameWorlds w v → AreSameWorlds x y
+same_by w v x y e f same = subst (λ (a : Seen). AreSameWorlds a y) (sym e) (subst (λ (b : Seen). AreSameWorlds w b) (sym f) same)
+
+pub same_step : (w v : Seen) (n : ℕ) (step : Step) (t s : Seen) → AreSameWorlds w v → Stepped w n step t → Stepped v n step s → AreSameWorlds t s
+same_step w v n (End name max_peers max_sessions cert) t s before h k =
+    let new : EndSeen = new_end name (new_setup max_peers max_sessions cert) in
+    same_by (with_end w new) (with_end v new) t s h k (record { moment = before.moment; ends = ap (λ (l : List EndSeen). l ++ new ∷ []) before.ends; lines = before.lines })
+same_step w v n (At moment) t s before h k = same_by (with_moment w moment) (with_moment v moment) t s h k (record { moment = refl; ends = before.ends; lines = before.lines })
+same_step w v n (Open end peer list) t s before h k = same_called w v n (Open end peer list) t s before h k
+same_step w v n (Cancel end number) t s before h k = same_called w v n (Cancel end number) t s before h k
+same_step w v n (Deliver sent end from) t s before h k = same_called w v n (Deliver sent end from) t s before h k
+same_step w v n (Bent sent place end from) t s before h k = same_called w v n (Bent sent place end from) t s before h k
+same_step w v n (Inject end from bytes) t s before h k = same_called w v n (Inject end from bytes) t s before h k
+same_step w v n (Forge end from plain) t s before h k = same_called w v n (Forge end from plain) t s before h k
+same_step w v n (Tick end) t s before h k = same_called w v n (Tick end) t s before h k

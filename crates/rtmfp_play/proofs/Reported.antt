@@ -1,0 +1,99 @@
+-- What a line adds to the ends and to the journal, and that its text is the report of it.
+use Rattle.std.proofs.Common.{◌≡◌, ℕ, zero, suc, ◌+◌, ◌<◌, ◌≤◌, List, [], ◌∷◌, ◌++◌, map, length, slice_get, Option, Some, None, inl, inr, ◌⊎◌, refl, sym, ap, ◌∙◌, append-nil, arith}
+use Rattle.std.proofs.lemmas.List.{length-map, map-append}
+use Rattle.std.proofs.lemmas.Option.{slice_get_past}
+use Rattle.rtmfp_text.specs.declared.names.Named.{Named}
+use Rattle.endpoint.specs.State.{State}
+use Rattle.rendezvous_world.specs.declared.journal.JournalLine.{JournalLine}
+use Rattle.rendezvous_world.specs.declared.step.Step.{Step}
+use Rattle.rendezvous_world.specs.declared.step.Step.TheVariants.{End, At, Open, Cancel, Deliver, Bent, Inject, Forge, Tick}
+use Rattle.rendezvous_world.specs.Inside.{named_of}
+use Rattle.rendezvous_world.specs.Seen.{EndSeen, Seen}
+use Rattle.rendezvous_world.specs.Sent.{sent_in}
+use Rattle.rendezvous_world.specs.Stepping.{Called, Stepped, in_state, new_end, new_setup, with_state}
+use Rattle.rendezvous_world.proofs.Ends.{at_suc, below_length}
+use Rattle.rtmfp_play.specs.Play.{Plays, names_of, report_since, told_next, told_of}
+
+-- ---- small facts
+
+-- an end keeps its name whatever state it comes to
+names_stay : (ends : List EndSeen) (who : ℕ) (s : State) → map named_of (with_state ends who s) ≡ map named_of ends
+names_stay [] who s = refl
+names_stay (x ∷ ends) zero s = refl
+names_stay (x ∷ ends) (suc who) s = ap (λ (l : List EndSeen). map named_of l) (at_suc who (in_state x s ∷ ends) (λ (k : ℕ). x ∷ with_state ends k s)) ∙ ap (λ (l : List Named). named_of x ∷ l) (names_stay ends who s)
+
+behind : {A : Type 0} (xs : List A) (x : A) → slice_get (xs ++ x ∷ []) (length xs) ≡ Some x
+behind [] x = refl
+behind (y ∷ xs) x = behind xs x
+
+-- ---- what a line adds
+
+-- no line of the journal, and nothing is told
+pub record AddsNone (w t : Seen) (text : List ℕ) : Type 0 where
+  pub lines : t.lines ≡ w.lines
+  pub no_text : text ≡ []
+
+-- one line of the journal, which is told
+pub record AddsOne (w t : Seen) (text : List ℕ) : Type 0 where
+  pub line : JournalLine
+  pub lines : t.lines ≡ w.lines ++ line ∷ []
+  pub there : line.end < length (names_of t)
+  pub told : text ≡ told_of (names_of t) (length (sent_in w.lines)) line line.refused
+
+-- ends may come, and none goes
+pub record Adds (w t : Seen) (text : List ℕ) : Type 0 where
+  pub ends : List Named
+  pub names : names_of t ≡ names_of w ++ ends
+  pub lines : AddsNone w t text ⊎ AddsOne w t text
+
+nothing_told : (w t : Seen) (text : List ℕ) → t.lines ≡ w.lines → text ≡ report_since w t → AddsNone w t text
+nothing_told w t text same is = record {
+  lines = same;
+  no_text = is ∙ ap (λ (o : Option JournalLine). told_next (names_of t) (length (sent_in w.lines)) o)
+      (ap (λ (l : List JournalLine). slice_get l (length w.lines)) same ∙ slice_get_past w.lines (length w.lines) (omega arith));
+}
+
+called_adds : (w : Seen) (n : ℕ) (step : Step) (line : JournalLine) (t : Seen) (text : List ℕ) → Called w n step line t → text ≡ report_since w t → Adds w t text
+called_adds w n step line t text called is =
+    let names : names_of t ≡ names_of w = ap (λ (l : List EndSeen). map named_of l) called.ends ∙ names_stay w.ends line.end called.state in
+    let below : line.end < length w.ends = below_length w.ends line.end called.end called.is_end in
+    record {
+      ends = [];
+      names = names ∙ sym (append-nil (names_of w));
+      lines = inr (record {
+        line = line;
+        lines = called.lines;
+        there = omega (arith, ap (λ (l : List Named). length l) names, length-map w.ends named_of, below);
+        told = is ∙ ap (λ (o : Option JournalLine). told_next (names_of t) (length (sent_in w.lines)) o)
+            (ap (λ (l : List JournalLine). slice_get l (length w.lines)) called.lines ∙ behind w.lines line);
+      });
+    }
+
+stepped_adds : (w : Seen) (n : ℕ) (step : Step) (t : Seen) (text : List ℕ) → Stepped w n step t → text ≡ report_since w t → Adds w t text
+stepped_adds w n (End name max_peers max_sessions cert) t text h is =
+    let new : EndSeen = new_end name (new_setup max_peers max_sessions cert) in
+    record {
+      ends = named_of new ∷ [];
+      names = ap names_of h ∙ map-append named_of w.ends (new ∷ []);
+      lines = inl (nothing_told w t text (ap (λ (x : Seen). x.lines) h) is);
+    }
+stepped_adds w n (At moment) t text h is = record {
+  ends = [];
+  names = ap names_of h ∙ sym (append-nil (names_of w));
+  lines = inl (nothing_told w t text (ap (λ (x : Seen). x.lines) h) is);
+}
+stepped_adds w n (Open end peer list) t text h is = called_adds w n (Open end peer list) h.0 t text h.2 is
+stepped_adds w n (Cancel end number) t text h is = called_adds w n (Cancel end number) h.0 t text h.2 is
+stepped_adds w n (Deliver sent end from) t text h is = called_adds w n (Deliver sent end from) h.0 t text h.2 is
+stepped_adds w n (Bent sent place end from) t text h is = called_adds w n (Bent sent place end from) h.0 t text h.2 is
+stepped_adds w n (Inject end from bytes) t text h is = called_adds w n (Inject end from bytes) h.0 t text h.2 is
+stepped_adds w n (Forge end from plain) t text h is = called_adds w n (Forge end from plain) h.0 t text h.2 is
+stepped_adds w n (Tick end) t text h is = called_adds w n (Tick end) h.0 t text h.2 is
+
+pub plays_adds : (w : Seen) (n : ℕ) (line : List ℕ) (t : Seen) (text : List ℕ) → Plays w n line t text → Adds w t text
+plays_adds w n line t text (inl skipped) = record {
+  ends = [];
+  names = ap names_of skipped.same ∙ sym (append-nil (names_of w));
+  lines = inl (record { lines = ap (λ (x : Seen). x.lines) skipped.same; no_text = skipped.no_text });
+}
+plays_adds w n line t text (inr done) = stepped_adds w n done.step t text done.stepped done.is_text
