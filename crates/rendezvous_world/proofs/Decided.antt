@@ -1,13 +1,12 @@
 -- What a step that was done leaves is decided by the world before it, but for the room of the new line's outbox.
-use Rattle.std.proofs.Common.{◌≡◌, ◌≢◌, ℕ, zero, suc, List, [], ◌∷◌, ◌++◌, length, map, slice_get, Bool, true, false, Option, Some, None, refl, sym, ap, subst, ◌∙◌}
+use Rattle.std.proofs.Common.{◌≡◌, ◌≢◌, ℕ, zero, suc, List, [], ◌∷◌, ◌++◌, length, map, slice_get, false, Option, Some, None, refl, sym, ap, subst, ◌∙◌}
 use Rattle.std.specs.Prelude.{IsSome, IfSome, IfNone, is_some}
 use Rattle.std.proofs.lemmas.List.{length-map, map-append}
 use Rattle.rtmfp_forms.specs.Address.{AddressParts}
 use Rattle.glare_core.specs.declared.facts.Fact.{Fact}
-use Rattle.startup.specs.State.{AttemptState, StartupState}
+use Rattle.startup.specs.State.{AttemptState}
 use Rattle.startup.specs.Attempts.{cancel_fact, lowest}
-use Rattle.startup.specs.declared.answer.Due.{Due}
-use Rattle.startup.specs.Due.{after_due, after_due_of, due, due_of, is_due}
+use Rattle.startup.specs.Due.{after_due_of, due, due_of, is_due}
 use Rattle.endpoint.specs.declared.config.Draws.{Draws}
 use Rattle.endpoint.specs.declared.entry.Entry.{Entry}
 use Rattle.endpoint.specs.declared.answers.OpenRefusal.{OpenRefusal}
@@ -18,7 +17,7 @@ use Rattle.endpoint.specs.declared.answers.Stopped.{Stopped as Stop}
 use Rattle.endpoint.specs.Event.{Call, Open as OpenCall, Cancel as CancelCall, Receive, Tick as TickCall, Answer, Began, Done, NotOpened, Refused as RefusedCall, Stopped, OutOfMemory, Event}
 use Rattle.endpoint.specs.State.{State, Did, Does, after_entries, at_moment, nothing, then_do, with_startup}
 use Rattle.endpoint.specs.Admission.{admission}
-use Rattle.endpoint.specs.Due.{cancelling, due_done, open_refusal, opening, received, tick_once, ticks}
+use Rattle.endpoint.specs.Due.{cancelling, due_done, opening, received, tick_once, ticks}
 use Rattle.endpoint.specs.Log.{Answers, Step as StepOf, not_opened}
 use Rattle.rendezvous_world.specs.declared.journal.JournalLine.{JournalLine}
 use Rattle.rendezvous_world.specs.declared.journal.Refused.{Refused}

@@ -10,7 +10,8 @@ use Rattle.rendezvous_world.specs.Seen.{Seen}
 use Rattle.rendezvous_world.specs.Sent.{sent_in}
 use Rattle.rendezvous_world.proofs.Entered.{sent_more}
 use Rattle.rtmfp_play.specs.Play.{names_of, told_of}
-use Rattle.rtmfp_play.proofs.Reported.{Adds, AddsNone, AddsOne, plays_adds}
+use Rattle.rtmfp_play.specs.Laws.{Adds, AddsNone, AddsOne}
+use Rattle.rtmfp_play.proofs.Reported.{each_line_is_told}
 use Rattle.rtmfp_cli.specs.declared.doing.Doing.{Doing}
 use Rattle.rtmfp_cli.specs.declared.doing.Doing.TheVariants.{Showing, Playing}
 use Rattle.rtmfp_cli.specs.Doing.{Does}
@@ -78,7 +79,7 @@ behind u m w first rest adds reports =
 one_more : (n : ℕ) (u w : Seen) (line : List ℕ) (lines : List (List ℕ)) (middle : Doing) (first rest : List ℕ) → Does (Playing u) n line middle first → Runs (n + 1) middle lines (Playing w) rest →
     ((m : Seen) → Runs (n + 1) (Playing m) lines (Playing w) rest → Reports m w rest) → Reports u w (first ++ rest)
 one_more n u w line lines Showing first rest does ran later = absurd does
-one_more n u w line lines (Playing m) first rest does ran later = behind u m w first rest (plays_adds u n line m first does) (later m ran)
+one_more n u w line lines (Playing m) first rest does ran later = behind u m w first rest (each_line_is_told u n line m first does) (later m ran)
 
 same_world : (u w : Seen) → Playing w ≡ Playing u → w ≡ u
 same_world u w e = cc

@@ -26,7 +26,7 @@ told_stays ends sent line (Some (CallRefused refusal)) = refl
 
 next_stays : (ends : List Named) (sent : ℕ) (lines : List JournalLine) (at : ℕ) → told_next ends sent (slice_get (map without_room lines) at) ≡ told_next ends sent (slice_get lines at)
 next_stays ends sent [] at = refl
-next_stays ends sent (line ∷ lines) zero = told_stays ends sent line line.refused
+next_stays ends sent (line ∷ lines) zero = told_stays ends _ line line.refused
 next_stays ends sent (line ∷ lines) (suc at) = next_stays ends sent lines at
 
 same_report : (w v t s : Seen) → AreSameWorlds w v → AreSameWorlds t s → report_since w t ≡ report_since v s

@@ -1,5 +1,5 @@
 -- What a line adds to the ends and to the journal, and that its text is the report of it.
-use Rattle.std.proofs.Common.{◌≡◌, ℕ, zero, suc, ◌+◌, ◌<◌, ◌≤◌, List, [], ◌∷◌, ◌++◌, map, length, slice_get, Option, Some, None, inl, inr, ◌⊎◌, refl, sym, ap, ◌∙◌, append-nil, arith}
+use Rattle.std.proofs.Common.{◌≡◌, ℕ, zero, suc, ◌<◌, List, [], ◌∷◌, ◌++◌, map, length, slice_get, Option, Some, inl, inr, refl, sym, ap, ◌∙◌, append-nil, arith}
 use Rattle.std.proofs.lemmas.List.{length-map, map-append}
 use Rattle.std.proofs.lemmas.Option.{slice_get_past}
 use Rattle.rtmfp_text.specs.declared.names.Named.{Named}
@@ -12,7 +12,8 @@ use Rattle.rendezvous_world.specs.Seen.{EndSeen, Seen}
 use Rattle.rendezvous_world.specs.Sent.{sent_in}
 use Rattle.rendezvous_world.specs.Stepping.{Called, Stepped, in_state, new_end, new_setup, with_state}
 use Rattle.rendezvous_world.proofs.Ends.{at_suc, below_length}
-use Rattle.rtmfp_play.specs.Play.{Plays, names_of, report_since, told_next, told_of}
+use Rattle.rtmfp_play.specs.Play.{names_of, report_since, told_next}
+use Rattle.rtmfp_play.specs.Laws.{Adds, AddsNone, EachLineIsTold}
 
 -- ---- small facts
 
@@ -27,24 +28,6 @@ behind [] x = refl
 behind (y ∷ xs) x = behind xs x
 
 -- ---- what a line adds
-
--- no line of the journal, and nothing is told
-pub record AddsNone (w t : Seen) (text : List ℕ) : Type 0 where
-  pub lines : t.lines ≡ w.lines
-  pub no_text : text ≡ []
-
--- one line of the journal, which is told
-pub record AddsOne (w t : Seen) (text : List ℕ) : Type 0 where
-  pub line : JournalLine
-  pub lines : t.lines ≡ w.lines ++ line ∷ []
-  pub there : line.end < length (names_of t)
-  pub told : text ≡ told_of (names_of t) (length (sent_in w.lines)) line line.refused
-
--- ends may come, and none goes
-pub record Adds (w t : Seen) (text : List ℕ) : Type 0 where
-  pub ends : List Named
-  pub names : names_of t ≡ names_of w ++ ends
-  pub lines : AddsNone w t text ⊎ AddsOne w t text
 
 nothing_told : (w t : Seen) (text : List ℕ) → t.lines ≡ w.lines → text ≡ report_since w t → AddsNone w t text
 nothing_told w t text same is = record {
@@ -90,10 +73,10 @@ stepped_adds w n (Inject end from bytes) t text h is = called_adds w n (Inject e
 stepped_adds w n (Forge end from plain) t text h is = called_adds w n (Forge end from plain) h.0 t text h.2 is
 stepped_adds w n (Tick end) t text h is = called_adds w n (Tick end) h.0 t text h.2 is
 
-pub plays_adds : (w : Seen) (n : ℕ) (line : List ℕ) (t : Seen) (text : List ℕ) → Plays w n line t text → Adds w t text
-plays_adds w n line t text (inl skipped) = record {
+pub each_line_is_told : EachLineIsTold
+each_line_is_told w n line t text (inl skipped) = record {
   ends = [];
   names = ap names_of skipped.same ∙ sym (append-nil (names_of w));
   lines = inl (record { lines = ap (λ (x : Seen). x.lines) skipped.same; no_text = skipped.no_text });
 }
-plays_adds w n line t text (inr done) = stepped_adds w n done.step t text done.stepped done.is_text
+each_line_is_told w n line t text (inr done) = stepped_adds w n done.step t text done.stepped done.is_text

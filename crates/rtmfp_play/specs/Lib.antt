@@ -2,3 +2,4 @@ pub mod Play
 pub mod Playing
 pub mod Generated
 pub mod Generating
+pub mod Laws

@@ -2,6 +2,7 @@
 #![tactic(auto)]
 
 mod generated;
+pub mod laws;
 mod play;
 mod playing;
 mod said;

@@ -1,0 +1,29 @@
+-- What a line of a script adds to a world, and what is told of it.
+use Rattle.std.specs.Prelude.{ℕ, ◌≡◌, ◌<◌, ◌⊎◌, List, [], ◌∷◌, ◌++◌, length}
+use Rattle.rtmfp_text.specs.declared.names.Named.{Named}
+use Rattle.rendezvous_world.specs.declared.journal.JournalLine.{JournalLine}
+use Rattle.rendezvous_world.specs.Seen.{Seen}
+use Rattle.rendezvous_world.specs.Sent.{sent_in}
+use Rattle.rtmfp_play.specs.Play.{Plays, names_of, told_of}
+
+-- no line of the journal, and nothing is told
+pub record AddsNone (w t : Seen) (text : List ℕ) : Type 0 where
+  pub lines : t.lines ≡ w.lines
+  pub no_text : text ≡ []
+
+-- one line of the journal, which is told
+pub record AddsOne (w t : Seen) (text : List ℕ) : Type 0 where
+  pub line : JournalLine
+  pub lines : t.lines ≡ w.lines ++ line ∷ []
+  pub there : line.end < length (names_of t)
+  pub told : text ≡ told_of (names_of t) (length (sent_in w.lines)) line line.refused
+
+-- ends may come, and none goes
+pub record Adds (w t : Seen) (text : List ℕ) : Type 0 where
+  pub ends : List Named
+  pub names : names_of t ≡ names_of w ++ ends
+  pub lines : AddsNone w t text ⊎ AddsOne w t text
+
+-- A line of a script is told by what it adds to the journal.
+abbrev pub EachLineIsTold : Type 0
+EachLineIsTold = (w : Seen) (n : ℕ) (line : List ℕ) (t : Seen) (text : List ℕ) → Plays w n line t text → Adds w t text
