@@ -28,10 +28,10 @@ const KINDS: [(u8, &str); 18] = [
 
 #[test]
 fn eighteen_types_have_names_and_no_other_has_one(rt: HostRuntime) {
-    let mut named = 0;
+    let mut named = 0_usize;
     for kind in 0..=u8::MAX {
         if !kind_name(kind).is_empty() {
-            named += 1;
+            named = named.saturating_add(1);
         }
     }
     assert_eq!(rt; named, 18);
