@@ -1,6 +1,6 @@
-//! Seals, opens or hashes, as `scripts/bench-crypto` tells it, which takes the time. A line is a word,
-//! `seal`, `open` or `hash`, the length of a plain packet, and how often. Its answer is the word and the
-//! last byte of the buffer then.
+//! Seals, opens or hashes, as `scripts/bench-crypto` tells it, which takes the time. A line is a
+//! word, `seal`, `open` or `hash`, the length of a plain packet, and how often. Its answer is the
+//! word and the last byte of the buffer then.
 #![tactic(auto)]
 
 ghost use Rattle.std.specs.Prelude.{◌≤◌, length};

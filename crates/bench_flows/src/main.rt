@@ -1,11 +1,13 @@
-//! Moves messages from a sender to a receiver in memory, as `scripts/bench-flows` tells it, which takes the time. A
-//! line is a word and five numbers: `move SIZE COUNT WAITING LOST WINDOW` moves so many messages of a size, of which
-//! so many wait at once, within a window of so many bytes, and every LOST-th chunk is lost (0: none). Each turn the
-//! sender hears the acks of the turn before and sends what the window allows, and the receiver acks every second
-//! chunk. `holes COUNT` has a receiver take the odd numbers of so many, and then the even ones. `halves COUNT` has one in
-//! arrival order take the beginnings of messages of two fragments, so many fragments in all, and then their ends, each
-//! of which makes a message ready. `passed COUNT` has one take the same beginnings, and then forward numbers that pass
-//! them, one after another. The answer is the word, how many chunks were sent, and how many messages were handed over.
+//! Moves messages from a sender to a receiver in memory, as `scripts/bench-flows` tells it, which
+//! takes the time. A line is a word and five numbers: `move SIZE COUNT WAITING LOST WINDOW` moves
+//! so many messages of a size, of which so many wait at once, within a window of so many bytes, and
+//! every LOST-th chunk is lost (0: none). Each turn the sender hears the acks of the turn before
+//! and sends what the window allows, and the receiver acks every second chunk. `holes COUNT` has a
+//! receiver take the odd numbers of so many, and then the even ones. `halves COUNT` has one in
+//! arrival order take the beginnings of messages of two fragments, so many fragments in all, and
+//! then their ends, each of which makes a message ready. `passed COUNT` has one take the same
+//! beginnings, and then forward numbers that pass them, one after another. The answer is the word,
+//! how many chunks were sent, and how many messages were handed over.
 #![tactic(auto)]
 
 ghost use Rattle.std.specs.Prelude.{◌≡◌, ◌+◌, ◌<◌, ◌≤◌, false, true, length};
@@ -225,7 +227,8 @@ fn hear(pair: &mut Pair) {
     }
 }
 
-/// A receiver takes the odd numbers from 3 on, and then the even ones, and hands over all. Number 1 comes last.
+/// A receiver takes the odd numbers from 3 on, and then the even ones, and hands over all. Number 1
+/// comes last.
 fn holes(rt: &impl AllocGlobal, count: u64) -> Result<Moved, Memory> {
     let mut to = FlowReceiver::new(rt.alloc(), 0);
     let half = count.min(65_534) / 2;
@@ -243,8 +246,8 @@ fn holes(rt: &impl AllocGlobal, count: u64) -> Result<Moved, Memory> {
     })
 }
 
-/// A receiver in arrival order takes the beginnings of messages of two fragments, and then their ends, the last one
-/// first, and hands each over as it comes.
+/// A receiver in arrival order takes the beginnings of messages of two fragments, and then their
+/// ends, the last one first, and hands each over as it comes.
 fn halves(rt: &impl AllocGlobal, count: u64) -> Result<Moved, Memory> {
     let mut to = FlowReceiver::new(rt.alloc(), 0x61);
     let half = count.min(65_534) / 2;
@@ -263,8 +266,8 @@ fn halves(rt: &impl AllocGlobal, count: u64) -> Result<Moved, Memory> {
     })
 }
 
-/// A receiver takes the beginnings of messages of two fragments, and then forward numbers, each of which passes the
-/// end of one more.
+/// A receiver takes the beginnings of messages of two fragments, and then forward numbers, each of
+/// which passes the end of one more.
 fn passed(rt: &impl AllocGlobal, count: u64) -> Result<Moved, Memory> {
     let mut to = FlowReceiver::new(rt.alloc(), 0);
     let half = count.min(65_534) / 2;

@@ -1,6 +1,7 @@
--- An address cookie: the moment of its issue, the address that it was made for, and a tag of both under a
--- secret of its maker.
-use Rattle.std.specs.Prelude.{◌≡◌, ◌==◌, ℕ, ◌+◌, ◌<◌, ◌≤◌, ◌^◌, Bool, true, false, not, ◌&&◌, if◌then◌else◌, nat_lt, List, ◌++◌, take, drop, Option, Some, None, Result, Ok, Err, All}
+-- An address cookie: the moment of its issue, the address that it was made for, and a tag of both
+-- under a secret of its maker.
+use Rattle.std.specs.Prelude.{◌≡◌, ◌==◌, ℕ, ◌+◌, ◌<◌, ◌≤◌, ◌^◌, Bool, true, false, not, ◌&&◌,
+    if◌then◌else◌, nat_lt, List, ◌++◌, take, drop, Option, Some, None, Result, Ok, Err, All}
 use Rattle.std.specs.Int.{w64, to_be_bytes, from_be_bytes}
 use Rattle.std.specs.Str.{bytes_eq}
 use Rattle.rtmfp_forms.specs.declared.fault.FormFault.{FormFault}
@@ -24,10 +25,12 @@ cookie_body address moment = to_be_bytes w64 moment ++ address_bytes (observed a
 
 -- the cookie for an address that is issued at a moment
 abbrev pub cookie_of : List ℕ → AddressParts → ℕ → List ℕ
-cookie_of secret address moment = cookie_body address moment ++ take 16 (hmac secret (cookie_body address moment))
+cookie_of secret address moment = cookie_body address moment
+    ++ take 16 (hmac secret (cookie_body address moment))
 
 -- the bytes are the cookie for this address that is issued at this moment
-pub record IsCookieOf (secret : List ℕ) (address : AddressParts) (moment : ℕ) (bytes : List ℕ) : Type 0 where
+pub record IsCookieOf (secret : List ℕ) (address : AddressParts) (moment : ℕ) (bytes : List ℕ)
+    : Type 0 where
   pub is_address : IsAddress address
   pub moment_fits : moment < 2 ^ 64
   pub bytes_are : bytes ≡ cookie_of secret address moment
@@ -36,13 +39,17 @@ pub record IsCookieOf (secret : List ℕ) (address : AddressParts) (moment : ℕ
 
 -- a relation: which answer is right
 abbrev pub IsAnswer : List ℕ → List ℕ → AddressParts → ℕ → CookieTest → Type 0
-IsAnswer secret bytes from now Bad = (address : AddressParts) (moment : ℕ) → IsCookieOf secret address moment bytes → ⊥
+IsAnswer secret bytes from now Bad = (address : AddressParts) (moment : ℕ) →
+    IsCookieOf secret address moment bytes → ⊥
 IsAnswer secret bytes from now Moved =
-    (address : AddressParts) × (moment : ℕ) × IsCookieOf secret address moment bytes × (SamePlace address from → ⊥)
+    (address : AddressParts) × (moment : ℕ) × IsCookieOf secret address moment bytes ×
+      (SamePlace address from → ⊥)
 IsAnswer secret bytes from now Expired =
-    (address : AddressParts) × (moment : ℕ) × IsCookieOf secret address moment bytes × SamePlace address from × (moment + 95000 < now)
+    (address : AddressParts) × (moment : ℕ) × IsCookieOf secret address moment bytes ×
+      SamePlace address from × (moment + 95000 < now)
 IsAnswer secret bytes from now Current =
-    (address : AddressParts) × (moment : ℕ) × IsCookieOf secret address moment bytes × SamePlace address from × (now ≤ moment + 95000)
+    (address : AddressParts) × (moment : ℕ) × IsCookieOf secret address moment bytes ×
+      SamePlace address from × (now ≤ moment + 95000)
 
 -- the same as a function
 
@@ -56,17 +63,20 @@ is_same_place a b = is_same_family a.v6 b.v6 && (bytes_eq a.host b.host && (a.po
 -- of a cookie for an address that was issued at a moment
 abbrev pub good_cookie_test : AddressParts → ℕ → AddressParts → ℕ → CookieTest
 good_cookie_test address moment from now =
-    if is_same_place address from then (if nat_lt (moment + 95000) now then Expired else Current) else Moved
+    if is_same_place address from then (if nat_lt (moment + 95000) now then Expired else Current)
+      else Moved
 
 -- the moment that bytes begin with
 abbrev pub moment_of : List ℕ → ℕ
 moment_of bytes = from_be_bytes w64 (take 8 bytes)
 
 -- where an address follows the moment, and the bytes are the cookie for both: these
-abbrev pub cookie_found : List ℕ → List ℕ → Result (AddressParts × ℕ) FormFault → Option (AddressParts × ℕ)
+abbrev pub cookie_found : List ℕ → List ℕ → Result (AddressParts × ℕ) FormFault →
+    Option (AddressParts × ℕ)
 cookie_found secret bytes (Err fault) = None
 cookie_found secret bytes (Ok found) =
-    if bytes_eq (cookie_of secret found.0 (moment_of bytes)) bytes then Some (found.0, moment_of bytes) else None
+    if bytes_eq (cookie_of secret found.0 (moment_of bytes)) bytes then
+      Some (found.0, moment_of bytes) else None
 
 unfoldable pub cookie_read : List ℕ → List ℕ → Option (AddressParts × ℕ)
 cookie_read secret bytes = cookie_found secret bytes (address_at (drop 8 bytes))
@@ -82,7 +92,8 @@ cookie_test secret bytes from now = test_of (cookie_read secret bytes) from now
 
 -- a cookie tells one place and one moment
 abbrev pub TellsOnePlaceAndMoment : Type 0
-TellsOnePlaceAndMoment = (secret bytes : List ℕ) (a b : AddressParts) (m n : ℕ) → IsCookieOf secret a m bytes → IsCookieOf secret b n bytes
+TellsOnePlaceAndMoment = (secret bytes : List ℕ) (a b : AddressParts) (m n : ℕ) →
+    IsCookieOf secret a m bytes → IsCookieOf secret b n bytes
     → SamePlace a b × (m ≡ n)
 
 -- the function's answer is right, whatever the bytes are

@@ -1,5 +1,5 @@
-//! What cookies and their tests keep, for callers' proofs. The functions do nothing: the contract of each is
-//! its law.
+//! What cookies and their tests keep, for callers' proofs. The functions do nothing: the contract
+//! of each is its law.
 
 ghost use Rattle.cookies.specs.Cookie.{TellsOnePlaceAndMoment, TestIsRight};
 

@@ -1,8 +1,8 @@
-//! Address cookies: what a responder gives for an address, and takes back from there alone and for a
-//! while (RFC 7016 section 3.5.1.1). The form is this project's own.
+//! Address cookies: what a responder gives for an address, and takes back from there alone and for
+//! a while (RFC 7016 section 3.5.1.1). The form is this project's own.
 //!
-//! A cookie is the moment of its issue in milliseconds (8 bytes), the address (7 or 19 bytes), and the
-//! first 16 bytes of their HMAC under the maker's secret. No call takes memory.
+//! A cookie is the moment of its issue in milliseconds (8 bytes), the address (7 or 19 bytes), and
+//! the first 16 bytes of their HMAC under the maker's secret. No call takes memory.
 #![tactic(auto)]
 
 ghost use Rattle.std.specs.Prelude.{◌≡◌, ◌≤◌, length, take};
@@ -82,7 +82,8 @@ pub enum CookieTest {
 
 impl CookieMaker {
     ghost use Rattle.std.specs.Prelude.{◌≡◌, ◌≤◌, length};
-    ghost use Rattle.cookies.specs.Cookie.{IsAnswer, cookie_found, cookie_of, cookie_read, cookie_test};
+    ghost use Rattle.cookies.specs.Cookie.{IsAnswer, cookie_found, cookie_of, cookie_read,
+        cookie_test};
 
     /// A maker of cookies under a secret.
     pub fn new(secret: [u8; 32]) -> CookieMaker
@@ -91,7 +92,8 @@ impl CookieMaker {
         CookieMaker { secret }
     }
 
-    /// The cookie for an address, issued at a moment in milliseconds. The address's origin doesn't count.
+    /// The cookie for an address, issued at a moment in milliseconds. The address's origin doesn't
+    /// count.
     pub fn make(&self, to: &Address, moment: u64) -> Cookie
         ensures { result ≡ cookie_of self.now to.now moment }
     {

@@ -1,6 +1,7 @@
--- What a replay window keeps of the numbers that it has taken: the highest, and of each of the 1,024
--- numbers from it downward whether it was taken.
-use Rattle.std.specs.Prelude.{◌≡◌, ◌==◌, ℕ, ◌+◌, ◌-◌, Bool, true, false, ◌&&◌, ◌||◌, if◌then◌else◌, nat_lt, nat_le, List, map, slice_index_or, Result, Ok, Err}
+-- What a replay window keeps of the numbers that it has taken: the highest, and of each of the
+-- 1,024 numbers from it downward whether it was taken.
+use Rattle.std.specs.Prelude.{◌≡◌, ◌==◌, ℕ, ◌+◌, ◌-◌, Bool, true, false, ◌&&◌, ◌||◌, if◌then◌else◌,
+    nat_lt, nat_le, List, map, slice_index_or, Result, Ok, Err}
 use Rattle.std.specs.List.{range_with_len}
 use Rattle.crypto_profile.specs.declared.window.Seen.{Seen}
 use Rattle.crypto_profile.specs.declared.window.Seen.TheVariants.{Old, Repeated}
@@ -14,8 +15,8 @@ pub record Kept : Type 0 where
 unfoldable pub recents : (ℕ → Bool) → List Bool
 recents f = map f (range_with_len 0 1024)
 
--- what is kept where this test tells whether a number was taken: place d is of the number d below the
--- highest
+-- what is kept where this test tells whether a number was taken: place d is of the number d below
+-- the highest
 abbrev pub kept_where : ℕ → (ℕ → Bool) → Kept
 kept_where highest test = record {
   highest = highest;
@@ -41,7 +42,8 @@ kept_answer kept n =
 abbrev pub raised : Kept → ℕ → ℕ → Kept
 raised kept n up = record {
   highest = n;
-  recent = recents (λ d. if d == 0 then true else if nat_lt d up then false else slice_index_or kept.recent (d - up) false);
+  recent = recents (λ d. if d == 0 then true else if nat_lt d up then false
+    else slice_index_or kept.recent (d - up) false);
 }
 
 abbrev pub marked : Kept → ℕ → Kept
@@ -51,7 +53,8 @@ marked kept down = record {
 }
 
 abbrev pub with_taken : Kept → ℕ → Kept
-with_taken kept n = if nat_lt kept.highest n then raised kept n (n - kept.highest) else marked kept (kept.highest - n)
+with_taken kept n = if nat_lt kept.highest n then raised kept n (n - kept.highest)
+    else marked kept (kept.highest - n)
 
 -- what is kept after an answer
 abbrev pub kept_by : Kept → Result (Unit {0}) Seen → ℕ → Kept
@@ -66,4 +69,5 @@ kept_after kept n = kept_by kept (kept_answer kept n) n
 -- what is kept answers each number as the whole list does, and goes on with it
 abbrev pub KeptStandsForTaken : Type 0
 KeptStandsForTaken = (taken : List ℕ) (n : ℕ)
-    → (kept_answer (kept_of taken) n ≡ answer taken n) × (kept_after (kept_of taken) n ≡ kept_of (taken_after taken n))
+    → (kept_answer (kept_of taken) n ≡ answer taken n) ×
+      (kept_after (kept_of taken) n ≡ kept_of (taken_after taken n))

@@ -1,5 +1,6 @@
 -- A sealed part: a tag of 16 bytes, a packet number of 16 bytes, and the ciphertext.
-use Rattle.std.specs.Prelude.{◌≡◌, ℕ, zero, suc, ◌+◌, ◌/◌, ◌≤◌, List, [], ◌∷◌, ◌++◌, length, take, drop, replicate, bit_xor}
+use Rattle.std.specs.Prelude.{◌≡◌, ℕ, zero, suc, ◌+◌, ◌/◌, ◌≤◌, List, [], ◌∷◌, ◌++◌, length, take,
+    drop, replicate, bit_xor}
 use Rattle.std.specs.Int.{w32, w64, to_be_bytes}
 use Rattle.crypto_profile.specs.declared.keys.Context.{Context}
 use Rattle.crypto_profile.specs.declared.keys.Context.TheVariants.{Startup, Session}
@@ -37,7 +38,8 @@ tag_of mac sid rest = take 16 (hmac mac (to_be_bytes w32 sid ++ rest))
 -- the sealed part of a plain packet under keys, a session ID and a number
 abbrev pub sealed : Keys → ℕ → List ℕ → List ℕ → List ℕ
 sealed keys sid number plain =
-    tag_of keys.mac sid (number ++ ciphered keys.enc number plain) ++ (number ++ ciphered keys.enc number plain)
+    tag_of keys.mac sid (number ++ ciphered keys.enc number plain)
+      ++ (number ++ ciphered keys.enc number plain)
 
 -- the number of a sealed part
 abbrev pub number_of : List ℕ → List ℕ
@@ -56,4 +58,5 @@ NumberFits (Session ni nr fp_i fp_r sid_i sid_r to_responder) number = take 8 nu
 -- the part is the sealed part of this plain packet, under the number that it carries
 abbrev pub Opens : List ℕ → Context → ℕ → List ℕ → List ℕ → Type 0
 Opens secret context sid part plain =
-    (32 ≤ length part) × (part ≡ sealed_in secret context sid (number_of part) plain) × NumberFits context (number_of part)
+    (32 ≤ length part) × (part ≡ sealed_in secret context sid (number_of part) plain) ×
+      NumberFits context (number_of part)

@@ -1,5 +1,6 @@
 -- The packet numbers that a replay window has taken, as a whole list. Number 0 counts as taken.
-use Rattle.std.specs.Prelude.{◌≡◌, ◌==◌, ℕ, ◌+◌, Bool, false, ◌||◌, if◌then◌else◌, nat_le, max, List, [], ◌∷◌, Result, Ok, Err}
+use Rattle.std.specs.Prelude.{◌≡◌, ◌==◌, ℕ, ◌+◌, Bool, false, ◌||◌, if◌then◌else◌, nat_le, max,
+    List, [], ◌∷◌, Result, Ok, Err}
 use Rattle.crypto_profile.specs.declared.window.Seen.{Seen}
 use Rattle.crypto_profile.specs.declared.window.Seen.TheVariants.{Old, Repeated}
 
@@ -13,8 +14,8 @@ abbrev pub was_taken : List ℕ → ℕ → Bool
 was_taken [] n = n == 0
 was_taken (m ∷ taken) n = (n == m) || was_taken taken n
 
--- the answer to a number: it is Old where it is 1,024 or more below the highest, else Repeated where it
--- was taken, and is else taken
+-- the answer to a number: it is Old where it is 1,024 or more below the highest, else Repeated
+-- where it was taken, and is else taken
 abbrev pub answer : List ℕ → ℕ → Result (Unit {0}) Seen
 answer taken n =
     if nat_le (n + 1024) (highest_of taken) then Err Old

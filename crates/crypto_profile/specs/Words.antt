@@ -1,5 +1,5 @@
--- The bitmap of a replay window: 17 words of 64 bits, used in turn. A number's bit is n % 64 of word
--- n / 64 % 17.
+-- The bitmap of a replay window: 17 words of 64 bits, used in turn. A number's bit is n % 64 of
+-- word n / 64 % 17.
 use Rattle.std.specs.Prelude.{◌≡◌, ◌==◌, ℕ, ◌/◌, ◌%◌, ◌<◌, Bool, false, List, slice_index}
 use Rattle.std.specs.Int.{bit_at}
 use Rattle.crypto_profile.specs.Kept.{Kept, kept_where}

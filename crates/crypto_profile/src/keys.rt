@@ -32,7 +32,8 @@ pub enum Context {
     },
 }
 
-/// The keys of a context, and for each an HMAC that has taken in the key, from which those of packets go on.
+/// The keys of a context, and for each an HMAC that has taken in the key, from which those of
+/// packets go on.
 ///
 /// Contracts see the two keys.
 #[derive(Drop)]
@@ -173,7 +174,8 @@ fn session_key(
     sid_i: u32,
     sid_r: u32,
 ) -> [u8; 32]
-    ensures { (secret : List ℕ) → HoldsText secret [] under.now → result ≡ hmac secret (session_text label.now ni.now nr.now fp_i.now fp_r.now sid_i sid_r) }
+    ensures { (secret : List ℕ) → HoldsText secret [] under.now →
+        result ≡ hmac secret (session_text label.now ni.now nr.now fp_i.now fp_r.now sid_i sid_r) }
 {
     let mut mac = under.copy();
     mac.update(label);

@@ -1,8 +1,9 @@
-//! What sealing, opening and the replay window keep, for callers' proofs. The functions do nothing: the contract of each is
-//! its law.
+//! What sealing, opening and the replay window keep, for callers' proofs. The functions do nothing:
+//! the contract of each is its law.
 
 ghost use Rattle.crypto_profile.specs.Kept.{KeptStandsForTaken};
-ghost use Rattle.crypto_profile.specs.Opening.{OpenedWasSealed, OpensByItsTag, SealedCarries, SealedOpens};
+ghost use Rattle.crypto_profile.specs.Opening.{OpenedWasSealed, OpensByItsTag, SealedCarries,
+    SealedOpens};
 ghost use Rattle.crypto_profile.specs.Taken.{EachIsTakenOnce};
 
 /// What was sealed opens, and gives the plain packet.

@@ -1,6 +1,7 @@
 //! HMAC with SHA-256 (RFC 2104).
 
-ghost use Rattle.std.specs.Prelude.{◌≡◌, ◌-◌, ◌≤◌, List, ℕ, [], ◌++◌, length, map, replicate, bit_xor};
+ghost use Rattle.std.specs.Prelude.{◌≡◌, ◌-◌, ◌≤◌, List, ℕ, [], ◌++◌, length, map, replicate,
+    bit_xor};
 ghost use Rattle.crypto_profile.specs.Hmac.{hmac, key_block};
 
 use sha2::{Digest, Sha256};
@@ -83,14 +84,16 @@ impl RunningHmac {
 
     // Adds a piece to the text.
     pub(crate) fn update(&mut self, piece: &[u8])
-        ensures { (key text : List ℕ) → HoldsText key text self.old → HoldsText key (text ++ piece.now) self.new }
+        ensures { (key text : List ℕ) → HoldsText key text self.old →
+            HoldsText key (text ++ piece.now) self.new }
     {
         self.inner.update(piece);
     }
 
     // The HMAC of the text and a last piece, which is not added.
     pub(crate) fn finish_with(&self, last: &[u8]) -> [u8; 32]
-        ensures { (key text : List ℕ) → HoldsText key text self.now → result ≡ hmac key (text ++ last.now) }
+        ensures { (key text : List ℕ) → HoldsText key text self.now →
+            result ≡ hmac key (text ++ last.now) }
     {
         let mut inner = copy_of(&self.inner);
         inner.update(last);

@@ -5,7 +5,8 @@
 //! `HMAC(enc, number ‖ i)` with i as 8 bytes. The tag is the first 16 bytes of
 //! `HMAC(mac, session ID ‖ number ‖ ciphertext)` with the session ID as 4 bytes.
 
-ghost use Rattle.std.specs.Prelude.{◌≡◌, ◌≤◌, ◌++◌, length, take, drop, IfOk, IsOk, IfSome, IfNone, OnErr};
+ghost use Rattle.std.specs.Prelude.{◌≡◌, ◌≤◌, ◌++◌, length, take, drop, IfOk, IsOk, IfSome, IfNone,
+    OnErr};
 ghost use Rattle.crypto_profile.specs.Opening.{open_refusal, plain_of};
 ghost use Rattle.crypto_profile.specs.Sealing.{ciphered, sealed, tag_of, number_of, xored};
 
@@ -40,7 +41,8 @@ pub fn seal_in_place(keys: &Keys, sid: u32, number: [u8; 16], buf: &mut [u8])
     buf[..TAG_LEN].copy_from_slice(&tag);
 }
 
-/// Why a sealed part would not open under the keys and the session ID; `None` exactly where it would.
+/// Why a sealed part would not open under the keys and the session ID; `None` exactly where it
+/// would.
 pub fn open_refusal(keys: &Keys, sid: u32, part: &[u8]) -> Option<SealFault>
     ensures { result ≡ open_refusal keys.now sid part.now }
 {
@@ -60,7 +62,8 @@ pub fn open_refusal(keys: &Keys, sid: u32, part: &[u8]) -> Option<SealFault>
 pub fn open_in_place(keys: &Keys, sid: u32, buf: &mut [u8]) -> Result<Range<usize>, SealFault>
     ensures place { IfOk result (λ place. (place.start ≡ 32) × (place.end ≡ length buf.old)) }
     ensures plain { IfOk result (λ _. buf.new ≡ take 32 buf.old ++ plain_of keys.now buf.old) }
-    ensures sealed { IfOk result (λ _. buf.old ≡ sealed keys.now sid (number_of buf.old) (drop 32 buf.new)) }
+    ensures sealed { IfOk result (λ _. buf.old
+        ≡ sealed keys.now sid (number_of buf.old) (drop 32 buf.new)) }
     ensures opened { IfNone (open_refusal keys.now sid buf.old) (IsOk result) }
     ensures refused { IfSome (open_refusal keys.now sid buf.old) (λ fault. result ≡ Err fault) }
     ensures err { OnErr result (buf.new ≡ buf.old) }
@@ -74,7 +77,8 @@ pub fn open_in_place(keys: &Keys, sid: u32, buf: &mut [u8]) -> Result<Range<usiz
     Ok(HEAD_LEN..buf.len())
 }
 
-/// Deciphers a sealed part in place, whatever its tag: its plain packet then stands from byte 32 on.
+/// Deciphers a sealed part in place, whatever its tag: its plain packet then stands from byte 32
+/// on.
 pub fn decipher_in_place(keys: &Keys, buf: &mut [u8])
     requires { 32 ≤ length buf.old }
     ensures head { take 32 buf.new ≡ take 32 buf.old }

@@ -22,9 +22,9 @@ pub enum Seen {
 
 /// The packet numbers that were taken, as far back as 1,024 numbers.
 ///
-/// A bit of the words stands for a number, and the words are used in turn (after RFC 6479): a higher
-/// number clears the words that it comes to, and shifts none. 17 words hold the 1,024 numbers below
-/// any number of a word.
+/// A bit of the words stands for a number, and the words are used in turn (after RFC 6479): a
+/// higher number clears the words that it comes to, and shifts none. 17 words hold the 1,024
+/// numbers below any number of a word.
 #[derive(Drop)]
 pub struct ReplayWindow {
     highest: u64,
@@ -114,7 +114,8 @@ fn is_marked(words: &[u64; 17], n: u64) -> bool
 fn mark(words: &mut [u64; 17], n: u64)
     ensures marked { bit_of words.new n ≡ true }
     // Numbers less than 17 words apart have different bits.
-    ensures others { (m : ℕ) → m ≢ n → m < n + 1088 → n < m + 1088 → bit_of words.new m ≡ bit_of words.old m }
+    ensures others { (m : ℕ) → m ≢ n → m < n + 1088 → n < m + 1088 →
+        bit_of words.new m ≡ bit_of words.old m }
 {
     words[(n / WORD_BITS % WORDS) as usize] |= 1 << (n % WORD_BITS);
 }
@@ -123,8 +124,10 @@ fn mark(words: &mut [u64; 17], n: u64)
 fn clear(words: &mut [u64; 17], from: u64, to: u64)
     requires from { from < 2 ^ 58 }
     requires to { to < 2 ^ 58 }
-    ensures cleared { (m : ℕ) → from < m / 64 → m / 64 ≤ to → to < m / 64 + 17 → bit_of words.new m ≡ false }
-    ensures others { (m : ℕ) → m / 64 ≤ from → to < m / 64 + 17 → bit_of words.new m ≡ bit_of words.old m }
+    ensures cleared { (m : ℕ) → from < m / 64 → m / 64 ≤ to → to < m / 64 + 17 →
+        bit_of words.new m ≡ false }
+    ensures others { (m : ℕ) → m / 64 ≤ from → to < m / 64 + 17 →
+        bit_of words.new m ≡ bit_of words.old m }
 {
     let first = (from + 1).max((to + 1).saturating_sub(WORDS));
     for word in first..to + 1 {

@@ -23,4 +23,6 @@ pub record Added : Type 0 where
   pub room : ℕ
 
 abbrev pub added_code : Coded Entry → Coded Added
-added_code entry = code_by (List Entry × (ℕ × ℕ)) (coded× (coded_list entry) (coded× coded_ℕ coded_ℕ)) (λ a. (a.entries, (a.free, a.room))) (λ p. record { entries = p.0; free = p.1.0; room = p.1.1 }) (λ _. refl)
+added_code entry = code_by (List Entry × (ℕ × ℕ))
+    (coded× (coded_list entry) (coded× coded_ℕ coded_ℕ)) (λ a. (a.entries, (a.free, a.room)))
+    (λ p. record { entries = p.0; free = p.1.0; room = p.1.1 }) (λ _. refl)

@@ -22,15 +22,18 @@ use Rattle.endpoint.specs.Past.{ids_in_use}
 use Rattle.endpoint.specs.Contexts.{ReadsUnder}
 use Rattle.endpoint.specs.Keying.{IsFirst, IsSigned, chunks_of, initiator_part}
 
--- what the keying says: its peer, the number and the nonce of the attempt, and the peer's session ID
+-- what the keying says: its peer, the number and the nonce of the attempt, and the peer's session
+-- ID
 pub record Offer : Type 0 where
   pub peer : List ℕ
   pub n : ℕ
   pub ni : List ℕ
   pub far : ℕ
 
--- The datagram opens in the startup context under session ID 0 with the startup mode, its first initiator's keying makes this offer, and what the end has stated lets a session be born of it.
-pub record Admissible (setup : Setup) (facts : List Fact) (now : ℕ) (from : AddressParts) (datagram : List ℕ) (offer : Offer) : Type 0 where
+-- The datagram opens in the startup context under session ID 0 with the startup mode, its first
+-- initiator's keying makes this offer, and what the end has stated lets a session be born of it.
+pub record Admissible (setup : Setup) (facts : List Fact) (now : ℕ) (from : AddressParts)
+    (datagram : List ℕ) (offer : Offer) : Type 0 where
   -- the chunk
   pub packet : Whole
   pub reads : ReadsUnder setup.secret Startup 0 datagram packet
@@ -40,7 +43,9 @@ pub record Admissible (setup : Setup) (facts : List Fact) (now : ℕ) (from : Ad
   pub cookie : List ℕ
   pub cert : List ℕ
   pub sign : List ℕ
-  pub spells : Spells (IIKeying offer.far cookie cert (initiator_part offer.ni offer.n (own_of setup)) sign) chunk.kind chunk.payload
+  pub spells
+    : Spells (IIKeying offer.far cookie cert (initiator_part offer.ni offer.n (own_of setup)) sign)
+    chunk.kind chunk.payload
   -- the number is what these 8 bytes say
   pub number : offer.n < 2 ^ 64
   pub nonce_size : length offer.ni ≡ 16
@@ -53,6 +58,8 @@ pub record Admissible (setup : Setup) (facts : List Fact) (now : ℕ) (from : Ad
   pub other : cert ≢ setup.cert
   -- what the end has stated
   pub above : seen offer.peer facts < offer.n
-  pub prevails : (thing : Held) → held offer.peer facts ≡ Some thing → IsAttempt thing → Prevails offer.peer (own_of setup)
-  pub row : (list_any (bytes_eq offer.peer) (peers_in facts) ≡ true) ⊎ (length (peers_in facts) < setup.config.max_peers)
+  pub prevails : (thing : Held) → held offer.peer facts ≡ Some thing → IsAttempt thing →
+    Prevails offer.peer (own_of setup)
+  pub row : (list_any (bytes_eq offer.peer) (peers_in facts) ≡ true) ⊎
+    (length (peers_in facts) < setup.config.max_peers)
   pub place : held offer.peer facts ≡ None → length (ids_in_use facts) < setup.config.max_sessions

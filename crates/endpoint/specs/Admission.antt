@@ -1,5 +1,6 @@
 -- How a datagram is taken, or refused as a whole.
-use Rattle.std.specs.Prelude.{ℕ, ◌+◌, ◌-◌, ◌*◌, ◌%◌, ◌==◌, nat_lt, Bool, true, false, if◌then◌else◌, List, [], ◌∷◌, length, drop, Option, Some, None, Result, Ok, Err}
+use Rattle.std.specs.Prelude.{ℕ, ◌+◌, ◌-◌, ◌*◌, ◌%◌, ◌==◌, nat_lt, Bool, true, false, if◌then◌else◌,
+    List, [], ◌∷◌, length, drop, Option, Some, None, Result, Ok, Err}
 use Rattle.std.specs.FinMap.{get, contains_key}
 use Rattle.crypto_profile.specs.declared.keys.Context.TheVariants.{Startup as StartupContext}
 use Rattle.crypto_profile.specs.declared.sealing.SealFault.{SealFault}
@@ -10,16 +11,19 @@ use Rattle.rtmfp_packet.specs.declared.head.PacketHead.{PacketHead}
 use Rattle.rtmfp_packet.specs.declared.head.PacketFault.{PacketFault}
 use Rattle.rtmfp_packet.specs.declared.head.PacketFault.TheVariants.{Empty, ModeZero, ShortStamp}
 use Rattle.rtmfp_packet.specs.declared.head.Mode.{Mode}
-use Rattle.rtmfp_packet.specs.declared.head.Mode.TheVariants.{Initiator as FromInitiator, Responder as FromResponder, Startup as FromStartup}
+use Rattle.rtmfp_packet.specs.declared.head.Mode.TheVariants.{Initiator as FromInitiator,
+    Responder as FromResponder, Startup as FromStartup}
 use Rattle.rtmfp_packet.specs.Head.{flag, mode_number}
 use Rattle.rtmfp_packet.specs.Walk.{body_of}
 use Rattle.rtmfp_packet.specs.Whole.{Whole}
 use Rattle.startup.specs.declared.cause.Cause.{Cause}
-use Rattle.startup.specs.declared.cause.Cause.TheVariants.{Short, UnknownSession, BadTag, Repeated, BadPacket, WrongPlace}
+use Rattle.startup.specs.declared.cause.Cause.TheVariants.{Short, UnknownSession, BadTag, Repeated,
+    BadPacket, WrongPlace}
 use Rattle.session_core.specs.declared.stage.Role.{Role}
 use Rattle.session_core.specs.declared.stage.Role.TheVariants.{Initiator, Responder}
 use Rattle.session_core.specs.declared.hearing.Unheard.{Unheard}
-use Rattle.session_core.specs.declared.hearing.Unheard.TheVariants.{Short as ShortPart, BadTag as WrongTag, Repeated as OldNumber}
+use Rattle.session_core.specs.declared.hearing.Unheard.TheVariants.{Short as ShortPart,
+    BadTag as WrongTag, Repeated as OldNumber}
 use Rattle.session_core.specs.Session.{SessionState, with_stamps, is_opening, confirmed}
 use Rattle.session_core.specs.Hearing.{unheard, inward_keys, counted}
 use Rattle.startup.specs.Attempts.{confirm_fact, after_confirm}
@@ -37,7 +41,8 @@ mode_in flags =
     else if flags % 4 == 3 then Some FromStartup
     else None
 
--- a timestamp or an echo of two bytes where it is flagged, and what follows it; none where it isn't there whole
+-- a timestamp or an echo of two bytes where it is flagged, and what follows it; none where it isn't
+-- there whole
 abbrev pub stamp_in : Bool → List ℕ → Option (Option ℕ × List ℕ)
 stamp_in false bytes = Some (None, bytes)
 stamp_in true [] = None
@@ -46,16 +51,20 @@ stamp_in true (high ∷ low ∷ rest) = Some (Some (high * 256 + low), rest)
 
 -- the packet of a head and of what follows it
 abbrev pub whole_from : List ℕ → PacketHead → List ℕ → Whole
-whole_from bytes head body = record { head = head; start = length bytes - length body; chunks = (body_of body).chunks; padding = (body_of body).padding }
+whole_from bytes head body = record { head = head; start = length bytes - length body;
+    chunks = (body_of body).chunks; padding = (body_of body).padding }
 
-abbrev pub with_echo : List ℕ → ℕ → Mode → Option ℕ → Option (Option ℕ × List ℕ) → Result Whole PacketFault
+abbrev pub with_echo : List ℕ → ℕ → Mode → Option ℕ → Option (Option ℕ × List ℕ) →
+    Result Whole PacketFault
 with_echo bytes flags mode stamp None = Err ShortStamp
 with_echo bytes flags mode stamp (Some echo) =
-    Ok (whole_from bytes (record { critical = flag flags 7; reverse = flag flags 6; stamp = stamp; echo = echo.0; mode = mode }) echo.1)
+    Ok (whole_from bytes (record { critical = flag flags 7; reverse = flag flags 6; stamp = stamp;
+      echo = echo.0; mode = mode }) echo.1)
 
 abbrev pub with_stamp : List ℕ → ℕ → Mode → Option (Option ℕ × List ℕ) → Result Whole PacketFault
 with_stamp bytes flags mode None = Err ShortStamp
-with_stamp bytes flags mode (Some stamp) = with_echo bytes flags mode stamp.0 (stamp_in (flag flags 2) stamp.1)
+with_stamp bytes flags mode (Some stamp) = with_echo bytes flags mode stamp.0
+    (stamp_in (flag flags 2) stamp.1)
 
 abbrev pub with_mode : List ℕ → ℕ → List ℕ → Option Mode → Result Whole PacketFault
 with_mode bytes flags rest None = Err ModeZero
@@ -91,7 +100,8 @@ opened_by keys part None = Ok (plain_of keys part)
 opened_by keys part (Some fault) = Err BadTag
 
 abbrev pub opened_in_startup : State → ℕ → List ℕ → Result (List ℕ) Cause
-opened_in_startup s sid part = opened_by (startup_keys s) part (open_refusal (startup_keys s) sid part)
+opened_in_startup s sid part = opened_by (startup_keys s) part
+    (open_refusal (startup_keys s) sid part)
 
 abbrev pub heard_by : SessionState → List ℕ → Option Unheard → Result (List ℕ) Cause
 heard_by session part None = Ok (plain_of (inward_keys session) part)
@@ -117,9 +127,11 @@ abbrev pub opened_found : State → Option Place → List ℕ → Result (Place 
 opened_found s None part = Err UnknownSession
 opened_found s (Some place) part = placed place (opened_at s place part)
 
--- The place and the plain packet of a datagram. It has 4 bytes of its session ID, and 32 before the ciphertext.
+-- The place and the plain packet of a datagram. It has 4 bytes of its session ID, and 32 before the
+-- ciphertext.
 abbrev pub opened_datagram : State → List ℕ → Result (Place × List ℕ) Cause
-opened_datagram s datagram = if nat_lt (length datagram) 36 then Err Short else opened_found s (place_of s (sid_of datagram)) (drop 4 datagram)
+opened_datagram s datagram = if nat_lt (length datagram) 36 then Err Short
+    else opened_found s (place_of s (sid_of datagram)) (drop 4 datagram)
 
 -- ---- what it leaves before its chunks
 
@@ -147,7 +159,8 @@ confirming_by s near None = nothing s
 confirming_by s near (Some session) =
     if is_opening session.stage
     then record {
-      state = with_session (with_startup s (after_confirm s.startup session.joined.peer)) near (confirmed session);
+      state = with_session (with_startup s (after_confirm s.startup session.joined.peer)) near
+        (confirmed session);
       entries = fact_entries (confirm_fact s.startup session.joined.peer);
     }
     else nothing s
@@ -186,14 +199,16 @@ mode_at s (Session near) = mode_by (get s.sessions near)
 abbrev pub has_mode : PacketHead → Mode → Bool
 has_mode head mode = mode_number head.mode == mode_number mode
 
--- A datagram is refused, with what that leaves, or taken at a place, with its packet and with what that leaves before its chunks.
+-- A datagram is refused, with what that leaves, or taken at a place, with its packet and with what
+-- that leaves before its chunks.
 pub data Admission : Type 0 where
   Rejected : (state : State) → (cause : Cause) → Admission
   Admitted : (state : State) → (place : Place) → (packet : Whole) → Admission
 
 -- a packet that is taken at a place, from a sealed part
 abbrev pub taken_packet : State → Place → List ℕ → Whole → Admission
-taken_packet s place part packet = Admitted (timed_at (counted_at s place part) place packet.head) place packet
+taken_packet s place part packet = Admitted (timed_at (counted_at s place part) place packet.head)
+    place packet
 
 abbrev pub fault_number : PacketFault → ℕ
 fault_number Empty = 1
@@ -203,11 +218,13 @@ fault_number ShortStamp = 3
 abbrev pub admitted_packet : State → Place → Result Whole PacketFault → Admission
 admitted_packet s place (Err fault) = Rejected s (BadPacket (fault_number fault))
 admitted_packet s place (Ok packet) =
-    if has_mode packet.head (mode_at s place) then Admitted (timed_at s place packet.head) place packet else Rejected s WrongPlace
+    if has_mode packet.head (mode_at s place) then
+      Admitted (timed_at s place packet.head) place packet else Rejected s WrongPlace
 
 abbrev pub admitted : State → List ℕ → Result (Place × List ℕ) Cause → Admission
 admitted s datagram (Err cause) = Rejected s cause
-admitted s datagram (Ok found) = admitted_packet (counted_at s found.0 (drop 4 datagram)) found.0 (packet_in found.1)
+admitted s datagram (Ok found) = admitted_packet (counted_at s found.0 (drop 4 datagram)) found.0
+    (packet_in found.1)
 
 abbrev pub admission : State → List ℕ → Admission
 admission s datagram = admitted s datagram (opened_datagram s datagram)

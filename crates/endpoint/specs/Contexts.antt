@@ -8,16 +8,19 @@ use Rattle.rtmfp_packet.specs.Whole.{Whole}
 use Rattle.rtmfp_packet.specs.Reading.{PacketReading}
 use Rattle.glare_core.specs.declared.facts.Fact.{Fact}
 use Rattle.glare_core.specs.declared.facts.Held.{Held}
-use Rattle.glare_core.specs.declared.facts.Held.TheVariants.{Opening, HalfOpen, KeptAsResponder, KeptAsInitiator}
+use Rattle.glare_core.specs.declared.facts.Held.TheVariants.{Opening, HalfOpen, KeptAsResponder,
+    KeptAsInitiator}
 use Rattle.glare_core.specs.Standing.{held}
 use Rattle.glare_core.specs.Things.{near_of}
 use Rattle.glare_core.specs.Tells.{Values, as_initiator, as_responder}
 
 -- the context of a session, in one direction
 abbrev pub session_context : Values → Bool → Context
-session_context v to_responder = Session v.ni v.nr v.initiator v.responder v.near_i v.near_r to_responder
+session_context v to_responder = Session v.ni v.nr v.initiator v.responder v.near_i v.near_r
+    to_responder
 
--- the context in which an end takes datagrams for what it holds: startup for an attempt, and a session's own, towards this end
+-- the context in which an end takes datagrams for what it holds: startup for an attempt, and a
+-- session's own, towards this end
 abbrev pub inward : List ℕ → Held → Context
 inward own (Opening n near ni) = Startup
 inward own (HalfOpen j) = session_context (as_responder own j) true
@@ -37,18 +40,22 @@ pub record HeldUnder (facts : List Fact) (near : ℕ) (thing : Held) : Type 0 wh
   pub is_held : held peer facts ≡ Some thing
   pub id : near_of thing ≡ near
 
--- The context of a session ID at an end that stated these facts: startup for 0 and for an attempt's, and a session's own for that of a session.
+-- The context of a session ID at an end that stated these facts: startup for 0 and for an
+-- attempt's, and a session's own for that of a session.
 abbrev pub ContextOf : List ℕ → List Fact → ℕ → Context → Type 0
 ContextOf own facts sid context =
-    ((sid ≡ 0) × (context ≡ Startup)) ⊎ ((thing : Held) × HeldUnder facts sid thing × (context ≡ inward own thing))
+    ((sid ≡ 0) × (context ≡ Startup)) ⊎ ((thing : Held) × HeldUnder facts sid thing ×
+      (context ≡ inward own thing))
 
 -- The datagram goes under this session ID, opens in this context, and has this plain packet.
-pub record OpensUnder (secret : List ℕ) (context : Context) (sid : ℕ) (datagram plain : List ℕ) : Type 0 where
+pub record OpensUnder (secret : List ℕ) (context : Context) (sid : ℕ) (datagram plain : List ℕ)
+    : Type 0 where
   pub id : sid_of datagram ≡ sid
   pub opens : Opens secret context sid (drop 4 datagram) plain
 
 -- It is read so.
-pub record ReadsUnder (secret : List ℕ) (context : Context) (sid : ℕ) (datagram : List ℕ) (packet : Whole) : Type 0 where
+pub record ReadsUnder (secret : List ℕ) (context : Context) (sid : ℕ) (datagram : List ℕ)
+    (packet : Whole) : Type 0 where
   pub plain : List ℕ
   pub opens : OpensUnder secret context sid datagram plain
   pub reads : PacketReading plain (Ok packet)

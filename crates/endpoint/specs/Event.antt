@@ -1,4 +1,5 @@
--- What an end is given at its beginning, its calls with their arguments and answers, and what they added.
+-- What an end is given at its beginning, its calls with their arguments and answers, and what they
+-- added.
 use Rattle.std.specs.Prelude.{ℕ, List, max}
 use Rattle.sha2.specs.Sha256.{sha256}
 use Rattle.rtmfp_forms.specs.Address.{AddressParts}
@@ -9,7 +10,8 @@ use Rattle.endpoint.specs.declared.answers.CallRefusal.{CallRefusal}
 use Rattle.endpoint.specs.declared.answers.Stopped.{Stopped as Stop}
 use Rattle.endpoint.specs.declared.entry.Entry.{Entry}
 
--- what an end is given: its limits, its certificate, the secret of its group, and the secret of its cookies
+-- what an end is given: its limits, its certificate, the secret of its group, and the secret of its
+-- cookies
 pub record Setup : Type 0 where
   pub config : Config
   pub cert : List ℕ
@@ -36,7 +38,8 @@ pub data Answer : Type 0 where
   Stopped : (stop : Stop) → Answer
   OutOfMemory : Answer
 
--- A call of an end, at the moment that it was given (0 for a call that is given none), with its answer and the entries that it added.
+-- A call of an end, at the moment that it was given (0 for a call that is given none), with its
+-- answer and the entries that it added.
 pub record Event : Type 0 where
   pub moment : ℕ
   pub call : Call

@@ -23,7 +23,8 @@ History = List Happened
 -- the events of an end, the oldest first
 abbrev pub log_of : ℕ → History → List Event
 log_of who [] = []
-log_of who (h ∷ earlier) = if h.who == who then log_of who earlier ++ h.event ∷ [] else log_of who earlier
+log_of who (h ∷ earlier) = if h.who == who then log_of who earlier ++ h.event ∷ []
+    else log_of who earlier
 
 -- the facts that an end stated, the newest first
 abbrev pub facts_at : ℕ → History → List Fact
@@ -47,20 +48,24 @@ HasOut sent context (entry ∷ rest) = IsOut sent context entry ⊎ HasOut sent 
 -- An end sent these bytes in this context.
 abbrev pub WasSent : List ℕ → Context → History → Type 0
 WasSent sent context [] = ⊥
-WasSent sent context (h ∷ earlier) = HasOut sent context h.event.entries ⊎ WasSent sent context earlier
+WasSent sent context (h ∷ earlier) = HasOut sent context h.event.entries ⊎
+    WasSent sent context earlier
 
--- A datagram that opens in the context of its session ID, at the end that takes it, was sent in that context.
+-- A datagram that opens in the context of its session ID, at the end that takes it, was sent in
+-- that context.
 abbrev pub IsHonestCall : Setup → List Fact → History → Call → Type 0
 IsHonestCall setup facts earlier (Open peer candidates draws) = Unit {0}
 IsHonestCall setup facts earlier (Cancel n) = Unit {0}
 IsHonestCall setup facts earlier (Receive from datagram draws) =
     (context : Context) (plain : List ℕ) → ContextOf (own_of setup) facts (sid_of datagram) context
-    → OpensUnder setup.secret context (sid_of datagram) datagram plain → WasSent datagram context earlier
+    → OpensUnder setup.secret context (sid_of datagram) datagram plain →
+      WasSent datagram context earlier
 IsHonestCall setup facts earlier (Tick draws) = Unit {0}
 
 abbrev pub IsHonest : (ℕ → Setup) → History → Type 0
 IsHonest ends [] = Unit {0}
-IsHonest ends (h ∷ earlier) = IsHonestCall (ends h.who) (facts_at h.who earlier) earlier h.event.call × IsHonest ends earlier
+IsHonest ends (h ∷ earlier) = IsHonestCall (ends h.who) (facts_at h.who earlier) earlier
+    h.event.call × IsHonest ends earlier
 
 -- ---- fresh
 
@@ -77,4 +82,5 @@ TakesPart who (h ∷ earlier) = (who ≡ h.who) ⊎ TakesPart who earlier
 -- No nonce was drawn twice, and different ends have different fingerprints.
 pub record IsFresh (ends : ℕ → Setup) (history : History) : Type 0 where
   pub nonces : AllDifferent (nonces_in history)
-  pub prints : (a b : ℕ) → TakesPart a history → TakesPart b history → own_of (ends a) ≡ own_of (ends b) → a ≡ b
+  pub prints : (a b : ℕ) → TakesPart a history → TakesPart b history →
+    own_of (ends a) ≡ own_of (ends b) → a ≡ b

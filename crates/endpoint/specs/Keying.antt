@@ -21,7 +21,8 @@ pub record AreNear (packet : Whole) : Type 0 where
 abbrev pub initiator_part : List ℕ → ℕ → List ℕ → List ℕ
 initiator_part ni n responder = ni ++ to_be_bytes w64 n ++ responder
 
--- the responder's component: its nonce, the count of its attempts, its fingerprint, and the initiator's nonce
+-- the responder's component: its nonce, the count of its attempts, its fingerprint, and the
+-- initiator's nonce
 abbrev pub responder_part : List ℕ → ℕ → List ℕ → List ℕ → List ℕ
 responder_part nr k responder ni = nr ++ to_be_bytes w64 k ++ responder ++ ni
 
@@ -41,6 +42,11 @@ IsAmong chunk [] = ⊥
 IsAmong chunk (c ∷ cs) = (chunk ≡ c) ⊎ IsAmong chunk cs
 
 -- each chunk that is an initiator's keying, and that is a responder's, has this
-pub record KeyingsAre (OfInitiator : (near : ℕ) → (cookie cert part sign : List ℕ) → Type 0) (OfResponder : (near : ℕ) → (part sign : List ℕ) → Type 0) (packet : Whole) : Type 0 where
-  pub initiators : (c : Placed) (near : ℕ) (cookie cert part sign : List ℕ) → IsAmong c (chunks_of packet) → Spells (IIKeying near cookie cert part sign) c.kind c.payload → OfInitiator near cookie cert part sign
-  pub responders : (c : Placed) (near : ℕ) (part sign : List ℕ) → IsAmong c (chunks_of packet) → Spells (RIKeying near part sign) c.kind c.payload → OfResponder near part sign
+pub record KeyingsAre (OfInitiator : (near : ℕ) → (cookie cert part sign : List ℕ) →
+    Type 0) (OfResponder : (near : ℕ) → (part sign : List ℕ) →
+    Type 0) (packet : Whole) : Type 0 where
+  pub initiators : (c : Placed) (near : ℕ) (cookie cert part sign : List ℕ) →
+    IsAmong c (chunks_of packet) → Spells (IIKeying near cookie cert part sign) c.kind c.payload →
+    OfInitiator near cookie cert part sign
+  pub responders : (c : Placed) (near : ℕ) (part sign : List ℕ) → IsAmong c (chunks_of packet) →
+    Spells (RIKeying near part sign) c.kind c.payload → OfResponder near part sign

@@ -21,9 +21,11 @@ AreBytes bytes = All (λ byte. byte < 2 ^ 8) bytes
 
 -- the sizes of what a call is given
 abbrev pub IsCall : Call → Type 0
-IsCall (Open peer candidates draws) = (length peer ≡ 32) × (length draws.nonce ≡ 16) × (draws.word < 2 ^ 32) × (length draws.tag ≡ 16)
+IsCall (Open peer candidates draws) = (length peer ≡ 32) × (length draws.nonce ≡ 16) ×
+    (draws.word < 2 ^ 32) × (length draws.tag ≡ 16)
 IsCall (Cancel n) = Unit {0}
-IsCall (Receive from datagram draws) = AreBytes datagram × (length draws.nonce ≡ 16) × (draws.word < 2 ^ 32)
+IsCall (Receive from datagram draws) = AreBytes datagram × (length draws.nonce ≡ 16) ×
+    (draws.word < 2 ^ 32)
 IsCall (Tick draws) = Unit {0}
 
 abbrev pub AreCalls : List Event → Type 0
@@ -32,13 +34,16 @@ AreCalls (e ∷ events) = IsCall e.call × AreCalls events
 
 -- Each log that an end stands for is lawful.
 abbrev pub EveryLogIsLawful : Type 0
-EveryLogIsLawful = (setup : Setup) (log : List Event) (s : State) → IsSetup setup → AreCalls log → StandsFor setup log s → IsLawful setup log
+EveryLogIsLawful = (setup : Setup) (log : List Event) (s : State) → IsSetup setup → AreCalls log →
+    StandsFor setup log s → IsLawful setup log
 
 -- What an end holds and counts is what the facts of its log say, and each of these facts is lawful.
 abbrev pub TheLedgerIsOfTheLog : Type 0
-TheLedgerIsOfTheLog = (setup : Setup) (log : List Event) (s : State) → IsSetup setup → AreCalls log → StandsFor setup log s
+TheLedgerIsOfTheLog = (setup : Setup) (log : List Event) (s : State) → IsSetup setup →
+    AreCalls log → StandsFor setup log s
     → AccountStandsFor 0 s.startup.ledger (facts_of (past_of 0 [] log))
 
 -- There are never more attempts and sessions than may be.
 abbrev pub UsesAreWithin : Type 0
-UsesAreWithin = (setup : Setup) (log : List Event) (s : State) → IsSetup setup → AreCalls log → StandsFor setup log s → uses s ≤ setup.config.max_sessions
+UsesAreWithin = (setup : Setup) (log : List Event) (s : State) → IsSetup setup → AreCalls log →
+    StandsFor setup log s → uses s ≤ setup.config.max_sessions

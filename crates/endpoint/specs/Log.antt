@@ -1,5 +1,7 @@
 -- The log of an end: its calls, their answers and what they added, and the states that it leads to.
-use Rattle.std.specs.Prelude.{ℕ, ◌+◌, ◌<◌, ◌≡◌, Bool, true, false, if◌then◌else◌, List, [], ◌∷◌, ◌++◌, drop, length, Option, Some, None, IsSome, IfSome, IfNone, OnOk, IfErr, IsOk, ◌≤◌, Result, Ok, Err}
+use Rattle.std.specs.Prelude.{ℕ, ◌+◌, ◌<◌, ◌≡◌, Bool, true, false, if◌then◌else◌, List, [], ◌∷◌,
+    ◌++◌, drop, length, Option, Some, None, IsSome, IfSome, IfNone, OnOk, IfErr, IsOk, ◌≤◌, Result,
+    Ok, Err}
 use Rattle.rtmfp_base.specs.declared.memory.Memory.{Memory}
 use Rattle.rtmfp_forms.specs.Address.{AddressParts}
 use Rattle.startup.specs.Attempts.{cancel_fact}
@@ -11,12 +13,14 @@ use Rattle.endpoint.specs.declared.answers.OpenRefusal.TheVariants.{Memory as No
 use Rattle.endpoint.specs.declared.answers.CallRefusal.{CallRefusal}
 use Rattle.endpoint.specs.declared.answers.CallRefusal.TheVariants.{NoAttempt, Memory as NoMemory}
 use Rattle.endpoint.specs.declared.answers.Stopped.{Stopped as Stop}
-use Rattle.endpoint.specs.Event.{Setup, Call, Open, Cancel, Receive, Tick, Answer, Began, Done, NotOpened, Refused, Stopped, OutOfMemory, Event}
+use Rattle.endpoint.specs.Event.{Setup, Call, Open, Cancel, Receive, Tick, Answer, Began, Done,
+    NotOpened, Refused, Stopped, OutOfMemory, Event}
 use Rattle.endpoint.specs.Added.{Added}
 use Rattle.endpoint.specs.State.{State, Did, Does, nothing, fresh, at_moment, Done as DoneIn}
 use Rattle.endpoint.specs.Admission.{Admission, Rejected, Admitted, admission, confirms}
 use Rattle.endpoint.specs.Keying.{chunks_of}
-use Rattle.endpoint.specs.Due.{open_refusal, opening, cancelling, ticks, received, part_received, AddsDiscards, discards}
+use Rattle.endpoint.specs.Due.{open_refusal, opening, cancelling, ticks, received, part_received,
+    AddsDiscards, discards}
 
 -- ---- what a call may answer, add and leave, from a state in which its moment is noted
 
@@ -29,7 +33,8 @@ not_opened (Some refusal) = refusal
 abbrev pub not_cancelled : Bool → CallRefusal
 not_cancelled held = if held then NoMemory else NoAttempt
 
--- No memory was found before the datagram was taken: for the discard of one that is refused, or for the Confirmed of one that confirms a session.
+-- No memory was found before the datagram was taken: for the discard of one that is refused, or for
+-- the Confirmed of one that confirms a session.
 abbrev pub IsStopBefore : Admission → Type 0
 IsStopBefore (Rejected s cause) = Unit {0}
 IsStopBefore (Admitted s place packet) = confirms s place ≡ true
@@ -48,9 +53,11 @@ pub record IsStop (a : Admission) (stop : Stop) : Type 0 where
   pub taken : stop.taken ≡ true → IsStopAt a stop.chunks
   pub not_taken : stop.taken ≡ false → IsStopBefore a × (stop.chunks ≡ 0)
 
--- what was done of a datagram that found no memory: nothing, or the chunks before the one that found none
+-- what was done of a datagram that found no memory: nothing, or the chunks before the one that
+-- found none
 abbrev pub stopped : State → AddressParts → Draws → Admission → Stop → Did
-stopped s from draws a stop = if stop.taken then part_received from draws a stop.chunks else nothing s
+stopped s from draws a stop = if stop.taken then part_received from draws a stop.chunks
+    else nothing s
 
 -- Some things of a tick were done.
 abbrev pub SomeTicks : State → State → List Entry → Type 0
@@ -58,14 +65,20 @@ SomeTicks s t entries = (count : ℕ) × Does (ticks count s) t [] entries
 
 abbrev pub Answers : State → Call → Answer → List Entry → State → Type 0
 Answers s (Open peer candidates draws) (Began n) entries t =
-    (open_refusal s peer candidates ≡ None) × (n ≡ s.startup.ledger.started + 1) × Does (opening s peer candidates draws) t [] entries
-Answers s (Open peer candidates draws) (NotOpened refusal) entries t = (refusal ≡ not_opened (open_refusal s peer candidates)) × Does (nothing s) t [] entries
-Answers s (Cancel n) Done entries t = IsSome (cancel_fact s.startup n) × Does (cancelling s n) t [] entries
+    (open_refusal s peer candidates ≡ None) × (n ≡ s.startup.ledger.started + 1) ×
+      Does (opening s peer candidates draws) t [] entries
+Answers s (Open peer candidates draws) (NotOpened refusal) entries t =
+    (refusal ≡ not_opened (open_refusal s peer candidates)) × Does (nothing s) t [] entries
+Answers s (Cancel n) Done entries t = IsSome (cancel_fact s.startup n) ×
+    Does (cancelling s n) t [] entries
 Answers s (Cancel n) (Refused refusal) entries t =
-    IfNone (cancel_fact s.startup n) (refusal ≡ NoAttempt) × IfSome (cancel_fact s.startup n) (λ fact. refusal ≡ NoMemory) × Does (nothing s) t [] entries
-Answers s (Receive from datagram draws) Done entries t = Does (received from draws (admission s datagram)) t [] entries
+    IfNone (cancel_fact s.startup n) (refusal ≡ NoAttempt) ×
+      IfSome (cancel_fact s.startup n) (λ fact. refusal ≡ NoMemory) × Does (nothing s) t [] entries
+Answers s (Receive from datagram draws) Done entries t =
+    Does (received from draws (admission s datagram)) t [] entries
 Answers s (Receive from datagram draws) (Stopped stop) entries t =
-    IsStop (admission s datagram) stop × Does (stopped s from draws (admission s datagram) stop) t [] entries
+    IsStop (admission s datagram) stop ×
+      Does (stopped s from draws (admission s datagram) stop) t [] entries
 Answers s (Tick draws) Done entries t = SomeTicks s t entries × (due t.startup t.moment ≡ None)
 Answers s (Tick draws) OutOfMemory entries t = SomeTicks s t entries
 Answers s call answer entries t = ⊥
@@ -87,19 +100,23 @@ StandsFor setup log s = Leads (fresh setup) log s
 
 -- Whatever log an end stood for, it stands for that log with this event.
 abbrev pub Extends : State → State → Event → Type 0
-Extends old new e = (setup : Setup) (log : List Event) → StandsFor setup log old → StandsFor setup (log ++ e ∷ []) new
+Extends old new e = (setup : Setup) (log : List Event) → StandsFor setup log old →
+    StandsFor setup (log ++ e ∷ []) new
 
 -- ---- the events of calls, by what they returned and by an outbox before and after them
 
 abbrev pub event : ℕ → Call → Answer → List Entry → List Entry → Event
-event moment call answer before after = record { moment = moment; call = call; answer = answer; entries = drop (length before) after }
+event moment call answer before after = record { moment = moment; call = call; answer = answer;
+    entries = drop (length before) after }
 
 abbrev pub answer_of_open : Result ℕ OpenRefusal → Answer
 answer_of_open (Ok n) = Began n
 answer_of_open (Err refusal) = NotOpened refusal
 
-abbrev pub open_event : ℕ → List ℕ → List AddressParts → Draws → Result ℕ OpenRefusal → List Entry → List Entry → Event
-open_event moment peer candidates draws result before after = event moment (Open peer candidates draws) (answer_of_open result) before after
+abbrev pub open_event : ℕ → List ℕ → List AddressParts → Draws → Result ℕ OpenRefusal → List Entry →
+    List Entry → Event
+open_event moment peer candidates draws result before after =
+    event moment (Open peer candidates draws) (answer_of_open result) before after
 
 abbrev pub answer_of_cancel : Result (Unit {0}) CallRefusal → Answer
 answer_of_cancel (Ok done) = Done
@@ -112,19 +129,23 @@ abbrev pub answer_of_receive : Result (Unit {0}) Stop → Answer
 answer_of_receive (Ok done) = Done
 answer_of_receive (Err stop) = Stopped stop
 
-abbrev pub receive_event : AddressParts → ℕ → List ℕ → Draws → Result (Unit {0}) Stop → List Entry → List Entry → Event
-receive_event from moment datagram draws result before after = event moment (Receive from datagram draws) (answer_of_receive result) before after
+abbrev pub receive_event : AddressParts → ℕ → List ℕ → Draws → Result (Unit {0}) Stop → List Entry →
+    List Entry → Event
+receive_event from moment datagram draws result before after =
+    event moment (Receive from datagram draws) (answer_of_receive result) before after
 
 abbrev pub answer_of_tick : Result (Unit {0}) Memory → Answer
 answer_of_tick (Ok done) = Done
 answer_of_tick (Err memory) = OutOfMemory
 
 abbrev pub tick_event : ℕ → Draws → Result (Unit {0}) Memory → List Entry → List Entry → Event
-tick_event moment draws result before after = event moment (Tick draws) (answer_of_tick result) before after
+tick_event moment draws result before after =
+    event moment (Tick draws) (answer_of_tick result) before after
 
 -- ---- what taking a datagram gives
 
-pub record IsTaken (s : State) (from : AddressParts) (draws : Draws) (a : Admission) (result : Result (Unit {0}) Stop) (new : State) (before after : Added) : Type 0 where
+pub record IsTaken (s : State) (from : AddressParts) (draws : Draws) (a : Admission)
+    (result : Result (Unit {0}) Stop) (new : State) (before after : Added) : Type 0 where
   pub ok : OnOk result (DoneIn (received from draws a) new before after)
   pub stop : IfErr result (λ stop. IsStop a stop)
   pub stopped : IfErr result (λ stop. DoneIn (stopped s from draws a stop) new before after)

@@ -1,4 +1,5 @@
--- The context that a datagram's session ID names at an end, whether or not the datagram opens in it.
+-- The context that a datagram's session ID names at an end, whether or not the datagram opens in
+-- it.
 use Rattle.std.specs.Prelude.{ℕ, nat_lt, false, if◌then◌else◌, List, length, Option, Some, None}
 use Rattle.std.specs.FinMap.{get}
 use Rattle.crypto_profile.specs.declared.keys.Context.{Context}
@@ -24,4 +25,5 @@ context_of_place s (Some (Session near)) = context_towards (get s.sessions near)
 
 -- A datagram of fewer than 36 bytes names none.
 abbrev pub named_context : State → List ℕ → Option Context
-named_context s datagram = if nat_lt (length datagram) 36 then None else context_of_place s (place_of s (sid_of datagram))
+named_context s datagram = if nat_lt (length datagram) 36 then None
+    else context_of_place s (place_of s (sid_of datagram))

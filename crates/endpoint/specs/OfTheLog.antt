@@ -6,7 +6,8 @@ use Rattle.std.specs.FinMap.{get}
 use Rattle.glare_core.specs.declared.facts.Fact.{Fact}
 use Rattle.glare_core.specs.declared.facts.Fact.TheVariants.{Started}
 use Rattle.glare_core.specs.declared.facts.Held.{Held}
-use Rattle.glare_core.specs.declared.facts.Held.TheVariants.{Opening as AttemptHeld, HalfOpen, KeptAsResponder, KeptAsInitiator}
+use Rattle.glare_core.specs.declared.facts.Held.TheVariants.{Opening as AttemptHeld, HalfOpen,
+    KeptAsResponder, KeptAsInitiator}
 use Rattle.glare_core.specs.declared.facts.Joined.{Joined}
 use Rattle.glare_core.specs.Standing.{held, seen, count, peers_in}
 use Rattle.glare_core.specs.Things.{IsSession, near_of}
@@ -15,16 +16,20 @@ use Rattle.startup.specs.State.{AttemptState}
 use Rattle.session_core.specs.declared.stage.Role.{Role}
 use Rattle.session_core.specs.declared.stage.Role.TheVariants.{Initiator, Responder}
 use Rattle.session_core.specs.declared.stage.Stage.{Stage}
-use Rattle.session_core.specs.declared.stage.Stage.TheVariants.{Opening, Open, NearClose, FarLinger, Closed}
+use Rattle.session_core.specs.declared.stage.Stage.TheVariants.{Opening, Open, NearClose, FarLinger,
+    Closed}
 use Rattle.session_core.specs.Session.{SessionState}
 use Rattle.endpoint.specs.declared.entry.Entry.TheVariants.{Fact as FactEntry}
 use Rattle.endpoint.specs.Event.{Setup, own_of, Event}
-use Rattle.endpoint.specs.Past.{Stamped, stamped, facts_of, ids_in_use, is_in_use, WasDone, past_of, last_moment}
+use Rattle.endpoint.specs.Past.{Stamped, stamped, facts_of, ids_in_use, is_in_use, WasDone, past_of,
+    last_moment}
 use Rattle.endpoint.specs.State.{State, uses, is_used}
 use Rattle.endpoint.specs.Log.{StandsFor}
 use Rattle.endpoint.specs.Laws.{IsSetup, AreCalls}
 
--- The session with this role and stage is that thing: a session that was opened here is open, and one that was born here is half-open until it is confirmed, and open then. No end closes sessions yet.
+-- The session with this role and stage is that thing: a session that was opened here is open, and
+-- one that was born here is half-open until it is confirmed, and open then. No end closes sessions
+-- yet.
 abbrev pub IsThing : Role → Stage → Joined → Held → Type 0
 IsThing Initiator Opening j thing = ⊥
 IsThing Initiator Open j thing = thing ≡ KeptAsInitiator j
@@ -51,7 +56,8 @@ pub record AttemptIsThere (s : State) (peer : List ℕ) (n near : ℕ) (ni : Lis
   pub ni_is : attempt.ni ≡ ni
 
 -- The session under this session ID is held with its peer, in its stage.
-pub record SessionIsHeld (setup : Setup) (facts : List Fact) (near : ℕ) (session : SessionState) : Type 0 where
+pub record SessionIsHeld (setup : Setup) (facts : List Fact) (near : ℕ) (session : SessionState)
+    : Type 0 where
   pub thing : Held
   pub is : IsThing session.role session.stage session.joined thing
   pub is_held : held session.joined.peer facts ≡ Some thing
@@ -70,20 +76,27 @@ pub record IsOfTheLog (setup : Setup) (s : State) (now : ℕ) (past : List Stamp
   pub ids : (near : ℕ) → is_used s near ≡ is_in_use near (facts_of past)
   pub uses_are : uses s ≡ length (ids_in_use (facts_of past))
   -- the attempts
-  pub attempts : (near : ℕ) (a : AttemptState) → get s.startup.attempts near ≡ Some a → AttemptIsHeld past near a
-  pub attempts_there : (peer : List ℕ) (n near : ℕ) (ni : List ℕ) → held peer (facts_of past) ≡ Some (AttemptHeld n near ni) → AttemptIsThere s peer n near ni
+  pub attempts : (near : ℕ) (a : AttemptState) → get s.startup.attempts near ≡ Some a →
+    AttemptIsHeld past near a
+  pub attempts_there : (peer : List ℕ) (n near : ℕ) (ni : List ℕ) →
+    held peer (facts_of past) ≡ Some (AttemptHeld n near ni) → AttemptIsThere s peer n near ni
   -- the sessions, with their stages
-  pub sessions : (near : ℕ) (session : SessionState) → get s.sessions near ≡ Some session → SessionIsHeld setup (facts_of past) near session
-  pub sessions_there : (peer : List ℕ) (thing : Held) → held peer (facts_of past) ≡ Some thing → IsSession thing → SessionIsThere s thing
+  pub sessions : (near : ℕ) (session : SessionState) → get s.sessions near ≡ Some session →
+    SessionIsHeld setup (facts_of past) near session
+  pub sessions_there : (peer : List ℕ) (thing : Held) → held peer (facts_of past) ≡ Some thing →
+    IsSession thing → SessionIsThere s thing
   -- what is held with each peer, the greatest number seen of it, and whether it has a row
   pub held_is : (peer : List ℕ) → held_with s.startup.ledger peer ≡ held peer (facts_of past)
   pub floor_is : (peer : List ℕ) → floor_of s.startup.ledger peer ≡ seen peer (facts_of past)
-  pub row_is : (peer : List ℕ) → knows s.startup.ledger peer ≡ list_any (bytes_eq peer) (peers_in (facts_of past))
+  pub row_is : (peer : List ℕ) → knows s.startup.ledger peer
+    ≡ list_any (bytes_eq peer) (peers_in (facts_of past))
   -- how many rows there are, and how many attempts were started
   pub rows_are : row_count s.startup.ledger ≡ length (peers_in (facts_of past))
   pub count_is : s.startup.ledger.started ≡ count (facts_of past)
 
--- The session IDs in use, the stages and the rows of an end are those of whatever log it stands for.
+-- The session IDs in use, the stages and the rows of an end are those of whatever log it stands
+-- for.
 abbrev pub TheStateIsOfTheLog : Type 0
-TheStateIsOfTheLog = (setup : Setup) (log : List Event) (s : State) → IsSetup setup → AreCalls log → StandsFor setup log s
+TheStateIsOfTheLog = (setup : Setup) (log : List Event) (s : State) → IsSetup setup → AreCalls log →
+    StandsFor setup log s
     → IsOfTheLog setup s (last_moment 0 log) (past_of 0 [] log)

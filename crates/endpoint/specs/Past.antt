@@ -2,7 +2,8 @@
 use Rattle.std.specs.Prelude.{ℕ, List, [], ◌∷◌, ◌==◌, ◌≡◌, ◌⊎◌, not, filter, Bool}
 use Rattle.std.specs.List.{list_any}
 use Rattle.glare_core.specs.declared.facts.Fact.{Fact}
-use Rattle.glare_core.specs.declared.facts.Fact.TheVariants.{Started, Born, Opened, Confirmed, Ended}
+use Rattle.glare_core.specs.declared.facts.Fact.TheVariants.{Started, Born, Opened, Confirmed,
+    Ended}
 use Rattle.endpoint.specs.declared.entry.Entry.{Entry}
 use Rattle.endpoint.specs.declared.entry.Entry.TheVariants.{Fact as FactEntry, Discard, Out}
 use Rattle.endpoint.specs.Event.{Event, moment_at}
@@ -29,7 +30,8 @@ abbrev pub facts_of : List Stamped → List Fact
 facts_of [] = []
 facts_of (s ∷ earlier) = fact_and s.entry (facts_of earlier)
 
--- The session IDs that are in use: those of the things that are held, from their Started or Born until their Ended.
+-- The session IDs that are in use: those of the things that are held, from their Started or Born
+-- until their Ended.
 abbrev pub ids_in_use : List Fact → List ℕ
 ids_in_use [] = []
 ids_in_use (Started peer n near ni ∷ earlier) = near ∷ ids_in_use earlier
@@ -54,4 +56,5 @@ last_moment last (e ∷ events) = last_moment (moment_at last e) events
 
 abbrev pub past_of : ℕ → List Stamped → List Event → List Stamped
 past_of last past [] = past
-past_of last past (e ∷ events) = past_of (moment_at last e) (onto (moment_at last e) e.entries past) events
+past_of last past (e ∷ events) = past_of (moment_at last e) (onto (moment_at last e) e.entries past)
+    events

@@ -1,5 +1,6 @@
 -- Datagrams that go out.
-use Rattle.std.specs.Prelude.{ℕ, ◌+◌, ◌-◌, ◌^◌, ◌==◌, true, if◌then◌else◌, List, [], ◌∷◌, ◌++◌, take, Option, Some, None}
+use Rattle.std.specs.Prelude.{ℕ, ◌+◌, ◌-◌, ◌^◌, ◌==◌, true, if◌then◌else◌, List, [], ◌∷◌, ◌++◌,
+    take, Option, Some, None}
 use Rattle.std.specs.Int.{w64, to_be_bytes}
 use Rattle.rtmfp_forms.specs.Address.{AddressParts}
 use Rattle.rtmfp_packet.specs.Head.{head_bytes}
@@ -28,12 +29,15 @@ startup_number own count = take 8 own ++ to_be_bytes w64 count
 
 -- the datagram of a startup packet that goes out next
 abbrev pub startup_datagram : State → ℕ → List ℕ → List ℕ
-startup_datagram s sid plain = datagram sid (sealed_in s.startup.secret Startup sid (startup_number s.startup.ledger.own (s.sealed + 1)) plain)
+startup_datagram s sid plain = datagram sid
+    (sealed_in s.startup.secret Startup sid (startup_number s.startup.ledger.own (s.sealed + 1))
+    plain)
 
 abbrev pub sent_startup : State → AddressParts → ℕ → List ℕ → Did
 sent_startup s to sid plain =
     if s.sealed == last_count then nothing s
-    else record { state = with_sealed s (s.sealed + 1); entries = Out to (startup_datagram s sid plain) Startup ∷ [] }
+    else record { state = with_sealed s (s.sealed + 1);
+      entries = Out to (startup_datagram s sid plain) Startup ∷ [] }
 
 abbrev pub sent_answer : State → Answer → Did
 sent_answer s answer = sent_startup s answer.to answer.sid answer.plain
@@ -57,13 +61,15 @@ abbrev pub session_packet : SessionState → ℕ → Chunk → List ℕ
 session_packet session moment chunk = head_bytes (head_at session moment) ++ chunk_bytes chunk
 
 abbrev pub session_datagram : SessionState → ℕ → Chunk → List ℕ
-session_datagram session moment chunk = datagram session.joined.far (sealed_part session (session_packet session moment chunk))
+session_datagram session moment chunk = datagram session.joined.far
+    (sealed_part session (session_packet session moment chunk))
 
 abbrev pub sent_by : State → ℕ → AddressParts → Chunk → Option SessionState → Did
 sent_by s near to chunk None = nothing s
 sent_by s near to chunk (Some session) =
     if session.sealed == last_count then nothing s
-    else record { state = with_session s near (after_seal session); entries = Out to (session_datagram session s.moment chunk) (context_of session true) ∷ [] }
+    else record { state = with_session s near (after_seal session);
+      entries = Out to (session_datagram session s.moment chunk) (context_of session true) ∷ [] }
 
 -- one chunk in the session with this near id
 abbrev pub sent_in_session : State → ℕ → AddressParts → Chunk → Did

@@ -4,7 +4,8 @@ ghost use Rattle.std.specs.Prelude.{◌≡◌, ◌≤◌, IfOk, IfErr, OnOk, Ok,
 ghost use Rattle.std.specs.Int.{w32, from_be_bytes};
 ghost use Rattle.std.specs.FinMap.{get};
 ghost use Rattle.rtmfp_packet.specs.Head.{mode_number};
-ghost use Rattle.endpoint.specs.Admission.{fault_number, has_mode, heard_in, mode_at, opened_datagram, opened_in_startup, peers_mode, place_of, placed};
+ghost use Rattle.endpoint.specs.Admission.{fault_number, has_mode, heard_in, mode_at,
+    opened_datagram, opened_in_startup, peers_mode, place_of, placed};
 
 use crate::endpoint::Endpoint;
 use crate::place::Place;
@@ -51,8 +52,10 @@ impl Endpoint {
 
     /// Opens a sealed part in a session, in place. It takes no number yet.
     fn open_in_session(&self, near: u32, part: &mut [u8]) -> Result<(), Cause>
-        ensures ok { OnOk result (heard_in (get self.now.sessions near) part.old ≡ Ok (drop 32 part.new)) }
-        ensures err { IfErr result (λ cause. heard_in (get self.now.sessions near) part.old ≡ Err cause) }
+        ensures ok { OnOk result (heard_in (get self.now.sessions near) part.old
+            ≡ Ok (drop 32 part.new)) }
+        ensures err { IfErr result (λ cause. heard_in (get self.now.sessions near) part.old
+            ≡ Err cause) }
         ensures front { OnOk result (take 32 part.new ≡ take 32 part.old) }
         ensures length { length part.new ≡ length part.old }
     {
@@ -67,9 +70,11 @@ impl Endpoint {
         }
     }
 
-    /// Opens a datagram in place, and says where it belongs, or why it is refused. Nothing of it counts as taken yet.
+    /// Opens a datagram in place, and says where it belongs, or why it is refused. Nothing of it
+    /// counts as taken yet.
     pub(crate) fn open_datagram(&self, datagram: &mut [u8]) -> Result<Place, Cause>
-        ensures ok { IfOk result (λ place. opened_datagram self.now datagram.old ≡ Ok (place, drop 36 datagram.new)) }
+        ensures ok { IfOk result (λ place. opened_datagram self.now datagram.old
+            ≡ Ok (place, drop 36 datagram.new)) }
         ensures err { IfErr result (λ cause. opened_datagram self.now datagram.old ≡ Err cause) }
         ensures front { OnOk result (take 36 datagram.new ≡ take 36 datagram.old) }
         ensures length { length datagram.new ≡ length datagram.old }

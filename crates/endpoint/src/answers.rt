@@ -3,7 +3,8 @@
 use glare_core::StartRefusal;
 use thiserror::Error;
 
-/// Why an attempt isn't opened. Where several causes stand, the answer is the first of them in this order.
+/// Why an attempt isn't opened. Where several causes stand, the answer is the first of them in this
+/// order.
 #[derive(Clone, Copy, Debug, PartialEq, Eq, Error)]
 pub enum OpenRefusal {
     /// There are none or more than 16 candidates; how many.
@@ -19,7 +20,8 @@ pub enum OpenRefusal {
     Memory,
 }
 
-/// Why another call is refused. Where several causes stand, the answer is the first of them in this order.
+/// Why another call is refused. Where several causes stand, the answer is the first of them in this
+/// order.
 #[derive(Clone, Copy, Debug, PartialEq, Eq, Error)]
 pub enum CallRefusal {
     /// No held attempt has this number.

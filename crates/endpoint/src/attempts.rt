@@ -1,6 +1,7 @@
 //! Attempts that are opened and given up.
 
-ghost use Rattle.std.specs.Prelude.{◌≡◌, ◌+◌, IfErr, IfNone, IfOk, IfSome, IsSome, None, OnErr, OnOk, Err};
+ghost use Rattle.std.specs.Prelude.{◌≡◌, ◌+◌, IfErr, IfNone, IfOk, IfSome, IsSome, None, OnErr,
+    OnOk, Err};
 ghost use Rattle.startup.specs.Attempts.{cancel_fact};
 ghost use Rattle.endpoint.specs.Due.{cancelling, open_refusal, opening};
 ghost use Rattle.endpoint.specs.Log.{Extends, cancel_event, open_event};
@@ -20,9 +21,11 @@ use std::alloc::AllocError;
 const CANDIDATES: usize = 16;
 
 impl Endpoint {
-    /// Opens an attempt towards the end that the discriminator names, and sends a hello to each candidate place; it gives the number of the attempt (RFC 7016 section 3.5.1.1).
+    /// Opens an attempt towards the end that the discriminator names, and sends a hello to each
+    /// candidate place; it gives the number of the attempt (RFC 7016 section 3.5.1.1).
     ///
-    /// Where it is refused, all is as before but for the moment; `OpenRefusal` has the reasons in their order.
+    /// Where it is refused, all is as before but for the moment; `OpenRefusal` has the reasons in
+    /// their order.
     pub fn open(
         &mut self,
         epd: &Epd,
@@ -32,13 +35,23 @@ impl Endpoint {
         out: &mut Outbox,
     ) -> Result<u64, OpenRefusal>
         ensures number { IfOk result (λ n. n ≡ self.old.startup.ledger.started + 1) }
-        ensures ok { OnOk result (Done (opening (at_moment self.old moment) epd.now.print candidates.now draws.now) self.new out.old out.new) }
-        ensures refused { IfSome (open_refusal (at_moment self.old moment) epd.now.print candidates.now) (λ refusal. result ≡ Err refusal) }
-        ensures memory { IfNone (open_refusal (at_moment self.old moment) epd.now.print candidates.now) (IfErr result (λ refusal. refusal ≡ OpenRefusal.Memory)) }
-        ensures err { OnErr result (Done (nothing (at_moment self.old moment)) self.new out.old out.new) }
+        ensures ok
+            { OnOk result
+            (Done (opening (at_moment self.old moment) epd.now.print candidates.now draws.now)
+            self.new out.old out.new) }
+        ensures refused
+            { IfSome (open_refusal (at_moment self.old moment) epd.now.print candidates.now)
+            (λ refusal. result ≡ Err refusal) }
+        ensures memory
+            { IfNone (open_refusal (at_moment self.old moment) epd.now.print candidates.now)
+            (IfErr result (λ refusal. refusal ≡ OpenRefusal.Memory)) }
+        ensures err
+            { OnErr result (Done (nothing (at_moment self.old moment)) self.new out.old out.new) }
 
         // The end stands for its log with this call.
-        ensures stands { Extends self.old self.new (open_event moment epd.now.print candidates.now draws.now result out.old.entries out.new.entries) }
+        ensures stands { Extends self.old self.new
+            (open_event moment epd.now.print candidates.now draws.now result out.old.entries
+            out.new.entries) }
     {
         self.try_open(epd, candidates, moment, draws, out)
     }
@@ -53,10 +66,18 @@ impl Endpoint {
         out: &mut Outbox,
     ) -> Result<u64, OpenRefusal>
         ensures number { IfOk result (λ n. n ≡ self.old.startup.ledger.started + 1) }
-        ensures ok { OnOk result (Done (opening (at_moment self.old moment) epd.now.print candidates.now draws.now) self.new out.old out.new) }
-        ensures refused { IfSome (open_refusal (at_moment self.old moment) epd.now.print candidates.now) (λ refusal. result ≡ Err refusal) }
-        ensures memory { IfNone (open_refusal (at_moment self.old moment) epd.now.print candidates.now) (IfErr result (λ refusal. refusal ≡ OpenRefusal.Memory)) }
-        ensures err { OnErr result (Done (nothing (at_moment self.old moment)) self.new out.old out.new) }
+        ensures ok
+            { OnOk result
+            (Done (opening (at_moment self.old moment) epd.now.print candidates.now draws.now)
+            self.new out.old out.new) }
+        ensures refused
+            { IfSome (open_refusal (at_moment self.old moment) epd.now.print candidates.now)
+            (λ refusal. result ≡ Err refusal) }
+        ensures memory
+            { IfNone (open_refusal (at_moment self.old moment) epd.now.print candidates.now)
+            (IfErr result (λ refusal. refusal ≡ OpenRefusal.Memory)) }
+        ensures err
+            { OnErr result (Done (nothing (at_moment self.old moment)) self.new out.old out.new) }
     {
         self.advance(moment);
         if let Some(refusal) = self.open_refusal(epd, candidates) {
@@ -95,7 +116,9 @@ impl Endpoint {
     ) -> Result<u64, AllocError>
         requires { open_refusal self.old epd.now.print candidates.now ≡ None }
         ensures number { IfOk result (λ n. n ≡ self.old.startup.ledger.started + 1) }
-        ensures ok { OnOk result (Done (opening self.old epd.now.print candidates.now draws.now) self.new out.old out.new) }
+        ensures ok
+            { OnOk result (Done (opening self.old epd.now.print candidates.now draws.now) self.new
+            out.old out.new) }
         ensures err { OnErr result (Done (nothing self.old) self.new out.old out.new) }
     {
         let near = self.free_from(draws.word);
@@ -117,15 +140,19 @@ impl Endpoint {
 
     /// Gives up the held attempt with this number.
     ///
-    /// It is refused exactly where no held attempt has the number, or for want of memory; then all is as before.
+    /// It is refused exactly where no held attempt has the number, or for want of memory; then all
+    /// is as before.
     pub fn cancel(&mut self, n: u64, out: &mut Outbox) -> Result<(), CallRefusal>
         ensures ok { OnOk result (Done (cancelling self.old n) self.new out.old out.new) }
-        ensures refused { IfNone (cancel_fact self.old.startup n) (result ≡ Err CallRefusal.NoAttempt) }
-        ensures memory { IfSome (cancel_fact self.old.startup n) (λ _. IfErr result (λ refusal. refusal ≡ CallRefusal.Memory)) }
+        ensures refused { IfNone (cancel_fact self.old.startup n) (result
+            ≡ Err CallRefusal.NoAttempt) }
+        ensures memory { IfSome (cancel_fact self.old.startup n)
+            (λ _. IfErr result (λ refusal. refusal ≡ CallRefusal.Memory)) }
         ensures err { OnErr result (Done (nothing self.old) self.new out.old out.new) }
 
         // The end stands for its log with this call.
-        ensures stands { Extends self.old self.new (cancel_event n result out.old.entries out.new.entries) }
+        ensures stands { Extends self.old self.new
+            (cancel_event n result out.old.entries out.new.entries) }
     {
         self.try_cancel(n, out)
     }
@@ -133,8 +160,10 @@ impl Endpoint {
     /// Gives up an attempt, if there is one with this number.
     fn try_cancel(&mut self, n: u64, out: &mut Outbox) -> Result<(), CallRefusal>
         ensures ok { OnOk result (Done (cancelling self.old n) self.new out.old out.new) }
-        ensures refused { IfNone (cancel_fact self.old.startup n) (result ≡ Err CallRefusal.NoAttempt) }
-        ensures memory { IfSome (cancel_fact self.old.startup n) (λ _. IfErr result (λ refusal. refusal ≡ CallRefusal.Memory)) }
+        ensures refused { IfNone (cancel_fact self.old.startup n) (result
+            ≡ Err CallRefusal.NoAttempt) }
+        ensures memory { IfSome (cancel_fact self.old.startup n)
+            (λ _. IfErr result (λ refusal. refusal ≡ CallRefusal.Memory)) }
         ensures err { OnErr result (Done (nothing self.old) self.new out.old out.new) }
     {
         if !self.startup.has_number(n) {

@@ -1,16 +1,20 @@
 //! One chunk of a datagram: why it is discarded, or what it does.
 
-ghost use Rattle.std.specs.Prelude.{◌≡◌, ◌<◌, ◌≤◌, ◌^◌, Bool, ℕ, Err, IsOk, None, Ok, OnErr, OnOk, length, nat_lt};
+ghost use Rattle.std.specs.Prelude.{◌≡◌, ◌<◌, ◌≤◌, ◌^◌, Bool, ℕ, Err, IsOk, None, Ok, OnErr, OnOk,
+    length, nat_lt};
 ghost use Rattle.glare_core.specs.Calls.{where_true};
 ghost use Rattle.identity.specs.Certificates.{certificate_fault};
 ghost use Rattle.rtmfp_chunks.specs.Chunk.{PingReply, chunk_of, kind_of};
 ghost use Rattle.rtmfp_chunks.specs.FieldReading.{chunk_reading};
 ghost use Rattle.rtmfp_packet.specs.Chunks.{shown};
-ghost use Rattle.startup.specs.Attempts.{after_cookie_change, after_rhello, cookie_change_cause, cookie_change_keying, rhello_cause, rhello_keying};
+ghost use Rattle.startup.specs.Attempts.{after_cookie_change, after_rhello, cookie_change_cause,
+    cookie_change_keying, rhello_cause, rhello_keying};
 ghost use Rattle.startup.specs.Keyings.{initiator_hello_answer, initiator_hello_cause};
 ghost use Rattle.endpoint.specs.Admission.{sid_at};
-ghost use Rattle.endpoint.specs.Due.{IsQuiet, chunk_did, discarded, discards_for, effect, read_done};
-ghost use Rattle.endpoint.specs.Causes.{chunk_cause, form_cause, initiator_keying_cause, is_known, last_cause, read_cause, responder_keying_cause, takes, view_fault};
+ghost use Rattle.endpoint.specs.Due.{IsQuiet, chunk_did, discarded, discards_for, effect,
+    read_done};
+ghost use Rattle.endpoint.specs.Causes.{chunk_cause, form_cause, initiator_keying_cause, is_known,
+    last_cause, read_cause, responder_keying_cause, takes, view_fault};
 ghost use Rattle.endpoint.specs.Sending.{sent_answer, sent_if, sent_in_session};
 ghost use Rattle.endpoint.specs.State.{Done, nothing, with_startup};
 
@@ -116,7 +120,8 @@ fn view_fault(len: usize, view: &ChunkView<'_>) -> Option<Cause>
 }
 
 impl Endpoint {
-    /// Why a chunk is discarded, which came from an address, where an initiator's keying came before it in its datagram or not.
+    /// Why a chunk is discarded, which came from an address, where an initiator's keying came
+    /// before it in its datagram or not.
     fn chunk_cause(
         &self,
         place: Place,
@@ -199,7 +204,8 @@ impl Endpoint {
         payload: &[u8],
         view: &ChunkView<'_>,
     ) -> Option<Cause>
-        requires reads { chunk_reading (kind_of (chunk_of view.now)) payload.now ≡ Ok (chunk_of view.now) }
+        requires reads { chunk_reading (kind_of (chunk_of view.now)) payload.now
+            ≡ Ok (chunk_of view.now) }
         requires form { form_cause (kind_of (chunk_of view.now)) payload.now ≡ None }
         ensures { result ≡ read_cause self.now place (Ok (chunk_of view.now)) }
     {
@@ -230,8 +236,11 @@ impl Endpoint {
         out: &mut Outbox,
     ) -> Result<(), AllocError>
         requires form { form_cause chunk.now.kind chunk.now.payload.now ≡ None }
-        requires last { (keyed_before : Bool) × (last_cause self.old place keyed_before from.now (shown chunk.now) ≡ None) }
-        ensures ok { OnOk result (Done (effect self.old place from.now draws.now (shown chunk.now)) self.new out.old out.new) }
+        requires last { (keyed_before : Bool) ×
+            (last_cause self.old place keyed_before from.now (shown chunk.now) ≡ None) }
+        ensures ok
+            { OnOk result (Done (effect self.old place from.now draws.now (shown chunk.now))
+            self.new out.old out.new) }
         ensures err { OnErr result (Done (nothing self.old) self.new out.old out.new) }
         ensures quiet { chunk.now.kind ≡ 0x41 → IsOk result }
     {
@@ -257,7 +266,9 @@ impl Endpoint {
     ) -> Result<(), AllocError>
         requires cause { read_cause self.old place (Ok (chunk_of view.now)) ≡ None }
         requires form { (len : ℕ) × (view_fault len (chunk_of view.now) ≡ None) }
-        ensures ok { OnOk result (Done (read_done self.old place from.now (Ok (chunk_of view.now))) self.new out.old out.new) }
+        ensures ok
+            { OnOk result (Done (read_done self.old place from.now (Ok (chunk_of view.now)))
+            self.new out.old out.new) }
         ensures err { OnErr result (Done (nothing self.old) self.new out.old out.new) }
         ensures quiet { kind_of (chunk_of view.now) ≡ 0x41 → IsOk result }
     {
@@ -284,7 +295,10 @@ impl Endpoint {
         out: &mut Outbox,
     ) -> Result<(), AllocError>
         requires { initiator_hello_cause self.old.startup epd.now tag.now ≡ None }
-        ensures ok { OnOk result (Done (sent_answer self.old (initiator_hello_answer self.old.startup tag.now to.now self.old.moment)) self.new out.old out.new) }
+        ensures ok
+            { OnOk result
+            (Done (sent_answer self.old (initiator_hello_answer self.old.startup tag.now to.now
+            self.old.moment)) self.new out.old out.new) }
         ensures err { OnErr result (Done (nothing self.old) self.new out.old out.new) }
     {
         let blank = blank(self.alloc)?;
@@ -306,7 +320,12 @@ impl Endpoint {
     ) -> Result<(), AllocError>
         requires form { certificate_fault cert.now ≡ None }
         requires cause { rhello_cause self.old.startup tag.now cookie.now cert.now ≡ None }
-        ensures ok { OnOk result (Done (sent_if (with_startup self.old (after_rhello self.old.startup tag.now cookie.now from.now self.old.moment)) (rhello_keying self.old.startup tag.now cookie.now from.now)) self.new out.old out.new) }
+        ensures ok
+            { OnOk result
+            (Done (sent_if (with_startup self.old
+            (after_rhello self.old.startup tag.now cookie.now from.now self.old.moment))
+            (rhello_keying self.old.startup tag.now cookie.now from.now)) self.new out.old
+            out.new) }
         ensures err { OnErr result (Done (nothing self.old) self.new out.old out.new) }
     {
         let blank = blank(self.alloc)?;
@@ -329,7 +348,11 @@ impl Endpoint {
         out: &mut Outbox,
     ) -> Result<(), AllocError>
         requires { cookie_change_cause self.old.startup sid old.now new.now ≡ None }
-        ensures ok { OnOk result (Done (sent_if (with_startup self.old (after_cookie_change self.old.startup sid old.now new.now self.old.moment)) (cookie_change_keying self.old.startup sid old.now new.now)) self.new out.old out.new) }
+        ensures ok
+            { OnOk result
+            (Done (sent_if (with_startup self.old
+            (after_cookie_change self.old.startup sid old.now new.now self.old.moment))
+            (cookie_change_keying self.old.startup sid old.now new.now)) self.new out.old out.new) }
         ensures err { OnErr result (Done (nothing self.old) self.new out.old out.new) }
     {
         let blank = blank(self.alloc)?;
@@ -349,7 +372,9 @@ impl Endpoint {
         out: &mut Outbox,
     ) -> Result<(), AllocError>
         requires { length bytes.now ≤ 1024 }
-        ensures ok { OnOk result (Done (sent_in_session self.old near to.now (PingReply bytes.now)) self.new out.old out.new) }
+        ensures ok
+            { OnOk result (Done (sent_in_session self.old near to.now (PingReply bytes.now))
+            self.new out.old out.new) }
         ensures err { OnErr result (Done (nothing self.old) self.new out.old out.new) }
     {
         let blank = blank(self.alloc)?;
@@ -378,7 +403,8 @@ impl Endpoint {
         Ok(())
     }
 
-    /// Takes one chunk, which came from an address: it is discarded for its cause, or does what it does.
+    /// Takes one chunk, which came from an address: it is discarded for its cause, or does what it
+    /// does.
     pub(crate) fn chunk(
         &mut self,
         place: Place,
@@ -389,10 +415,15 @@ impl Endpoint {
         out: &mut Outbox,
     ) -> Result<(), AllocError>
         requires { chunk.now.at < 2 ^ 32 }
-        ensures ok { OnOk result (Done (chunk_did place from.now draws.now keyed_before self.old (shown chunk.now)) self.new out.old out.new) }
+        ensures ok
+            { OnOk result
+            (Done (chunk_did place from.now draws.now keyed_before self.old (shown chunk.now))
+            self.new out.old out.new) }
         ensures err { OnErr result (Done (nothing self.old) self.new out.old out.new) }
         // A chunk that adds nothing but its discard asks for no memory where there is room.
-        ensures enough { IsQuiet self.old place keyed_before from.now (shown chunk.now) → discards_for (chunk_cause self.old place keyed_before from.now (shown chunk.now)) ≤ out.old.free → IsOk result }
+        ensures enough { IsQuiet self.old place keyed_before from.now (shown chunk.now) →
+            discards_for (chunk_cause self.old place keyed_before from.now (shown chunk.now))
+            ≤ out.old.free → IsOk result }
     {
         match self.chunk_cause(place, keyed_before, from, chunk) {
             Some(cause) => self.discard(chunk.at, cause, out),

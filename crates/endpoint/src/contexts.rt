@@ -3,7 +3,8 @@
 ghost use Rattle.std.specs.Prelude.{◌≡◌, ◌≤◌, Some, length};
 ghost use Rattle.std.specs.FinMap.{get};
 ghost use Rattle.endpoint.specs.NamedContext.{context_towards, named_context};
-ghost use Rattle.endpoint.specs.OpensIn.{OpensByTheLog, context_in_session, context_in_startup, opens_in};
+ghost use Rattle.endpoint.specs.OpensIn.{OpensByTheLog, context_in_session, context_in_startup,
+    opens_in};
 
 use crate::admission::{PLAIN_AT, SEALED_AT, word_of};
 use crate::endpoint::Endpoint;
@@ -13,9 +14,12 @@ use crypto_profile::{Context, open_refusal};
 use packet_scramble::unscramble;
 
 impl Endpoint {
-    /// The context of a datagram's session ID at this end, where the datagram opens in it: startup for session ID 0 and that of an attempt, and a session's own, towards this end. None exactly where it opens in none.
+    /// The context of a datagram's session ID at this end, where the datagram opens in it: startup
+    /// for session ID 0 and that of an attempt, and a session's own, towards this end. None exactly
+    /// where it opens in none.
     ///
-    /// A datagram whose number was taken before opens, too. It takes no memory, and changes nothing.
+    /// A datagram whose number was taken before opens, too. It takes no memory, and changes
+    /// nothing.
     pub fn opens_in(&self, datagram: &[u8]) -> Option<Context>
         requires { length datagram.now ≤ 2048 }
         ensures state { result ≡ opens_in self.now datagram.now }
@@ -26,12 +30,14 @@ impl Endpoint {
         self.find_context(datagram)
     }
 
-    /// The context that a datagram's session ID names at this end, whether or not the datagram opens in it. None where it names none, or the datagram has fewer than 36 bytes.
+    /// The context that a datagram's session ID names at this end, whether or not the datagram
+    /// opens in it. None where it names none, or the datagram has fewer than 36 bytes.
     ///
     /// A datagram opens in no other. The tag isn't computed.
     pub fn named_context(&self, datagram: &[u8]) -> Option<Context>
         ensures named { result ≡ named_context self.now datagram.now }
-        ensures opens { (context : Context) → opens_in self.now datagram.now ≡ Some context → result ≡ Some context }
+        ensures opens { (context : Context) → opens_in self.now datagram.now ≡ Some context →
+            result ≡ Some context }
     {
         self.find_named(datagram)
     }

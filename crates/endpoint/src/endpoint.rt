@@ -10,7 +10,8 @@ use std::marker::Model;
 
 /// One end: what it keeps of its attempts and sessions.
 ///
-/// Contracts see its limits, the largest moment that it was given, how many startup packets it sealed, and what it keeps of attempts and of sessions, each by their session IDs.
+/// Contracts see its limits, the largest moment that it was given, how many startup packets it
+/// sealed, and what it keeps of attempts and of sessions, each by their session IDs.
 #[derive(Drop)]
 pub struct Endpoint {
     pub(crate) alloc: Global,
@@ -36,13 +37,16 @@ impl Model for Endpoint {
 
     ghost Value = { State };
 
-    ghost coded = { state_code config_type.the_row.coded startup_type.the_row.coded session_type.the_row.coded };
+    ghost coded =
+        { state_code config_type.the_row.coded startup_type.the_row.coded session_type.the_row.coded
+        };
 
     ghost use Rattle.endpoint.specs.Kept.{state_of, IsEndpoint};
 
     ghost view = { λ e. state_of e.config e.moment e.sealed e.startup e.sessions.items };
 
-    ghost invariant = { λ e. IsEndpoint e.config e.secret e.print e.keys e.startup e.sessions.items };
+    ghost invariant =
+        { λ e. IsEndpoint e.config e.secret e.print e.keys e.startup e.sessions.items };
 }
 
 impl Endpoint {
@@ -59,10 +63,14 @@ impl Endpoint {
         cookie_secret: [u8; 32],
     ) -> Endpoint
         requires { config.max_sessions ≤ 65536 }
-        ensures state { result ≡ fresh (record { config = config; cert = cert; secret = secret; cookie_secret = cookie_secret }) }
+        ensures state { result
+            ≡ fresh (record { config = config; cert = cert; secret = secret;
+            cookie_secret = cookie_secret }) }
 
         // It stands for the empty log.
-        ensures stands { StandsFor (record { config = config; cert = cert; secret = secret; cookie_secret = cookie_secret }) [] result }
+        ensures stands
+            { StandsFor (record { config = config; cert = cert; secret = secret;
+            cookie_secret = cookie_secret }) [] result }
     {
         let print = cert.print();
         Endpoint {

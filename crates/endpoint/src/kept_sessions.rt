@@ -7,7 +7,8 @@ use crate::endpoint::Endpoint;
 use glare_core::Held;
 
 impl Endpoint {
-    /// Whether the end keeps a session with the peer that has this fingerprint. A half-open session isn't kept.
+    /// Whether the end keeps a session with the peer that has this fingerprint. A half-open session
+    /// isn't kept.
     pub fn keeps(&self, peer: &[u8; 32]) -> bool
         ensures { result ≡ keeps self.now peer.now }
     {

@@ -1,9 +1,11 @@
 //! Keyings that bear and open sessions.
 
-ghost use Rattle.std.specs.Prelude.{◌≡◌, ◌+◌, ◌++◌, ◌<◌, ◌≤◌, None, OnErr, OnOk, length, vec_len, vec_capacity};
+ghost use Rattle.std.specs.Prelude.{◌≡◌, ◌+◌, ◌++◌, ◌<◌, ◌≤◌, None, OnErr, OnOk, length, vec_len,
+    vec_capacity};
 ghost use Rattle.std.specs.FinMap.{len};
 ghost use Rattle.startup.specs.Keyings.{iikeying_cause};
-ghost use Rattle.endpoint.specs.Due.{initiator_keyed, responder_keyed, sessions_born, sessions_opened, without_ended};
+ghost use Rattle.endpoint.specs.Due.{initiator_keyed, responder_keyed, sessions_born,
+    sessions_opened, without_ended};
 ghost use Rattle.endpoint.specs.Causes.{responder_keying_cause};
 ghost use Rattle.endpoint.specs.Kept.{table_of};
 ghost use Rattle.endpoint.specs.State.{Done, fact_entries, full, nothing};
@@ -30,8 +32,11 @@ impl Endpoint {
         payload: &[u8],
         out: &mut Outbox,
     ) -> Result<(), AllocError>
-        requires { iikeying_cause self.old.startup payload.now from.now self.old.moment (full self.old) ≡ None }
-        ensures ok { OnOk result (Done (initiator_keyed self.old from.now draws.now payload.now) self.new out.old out.new) }
+        requires { iikeying_cause self.old.startup payload.now from.now self.old.moment
+            (full self.old) ≡ None }
+        ensures ok
+            { OnOk result (Done (initiator_keyed self.old from.now draws.now payload.now) self.new
+            out.old out.new) }
         ensures err { OnErr result (Done (nothing self.old) self.new out.old out.new) }
     {
         let near = self.free_from(draws.word);
@@ -76,7 +81,8 @@ impl Endpoint {
         }
     }
 
-    /// Takes a responder's keying that nothing refuses, which came from an address under the session ID of an attempt.
+    /// Takes a responder's keying that nothing refuses, which came from an address under the
+    /// session ID of an attempt.
     pub(crate) fn responder_keyed(
         &mut self,
         near: u32,
@@ -85,7 +91,9 @@ impl Endpoint {
         out: &mut Outbox,
     ) -> Result<(), AllocError>
         requires { responder_keying_cause self.old near payload.now ≡ None }
-        ensures ok { OnOk result (Done (responder_keyed self.old near from.now payload.now) self.new out.old out.new) }
+        ensures ok
+            { OnOk result (Done (responder_keyed self.old near from.now payload.now) self.new
+            out.old out.new) }
         ensures err { OnErr result (Done (nothing self.old) self.new out.old out.new) }
     {
         let blank = blank(self.alloc)?;
@@ -122,7 +130,9 @@ fn keep_born(
 )
     requires distinct { len (table_of sessions.old.items) ≡ length sessions.old.items }
     requires room { vec_len sessions.old < vec_capacity sessions.old }
-    ensures table { table_of sessions.new.items ≡ sessions_born (table_of sessions.old.items) ended.now born.now print.now from.now secret.now moment }
+    ensures table { table_of sessions.new.items
+        ≡ sessions_born (table_of sessions.old.items) ended.now born.now print.now from.now
+        secret.now moment }
     ensures distinct { len (table_of sessions.new.items) ≡ length sessions.new.items }
 {
     if let Fact::Born(joined) = born {
@@ -145,7 +155,9 @@ fn keep_opened(
 )
     requires distinct { len (table_of sessions.old.items) ≡ length sessions.old.items }
     requires room { vec_len sessions.old < vec_capacity sessions.old }
-    ensures table { table_of sessions.new.items ≡ sessions_opened (table_of sessions.old.items) opened.now print.now from.now secret.now moment }
+    ensures table { table_of sessions.new.items
+        ≡ sessions_opened (table_of sessions.old.items) opened.now print.now from.now secret.now
+        moment }
     ensures distinct { len (table_of sessions.new.items) ≡ length sessions.new.items }
 {
     if let Fact::Opened(joined) = opened {
@@ -159,7 +171,8 @@ fn keep_opened(
 /// Forgets the session that a fact ended, where there is one.
 fn forget_ended(sessions: &mut Vec<Session>, ended: &Option<Fact>)
     requires { len (table_of sessions.old.items) ≡ length sessions.old.items }
-    ensures table { table_of sessions.new.items ≡ without_ended (table_of sessions.old.items) ended.now }
+    ensures table { table_of sessions.new.items
+        ≡ without_ended (table_of sessions.old.items) ended.now }
     ensures distinct { len (table_of sessions.new.items) ≡ length sessions.new.items }
     ensures capacity { vec_capacity sessions.new ≡ vec_capacity sessions.old }
     ensures shorter { vec_len sessions.new ≤ vec_len sessions.old }

@@ -15,12 +15,14 @@ pub struct Kinds<'a> {
     chunks: Option<Chunks<'a>>,
 }
 
-/// The types of the chunks of a plain packet (RFC 7016 section 2.2.4), but for those that are passed over (0x00 and 0xff); none of bytes that are no packet. Nothing is copied.
+/// The types of the chunks of a plain packet (RFC 7016 section 2.2.4), but for those that are
+/// passed over (0x00 and 0xff); none of bytes that are no packet. Nothing is copied.
 pub fn outgoing_kinds(plain: &[u8]) -> Kinds<'_>
     ensures value { kinds_left result ≡ kinds_in plain.now }
 
     // However the bytes read, these are the types of what was read.
-    ensures reads { (read : Result Whole PacketFaultType) → PacketReading plain.now read → kinds_left result ≡ kinds_read read }
+    ensures reads { (read : Result Whole PacketFaultType) → PacketReading plain.now read →
+        kinds_left result ≡ kinds_read read }
 {
     match read_packet(plain) {
         Ok(packet) => Kinds {

@@ -10,7 +10,8 @@ use std::marker::Model;
 
 /// The entries that calls of an end added, in order, and room for further ones.
 ///
-/// Contracts see the entries, the free room, and the room that `clear` gives again. No datagram among the entries passes 1,200 bytes.
+/// Contracts see the entries, the free room, and the room that `clear` gives again. No datagram
+/// among the entries passes 1,200 bytes.
 #[derive(Drop)]
 pub struct Outbox {
     room: u32,
@@ -23,7 +24,9 @@ impl Model for Outbox {
 
     ghost Value = { Added };
 
-    ghost view = { λ o. record { entries = o.entries.items; free = vec_capacity o.entries - vec_len o.entries; room = o.room } };
+    ghost view =
+        { λ o. record { entries = o.entries.items;
+        free = vec_capacity o.entries - vec_len o.entries; room = o.room } };
 
     ghost invariant = { λ o. (o.room ≤ vec_capacity o.entries) × AreShort o.entries.items };
 }
@@ -31,7 +34,8 @@ impl Model for Outbox {
 impl Outbox {
     /// An outbox without entries, with room for at least so many.
     pub fn new(alloc: Global, room: u32) -> Result<Outbox, Memory>
-        ensures { IfOk result (λ outbox. (outbox.entries ≡ []) × (room ≤ outbox.free) × (outbox.room ≡ room)) }
+        ensures { IfOk result (λ outbox. (outbox.entries ≡ []) × (room ≤ outbox.free) ×
+            (outbox.room ≡ room)) }
     {
         let entries = Vec::with_capacity(alloc, room as usize)?;
         Ok(Outbox { room, entries })
@@ -65,7 +69,8 @@ impl Outbox {
         self.entries.reserve(count)
     }
 
-    /// Adds an entry for which there is room, and whose datagram, if it has one, is short enough. It takes no memory.
+    /// Adds an entry for which there is room, and whose datagram, if it has one, is short enough.
+    /// It takes no memory.
     pub(crate) fn add(&mut self, entry: Entry)
         requires room { 0 < self.old.free }
         requires short { IsShort entry }

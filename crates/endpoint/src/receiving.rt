@@ -1,11 +1,14 @@
 //! Datagrams that come in.
 
-ghost use Rattle.std.specs.Prelude.{◌≡◌, ◌+◌, ◌<◌, ◌≤◌, ◌^◌, IfErr, IsOk, OnErr, OnOk, drop, false, length, take, true};
+ghost use Rattle.std.specs.Prelude.{◌≡◌, ◌+◌, ◌<◌, ◌≤◌, ◌^◌, IfErr, IsOk, OnErr, OnOk, drop, false,
+    length, take, true};
 ghost use Rattle.std.specs.List.{AllByRecursion};
 ghost use Rattle.std.specs.FinMap.{get};
 ghost use Rattle.rtmfp_packet.specs.Chunks.{left, shown};
-ghost use Rattle.endpoint.specs.Admission.{admission, admitted_packet, confirming, confirming_by, confirms, confirms_by, counted_at, counted_by, packet_in, taken_packet, timed_at, timed_by};
-ghost use Rattle.endpoint.specs.Due.{AddsDiscards, AreQuiet, chunks_did, discarded, discards, discards_among, keyed_after, received};
+ghost use Rattle.endpoint.specs.Admission.{admission, admitted_packet, confirming, confirming_by,
+    confirms, confirms_by, counted_at, counted_by, packet_in, taken_packet, timed_at, timed_by};
+ghost use Rattle.endpoint.specs.Due.{AddsDiscards, AreQuiet, chunks_did, discarded, discards,
+    discards_among, keyed_after, received};
 ghost use Rattle.endpoint.specs.Keying.{AreNear};
 ghost use Rattle.endpoint.specs.Log.{Extends, IsStop, IsTaken, not_taken, receive_event, stopped};
 ghost use Rattle.endpoint.specs.State.{Done, at_moment, nothing};
@@ -32,9 +35,14 @@ const NOT_TAKEN: Stopped = Stopped {
 };
 
 impl Endpoint {
-    /// Takes a datagram, which came from an address (RFC 7016 section 3.5). It is opened in place, and its chunks are gone through in order; a chunk that is refused adds its Discard and changes nothing else.
+    /// Takes a datagram, which came from an address (RFC 7016 section 3.5). It is opened in place,
+    /// and its chunks are gone through in order; a chunk that is refused adds its Discard and
+    /// changes nothing else.
     ///
-    /// Where no memory is found the call stops: `Stopped` tells whether the datagram was taken, and how many of its chunks were gone through. Where it wasn't taken all is as before but for the moment. A datagram that adds discards alone, or nothing, asks for no memory where the outbox has room for them.
+    /// Where no memory is found the call stops: `Stopped` tells whether the datagram was taken, and
+    /// how many of its chunks were gone through. Where it wasn't taken all is as before but for the
+    /// moment. A datagram that adds discards alone, or nothing, asks for no memory where the outbox
+    /// has room for them.
     pub fn receive(
         &mut self,
         from: Address,
@@ -44,13 +52,25 @@ impl Endpoint {
         out: &mut Outbox,
     ) -> Result<(), Stopped>
         requires { length datagram.old ≤ 2048 }
-        ensures ok { OnOk result (Done (received from draws.now (admission (at_moment self.old moment) datagram.old)) self.new out.old out.new) }
-        ensures stop { IfErr result (λ stop. IsStop (admission (at_moment self.old moment) datagram.old) stop) }
-        ensures stopped { IfErr result (λ stop. Done (stopped (at_moment self.old moment) from draws.now (admission (at_moment self.old moment) datagram.old) stop) self.new out.old out.new) }
-        ensures enough { AddsDiscards from (admission (at_moment self.old moment) datagram.old) → discards from (admission (at_moment self.old moment) datagram.old) ≤ out.old.free → IsOk result }
+        ensures ok
+            { OnOk result
+            (Done (received from draws.now (admission (at_moment self.old moment) datagram.old))
+            self.new out.old out.new) }
+        ensures stop
+            { IfErr result (λ stop. IsStop (admission (at_moment self.old moment) datagram.old)
+            stop) }
+        ensures stopped
+            { IfErr result
+            (λ stop. Done (stopped (at_moment self.old moment) from draws.now
+            (admission (at_moment self.old moment) datagram.old) stop) self.new out.old out.new) }
+        ensures enough { AddsDiscards from (admission (at_moment self.old moment) datagram.old) →
+            discards from (admission (at_moment self.old moment) datagram.old) ≤ out.old.free →
+            IsOk result }
 
         // The end stands for its log with this call.
-        ensures stands { Extends self.old self.new (receive_event from moment datagram.old draws.now result out.old.entries out.new.entries) }
+        ensures stands { Extends self.old self.new
+            (receive_event from moment datagram.old draws.now result out.old.entries
+            out.new.entries) }
     {
         self.take_datagram(from, moment, datagram, draws, out)
     }
@@ -65,7 +85,8 @@ impl Endpoint {
         out: &mut Outbox,
     ) -> Result<(), Stopped>
         requires { length datagram.old ≤ 2048 }
-        ensures { IsTaken (at_moment self.old moment) from draws.now (admission (at_moment self.old moment) datagram.old) result self.new out.old out.new }
+        ensures { IsTaken (at_moment self.old moment) from draws.now
+            (admission (at_moment self.old moment) datagram.old) result self.new out.old out.new }
     {
         self.advance(moment);
         match self.open_datagram(datagram) {
@@ -77,7 +98,8 @@ impl Endpoint {
     /// Refuses a datagram that wasn't opened.
     fn refuse_unopened(&mut self, cause: Cause, out: &mut Outbox) -> Result<(), Stopped>
         ensures ok { OnOk result (Done (discarded self.old 0 cause) self.new out.old out.new) }
-        ensures stop { IfErr result (λ stop. (stop ≡ not_taken) × Done (nothing self.old) self.new out.old out.new) }
+        ensures stop { IfErr result (λ stop. (stop ≡ not_taken) ×
+            Done (nothing self.old) self.new out.old out.new) }
         ensures enough { 0 < out.old.free → IsOk result }
     {
         match self.discard(0, cause, out) {
@@ -97,7 +119,9 @@ impl Endpoint {
     ) -> Result<(), Stopped>
         requires long { 36 ≤ length datagram.now }
         requires short { length datagram.now ≤ 2048 }
-        ensures { IsTaken self.old from.now draws.now (admitted_packet (counted_at self.old place (drop 4 datagram.now)) place (packet_in (drop 36 datagram.now))) result self.new out.old out.new }
+        ensures { IsTaken self.old from.now draws.now
+            (admitted_packet (counted_at self.old place (drop 4 datagram.now)) place
+            (packet_in (drop 36 datagram.now))) result self.new out.old out.new }
     {
         let part = behind(datagram, SEALED_AT);
         let plain = behind(datagram, PLAIN_AT);
@@ -116,7 +140,9 @@ impl Endpoint {
     ) -> Result<(), Stopped>
         requires long { 32 ≤ length part.now }
         requires short { length plain.now ≤ 2048 }
-        ensures { IsTaken self.old from.now draws.now (admitted_packet (counted_at self.old place part.now) place (packet_in plain.now)) result self.new out.old out.new }
+        ensures { IsTaken self.old from.now draws.now
+            (admitted_packet (counted_at self.old place part.now) place (packet_in plain.now))
+            result self.new out.old out.new }
     {
         match read_packet(plain) {
             Ok(packet) => {
@@ -139,8 +165,11 @@ impl Endpoint {
         out: &mut Outbox,
     ) -> Result<(), Stopped>
         requires { 32 ≤ length part.now }
-        ensures ok { OnOk result (Done (discarded (counted_at self.old place part.now) 0 cause) self.new out.old out.new) }
-        ensures stop { IfErr result (λ stop. (stop ≡ not_taken) × Done (nothing self.old) self.new out.old out.new) }
+        ensures ok
+            { OnOk result (Done (discarded (counted_at self.old place part.now) 0 cause) self.new
+            out.old out.new) }
+        ensures stop { IfErr result (λ stop. (stop ≡ not_taken) ×
+            Done (nothing self.old) self.new out.old out.new) }
         ensures enough { 0 < out.old.free → IsOk result }
     {
         match out.make_room(1) {
@@ -233,7 +262,8 @@ impl Endpoint {
     fn confirm_in(&mut self, near: u32, out: &mut Outbox)
         requires half_open { confirms_by (get self.old.sessions near) ≡ true }
         requires room { 0 < out.old.free }
-        ensures { Done (confirming_by self.old near (get self.old.sessions near)) self.new out.old out.new }
+        ensures { Done (confirming_by self.old near (get self.old.sessions near)) self.new out.old
+            out.new }
     {
         match place_of(&self.sessions, near) {
             Some(at) => {
@@ -259,10 +289,19 @@ impl Endpoint {
     ) -> Result<(), Stopped>
         requires part { 32 ≤ length part.now }
         requires chunks { AreNear packet.now }
-        ensures ok { OnOk result (Done (received from.now draws.now (taken_packet self.old place part.now packet.now)) self.new out.old out.new) }
-        ensures stop { IfErr result (λ stop. IsStop (taken_packet self.old place part.now packet.now) stop) }
-        ensures stopped { IfErr result (λ stop. Done (stopped self.old from.now draws.now (taken_packet self.old place part.now packet.now) stop) self.new out.old out.new) }
-        ensures enough { AddsDiscards from.now (taken_packet self.old place part.now packet.now) → discards from.now (taken_packet self.old place part.now packet.now) ≤ out.old.free → IsOk result }
+        ensures ok
+            { OnOk result
+            (Done (received from.now draws.now (taken_packet self.old place part.now packet.now))
+            self.new out.old out.new) }
+        ensures stop
+            { IfErr result (λ stop. IsStop (taken_packet self.old place part.now packet.now) stop) }
+        ensures stopped
+            { IfErr result
+            (λ stop. Done (stopped self.old from.now draws.now
+            (taken_packet self.old place part.now packet.now) stop) self.new out.old out.new) }
+        ensures enough { AddsDiscards from.now (taken_packet self.old place part.now packet.now) →
+            discards from.now (taken_packet self.old place part.now packet.now) ≤ out.old.free →
+            IsOk result }
     {
         match self.enter(place, part, packet.head(), out) {
             Ok(()) => self.walk(place, from, draws, packet.chunks(), out),
@@ -294,7 +333,10 @@ impl Endpoint {
         out: &mut Outbox,
     ) -> Result<(), AllocError>
         requires { 32 ≤ length part.now }
-        ensures ok { OnOk result (Done (confirming (timed_at (counted_at self.old place part.now) place head.now) place) self.new out.old out.new) }
+        ensures ok
+            { OnOk result
+            (Done (confirming (timed_at (counted_at self.old place part.now) place head.now) place)
+            self.new out.old out.new) }
         ensures err { OnErr result (Done (nothing self.old) self.new out.old out.new) }
         ensures confirms { OnErr result (confirms self.old place ≡ true) }
     {
@@ -316,10 +358,19 @@ impl Endpoint {
     ) -> Result<(), Stopped>
         requires near { AllByRecursion (λ c. c.at < 2 ^ 32) (left chunks) }
         requires few { length (left chunks) < 2 ^ 32 }
-        ensures ok { OnOk result (Done (chunks_did place from.now draws.now false self.old (left chunks.entry)) self.new out.old out.new) }
-        ensures stop { IfErr result (λ stop. (stop.taken ≡ true) × (stop.chunks < length (left chunks.entry))) }
-        ensures stopped { IfErr result (λ stop. Done (chunks_did place from.now draws.now false self.old (take stop.chunks (left chunks.entry))) self.new out.old out.new) }
-        ensures enough { AreQuiet self.old place from.now false (left chunks.entry) → discards_among self.old place from.now false (left chunks.entry) ≤ out.old.free → IsOk result }
+        ensures ok
+            { OnOk result
+            (Done (chunks_did place from.now draws.now false self.old (left chunks.entry)) self.new
+            out.old out.new) }
+        ensures stop { IfErr result (λ stop. (stop.taken ≡ true) ×
+            (stop.chunks < length (left chunks.entry))) }
+        ensures stopped
+            { IfErr result
+            (λ stop. Done (chunks_did place from.now draws.now false self.old
+            (take stop.chunks (left chunks.entry))) self.new out.old out.new) }
+        ensures enough { AreQuiet self.old place from.now false (left chunks.entry) →
+            discards_among self.old place from.now false (left chunks.entry) ≤ out.old.free →
+            IsOk result }
     {
         let mut gone = 0u32;
         let mut keyed = false;

@@ -8,7 +8,8 @@ ghost use Rattle.session_core.specs.Session.{SessionState, context_of};
 ghost use Rattle.packet_scramble.specs.Datagram.{datagram};
 ghost use Rattle.session_core.specs.Sealed.{after_seal, is_spent, sealed_part};
 ghost use Rattle.endpoint.specs.State.{Done, nothing};
-ghost use Rattle.endpoint.specs.Sending.{last_count, sent_answer, sent_each, sent_startup, session_datagram, startup_number};
+ghost use Rattle.endpoint.specs.Sending.{last_count, sent_answer, sent_each, sent_startup,
+    session_datagram, startup_number};
 
 use crate::endpoint::Endpoint;
 use crate::entry::Entry;
@@ -24,7 +25,8 @@ use session_core::Session;
 use startup::Answer;
 use std::alloc::{AllocError, Global};
 
-/// The number of a startup packet: the first 8 bytes of the fingerprint of its sender, and its count.
+/// The number of a startup packet: the first 8 bytes of the fingerprint of its sender, and its
+/// count.
 fn startup_number(print: &[u8; 32], count: u64) -> [u8; 16]
     ensures { result ≡ startup_number print.now count }
 {
@@ -36,7 +38,8 @@ fn startup_number(print: &[u8; 32], count: u64) -> [u8; 16]
 }
 
 impl Endpoint {
-    /// Sends a startup packet, for which memory and room were found. Where all counts are used nothing is sent.
+    /// Sends a startup packet, for which memory and room were found. Where all counts are used
+    /// nothing is sent.
     pub(crate) fn send_startup(
         &mut self,
         blank: Vec<u8>,
@@ -105,7 +108,8 @@ pub(crate) fn blanks(alloc: Global, count: usize) -> Result<Vec<Vec<u8>>, AllocE
     Ok(list)
 }
 
-/// The datagram of one chunk in a session, for which memory was found and a count is left. Whatever the head, the chunk fits.
+/// The datagram of one chunk in a session, for which memory was found and a count is left. Whatever
+/// the head, the chunk fits.
 pub(crate) fn session_datagram(
     blank: Vec<u8>,
     session: &mut Session,
@@ -129,7 +133,8 @@ pub(crate) fn session_datagram(
 fn sealed_in(blank: Vec<u8>, session: &mut Session, packet: &Outgoing) -> Message
     requires blank { length blank.items ≡ 1200 }
     requires spent { is_spent session.old ≡ false }
-    ensures datagram { result ≡ datagram session.old.joined.far (sealed_part session.old packet.now) }
+    ensures datagram { result ≡ datagram session.old.joined.far
+        (sealed_part session.old packet.now) }
     ensures short { length result ≤ 1200 }
     ensures session { session.new ≡ after_seal session.old }
 {

@@ -15,7 +15,9 @@ use rtmfp_chunks::ChunkView;
 use rtmfp_forms::Address;
 
 impl Endpoint {
-    /// Sends one chunk in the session with this session ID, to an address, for which memory and room were found. Where there is no such session, or all its counts are used, nothing is sent.
+    /// Sends one chunk in the session with this session ID, to an address, for which memory and
+    /// room were found. Where there is no such session, or all its counts are used, nothing is
+    /// sent.
     pub(crate) fn send_in_session(
         &mut self,
         blank: Vec<u8>,
@@ -28,7 +30,8 @@ impl Endpoint {
         requires room { 0 < out.old.free }
         requires writable { IsWritable (chunk_of chunk.now) }
         requires short { length (chunk_bytes (chunk_of chunk.now)) ≤ 1159 }
-        ensures { Done (sent_in_session self.old near to.now (chunk_of chunk.now)) self.new out.old out.new }
+        ensures { Done (sent_in_session self.old near to.now (chunk_of chunk.now)) self.new out.old
+            out.new }
     {
         let Some(place) = place_of(&self.sessions, near) else {
             return;

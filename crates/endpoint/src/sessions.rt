@@ -1,6 +1,7 @@
 //! The list of sessions of an end.
 
-ghost use Rattle.std.specs.Prelude.{◌≡◌, ◌<◌, ◌≤◌, ◌==◌, IfNone, IfSome, None, length, position, vec_len, vec_capacity};
+ghost use Rattle.std.specs.Prelude.{◌≡◌, ◌<◌, ◌≤◌, ◌==◌, IfNone, IfSome, None, length, position,
+    vec_len, vec_capacity};
 ghost use Rattle.std.specs.FinMap.{get, insert, len, remove};
 ghost use Rattle.endpoint.specs.Kept.{near_of, table_of};
 
@@ -19,7 +20,8 @@ pub(crate) fn place_of(sessions: &[Session], near: u32) -> Option<usize>
 pub(crate) fn keep(sessions: &mut Vec<Session>, session: Session)
     requires distinct { len (table_of sessions.old.items) ≡ length sessions.old.items }
     requires room { vec_len sessions.old < vec_capacity sessions.old }
-    ensures table { table_of sessions.new.items ≡ insert (table_of sessions.old.items) (near_of session) session }
+    ensures table { table_of sessions.new.items
+        ≡ insert (table_of sessions.old.items) (near_of session) session }
     ensures distinct { len (table_of sessions.new.items) ≡ length sessions.new.items }
 {
     let near = session.joined().near;

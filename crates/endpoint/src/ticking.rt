@@ -16,23 +16,28 @@ use startup::Due;
 use std::alloc::AllocError;
 
 impl Endpoint {
-    /// Does all that is due: attempts that weren't answered in time end, and hellos and keyings go out again, by rising session IDs.
+    /// Does all that is due: attempts that weren't answered in time end, and hellos and keyings go
+    /// out again, by rising session IDs.
     ///
-    /// For want of memory it does a part of it: what it did stands, and the first thing that found none, and what comes after it, is still due.
+    /// For want of memory it does a part of it: what it did stands, and the first thing that found
+    /// none, and what comes after it, is still due.
     pub fn tick(&mut self, moment: u64, draws: &Draws, out: &mut Outbox) -> Result<(), Memory>
-        ensures some { (count : ℕ) × Done (ticks count (at_moment self.old moment)) self.new out.old out.new }
+        ensures some { (count : ℕ) ×
+            Done (ticks count (at_moment self.old moment)) self.new out.old out.new }
         ensures all { OnOk result (due self.new.startup self.new.moment ≡ None) }
         ensures left { OnErr result (IsSome (due self.new.startup self.new.moment)) }
 
         // The end stands for its log with this call.
-        ensures stands { Extends self.old self.new (tick_event moment draws.now result out.old.entries out.new.entries) }
+        ensures stands { Extends self.old self.new
+            (tick_event moment draws.now result out.old.entries out.new.entries) }
     {
         self.do_due(moment, out)
     }
 
     /// Does all that is due at a moment.
     fn do_due(&mut self, moment: u64, out: &mut Outbox) -> Result<(), Memory>
-        ensures some { (count : ℕ) × Done (ticks count (at_moment self.old moment)) self.new out.old out.new }
+        ensures some { (count : ℕ) ×
+            Done (ticks count (at_moment self.old moment)) self.new out.old out.new }
         ensures all { OnOk result (due self.new.startup self.new.moment ≡ None) }
         ensures left { OnErr result (IsSome (due self.new.startup self.new.moment)) }
     {

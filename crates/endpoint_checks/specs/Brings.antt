@@ -16,7 +16,8 @@ pub record Keying : Type 0 where
   pub before : List ℕ
   pub sign : List ℕ
 
--- The datagram opens in the startup context under session ID 0, and its first initiator's keying says this.
+-- The datagram opens in the startup context under session ID 0, and its first initiator's keying
+-- says this.
 pub record BringsKeying (secret sent : List ℕ) (k : Keying) : Type 0 where
   pub packet : Whole
   pub reads : ReadsUnder secret Startup 0 sent packet
@@ -32,7 +33,8 @@ pub record Answer : Type 0 where
   pub before : List ℕ
   pub sign : List ℕ
 
--- The datagram opens in the startup context under this session ID, and a responder's keying that says this is its only chunk.
+-- The datagram opens in the startup context under this session ID, and a responder's keying that
+-- says this is its only chunk.
 pub record BringsAnswer (secret : List ℕ) (sid : ℕ) (sent : List ℕ) (a : Answer) : Type 0 where
   pub packet : Whole
   pub reads : ReadsUnder secret Startup sid sent packet

@@ -1,16 +1,25 @@
-//! What the table of lawful logs refuses: for each line and each of its conditions a short log that breaks just this one. The functions do nothing: the contract of each says which logs aren't lawful.
+//! What the table of lawful logs refuses: for each line and each of its conditions a short log that
+//! breaks just this one. The functions do nothing: the contract of each says which logs aren't
+//! lawful.
 //!
 //! That each log of an end is lawful is `endpoint`'s law; here stands that this law says something.
 #![tactic(auto)]
 
-ghost use Rattle.endpoint_checks.specs.Births.{TheTableRefusesBirths, TheTableRefusesKeyings, TheTableRefusesLaterBirths};
-ghost use Rattle.endpoint_checks.specs.Ends.{TheTableRefusesCancels, TheTableRefusesExpiries, TheTableRefusesOtherEnds, TheTableRefusesWays};
-ghost use Rattle.endpoint_checks.specs.Histories.{HistoriesRefuseDisagreed, HistoriesRefuseForged, HistoriesRefuseForgedInSessions, HistoriesRefuseStale};
-ghost use Rattle.endpoint_checks.specs.Opens.{TheTableRefusesAnswers, TheTableRefusesConfirms, TheTableRefusesOpenings};
-ghost use Rattle.endpoint_checks.specs.Sends.{TheTableRefusesAnswersSent, TheTableRefusesKeyingsSent, TheTableRefusesNumbers, TheTableRefusesSends, TheTableRefusesSendsInSessions};
+ghost use Rattle.endpoint_checks.specs.Births.{TheTableRefusesBirths, TheTableRefusesKeyings,
+    TheTableRefusesLaterBirths};
+ghost use Rattle.endpoint_checks.specs.Ends.{TheTableRefusesCancels, TheTableRefusesExpiries,
+    TheTableRefusesOtherEnds, TheTableRefusesWays};
+ghost use Rattle.endpoint_checks.specs.Histories.{HistoriesRefuseDisagreed, HistoriesRefuseForged,
+    HistoriesRefuseForgedInSessions, HistoriesRefuseStale};
+ghost use Rattle.endpoint_checks.specs.Opens.{TheTableRefusesAnswers, TheTableRefusesConfirms,
+    TheTableRefusesOpenings};
+ghost use Rattle.endpoint_checks.specs.Sends.{TheTableRefusesAnswersSent,
+    TheTableRefusesKeyingsSent, TheTableRefusesNumbers, TheTableRefusesSends,
+    TheTableRefusesSendsInSessions};
 ghost use Rattle.endpoint_checks.specs.Starts.{TheTableRefusesStarts};
 
-/// Attempts that start without an open towards their peer, with another nonce, another number, or a session ID that is 0 or in use.
+/// Attempts that start without an open towards their peer, with another nonce, another number, or a
+/// session ID that is 0 or in use.
 pub fn starts()
     ensures { TheTableRefusesStarts }
 {}
@@ -35,17 +44,20 @@ pub fn other_ends()
     ensures { TheTableRefusesOtherEnds }
 {}
 
-/// Sessions that are born as the first thing that an end does, with a session ID, a nonce, a count or an offer that no birth has, or of a datagram that doesn't open to a startup packet.
+/// Sessions that are born as the first thing that an end does, with a session ID, a nonce, a count
+/// or an offer that no birth has, or of a datagram that doesn't open to a startup packet.
 pub fn births()
     ensures { TheTableRefusesBirths }
 {}
 
-/// Sessions that are born of a keying that isn't the datagram's first, names another responder or another peer, isn't signed, or has a cookie that isn't good.
+/// Sessions that are born of a keying that isn't the datagram's first, names another responder or
+/// another peer, isn't signed, or has a cookie that isn't good.
 pub fn keyings()
     ensures { TheTableRefusesKeyings }
 {}
 
-/// Sessions that are born where something is held with the peer, of a keying that isn't new, or where there is no row or no place.
+/// Sessions that are born where something is held with the peer, of a keying that isn't new, or
+/// where there is no row or no place.
 pub fn later_births()
     ensures { TheTableRefusesLaterBirths }
 {}
@@ -75,17 +87,20 @@ pub fn numbers()
     ensures { TheTableRefusesNumbers }
 {}
 
-/// Initiators' keyings that go out without an attempt that is held, or that say something else than it.
+/// Initiators' keyings that go out without an attempt that is held, or that say something else than
+/// it.
 pub fn keyings_sent()
     ensures { TheTableRefusesKeyingsSent }
 {}
 
-/// Responders' keyings that go out without a session that was born here and is held, or that say something else than it.
+/// Responders' keyings that go out without a session that was born here and is held, or that say
+/// something else than it.
 pub fn answers_sent()
     ensures { TheTableRefusesAnswersSent }
 {}
 
-/// Datagrams that go out in the context of a session that isn't held, towards this end, or under another session ID than the peer's.
+/// Datagrams that go out in the context of a session that isn't held, towards this end, or under
+/// another session ID than the peer's.
 pub fn sends_in_sessions()
     ensures { TheTableRefusesSendsInSessions }
 {}
@@ -101,7 +116,8 @@ pub fn stale()
     ensures { HistoriesRefuseStale }
 {}
 
-/// Histories in which two ends keep different sessions, or in which attempts open, are born or end otherwise than agreed histories allow.
+/// Histories in which two ends keep different sessions, or in which attempts open, are born or end
+/// otherwise than agreed histories allow.
 pub fn disagreed()
     ensures { HistoriesRefuseDisagreed }
 {}

@@ -1,13 +1,16 @@
 -- Any calls of a receiver, one after another.
-use Rattle.std.specs.Prelude.{ℕ, ◌≡◌, ◌+◌, ◌<◌, ◌≤◌, nat_lt, if◌then◌else◌, not, ◌&&◌, ◌||◌, ◌==◌, Bool, true, false, List, [], ◌∷◌, ◌++◌, Option, Some, None, length, slice_get}
+use Rattle.std.specs.Prelude.{ℕ, ◌≡◌, ◌+◌, ◌<◌, ◌≤◌, nat_lt, if◌then◌else◌, not, ◌&&◌, ◌||◌, ◌==◌,
+    Bool, true, false, List, [], ◌∷◌, ◌++◌, Option, Some, None, length, slice_get}
 use Rattle.std.specs.Option.{option_map}
 use Rattle.rtmfp_data_chunks.specs.Fragments.{Message}
 use Rattle.rtmfp_data_chunks.specs.HandsOver.{IsIn}
 use Rattle.rtmfp_data_chunks.specs.declared.user_data.Part.TheVariants.{Whole}
-use Rattle.rtmfp_data_chunks.specs.Runs.{Chunk, Run, is_whole, has_number, highest, missing_of, through_of, runs_of, bytes_held, message_of, handed_in_order}
+use Rattle.rtmfp_data_chunks.specs.Runs.{Chunk, Run, is_whole, has_number, highest, missing_of,
+    through_of, runs_of, bytes_held, message_of, handed_in_order}
 use Rattle.flow_recv.specs.declared.outcome.FlowRefusal.{FlowRefusal}
 use Rattle.flow_recv.specs.declared.outcome.FlowRefusal.TheVariants.{AfterFinal, BeyondBuffer}
-use Rattle.flow_recv.specs.Receiver.{Receiver, fresh, taken, next_run, handed_next, held_in, through_in}
+use Rattle.flow_recv.specs.Receiver.{Receiver, fresh, taken, next_run, handed_next, held_in,
+    through_in}
 use Rattle.flow_recv.specs.Outcome.{refusal}
 use Rattle.flow_exchange.specs.Stands.{last_of}
 
@@ -15,7 +18,8 @@ pub data Call : Type 0 where
   Takes : (c : Chunk) → Call
   Hands : Call
 
--- what a receiver keeps, the chunks that it took, the newest first, and the messages that it handed over, in order
+-- what a receiver keeps, the chunks that it took, the newest first, and the messages that it handed
+-- over, in order
 pub record Receiving : Type 0 where
   pub receiver : Receiver
   pub chunks : List Chunk
@@ -26,10 +30,12 @@ at_first arriving = record { receiver = fresh arriving; chunks = []; handed = []
 
 abbrev pub hands_over : Receiving → Option Run → Receiving
 hands_over w None = w
-hands_over w (Some y) = record { receiver = handed_next w.receiver; chunks = w.chunks; handed = w.handed ++ message_of y ∷ [] }
+hands_over w (Some y) = record { receiver = handed_next w.receiver; chunks = w.chunks;
+    handed = w.handed ++ message_of y ∷ [] }
 
 abbrev pub calls : Receiving → Call → Receiving
-calls w (Takes c) = record { receiver = taken w.receiver c; chunks = c ∷ w.chunks; handed = w.handed }
+calls w (Takes c) = record { receiver = taken w.receiver c; chunks = c ∷ w.chunks;
+    handed = w.handed }
 calls w Hands = hands_over w (next_run w.receiver)
 
 abbrev pub all_calls : Receiving → List Call → Receiving
@@ -45,20 +51,24 @@ abbrev pub AllProper : List Call → Type 0
 AllProper [] = Unit {0}
 AllProper (e ∷ es) = IsProper e × AllProper es
 
--- what was handed over is the beginning of what is to be, and the next message is the one that follows
+-- what was handed over is the beginning of what is to be, and the next message is the one that
+-- follows
 pub record HandsInOrder (w : Receiving) : Type 0 where
   pub rest : List Message
   pub begins : w.handed ++ rest ≡ handed_in_order w.chunks
-  pub next : option_map message_of (next_run w.receiver) ≡ slice_get (handed_in_order w.chunks) (length w.handed)
+  pub next : option_map message_of (next_run w.receiver)
+    ≡ slice_get (handed_in_order w.chunks) (length w.handed)
 
 -- where no message is next, in arrival order each whole run was handed over
 abbrev pub AllHanded : Receiving → Type 0
-AllHanded w = next_run w.receiver ≡ None → (y : Run) → IsIn y (runs_of w.chunks) → is_whole y ≡ true → has_number y.first w.handed ≡ true
+AllHanded w = next_run w.receiver ≡ None → (y : Run) → IsIn y (runs_of w.chunks) →
+    is_whole y ≡ true → has_number y.first w.handed ≡ true
 
 -- the lowest whole run that wasn't handed over
 abbrev pub lowest_whole : List Message → List Run → Option Run
 lowest_whole handed [] = None
-lowest_whole handed (y ∷ later) = if is_whole y && not (has_number y.first handed) then Some y else lowest_whole handed later
+lowest_whole handed (y ∷ later) = if is_whole y && not (has_number y.first handed) then Some y
+    else lowest_whole handed later
 
 -- in arrival order the next message is the lowest whole run that wasn't handed over
 abbrev pub HandsLowest : Receiving → Type 0
@@ -69,7 +79,8 @@ pub record Counts (w : Receiving) : Type 0 where
   pub bytes : held_in w.receiver.runs ≡ bytes_held w.chunks w.handed
   pub through : through_in w.receiver ≡ through_of w.chunks
 
--- ---- the refusals of a chunk, by the chunks that were taken and the messages that were handed over
+-- ---- the refusals of a chunk, by the chunks that were taken and the messages that were handed
+-- over
 
 -- a known last number is passed, or the mark stands at another one
 abbrev pub passes_last : Option ℕ → ℕ → Chunk → Option ℕ
@@ -78,23 +89,28 @@ passes_last None top c = if c.last && nat_lt c.seq top then Some top else None
 
 -- the chunk's forward number, taken alone
 abbrev pub forward_alone : Chunk → Chunk
-forward_alone c = record { part = Whole; abandon = true; last = false; seq = c.forward; forward = c.forward; bytes = [] }
+forward_alone c = record { part = Whole; abandon = true; last = false; seq = c.forward;
+    forward = c.forward; bytes = [] }
 
 -- the bytes of a chunk that count
 abbrev pub own_bytes : Chunk → ℕ
 own_bytes c = if c.abandon then 0 else length c.bytes
 
--- the lowest missing number may fill 3,145,728 bytes, one above it 2,097,152, and it is at most 65,536 above it
+-- the lowest missing number may fill 3,145,728 bytes, one above it 2,097,152, and it is at most
+-- 65,536 above it
 abbrev pub is_full : ℕ → ℕ → Chunk → Bool
 is_full through held c =
     if c.seq == through + 1 then nat_lt 3145728 (held + own_bytes c)
     else nat_lt 2097152 (held + own_bytes c) || nat_lt (through + 1 + 65536) c.seq
 
--- its number is missing and above its forward number, and the buffer is full, all counted as if the forward number were taken
+-- its number is missing and above its forward number, and the buffer is full, all counted as if the
+-- forward number were taken
 abbrev pub full_by : List Chunk → List Message → Chunk → Option ℕ
 full_by chunks handed c =
     let given = forward_alone c ∷ chunks in
-    if missing_of chunks c.seq && nat_lt c.forward c.seq && is_full (through_of given) (bytes_held given handed) c then Some (bytes_held given handed) else None
+    if missing_of chunks c.seq && nat_lt c.forward c.seq
+      && is_full (through_of given) (bytes_held given handed) c then Some (bytes_held given handed)
+      else None
 
 abbrev pub refusal_with : Option ℕ → Option ℕ → Option FlowRefusal
 refusal_with (Some n) full = Some (AfterFinal n)
@@ -102,7 +118,9 @@ refusal_with None (Some held) = Some (BeyondBuffer held)
 refusal_with None None = None
 
 abbrev pub refusal_by : List Chunk → List Message → Chunk → Option FlowRefusal
-refusal_by chunks handed c = refusal_with (passes_last (last_of chunks) (highest chunks) c) (full_by chunks handed c)
+refusal_by chunks handed c = refusal_with (passes_last (last_of chunks) (highest chunks) c)
+    (full_by chunks handed c)
 
 abbrev pub RefusesBy : Receiving → Type 0
-RefusesBy w = (c : Chunk) → c.forward ≤ c.seq → (c.abandon ≡ false → c.forward < c.seq) → refusal w.receiver c ≡ refusal_by w.chunks w.handed c
+RefusesBy w = (c : Chunk) → c.forward ≤ c.seq → (c.abandon ≡ false → c.forward < c.seq) →
+    refusal w.receiver c ≡ refusal_by w.chunks w.handed c

@@ -1,4 +1,5 @@
--- When what a receiver keeps stands for the chunks that it took and the messages that it handed over.
+-- When what a receiver keeps stands for the chunks that it took and the messages that it handed
+-- over.
 use Rattle.std.specs.Prelude.{ℕ, ◌≡◌, if◌then◌else◌, List, [], ◌∷◌, Option, Some, None}
 use Rattle.std.specs.List.{filter}
 use Rattle.rtmfp_data_chunks.specs.Fragments.{Message}

@@ -5,35 +5,49 @@ ghost use Rattle.rtmfp_data_chunks.specs.HandsOver.{HandsOver, HandsOnce};
 ghost use Rattle.flow_exchange.specs.Pair.{Happening, exchanged, pair};
 ghost use Rattle.flow_exchange.specs.Sending.{Act, all_acts, begun, SpeaksTrue};
 ghost use Rattle.flow_exchange.specs.Stands.{StandsFor};
-ghost use Rattle.flow_exchange.specs.Receiving.{Call, AllProper, all_calls, at_first, HandsInOrder, AllHanded, HandsLowest, Counts, RefusesBy};
+ghost use Rattle.flow_exchange.specs.Receiving.{Call, AllProper, all_calls, at_first, HandsInOrder,
+    AllHanded, HandsLowest, Counts, RefusesBy};
 
 /// Whatever chunks a receiver takes and however often it hands over, what it keeps stands for them.
-/// In queueing order it hands over what is to be handed over, one message after another.
-/// In arrival order the next message is the lowest whole run that wasn't handed over, and each whole run was where there
-/// is none. The bytes that it holds, the number at or below which none is missing, and its refusals but want of memory
-/// are those of the chunks that it took.
+/// In queueing order it hands over what is to be handed over, one message after another. In arrival
+/// order the next message is the lowest whole run that wasn't handed over, and each whole run was
+/// where there is none. The bytes that it holds, the number at or below which none is missing, and
+/// its refusals but want of memory are those of the chunks that it took.
 pub fn receiving()
     ensures stands { (arriving : Bool) (events : List Call) → AllProper events
-        → StandsFor (all_calls (at_first arriving) events).receiver (all_calls (at_first arriving) events).chunks (all_calls (at_first arriving) events).handed }
-    ensures in_order { (events : List Call) → AllProper events → HandsInOrder (all_calls (at_first false) events) }
-    ensures arriving { (events : List Call) → AllProper events → AllHanded (all_calls (at_first true) events) }
-    ensures lowest { (events : List Call) → AllProper events → HandsLowest (all_calls (at_first true) events) }
-    ensures counts { (arriving : Bool) (events : List Call) → AllProper events → Counts (all_calls (at_first arriving) events) }
-    ensures refuses { (arriving : Bool) (events : List Call) → AllProper events → RefusesBy (all_calls (at_first arriving) events) }
+        → StandsFor (all_calls (at_first arriving) events).receiver
+            (all_calls (at_first arriving) events).chunks
+            (all_calls (at_first arriving) events).handed }
+    ensures in_order { (events : List Call) → AllProper events →
+        HandsInOrder (all_calls (at_first false) events) }
+    ensures arriving { (events : List Call) → AllProper events →
+        AllHanded (all_calls (at_first true) events) }
+    ensures lowest { (events : List Call) → AllProper events →
+        HandsLowest (all_calls (at_first true) events) }
+    ensures counts { (arriving : Bool) (events : List Call) → AllProper events →
+        Counts (all_calls (at_first arriving) events) }
+    ensures refuses { (arriving : Bool) (events : List Call) → AllProper events →
+        RefusesBy (all_calls (at_first arriving) events) }
 {}
 
-/// Whatever calls a sender gets, each chunk that it gives next has its number's fragment, or is a notice of the
-/// forward number or the end of the flow, and all at or below its forward number is acknowledged or abandoned.
+/// Whatever calls a sender gets, each chunk that it gives next has its number's fragment, or is a
+/// notice of the forward number or the end of the flow, and all at or below its forward number is
+/// acknowledged or abandoned.
 pub fn sending()
-    ensures { (first : ℕ) (events : List Act) → 1 ≤ first → SpeaksTrue (all_acts (begun first) events) }
+    ensures { (first : ℕ) (events : List Act) → 1 ≤ first →
+        SpeaksTrue (all_acts (begun first) events) }
 {}
 
-/// Every exchange of one sender and one receiver, whatever is lost, repeated or comes in another order.
-/// In queueing order messages are handed over whole, once, in that order, and only abandoned ones are skipped.
-/// In arrival order each message handed over is a queued one, and none is handed over twice.
+/// Every exchange of one sender and one receiver, whatever is lost, repeated or comes in another
+/// order. In queueing order messages are handed over whole, once, in that order, and only abandoned
+/// ones are skipped. In arrival order each message handed over is a queued one, and none is handed
+/// over twice.
 pub fn exchange()
     ensures in_order { (first : ℕ) (events : List Happening) → 1 ≤ first
-        → HandsOver (exchanged (pair first false) events).world.queued (exchanged (pair first false) events).world.abandoned (exchanged (pair first false) events).world.handed }
+        → HandsOver (exchanged (pair first false) events).world.queued
+            (exchanged (pair first false) events).world.abandoned
+            (exchanged (pair first false) events).world.handed }
     ensures arriving { (first : ℕ) (events : List Happening) → 1 ≤ first
-        → HandsOnce (exchanged (pair first true) events).world.queued (exchanged (pair first true) events).world.handed }
+        → HandsOnce (exchanged (pair first true) events).world.queued
+            (exchanged (pair first true) events).world.handed }
 {}

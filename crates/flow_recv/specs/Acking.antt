@@ -18,13 +18,15 @@ pair_bytes after s = vlu (s.first - after - 2) ++ vlu (s.last - s.first)
 abbrev pub pairs_in : ℕ → ℕ → List Span → List ℕ
 pairs_in room after [] = []
 pairs_in room after (s ∷ later) =
-    if nat_lt room (length (pair_bytes after s)) then [] else pair_bytes after s ++ pairs_in (room - length (pair_bytes after s)) s.last later
+    if nat_lt room (length (pair_bytes after s)) then []
+      else pair_bytes after s ++ pairs_in (room - length (pair_bytes after s)) s.last later
 
 -- the stretches of these pairs, each by its first and its last number
 abbrev pub stretches_in : ℕ → ℕ → List Span → List (ℕ × ℕ)
 stretches_in room after [] = []
 stretches_in room after (s ∷ later) =
-    if nat_lt room (length (pair_bytes after s)) then [] else (s.first, s.last) ∷ stretches_in (room - length (pair_bytes after s)) s.last later
+    if nat_lt room (length (pair_bytes after s)) then []
+      else (s.first, s.last) ∷ stretches_in (room - length (pair_bytes after s)) s.last later
 
 abbrev pub later_spans : List Span → List Span
 later_spans [] = []
@@ -35,13 +37,18 @@ abbrev pub ack_head : ℕ → Receiver → List ℕ
 ack_head flow r = vlu flow ++ vlu (free_blocks (held_in r.runs)) ++ vlu (through_in r)
 
 abbrev pub ack_payload : ℕ → ℕ → Receiver → List ℕ
-ack_payload flow room r = ack_head flow r ++ pairs_in (room - length (ack_head flow r)) (through_in r) (later_spans r.spans)
+ack_payload flow room r = ack_head flow r ++ pairs_in (room - length (ack_head flow r))
+    (through_in r) (later_spans r.spans)
 
--- the pairs of an ack in so many bytes tell of the receiver's stretches above the first, as many of them as fit
+-- the pairs of an ack in so many bytes tell of the receiver's stretches above the first, as many of
+-- them as fit
 abbrev pub TellsStretches : ℕ → ℕ → Receiver → Type 0
 TellsStretches flow room r =
-    PairsTell (through_in r) (stretches_in (room - length (ack_head flow r)) (through_in r) (later_spans r.spans)) (pairs_in (room - length (ack_head flow r)) (through_in r) (later_spans r.spans))
+    PairsTell (through_in r) (stretches_in (room - length (ack_head flow r)) (through_in r)
+      (later_spans r.spans)) (pairs_in (room - length (ack_head flow r)) (through_in r)
+      (later_spans r.spans))
 
 -- a chunk of type 0x51, its length, and a payload of at most so many bytes
 abbrev pub ack_bytes : ℕ → ℕ → Receiver → List ℕ
-ack_bytes flow room r = 81 ∷ to_be_bytes w16 (length (ack_payload flow room r)) ++ ack_payload flow room r
+ack_bytes flow room r = 81 ∷ to_be_bytes w16 (length (ack_payload flow room r))
+    ++ ack_payload flow room r

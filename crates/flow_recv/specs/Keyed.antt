@@ -1,5 +1,6 @@
 -- The runs by the number that each begins with.
-use Rattle.std.specs.Prelude.{ℕ, ◌≡◌, ◌==◌, ◌-◌, ◌+◌, ◌<◌, ◌≤◌, nat_lt, nat_le, ◌&&◌, ◌||◌, not, Bool, true, false, if◌then◌else◌, List, [], ◌∷◌, ◌++◌, Option, Some, None, IsSome, length}
+use Rattle.std.specs.Prelude.{ℕ, ◌≡◌, ◌==◌, ◌-◌, ◌+◌, ◌<◌, ◌≤◌, nat_lt, nat_le, ◌&&◌, ◌||◌, not,
+    Bool, true, false, if◌then◌else◌, List, [], ◌∷◌, ◌++◌, Option, Some, None, IsSome, length}
 use Rattle.std.specs.Option.{IsSomeAnd}
 use Rattle.std.specs.Map.{keys_of, values_of}
 use Rattle.std.specs.Ordering.{nat_cmp}
@@ -32,7 +33,8 @@ changed_run f n (y ∷ later) = if y.first == n then f y ∷ later else y ∷ ch
 -- the same of the entries of a map
 abbrev pub changed_entry : (Run → Run) → ℕ → List (ℕ × Run) → List (ℕ × Run)
 changed_entry f n [] = []
-changed_entry f n (e ∷ later) = if e.0 == n then (e.0, f e.1) ∷ later else e ∷ changed_entry f n later
+changed_entry f n (e ∷ later) = if e.0 == n then (e.0, f e.1) ∷ later
+    else e ∷ changed_entry f n later
 
 -- without its bytes
 abbrev pub emptied : Run → Run
@@ -40,7 +42,8 @@ emptied y = record { first = y.first; last = y.last; front = y.front; rear = y.r
 
 -- two runs and the bytes between them, joined
 abbrev pub over : Run → List ℕ → Run → Run
-over y bytes z = record { first = y.first; last = z.last; front = y.front; rear = z.rear; bytes = (y.bytes ++ bytes) ++ z.bytes }
+over y bytes z = record { first = y.first; last = z.last; front = y.front; rear = z.rear;
+    bytes = (y.bytes ++ bytes) ++ z.bytes }
 
 abbrev pub rear_of : Option Run → Bool
 rear_of None = false
@@ -64,7 +67,8 @@ abbrev pub AllWhole : List Run → Type 0
 AllWhole [] = Unit {0}
 AllWhole (y ∷ later) = (is_whole y ≡ true) × AllWhole later
 
--- the entries rise and have the numbers that their runs begin with, and the keys are those of the whole runs
+-- the entries rise and have the numbers that their runs begin with, and the keys are those of the
+-- whole runs
 pub record IsKept (entries : List (ℕ × Run)) (keys : List ℕ) : Type 0 where
   pub order : IsStrictlySortedBy nat_cmp (keys_of entries)
   pub keyed : entries ≡ keyed (values_of entries)
@@ -73,12 +77,14 @@ pub record IsKept (entries : List (ℕ × Run)) (keys : List ℕ) : Type 0 where
 -- the first of those that begin at a number or above it
 abbrev pub IsFirstFrom : ℕ → List Run → Option ℕ → Type 0
 IsFirstFrom n runs None = (q : ℕ) → n ≤ q → run_at q runs ≡ None
-IsFirstFrom n runs (Some g) = (n ≤ g) × IsSome (run_at g runs) × ((q : ℕ) → n ≤ q → IsSome (run_at q runs) → g ≤ q)
+IsFirstFrom n runs (Some g) = (n ≤ g) × IsSome (run_at g runs) ×
+    ((q : ℕ) → n ≤ q → IsSome (run_at q runs) → g ≤ q)
 
 -- the last of those that begin below a number
 abbrev pub IsLastBelow : ℕ → List Run → Option ℕ → Type 0
 IsLastBelow n runs None = (q : ℕ) → q < n → run_at q runs ≡ None
-IsLastBelow n runs (Some g) = (g < n) × IsSome (run_at g runs) × ((q : ℕ) → q < n → IsSome (run_at q runs) → q ≤ g)
+IsLastBelow n runs (Some g) = (g < n) × IsSome (run_at g runs) ×
+    ((q : ℕ) → q < n → IsSome (run_at q runs) → q ≤ g)
 
 -- no run has a number
 abbrev pub IsFree : ℕ → List Run → Type 0
@@ -117,7 +123,8 @@ abbrev pub is_left : Option ℕ → Run → Bool
 is_left None y = false
 is_left (Some f) y = nat_le f y.first
 
--- a walk that begins so passes no run that has one of the numbers from one on or lies directly before it
+-- a walk that begins so passes no run that has one of the numbers from one on or lies directly
+-- before it
 abbrev pub Reaches : ℕ → List Run → Option ℕ → Type 0
 Reaches low runs next = (y : Run) → IsIn y runs → is_left next y ≡ false → y.last + 1 < low
 

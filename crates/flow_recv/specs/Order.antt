@@ -13,12 +13,14 @@ InOrder low (y ∷ later) = (low ≤ y.first) × (y.first ≤ y.last) × InOrder
 -- none of their numbers is missing
 abbrev pub AllKnown : List Span → List Run → Type 0
 AllKnown spans [] = Unit {0}
-AllKnown spans (y ∷ later) = ((n : ℕ) → y.first ≤ n → n ≤ y.last → knows spans n ≡ true) × AllKnown spans later
+AllKnown spans (y ∷ later) = ((n : ℕ) → y.first ≤ n → n ≤ y.last → knows spans n ≡ true) ×
+    AllKnown spans later
 
 -- the numbers up to one don't reach an end that a run lacks
 abbrev pub AllOpen : ℕ → List Run → Type 0
 AllOpen through [] = Unit {0}
-AllOpen through (y ∷ later) = (y.front ≡ false → through < y.first) × (y.rear ≡ false → through ≤ y.last) × AllOpen through later
+AllOpen through (y ∷ later) = (y.front ≡ false → through < y.first) ×
+    (y.rear ≡ false → through ≤ y.last) × AllOpen through later
 
 -- a sound receiver whose runs lie so, and the bytes that they hold
 pub record Laid (r : Receiver) (held : ℕ) : Type 0 where

@@ -1,11 +1,14 @@
 -- What a receiving flow keeps, and how each call changes it.
-use Rattle.std.specs.Prelude.{ℕ, ◌≡◌, ◌<◌, ◌≤◌, ◌+◌, ◌-◌, ◌==◌, if◌then◌else◌, nat_le, nat_lt, min, max, not, Bool, true, ◌&&◌, List, [], ◌∷◌, Option, Some, None, length}
+use Rattle.std.specs.Prelude.{ℕ, ◌≡◌, ◌<◌, ◌≤◌, ◌+◌, ◌-◌, ◌==◌, if◌then◌else◌, nat_le, nat_lt, min,
+    max, not, Bool, true, ◌&&◌, List, [], ◌∷◌, Option, Some, None, length}
 use Rattle.std.specs.List.{filter, sum_by, list_any}
 use Rattle.rtmfp_data_chunks.specs.HandsOver.{IsIn}
 use Rattle.flow_recv.specs.declared.spans.Span.{Span}
-use Rattle.rtmfp_data_chunks.specs.Runs.{Chunk, Run, single, fits, joined, is_whole, is_dead, is_ready}
+use Rattle.rtmfp_data_chunks.specs.Runs.{Chunk, Run, single, fits, joined, is_whole, is_dead,
+    is_ready}
 
--- the spans, by rising number and apart, are the numbers that aren't missing. The runs are those that are neither dead nor handed over
+-- the spans, by rising number and apart, are the numbers that aren't missing. The runs are those
+-- that are neither dead nor handed over
 pub record Receiver : Type 0 where
   pub arriving : Bool
   pub spans : List Span
@@ -18,7 +21,8 @@ span first last = record { first = first; last = last }
 
 -- number 0 is never missing
 abbrev pub fresh : Bool → Receiver
-fresh arriving = record { arriving = arriving; spans = span 0 0 ∷ []; runs = []; last = None; highest = 0 }
+fresh arriving = record { arriving = arriving; spans = span 0 0 ∷ []; runs = []; last = None;
+    highest = 0 }
 
 abbrev pub covers : ℕ → Span → Bool
 covers n s = nat_le s.first n && nat_le n s.last
@@ -41,7 +45,8 @@ add_span first last (s ∷ later) =
 -- the spans go upward and don't touch
 abbrev pub Apart : List Span → Type 0
 Apart [] = Unit {0}
-Apart (s ∷ later) = (s.first ≤ s.last) × ((t : Span) → IsIn t later → s.last + 1 < t.first) × Apart later
+Apart (s ∷ later) = (s.first ≤ s.last) × ((t : Span) → IsIn t later → s.last + 1 < t.first) ×
+    Apart later
 
 -- the first one begins with 0
 abbrev pub FromZero : List Span → Type 0
@@ -56,18 +61,21 @@ end_of_first (s ∷ later) = s.last
 abbrev pub through_in : Receiver → ℕ
 through_in r = end_of_first r.spans
 
--- the runs with one more fragment, joined to the run before it and to the run after it where they fit
+-- the runs with one more fragment, joined to the run before it and to the run after it where they
+-- fit
 abbrev pub join_next : Run → List Run → List Run
 join_next x [] = x ∷ []
 join_next x (y ∷ later) = if fits x y then joined x y ∷ later else x ∷ y ∷ later
 
 abbrev pub join_before : Run → List Run → List Run
 join_before x [] = x ∷ []
-join_before x (y ∷ later) = if fits y x then join_next (joined y x) later else join_next x (y ∷ later)
+join_before x (y ∷ later) = if fits y x then join_next (joined y x) later
+    else join_next x (y ∷ later)
 
 abbrev pub add_run : Run → List Run → List Run
 add_run x [] = x ∷ []
-add_run x (y ∷ later) = if not (fits y x) && nat_lt y.last x.first then y ∷ add_run x later else join_before x (y ∷ later)
+add_run x (y ∷ later) = if not (fits y x) && nat_lt y.last x.first then y ∷ add_run x later
+    else join_before x (y ∷ later)
 
 abbrev pub is_alive : List Span → Run → Bool
 is_alive spans y = not (is_dead (lacks spans) y)
@@ -99,7 +107,8 @@ abbrev pub holds : Receiver → Chunk → Bool
 holds r c = not c.abandon && lacks r.spans c.seq
 
 abbrev pub runs_after : Receiver → Chunk → List Run
-runs_after r c = living (spans_after r c) (if holds r c then add_run (single c.seq c.part c.bytes) r.runs else r.runs)
+runs_after r c = living (spans_after r c) (if holds r c then
+    add_run (single c.seq c.part c.bytes) r.runs else r.runs)
 
 abbrev pub taken : Receiver → Chunk → Receiver
 taken r c =
@@ -114,7 +123,8 @@ taken r c =
 -- where the chunk is after the final one: the known last number, or the highest taken
 abbrev pub after_last : Option ℕ → ℕ → Chunk → Option ℕ
 after_last None highest c = if c.last && nat_lt c.seq highest then Some highest else None
-after_last (Some n) highest c = if nat_lt n c.seq then Some n else if c.last && nat_lt c.seq n then Some n else None
+after_last (Some n) highest c = if nat_lt n c.seq then Some n
+    else if c.last && nat_lt c.seq n then Some n else None
 
 abbrev pub after_final : Receiver → Chunk → Option ℕ
 after_final r c = after_last r.last r.highest c
@@ -123,7 +133,8 @@ after_final r c = after_last r.last r.highest c
 abbrev pub counted : Chunk → ℕ
 counted c = if c.abandon then 0 else length c.bytes
 
--- the buffer's limits, by the lowest missing number and the bytes held as if the forward number were taken already
+-- the buffer's limits, by the lowest missing number and the bytes held as if the forward number
+-- were taken already
 abbrev pub passes_buffer : ℕ → ℕ → Chunk → Bool
 passes_buffer lowest held c =
     if c.seq == lowest then nat_lt 3145728 (held + counted c)
@@ -132,7 +143,8 @@ passes_buffer lowest held c =
 -- the bytes held, where the chunk is refused for them
 abbrev pub beyond_buffer : Receiver → Chunk → Option ℕ
 beyond_buffer r c =
-    if lacks r.spans c.seq && nat_lt c.forward c.seq && passes_buffer (end_of_first (spans_forward r c) + 1) (held_in (runs_forward r c)) c
+    if lacks r.spans c.seq && nat_lt c.forward c.seq
+      && passes_buffer (end_of_first (spans_forward r c) + 1) (held_in (runs_forward r c)) c
     then Some (held_in (runs_forward r c)) else None
 
 -- whether a run may be handed over: it is whole, and in queueing order nothing below it is missing
@@ -155,4 +167,5 @@ abbrev pub next_run : Receiver → Option Run
 next_run r = first_of (may_hand r) r.runs
 
 abbrev pub handed_next : Receiver → Receiver
-handed_next r = record { arriving = r.arriving; spans = r.spans; runs = without_first (may_hand r) r.runs; last = r.last; highest = r.highest }
+handed_next r = record { arriving = r.arriving; spans = r.spans;
+    runs = without_first (may_hand r) r.runs; last = r.last; highest = r.highest }

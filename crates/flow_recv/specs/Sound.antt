@@ -10,7 +10,8 @@ abbrev pub AllAlive : List Span → List Run → Type 0
 AllAlive spans [] = Unit {0}
 AllAlive spans (y ∷ later) = (y.first ≤ y.last) × (is_alive spans y ≡ true) × AllAlive spans later
 
--- it holds at most 3,145,728 bytes, and at most 65,536 numbers above its lowest missing one aren't missing
+-- it holds at most 3,145,728 bytes, and at most 65,536 numbers above its lowest missing one aren't
+-- missing
 pub record Sound (r : Receiver) : Type 0 where
   pub bytes : held_in r.runs ≤ 3145728
   pub window : IsWithin r

@@ -1,9 +1,11 @@
 //! The spans above the first one, as an ordered map from their first numbers to their last ones.
 
-ghost use Rattle.std.specs.Prelude.{◌≡◌, ◌+◌, ◌∷◌, [], OnOk, OnErr, IfSome, None, List, length, slice_get, drop};
+ghost use Rattle.std.specs.Prelude.{◌≡◌, ◌+◌, ◌∷◌, [], OnOk, OnErr, IfSome, None, List, length,
+    slice_get, drop};
 ghost use Rattle.std.specs.BTreeMap.{IsOrdered};
 ghost use Rattle.flow_recv.specs.declared.spans.Span.{Span};
-ghost use Rattle.flow_recv.specs.Above.{spans_of, last_from, end_of, without, with_end, with_number};
+ghost use Rattle.flow_recv.specs.Above.{spans_of, last_from, end_of, without, with_end,
+    with_number};
 
 use crate::spans::Span;
 use std::alloc::{AllocError, Global};
@@ -11,7 +13,8 @@ use std::collections::BTreeMap;
 use std::collections::btree_map::Iter;
 use std::marker::Model;
 
-/// The spans above the first one. A search, a change and a removal take time by the logarithm of their number.
+/// The spans above the first one. A search, a change and a removal take time by the logarithm of
+/// their number.
 #[derive(Drop)]
 pub struct Above {
     map: BTreeMap<u64, u64>,

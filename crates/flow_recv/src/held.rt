@@ -1,6 +1,7 @@
 //! The runs of a flow as a map, by the number that each begins with.
 
-ghost use Rattle.std.specs.Prelude.{◌≡◌, ℕ, ◌<◌, ◌≤◌, ◌+◌, ◌∷◌, [], IfOk, IfSome, IsSome, OnOk, OnErr, List, true, false, ◌==◌, if◌then◌else◌, ◌&&◌};
+ghost use Rattle.std.specs.Prelude.{◌≡◌, ℕ, ◌<◌, ◌≤◌, ◌+◌, ◌∷◌, [], IfOk, IfSome, IsSome, OnOk,
+    OnErr, List, true, false, ◌==◌, if◌then◌else◌, ◌&&◌};
 ghost use Rattle.std.specs.Option.{option_copied, IsSomeAnd};
 ghost use Rattle.std.specs.Map.{remove_entry};
 ghost use Rattle.std.specs.Ordering.{nat_cmp};
@@ -8,7 +9,8 @@ ghost use Rattle.std.specs.BTreeMap.{get, is_at, IsOrdered};
 ghost use Rattle.std.specs.BTreeSet.{insert_key};
 ghost use Rattle.rtmfp_data_chunks.specs.Runs.{single, joined, fits, is_whole};
 ghost use Rattle.flow_recv.specs.Receiver.{first_of, without_first};
-ghost use Rattle.flow_recv.specs.Keyed.{AllWhole, run_at, without_run, with_run, changed_run, changed_entry, front_of, rear_of, emptied, over, IsFirstFrom, IsLastBelow};
+ghost use Rattle.flow_recv.specs.Keyed.{AllWhole, run_at, without_run, with_run, changed_run,
+    changed_entry, front_of, rear_of, emptied, over, IsFirstFrom, IsLastBelow};
 
 use crate::run::{HeldRun, has_rear};
 use rtmfp_data_chunks::Part;
@@ -128,7 +130,8 @@ impl HeldRuns {
         bytes: &[u8],
     ) -> Result<(), AllocError>
         requires { IfSome (run_at first self.old) (λ y. fits y (single number part []) ≡ true) }
-        ensures appended { OnOk result (self.new ≡ changed_run (λ y. joined y (single number part bytes.now)) first self.old) }
+        ensures appended { OnOk result (self.new
+            ≡ changed_run (λ y. joined y (single number part bytes.now)) first self.old) }
         ensures unchanged { OnErr result (self.new ≡ self.old) }
     {
         let whole = becomes_whole(&self.map, first, has_rear(part));
@@ -151,7 +154,9 @@ impl HeldRuns {
         requires apart { (first == later) ≡ false }
         requires open { IfSome (run_at first self.old) (λ y. is_whole y ≡ false) }
         requires there { IsSome (run_at later self.old) }
-        ensures joined { OnOk result (IsSomeAnd (run_at later self.old) (λ z. self.new ≡ without_run later (changed_run (λ y. over y bytes.now z) first self.old))) }
+        ensures joined
+            { OnOk result (IsSomeAnd (run_at later self.old) (λ z. self.new
+            ≡ without_run later (changed_run (λ y. over y bytes.now z) first self.old))) }
         ensures unchanged { OnErr result (self.new ≡ self.old) }
     {
         let rear = has_rear_at(&self.map, later);
@@ -189,7 +194,8 @@ fn becomes_whole(map: &BTreeMap<u64, HeldRun>, first: u64, rear: bool) -> bool
 
 /// Notes that the run which begins with a number is whole, where it is.
 fn mark_whole(whole: &mut BTreeSet<u64>, first: u64, is_whole: bool) -> Result<(), AllocError>
-    ensures marked { OnOk result (whole.new.keys ≡ (if is_whole then insert_key nat_cmp whole.old.keys first else whole.old.keys)) }
+    ensures marked { OnOk result (whole.new.keys
+        ≡ (if is_whole then insert_key nat_cmp whole.old.keys first else whole.old.keys)) }
     ensures unchanged { OnErr result (whole.new.keys ≡ whole.old.keys) }
 {
     if is_whole {
@@ -206,7 +212,8 @@ fn append_at(
     part: Part,
     bytes: &[u8],
 ) -> Result<(), AllocError>
-    ensures appended { OnOk result (map.new.entries ≡ changed_entry (λ y. joined y (single number part bytes.now)) first map.old.entries) }
+    ensures appended { OnOk result (map.new.entries
+        ≡ changed_entry (λ y. joined y (single number part bytes.now)) first map.old.entries) }
     ensures unchanged { OnErr result (map.new.entries ≡ map.old.entries) }
 {
     match map.get_mut(&first) {
@@ -253,7 +260,8 @@ fn append_both_at(
     bytes: &[u8],
     later: &HeldRun,
 ) -> Result<(), AllocError>
-    ensures appended { OnOk result (map.new.entries ≡ changed_entry (λ y. over y bytes.now later.now) first map.old.entries) }
+    ensures appended { OnOk result (map.new.entries
+        ≡ changed_entry (λ y. over y bytes.now later.now) first map.old.entries) }
     ensures unchanged { OnErr result (map.new.entries ≡ map.old.entries) }
 {
     match map.get_mut(&first) {
@@ -262,7 +270,8 @@ fn append_both_at(
     }
 }
 
-/// Joins a fragment and the run that begins with a later number to the run that begins with a number.
+/// Joins a fragment and the run that begins with a later number to the run that begins with a
+/// number.
 fn join_at(
     map: &mut BTreeMap<u64, HeldRun>,
     alloc: Global,
@@ -272,7 +281,10 @@ fn join_at(
 ) -> Result<(), AllocError>
     requires apart { (first == later) ≡ false }
     requires there { IsSome (get nat_cmp map.old later) }
-    ensures joined { OnOk result (IsSomeAnd (get nat_cmp map.old later) (λ z. map.new.entries ≡ remove_entry (is_at (nat_cmp later)) (changed_entry (λ y. over y bytes.now z) first map.old.entries))) }
+    ensures joined
+        { OnOk result (IsSomeAnd (get nat_cmp map.old later) (λ z. map.new.entries
+        ≡ remove_entry (is_at (nat_cmp later)) (changed_entry (λ y. over y bytes.now z) first
+        map.old.entries))) }
     ensures ordered { OnOk result (IsOrdered nat_cmp map.new) }
     ensures unchanged { OnErr result (map.new.entries ≡ map.old.entries) }
 {

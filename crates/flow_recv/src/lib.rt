@@ -1,4 +1,5 @@
-//! The receiver of a flow (RFC 7016 section 3.6.3): it puts fragments together and hands messages over.
+//! The receiver of a flow (RFC 7016 section 3.6.3): it puts fragments together and hands messages
+//! over.
 #![tactic(auto)]
 
 mod above;

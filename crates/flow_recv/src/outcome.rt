@@ -16,7 +16,8 @@ pub enum Took {
 /// Why a receiver takes no chunk.
 #[derive(Clone, Copy, Debug, PartialEq, Eq, Error)]
 pub enum FlowRefusal {
-    /// The buffer has no room for the chunk. So many bytes are held, as if its forward number were taken.
+    /// The buffer has no room for the chunk. So many bytes are held, as if its forward number were
+    /// taken.
     #[error("the receive buffer holds {0} bytes and has no room")]
     BeyondBuffer(u64),
     /// The chunk doesn't agree with the last number of the flow, or with the highest number taken.

@@ -1,11 +1,14 @@
 //! The receiver of a flow.
 
-ghost use Rattle.std.specs.Prelude.{◌≡◌, ◌≢◌, ◌+◌, ◌-◌, ◌<◌, ◌≤◌, ◌∷◌, ◌++◌, ◌↔◌, ℕ, IfOk, IsOk, IsErr, OnOk, OnErr, IfErr, MatchOption, List, length, Some, None, Ok, Err, false, true, ◌==◌, ◌^◌, ◌&&◌, ◌||◌, not, nat_lt, nat_le, max, if◌then◌else◌};
+ghost use Rattle.std.specs.Prelude.{◌≡◌, ◌≢◌, ◌+◌, ◌-◌, ◌<◌, ◌≤◌, ◌∷◌, ◌++◌, ◌↔◌, ℕ, IfOk, IsOk,
+    IsErr, OnOk, OnErr, IfErr, MatchOption, List, length, Some, None, Ok, Err, false, true, ◌==◌,
+    ◌^◌, ◌&&◌, ◌||◌, not, nat_lt, nat_le, max, if◌then◌else◌};
 ghost use Rattle.std.specs.List.{filter};
 ghost use Rattle.std.specs.Option.{option_map};
 ghost use Rattle.rtmfp_data_chunks.specs.Runs.{single, message_of};
 ghost use Rattle.rtmfp_data_chunks.specs.Taken.{chunk_of};
-ghost use Rattle.flow_recv.specs.Receiver.{Receiver, Apart, fresh, span, lacks, living, held_in, after_last, passes_buffer, add_run, add_span, beyond_buffer, taken, next_run, handed_next};
+ghost use Rattle.flow_recv.specs.Receiver.{Receiver, Apart, fresh, span, lacks, living, held_in,
+    after_last, passes_buffer, add_run, add_span, beyond_buffer, taken, next_run, handed_next};
 ghost use Rattle.flow_recv.specs.Keyed.{IsFree, stays};
 ghost use Rattle.flow_recv.specs.Acking.{free_blocks, ack_head, ack_bytes, TellsStretches};
 ghost use Rattle.rtmfp_forms.specs.Outgoing.{packet_limit};
@@ -29,8 +32,9 @@ use std::marker::Model;
 /// The first byte of the metadata of a flow whose messages are handed over as they arrive, an `a`.
 const ARRIVING: u8 = 0x61;
 
-/// The receiver of a flow. Contracts see the numbers that aren't missing as spans, the runs of fragments that can
-/// still become messages with their bytes, the last number where it is known, and the highest one taken.
+/// The receiver of a flow. Contracts see the numbers that aren't missing as spans, the runs of
+/// fragments that can still become messages with their bytes, the last number where it is known,
+/// and the highest one taken.
 #[derive(Drop)]
 pub struct FlowReceiver {
     alloc: Global,
@@ -50,9 +54,13 @@ impl Model for FlowReceiver {
 
     ghost Value = { Receiver };
 
-    ghost view = { λ r. record { arriving = r.arriving; spans = span 0 r.through ∷ r.above; runs = r.runs; last = r.last; highest = r.highest } };
+    ghost view =
+        { λ r. record { arriving = r.arriving; spans = span 0 r.through ∷ r.above; runs = r.runs;
+        last = r.last; highest = r.highest } };
 
-    ghost invariant = { λ r. Laid (record { arriving = r.arriving; spans = span 0 r.through ∷ r.above; runs = r.runs; last = r.last; highest = r.highest }) r.held };
+    ghost invariant =
+        { λ r. Laid (record { arriving = r.arriving; spans = span 0 r.through ∷ r.above;
+        runs = r.runs; last = r.last; highest = r.highest }) r.held };
 }
 
 impl FlowReceiver {
@@ -78,11 +86,14 @@ impl FlowReceiver {
         requires below { chunk.now.abandon ≡ false → chunk.now.forward < chunk.now.seq }
         ensures took { IfOk result (λ t. t ≡ took self.old (chunk_of chunk.now)) }
         ensures taken { OnOk result (self.new ≡ taken self.old (chunk_of chunk.now)) }
-        ensures refused { MatchOption (refusal self.old (chunk_of chunk.now)) (IfErr result (λ e. e ≡ FlowRefusal.Memory)) (λ e. result ≡ Err e) }
+        ensures refused { MatchOption (refusal self.old (chunk_of chunk.now))
+            (IfErr result (λ e. e ≡ FlowRefusal.Memory)) (λ e. result ≡ Err e) }
         ensures err { OnErr result (self.new ≡ self.old) }
         // A chunk whose number isn't missing takes no memory.
-        ensures again { lacks self.old.spans chunk.now.seq ≡ false → result ≢ Err FlowRefusal.Memory }
-        // At most 3,145,728 bytes are held, and at most 65,536 numbers above the lowest missing one aren't missing.
+        ensures again { lacks self.old.spans chunk.now.seq ≡ false →
+            result ≢ Err FlowRefusal.Memory }
+        // At most 3,145,728 bytes are held, and at most 65,536 numbers above the lowest missing one
+        // aren't missing.
         ensures sound { Sound self.new }
     {
         if let Some(refusal) = self.refusal(chunk) {
@@ -116,10 +127,11 @@ impl FlowReceiver {
         Ok(took_by(missing, chunk))
     }
 
-    /// Hands over the next message, with the number of its first fragment. None where no message is ready.
-    /// It takes no memory.
+    /// Hands over the next message, with the number of its first fragment. None where no message is
+    /// ready. It takes no memory.
     pub fn next_message(&mut self) -> Result<Option<(u64, Message)>, Memory>
-        ensures next { IfOk result (λ found. option_map (λ p. message p.0 p.1) found ≡ option_map message_of (next_run self.old)) }
+        ensures next { IfOk result (λ found. option_map (λ p. message p.0 p.1) found
+            ≡ option_map message_of (next_run self.old)) }
         ensures rest { self.new ≡ handed_next self.old }
         ensures no_memory { IsOk result }
     {
@@ -131,11 +143,14 @@ impl FlowReceiver {
         Ok(Some((number, Message::of(run.into_bytes()))))
     }
 
-    /// Puts an ack at the end, for the flow of an id: what is free in the buffer, the number at or below which none is
-    /// missing, and as many of the stretches above it as fit. All or nothing of it but these.
+    /// Puts an ack at the end, for the flow of an id: what is free in the buffer, the number at or
+    /// below which none is missing, and as many of the stretches above it as fit. All or nothing of
+    /// it but these.
     pub fn ack_into(&self, flow: u64, out: &mut Outgoing) -> Result<(), NoRoom>
-        ensures ok { OnOk result (out.new ≡ out.old ++ ack_bytes flow (packet_limit - length out.old - 3) self.now) }
-        ensures no_room { IsErr result ↔ (packet_limit < length out.old + 3 + length (ack_head flow self.now)) }
+        ensures ok { OnOk result (out.new ≡ out.old
+            ++ ack_bytes flow (packet_limit - length out.old - 3) self.now) }
+        ensures no_room { IsErr result ↔ (packet_limit
+            < length out.old + 3 + length (ack_head flow self.now)) }
         ensures err { OnErr result (out.new ≡ out.old) }
         // What is put reads back as the receiver's stretches.
         ensures tells { TellsStretches flow (packet_limit - length out.old - 3) self.now }
@@ -182,7 +197,8 @@ impl FlowReceiver {
         ensures { result ≡ beyond_buffer self.now (chunk_of chunk.now) }
     {
         let lowest = u128::from(raised(self.through, &self.above, chunk.forward)) + 1;
-        // As a rule the bytes fit with those that the forward number drops, and none of these have to be counted.
+        // As a rule the bytes fit with those that the forward number drops, and none of these have
+        // to be counted.
         if !passes_buffer(lowest, self.held, chunk) {
             return None;
         }
@@ -214,13 +230,14 @@ fn held_after(runs: &HeldRuns, held: u64, through: u64, above: &Above, forward: 
     held - dying_bytes(runs, through + 1, forward, forward, above)
 }
 
-/// Drops the runs beside the numbers that a forward number passes and that can't become messages any more. The answer
-/// is how many bytes they held.
+/// Drops the runs beside the numbers that a forward number passes and that can't become messages
+/// any more. The answer is how many bytes they held.
 fn drop_passed(runs: &mut HeldRuns, before: u64, forward: u64, through: u64, above: &Above) -> u64
     requires apart { Apart above.now }
     requires order { InOrder 0 runs.old }
     requires few { held_in runs.old < 2 ^ 32 }
-    ensures kept { runs.new ≡ (if nat_le forward before then runs.old else filter (stays (span 0 through ∷ above.now) (before + 1) forward) runs.old) }
+    ensures kept { runs.new ≡ (if nat_le forward before then runs.old
+        else filter (stays (span 0 through ∷ above.now) (before + 1) forward) runs.old) }
     ensures dropped { held_in runs.new + result ≡ held_in runs.old }
 {
     if forward <= before {
@@ -229,8 +246,8 @@ fn drop_passed(runs: &mut HeldRuns, before: u64, forward: u64, through: u64, abo
     drop_dead(runs, before + 1, forward, through, above)
 }
 
-/// Drops the runs that can't become messages any more after a chunk: those beside its number, and those beside the
-/// numbers that its forward number passes. The answer is how many bytes they held.
+/// Drops the runs that can't become messages any more after a chunk: those beside its number, and
+/// those beside the numbers that its forward number passes. The answer is how many bytes they held.
 fn drop_after(
     runs: &mut HeldRuns,
     before: u64,
@@ -242,7 +259,9 @@ fn drop_after(
     requires apart { Apart above.now }
     requires order { InOrder 0 runs.old }
     requires few { held_in runs.old < 2 ^ 32 }
-    ensures kept { runs.new ≡ filter (stays (span 0 through ∷ above.now) number number) (if nat_le forward before then runs.old else filter (stays (span 0 through ∷ above.now) (before + 1) forward) runs.old) }
+    ensures kept { runs.new ≡ filter (stays (span 0 through ∷ above.now) number number)
+        (if nat_le forward before then runs.old
+        else filter (stays (span 0 through ∷ above.now) (before + 1) forward) runs.old) }
     ensures dropped { held_in runs.new + result ≡ held_in runs.old }
 {
     let passed = drop_passed(runs, before, forward, through, above);
@@ -251,7 +270,8 @@ fn drop_after(
 
 /// How many bytes a chunk adds, where its number is missing.
 fn added_by(missing: bool, chunk: &UserData<'_>) -> u64
-    ensures { result ≡ (if not chunk.now.abandon && missing then length chunk.now.bytes.now else 0) }
+    ensures { result ≡ (if not chunk.now.abandon && missing then length chunk.now.bytes.now
+        else 0) }
 {
     if !chunk.abandon && missing {
         chunk.bytes.len() as u64
@@ -260,8 +280,9 @@ fn added_by(missing: bool, chunk: &UserData<'_>) -> u64
     }
 }
 
-/// Takes a forward number and a number, and holds the fragment where the number is missing and the chunk has no
-/// abandon. The answer is the end of the first span. Memory is found before anything that lasts changes.
+/// Takes a forward number and a number, and holds the fragment where the number is missing and the
+/// chunk has no abandon. The answer is the end of the first span. Memory is found before anything
+/// that lasts changes.
 fn admit(
     alloc: Global,
     through: u64,
@@ -274,8 +295,12 @@ fn admit(
     requires free { missing ≡ true → IsFree chunk.now.seq runs.old }
     requires apart { Apart (span 0 through ∷ above.old) }
     requires missing { missing ≡ lacks (span 0 through ∷ above.old) chunk.now.seq }
-    ensures spans { IfOk result (λ end. span 0 end ∷ above.new ≡ add_span chunk.now.seq chunk.now.seq (add_span 0 chunk.now.forward (span 0 through ∷ above.old))) }
-    ensures held { OnOk result (runs.new ≡ (if not chunk.now.abandon && missing then add_run (single chunk.now.seq chunk.now.part chunk.now.bytes.now) runs.old else runs.old)) }
+    ensures spans { IfOk result (λ end. span 0 end ∷ above.new
+        ≡ add_span chunk.now.seq chunk.now.seq (add_span 0 chunk.now.forward
+        (span 0 through ∷ above.old))) }
+    ensures held
+        { OnOk result (runs.new ≡ (if not chunk.now.abandon && missing then
+        add_run (single chunk.now.seq chunk.now.part chunk.now.bytes.now) runs.old else runs.old)) }
     ensures same_spans { OnErr result (above.new ≡ above.old) }
     ensures same_runs { OnErr result (runs.new ≡ runs.old) }
     ensures quiet { missing ≡ false → IsOk result }
@@ -309,7 +334,9 @@ fn admit(
 fn hold(alloc: Global, runs: &mut HeldRuns, chunk: &UserData<'_>) -> Result<(), AllocError>
     requires order { InOrder 0 runs.old }
     requires free { IsFree chunk.now.seq runs.old }
-    ensures held { OnOk result (runs.new ≡ (if not chunk.now.abandon then add_run (single chunk.now.seq chunk.now.part chunk.now.bytes.now) runs.old else runs.old)) }
+    ensures held
+        { OnOk result (runs.new ≡ (if not chunk.now.abandon then
+        add_run (single chunk.now.seq chunk.now.part chunk.now.bytes.now) runs.old else runs.old)) }
     ensures unchanged { OnErr result (runs.new ≡ runs.old) }
 {
     if chunk.abandon {
@@ -325,7 +352,8 @@ fn last_after(last: Option<u64>, chunk: &UserData<'_>) -> Option<u64>
 }
 
 fn took_by(missing: bool, chunk: &UserData<'_>) -> Took
-    ensures { result ≡ (if chunk.now.abandon then Took.ForwardOnly else if missing then Took.New else Took.Again) }
+    ensures { result ≡ (if chunk.now.abandon then Took.ForwardOnly else if missing then Took.New
+        else Took.Again) }
 {
     if chunk.abandon {
         return Took::ForwardOnly;
@@ -357,7 +385,8 @@ fn after_last(last: Option<u64>, highest: u64, chunk: &UserData<'_>) -> Option<u
 
 /// The bytes held, where a chunk that is tested passes the limits.
 fn if_tested(missing: bool, chunk: &UserData<'_>, passes: bool, held: u64) -> Option<u64>
-    ensures { result ≡ (if missing && nat_lt chunk.now.forward chunk.now.seq && passes then Some held else None) }
+    ensures { result ≡ (if missing && nat_lt chunk.now.forward chunk.now.seq && passes then
+        Some held else None) }
 {
     if missing && chunk.forward < chunk.seq && passes {
         Some(held)
@@ -366,8 +395,8 @@ fn if_tested(missing: bool, chunk: &UserData<'_>, passes: bool, held: u64) -> Op
     }
 }
 
-/// Whether the chunk passes the limits of the buffer: 3,145,728 bytes for the lowest missing number, else 2,097,152
-/// and 65,536 numbers.
+/// Whether the chunk passes the limits of the buffer: 3,145,728 bytes for the lowest missing
+/// number, else 2,097,152 and 65,536 numbers.
 fn passes_buffer(lowest: u128, held: u64, chunk: &UserData<'_>) -> bool
     requires low { lowest ≤ 2 ^ 64 }
     requires few { held ≤ 3145728 }

@@ -1,12 +1,15 @@
 //! The runs of a flow: how a fragment joins them, which are dropped, and which is next.
 
-ghost use Rattle.std.specs.Prelude.{◌≡◌, ℕ, ◌+◌, ◌<◌, ◌≤◌, ◌^◌, ◌∷◌, [], IfOk, IfSome, IsSome, OnOk, OnErr, List, length, not, ◌||◌, ◌==◌, None, true};
+ghost use Rattle.std.specs.Prelude.{◌≡◌, ℕ, ◌+◌, ◌<◌, ◌≤◌, ◌^◌, ◌∷◌, [], IfOk, IfSome, IsSome, OnOk,
+    OnErr, List, length, not, ◌||◌, ◌==◌, None, true};
 ghost use Rattle.std.specs.List.{filter};
 ghost use Rattle.std.specs.Option.{IsSomeAnd};
 ghost use Rattle.rtmfp_data_chunks.specs.Runs.{fits, joined, single};
 ghost use Rattle.flow_recv.specs.Order.{InOrder, AllOpen};
-ghost use Rattle.flow_recv.specs.Keyed.{run_at, IsFree, IsFollowed, IsFollowing, is_between, stays, stays_at, dead_bytes, Reaches, followed_at, following_at, ready_at};
-ghost use Rattle.flow_recv.specs.Receiver.{Apart, held_in, add_run, span, hands, first_of, without_first};
+ghost use Rattle.flow_recv.specs.Keyed.{run_at, IsFree, IsFollowed, IsFollowing, is_between, stays,
+    stays_at, dead_bytes, Reaches, followed_at, following_at, ready_at};
+ghost use Rattle.flow_recv.specs.Receiver.{Apart, held_in, add_run, span, hands, first_of,
+    without_first};
 
 use crate::above::Above;
 use crate::held::HeldRuns;
@@ -71,7 +74,8 @@ fn before(
     part: Part,
     bytes: &[u8],
 ) -> Result<HeldRun, AllocError>
-    ensures { IfOk result (λ x. IfSome (run_at later runs.now) (λ z. x ≡ joined (single number part bytes.now) z)) }
+    ensures { IfOk result (λ x. IfSome (run_at later runs.now) (λ z. x
+        ≡ joined (single number part bytes.now) z)) }
 {
     match runs.at(later) {
         Some(run) => HeldRun::single_before(alloc, number, part, bytes, run),
@@ -79,7 +83,8 @@ fn before(
     }
 }
 
-/// Joins a fragment to the run that it follows and fits, and both to the run after it where that one fits.
+/// Joins a fragment to the run that it follows and fits, and both to the run after it where that
+/// one fits.
 fn extend(
     alloc: Global,
     runs: &mut HeldRuns,
@@ -122,8 +127,8 @@ fn put(
     Ok(())
 }
 
-/// Adds a fragment whose number no run has, and joins it to the runs that it fits. One that follows a run is appended
-/// in place.
+/// Adds a fragment whose number no run has, and joins it to the runs that it fits. One that follows
+/// a run is appended in place.
 pub fn add_run(
     alloc: Global,
     runs: &mut HeldRuns,
@@ -175,7 +180,8 @@ fn drop_unless_stays(
 ) -> u64
     requires apart { Apart above.now }
     requires order { InOrder 0 runs.old }
-    ensures kept { runs.new ≡ filter (λ y. not (y.first == first) || stays (span 0 through ∷ above.now) low high y) runs.old }
+    ensures kept { runs.new ≡ filter (λ y. not (y.first == first)
+        || stays (span 0 through ∷ above.now) low high y) runs.old }
     ensures dropped { held_in runs.new + result ≡ held_in runs.old }
 {
     if stays_at(runs, first, low, high, through, above) {
@@ -197,7 +203,8 @@ fn bytes_unless_stays(
     above: &Above,
 ) -> u64
     requires { Apart above.now }
-    ensures { result ≡ dead_bytes (stays (span 0 through ∷ above.now) low high) (run_at first runs.now) }
+    ensures { result ≡ dead_bytes (stays (span 0 through ∷ above.now) low high)
+        (run_at first runs.now) }
 {
     match runs.at(first) {
         Some(run) => {
@@ -210,8 +217,9 @@ fn bytes_unless_stays(
     }
 }
 
-/// Drops those of the runs that have one of the numbers between two or lie beside one, and that can't become messages
-/// any more. The answer is how many bytes they held. A whole run is a message already.
+/// Drops those of the runs that have one of the numbers between two or lie beside one, and that
+/// can't become messages any more. The answer is how many bytes they held. A whole run is a message
+/// already.
 pub fn drop_dead(runs: &mut HeldRuns, low: u64, high: u64, through: u64, above: &Above) -> u64
     requires apart { Apart above.now }
     requires order { InOrder 0 runs.old }
@@ -239,7 +247,8 @@ pub fn dying_bytes(runs: &HeldRuns, low: u64, high: u64, through: u64, above: &A
     requires apart { Apart above.now }
     requires order { InOrder 0 runs.now }
     requires few { held_in runs.now < 2 ^ 32 }
-    ensures { held_in (filter (stays (span 0 through ∷ above.now) low high) runs.now) + result ≡ held_in runs.now }
+    ensures { held_in (filter (stays (span 0 through ∷ above.now) low high) runs.now) + result
+        ≡ held_in runs.now }
 {
     if runs.are_whole() {
         return 0;
@@ -266,7 +275,8 @@ fn is_ready_at(runs: &HeldRuns, first: u64, through: u64) -> bool
     }
 }
 
-/// Takes out the first run that may be handed over. In queueing order that is the first run, or none is.
+/// Takes out the first run that may be handed over. In queueing order that is the first run, or
+/// none is.
 pub fn take_ready(runs: &mut HeldRuns, arriving: bool, through: u64) -> Option<HeldRun>
     requires order { InOrder 0 runs.old }
     requires open { AllOpen through runs.old }

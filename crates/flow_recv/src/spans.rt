@@ -36,7 +36,8 @@ fn knows(spans: &Above, number: u128) -> bool
     }
 }
 
-/// Whether a number is missing, where the first span is from 0 through one number and the others are above.
+/// Whether a number is missing, where the first span is from 0 through one number and the others
+/// are above.
 pub fn lacks(through: u64, above: &Above, number: u128) -> bool
     requires { Apart above.now }
     ensures { result ≡ lacks (span 0 through ∷ above.now) number }
@@ -96,8 +97,8 @@ pub fn raised(through: u64, above: &Above, to: u64) -> u64
     }
 }
 
-/// The span that begins with one number reaches to another, and the span that begins directly after that one is
-/// joined to it.
+/// The span that begins with one number reaches to another, and the span that begins directly after
+/// that one is joined to it.
 fn close(above: &mut Above, first: u64, number: u64)
     ensures { above.new ≡ closed first number above.old }
 {
@@ -105,29 +106,37 @@ fn close(above: &mut Above, first: u64, number: u64)
     above.set_end(first, last);
 }
 
-/// Takes a forward number, and a number that touches the first span then. The answer is the end of the first span.
+/// Takes a forward number, and a number that touches the first span then. The answer is the end of
+/// the first span.
 pub fn mark_first(through: u64, above: &mut Above, forward: u64, number: u64) -> u64
     requires apart { Apart (span 0 through ∷ above.old) }
     requires near { number ≤ max through forward + 1 }
-    ensures { span 0 result ∷ above.new ≡ add_span number number (add_span 0 forward (span 0 through ∷ above.old)) }
+    ensures { span 0 result ∷ above.new ≡ add_span number number
+        (add_span 0 forward (span 0 through ∷ above.old)) }
 {
     raise(through, above, forward.max(number))
 }
 
-/// Takes a forward number, and a number that touches the span before it. The answer is the end of the first span.
+/// Takes a forward number, and a number that touches the span before it. The answer is the end of
+/// the first span.
 pub fn mark_behind(through: u64, above: &mut Above, first: u64, forward: u64, number: u64) -> u64
     requires apart { Apart (span 0 through ∷ above.old) }
     requires missing { lacks (span 0 through ∷ above.old) number ≡ true }
     requires behind { IsSpot (max through forward) number above.old (Spot.Behind first) }
-    ensures { span 0 result ∷ above.new ≡ add_span number number (add_span 0 forward (span 0 through ∷ above.old)) }
+    ensures { span 0 result ∷ above.new ≡ add_span number number
+        (add_span 0 forward (span 0 through ∷ above.old)) }
 {
     close(above, first, number);
     raise(through, above, forward)
 }
 
-/// Takes a forward number, and a number that was put in as a span of its own. The answer is the end of the first span.
+/// Takes a forward number, and a number that was put in as a span of its own. The answer is the end
+/// of the first span.
 pub fn mark_alone(through: u64, above: &mut Above, forward: u64, number: u64) -> u64
-    ensures { (spans : List Span) → above.old ≡ with_number number spans → Apart (span 0 through ∷ spans) → IsSpot (max through forward) number spans Spot.Alone → span 0 result ∷ above.new ≡ add_span number number (add_span 0 forward (span 0 through ∷ spans)) }
+    ensures { (spans : List Span) → above.old ≡ with_number number spans →
+        Apart (span 0 through ∷ spans) → IsSpot (max through forward) number spans Spot.Alone →
+        span 0 result ∷ above.new ≡ add_span number number
+        (add_span 0 forward (span 0 through ∷ spans)) }
 {
     close(above, number, number);
     raise(through, above, forward)

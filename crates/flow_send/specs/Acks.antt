@@ -1,12 +1,15 @@
 -- What an ack tells a sending flow.
-use Rattle.std.specs.Prelude.{ℕ, ◌+◌, if◌then◌else◌, nat_le, nat_lt, max, map, not, Bool, ◌&&◌, ◌||◌, List, [], ◌∷◌, Option, Some, None, length}
+use Rattle.std.specs.Prelude.{ℕ, ◌+◌, if◌then◌else◌, nat_le, nat_lt, max, map, not, Bool, ◌&&◌,
+    ◌||◌, List, [], ◌∷◌, Option, Some, None, length}
 use Rattle.std.specs.List.{filter, list_any}
 use Rattle.flow_send.specs.declared.state.State.TheVariants.{Lost, Acknowledged}
 use Rattle.flow_send.specs.declared.waiting.Waiting.{Waiting}
-use Rattle.flow_send.specs.Rows.{Row, is_flying, is_acknowledged, is_abandoned, is_settled, let_go, map_rows, any_row, sum_rows, most_rows}
+use Rattle.flow_send.specs.Rows.{Row, is_flying, is_acknowledged, is_abandoned, is_settled, let_go,
+    map_rows, any_row, sum_rows, most_rows}
 use Rattle.flow_send.specs.Sender.{Sender, has_number, with_rows}
 
--- the blocks told, all at or below a number, and stretches above it from their first to their last number
+-- the blocks told, all at or below a number, and stretches above it from their first to their last
+-- number
 pub record Told : Type 0 where
   pub blocks : ℕ
   pub upto : ℕ
@@ -28,7 +31,8 @@ greatest upto [] = upto
 greatest upto (p ∷ later) = greatest (max upto p.1) later
 
 abbrev pub beyond : Sender → Told → Option ℕ
-beyond s a = if nat_lt s.sent (greatest a.upto a.ranges) then Some (greatest a.upto a.ranges) else None
+beyond s a = if nat_lt s.sent (greatest a.upto a.ranges) then Some (greatest a.upto a.ranges)
+    else None
 
 -- it newly acknowledges a number above the forward number
 abbrev pub is_new : Told → ℕ → Row → Bool
@@ -36,7 +40,8 @@ is_new a n r = tells a n && not (is_acknowledged r.state)
 
 -- the bytes of the numbers, but the abandoned ones, that it newly acknowledges
 abbrev pub new_bytes : Told → ℕ → List Row → ℕ
-new_bytes a n rows = sum_rows (λ k r. if is_new a k r && not (is_abandoned r.state) then length r.fragment.bytes else 0) n rows
+new_bytes a n rows = sum_rows (λ k r. if is_new a k r && not (is_abandoned r.state) then
+    length r.fragment.bytes else 0) n rows
 
 -- the last of their places in the order of sendings
 abbrev pub new_place : Row → ℕ
@@ -75,5 +80,6 @@ still_waits n rows w = any_row (λ k r. has_number w k && not (is_settled r.stat
 
 abbrev pub told_by : Told → Sender → Sender
 told_by a s =
-    let t = with_rows (rows_told a s) (filter (still_waits (s.forward + 1) (rows_told a s)) s.waiting) s in
+    let t = with_rows (rows_told a s) (filter (still_waits (s.forward + 1) (rows_told a s))
+      s.waiting) s in
     record t { upto = a.upto; told = Some a.blocks }

@@ -1,17 +1,20 @@
 -- Any calls of a sender, one after another, and what they did.
-use Rattle.std.specs.Prelude.{ℕ, ◌≡◌, ◌+◌, ◌-◌, ◌^◌, ◌<◌, ◌≤◌, ◌==◌, nat_lt, min, max, not, if◌then◌else◌, Bool, true, false, ◌&&◌, ◌||◌, List, [], ◌∷◌, Option, Some, None, length}
+use Rattle.std.specs.Prelude.{ℕ, ◌≡◌, ◌+◌, ◌-◌, ◌^◌, ◌<◌, ◌≤◌, ◌==◌, nat_lt, min, max, not,
+    if◌then◌else◌, Bool, true, false, ◌&&◌, ◌||◌, List, [], ◌∷◌, Option, Some, None, length}
 use Rattle.rtmfp_data_chunks.specs.Fragments.{Message}
 use Rattle.flow_send.specs.declared.state.State.{State}
 use Rattle.flow_send.specs.declared.waiting.MessageOptions.{MessageOptions}
 use Rattle.flow_send.specs.declared.waiting.Waiting.{Waiting}
 use Rattle.flow_send.specs.declared.outcome.QueueRefusal.{QueueRefusal}
 use Rattle.flow_send.specs.Rows.{Row, is_unsent, is_flying, is_lost, is_acknowledged, is_abandoned}
-use Rattle.flow_send.specs.Sender.{Sender, new_sender, next_of, queued, message_at, has_number, abandoned, finished, lost_late}
+use Rattle.flow_send.specs.Sender.{Sender, new_sender, next_of, queued, message_at, has_number,
+    abandoned, finished, lost_late}
 use Rattle.flow_send.specs.Choice.{Choice, Nothing, Send, Notify, choice, sent_after}
 use Rattle.flow_send.specs.Acks.{Told, tells, beyond, told_by}
 use Rattle.flow_send.specs.Flow.{queue_refusal, next_message}
 
--- Next asks for a chunk, within any window and room. Whatever abandons a message does so by its number
+-- Next asks for a chunk, within any window and room. Whatever abandons a message does so by its
+-- number
 pub data Call : Type 0 where
   Queue : (bytes : List ℕ) → (options : MessageOptions) → Call
   Abandon : (n : ℕ) → Call
@@ -39,7 +42,9 @@ begun first = record { sender = new_sender first; done = [] }
 
 -- a call that is refused does nothing
 abbrev pub queues : Sending → List ℕ → MessageOptions → Option QueueRefusal → Sending
-queues w bytes options None = record { sender = queued (next_message w.sender bytes) options w.sender; done = Queued (next_message w.sender bytes) ∷ w.done }
+queues w bytes options None =
+    record { sender = queued (next_message w.sender bytes) options w.sender;
+    done = Queued (next_message w.sender bytes) ∷ w.done }
 queues w bytes options (Some refusal) = w
 
 abbrev pub abandons : Sending → ℕ → Option Waiting → Sending
@@ -52,8 +57,10 @@ finishes w (Some n) = w
 
 abbrev pub sends : Sending → ℕ → Choice → Sending
 sends w moment Nothing = w
-sends w moment (Send n r) = record { sender = sent_after moment (Send n r) w.sender; done = Sent n moment ∷ w.done }
-sends w moment Notify = record { sender = sent_after moment Notify w.sender; done = Noticed w.sender.forward moment ∷ w.done }
+sends w moment (Send n r) = record { sender = sent_after moment (Send n r) w.sender;
+    done = Sent n moment ∷ w.done }
+sends w moment Notify = record { sender = sent_after moment Notify w.sender;
+    done = Noticed w.sender.forward moment ∷ w.done }
 
 abbrev pub hears : Sending → Told → Option ℕ → Sending
 hears w a None = record { sender = told_by a w.sender; done = Heard a ∷ w.done }
@@ -101,13 +108,16 @@ sendings (_ ∷ earlier) = sendings earlier
 
 abbrev pub times_sent : List Done → ℕ → ℕ
 times_sent [] n = 0
-times_sent (Sent k moment ∷ earlier) n = if k == n then times_sent earlier n + 1 else times_sent earlier n
+times_sent (Sent k moment ∷ earlier) n = if k == n then times_sent earlier n + 1
+    else times_sent earlier n
 times_sent (_ ∷ earlier) n = times_sent earlier n
 
--- the moment of the last one of number n, and its place in the order of all sendings, where counts stand still at 64 bits
+-- the moment of the last one of number n, and its place in the order of all sendings, where counts
+-- stand still at 64 bits
 abbrev pub last_sending : List Done → ℕ → Option (ℕ × ℕ)
 last_sending [] n = None
-last_sending (Sent k moment ∷ earlier) n = if k == n then Some (moment, min (sendings earlier + 1) (2 ^ 64 - 1)) else last_sending earlier n
+last_sending (Sent k moment ∷ earlier) n = if k == n then
+    Some (moment, min (sendings earlier + 1) (2 ^ 64 - 1)) else last_sending earlier n
 last_sending (_ ∷ earlier) n = last_sending earlier n
 
 -- the moment of the last notice
@@ -149,7 +159,8 @@ pub record TellsLast (first : ℕ) (w : Sending) : Type 0 where
   pub finish : w.sender.finish ≡ end_number w.done
   pub order : w.sender.order ≡ min (sendings w.done) (2 ^ 64 - 1)
 
--- a number is acknowledged exactly where a heard ack tells it, and abandoned exactly where else it is one of an abandoned message
+-- a number is acknowledged exactly where a heard ack tells it, and abandoned exactly where else it
+-- is one of an abandoned message
 pub record Stands (done : List Done) (n : ℕ) (r : Row) : Type 0 where
   pub acknowledged : is_acknowledged r.state ≡ is_told done n
   pub abandoned : is_abandoned r.state ≡ (is_given_up done n && not (is_told done n))
@@ -162,7 +173,8 @@ AllStand done n (r ∷ rows) = Stands done n r × AllStand done (n + 1) rows
 abbrev pub is_out : State → Bool
 is_out state = is_flying state || is_lost state
 
--- Each sending of a number but the first follows a loss. The resends are those, where counts stand still at 32 bits
+-- Each sending of a number but the first follows a loss. The resends are those, where counts stand
+-- still at 32 bits
 pub record SentAs (done : List Done) (n : ℕ) (r : Row) : Type 0 where
   pub unsent : is_unsent r.state ≡ true → times_sent done n ≡ 0
   pub some : is_out r.state ≡ true → 1 ≤ times_sent done n
@@ -173,10 +185,12 @@ abbrev pub AllSent : List Done → ℕ → List Row → Type 0
 AllSent done n [] = Unit {0}
 AllSent done n (r ∷ rows) = SentAs done n r × AllSent done (n + 1) rows
 
--- the forward number is the greatest one at or below which all is over: the number after it isn't, or isn't given yet
+-- the forward number is the greatest one at or below which all is over: the number after it isn't,
+-- or isn't given yet
 pub record IsForward (first : ℕ) (w : Sending) : Type 0 where
   pub over : (n : ℕ) → n ≤ w.sender.forward → is_over first w.done n ≡ true
-  pub next : w.sender.forward + 1 < next_of w.sender → is_over first w.done (w.sender.forward + 1) ≡ false
+  pub next : w.sender.forward + 1 < next_of w.sender →
+    is_over first w.done (w.sender.forward + 1) ≡ false
 
 pub record StandsFor (first : ℕ) (w : Sending) : Type 0 where
   pub last : TellsLast first w

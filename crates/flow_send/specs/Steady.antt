@@ -1,5 +1,6 @@
 -- What is so of every sender.
-use Rattle.std.specs.Prelude.{ℕ, ◌≡◌, ◌+◌, ◌^◌, ◌<◌, ◌≤◌, Bool, true, false, ◌||◌, List, [], ◌∷◌, Option, Some, None, length}
+use Rattle.std.specs.Prelude.{ℕ, ◌≡◌, ◌+◌, ◌^◌, ◌<◌, ◌≤◌, Bool, true, false, ◌||◌, List, [], ◌∷◌,
+    Option, Some, None, length}
 use Rattle.flow_send.specs.declared.state.State.{State}
 use Rattle.flow_send.specs.declared.waiting.Waiting.{Waiting}
 use Rattle.flow_send.specs.Rows.{Row, is_unsent, is_abandoned, front_settled}
@@ -10,8 +11,8 @@ use Rattle.flow_send.specs.Acks.{still_waits}
 abbrev pub is_fresh : State → Bool
 is_fresh state = is_unsent state || is_abandoned state
 
--- A number up to the highest one sent was sent or is abandoned, and one above was never sent. What is abandoned holds no
--- bytes, and no fragment has more than 1,000.
+-- A number up to the highest one sent was sent or is abandoned, and one above was never sent. What
+-- is abandoned holds no bytes, and no fragment has more than 1,000.
 pub record RowOk (sent n : ℕ) (r : Row) : Type 0 where
   pub old : n ≤ sent → is_unsent r.state ≡ false
   pub fresh : sent < n → is_fresh r.state ≡ true
@@ -45,7 +46,8 @@ abbrev pub IsLast : Option ℕ → ℕ → Type 0
 IsLast None next = Unit {0}
 IsLast (Some n) next = next ≡ n + 1
 
--- the forward number is the greatest one at or below which all is settled: the number after it isn't, or isn't given yet
+-- the forward number is the greatest one at or below which all is settled: the number after it
+-- isn't, or isn't given yet
 abbrev pub IsGreatest : Sender → Type 0
 IsGreatest s = front_settled s.rows ≡ false
 
@@ -75,4 +77,5 @@ pub record IsBounded (s : Sender) : Type 0 where
 -- each message from the first one on that begins above a number still waits
 abbrev pub Late : ℕ → ℕ → List Row → List Waiting → Type 0
 Late greatest n rows [] = Unit {0}
-Late greatest n rows (w ∷ later) = (greatest < w.number → AllWait n rows (w ∷ later)) × Late greatest n rows later
+Late greatest n rows (w ∷ later) = (greatest < w.number → AllWait n rows (w ∷ later)) ×
+    Late greatest n rows later

@@ -1,8 +1,10 @@
 //! What an ack does to the rows.
 
-ghost use Rattle.std.specs.Prelude.{◌≡◌, ℕ, ◌+◌, ◌-◌, ◌<◌, ◌≤◌, ◌^◌, List, length, nat_le, ◌&&◌, if◌then◌else◌};
+ghost use Rattle.std.specs.Prelude.{◌≡◌, ℕ, ◌+◌, ◌-◌, ◌<◌, ◌≤◌, ◌^◌, List, length, nat_le, ◌&&◌,
+    if◌then◌else◌};
 ghost use Rattle.flow_send.specs.Rows.{map_rows, most_rows};
-ghost use Rattle.flow_send.specs.Acks.{Told, greatest, acknowledge, acknowledge_row, new_place, last_place, in_range};
+ghost use Rattle.flow_send.specs.Acks.{Told, greatest, acknowledge, acknowledge_row, new_place,
+    last_place, in_range};
 
 use crate::rows::Rows;
 use rtmfp_data_chunks::AckedRanges;
@@ -19,12 +21,14 @@ pub fn greatest(upto: u64, ranges: &AckedRanges<'_>) -> u64
     most
 }
 
-/// Acknowledges the numbers from the first through the last, of rows above a forward number. The answer is the last
-/// place, in the order of sendings, of those that weren't acknowledged before.
+/// Acknowledges the numbers from the first through the last, of rows above a forward number. The
+/// answer is the last place, in the order of sendings, of those that weren't acknowledged before.
 fn acknowledge_stretch(rows: &mut Rows, forward: u64, first: u64, last: u64) -> u64
     requires { last < forward + 1 + length rows.old.rows }
-    ensures rows { rows.new.rows ≡ map_rows (λ k r. if in_range k (first, last) then acknowledge_row r else r) (forward + 1) rows.old.rows }
-    ensures place { result ≡ most_rows (λ k r. if in_range k (first, last) then new_place r else 0) (forward + 1) rows.old.rows }
+    ensures rows { rows.new.rows ≡ map_rows (λ k r. if in_range k (first, last) then
+        acknowledge_row r else r) (forward + 1) rows.old.rows }
+    ensures place { result ≡ most_rows (λ k r. if in_range k (first, last) then new_place r
+        else 0) (forward + 1) rows.old.rows }
     ensures room { rows.new.room ≡ rows.old.room }
 {
     let _all = rows.len();
@@ -36,8 +40,11 @@ fn acknowledge_stretch(rows: &mut Rows, forward: u64, first: u64, last: u64) -> 
 /// Acknowledges what an ack tells. The answer is the last place of what it newly acknowledges.
 pub fn acknowledge(rows: &mut Rows, forward: u64, upto: u64, ranges: &AckedRanges<'_>) -> u64
     requires { greatest upto ranges.now < forward + 1 + length rows.old.rows }
-    ensures rows { rows.new.rows ≡ map_rows (acknowledge (record { blocks = 0; upto = upto; ranges = ranges.now })) (forward + 1) rows.old.rows }
-    ensures place { result ≡ last_place (record { blocks = 0; upto = upto; ranges = ranges.now }) (forward + 1) rows.old.rows }
+    ensures rows { rows.new.rows
+        ≡ map_rows (acknowledge (record { blocks = 0; upto = upto; ranges = ranges.now }))
+        (forward + 1) rows.old.rows }
+    ensures place { result ≡ last_place (record { blocks = 0; upto = upto; ranges = ranges.now })
+        (forward + 1) rows.old.rows }
     ensures room { rows.new.room ≡ rows.old.room }
 {
     let mut place = acknowledge_stretch(rows, forward, 0, upto);

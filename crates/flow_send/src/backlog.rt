@@ -1,9 +1,11 @@
 //! The messages of a flow that are neither abandoned nor wholly acknowledged, by rising number.
 
-ghost use Rattle.std.specs.Prelude.{◌≡◌, ◌+◌, ◌-◌, ◌<◌, ◌≤◌, ◌^◌, ◌∷◌, ◌++◌, [], OnOk, OnErr, List, ℕ, length, slice_get, slice_index_or, Some, None, true};
+ghost use Rattle.std.specs.Prelude.{◌≡◌, ◌+◌, ◌-◌, ◌<◌, ◌≤◌, ◌^◌, ◌∷◌, ◌++◌, [], OnOk, OnErr, List,
+    ℕ, length, slice_get, slice_index_or, Some, None, true};
 ghost use Rattle.std.specs.List.{sum_by, filter, remove};
 ghost use Rattle.std.specs.VecDeque.{deque_len};
-ghost use Rattle.flow_send.specs.Sender.{message_at, without_message, first_number, is_past, is_spent, is_overdue, first_overdue};
+ghost use Rattle.flow_send.specs.Sender.{message_at, without_message, first_number, is_past,
+    is_spent, is_overdue, first_overdue};
 ghost use Rattle.flow_send.specs.Acks.{still_waits};
 ghost use Rattle.flow_send.specs.Deadlines.{NoneBefore, Reach};
 ghost use Rattle.flow_send.specs.Steady.{Line, Late};
@@ -14,7 +16,8 @@ use std::alloc::{AllocError, Global};
 use std::collections::VecDeque;
 use std::marker::Model;
 
-/// Takes away the message at a place. Those before it move up, of which there are few where messages are acknowledged.
+/// Takes away the message at a place. Those before it move up, of which there are few where
+/// messages are acknowledged.
 fn take_out(messages: &mut VecDeque<Waiting>, at: usize)
     requires { at < deque_len messages.old }
     ensures { messages.new.items ≡ remove messages.old.items at }
@@ -27,7 +30,8 @@ fn take_out(messages: &mut VecDeque<Waiting>, at: usize)
     let _ = messages.pop_front();
 }
 
-/// The messages that wait, with the sums of their bytes and fragments. Contracts see them as their list.
+/// The messages that wait, with the sums of their bytes and fragments. Contracts see them as their
+/// list.
 #[derive(Drop)]
 pub struct Backlog {
     messages: VecDeque<Waiting>,
@@ -49,7 +53,9 @@ impl Model for Backlog {
 
     ghost view = { λ b. b.messages.items };
 
-    ghost invariant = { λ b. (b.bytes ≡ sum_by (λ w. w.size) b.messages.items) × (b.fragments ≡ sum_by (λ w. w.count) b.messages.items) × Reach b.soonest b.limited b.messages.items };
+    ghost invariant = { λ b. (b.bytes ≡ sum_by (λ w. w.size) b.messages.items) ×
+        (b.fragments ≡ sum_by (λ w. w.count) b.messages.items) ×
+        Reach b.soonest b.limited b.messages.items };
 }
 
 impl Backlog {
@@ -101,7 +107,8 @@ impl Backlog {
         Ok(())
     }
 
-    /// The moment before which no deadline is, and whether a message may have a limit. An empty list begins again.
+    /// The moment before which no deadline is, and whether a message may have a limit. An empty
+    /// list begins again.
     fn reach(&self) -> (u64, bool)
         ensures { Reach result.0 result.1 self.now }
     {
@@ -183,8 +190,8 @@ impl Backlog {
         moment <= self.soonest && !(self.limited && rows.any_lost())
     }
 
-    /// The number of the first message whose deadline or limit of resends is passed, and where none is, a moment before
-    /// which no deadline is.
+    /// The number of the first message whose deadline or limit of resends is passed, and where none
+    /// is, a moment before which no deadline is.
     fn look(&self, rows: &Rows, forward: u64, moment: u64) -> (Option<u64>, u64)
         requires { Line 0 (forward + 1 + length rows.now.rows) self.now }
         ensures first { result.0 ≡ first_overdue moment (forward + 1) rows.now.rows self.now }
@@ -201,8 +208,9 @@ impl Backlog {
         (None, soonest)
     }
 
-    /// The number of the first message whose deadline or limit of resends is passed. Where none is, the messages are
-    /// looked at again only after the next deadline, or where a row is lost and a message has a limit.
+    /// The number of the first message whose deadline or limit of resends is passed. Where none is,
+    /// the messages are looked at again only after the next deadline, or where a row is lost and a
+    /// message has a limit.
     pub fn first_overdue(&mut self, rows: &Rows, forward: u64, moment: u64) -> Option<u64>
         requires { Line 0 (forward + 1 + length rows.now.rows) self.old }
         ensures first { result ≡ first_overdue moment (forward + 1) rows.now.rows self.old }

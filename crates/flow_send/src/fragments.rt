@@ -43,7 +43,9 @@ fn part_of(count: u64, at: u64) -> Part
 /// The fragments of a message, whatever the number of the first one.
 pub fn cut(alloc: Global, message: &[u8], count: u64) -> Result<VecDeque<HeldRow>, AllocError>
     requires count { count ≡ fragments_of_length (length message.now) }
-    ensures rows { (n : ℕ) → IfOk result (λ rows. rows.items ≡ rows_of (record { number = n; bytes = message.now }) n count) }
+    ensures rows { (n : ℕ) →
+        IfOk result (λ rows. rows.items ≡ rows_of (record { number = n; bytes = message.now }) n
+        count) }
 {
     let mut rows = VecDeque::new(alloc);
     let mut rest = message;

@@ -6,22 +6,31 @@ ghost use Rattle.rtmfp_data_chunks.specs.Runs.{Chunk};
 ghost use Rattle.rtmfp_data_chunks.specs.Chunk.{Data};
 ghost use Rattle.rtmfp_data_chunks.specs.Writing.{data_bytes};
 ghost use Rattle.flow_send.specs.Flow.{data_length, user_data};
-ghost use Rattle.flow_send.specs.Calls.{Call, begun, all_calls, TellsLast, AllStand, AllSent, IsForward};
+ghost use Rattle.flow_send.specs.Calls.{Call, begun, all_calls, TellsLast, AllStand, AllSent,
+    IsForward};
 
 /// Room counts a chunk with the bytes that it has as a written data chunk.
 pub fn room_is_of_the_written_chunk()
-    ensures { (flow : ℕ) (options : Option (List OptionParts)) (c : Chunk) → data_length flow options c ≡ length (data_bytes (Data (user_data flow options c))) }
+    ensures { (flow : ℕ) (options : Option (List OptionParts)) (c : Chunk) →
+        data_length flow options c ≡ length (data_bytes (Data (user_data flow options c))) }
 {}
 
-/// Whatever calls a sender gets, what it keeps is what they did. The values of the last ack, the greatest number of all
-/// sendings, notices included, the last notice and the end are those; a number above the forward number is acknowledged
-/// exactly where a heard ack tells it, and abandoned exactly where else it is one of an abandoned message; its resends are
-/// one less than its sendings, and its moment and place those of the last one; and the forward number is the greatest one
-/// at or below which each number is one of these or below the flow's first.
-/// A call that is refused does nothing.
+/// Whatever calls a sender gets, what it keeps is what they did. The values of the last ack, the
+/// greatest number of all sendings, notices included, the last notice and the end are those; a
+/// number above the forward number is acknowledged exactly where a heard ack tells it, and
+/// abandoned exactly where else it is one of an abandoned message; its resends are one less than
+/// its sendings, and its moment and place those of the last one; and the forward number is the
+/// greatest one at or below which each number is one of these or below the flow's first. A call
+/// that is refused does nothing.
 pub fn calls()
-    ensures last { (first : ℕ) (cs : List Call) → 1 ≤ first → first < 2 ^ 64 → TellsLast first (all_calls (begun first) cs) }
-    ensures rows { (first : ℕ) (cs : List Call) → 1 ≤ first → first < 2 ^ 64 → AllStand (all_calls (begun first) cs).done ((all_calls (begun first) cs).sender.forward + 1) (all_calls (begun first) cs).sender.rows }
-    ensures sent { (first : ℕ) (cs : List Call) → 1 ≤ first → first < 2 ^ 64 → AllSent (all_calls (begun first) cs).done ((all_calls (begun first) cs).sender.forward + 1) (all_calls (begun first) cs).sender.rows }
-    ensures forward { (first : ℕ) (cs : List Call) → 1 ≤ first → first < 2 ^ 64 → IsForward first (all_calls (begun first) cs) }
+    ensures last { (first : ℕ) (cs : List Call) → 1 ≤ first → first < 2 ^ 64 →
+        TellsLast first (all_calls (begun first) cs) }
+    ensures rows { (first : ℕ) (cs : List Call) → 1 ≤ first → first < 2 ^ 64 →
+        AllStand (all_calls (begun first) cs).done ((all_calls (begun first) cs).sender.forward + 1)
+        (all_calls (begun first) cs).sender.rows }
+    ensures sent { (first : ℕ) (cs : List Call) → 1 ≤ first → first < 2 ^ 64 →
+        AllSent (all_calls (begun first) cs).done ((all_calls (begun first) cs).sender.forward + 1)
+        (all_calls (begun first) cs).sender.rows }
+    ensures forward { (first : ℕ) (cs : List Call) → 1 ≤ first → first < 2 ^ 64 →
+        IsForward first (all_calls (begun first) cs) }
 {}

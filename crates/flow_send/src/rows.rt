@@ -1,9 +1,13 @@
 //! The numbers of a sending flow above its forward number.
 
-ghost use Rattle.std.specs.Prelude.{◌≡◌, ◌+◌, ◌-◌, ◌<◌, ◌≤◌, ◌^◌, ◌∷◌, ◌++◌, [], IfOk, OnOk, OnErr, IfSome, IfNone, List, length, slice_set, drop, map, max, not, true, false, MatchOption, Some, None, position};
+ghost use Rattle.std.specs.Prelude.{◌≡◌, ◌+◌, ◌-◌, ◌<◌, ◌≤◌, ◌^◌, ◌∷◌, ◌++◌, [], IfOk, OnOk, OnErr,
+    IfSome, IfNone, List, length, slice_set, drop, map, max, not, true, false, MatchOption, Some,
+    None, position};
 ghost use Rattle.std.specs.List.{sum_by, list_any};
 ghost use Rattle.std.specs.VecDeque.{deque_len, deque_capacity};
-ghost use Rattle.flow_send.specs.Rows.{Row, row_at, stored_of, totals_of, in_flight, any_flying, between, any_between, most_between, settled_front, front_settled, first_place, is_lost, is_unsent, is_settled, is_acknowledged, lost_of};
+ghost use Rattle.flow_send.specs.Rows.{Row, row_at, stored_of, totals_of, in_flight, any_flying,
+    between, any_between, most_between, settled_front, front_settled, first_place, is_lost,
+    is_unsent, is_settled, is_acknowledged, lost_of};
 ghost use Rattle.flow_send.specs.Sender.{give_up_row, lost_if_late, is_late, is_spent_row};
 ghost use Rattle.flow_send.specs.Choice.{sent_row};
 ghost use Rattle.flow_send.specs.Acks.{acknowledge_row, new_place, count_ack, is_third};
@@ -15,8 +19,8 @@ use std::alloc::{AllocError, Global};
 use std::collections::VecDeque;
 use std::marker::Model;
 
-/// The rows in order, with sums over them. Contracts see them as their list and the number of rows for which there
-/// is room.
+/// The rows in order, with sums over them. Contracts see them as their list and the number of rows
+/// for which there is room.
 #[derive(Drop)]
 pub struct Rows {
     rows: VecDeque<HeldRow>,
@@ -30,7 +34,8 @@ impl Model for Rows {
 
     ghost Value = { Places };
 
-    ghost view = { λ q. record { rows = q.rows.items; room = deque_capacity q.rows - deque_len q.rows } };
+    ghost view =
+        { λ q. record { rows = q.rows.items; room = deque_capacity q.rows - deque_len q.rows } };
 
     ghost invariant = { λ q. q.totals ≡ totals_of q.rows.items };
 }
@@ -102,7 +107,8 @@ impl Rows {
 
     fn give_up_at(&mut self, at: usize)
         requires { at < length self.old.rows }
-        ensures rows { self.new.rows ≡ slice_set self.old.rows at (give_up_row (row_at self.old.rows at)) }
+        ensures rows { self.new.rows ≡ slice_set self.old.rows at
+            (give_up_row (row_at self.old.rows at)) }
         ensures room { self.new.room ≡ self.old.room }
     {
         let row = &mut self.rows[at];
@@ -126,7 +132,8 @@ impl Rows {
 
     fn acknowledge_at(&mut self, at: usize)
         requires { at < length self.old.rows }
-        ensures rows { self.new.rows ≡ slice_set self.old.rows at (acknowledge_row (row_at self.old.rows at)) }
+        ensures rows { self.new.rows ≡ slice_set self.old.rows at
+            (acknowledge_row (row_at self.old.rows at)) }
         ensures room { self.new.room ≡ self.old.room }
     {
         if self.rows[at].state().is_acknowledged() {
@@ -151,8 +158,8 @@ impl Rows {
         row.place()
     }
 
-    /// Acknowledges the rows from one place to before another. The answer is the last place, in the order of
-    /// sendings, of those that weren't acknowledged before.
+    /// Acknowledges the rows from one place to before another. The answer is the last place, in the
+    /// order of sendings, of those that weren't acknowledged before.
     pub fn acknowledge(&mut self, from: usize, to: usize) -> u64
         requires order { from ≤ to }
         requires inside { to ≤ length self.old.rows }
@@ -170,7 +177,8 @@ impl Rows {
 
     fn count_ack_at(&mut self, at: usize, place: u64)
         requires { at < length self.old.rows }
-        ensures rows { self.new.rows ≡ slice_set self.old.rows at (count_ack place (row_at self.old.rows at)) }
+        ensures rows { self.new.rows ≡ slice_set self.old.rows at
+            (count_ack place (row_at self.old.rows at)) }
         ensures room { self.new.room ≡ self.old.room }
     {
         if !self.rows[at].state().is_flying() {
@@ -191,7 +199,8 @@ impl Rows {
         self.rows[at].is_third(place)
     }
 
-    /// Counts an ack of the sending at a place against the rows before a place. True where it makes one lost.
+    /// Counts an ack of the sending at a place against the rows before a place. True where it makes
+    /// one lost.
     pub fn count_acks(&mut self, to: usize, place: u64) -> bool
         requires { to ≤ length self.old.rows }
         ensures rows { self.new.rows ≡ between (count_ack place) 0 to self.old.rows }
@@ -208,7 +217,8 @@ impl Rows {
 
     fn lose_at(&mut self, at: usize, moment: u64, resend_after: u64)
         requires { at < length self.old.rows }
-        ensures rows { self.new.rows ≡ slice_set self.old.rows at (lost_if_late moment resend_after (row_at self.old.rows at)) }
+        ensures rows { self.new.rows ≡ slice_set self.old.rows at
+            (lost_if_late moment resend_after (row_at self.old.rows at)) }
         ensures room { self.new.room ≡ self.old.room }
     {
         if !self.rows[at].is_late(moment, resend_after) {
@@ -231,7 +241,8 @@ impl Rows {
     /// Marks as lost the rows before a place that are late. True where there is one.
     pub fn lose_late(&mut self, to: usize, moment: u64, resend_after: u64) -> bool
         requires { to ≤ length self.old.rows }
-        ensures rows { self.new.rows ≡ between (lost_if_late moment resend_after) 0 to self.old.rows }
+        ensures rows { self.new.rows ≡ between (lost_if_late moment resend_after) 0 to
+            self.old.rows }
         ensures room { self.new.room ≡ self.old.room }
         ensures late { result ≡ any_between (is_late moment resend_after) 0 to self.old.rows }
     {
@@ -246,7 +257,8 @@ impl Rows {
     /// A row is sent.
     pub fn send(&mut self, at: usize, moment: u64, place: u64)
         requires { at < length self.old.rows }
-        ensures rows { self.new.rows ≡ slice_set self.old.rows at (sent_row moment place (row_at self.old.rows at)) }
+        ensures rows { self.new.rows ≡ slice_set self.old.rows at
+            (sent_row moment place (row_at self.old.rows at)) }
         ensures room { self.new.room ≡ self.old.room }
     {
         let row = &mut self.rows[at];
@@ -291,7 +303,8 @@ impl Rows {
         false
     }
 
-    /// Whether a lost row from one place to before another was sent again as often as a limit allows.
+    /// Whether a lost row from one place to before another was sent again as often as a limit
+    /// allows.
     pub fn is_spent(&self, from: usize, to: usize, limit: u32) -> bool
         requires order { from ≤ to }
         requires inside { to ≤ length self.now.rows }
@@ -325,7 +338,8 @@ impl Rows {
 
     /// The place of the first unsent row, where none before a place is unsent.
     pub fn first_unsent(&self, from: usize) -> Option<usize>
-        requires { first_place is_unsent 0 self.now.rows ≡ first_place is_unsent from (drop from self.now.rows) }
+        requires { first_place is_unsent 0 self.now.rows
+            ≡ first_place is_unsent from (drop from self.now.rows) }
         ensures { result ≡ first_place is_unsent 0 self.now.rows }
     {
         for at in from..self.rows.len() {

@@ -1,17 +1,22 @@
 //! The sender of a flow.
 
-ghost use Rattle.std.specs.Prelude.{◌≡◌, ◌≢◌, ◌+◌, ◌-◌, ◌<◌, ◌≤◌, ◌^◌, ◌∷◌, ◌++◌, [], IfOk, IsOk, OnOk, OnErr, IfErr, IfSome, IfNone, List, length, Some, None, Ok, Err, nat_lt, MatchOption, MatchResult, true, false, if◌then◌else◌, ◌↔◌};
+ghost use Rattle.std.specs.Prelude.{◌≡◌, ◌≢◌, ◌+◌, ◌-◌, ◌<◌, ◌≤◌, ◌^◌, ◌∷◌, ◌++◌, [], IfOk, IsOk,
+    OnOk, OnErr, IfErr, IfSome, IfNone, List, length, Some, None, Ok, Err, nat_lt, MatchOption,
+    MatchResult, true, false, if◌then◌else◌, ◌↔◌};
 ghost use Rattle.std.specs.Option.{is_some};
 ghost use Rattle.std.specs.List.{list_any};
 ghost use Rattle.rtmfp_data_chunks.specs.Fragments.{fragments_of_length};
 ghost use Rattle.rtmfp_data_chunks.specs.Taken.{chunk_of};
 ghost use Rattle.flow_send.specs.Rows.{any_row, in_flight};
-ghost use Rattle.flow_send.specs.Sender.{Sender, new_sender, next_of, queued, waits, abandoned, abandoned_if, first_number, overdue, finish_by, lost_late, is_late};
+ghost use Rattle.flow_send.specs.Sender.{Sender, new_sender, next_of, queued, waits, abandoned,
+    abandoned_if, first_number, overdue, finish_by, lost_late, is_late};
 ghost use Rattle.flow_send.specs.Acks.{told, beyond, new_bytes, makes_lost, told_by};
 ghost use Rattle.flow_send.specs.Steady.{Steady, IsGreatest, IsBounded};
-ghost use Rattle.flow_send.specs.Choice.{Nothing, Notify, choice, next_choice, notice_due, choice_bytes, chunk_for, within_limit, is_quiet, sent_after};
+ghost use Rattle.flow_send.specs.Choice.{Nothing, Notify, choice, next_choice, notice_due,
+    choice_bytes, chunk_for, within_limit, is_quiet, sent_after};
 ghost use Rattle.flow_send.specs.Picked.{picked, picked_if, IsThere};
-ghost use Rattle.flow_send.specs.Flow.{Flow, flow_options, with_sender, is_finished, queue_refusal, next_message, data_length, chunk_options, chunk_refusal};
+ghost use Rattle.flow_send.specs.Flow.{Flow, flow_options, with_sender, is_finished, queue_refusal,
+    next_message, data_length, chunk_options, chunk_refusal};
 
 use crate::acking::{acknowledge, greatest};
 use crate::backlog::Backlog;
@@ -37,8 +42,8 @@ const MOST_BYTES: u64 = 2_097_152;
 
 const MOST_FRAGMENTS: u64 = 65_536;
 
-/// The sender of a flow. Contracts see its id, options and priority, and what it keeps of its messages: the rows of
-/// the numbers above the forward number, and the messages that wait.
+/// The sender of a flow. Contracts see its id, options and priority, and what it keeps of its
+/// messages: the rows of the numbers above the forward number, and the messages that wait.
 #[derive(Drop)]
 pub struct FlowSender {
     alloc: Global,
@@ -65,17 +70,23 @@ impl Model for FlowSender {
 
     ghost Value = { Flow };
 
-    ghost view = { λ f. record { id = f.id; options = options_in f.options.items; priority = f.priority; sender = record { forward = f.forward; rows = f.rows.rows; waiting = f.waiting; finish = f.finish; sent = f.sent; upto = f.upto; told = f.told; notice = f.notice; order = f.order } } };
+    ghost view =
+        { λ f. record { id = f.id; options = options_in f.options.items; priority = f.priority;
+        sender = record { forward = f.forward; rows = f.rows.rows; waiting = f.waiting;
+        finish = f.finish; sent = f.sent; upto = f.upto; told = f.told; notice = f.notice; order =
+        f.order } } };
 
     ghost invariant = { λ f.
-        Steady (record { forward = f.forward; rows = f.rows.rows; waiting = f.waiting; finish = f.finish; sent = f.sent; upto = f.upto; told = f.told; notice = f.notice; order = f.order })
+        Steady (record { forward = f.forward; rows = f.rows.rows; waiting = f.waiting;
+          finish = f.finish; sent = f.sent; upto = f.upto; told = f.told; notice = f.notice; order =
+          f.order })
         × OptionsSpell (options_in f.options.items) f.options.items
         × (f.finish ≡ None → 1 ≤ f.rows.room) };
 }
 
 impl FlowSender {
-    /// A sender that has sent nothing. Its options are the metadata, and the flow that it answers where there is one.
-    /// Of the priorities 7 is the highest.
+    /// A sender that has sent nothing. Its options are the metadata, and the flow that it answers
+    /// where there is one. Of the priorities 7 is the highest.
     pub fn new(
         alloc: Global,
         id: u64,
@@ -87,7 +98,9 @@ impl FlowSender {
         requires metadata { length metadata.now ≤ 64 }
         requires priority { priority ≤ 7 }
         requires first { 1 ≤ first }
-        ensures { IfOk result (λ f. f ≡ record { id = id; options = flow_options metadata.now answers; priority = priority; sender = new_sender first }) }
+        ensures { IfOk result (λ f. f ≡ record { id = id;
+            options = flow_options metadata.now answers; priority = priority; sender =
+            new_sender first }) }
     {
         Ok(FlowSender {
             alloc,
@@ -121,8 +134,11 @@ impl FlowSender {
     /// Queues a message, and gives the number of its first fragment.
     pub fn queue(&mut self, message: &[u8], options: MessageOptions) -> Result<u64, QueueRefusal>
         ensures number { IfOk result (λ n. n ≡ next_of self.old.sender) }
-        ensures queued { OnOk result (self.new ≡ with_sender self.old (queued (next_message self.old.sender message.now) options self.old.sender)) }
-        ensures refused { MatchOption (queue_refusal self.old.sender (length message.now)) (IfErr result (λ e. e ≡ QueueRefusal.Memory)) (λ e. result ≡ Err e) }
+        ensures queued
+            { OnOk result (self.new ≡ with_sender self.old
+            (queued (next_message self.old.sender message.now) options self.old.sender)) }
+        ensures refused { MatchOption (queue_refusal self.old.sender (length message.now))
+            (IfErr result (λ e. e ≡ QueueRefusal.Memory)) (λ e. result ≡ Err e) }
         ensures err { OnErr result (self.new ≡ self.old) }
     {
         let size = message.len() as u64;
@@ -145,7 +161,9 @@ impl FlowSender {
     ) -> Result<(), AllocError>
         requires allowed { queue_refusal self.old.sender (length message.now) ≡ None }
         requires number { number ≡ next_of self.old.sender }
-        ensures queued { OnOk result (self.new ≡ with_sender self.old (queued (next_message self.old.sender message.now) options self.old.sender)) }
+        ensures queued
+            { OnOk result (self.new ≡ with_sender self.old
+            (queued (next_message self.old.sender message.now) options self.old.sender)) }
         ensures err { OnErr result (self.new ≡ self.old) }
     {
         let size = message.len() as u64;
@@ -217,9 +235,11 @@ impl FlowSender {
     /// The bytes in flight.
     pub fn flight(&self) -> u64
         ensures bytes { result ≡ in_flight self.now.sender.rows }
-        // So at any moment the forward number is the greatest one at or below which all is acknowledged or abandoned.
+        // So at any moment the forward number is the greatest one at or below which all is
+        // acknowledged or abandoned.
         ensures forward { IsGreatest self.now.sender }
-        // At most 2,097,152 bytes and 65,536 fragments of messages are held, and a fragment has at most 1,000 bytes.
+        // At most 2,097,152 bytes and 65,536 fragments of messages are held, and a fragment has at
+        // most 1,000 bytes.
         ensures bounds { IsBounded self.now.sender }
     {
         self.rows.flight()
@@ -255,17 +275,20 @@ impl FlowSender {
     /// Abandons the first message that waits, and gives its number.
     pub fn abandon_first(&mut self) -> Option<u64>
         ensures first { result ≡ first_number self.old.sender.waiting }
-        ensures after { self.new ≡ with_sender self.old (abandoned_if (first_number self.old.sender.waiting) self.old.sender) }
+        ensures after { self.new ≡ with_sender self.old
+            (abandoned_if (first_number self.old.sender.waiting) self.old.sender) }
     {
         let number = self.waiting.first()?;
         self.give_up(number);
         Some(number)
     }
 
-    /// Abandons the first message whose deadline or limit of resends is passed, and gives its number.
+    /// Abandons the first message whose deadline or limit of resends is passed, and gives its
+    /// number.
     pub fn overdue(&mut self, moment: u64) -> Option<u64>
         ensures overdue { result ≡ overdue moment self.old.sender }
-        ensures after { self.new ≡ with_sender self.old (abandoned_if (overdue moment self.old.sender) self.old.sender) }
+        ensures after { self.new ≡ with_sender self.old
+            (abandoned_if (overdue moment self.old.sender) self.old.sender) }
     {
         let number = self
             .waiting
@@ -274,10 +297,13 @@ impl FlowSender {
         Some(number)
     }
 
-    /// Takes one further number for the end of the flow, and gives it. None where it was finished before.
+    /// Takes one further number for the end of the flow, and gives it. None where it was finished
+    /// before.
     pub fn finish(&mut self) -> Option<u64>
-        ensures last { result ≡ (if is_finished self.old.sender.finish then None else Some (next_of self.old.sender)) }
-        ensures after { self.new ≡ with_sender self.old (finish_by self.old.sender self.old.sender.finish) }
+        ensures last { result ≡ (if is_finished self.old.sender.finish then None
+            else Some (next_of self.old.sender)) }
+        ensures after { self.new ≡ with_sender self.old
+            (finish_by self.old.sender self.old.sender.finish) }
     {
         if self.finish.is_some() {
             return None;
@@ -298,28 +324,36 @@ impl FlowSender {
         self.sent.saturating_sub(self.forward) as usize
     }
 
-    /// Marks as lost each number in flight that was sent so long ago, in milliseconds. True where there is one.
+    /// Marks as lost each number in flight that was sent so long ago, in milliseconds. True where
+    /// there is one.
     pub fn find_lost(&mut self, moment: u64, resend_after: u64) -> bool
         ensures late { result ≡ list_any (is_late moment resend_after) self.old.sender.rows }
-        ensures after { self.new ≡ with_sender self.old (lost_late moment resend_after self.old.sender) }
+        ensures after { self.new ≡ with_sender self.old
+            (lost_late moment resend_after self.old.sender) }
         ensures none_late { list_any (is_late moment resend_after) self.new.sender.rows ≡ false }
     {
         let to = self.sent_rows();
         self.rows.lose_late(to, moment, resend_after)
     }
 
-    /// Takes an ack: the blocks of 1,024 bytes that the receiver has free, the number at or below which all is
-    /// acknowledged, and the stretches above it.
+    /// Takes an ack: the blocks of 1,024 bytes that the receiver has free, the number at or below
+    /// which all is acknowledged, and the stretches above it.
     pub fn take_ack(
         &mut self,
         blocks: u64,
         upto: u64,
         ranges: AckedRanges<'_>,
     ) -> Result<Acked, AckFault>
-        ensures beyond { MatchOption (beyond self.old.sender (told blocks upto ranges.entry)) (IsOk result) (λ n. result ≡ Err (AckFault.AckBeyond n)) }
-        ensures bytes { IfOk result (λ a. a.bytes ≡ new_bytes (told blocks upto ranges.entry) (self.old.sender.forward + 1) self.old.sender.rows) }
-        ensures lost { IfOk result (λ a. a.lost ≡ makes_lost (told blocks upto ranges.entry) self.old.sender) }
-        ensures ok { OnOk result (self.new ≡ with_sender self.old (told_by (told blocks upto ranges.entry) self.old.sender)) }
+        ensures beyond { MatchOption (beyond self.old.sender (told blocks upto ranges.entry))
+            (IsOk result) (λ n. result ≡ Err (AckFault.AckBeyond n)) }
+        ensures bytes { IfOk result (λ a. a.bytes
+            ≡ new_bytes (told blocks upto ranges.entry) (self.old.sender.forward + 1)
+            self.old.sender.rows) }
+        ensures lost { IfOk result (λ a. a.lost
+            ≡ makes_lost (told blocks upto ranges.entry) self.old.sender) }
+        ensures ok
+            { OnOk result (self.new ≡ with_sender self.old
+            (told_by (told blocks upto ranges.entry) self.old.sender)) }
         ensures err { OnErr result (self.new ≡ self.old) }
     {
         let greatest = greatest(upto, &ranges);
@@ -348,10 +382,15 @@ impl FlowSender {
         moment: u64,
         resend_after: u64,
     ) -> Result<Pick, NoChunk>
-        ensures refused { MatchOption (chunk_refusal self.old first room flight window (choice moment resend_after self.old.sender)) (IsOk result) (λ e. result ≡ Err e) }
-        ensures chunk { IfOk result (λ p. chunk_for self.new.sender (picked self.new.sender p) ≡ chunk_for self.old.sender (choice moment resend_after self.old.sender)) }
+        ensures refused
+            { MatchOption (chunk_refusal self.old first room flight window
+            (choice moment resend_after self.old.sender)) (IsOk result) (λ e. result ≡ Err e) }
+        ensures chunk { IfOk result (λ p. chunk_for self.new.sender (picked self.new.sender p)
+            ≡ chunk_for self.old.sender (choice moment resend_after self.old.sender)) }
         ensures there { IfOk result (λ p. IsThere self.new.sender p) }
-        ensures sent { OnOk result (self.new ≡ with_sender self.old (sent_after moment (choice moment resend_after self.old.sender) self.old.sender)) }
+        ensures sent
+            { OnOk result (self.new ≡ with_sender self.old
+            (sent_after moment (choice moment resend_after self.old.sender) self.old.sender)) }
         ensures err { OnErr result (self.new ≡ self.old) }
     {
         let Some(pick) = self.pick(moment, resend_after) else {
@@ -366,7 +405,8 @@ impl FlowSender {
 
     /// The chunk that may be sent next.
     fn pick(&self, moment: u64, resend_after: u64) -> Option<Pick>
-        ensures picked { choice moment resend_after self.now.sender ≡ picked_if self.now.sender result }
+        ensures picked { choice moment resend_after self.now.sender
+            ≡ picked_if self.now.sender result }
         ensures there { IfSome result (λ p. IsThere self.now.sender p) }
         ensures steady { Steady self.now.sender }
     {
@@ -380,7 +420,8 @@ impl FlowSender {
 
     /// The chunk that is next, whatever the flow's limit.
     fn next_pick(&self, moment: u64, resend_after: u64) -> Option<Pick>
-        ensures picked { next_choice moment resend_after self.now.sender ≡ picked_if self.now.sender result }
+        ensures picked { next_choice moment resend_after self.now.sender
+            ≡ picked_if self.now.sender result }
         ensures there { IfSome result (λ p. IsThere self.now.sender p) }
         ensures steady { Steady self.now.sender }
     {
@@ -398,7 +439,8 @@ impl FlowSender {
 
     /// Whether the forward number is to be told without a fragment.
     fn notice_due(&self, moment: u64, resend_after: u64) -> bool
-        ensures { notice_due moment resend_after self.now.sender ≡ (if result then Notify else Nothing) }
+        ensures { notice_due moment resend_after self.now.sender
+            ≡ (if result then Notify else Nothing) }
     {
         self.upto < self.forward && self.is_quiet(moment, resend_after)
     }
@@ -448,7 +490,8 @@ impl FlowSender {
         window: u64,
     ) -> Option<NoChunk>
         requires { IsThere self.now.sender pick }
-        ensures { result ≡ chunk_refusal self.now first room flight window (picked self.now.sender pick) }
+        ensures { result ≡ chunk_refusal self.now first room flight window
+            (picked self.now.sender pick) }
     {
         let chunk = self.chunk(pick, first);
         if u128::from(flight) + self.pick_bytes(pick) as u128 > u128::from(window) {
@@ -460,11 +503,12 @@ impl FlowSender {
         None
     }
 
-    /// A chunk that was chosen, with the options of the flow where it is the first one of the flow in a datagram and
-    /// there was no ack yet.
+    /// A chunk that was chosen, with the options of the flow where it is the first one of the flow
+    /// in a datagram and there was no ack yet.
     pub fn chunk(&self, pick: Pick, first: bool) -> UserData<'_>
         requires { IsThere self.now.sender pick }
-        ensures chunk { chunk_for self.now.sender (picked self.now.sender pick) ≡ Some (chunk_of result) }
+        ensures chunk { chunk_for self.now.sender (picked self.now.sender pick)
+            ≡ Some (chunk_of result) }
         ensures options { result.options ≡ chunk_options self.now first }
         ensures flow { result.flow ≡ self.now.id }
     {
@@ -512,7 +556,8 @@ impl FlowSender {
     fn send(&mut self, pick: Pick, moment: u64)
         requires there { IsThere self.old.sender pick }
         requires steady { Steady (sent_after moment (picked self.old.sender pick) self.old.sender) }
-        ensures { self.new ≡ with_sender self.old (sent_after moment (picked self.old.sender pick) self.old.sender) }
+        ensures { self.new ≡ with_sender self.old
+            (sent_after moment (picked self.old.sender pick) self.old.sender) }
     {
         match pick {
             Pick::Row(at) => self.send_row(at, moment),
@@ -522,8 +567,10 @@ impl FlowSender {
 
     fn send_row(&mut self, at: usize, moment: u64)
         requires there { at < length self.old.sender.rows }
-        requires steady { Steady (sent_after moment (picked self.old.sender (Pick.Row at)) self.old.sender) }
-        ensures { self.new ≡ with_sender self.old (sent_after moment (picked self.old.sender (Pick.Row at)) self.old.sender) }
+        requires steady
+            { Steady (sent_after moment (picked self.old.sender (Pick.Row at)) self.old.sender) }
+        ensures { self.new ≡ with_sender self.old
+            (sent_after moment (picked self.old.sender (Pick.Row at)) self.old.sender) }
     {
         let number = self.forward + 1 + at as u64;
         self.order = self.order.saturating_add(1);
@@ -533,7 +580,8 @@ impl FlowSender {
 
     fn send_notice(&mut self, moment: u64)
         requires { Steady (sent_after moment (picked self.old.sender Pick.Notice) self.old.sender) }
-        ensures { self.new ≡ with_sender self.old (sent_after moment (picked self.old.sender Pick.Notice) self.old.sender) }
+        ensures { self.new ≡ with_sender self.old
+            (sent_after moment (picked self.old.sender Pick.Notice) self.old.sender) }
     {
         self.order = self.order.saturating_add(1);
         self.notice = Some(moment);

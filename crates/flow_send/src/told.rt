@@ -2,7 +2,8 @@
 
 ghost use Rattle.std.specs.Prelude.{◌≡◌, ◌++◌, ◌<◌, ℕ, OnOk, IfOk};
 ghost use Rattle.std.specs.List.{flat_map};
-ghost use Rattle.rtmfp_forms.specs.Options.{OptionParts, PieceSpells, PiecesSpell, OptionsSpell, option_bytes};
+ghost use Rattle.rtmfp_forms.specs.Options.{OptionParts, PieceSpells, PiecesSpell, OptionsSpell,
+    option_bytes};
 ghost use Rattle.flow_send.specs.Flow.{associations, flow_options};
 
 use rtmfp_vlu::write_vlu;
@@ -26,8 +27,11 @@ pub fn spelled(alloc: Global, metadata: &[u8], answers: Option<u64>) -> Result<V
 
 /// Adds the flow that is answered, where there is one.
 fn put_association(bytes: &mut Vec<u8>, answers: Option<u64>) -> Result<(), AllocError>
-    ensures put { OnOk result (bytes.new.items ≡ bytes.old.items ++ flat_map option_bytes (associations answers)) }
-    ensures spells { OnOk result (PiecesSpell (associations answers) (flat_map option_bytes (associations answers))) }
+    ensures put { OnOk result (bytes.new.items ≡ bytes.old.items
+        ++ flat_map option_bytes (associations answers)) }
+    ensures spells
+        { OnOk result (PiecesSpell (associations answers)
+        (flat_map option_bytes (associations answers))) }
 {
     let Some(flow) = answers else {
         return Ok(());
@@ -41,8 +45,11 @@ fn put_association(bytes: &mut Vec<u8>, answers: Option<u64>) -> Result<(), Allo
 /// Adds an option.
 fn put_option(bytes: &mut Vec<u8>, kind: u8, value: &[u8]) -> Result<(), AllocError>
     requires { kind < 128 }
-    ensures put { OnOk result (bytes.new.items ≡ bytes.old.items ++ option_bytes (record { kind = kind; value = value.now })) }
-    ensures spells { OnOk result (PieceSpells (record { kind = kind; value = value.now }) (option_bytes (record { kind = kind; value = value.now }))) }
+    ensures put { OnOk result (bytes.new.items ≡ bytes.old.items
+        ++ option_bytes (record { kind = kind; value = value.now })) }
+    ensures spells
+        { OnOk result (PieceSpells (record { kind = kind; value = value.now })
+        (option_bytes (record { kind = kind; value = value.now }))) }
 {
     let mut spelling = [0; 10];
     let len = write_vlu(value.len() as u64 + 1, &mut spelling);

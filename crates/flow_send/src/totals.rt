@@ -3,7 +3,8 @@
 ghost use Rattle.std.specs.Prelude.{◌≡◌, ◌+◌, ◌-◌, ◌<◌, ◌≤◌, ◌^◌};
 ghost use Rattle.flow_send.specs.Moved.{moved, IsWithin, Fit};
 
-/// The bytes and the number of rows in flight, the bytes that all rows hold, and how many rows are lost.
+/// The bytes and the number of rows in flight, the bytes that all rows hold, and how many rows are
+/// lost.
 #[derive(Clone, Copy, Debug, PartialEq, Eq)]
 pub struct Totals {
     pub flight: u64,

@@ -65,7 +65,8 @@ impl Waiting {
         rows.give_up(self.from(forward), self.to(forward));
     }
 
-    /// Whether its deadline is passed, or a lost fragment of it was sent again as often as its limit allows.
+    /// Whether its deadline is passed, or a lost fragment of it was sent again as often as its
+    /// limit allows.
     pub fn is_overdue(&self, rows: &Rows, forward: u64, moment: u64) -> bool
         requires { self.now.number + self.now.count ≤ forward + 1 + length rows.now.rows }
         ensures { result ≡ is_overdue moment (forward + 1) rows.now.rows self.now }

@@ -1,4 +1,5 @@
--- Why an Ended for Glare or Override asks for its Born in the same event: with the Born in a later event of the end, a session can be overridden that its peer still has.
+-- Why an Ended for Glare or Override asks for its Born in the same event: with the Born in a later
+-- event of the end, a session can be overridden that its peer still has.
 use Rattle.std.specs.Prelude.{ℕ, List, [], ◌∷◌, reverse}
 use Rattle.glare_core.specs.declared.facts.Fact.{Fact}
 use Rattle.glare_core.specs.Standing.{peer_of}
@@ -15,14 +16,16 @@ DoneMeets own log (item ∷ rest) = Meets own log item × DoneMeets own (item �
 
 abbrev pub EachMeets : List Event → Type 0
 EachMeets [] = Unit {0}
-EachMeets (e ∷ earlier) = DoneMeets e.who (told_to e.told (view e.who (steps earlier))) e.done × EachMeets earlier
+EachMeets (e ∷ earlier) = DoneMeets e.who (told_to e.told (view e.who (steps earlier))) e.done ×
+    EachMeets earlier
 
 -- In the facts of an end, the oldest first, there is a next fact, and it is a Born of this peer.
 abbrev pub NextIsBorn : List ℕ → List Fact → Type 0
 NextIsBorn peer [] = ⊥
 NextIsBorn peer (fact ∷ rest) = IsBornOf peer fact
 
--- After each Ended for Glare or Override the next fact of the end, in whatever event, is a Born of that peer.
+-- After each Ended for Glare or Override the next fact of the end, in whatever event, is a Born of
+-- that peer.
 abbrev pub BornFollows : List Fact → Type 0
 BornFollows [] = Unit {0}
 BornFollows (fact ∷ rest) = (MakesWay fact → NextIsBorn (peer_of fact) rest) × BornFollows rest

@@ -3,10 +3,12 @@ use Rattle.std.specs.Prelude.{ℕ, List, [], ◌∷◌, ◌+◌, Option, Some, N
 use Rattle.std.specs.List.{list_any}
 use Rattle.std.specs.Str.{bytes_eq}
 use Rattle.glare_core.specs.declared.facts.Fact.{Fact}
-use Rattle.glare_core.specs.declared.facts.Fact.TheVariants.{Started, Born, Opened, Confirmed, Ended}
+use Rattle.glare_core.specs.declared.facts.Fact.TheVariants.{Started, Born, Opened, Confirmed,
+    Ended}
 use Rattle.glare_core.specs.declared.facts.Joined.{Joined}
 use Rattle.glare_core.specs.declared.facts.Held.{Held}
-use Rattle.glare_core.specs.declared.facts.Held.TheVariants.{Opening, HalfOpen, KeptAsResponder, KeptAsInitiator}
+use Rattle.glare_core.specs.declared.facts.Held.TheVariants.{Opening, HalfOpen, KeptAsResponder,
+    KeptAsInitiator}
 
 -- the peer that a fact speaks of
 abbrev pub peer_of : Fact → List ℕ
@@ -32,7 +34,8 @@ confirmed (Some (HalfOpen j)) = Some (KeptAsResponder j)
 confirmed (Some (KeptAsResponder j)) = Some (KeptAsResponder j)
 confirmed (Some (KeptAsInitiator j)) = Some (KeptAsInitiator j)
 
--- What is held with the peer of a fact after it, by what was held before it: from its Started or Born until its Ended.
+-- What is held with the peer of a fact after it, by what was held before it: from its Started or
+-- Born until its Ended.
 abbrev pub after : Fact → Option Held → Option Held
 after (Started peer n near ni) before = Some (Opening n near ni)
 after (Born j) before = Some (HalfOpen j)
@@ -43,7 +46,8 @@ after (Ended peer near why) before = None
 -- what is held with a peer after these facts
 abbrev pub held : List ℕ → List Fact → Option Held
 held peer [] = None
-held peer (fact ∷ earlier) = cond (bytes_eq (peer_of fact) peer) (after fact (held peer earlier)) (held peer earlier)
+held peer (fact ∷ earlier) = cond (bytes_eq (peer_of fact) peer) (after fact (held peer earlier))
+    (held peer earlier)
 
 -- the number that a fact adds to those seen of its peer: the n of a Born, the k of an Opened
 abbrev pub seen_in : Fact → ℕ
@@ -56,7 +60,8 @@ seen_in (Ended peer near why) = 0
 -- the greatest number seen of a peer, 0 at first
 abbrev pub seen : List ℕ → List Fact → ℕ
 seen peer [] = 0
-seen peer (fact ∷ earlier) = cond (bytes_eq (peer_of fact) peer) (max (seen_in fact) (seen peer earlier)) (seen peer earlier)
+seen peer (fact ∷ earlier) = cond (bytes_eq (peer_of fact) peer)
+    (max (seen_in fact) (seen peer earlier)) (seen peer earlier)
 
 -- 1 for a Started
 abbrev pub starts_in : Fact → ℕ

@@ -1,9 +1,11 @@
 -- What a fact of an end asks of what is held and counted: of the facts before it, the newest first.
 use Rattle.std.specs.Prelude.{ℕ, List, ◌≡◌, ◌≢◌, ◌<◌, ◌+◌, ◌⊎◌, Some, None}
 use Rattle.glare_core.specs.declared.facts.Why.{Why}
-use Rattle.glare_core.specs.declared.facts.Why.TheVariants.{Cancelled, Expired, Glare, Override, Unconfirmed, Near, Far, Idle}
+use Rattle.glare_core.specs.declared.facts.Why.TheVariants.{Cancelled, Expired, Glare, Override,
+    Unconfirmed, Near, Far, Idle}
 use Rattle.glare_core.specs.declared.facts.Fact.{Fact}
-use Rattle.glare_core.specs.declared.facts.Fact.TheVariants.{Started, Born, Opened, Confirmed, Ended}
+use Rattle.glare_core.specs.declared.facts.Fact.TheVariants.{Started, Born, Opened, Confirmed,
+    Ended}
 use Rattle.glare_core.specs.declared.facts.Held.{Held}
 use Rattle.glare_core.specs.declared.facts.Held.TheVariants.{Opening, HalfOpen}
 use Rattle.glare_core.specs.declared.facts.Joined.{Joined}
@@ -22,7 +24,8 @@ Ends own peer Near h = IsSession h
 Ends own peer Far h = IsSession h
 Ends own peer Idle h = IsKept h
 
-pub record StartedStands (own : List ℕ) (attempts : ℕ) (before : List Fact) (peer : List ℕ) (n : ℕ) : Type 0 where
+pub record StartedStands (own : List ℕ) (attempts : ℕ) (before : List Fact) (peer : List ℕ) (n : ℕ)
+    : Type 0 where
   pub other : peer ≢ own
   pub free : held peer before ≡ None
   pub next : n ≡ attempts + 1
@@ -37,13 +40,15 @@ pub record ConfirmedStands (before : List Fact) (peer : List ℕ) (near : ℕ) :
   pub session : held peer before ≡ Some (HalfOpen j)
   pub id : near ≡ j.near
 
-pub record EndedStands (own : List ℕ) (before : List Fact) (peer : List ℕ) (near : ℕ) (why : Why) : Type 0 where
+pub record EndedStands (own : List ℕ) (before : List Fact) (peer : List ℕ) (near : ℕ) (why : Why)
+    : Type 0 where
   pub h : Held
   pub thing : held peer before ≡ Some h
   pub id : near ≡ near_of h
   pub ends : Ends own peer why h
 
--- What a fact of an end asks of its facts before, the newest first, where it has started so many attempts.
+-- What a fact of an end asks of its facts before, the newest first, where it has started so many
+-- attempts.
 abbrev pub Stands : List ℕ → ℕ → List Fact → Fact → Type 0
 Stands own attempts before (Started peer n near ni) = StartedStands own attempts before peer n
 Stands own attempts before (Born j) = BornStands attempts before j

@@ -1,18 +1,22 @@
--- The table of told histories: what each fact of an end, and each tell that it sends, asks of what the end was told and did before.
+-- The table of told histories: what each fact of an end, and each tell that it sends, asks of what
+-- the end was told and did before.
 use Rattle.std.specs.Prelude.{ℕ, List, [], ◌∷◌, ◌≡◌, ◌⊎◌, Some, true, false}
 use Rattle.glare_core.specs.declared.facts.Why.{Why}
 use Rattle.glare_core.specs.declared.facts.Why.TheVariants.{Near, Far}
 use Rattle.glare_core.specs.declared.facts.Fact.{Fact}
-use Rattle.glare_core.specs.declared.facts.Fact.TheVariants.{Started, Born, Opened, Confirmed, Ended}
+use Rattle.glare_core.specs.declared.facts.Fact.TheVariants.{Started, Born, Opened, Confirmed,
+    Ended}
 use Rattle.glare_core.specs.declared.facts.Held.{Held}
-use Rattle.glare_core.specs.declared.facts.Held.TheVariants.{Opening, HalfOpen, KeptAsResponder, KeptAsInitiator}
+use Rattle.glare_core.specs.declared.facts.Held.TheVariants.{Opening, HalfOpen, KeptAsResponder,
+    KeptAsInitiator}
 use Rattle.glare_core.specs.declared.facts.Joined.{Joined}
 use Rattle.glare_core.specs.Standing.{peer_of, held, count}
 use Rattle.glare_core.specs.Tells.{Tell, Keying, Answer, Under, Values, as_initiator, as_responder}
 use Rattle.glare_core.specs.Steps.{Item, Told, Did, Sends, Among, facts, IsTail}
 use Rattle.glare_core.specs.Stands.{Stands, MakesWay, IsBornOf}
 
--- A Confirmed asks for a datagram of the half-open session, towards this end, with the generation of the Keying that bore it.
+-- A Confirmed asks for a datagram of the half-open session, towards this end, with the generation
+-- of the Keying that bore it.
 pub record ConfirmedHeard (own : List ℕ) (log : List Item) (peer : List ℕ) : Type 0 where
   pub j : Joined
   pub session : held peer (facts log) ≡ Some (HalfOpen j)
@@ -20,11 +24,14 @@ pub record ConfirmedHeard (own : List ℕ) (log : List Item) (peer : List ℕ) :
   pub born : Among (Did (Born j) generation) log
   pub told : Among (Told (Under (as_responder own j) true generation)) log
 
--- What a fact of an end asks to have been told: by the end's log, which is what it was told and did before, the newest first.
+-- What a fact of an end asks to have been told: by the end's log, which is what it was told and did
+-- before, the newest first.
 abbrev pub HasHeard : List ℕ → List Item → Fact → ℕ → Type 0
 HasHeard own log (Started peer n near ni) generation = Unit {0}
-HasHeard own log (Born j) generation = Among (Told (Keying j.peer own j.n j.ni j.far generation)) log
-HasHeard own log (Opened j) generation = Among (Told (Answer j.near j.peer j.far j.nr j.k j.ni generation)) log
+HasHeard own log (Born j) generation = Among (Told (Keying j.peer own j.n j.ni j.far generation))
+    log
+HasHeard own log (Opened j) generation = Among
+    (Told (Answer j.near j.peer j.far j.nr j.k j.ni generation)) log
 HasHeard own log (Confirmed peer near) generation = ConfirmedHeard own log peer
 HasHeard own log (Ended peer near why) generation = Unit {0}
 
@@ -34,16 +41,20 @@ pub record FactFits (own : List ℕ) (log : List Item) (fact : Fact) (generation
   pub heard : HasHeard own log fact generation
 
 -- The values of a Keying are those of an attempt that is held as opening.
-pub record KeyingFits (own : List ℕ) (log : List Item) (initiator responder : List ℕ) (n : ℕ) (ni : List ℕ) (near_i : ℕ) : Type 0 where
+pub record KeyingFits (own : List ℕ) (log : List Item) (initiator responder : List ℕ) (n : ℕ)
+    (ni : List ℕ) (near_i : ℕ) : Type 0 where
   pub from : initiator ≡ own
   pub attempt : held responder (facts log) ≡ Some (Opening n near_i ni)
 
 -- The end holds the session of this Born.
 abbrev pub HoldsBorn : List Item → Joined → Type 0
-HoldsBorn log j = (held j.peer (facts log) ≡ Some (HalfOpen j)) ⊎ (held j.peer (facts log) ≡ Some (KeptAsResponder j))
+HoldsBorn log j = (held j.peer (facts log) ≡ Some (HalfOpen j)) ⊎
+    (held j.peer (facts log) ≡ Some (KeptAsResponder j))
 
--- The values of an Answer are those of a held Born, its generation is that of the Keying which bore it.
-pub record AnswerFits (own : List ℕ) (log : List Item) (near_i : ℕ) (responder : List ℕ) (near_r : ℕ) (nr : List ℕ) (k : ℕ) (ni : List ℕ) (generation : ℕ) : Type 0 where
+-- The values of an Answer are those of a held Born, its generation is that of the Keying which bore
+-- it.
+pub record AnswerFits (own : List ℕ) (log : List Item) (near_i : ℕ) (responder : List ℕ)
+    (near_r : ℕ) (nr : List ℕ) (k : ℕ) (ni : List ℕ) (generation : ℕ) : Type 0 where
   pub from : responder ≡ own
   pub j : Joined
   pub session : HoldsBorn log j
@@ -68,14 +79,17 @@ pub record WasClosed (log : List Item) (peer : List ℕ) (h : Held) : Type 0 whe
 abbrev pub HoldsOrClosed : List Item → List ℕ → Held → Type 0
 HoldsOrClosed log peer h = (held peer (facts log) ≡ Some h) ⊎ WasClosed log peer h
 
--- An Under goes away from this end. Its session is held, or was closed by one of its ends, and its generation is that of the Answer that opened it, or of the Keying that bore it.
-pub record UnderFromInitiator (own : List ℕ) (log : List Item) (values : Values) (generation : ℕ) : Type 0 where
+-- An Under goes away from this end. Its session is held, or was closed by one of its ends, and its
+-- generation is that of the Answer that opened it, or of the Keying that bore it.
+pub record UnderFromInitiator (own : List ℕ) (log : List Item) (values : Values) (generation : ℕ)
+    : Type 0 where
   pub j : Joined
   pub session : HoldsOrClosed log j.peer (KeptAsInitiator j)
   pub opened : Among (Did (Opened j) generation) log
   pub values_are : values ≡ as_initiator own j
 
-pub record UnderFromResponder (own : List ℕ) (log : List Item) (values : Values) (generation : ℕ) : Type 0 where
+pub record UnderFromResponder (own : List ℕ) (log : List Item) (values : Values) (generation : ℕ)
+    : Type 0 where
   pub j : Joined
   pub session : HoldsOrClosed log j.peer (HalfOpen j) ⊎ HoldsOrClosed log j.peer (KeptAsResponder j)
   pub born : Among (Did (Born j) generation) log
@@ -83,8 +97,10 @@ pub record UnderFromResponder (own : List ℕ) (log : List Item) (values : Value
 
 -- the line of a tell that is sent
 abbrev pub SentFits : List ℕ → List Item → Tell → Type 0
-SentFits own log (Keying initiator responder n ni near_i generation) = KeyingFits own log initiator responder n ni near_i
-SentFits own log (Answer near_i responder near_r nr k ni generation) = AnswerFits own log near_i responder near_r nr k ni generation
+SentFits own log (Keying initiator responder n ni near_i generation) =
+    KeyingFits own log initiator responder n ni near_i
+SentFits own log (Answer near_i responder near_r nr k ni generation) =
+    AnswerFits own log near_i responder near_r nr k ni generation
 SentFits own log (Under values true generation) = UnderFromInitiator own log values generation
 SentFits own log (Under values false generation) = UnderFromResponder own log values generation
 

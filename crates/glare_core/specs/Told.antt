@@ -1,6 +1,8 @@
--- Told histories: lists of events, the newest first, and which of them are lawful, honest and fresh.
+-- Told histories: lists of events, the newest first, and which of them are lawful, honest and
+-- fresh.
 use Rattle.std.specs.Prelude.{ℕ, List, [], ◌∷◌}
-use Rattle.glare_core.specs.declared.facts.Fact.TheVariants.{Started, Born, Opened, Confirmed, Ended}
+use Rattle.glare_core.specs.declared.facts.Fact.TheVariants.{Started, Born, Opened, Confirmed,
+    Ended}
 use Rattle.glare_core.specs.Table.{Meets, Followed}
 use Rattle.glare_core.specs.Tells.{Tell}
 use Rattle.glare_core.specs.Steps.{Item, Told, Did, Sends, Step, step, Among, view}
@@ -31,17 +33,20 @@ steps (e ∷ earlier) = onto e.who e.done (onto_told e.who e.told (steps earlier
 -- The items of an event, in order, on top of the end's log.
 abbrev pub DoneLawful : List ℕ → List Item → List Item → Type 0
 DoneLawful own log [] = Unit {0}
-DoneLawful own log (item ∷ rest) = Meets own log item × Followed item rest × DoneLawful own (item ∷ log) rest
+DoneLawful own log (item ∷ rest) = Meets own log item × Followed item rest ×
+    DoneLawful own (item ∷ log) rest
 
 -- the log of an end, after a datagram told it these
 abbrev pub told_to : List Tell → List Item → List Item
 told_to [] log = log
 told_to (t ∷ ts) log = told_to ts (Told t ∷ log)
 
--- Each fact, and each tell that was sent, meets the table, judged by what its end was told and did before.
+-- Each fact, and each tell that was sent, meets the table, judged by what its end was told and did
+-- before.
 abbrev pub IsLawful : List Event → Type 0
 IsLawful [] = Unit {0}
-IsLawful (e ∷ earlier) = DoneLawful e.who (told_to e.told (view e.who (steps earlier))) e.done × IsLawful earlier
+IsLawful (e ∷ earlier) = DoneLawful e.who (told_to e.told (view e.who (steps earlier))) e.done ×
+    IsLawful earlier
 
 -- The tell was sent, by whatever end.
 abbrev pub WasSent : Tell → List Step → Type 0
@@ -76,6 +81,7 @@ abbrev pub AllDifferent : {A : Type 0} → List A → Type 0
 AllDifferent [] = Unit {0}
 AllDifferent (x ∷ xs) = (Among x xs → ⊥) × AllDifferent xs
 
--- The nonces are all different. That the fingerprints of ends differ is no condition here, since they name the ends.
+-- The nonces are all different. That the fingerprints of ends differ is no condition here, since
+-- they name the ends.
 abbrev pub IsFresh : List Event → Type 0
 IsFresh history = AllDifferent (nonces (steps history))

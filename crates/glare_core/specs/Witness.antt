@@ -1,4 +1,5 @@
--- That the premises of the laws can be met, by a history in which all that the laws speak of happens.
+-- That the premises of the laws can be met, by a history in which all that the laws speak of
+-- happens.
 use Rattle.std.specs.Prelude.{ℕ, List}
 use Rattle.glare_core.specs.declared.facts.Why.TheVariants.{Override}
 use Rattle.glare_core.specs.declared.facts.Fact.TheVariants.{Opened, Ended}
@@ -7,7 +8,8 @@ use Rattle.glare_core.specs.Steps.{Did, Step, IsTail, Happened}
 use Rattle.glare_core.specs.Told.{Event, steps, IsLawful, IsHonest, IsFresh}
 use Rattle.glare_core.specs.Agreed.{Keeps, Attempt, AreCrossed}
 
--- Two attempts cross, one of them opens, both ends keep the session, and later the opener ends it with Override while it keeps it.
+-- Two attempts cross, one of them opens, both ends keep the session, and later the opener ends it
+-- with Override while it keeps it.
 pub record LivelyHistory : Type 0 where
   pub history : List Event
   pub lawful : IsLawful history

@@ -2,7 +2,8 @@
 
 use crate::facts::Fact;
 
-/// Why no attempt starts. Where several stand, the answer is the first of `OwnPrint`, `Opening`, `Open`, `AttemptsSpent`, `PeersFull`, `Memory`.
+/// Why no attempt starts. Where several stand, the answer is the first of `OwnPrint`, `Opening`,
+/// `Open`, `AttemptsSpent`, `PeersFull`, `Memory`.
 #[derive(Clone, Copy, Debug, PartialEq, Eq)]
 pub enum StartRefusal {
     /// An attempt towards the peer is held; its number.
@@ -46,7 +47,8 @@ pub enum Heard {
     },
 }
 
-/// Why no session is born of a keying. Where several stand, the answer is the first of `Stale`, `Glare`, `PeersFull`, `SessionsFull`, `Memory`.
+/// Why no session is born of a keying. Where several stand, the answer is the first of `Stale`,
+/// `Glare`, `PeersFull`, `SessionsFull`, `Memory`.
 #[derive(Clone, Copy, Debug, PartialEq, Eq)]
 pub enum HearRefusal {
     /// Its number isn't above the greatest one seen of the peer, which is given.

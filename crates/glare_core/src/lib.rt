@@ -1,4 +1,5 @@
-//! What an end holds with its peers, the facts that it states of it, and the laws that hold over the facts of every history.
+//! What an end holds with its peers, the facts that it states of it, and the laws that hold over
+//! the facts of every history.
 #![tactic(auto)]
 
 mod answers;

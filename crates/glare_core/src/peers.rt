@@ -1,13 +1,16 @@
 //! What one end holds with its peers, and what it has counted.
 
-ghost use Rattle.std.specs.Prelude.{not, ◌&&◌, ◌==◌, ◌≤◌, ◌≡◌, ◌≢◌, ◌+◌, ℕ, List, [], ◌∷◌, length, false, IfOk, IfErr, IfSome, IfNone, OnErr, Ok, Err, is_some, option_to_list};
+ghost use Rattle.std.specs.Prelude.{not, ◌&&◌, ◌==◌, ◌≤◌, ◌≡◌, ◌≢◌, ◌+◌, ℕ, List, [], ◌∷◌, length,
+    false, IfOk, IfErr, IfSome, IfNone, OnErr, Ok, Err, is_some, option_to_list};
 ghost use Rattle.std.specs.List.{list_any};
 ghost use Rattle.std.specs.Option.{option_copied};
 ghost use Rattle.std.specs.Str.{bytes_eq};
 ghost use Rattle.glare_core.specs.declared.facts.Fact.{Fact};
 ghost use Rattle.glare_core.specs.Standing.{held, seen, count, peers_in};
-ghost use Rattle.glare_core.specs.Ledger.{held_with, floor_of, knows, row_count, new_ledger, noted, noted_if};
-ghost use Rattle.glare_core.specs.Calls.{where_true, start_refusal, started_fact, birth_refusal, hear_refusal, heard, heard_facts, heard_noted, opened_fact, confirmed_fact, ended_fact, MayEnd};
+ghost use Rattle.glare_core.specs.Ledger.{held_with, floor_of, knows, row_count, new_ledger, noted,
+    noted_if};
+ghost use Rattle.glare_core.specs.Calls.{where_true, start_refusal, started_fact, birth_refusal,
+    hear_refusal, heard, heard_facts, heard_noted, opened_fact, confirmed_fact, ended_fact, MayEnd};
 ghost use Rattle.glare_core.specs.Account.{StandsFor, Gave};
 
 use crate::answers::{HearRefusal, Heard, Keying, StartRefusal};
@@ -19,8 +22,10 @@ use std::marker::Model;
 
 /// What an end holds with its peers: at most one attempt or session with each.
 ///
-/// Contracts see it as a ledger: the own fingerprint, the limit on rows, the count of attempts, and a finite map from peers to what is held and to the greatest number seen.
-/// A ledger stands for the list of the facts that it gave: `new` stands for none, and each call brings it from any list to that list and the facts of the call, each of which meets the table of lawful facts.
+/// Contracts see it as a ledger: the own fingerprint, the limit on rows, the count of attempts, and
+/// a finite map from peers to what is held and to the greatest number seen. A ledger stands for the
+/// list of the facts that it gave: `new` stands for none, and each call brings it from any list to
+/// that list and the facts of the call, each of which meets the table of lawful facts.
 #[derive(Drop)]
 pub struct Peers {
     own: [u8; 32],
@@ -39,13 +44,16 @@ impl Model for Peers {
 
     ghost use Rattle.glare_core.specs.Rows.{table_of, IsTable};
 
-    ghost view = { λ p. record { own = p.own; max_peers = p.max_peers; started = p.started; rows = table_of p.rows.items } };
+    ghost view =
+        { λ p. record { own = p.own; max_peers = p.max_peers; started = p.started;
+        rows = table_of p.rows.items } };
 
     ghost invariant = { λ p. IsTable p.rows.items p.max_peers };
 }
 
 impl Peers {
-    /// Peers of which nothing is known yet, with at most `max_peers` rows; attempts are numbered from `started` + 1 on. It takes no memory.
+    /// Peers of which nothing is known yet, with at most `max_peers` rows; attempts are numbered
+    /// from `started` + 1 on. It takes no memory.
     pub fn new(alloc: Global, own: [u8; 32], max_peers: u32, started: u64) -> Peers
         ensures ledger { result ≡ new_ledger own max_peers started }
         ensures stands { StandsFor started result [] }
@@ -60,7 +68,8 @@ impl Peers {
 
     /// The number of rows, where the peer has none and there are as many as may be.
     fn full_for(&self, seat: &Seat) -> Option<u64>
-        ensures { result ≡ where_true (not (is_some seat.now.place) && (row_count self.now == self.now.max_peers)) (row_count self.now) }
+        ensures { result ≡ where_true (not (is_some seat.now.place)
+            && (row_count self.now == self.now.max_peers)) (row_count self.now) }
     {
         if seat.place.is_none() && self.rows.len() == self.max_peers as usize {
             Some(self.rows.len() as u64)
@@ -92,20 +101,27 @@ impl Peers {
         }
     }
 
-    /// Why `start` would refuse this peer, but for want of memory; None exactly where it would not. It changes nothing and takes no memory.
+    /// Why `start` would refuse this peer, but for want of memory; None exactly where it would not.
+    /// It changes nothing and takes no memory.
     pub fn start_refusal(&self, peer: &[u8; 32]) -> Option<StartRefusal>
         ensures { result ≡ start_refusal self.now peer.now }
     {
         self.refusal_at(peer, &seat_of(&self.rows, peer))
     }
 
-    /// Starts an attempt towards the peer, whose near id and nonce are given; it gives Started, numbered one above the count.
+    /// Starts an attempt towards the peer, whose near id and nonce are given; it gives Started,
+    /// numbered one above the count.
     ///
-    /// It takes memory only for the row of a peer that has none. Where it is refused, all is as before; `StartRefusal` has the reasons in their order.
+    /// It takes memory only for the row of a peer that has none. Where it is refused, all is as
+    /// before; `StartRefusal` has the reasons in their order.
     pub fn start(&mut self, peer: &[u8; 32], near: u32, ni: [u8; 16]) -> Result<Fact, StartRefusal>
-        ensures ok { IfOk result (λ fact. (fact ≡ started_fact self.old peer.now near ni) × (self.new ≡ noted self.old fact)) }
-        ensures refused { IfSome (start_refusal self.old peer.now) (λ refusal. result ≡ Err refusal) }
-        ensures memory { IfNone (start_refusal self.old peer.now) (IfErr result (λ refusal. (refusal ≡ StartRefusal.Memory) × (knows self.old peer.now ≡ false))) }
+        ensures ok { IfOk result (λ fact. (fact ≡ started_fact self.old peer.now near ni) ×
+            (self.new ≡ noted self.old fact)) }
+        ensures refused { IfSome (start_refusal self.old peer.now) (λ refusal. result
+            ≡ Err refusal) }
+        ensures memory { IfNone (start_refusal self.old peer.now)
+            (IfErr result (λ refusal. (refusal ≡ StartRefusal.Memory) ×
+            (knows self.old peer.now ≡ false))) }
         ensures err { OnErr result (self.new ≡ self.old) }
         ensures own { self.new.own ≡ self.old.own }
         ensures gave { IfOk result (λ fact. Gave self.old (fact ∷ []) self.new) }
@@ -153,7 +169,8 @@ impl Peers {
         }
     }
 
-    /// Why `hear` would refuse this keying, but for want of memory; None exactly where it would not. It changes nothing and takes no memory.
+    /// Why `hear` would refuse this keying, but for want of memory; None exactly where it would
+    /// not. It changes nothing and takes no memory.
     pub fn hear_refusal(&self, keying: &Keying, free: bool) -> Option<HearRefusal>
         ensures { result ≡ hear_refusal self.now keying.now free }
     {
@@ -164,10 +181,13 @@ impl Peers {
         self.birth_refusal(keying, &seat, free)
     }
 
-    /// Hears a keying of a peer that isn't this end, whose near id and responder nonce for a session are given; `free` says whether there is a place for one.
+    /// Hears a keying of a peer that isn't this end, whose near id and responder nonce for a
+    /// session are given; `free` says whether there is a place for one.
     ///
-    /// It gives Again exactly where the held session was born of this very keying, and else, where nothing refuses it, the birth of a session: a held attempt ends with Glare, a held session with Override.
-    /// It takes memory only for the row of a peer that has none. Where it is refused, all is as before; `HearRefusal` has the reasons in their order.
+    /// It gives Again exactly where the held session was born of this very keying, and else, where
+    /// nothing refuses it, the birth of a session: a held attempt ends with Glare, a held session
+    /// with Override. It takes memory only for the row of a peer that has none. Where it is
+    /// refused, all is as before; `HearRefusal` has the reasons in their order.
     pub fn hear(
         &mut self,
         keying: &Keying,
@@ -176,9 +196,13 @@ impl Peers {
         free: bool,
     ) -> Result<Heard, HearRefusal>
         requires { self.old.own ≢ keying.now.peer }
-        ensures ok { IfOk result (λ answer. (answer ≡ heard self.old keying.now near nr) × (self.new ≡ heard_noted self.old answer)) }
-        ensures refused { IfSome (hear_refusal self.old keying.now free) (λ refusal. result ≡ Err refusal) }
-        ensures memory { IfNone (hear_refusal self.old keying.now free) (IfErr result (λ refusal. (refusal ≡ HearRefusal.Memory) × (knows self.old keying.now.peer ≡ false))) }
+        ensures ok { IfOk result (λ answer. (answer ≡ heard self.old keying.now near nr) ×
+            (self.new ≡ heard_noted self.old answer)) }
+        ensures refused { IfSome (hear_refusal self.old keying.now free) (λ refusal. result
+            ≡ Err refusal) }
+        ensures memory { IfNone (hear_refusal self.old keying.now free)
+            (IfErr result (λ refusal. (refusal ≡ HearRefusal.Memory) ×
+            (knows self.old keying.now.peer ≡ false))) }
         ensures err { OnErr result (self.new ≡ self.old) }
         ensures own { self.new.own ≡ self.old.own }
         ensures gave { IfOk result (λ answer. Gave self.old (heard_facts answer) self.new) }
@@ -207,7 +231,8 @@ impl Peers {
         }
     }
 
-    /// Opens the held attempt towards the peer: it gives Opened; None exactly where no attempt is held. It takes no memory.
+    /// Opens the held attempt towards the peer: it gives Opened; None exactly where no attempt is
+    /// held. It takes no memory.
     pub fn answer(&mut self, peer: &[u8; 32], nr: [u8; 16], far: u32, k: u64) -> Option<Fact>
         ensures fact { result ≡ opened_fact (held_with self.old peer.now) peer.now nr far k }
         ensures ledger { self.new ≡ noted_if self.old result }
@@ -220,7 +245,8 @@ impl Peers {
         fact
     }
 
-    /// Confirms the held half-open session with the peer: it gives Confirmed; None exactly where nothing half-open is held. It takes no memory.
+    /// Confirms the held half-open session with the peer: it gives Confirmed; None exactly where
+    /// nothing half-open is held. It takes no memory.
     pub fn confirm(&mut self, peer: &[u8; 32]) -> Option<Fact>
         ensures fact { result ≡ confirmed_fact (held_with self.old peer.now) peer.now }
         ensures ledger { self.new ≡ noted_if self.old result }
@@ -233,9 +259,11 @@ impl Peers {
         fact
     }
 
-    /// Ends what is held with the peer: it gives Ended; None exactly where nothing is held. It takes no memory.
+    /// Ends what is held with the peer: it gives Ended; None exactly where nothing is held. It
+    /// takes no memory.
     ///
-    /// An attempt ends here with Cancelled or Expired, a half-open session with Unconfirmed, Near or Far, a kept one with Near, Far or Idle.
+    /// An attempt ends here with Cancelled or Expired, a half-open session with Unconfirmed, Near
+    /// or Far, a kept one with Near, Far or Idle.
     pub fn end(&mut self, peer: &[u8; 32], why: Why) -> Option<Fact>
         requires { IfSome (held_with self.old peer.now) (MayEnd why) }
         ensures fact { result ≡ ended_fact (held_with self.old peer.now) peer.now why }
@@ -252,7 +280,8 @@ impl Peers {
     /// What is held with the peer.
     pub fn held(&self, peer: &[u8; 32]) -> Option<&Held>
         ensures held { option_copied result ≡ held_with self.now peer.now }
-        ensures facts { (from : ℕ) (facts : List Fact) → StandsFor from self.now facts → option_copied result ≡ held peer.now facts }
+        ensures facts { (from : ℕ) (facts : List Fact) → StandsFor from self.now facts →
+            option_copied result ≡ held peer.now facts }
     {
         match place_of(&self.rows, peer) {
             Some(place) => self.rows[place].held.as_ref(),
@@ -263,7 +292,8 @@ impl Peers {
     /// The greatest n of a Born of the peer and k of an Opened with it, 0 at first.
     pub fn floor(&self, peer: &[u8; 32]) -> u64
         ensures floor { result ≡ floor_of self.now peer.now }
-        ensures facts { (from : ℕ) (facts : List Fact) → StandsFor from self.now facts → result ≡ seen peer.now facts }
+        ensures facts { (from : ℕ) (facts : List Fact) → StandsFor from self.now facts →
+            result ≡ seen peer.now facts }
     {
         seat_of(&self.rows, peer).floor
     }
@@ -271,7 +301,8 @@ impl Peers {
     /// How many attempts were started, with the number that `new` was given.
     pub fn started(&self) -> u64
         ensures started { result ≡ self.now.started }
-        ensures facts { (from : ℕ) (facts : List Fact) → StandsFor from self.now facts → result ≡ from + count facts }
+        ensures facts { (from : ℕ) (facts : List Fact) → StandsFor from self.now facts →
+            result ≡ from + count facts }
     {
         self.started
     }
@@ -279,7 +310,8 @@ impl Peers {
     /// Whether the peer has a row.
     pub fn knows(&self, peer: &[u8; 32]) -> bool
         ensures knows { result ≡ knows self.now peer.now }
-        ensures facts { (from : ℕ) (facts : List Fact) → StandsFor from self.now facts → result ≡ list_any (bytes_eq peer.now) (peers_in facts) }
+        ensures facts { (from : ℕ) (facts : List Fact) → StandsFor from self.now facts →
+            result ≡ list_any (bytes_eq peer.now) (peers_in facts) }
     {
         seat_of(&self.rows, peer).place.is_some()
     }
@@ -288,7 +320,8 @@ impl Peers {
     pub fn rows(&self) -> u32
         ensures rows { result ≡ row_count self.now }
         ensures within { result ≤ self.now.max_peers }
-        ensures facts { (from : ℕ) (facts : List Fact) → StandsFor from self.now facts → result ≡ length (peers_in facts) }
+        ensures facts { (from : ℕ) (facts : List Fact) → StandsFor from self.now facts →
+            result ≡ length (peers_in facts) }
     {
         let _most = self.max_peers;
         self.rows.len() as u32

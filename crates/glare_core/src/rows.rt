@@ -1,6 +1,7 @@
 //! The list of rows in which an end keeps what it knows of its peers.
 
-ghost use Rattle.std.specs.Prelude.{◌≡◌, ◌<◌, ℕ, max, length, IfSome, IsSome, IsOk, OnOk, OnErr, None, Some, position, is_some};
+ghost use Rattle.std.specs.Prelude.{◌≡◌, ◌<◌, ℕ, max, length, IfSome, IsSome, IsOk, OnOk, OnErr,
+    None, Some, position, is_some};
 ghost use Rattle.std.specs.FinMap.{contains_key};
 ghost use Rattle.glare_core.specs.Standing.{peer_of, after, seen_in};
 ghost use Rattle.glare_core.specs.Ledger.{row_in, rows_after, rows_after_if};
@@ -72,7 +73,8 @@ pub(crate) fn note(rows: &mut Vec<Row>, place: usize, fact: &Fact)
     requires { position (is_of (peer_of fact.now)) rows.old.items ≡ Some place }
     ensures table { table_of rows.new.items ≡ rows_after fact.now (table_of rows.old.items) }
     ensures place { position (is_of (peer_of fact.now)) rows.new.items ≡ Some place }
-    ensures kept { (max_peers : ℕ) → IsTable rows.old.items max_peers → IsTable rows.new.items max_peers }
+    ensures kept { (max_peers : ℕ) → IsTable rows.old.items max_peers →
+        IsTable rows.new.items max_peers }
 {
     let row = row_after(fact, rows[place]);
     rows[place] = row;
@@ -80,9 +82,11 @@ pub(crate) fn note(rows: &mut Vec<Row>, place: usize, fact: &Fact)
 
 /// Notes a fact, where there is one; its peer's row stands at this place.
 pub(crate) fn note_if(rows: &mut Vec<Row>, place: Option<usize>, fact: &Option<Fact>)
-    requires { IfSome fact.now (λ fact. (place ≡ position (is_of (peer_of fact)) rows.old.items) × IsSome place) }
+    requires { IfSome fact.now (λ fact. (place ≡ position (is_of (peer_of fact)) rows.old.items) ×
+        IsSome place) }
     ensures table { table_of rows.new.items ≡ rows_after_if fact.now (table_of rows.old.items) }
-    ensures kept { (max_peers : ℕ) → IsTable rows.old.items max_peers → IsTable rows.new.items max_peers }
+    ensures kept { (max_peers : ℕ) → IsTable rows.old.items max_peers →
+        IsTable rows.new.items max_peers }
 {
     if let (Some(place), Some(fact)) = (place, fact) {
         note(rows, place, fact);
@@ -92,8 +96,10 @@ pub(crate) fn note_if(rows: &mut Vec<Row>, place: Option<usize>, fact: &Option<F
 /// Notes a fact of a peer that has no row yet.
 pub(crate) fn add(rows: &mut Vec<Row>, fact: &Fact) -> Result<(), AllocError>
     requires { position (is_of (peer_of fact.now)) rows.old.items ≡ None }
-    ensures table { OnOk result (table_of rows.new.items ≡ rows_after fact.now (table_of rows.old.items)) }
-    ensures grown { (max_peers : ℕ) → length rows.old.items < max_peers → IsTable rows.old.items max_peers → IsTable rows.new.items max_peers }
+    ensures table { OnOk result (table_of rows.new.items
+        ≡ rows_after fact.now (table_of rows.old.items)) }
+    ensures grown { (max_peers : ℕ) → length rows.old.items < max_peers →
+        IsTable rows.old.items max_peers → IsTable rows.new.items max_peers }
     ensures err { OnErr result (rows.new.items ≡ rows.old.items) }
 {
     let peer = peer_of(fact);
@@ -106,7 +112,8 @@ pub(crate) fn add(rows: &mut Vec<Row>, fact: &Fact) -> Result<(), AllocError>
     Ok(())
 }
 
-/// Notes a fact, and before it the end of what made way for it. Where the peer has no row it makes one.
+/// Notes a fact, and before it the end of what made way for it. Where the peer has no row it makes
+/// one.
 pub(crate) fn note_after(
     rows: &mut Vec<Row>,
     place: Option<usize>,
@@ -116,8 +123,10 @@ pub(crate) fn note_after(
     requires place { place ≡ position (is_of (peer_of fact.now)) rows.old.items }
     requires peer { IfSome ended.now (λ end. peer_of end ≡ peer_of fact.now) }
     requires known { IsSome ended.now → IsSome place }
-    ensures table { OnOk result (table_of rows.new.items ≡ rows_after fact.now (rows_after_if ended.now (table_of rows.old.items))) }
-    ensures kept { (max_peers : ℕ) → IsRoom place (length rows.old.items) max_peers → IsTable rows.old.items max_peers → IsTable rows.new.items max_peers }
+    ensures table { OnOk result (table_of rows.new.items
+        ≡ rows_after fact.now (rows_after_if ended.now (table_of rows.old.items))) }
+    ensures kept { (max_peers : ℕ) → IsRoom place (length rows.old.items) max_peers →
+        IsTable rows.old.items max_peers → IsTable rows.new.items max_peers }
     ensures err { OnErr result (rows.new.items ≡ rows.old.items) }
     ensures takes_none { IsSome place → IsOk result }
 {

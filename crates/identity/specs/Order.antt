@@ -1,7 +1,9 @@
 -- The order of fingerprints.
-use Rattle.std.specs.Prelude.{ℕ, List, [], ◌∷◌, ◌≢◌, ◌⊎◌, Bool, true, false, ◌||◌, ◌&&◌, nat_lt, ◌==◌, IsTrue}
+use Rattle.std.specs.Prelude.{ℕ, List, [], ◌∷◌, ◌≢◌, ◌⊎◌, Bool, true, false, ◌||◌, ◌&&◌, nat_lt,
+    ◌==◌, IsTrue}
 
--- Whether the list x is above the list y in byte order: at the first place where they differ x has the greater byte, or y ends there.
+-- Whether the list x is above the list y in byte order: at the first place where they differ x has
+-- the greater byte, or y ends there.
 abbrev pub is_above : List ℕ → List ℕ → Bool
 is_above [] ys = false
 is_above (x ∷ xs) [] = true

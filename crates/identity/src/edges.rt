@@ -1,14 +1,16 @@
-//! The forms of certificates and discriminators, and the order of fingerprints, at their edges and one beside. The functions
-//! do nothing: the contract of each states what the definitions that the other contracts cite are there.
+//! The forms of certificates and discriminators, and the order of fingerprints, at their edges and
+//! one beside. The functions do nothing: the contract of each states what the definitions that the
+//! other contracts cite are there.
 
-ghost use Rattle.std.specs.Prelude.{◌≡◌, ◌∷◌, ◌++◌, ℕ, List, [], Bool, true, false, Option, Some, None, replicate};
+ghost use Rattle.std.specs.Prelude.{◌≡◌, ◌∷◌, ◌++◌, ℕ, List, [], Bool, true, false, Option, Some,
+    None, replicate};
 ghost use Rattle.identity.specs.declared.cert.CertFault.TheVariants.{Short, LongName, NotAscii};
 ghost use Rattle.identity.specs.Certificates.{certificate_fault};
 ghost use Rattle.identity.specs.Discriminators.{discriminator_of};
 ghost use Rattle.identity.specs.Order.{is_above};
 
-/// A certificate has 16 instance bytes of any value and a name of 1 to 64 bytes below 0x80. The first fault counts, in the
-/// order of short, long and not ASCII.
+/// A certificate has 16 instance bytes of any value and a name of 1 to 64 bytes below 0x80. The
+/// first fault counts, in the order of short, long and not ASCII.
 pub fn a_certificate_has_17_to_80_bytes()
     ensures none { certificate_fault [] ≡ Some Short }
     ensures short { certificate_fault (replicate 16 0x61) ≡ Some Short }
@@ -26,7 +28,8 @@ pub fn a_certificate_has_17_to_80_bytes()
 pub fn a_discriminator_has_33_bytes()
     ensures none { discriminator_of [] ≡ None }
     ensures short { discriminator_of (1 ∷ replicate 31 7) ≡ None }
-    ensures right { discriminator_of (1 ∷ replicate 32 7) ≡ Some (record { print = replicate 32 7 }) }
+    ensures right { discriminator_of (1 ∷ replicate 32 7)
+        ≡ Some (record { print = replicate 32 7 }) }
     ensures long { discriminator_of (1 ∷ replicate 33 7) ≡ None }
     ensures below { discriminator_of (0 ∷ replicate 32 7) ≡ None }
     ensures above { discriminator_of (2 ∷ replicate 32 7) ≡ None }

@@ -1,4 +1,5 @@
-//! What names an end: its certificate, the discriminator that selects a certificate, and the order of fingerprints.
+//! What names an end: its certificate, the discriminator that selects a certificate, and the order
+//! of fingerprints.
 #![tactic(auto)]
 
 mod cert;

@@ -1,6 +1,7 @@
 -- A datagram (RFC 7016 section 2.2.2): a scrambled session ID of 4 bytes, and the encrypted packet,
 -- here called the sealed part.
-use Rattle.std.specs.Prelude.{◌≡◌, ℕ, ◌<◌, ◌≤◌, ◌^◌, List, ◌++◌, length, take, drop, replicate, bit_xor, All}
+use Rattle.std.specs.Prelude.{◌≡◌, ℕ, ◌<◌, ◌≤◌, ◌^◌, List, ◌++◌, length, take, drop, replicate,
+    bit_xor, All}
 use Rattle.std.specs.Int.{w32, to_be_bytes, from_be_bytes}
 
 -- each number is a byte
@@ -38,15 +39,18 @@ sid_of bytes = unscrambled (from_be_bytes w32 (take 4 bytes)) (drop 4 bytes)
 
 -- unscrambling undoes scrambling
 abbrev pub UnscramblingUndoesScrambling : Type 0
-UnscramblingUndoesScrambling = (sid : ℕ) (part : List ℕ) → unscrambled (scrambled sid part) part ≡ sid
+UnscramblingUndoesScrambling = (sid : ℕ) (part : List ℕ) →
+    unscrambled (scrambled sid part) part ≡ sid
 
 -- scrambling undoes unscrambling
 abbrev pub ScramblingUndoesUnscrambling : Type 0
-ScramblingUndoesUnscrambling = (ssid : ℕ) (part : List ℕ) → scrambled (unscrambled ssid part) part ≡ ssid
+ScramblingUndoesUnscrambling = (ssid : ℕ) (part : List ℕ) →
+    scrambled (unscrambled ssid part) part ≡ ssid
 
 -- a datagram has the session ID that it was made under, and no other
 abbrev pub HasItsSessionId : Type 0
-HasItsSessionId = (sid : ℕ) (part : List ℕ) → sid < 2 ^ 32 → AreBytes part → sid_of (datagram sid part) ≡ sid
+HasItsSessionId = (sid : ℕ) (part : List ℕ) → sid < 2 ^ 32 → AreBytes part →
+    sid_of (datagram sid part) ≡ sid
 
 -- 4 bytes or more are the datagram of their session ID and of what follows the first 4
 abbrev pub IsDatagramOfItsSessionId : Type 0

@@ -1,5 +1,6 @@
 -- The datagram that a step brings to an end.
-use Rattle.std.specs.Prelude.{ℕ, ◌-◌, ◌==◌, nat_lt, List, [], ◌∷◌, length, replicate, slice_index, slice_set, bit_xor, Option, Some, None, if◌then◌else◌}
+use Rattle.std.specs.Prelude.{ℕ, ◌-◌, ◌==◌, nat_lt, List, [], ◌∷◌, length, replicate, slice_index,
+    slice_set, bit_xor, Option, Some, None, if◌then◌else◌}
 use Rattle.crypto_profile.specs.declared.keys.Context.TheVariants.{Startup}
 use Rattle.crypto_profile.specs.Sealing.{sealed_in}
 use Rattle.packet_scramble.specs.Datagram.{datagram}
@@ -11,7 +12,8 @@ use Rattle.rendezvous_world.specs.Seen.{group_secret}
 -- the first of a list, the second and so on, counted from 1
 abbrev pub nth : {A : Type 0} → List A → ℕ → Option A
 nth [] number = None
-nth (x ∷ xs) number = if number == 0 then None else if number == 1 then Some x else nth xs (number - 1)
+nth (x ∷ xs) number = if number == 0 then None else if number == 1 then Some x
+    else nth xs (number - 1)
 
 abbrev pub bytes_of : Option Sent → Option (List ℕ)
 bytes_of None = None
@@ -20,7 +22,8 @@ bytes_of (Some sent) = Some sent.datagram
 -- the lowest bit of the byte at a place is turned; none where the place isn't there
 abbrev pub bent : ℕ → Option (List ℕ) → Option (List ℕ)
 bent place None = None
-bent place (Some bytes) = if nat_lt place (length bytes) then Some (slice_set bytes place (bit_xor (slice_index bytes place) 1)) else None
+bent place (Some bytes) = if nat_lt place (length bytes) then
+    Some (slice_set bytes place (bit_xor (slice_index bytes place) 1)) else None
 
 -- the number of a packet that nobody sent
 abbrev pub forged_number : List ℕ
@@ -30,7 +33,8 @@ forged_number = replicate 16 0xff
 abbrev pub forged : List ℕ → List ℕ
 forged plain = datagram 0 (sealed_in group_secret Startup 0 forged_number plain)
 
--- the datagram that the step brings, where these were sent before; none where it isn't there, or the step brings none
+-- the datagram that the step brings, where these were sent before; none where it isn't there, or
+-- the step brings none
 abbrev pub datagram_of : List Sent → Step → Option (List ℕ)
 datagram_of sent (Deliver number end from) = bytes_of (nth sent number)
 datagram_of sent (Bent number place end from) = bent place (bytes_of (nth sent number))

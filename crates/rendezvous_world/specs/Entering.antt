@@ -1,5 +1,6 @@
 -- How a step is taken: the call that it makes, its line in the journal, and what it answers.
-use Rattle.std.specs.Prelude.{ℕ, ◌≡◌, ◌<◌, ◌≤◌, ◌^◌, ◌⊎◌, Bool, true, false, List, length, take, Option, Some, None, IfSome, IfNone, is_some, OnOk, OnErr, IfErr, Result, Ok, Err}
+use Rattle.std.specs.Prelude.{ℕ, ◌≡◌, ◌<◌, ◌≤◌, ◌^◌, ◌⊎◌, Bool, true, false, List, length, take,
+    Option, Some, None, IfSome, IfNone, is_some, OnOk, OnErr, IfErr, Result, Ok, Err}
 use Rattle.std.specs.List.{list_any}
 use Rattle.crypto_profile.specs.declared.keys.Context.{Context}
 use Rattle.endpoint.specs.declared.entry.Entry.{Entry}
@@ -7,19 +8,22 @@ use Rattle.endpoint.specs.declared.answers.Stopped.{Stopped as Stop}
 use Rattle.endpoint.specs.Laws.{AreBytes}
 use Rattle.endpoint.specs.State.{State, at_moment}
 use Rattle.endpoint.specs.Due.{open_refusal}
-use Rattle.endpoint.specs.Event.{Call, Open as OpenCall, Cancel as CancelCall, Receive, Tick as TickCall, Event}
+use Rattle.endpoint.specs.Event.{Call, Open as OpenCall, Cancel as CancelCall, Receive,
+    Tick as TickCall, Event}
 use Rattle.rendezvous_world.specs.declared.bringing.Fetched.{Fetched}
 use Rattle.rendezvous_world.specs.declared.journal.JournalLine.{JournalLine}
 use Rattle.rendezvous_world.specs.declared.journal.Refused.{Refused}
 use Rattle.rendezvous_world.specs.declared.step.Step.{Step}
-use Rattle.rendezvous_world.specs.declared.step.Step.TheVariants.{End, At, Open, Cancel, Deliver, Bent, Inject, Forge, Tick}
+use Rattle.rendezvous_world.specs.declared.step.Step.TheVariants.{End, At, Open, Cancel, Deliver,
+    Bent, Inject, Forge, Tick}
 use Rattle.rendezvous_world.specs.declared.step.StepFault.{StepFault}
 use Rattle.rendezvous_world.specs.declared.step.StepFault.TheVariants.{Forged, Memory}
 use Rattle.rendezvous_world.specs.Draws.{draws_of}
 use Rattle.rendezvous_world.specs.Seen.{Seen}
 use Rattle.rendezvous_world.specs.Sent.{Sent, sent_in}
 use Rattle.rendezvous_world.specs.Datagrams.{datagram_of}
-use Rattle.rendezvous_world.specs.Faults.{step_fault, is_forged, is_forged_by, is_sent, same_context}
+use Rattle.rendezvous_world.specs.Faults.{step_fault, is_forged, is_forged_by, is_sent,
+    same_context}
 use Rattle.glare_core.specs.Calls.{where_true}
 use Rattle.rendezvous_world.specs.History.{moment_given, answer_of, bytes_or_none}
 use Rattle.rendezvous_world.specs.Stepping.{Called, Stepped, StoppedIn, Noted, called_by}
@@ -33,7 +37,8 @@ CallsAnEnd (End name max_peers max_sessions cert) = ⊥
 CallsAnEnd (At moment) = ⊥
 CallsAnEnd step = Unit {0}
 
--- the end whose fingerprint the call is given; for a call that is given none, the end that is called
+-- the end whose fingerprint the call is given; for a call that is given none, the end that is
+-- called
 abbrev pub peer_of : Step → ℕ
 peer_of (Open end peer list) = peer
 peer_of (End name max_peers max_sessions cert) = 0
@@ -55,7 +60,8 @@ call_by print line bytes (Inject end from plain) = Receive from bytes (draws_of 
 call_by print line bytes (Forge end from plain) = Receive from bytes (draws_of line)
 call_by print line bytes step = TickCall (draws_of line)
 
-abbrev pub event_by : List ℕ → ℕ → ℕ → Step → List ℕ → Option Refused → Option Stop → List Entry → Event
+abbrev pub event_by : List ℕ → ℕ → ℕ → Step → List ℕ → Option Refused → Option Stop → List Entry →
+    Event
 event_by print line moment step bytes refused stopped entries = record {
   moment = moment_given moment step;
   call = call_by print line bytes step;
@@ -63,16 +69,19 @@ event_by print line moment step bytes refused stopped entries = record {
   entries = entries;
 }
 
--- What an open or a cancel leaves that found no memory, at the end in this state: an open, which nothing else refused, has noted the moment, and a cancel has left all as before.
+-- What an open or a cancel leaves that found no memory, at the end in this state: an open, which
+-- nothing else refused, has noted the moment, and a cancel has left all as before.
 abbrev pub IsUndone : List ℕ → ℕ → Step → State → State → Type 0
-IsUndone print moment (Open end peer list) old new = (open_refusal old print list ≡ None) × (new ≡ at_moment old moment)
+IsUndone print moment (Open end peer list) old new = (open_refusal old print list ≡ None) ×
+    (new ≡ at_moment old moment)
 IsUndone print moment (Cancel end n) old new = new ≡ old
 IsUndone print moment step old new = ⊥
 
 -- ---- its line
 
 -- What a step that calls an end is given: nothing refuses it.
-pub record IsEntering (w : Seen) (number end : ℕ) (step : Step) (brought : Option (List ℕ)) (taken : List ℕ) : Type 0 where
+pub record IsEntering (w : Seen) (number end : ℕ) (step : Step) (brought : Option (List ℕ))
+    (taken : List ℕ) : Type 0 where
   pub above : AreBelow w.lines number
   pub fits : number < 2 ^ 32
   pub there : end < length w.ends
@@ -86,8 +95,10 @@ pub record IsEntering (w : Seen) (number end : ℕ) (step : Step) (brought : Opt
   pub fine : step_fault w step ≡ None
 
 -- What it leaves.
-pub record IsEntered (w : Seen) (number : ℕ) (step : Step) (result : Result (Unit {0}) StepFault) (t : Seen) : Type 0 where
-  pub ok : OnOk result ((line : JournalLine) × (is_some line.stopped ≡ false) × Called w number step line t)
+pub record IsEntered (w : Seen) (number : ℕ) (step : Step) (result : Result (Unit {0}) StepFault)
+    (t : Seen) : Type 0 where
+  pub ok : OnOk result ((line : JournalLine) × (is_some line.stopped ≡ false) ×
+    Called w number step line t)
   pub memory : IfErr result (λ fault. fault ≡ Memory)
   pub err : OnErr result ((t ≡ w) ⊎ (StoppedIn w number step t ⊎ Noted w step t))
 
@@ -134,7 +145,8 @@ IsFetched (Some sent) (Some fetched) room = IsFetchedAs sent fetched room
 
 -- ---- what a step answers and leaves
 
-pub record IsDone (w : Seen) (number : ℕ) (step : Step) (result : Result (Unit {0}) StepFault) (t : Seen) : Type 0 where
+pub record IsDone (w : Seen) (number : ℕ) (step : Step) (result : Result (Unit {0}) StepFault)
+    (t : Seen) : Type 0 where
   pub ok : OnOk result (Stepped w number step t)
   pub refused : IfSome (step_fault w step) (λ fault. (result ≡ Err fault) × (t ≡ w))
   pub memory : IfNone (step_fault w step) (IfErr result (λ fault. fault ≡ Memory))

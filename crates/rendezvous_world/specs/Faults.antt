@@ -1,5 +1,6 @@
 -- Why a step is refused, in the order of the reasons.
-use Rattle.std.specs.Prelude.{ℕ, ◌-◌, ◌==◌, ◌||◌, ◌&&◌, not, nat_lt, nat_le, Bool, true, false, List, [], ◌∷◌, length, Option, Some, None, is_none, if◌then◌else◌}
+use Rattle.std.specs.Prelude.{ℕ, ◌-◌, ◌==◌, ◌||◌, ◌&&◌, not, nat_lt, nat_le, Bool, true, false,
+    List, [], ◌∷◌, length, Option, Some, None, is_none, if◌then◌else◌}
 use Rattle.std.specs.List.{list_any}
 use Rattle.std.specs.Str.{bytes_eq}
 use Rattle.crypto_profile.specs.declared.keys.Context.{Context}
@@ -9,9 +10,11 @@ use Rattle.glare_core.specs.Calls.{first_that_stands, where_true}
 use Rattle.endpoint.specs.Event.{own_of}
 use Rattle.endpoint.specs.OpensIn.{opens_in}
 use Rattle.rendezvous_world.specs.declared.step.Step.{Step}
-use Rattle.rendezvous_world.specs.declared.step.Step.TheVariants.{End, At, Open, Cancel, Deliver, Bent, Inject, Forge, Tick}
+use Rattle.rendezvous_world.specs.declared.step.Step.TheVariants.{End, At, Open, Cancel, Deliver,
+    Bent, Inject, Forge, Tick}
 use Rattle.rendezvous_world.specs.declared.step.StepFault.{StepFault}
-use Rattle.rendezvous_world.specs.declared.step.StepFault.TheVariants.{NoEnd, NoDatagram, BadStep, Forged}
+use Rattle.rendezvous_world.specs.declared.step.StepFault.TheVariants.{NoEnd, NoDatagram, BadStep,
+    Forged}
 use Rattle.rendezvous_world.specs.Seen.{EndSeen, Seen}
 use Rattle.rendezvous_world.specs.Sent.{Sent, sent_in}
 use Rattle.rendezvous_world.specs.Datagrams.{datagram_of}
@@ -36,8 +39,10 @@ lacks_end w (Tick end) = is_missing w end
 -- ---- a datagram that isn't there
 
 abbrev pub lacks_datagram : Seen → Step → Bool
-lacks_datagram w (Deliver number end from) = is_none (datagram_of (sent_in w.lines) (Deliver number end from))
-lacks_datagram w (Bent number place end from) = is_none (datagram_of (sent_in w.lines) (Bent number place end from))
+lacks_datagram w (Deliver number end from) =
+    is_none (datagram_of (sent_in w.lines) (Deliver number end from))
+lacks_datagram w (Bent number place end from) =
+    is_none (datagram_of (sent_in w.lines) (Bent number place end from))
 lacks_datagram w step = false
 
 -- ---- a step outside its limits
@@ -51,7 +56,8 @@ is_like name cert end = bytes_eq end.name name || bytes_eq (own_of end.setup) (s
 
 abbrev pub is_bad : Seen → Step → Bool
 is_bad w (End name max_peers max_sessions cert) =
-    list_any (is_like name cert) w.ends || nat_le 1024 (length w.ends) || is_outside 1048576 max_peers || is_outside 65536 max_sessions
+    list_any (is_like name cert) w.ends || nat_le 1024 (length w.ends)
+      || is_outside 1048576 max_peers || is_outside 65536 max_sessions
 is_bad w (At moment) = nat_lt moment w.moment
 is_bad w (Inject end from bytes) = nat_lt 2048 (length bytes)
 is_bad w (Forge end from plain) = nat_lt 1164 (length plain)
@@ -63,8 +69,10 @@ abbrev pub same_context : Context → Context → Bool
 same_context Startup Startup = true
 same_context Startup (Session ni nr fp_i fp_r sid_i sid_r to_responder) = false
 same_context (Session ni nr fp_i fp_r sid_i sid_r to_responder) Startup = false
-same_context (Session ni nr fp_i fp_r sid_i sid_r to_responder) (Session mi mr hp_i hp_r tid_i tid_r towards) =
-    bytes_eq ni mi && bytes_eq nr mr && bytes_eq fp_i hp_i && bytes_eq fp_r hp_r && (sid_i == tid_i) && (sid_r == tid_r) && (if to_responder then towards else not towards)
+same_context (Session ni nr fp_i fp_r sid_i sid_r to_responder)
+    (Session mi mr hp_i hp_r tid_i tid_r towards) =
+    bytes_eq ni mi && bytes_eq nr mr && bytes_eq fp_i hp_i && bytes_eq fp_r hp_r && (sid_i == tid_i)
+      && (sid_r == tid_r) && (if to_responder then towards else not towards)
 
 -- the datagram was sent with these bytes in this context
 abbrev pub is_sent : List ℕ → Context → Sent → Bool
@@ -74,20 +82,25 @@ abbrev pub is_unsent_in : Option Context → List ℕ → List Sent → Bool
 is_unsent_in None bytes sent = false
 is_unsent_in (Some context) bytes sent = not (list_any (is_sent bytes context) sent)
 
--- the end with this number opens the datagram in some context, and none of these was sent with its bytes in that context
+-- the end with this number opens the datagram in some context, and none of these was sent with its
+-- bytes in that context
 abbrev pub is_forged_at : List EndSeen → ℕ → List ℕ → List Sent → Bool
 is_forged_at [] who bytes sent = false
-is_forged_at (end ∷ ends) who bytes sent = if who == 0 then is_unsent_in (opens_in end.state bytes) bytes sent else is_forged_at ends (who - 1) bytes sent
+is_forged_at (end ∷ ends) who bytes sent = if who == 0 then
+    is_unsent_in (opens_in end.state bytes) bytes sent else is_forged_at ends (who - 1) bytes sent
 
 abbrev pub is_forged_by : Seen → ℕ → Option (List ℕ) → Bool
 is_forged_by w end None = false
 is_forged_by w end (Some bytes) = is_forged_at w.ends end bytes (sent_in w.lines)
 
 abbrev pub is_forged : Seen → Step → Bool
-is_forged w (Deliver number end from) = is_forged_by w end (datagram_of (sent_in w.lines) (Deliver number end from))
-is_forged w (Bent number place end from) = is_forged_by w end (datagram_of (sent_in w.lines) (Bent number place end from))
+is_forged w (Deliver number end from) = is_forged_by w end
+    (datagram_of (sent_in w.lines) (Deliver number end from))
+is_forged w (Bent number place end from) = is_forged_by w end
+    (datagram_of (sent_in w.lines) (Bent number place end from))
 is_forged w (Inject end from bytes) = is_forged_by w end (Some bytes)
-is_forged w (Forge end from plain) = is_forged_by w end (datagram_of (sent_in w.lines) (Forge end from plain))
+is_forged w (Forge end from plain) = is_forged_by w end
+    (datagram_of (sent_in w.lines) (Forge end from plain))
 is_forged w step = false
 
 -- why the step is refused, but for want of memory

@@ -4,13 +4,17 @@ use Rattle.glare_core.specs.declared.facts.Fact.TheVariants.{Started}
 use Rattle.endpoint.specs.declared.entry.Entry.{Entry}
 use Rattle.endpoint.specs.declared.entry.Entry.TheVariants.{Fact}
 use Rattle.endpoint.specs.declared.answers.Stopped.{Stopped as Stop}
-use Rattle.endpoint.specs.Event.{Call, Open as OpenCall, Cancel as CancelCall, Receive, Tick as TickCall, Answer, Began, Done, NotOpened, Refused as RefusedCall, Stopped, OutOfMemory, Event}
+use Rattle.endpoint.specs.Event.{Call, Open as OpenCall, Cancel as CancelCall, Receive,
+    Tick as TickCall, Answer, Began, Done, NotOpened, Refused as RefusedCall, Stopped, OutOfMemory,
+    Event}
 use Rattle.endpoint.specs.History.{Happened, History}
 use Rattle.rendezvous_world.specs.declared.journal.JournalLine.{JournalLine}
 use Rattle.rendezvous_world.specs.declared.journal.Refused.{Refused}
-use Rattle.rendezvous_world.specs.declared.journal.Refused.TheVariants.{Open as OpenRefused, Call as CallRefused}
+use Rattle.rendezvous_world.specs.declared.journal.Refused.TheVariants.{Open as OpenRefused,
+    Call as CallRefused}
 use Rattle.rendezvous_world.specs.declared.step.Step.{Step}
-use Rattle.rendezvous_world.specs.declared.step.Step.TheVariants.{Open, Cancel, Deliver, Bent, Inject, Forge}
+use Rattle.rendezvous_world.specs.declared.step.Step.TheVariants.{Open, Cancel, Deliver, Bent,
+    Inject, Forge}
 use Rattle.rendezvous_world.specs.Draws.{draws_of}
 use Rattle.rendezvous_world.specs.Seen.{EndSeen, Seen, print_at}
 
@@ -18,14 +22,19 @@ abbrev pub bytes_or_none : Option (List ℕ) → List ℕ
 bytes_or_none None = []
 bytes_or_none (Some bytes) = bytes
 
--- the call that a step makes, on this line and with this datagram; a step that calls no end stands in no journal
+-- the call that a step makes, on this line and with this datagram; a step that calls no end stands
+-- in no journal
 abbrev pub call_of : List EndSeen → ℕ → Option (List ℕ) → Step → Call
 call_of ends line datagram (Open end peer list) = OpenCall (print_at ends peer) list (draws_of line)
 call_of ends line datagram (Cancel end n) = CancelCall n
-call_of ends line datagram (Deliver number end from) = Receive from (bytes_or_none datagram) (draws_of line)
-call_of ends line datagram (Bent number place end from) = Receive from (bytes_or_none datagram) (draws_of line)
-call_of ends line datagram (Inject end from bytes) = Receive from (bytes_or_none datagram) (draws_of line)
-call_of ends line datagram (Forge end from plain) = Receive from (bytes_or_none datagram) (draws_of line)
+call_of ends line datagram (Deliver number end from) =
+    Receive from (bytes_or_none datagram) (draws_of line)
+call_of ends line datagram (Bent number place end from) =
+    Receive from (bytes_or_none datagram) (draws_of line)
+call_of ends line datagram (Inject end from bytes) =
+    Receive from (bytes_or_none datagram) (draws_of line)
+call_of ends line datagram (Forge end from plain) =
+    Receive from (bytes_or_none datagram) (draws_of line)
 call_of ends line datagram step = TickCall (draws_of line)
 
 -- the moment that the call is given; a cancel is given none

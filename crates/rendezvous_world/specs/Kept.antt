@@ -8,7 +8,8 @@ use Rattle.endpoint.specs.Laws.{IsSetup, AreCalls}
 use Rattle.endpoint.specs.History.{log_of, IsHonest, nonces_in}
 use Rattle.rendezvous_world.specs.declared.journal.JournalLine.{JournalLine}
 use Rattle.rendezvous_world.specs.declared.step.Step.{Step}
-use Rattle.rendezvous_world.specs.declared.step.Step.TheVariants.{End, At, Open, Cancel, Deliver, Bent, Inject, Forge, Tick}
+use Rattle.rendezvous_world.specs.declared.step.Step.TheVariants.{End, At, Open, Cancel, Deliver,
+    Bent, Inject, Forge, Tick}
 use Rattle.rendezvous_world.specs.Draws.{two_numbers}
 use Rattle.rendezvous_world.specs.Seen.{EndSeen, Seen, group_secret, setup_at}
 use Rattle.rendezvous_world.specs.History.{history_of}
@@ -22,7 +23,8 @@ pub record IsGiven (setup : Setup) : Type 0 where
 
 -- Ends with the same of these bytes are the same end.
 abbrev pub AreApart : (EndSeen → List ℕ) → List EndSeen → Type 0
-AreApart bytes ends = (a b : ℕ) (x y : EndSeen) → slice_get ends a ≡ Some x → slice_get ends b ≡ Some y → bytes x ≡ bytes y → a ≡ b
+AreApart bytes ends = (a b : ℕ) (x y : EndSeen) → slice_get ends a ≡ Some x →
+    slice_get ends b ≡ Some y → bytes x ≡ bytes y → a ≡ b
 
 abbrev pub name_of : EndSeen → List ℕ
 name_of end = end.name
@@ -66,7 +68,8 @@ pub record IsOfLine (nonce : List ℕ) (lines : List JournalLine) : Type 0 where
 
 pub record IsWorld (w : Seen) : Type 0 where
   -- each end stands for its own log, but that it may have noted a moment which has passed
-  pub stand : (who : ℕ) (end : EndSeen) → slice_get w.ends who ≡ Some end → StandsUpTo w.moment end.setup (log_of who (history_of w)) end.state
+  pub stand : (who : ℕ) (end : EndSeen) → slice_get w.ends who ≡ Some end →
+    StandsUpTo w.moment end.setup (log_of who (history_of w)) end.state
   pub given : (who : ℕ) (end : EndSeen) → slice_get w.ends who ≡ Some end → IsGiven end.setup
   -- different ends have different names and different fingerprints
   pub names : AreApart name_of w.ends

@@ -19,25 +19,32 @@ use Rattle.rendezvous_world.specs.Stepping.{Called, Stepped, StoppedIn, Noted}
 use Rattle.rendezvous_world.specs.Sound.{IsSound, AreBelow}
 use Rattle.rendezvous_world.specs.Kept.{IsWorld}
 
--- Where what each step keeps holds of a world, its history is lawful, honest and fresh, and each end stands for its own log, but that it may keep a later moment.
+-- Where what each step keeps holds of a world, its history is lawful, honest and fresh, and each
+-- end stands for its own log, but that it may keep a later moment.
 abbrev pub EveryWorldIsSound : Type 0
 EveryWorldIsSound = (w : Seen) → IsWorld w → IsSound w
 
--- And its history is agreed: at each moment, what its ends stated of their sessions with each other fits together.
+-- And its history is agreed: at each moment, what its ends stated of their sessions with each other
+-- fits together.
 abbrev pub EveryWorldIsAgreed : Type 0
 EveryWorldIsAgreed = (w : Seen) → IsWorld w → IsAgreed (setup_at w.ends) (history_of w)
 
 -- A step that isn't refused and calls an end keeps it, whatever the end answered.
 abbrev pub EveryCallKeepsAWorld : Type 0
 EveryCallKeepsAWorld =
-    (w : Seen) (number : ℕ) (step : Step) (line : JournalLine) (t : Seen) → IsWorld w → AreBelow w.lines number → number < 2 ^ 32 → step_fault w step ≡ None →
+    (w : Seen) (number : ℕ) (step : Step) (line : JournalLine) (t : Seen) → IsWorld w →
+      AreBelow w.lines number → number < 2 ^ 32 → step_fault w step ≡ None →
     Called w number step line t → AreBytes (bytes_or_none line.datagram) → IsWorld t
 
--- A datagram for which a step is refused as forged would break that the history is honest: taken next by that end, with whatever values, it wasn't sent in the context in which it opens.
+-- A datagram for which a step is refused as forged would break that the history is honest: taken
+-- next by that end, with whatever values, it wasn't sent in the context in which it opens.
 abbrev pub EveryForgedDatagramIsDishonest : Type 0
 EveryForgedDatagramIsDishonest =
-    (w : Seen) (who : ℕ) (end : EndSeen) (bytes : List ℕ) (from : AddressParts) (draws : Draws) → IsWorld w → slice_get w.ends who ≡ Some end →
-    is_forged_at w.ends who bytes (sent_in w.lines) ≡ true → IsHonestCall (setup_at w.ends who) (facts_at who (history_of w)) (history_of w) (Receive from bytes draws) → ⊥
+    (w : Seen) (who : ℕ) (end : EndSeen) (bytes : List ℕ) (from : AddressParts) (draws : Draws) →
+      IsWorld w → slice_get w.ends who ≡ Some end →
+    is_forged_at w.ends who bytes (sent_in w.lines) ≡ true →
+      IsHonestCall (setup_at w.ends who) (facts_at who (history_of w)) (history_of w)
+      (Receive from bytes draws) → ⊥
 
 -- ---- a whole run
 
@@ -50,8 +57,10 @@ abbrev pub IsSized : Seen → Step → Type 0
 IsSized w (End name max_peers max_sessions cert) = IsCertificate cert
 IsSized w step = AreBytes (bytes_or_none (datagram_of (sent_in w.lines) step))
 
--- A step that isn't refused keeps it, whether it was done or found no memory, also where an end has noted the moment alone.
+-- A step that isn't refused keeps it, whether it was done or found no memory, also where an end has
+-- noted the moment alone.
 abbrev pub EveryStepKeepsAWorld : Type 0
 EveryStepKeepsAWorld =
-    (w : Seen) (number : ℕ) (step : Step) (t : Seen) → IsWorld w → AreBelow w.lines number → number < 2 ^ 32 → IsSized w step → step_fault w step ≡ None →
+    (w : Seen) (number : ℕ) (step : Step) (t : Seen) → IsWorld w → AreBelow w.lines number →
+      number < 2 ^ 32 → IsSized w step → step_fault w step ≡ None →
     Stepped w number step t ⊎ (StoppedIn w number step t ⊎ Noted w step t) → IsWorld t

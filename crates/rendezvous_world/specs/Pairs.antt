@@ -7,7 +7,8 @@ use Rattle.rendezvous_world.specs.Seen.{EndSeen}
 -- with how many of these an end keeps one
 abbrev pub kept_with : EndSeen → List EndSeen → ℕ
 kept_with end [] = 0
-kept_with end (other ∷ others) = if keeps end.state (own_of other.setup) then 1 + kept_with end others else kept_with end others
+kept_with end (other ∷ others) = if keeps end.state (own_of other.setup) then
+    1 + kept_with end others else kept_with end others
 
 -- how many pairs of an end of these, and of another of all
 abbrev pub kept_pairs : List EndSeen → List EndSeen → ℕ

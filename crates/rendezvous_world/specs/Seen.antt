@@ -1,4 +1,5 @@
--- What a world is: its moment, its ends by their numbers, and the lines of its journal, the oldest first.
+-- What a world is: its moment, its ends by their numbers, and the lines of its journal, the oldest
+-- first.
 use Rattle.std.specs.Prelude.{ℕ, false, zero, suc, List, [], ◌∷◌, replicate, refl}
 use Rattle.std.specs.Coded.{Coded, code_by, coded×, coded_ℕ, coded_list}
 use Rattle.endpoint.specs.declared.config.Config.{Config}
@@ -24,7 +25,8 @@ group_secret = replicate 32 0
 
 -- what an end of nobody would be given
 abbrev pub nobody : Setup
-nobody = record { config = record { max_peers = 0; max_sessions = 0; introduces = false }; cert = []; secret = group_secret; cookie_secret = [] }
+nobody = record { config = record { max_peers = 0; max_sessions = 0; introduces = false };
+    cert = []; secret = group_secret; cookie_secret = [] }
 
 -- what the end with this number was given
 abbrev pub setup_at : List EndSeen → ℕ → Setup
@@ -40,15 +42,23 @@ print_at ends who = own_of (setup_at ends who)
 
 abbrev pub setup_code : Coded Config → Coded Setup
 setup_code config =
-    code_by (Config × (List ℕ × (List ℕ × List ℕ))) (coded× config (coded× (coded_list coded_ℕ) (coded× (coded_list coded_ℕ) (coded_list coded_ℕ))))
-    (λ s. (s.config, (s.cert, (s.secret, s.cookie_secret)))) (λ p. record { config = p.0; cert = p.1.0; secret = p.1.1.0; cookie_secret = p.1.1.1 }) (λ _. refl)
+    code_by (Config × (List ℕ × (List ℕ × List ℕ)))
+      (coded× config (coded× (coded_list coded_ℕ)
+      (coded× (coded_list coded_ℕ) (coded_list coded_ℕ))))
+    (λ s. (s.config, (s.cert, (s.secret, s.cookie_secret))))
+      (λ p. record { config = p.0; cert = p.1.0; secret = p.1.1.0; cookie_secret = p.1.1.1 })
+      (λ _. refl)
 
 abbrev pub end_code : Coded Config → Coded State → Coded EndSeen
 end_code config state =
-    code_by (List ℕ × (Setup × State)) (coded× (coded_list coded_ℕ) (coded× (setup_code config) state))
-    (λ e. (e.name, (e.setup, e.state))) (λ p. record { name = p.0; setup = p.1.0; state = p.1.1 }) (λ _. refl)
+    code_by (List ℕ ×
+      (Setup × State)) (coded× (coded_list coded_ℕ) (coded× (setup_code config) state))
+    (λ e. (e.name, (e.setup, e.state))) (λ p. record { name = p.0; setup = p.1.0; state = p.1.1 })
+      (λ _. refl)
 
 abbrev pub seen_code : Coded Config → Coded State → Coded JournalLine → Coded Seen
 seen_code config state line =
-    code_by (ℕ × (List EndSeen × List JournalLine)) (coded× coded_ℕ (coded× (coded_list (end_code config state)) (coded_list line)))
-    (λ w. (w.moment, (w.ends, w.lines))) (λ p. record { moment = p.0; ends = p.1.0; lines = p.1.1 }) (λ _. refl)
+    code_by (ℕ × (List EndSeen × List JournalLine))
+      (coded× coded_ℕ (coded× (coded_list (end_code config state)) (coded_list line)))
+    (λ w. (w.moment, (w.ends, w.lines))) (λ p. record { moment = p.0; ends = p.1.0; lines = p.1.1 })
+      (λ _. refl)

@@ -21,7 +21,8 @@ abbrev pub sent_among : ℕ → List Entry → List Sent
 sent_among by [] = []
 sent_among by (Fact fact ∷ rest) = sent_among by rest
 sent_among by (Discard place cause ∷ rest) = sent_among by rest
-sent_among by (Out to datagram context ∷ rest) = record { by = by; to = to; datagram = datagram; context = context } ∷ sent_among by rest
+sent_among by (Out to datagram context ∷ rest) =
+    record { by = by; to = to; datagram = datagram; context = context } ∷ sent_among by rest
 
 abbrev pub sent_in : List JournalLine → List Sent
 sent_in [] = []

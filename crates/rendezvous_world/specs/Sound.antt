@@ -1,4 +1,5 @@
--- What holds of a world at any moment: its history is lawful, honest and fresh, and each end stands for its own log, but that it may keep a later moment.
+-- What holds of a world at any moment: its history is lawful, honest and fresh, and each end stands
+-- for its own log, but that it may keep a later moment.
 use Rattle.std.specs.Prelude.{ℕ, ◌≡◌, ◌<◌, ◌≤◌, List, slice_get, Some}
 use Rattle.std.specs.List.{AllByRecursion}
 use Rattle.endpoint.specs.Event.{Setup, Event}
@@ -10,9 +11,13 @@ use Rattle.rendezvous_world.specs.Seen.{EndSeen, Seen, setup_at}
 use Rattle.rendezvous_world.specs.History.{history_of}
 use Rattle.rendezvous_world.specs.Stepping.{IsAnswered}
 
--- An end stands for a log but for the moment that it keeps, which may be raised to one up to this moment.
+-- An end stands for a log but for the moment that it keeps, which may be raised to one up to this
+-- moment.
 --
--- An end keeps the largest moment that it was given, of a refused call too. An open that finds no memory has no line in the journal, so the end may keep a later moment than its log tells. It keeps nothing else of that open, and the next call that is given a moment, which is no earlier, makes the end keep what its log tells.
+-- An end keeps the largest moment that it was given, of a refused call too. An open that finds no
+-- memory has no line in the journal, so the end may keep a later moment than its log tells. It
+-- keeps nothing else of that open, and the next call that is given a moment, which is no earlier,
+-- makes the end keep what its log tells.
 pub record StandsUpTo (last : ℕ) (setup : Setup) (log : List Event) (s : State) : Type 0 where
   -- the state that stands for the log
   pub told : State
@@ -24,7 +29,8 @@ pub record StandsUpTo (last : ℕ) (setup : Setup) (log : List Event) (s : State
 
 pub record IsSound (w : Seen) : Type 0 where
   -- each end stands for its own log, but that it may have noted a moment which has passed
-  pub stand : (who : ℕ) (end : EndSeen) → slice_get w.ends who ≡ Some end → StandsUpTo w.moment end.setup (log_of who (history_of w)) end.state
+  pub stand : (who : ℕ) (end : EndSeen) → slice_get w.ends who ≡ Some end →
+    StandsUpTo w.moment end.setup (log_of who (history_of w)) end.state
   pub lawful : AreLawful (setup_at w.ends) (history_of w)
   pub honest : IsHonest (setup_at w.ends) (history_of w)
   pub fresh : IsFresh (setup_at w.ends) (history_of w)

@@ -1,5 +1,6 @@
 -- What a step leaves.
-use Rattle.std.specs.Prelude.{ℕ, ◌≡◌, ◌≢◌, ◌-◌, ◌==◌, true, false, List, [], ◌∷◌, ◌++◌, Option, Some, None, IfSome, is_some, slice_get, if◌then◌else◌}
+use Rattle.std.specs.Prelude.{ℕ, ◌≡◌, ◌≢◌, ◌-◌, ◌==◌, true, false, List, [], ◌∷◌, ◌++◌, Option,
+    Some, None, IfSome, is_some, slice_get, if◌then◌else◌}
 use Rattle.sha2.specs.Sha256.{sha256}
 use Rattle.endpoint.specs.Event.{Setup}
 use Rattle.endpoint.specs.State.{State, fresh, at_moment}
@@ -7,12 +8,14 @@ use Rattle.endpoint.specs.Due.{open_refusal}
 use Rattle.endpoint.specs.Log.{Step as StepOf, not_taken}
 use Rattle.rendezvous_world.specs.declared.journal.JournalLine.{JournalLine}
 use Rattle.rendezvous_world.specs.declared.journal.Refused.{Refused}
-use Rattle.rendezvous_world.specs.declared.journal.Refused.TheVariants.{Open as OpenRefused, Call as CallRefused}
+use Rattle.rendezvous_world.specs.declared.journal.Refused.TheVariants.{Open as OpenRefused,
+    Call as CallRefused}
 use Rattle.endpoint.specs.declared.answers.OpenRefusal.TheVariants.{Memory as NoMemoryToOpen}
 use Rattle.endpoint.specs.declared.answers.CallRefusal.TheVariants.{Memory as NoMemoryToCall}
 use Rattle.endpoint.specs.declared.answers.Stopped.{Stopped as Stop}
 use Rattle.rendezvous_world.specs.declared.step.Step.{Step}
-use Rattle.rendezvous_world.specs.declared.step.Step.TheVariants.{End, At, Open, Cancel, Deliver, Bent, Inject, Forge, Tick}
+use Rattle.rendezvous_world.specs.declared.step.Step.TheVariants.{End, At, Open, Cancel, Deliver,
+    Bent, Inject, Forge, Tick}
 use Rattle.rendezvous_world.specs.Seen.{EndSeen, Seen, group_secret, print_at}
 use Rattle.rendezvous_world.specs.Sent.{sent_in}
 use Rattle.rendezvous_world.specs.Datagrams.{datagram_of}
@@ -42,7 +45,8 @@ in_state end state = record { name = end.name; setup = end.setup; state = state 
 -- the ends, of which the one with this number is now in this state
 abbrev pub with_state : List EndSeen → ℕ → State → List EndSeen
 with_state [] who state = []
-with_state (end ∷ ends) who state = if who == 0 then in_state end state ∷ ends else end ∷ with_state ends (who - 1) state
+with_state (end ∷ ends) who state = if who == 0 then in_state end state ∷ ends
+    else end ∷ with_state ends (who - 1) state
 
 -- the end that a step calls; of others it says nothing
 abbrev pub called_by : Step → ℕ
@@ -61,7 +65,9 @@ pub record IsDoneOrRefused (refused : Option Refused) : Type 0 where
   pub opened : refused ≢ Some (OpenRefused NoMemoryToOpen)
   pub called : refused ≢ Some (CallRefused NoMemoryToCall)
 
--- What the line of a step can tell of its answer: an open and a cancel are done or refused, and the others are done or stopped. A call that is refused for want of memory has no line, and a new end and a new moment call no end and have none.
+-- What the line of a step can tell of its answer: an open and a cancel are done or refused, and the
+-- others are done or stopped. A call that is refused for want of memory has no line, and a new end
+-- and a new moment call no end and have none.
 abbrev pub HasItsAnswer : Step → Option Refused → Option Stop → Type 0
 HasItsAnswer (End name max_peers max_sessions cert) refused stopped = ⊥
 HasItsAnswer (At moment) refused stopped = ⊥
@@ -71,7 +77,8 @@ HasItsAnswer (Deliver number end from) refused stopped = refused ≡ None
 HasItsAnswer (Bent number place end from) refused stopped = refused ≡ None
 HasItsAnswer (Inject end from bytes) refused stopped = refused ≡ None
 HasItsAnswer (Forge end from plain) refused stopped = refused ≡ None
-HasItsAnswer (Tick end) refused stopped = (refused ≡ None) × IfSome stopped (λ stop. stop ≡ not_taken)
+HasItsAnswer (Tick end) refused stopped = (refused ≡ None) ×
+    IfSome stopped (λ stop. stop ≡ not_taken)
 
 -- The line tells of its answer what its step can answer.
 abbrev pub IsAnswered : JournalLine → Type 0
@@ -86,8 +93,10 @@ pub record IsLineOf (w : Seen) (number : ℕ) (done : Step) (told : JournalLine)
   pub datagram : told.datagram ≡ datagram_of (sent_in w.lines) done
   pub answer : HasItsAnswer done told.refused told.stopped
 
--- The step called an end: the journal has one more line, by whose event that end came from its state to the state that it is in now.
-pub record Called (w : Seen) (number : ℕ) (step : Step) (line : JournalLine) (t : Seen) : Type 0 where
+-- The step called an end: the journal has one more line, by whose event that end came from its
+-- state to the state that it is in now.
+pub record Called (w : Seen) (number : ℕ) (step : Step) (line : JournalLine) (t : Seen)
+    : Type 0 where
   pub is_line : IsLineOf w number step line
   pub end : EndSeen
   pub is_end : slice_get w.ends line.end ≡ Some end
@@ -99,9 +108,11 @@ pub record Called (w : Seen) (number : ℕ) (step : Step) (line : JournalLine) (
 
 -- The step was done, and memory was found for all of it.
 abbrev pub Stepped : Seen → ℕ → Step → Seen → Type 0
-Stepped w number (End name max_peers max_sessions cert) t = t ≡ with_end w (new_end name (new_setup max_peers max_sessions cert))
+Stepped w number (End name max_peers max_sessions cert) t =
+    t ≡ with_end w (new_end name (new_setup max_peers max_sessions cert))
 Stepped w number (At moment) t = t ≡ with_moment w moment
-Stepped w number step t = (line : JournalLine) × (is_some line.stopped ≡ false) × Called w number step line t
+Stepped w number step t = (line : JournalLine) × (is_some line.stopped ≡ false) ×
+    Called w number step line t
 
 -- A datagram or a tick found no memory; the journal has what was done.
 pub record StoppedIn (w : Seen) (number : ℕ) (step : Step) (t : Seen) : Type 0 where
@@ -114,7 +125,8 @@ abbrev pub MayOpen : List EndSeen → State → Step → Type 0
 MayOpen ends s (Open end peer list) = open_refusal s (print_at ends peer) list ≡ None
 MayOpen ends s step = ⊥
 
--- An open found no memory: all is as before, but that the end that was called keeps the moment of the world, where it kept an earlier one.
+-- An open found no memory: all is as before, but that the end that was called keeps the moment of
+-- the world, where it kept an earlier one.
 pub record Noted (w : Seen) (step : Step) (t : Seen) : Type 0 where
   pub end : EndSeen
   pub is_end : slice_get w.ends (called_by step) ≡ Some end

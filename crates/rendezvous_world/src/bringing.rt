@@ -3,7 +3,8 @@
 ghost use Rattle.std.specs.Prelude.{◌≡◌, ◌<◌, ◌≤◌, ◌^◌, IfOk, Some, length};
 ghost use Rattle.endpoint.specs.Laws.{AreBytes};
 ghost use Rattle.rendezvous_world.specs.Datagrams.{nth};
-ghost use Rattle.rendezvous_world.specs.Entering.{IsBringing, IsDone, IsFetched, WasSentIn, is_same};
+ghost use Rattle.rendezvous_world.specs.Entering.{IsBringing, IsDone, IsFetched, WasSentIn,
+    is_same};
 ghost use Rattle.rendezvous_world.specs.Faults.{is_forged_by};
 ghost use Rattle.rendezvous_world.specs.Sent.{sent_in};
 ghost use Rattle.rendezvous_world.specs.Sound.{AreBelow};
@@ -65,7 +66,8 @@ impl World {
         }
     }
 
-    /// Whether a datagram that reaches an end is forged. One that was sent in the context that its session ID names there isn't, whatever its tag; only of others the tag is computed.
+    /// Whether a datagram that reaches an end is forged. One that was sent in the context that its
+    /// session ID names there isn't, whatever its tag; only of others the tag is computed.
     fn is_forged(&self, end: usize, bytes: &[u8], known: &Option<Context>) -> bool
         requires there { end < length self.now.ends }
         requires short { length bytes.now ≤ 2048 }

@@ -2,11 +2,13 @@
 
 ghost use Rattle.std.specs.Prelude.{◌≡◌, ◌≢◌, ◌<◌, ◌≤◌, ◌^◌, [], false, length, IfSome, None, true};
 ghost use Rattle.endpoint.specs.Due.{open_refusal};
-ghost use Rattle.endpoint.specs.Event.{Cancel as CancelCall, Open as OpenCall, Receive, Tick as TickCall};
+ghost use Rattle.endpoint.specs.Event.{Cancel as CancelCall, Open as OpenCall, Receive,
+    Tick as TickCall};
 ghost use Rattle.endpoint.specs.Log.{Step as StepOf, not_taken};
 ghost use Rattle.endpoint.specs.State.{at_moment};
 ghost use Rattle.rendezvous_world.specs.Entering.{CallsAnEnd, IsUndone, event_by};
-ghost use Rattle.rendezvous_world.specs.History.{answer_to_cancel, answer_to_datagram, answer_to_open, answer_to_tick};
+ghost use Rattle.rendezvous_world.specs.History.{answer_to_cancel, answer_to_datagram,
+    answer_to_open, answer_to_tick};
 ghost use Rattle.rendezvous_world.specs.Stepping.{HasItsAnswer, IsDoneOrRefused};
 
 use crate::draws::draws_of;
@@ -23,11 +25,13 @@ pub(crate) struct Outcome {
     pub(crate) refused: Option<Refused>,
     /// How far it came, where it found no memory in the middle.
     pub(crate) stopped: Option<Stopped>,
-    /// It was refused for want of memory: it added nothing, and the end is as before, but that an open has noted the moment.
+    /// It was refused for want of memory: it added nothing, and the end is as before, but that an
+    /// open has noted the moment.
     pub(crate) undone: bool,
 }
 
-/// Makes the call of the step of a line at a moment. The fingerprint is that of the peer of an open, and the bytes those of the datagram that the step brings.
+/// Makes the call of the step of a line at a moment. The fingerprint is that of the peer of an
+/// open, and the bytes those of the datagram that the step brings.
 pub(crate) fn call_end(
     endpoint: &mut Endpoint,
     print: &[u8; 32],
@@ -41,9 +45,12 @@ pub(crate) fn call_end(
     requires fits { line < 2 ^ 32 }
     requires short { length bytes.old ≤ 2048 }
     requires empty { out.old.entries ≡ [] }
-    ensures event { StepOf endpoint.old (event_by print.now line moment step.now bytes.old result.refused result.stopped out.new.entries) endpoint.new }
+    ensures event
+        { StepOf endpoint.old (event_by print.now line moment step.now bytes.old result.refused
+        result.stopped out.new.entries) endpoint.new }
     ensures answer { result.undone ≡ false → HasItsAnswer step.now result.refused result.stopped }
-    ensures undone { result.undone ≡ true → IsUndone print.now moment step.now endpoint.old endpoint.new }
+    ensures undone { result.undone ≡ true →
+        IsUndone print.now moment step.now endpoint.old endpoint.new }
 {
     let draws = draws_of(line);
     match step {
@@ -69,7 +76,10 @@ fn open(
     out: &mut Outbox,
 ) -> Outcome
     requires { out.old.entries ≡ [] }
-    ensures event { StepOf endpoint.old (record { moment = moment; call = OpenCall print.now list.now draws.now; answer = answer_to_open result.refused out.new.entries; entries = out.new.entries }) endpoint.new }
+    ensures event
+        { StepOf endpoint.old (record { moment = moment;
+        call = OpenCall print.now list.now draws.now; answer =
+        answer_to_open result.refused out.new.entries; entries = out.new.entries }) endpoint.new }
     ensures stopped { result.stopped ≡ None }
     ensures answer { result.undone ≡ false → IsDoneOrRefused result.refused }
     ensures refused { result.undone ≡ true → open_refusal endpoint.old print.now list.now ≡ None }
@@ -106,7 +116,9 @@ fn found_none_to_open(refusal: OpenRefusal) -> bool
 /// Gives up the attempt with this number.
 fn cancel(endpoint: &mut Endpoint, n: u64, out: &mut Outbox) -> Outcome
     requires { out.old.entries ≡ [] }
-    ensures event { StepOf endpoint.old (record { moment = 0; call = CancelCall n; answer = answer_to_cancel result.refused; entries = out.new.entries }) endpoint.new }
+    ensures event
+        { StepOf endpoint.old (record { moment = 0; call = CancelCall n;
+        answer = answer_to_cancel result.refused; entries = out.new.entries }) endpoint.new }
     ensures stopped { result.stopped ≡ None }
     ensures answer { result.undone ≡ false → IsDoneOrRefused result.refused }
     ensures undone { result.undone ≡ true → endpoint.new ≡ endpoint.old }
@@ -147,7 +159,10 @@ fn receive(
 ) -> Outcome
     requires short { length bytes.old ≤ 2048 }
     requires empty { out.old.entries ≡ [] }
-    ensures event { StepOf endpoint.old (record { moment = moment; call = Receive from.now bytes.old draws.now; answer = answer_to_datagram result.stopped; entries = out.new.entries }) endpoint.new }
+    ensures event
+        { StepOf endpoint.old (record { moment = moment;
+        call = Receive from.now bytes.old draws.now; answer = answer_to_datagram result.stopped;
+        entries = out.new.entries }) endpoint.new }
     ensures refused { result.refused ≡ None }
     ensures undone { result.undone ≡ false }
 {
@@ -168,7 +183,9 @@ fn receive(
 /// Lets an end do what is due.
 fn tick(endpoint: &mut Endpoint, moment: u64, draws: &Draws, out: &mut Outbox) -> Outcome
     requires { out.old.entries ≡ [] }
-    ensures event { StepOf endpoint.old (record { moment = moment; call = TickCall draws.now; answer = answer_to_tick result.stopped; entries = out.new.entries }) endpoint.new }
+    ensures event
+        { StepOf endpoint.old (record { moment = moment; call = TickCall draws.now;
+        answer = answer_to_tick result.stopped; entries = out.new.entries }) endpoint.new }
     ensures refused { result.refused ≡ None }
     ensures taken { IfSome result.stopped (λ stop. stop ≡ not_taken) }
     ensures undone { result.undone ≡ false }

@@ -55,7 +55,9 @@ fn answered(is_stopped: bool) -> Result<(), StepFault>
 }
 
 impl World {
-    /// Makes the call of a step that nothing refuses, and enters its line in the journal. All that can fail before the call comes before it. A call that is refused for want of memory has no line.
+    /// Makes the call of a step that nothing refuses, and enters its line in the journal. All that
+    /// can fail before the call comes before it. A call that is refused for want of memory has no
+    /// line.
     pub(crate) fn enter(
         &mut self,
         line: u64,

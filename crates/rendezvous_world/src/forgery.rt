@@ -107,7 +107,8 @@ fn forgers_keys() -> Keys
     Keys::of(&GROUP_SECRET, &Context::Startup)
 }
 
-/// Fills a buffer, which is as long as the datagram, with one of this plain packet that nobody sent.
+/// Fills a buffer, which is as long as the datagram, with one of this plain packet that nobody
+/// sent.
 pub(crate) fn forge(buffer: &mut [u8], plain: &[u8])
     requires { length buffer.old ≡ 36 + length plain.now }
     ensures { buffer.new ≡ forged plain.now }

@@ -7,7 +7,8 @@ use endpoint::{CallRefusal, OpenRefusal, Outbox, Stopped};
 use rtmfp_base::Message;
 use std::marker::Model;
 
-/// Why an end refused a call. It is kept with the line, and no fault of the step. A call that is refused for want of memory has no line.
+/// Why an end refused a call. It is kept with the line, and no fault of the step. A call that is
+/// refused for want of memory has no line.
 #[derive(Clone, Copy, Debug, PartialEq, Eq)]
 pub enum Refused {
     Open(OpenRefusal),
@@ -28,7 +29,8 @@ pub struct JournalLine {
     pub datagram: Option<Message>,
     /// Why the end refused the call.
     pub refused: Option<Refused>,
-    /// How far a datagram was gone through that found no memory. A tick that found none has `false` and 0.
+    /// How far a datagram was gone through that found no memory. A tick that found none has `false`
+    /// and 0.
     pub stopped: Option<Stopped>,
     /// What the call added.
     pub out: Outbox,
@@ -50,7 +52,8 @@ impl Model for Journal {
 }
 
 impl Journal {
-    /// One line for each step that called an end, refused calls too. A call that is refused for want of memory has none.
+    /// One line for each step that called an end, refused calls too. A call that is refused for
+    /// want of memory has none.
     pub fn lines(&self) -> &[JournalLine]
         ensures { result.now ≡ self.now }
     {

@@ -1,4 +1,6 @@
-//! Many ends in one run: each step of a script calls one of them, and the journal keeps what it did. What no end can do to another is refused: a datagram that opens and was never sent is forged.
+//! Many ends in one run: each step of a script calls one of them, and the journal keeps what it
+//! did. What no end can do to another is refused: a datagram that opens and was never sent is
+//! forged.
 #![tactic(auto)]
 
 mod bringing;

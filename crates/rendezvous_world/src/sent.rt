@@ -1,6 +1,7 @@
 //! The datagrams that ends sent, in their order over the whole run.
 
-ghost use Rattle.std.specs.Prelude.{◌≡◌, ◌-◌, ◌<◌, ◌≤◌, ℕ, IfSome, false, get_or, length, nat_lt, true};
+ghost use Rattle.std.specs.Prelude.{◌≡◌, ◌-◌, ◌<◌, ◌≤◌, ℕ, IfSome, false, get_or, length, nat_lt,
+    true};
 ghost use Rattle.std.specs.List.{AllWithin};
 ghost use Rattle.std.specs.List.Sorted.{IsPartitionedBy};
 ghost use Rattle.rendezvous_world.specs.Datagrams.{nth};
@@ -80,7 +81,8 @@ fn count_below(starts: &[u128], number: u128) -> usize
     requires { IsPartitionedBy (λ (s : ℕ). nat_lt s number) starts.now }
     ensures inside { result ≤ length starts.now }
     ensures before { AllWithin (λ (s : ℕ). nat_lt s number ≡ true) starts.now 0 result }
-    ensures after { AllWithin (λ (s : ℕ). nat_lt s number ≡ false) starts.now result (length starts.now) }
+    ensures after { AllWithin (λ (s : ℕ). nat_lt s number
+        ≡ false) starts.now result (length starts.now) }
 {
     starts.partition_point(|start| *start < number)
 }

@@ -97,7 +97,8 @@ pub enum Step {
         from: Address,
         bytes: Message,
     },
-    /// This plain packet of at most 1,164 bytes reaches an end, sealed for startup under session ID 0 by somebody who numbers it with 16 bytes 0xff.
+    /// This plain packet of at most 1,164 bytes reaches an end, sealed for startup under session ID
+    /// 0 by somebody who numbers it with 16 bytes 0xff.
     Forge {
         end: usize,
         from: Address,
@@ -163,7 +164,8 @@ impl Step {
         })
     }
 
-    /// The end whose fingerprint the call of the step is given; for a call that is given none, the end that is called.
+    /// The end whose fingerprint the call of the step is given; for a call that is given none, the
+    /// end that is called.
     pub(crate) fn peer(&self) -> usize
         ensures { result ≡ peer_of self.now }
     {
@@ -181,7 +183,8 @@ impl Step {
     }
 }
 
-/// Why a step is refused. Where several causes stand, the answer is the first of them in this order.
+/// Why a step is refused. Where several causes stand, the answer is the first of them in this
+/// order.
 #[derive(Clone, Copy, Debug, PartialEq, Eq, Error)]
 pub enum StepFault {
     /// An end that the step names isn't there.
@@ -190,10 +193,12 @@ pub enum StepFault {
     /// The datagram, or the place in it, isn't there.
     #[error("no such datagram")]
     NoDatagram,
-    /// The step is outside its limits, or the moment goes back, or the name or the fingerprint of an end is there already.
+    /// The step is outside its limits, or the moment goes back, or the name or the fingerprint of
+    /// an end is there already.
     #[error("bad step")]
     BadStep,
-    /// The datagram opens at the end that it reaches, and no earlier sent datagram has its bytes and the context in which it opens.
+    /// The datagram opens at the end that it reaches, and no earlier sent datagram has its bytes
+    /// and the context in which it opens.
     #[error("forged datagram")]
     Forged,
     #[error("out of memory")]

@@ -60,7 +60,9 @@ fn certified_print(cert: &Certificate) -> [u8; 32]
 impl World {
     /// Whether a new end is outside its limits, or like another.
     fn is_bad_end(&self, name: &Name, print: &[u8; 32], max_peers: u32, max_sessions: u32) -> bool
-        ensures { result ≡ (list_any (is_like_named name.now print.now) (map named_of self.now.ends) || nat_le 1024 (length self.now.ends) || is_outside 1048576 max_peers || is_outside 65536 max_sessions) }
+        ensures { result ≡ (list_any (is_like_named name.now print.now) (map named_of self.now.ends)
+            || nat_le 1024 (length self.now.ends) || is_outside 1048576 max_peers
+            || is_outside 65536 max_sessions) }
     {
         has_like(self.named(), name, print)
             || self.count() >= MOST_ENDS
@@ -84,7 +86,8 @@ impl World {
         max_sessions: u32,
         cert: &Certificate,
     ) -> Result<(), StepFault>
-        ensures { IsDone self.old line (Step.End name.now max_peers max_sessions cert.now) result self.new }
+        ensures { IsDone self.old line (Step.End name.now max_peers max_sessions cert.now) result
+            self.new }
     {
         let print = certified_print(cert);
         if self.is_bad_end(name, &print, max_peers, max_sessions) {

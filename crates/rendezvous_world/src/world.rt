@@ -11,7 +11,8 @@ use std::marker::Model;
 
 /// Many ends in one run, and what each step did.
 ///
-/// Contracts see the moment, each end with its name, what it was given and what it keeps, and the lines of the journal.
+/// Contracts see the moment, each end with its name, what it was given and what it keeps, and the
+/// lines of the journal.
 #[derive(Drop)]
 pub struct World {
     pub(crate) alloc: Global,
@@ -34,17 +35,20 @@ impl Model for World {
 
     ghost Value = { Seen };
 
-    ghost coded = { seen_code config_type.the_row.coded endpoint_type.the_row.coded line_type.the_row.coded };
+    ghost coded =
+        { seen_code config_type.the_row.coded endpoint_type.the_row.coded line_type.the_row.coded };
 
     ghost use Rattle.rendezvous_world.specs.Inside.{world_seen, IsKept};
 
     ghost view = { λ w. world_seen w.moment w.ends.items w.journal };
 
-    ghost invariant = { λ w. IsKept w.moment w.ends.items w.named.items w.journal w.starts.items w.sent };
+    ghost invariant =
+        { λ w. IsKept w.moment w.ends.items w.named.items w.journal w.starts.items w.sent };
 }
 
 impl World {
-    ghost use Rattle.std.specs.Prelude.{◌≡◌, ◌⊎◌, ◌<◌, ◌^◌, ◌-◌, [], IfErr, IfNone, IfSome, IsSome, OnErr, OnOk, length, map, min, Err};
+    ghost use Rattle.std.specs.Prelude.{◌≡◌, ◌⊎◌, ◌<◌, ◌^◌, ◌-◌, [], IfErr, IfNone, IfSome, IsSome,
+        OnErr, OnOk, length, map, min, Err};
     ghost use Rattle.rendezvous_world.specs.Datagrams.{nth};
     ghost use Rattle.rendezvous_world.specs.Entering.{IsDone};
     ghost use Rattle.rendezvous_world.specs.Faults.{step_fault};
@@ -75,16 +79,22 @@ impl World {
         }
     }
 
-    /// Takes one step, which stands on this line of its script. `StepFault` has the reasons for which it is refused, in their order; a call that an end refuses is none.
+    /// Takes one step, which stands on this line of its script. `StepFault` has the reasons for
+    /// which it is refused, in their order; a call that an end refuses is none.
     ///
-    /// Where no memory is found, all is as before. But a datagram or a tick that had begun has its line in the journal, with what it added, and an end that was to open an attempt keeps the moment.
+    /// Where no memory is found, all is as before. But a datagram or a tick that had begun has its
+    /// line in the journal, with what it added, and an end that was to open an attempt keeps the
+    /// moment.
     pub fn step(&mut self, line: u64, step: &Step) -> Result<(), StepFault>
         requires above { AreBelow self.old.lines line }
         requires fits { line < 2 ^ 32 }
         ensures ok { OnOk result (Stepped self.old line step.now self.new) }
-        ensures refused { IfSome (step_fault self.old step.now) (λ fault. (result ≡ Err fault) × (self.new ≡ self.old)) }
-        ensures memory { IfNone (step_fault self.old step.now) (IfErr result (λ fault. fault ≡ StepFault.Memory)) }
-        ensures err { OnErr result ((self.new ≡ self.old) ⊎ (StoppedIn self.old line step.now self.new ⊎ Noted self.old step.now self.new)) }
+        ensures refused { IfSome (step_fault self.old step.now) (λ fault. (result ≡ Err fault) ×
+            (self.new ≡ self.old)) }
+        ensures memory { IfNone (step_fault self.old step.now)
+            (IfErr result (λ fault. fault ≡ StepFault.Memory)) }
+        ensures err { OnErr result ((self.new ≡ self.old) ⊎
+            (StoppedIn self.old line step.now self.new ⊎ Noted self.old step.now self.new)) }
 
         // The history of the journal is lawful, honest and fresh, and hence agreed.
         ensures sound { IsSound self.new }
@@ -132,7 +142,8 @@ impl World {
         }
     }
 
-    /// What the steps did. At any moment the history of the journal is lawful, honest and fresh, and hence agreed.
+    /// What the steps did. At any moment the history of the journal is lawful, honest and fresh,
+    /// and hence agreed.
     pub fn journal(&self) -> &Journal
         ensures lines { result.now ≡ self.now.lines }
         ensures sound { IsSound self.now }
@@ -156,7 +167,8 @@ impl World {
         self.sent.min(u128::from(u64::MAX)) as u64
     }
 
-    /// The number of the end that sent a datagram, and where it went. The datagrams are counted from 1.
+    /// The number of the end that sent a datagram, and where it went. The datagrams are counted
+    /// from 1.
     pub fn sent(&self, number: u64) -> Option<(usize, Address)>
         ensures { result ≡ passing (nth (sent_in self.now.lines) number) }
     {

@@ -3,8 +3,10 @@ use Rattle.std.specs.Prelude.{◌≡◌, ℕ, ◌==◌, if◌then◌else◌, Boo
 use Rattle.rtmfp_forms.specs.Address.{AddressParts}
 use Rattle.rtmfp_chunks.specs.declared.view.ChunkView.{ChunkView}
 use Rattle.rtmfp_chunks.specs.declared.view.ChunkView.TheVariants as view
-use Rattle.rtmfp_chunks.specs.Fields.{Counted, Number, SessionId, More, Place, Parts, Then, Rest, Places, Ignored, PartsSpell}
-use Rattle.rtmfp_chunks.specs.Fields.{Row, ThenRow, RestRow, PlacesRow, IgnoredRow, CountedForm, NumberForm, SessionIdForm, MoreForm, PlaceForm, RowBreaks}
+use Rattle.rtmfp_chunks.specs.Fields.{Counted, Number, SessionId, More, Place, Parts, Then, Rest,
+    Places, Ignored, PartsSpell}
+use Rattle.rtmfp_chunks.specs.Fields.{Row, ThenRow, RestRow, PlacesRow, IgnoredRow, CountedForm,
+    NumberForm, SessionIdForm, MoreForm, PlaceForm, RowBreaks}
 
 -- a chunk as contracts see it; the list of a redirect is its addresses' bytes
 pub data Chunk : Type 0 where
@@ -28,7 +30,8 @@ chunk_of (view.FIHello epd reply tag) = FIHello epd.now reply tag.now
 chunk_of (view.RHello tag cookie cert) = RHello tag.now cookie.now cert.now
 chunk_of (view.Redirect tag list) = Redirect tag.now list.now
 chunk_of (view.CookieChange old new) = CookieChange old.now new.now
-chunk_of (view.IIKeying near cookie cert part sign) = IIKeying near cookie.now cert.now part.now sign.now
+chunk_of (view.IIKeying near cookie cert part sign) =
+    IIKeying near cookie.now cert.now part.now sign.now
 chunk_of (view.RIKeying near part sign) = RIKeying near part.now sign.now
 chunk_of (view.Ping bytes) = Ping bytes.now
 chunk_of (view.PingReply bytes) = PingReply bytes.now
@@ -59,13 +62,15 @@ parts_of (RHello tag cookie cert) = Then (Counted tag) (Then (Counted cookie) (R
 parts_of (Redirect tag list) = Then (Counted tag) (Places list)
 parts_of (CookieChange old new) = Then (Counted old) (Rest new)
 parts_of (IIKeying near cookie cert part sign) =
-    Then (SessionId near) (Then (Counted cookie) (Then (Counted cert) (Then (Counted part) (Rest sign))))
+    Then (SessionId near) (Then (Counted cookie)
+      (Then (Counted cert) (Then (Counted part) (Rest sign))))
 parts_of (RIKeying near part sign) = Then (SessionId near) (Then (Counted part) (Rest sign))
 parts_of (Ping bytes) = Rest bytes
 parts_of (PingReply bytes) = Rest bytes
 parts_of Close = Ignored
 parts_of CloseAck = Ignored
-parts_of (Fragment more id number bytes) = Then (More more) (Then (Number id) (Then (Number number) (Rest bytes)))
+parts_of (Fragment more id number bytes) = Then (More more)
+    (Then (Number id) (Then (Number number) (Rest bytes)))
 
 -- a payload of this type spells the chunk
 abbrev pub Spells : Chunk → ℕ → List ℕ → Type 0
@@ -79,13 +84,16 @@ row_of kind =
     else if kind == 0x70 then Some (ThenRow CountedForm (ThenRow CountedForm RestRow))
     else if kind == 0x71 then Some (ThenRow CountedForm PlacesRow)
     else if kind == 0x79 then Some (ThenRow CountedForm RestRow)
-    else if kind == 0x38 then Some (ThenRow SessionIdForm (ThenRow CountedForm (ThenRow CountedForm (ThenRow CountedForm RestRow))))
+    else if kind == 0x38 then
+      Some (ThenRow SessionIdForm (ThenRow CountedForm
+      (ThenRow CountedForm (ThenRow CountedForm RestRow))))
     else if kind == 0x78 then Some (ThenRow SessionIdForm (ThenRow CountedForm RestRow))
     else if kind == 0x01 then Some RestRow
     else if kind == 0x41 then Some RestRow
     else if kind == 0x0c then Some IgnoredRow
     else if kind == 0x4c then Some IgnoredRow
-    else if kind == 0x7f then Some (ThenRow MoreForm (ThenRow NumberForm (ThenRow NumberForm RestRow)))
+    else if kind == 0x7f then
+      Some (ThenRow MoreForm (ThenRow NumberForm (ThenRow NumberForm RestRow)))
     else None
 
 -- the first field that isn't there breaks at this offset

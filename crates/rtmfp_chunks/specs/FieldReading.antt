@@ -1,6 +1,8 @@
--- Fields from left to right. Where one can't be read, the number of bytes from there to the end is told.
+-- Fields from left to right. Where one can't be read, the number of bytes from there to the end is
+-- told.
 use Rattle.std.specs.Borrow.{Bor}
-use Rattle.std.specs.Prelude.{◌≡◌, ℕ, ◌-◌, ◌==◌, zero, suc, Bool, List, [], ◌∷◌, length, take, drop, Option, Some, None, Result, Ok, Err, nat_lt, nat_le, if◌then◌else◌}
+use Rattle.std.specs.Prelude.{◌≡◌, ℕ, ◌-◌, ◌==◌, zero, suc, Bool, List, [], ◌∷◌, length, take, drop,
+    Option, Some, None, Result, Ok, Err, nat_lt, nat_le, if◌then◌else◌}
 use Rattle.std.specs.Int.{w32, from_be_bytes}
 use Rattle.rtmfp_vlu.specs.declared.reading.VluFault.{VluFault}
 use Rattle.rtmfp_vlu.specs.Reading.{number_at}
@@ -9,11 +11,15 @@ use Rattle.rtmfp_forms.specs.Address.{AddressParts}
 use Rattle.rtmfp_forms.specs.AddressReading.{address_at}
 use Rattle.rtmfp_forms.specs.OptionReading.{◌>>=◌}
 use Rattle.rtmfp_chunks.specs.declared.view.ChunkView.{ChunkView}
-use Rattle.rtmfp_chunks.specs.Fields.{Field, Counted, Number, SessionId, More, Place, Parts, Then, Rest, Places, Ignored}
-use Rattle.rtmfp_chunks.specs.Fields.{Form, CountedForm, NumberForm, SessionIdForm, MoreForm, PlaceForm, Row, ThenRow, RestRow, PlacesRow, IgnoredRow}
+use Rattle.rtmfp_chunks.specs.Fields.{Field, Counted, Number, SessionId, More, Place, Parts, Then,
+    Rest, Places, Ignored}
+use Rattle.rtmfp_chunks.specs.Fields.{Form, CountedForm, NumberForm, SessionIdForm, MoreForm,
+    PlaceForm, Row, ThenRow, RestRow, PlacesRow, IgnoredRow}
 use Rattle.rtmfp_chunks.specs.declared.reading.ChunkFault.{ChunkFault}
 use Rattle.rtmfp_chunks.specs.declared.reading.ChunkFault.TheVariants.{Unknown, Malformed}
-use Rattle.rtmfp_chunks.specs.Chunk.{Chunk, IHello, FIHello, RHello, Redirect, CookieChange, IIKeying, RIKeying, Ping, PingReply, Close, CloseAck, Fragment, chunk_of, kind_of, parts_of, row_of}
+use Rattle.rtmfp_chunks.specs.Chunk.{Chunk, IHello, FIHello, RHello, Redirect, CookieChange,
+    IIKeying, RIKeying, Ping, PingReply, Close, CloseAck, Fragment, chunk_of, kind_of, parts_of,
+    row_of}
 
 -- what a function returned, seen by view, is what reading gives
 abbrev pub Shows : {X Y : Type 0} → (X → Y) → Result X ℕ → Result Y ℕ → Type 0
@@ -38,13 +44,15 @@ counted_then b = do
   bytes_then size.0 size.1
 
 unfoldable pub id_then : List ℕ → Result (ℕ × List ℕ) ℕ
-id_then b = if nat_lt (length b) 4 then Err (length b) else Ok (from_be_bytes w32 (take 4 b), drop 4 b)
+id_then b = if nat_lt (length b) 4 then Err (length b)
+    else Ok (from_be_bytes w32 (take 4 b), drop 4 b)
 
 unfoldable pub more_then : List ℕ → Result (Bool × List ℕ) ℕ
 more_then [] = Err 0
 more_then (flags ∷ rest) = Ok (nat_le 128 flags, rest)
 
-abbrev pub split_address : List ℕ → Result (AddressParts × ℕ) FormFault → Result (AddressParts × List ℕ) ℕ
+abbrev pub split_address : List ℕ → Result (AddressParts × ℕ) FormFault →
+    Result (AddressParts × List ℕ) ℕ
 split_address b (Ok found) = Ok (found.0, drop found.1 b)
 split_address b (Err fault) = Err (length b)
 
@@ -75,7 +83,8 @@ found_or_none (Err left) = []
 -- the whole addresses that the bytes begin with, at most so many
 unfoldable pub first_addresses : ℕ → List ℕ → List AddressParts
 first_addresses zero b = []
-first_addresses (suc most) b = found_or_none (address_then b >>= λ first. Ok (first.0 ∷ first_addresses most first.1))
+first_addresses (suc most) b = found_or_none
+    (address_then b >>= λ first. Ok (first.0 ∷ first_addresses most first.1))
 
 -- the whole addresses that the bytes begin with
 unfoldable pub addresses_in : List ℕ → List AddressParts
@@ -127,16 +136,26 @@ value_of found = (found.0, found.1.now)
 
 -- the chunk of this type that has these fields
 unfoldable pub chunk_with : ℕ → Parts → Option Chunk
-chunk_with kind (Then (Counted x) (Rest y)) = if kind == 0x30 then Some (IHello x y) else if kind == 0x79 then Some (CookieChange x y) else None
-chunk_with kind (Then (Counted epd) (Then (Place reply) (Rest tag))) = if kind == 0x0f then Some (FIHello epd reply tag) else None
-chunk_with kind (Then (Counted tag) (Then (Counted cookie) (Rest cert))) = if kind == 0x70 then Some (RHello tag cookie cert) else None
-chunk_with kind (Then (Counted tag) (Places list)) = if kind == 0x71 then Some (Redirect tag list) else None
-chunk_with kind (Then (SessionId near) (Then (Counted cookie) (Then (Counted cert) (Then (Counted part) (Rest sign))))) =
+chunk_with kind (Then (Counted x) (Rest y)) = if kind == 0x30 then Some (IHello x y)
+    else if kind == 0x79 then Some (CookieChange x y) else None
+chunk_with kind (Then (Counted epd) (Then (Place reply) (Rest tag))) =
+    if kind == 0x0f then Some (FIHello epd reply tag) else None
+chunk_with kind (Then (Counted tag) (Then (Counted cookie) (Rest cert))) =
+    if kind == 0x70 then Some (RHello tag cookie cert) else None
+chunk_with kind (Then (Counted tag) (Places list)) = if kind == 0x71 then Some (Redirect tag list)
+    else None
+chunk_with kind
+    (Then (SessionId near) (Then (Counted cookie)
+    (Then (Counted cert) (Then (Counted part) (Rest sign))))) =
     if kind == 0x38 then Some (IIKeying near cookie cert part sign) else None
-chunk_with kind (Then (SessionId near) (Then (Counted part) (Rest sign))) = if kind == 0x78 then Some (RIKeying near part sign) else None
-chunk_with kind (Rest bytes) = if kind == 0x01 then Some (Ping bytes) else if kind == 0x41 then Some (PingReply bytes) else None
-chunk_with kind Ignored = if kind == 0x0c then Some Close else if kind == 0x4c then Some CloseAck else None
-chunk_with kind (Then (More more) (Then (Number id) (Then (Number number) (Rest bytes)))) = if kind == 0x7f then Some (Fragment more id number bytes) else None
+chunk_with kind (Then (SessionId near) (Then (Counted part) (Rest sign))) =
+    if kind == 0x78 then Some (RIKeying near part sign) else None
+chunk_with kind (Rest bytes) = if kind == 0x01 then Some (Ping bytes)
+    else if kind == 0x41 then Some (PingReply bytes) else None
+chunk_with kind Ignored = if kind == 0x0c then Some Close else if kind == 0x4c then Some CloseAck
+    else None
+chunk_with kind (Then (More more) (Then (Number id) (Then (Number number) (Rest bytes)))) =
+    if kind == 0x7f then Some (Fragment more id number bytes) else None
 chunk_with kind parts = None
 
 abbrev pub known_chunk : ℕ → Option Chunk → Result Chunk ChunkFault

@@ -12,7 +12,8 @@ pub data Field : Type 0 where
   Number : (number : ℕ) → Field
   -- a session ID in 4 bytes
   SessionId : (id : ℕ) → Field
-  -- a byte of flags, the highest of which says whether more fragments follow; the others are ignored
+  -- a byte of flags, the highest of which says whether more fragments follow; the others are
+  -- ignored
   More : (more : Bool) → Field
   Place : (address : AddressParts) → Field
 
@@ -49,7 +50,8 @@ FieldSpells (Place address) b = AddressSpells address b
 abbrev pub AddressesSpell : List AddressParts → List ℕ → Type 0
 AddressesSpell [] b = b ≡ []
 AddressesSpell (a ∷ addresses) b =
-    (front : List ℕ) × (rest : List ℕ) × (b ≡ front ++ rest) × AddressSpells a front × AddressesSpell addresses rest
+    (front : List ℕ) × (rest : List ℕ) × (b ≡ front ++ rest) × AddressSpells a front ×
+      AddressesSpell addresses rest
 
 -- whole addresses, and nothing else
 abbrev pub AreAddresses : List ℕ → Type 0
@@ -58,7 +60,8 @@ AreAddresses b = (addresses : List AddressParts) × AddressesSpell addresses b
 -- the fields, one after another, are the bytes
 abbrev pub PartsSpell : Parts → List ℕ → Type 0
 PartsSpell (Then first others) b =
-    (front : List ℕ) × (rest : List ℕ) × (b ≡ front ++ rest) × FieldSpells first front × PartsSpell others rest
+    (front : List ℕ) × (rest : List ℕ) × (b ≡ front ++ rest) × FieldSpells first front ×
+      PartsSpell others rest
 PartsSpell (Rest bytes) b = b ≡ bytes
 PartsSpell (Places list) b = (b ≡ list) × AreAddresses b
 PartsSpell Ignored b = Unit {0}
@@ -101,7 +104,8 @@ pub record IsCutAfter (b : List ℕ) (at : ℕ) : Type 0 where
   pub cut : length rest < size
   pub place : at ≡ length count
 
--- no field of this form stands in front, and what of it isn't there whole, or is large, begins at this offset
+-- no field of this form stands in front, and what of it isn't there whole, or is large, begins at
+-- this offset
 abbrev pub FieldBreaks : Form → List ℕ → ℕ → Type 0
 FieldBreaks CountedForm b at = (NoVlu b × (at ≡ 0)) ⊎ IsCutAfter b at
 FieldBreaks NumberForm b at = NoVlu b × (at ≡ 0)
@@ -124,7 +128,8 @@ pub record AddressesBreak (b : List ℕ) (at : ℕ) : Type 0 where
 abbrev pub RowBreaks : Row → List ℕ → ℕ → Type 0
 RowBreaks (ThenRow first others) b at =
     FieldBreaks first b at
-    ⊎ ((field : Field) × (front : List ℕ) × (rest : List ℕ) × (later : ℕ) × (form_of field ≡ first) × (b ≡ front ++ rest) × FieldSpells field front
+    ⊎ ((field : Field) × (front : List ℕ) × (rest : List ℕ) × (later : ℕ) ×
+      (form_of field ≡ first) × (b ≡ front ++ rest) × FieldSpells field front
     × RowBreaks others rest later × (at ≡ length front + later))
 RowBreaks RestRow b at = ⊥
 RowBreaks PlacesRow b at = AddressesBreak b at

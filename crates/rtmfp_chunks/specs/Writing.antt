@@ -1,9 +1,11 @@
--- The one spelling of a chunk that is written: VLUs in their shortest, and a redirect's addresses as they stand.
+-- The one spelling of a chunk that is written: VLUs in their shortest, and a redirect's addresses
+-- as they stand.
 use Rattle.std.specs.Prelude.{ℕ, ◌^◌, ◌<◌, if◌then◌else◌, List, [], ◌∷◌, ◌++◌, length}
 use Rattle.std.specs.Int.{w16, w32, to_be_bytes}
 use Rattle.rtmfp_vlu.specs.Vlu.{vlu}
 use Rattle.rtmfp_forms.specs.Address.{IsAddress, address_bytes}
-use Rattle.rtmfp_chunks.specs.Fields.{Field, Counted, Number, SessionId, More, Place, Parts, Then, Rest, Places, Ignored, AreAddresses}
+use Rattle.rtmfp_chunks.specs.Fields.{Field, Counted, Number, SessionId, More, Place, Parts, Then,
+    Rest, Places, Ignored, AreAddresses}
 use Rattle.rtmfp_chunks.specs.Chunk.{Chunk, Redirect, kind_of, parts_of}
 
 abbrev pub field_bytes : Field → List ℕ
@@ -24,7 +26,8 @@ payload_bytes chunk = parts_bytes (parts_of chunk)
 
 -- the type, the length of the payload, and the payload
 abbrev pub chunk_bytes : Chunk → List ℕ
-chunk_bytes chunk = kind_of chunk ∷ to_be_bytes w16 (length (payload_bytes chunk)) ++ payload_bytes chunk
+chunk_bytes chunk = kind_of chunk ∷ to_be_bytes w16 (length (payload_bytes chunk))
+    ++ payload_bytes chunk
 
 -- the list of a redirect is whole addresses
 abbrev pub IsWritable : Chunk → Type 0

@@ -8,7 +8,8 @@ ghost use Rattle.rtmfp_chunks.specs.FieldReading.{addresses_in};
 use rtmfp_forms::{Address, read_address};
 use std::marker::Model;
 
-/// The addresses in the list of a redirect, one after another: the whole ones that its bytes begin with.
+/// The addresses in the list of a redirect, one after another: the whole ones that its bytes begin
+/// with.
 #[derive(Drop)]
 pub struct Addresses<'a> {
     rest: &'a [u8],
@@ -29,7 +30,8 @@ impl<'a> Addresses<'a> {
     pub fn new(list: &'a [u8]) -> Addresses<'a>
         ensures exact { result ≡ addresses_in list.now }
         // Of whole addresses, all.
-        ensures whole { (addresses : List AddressParts) → AddressesSpell addresses list.now → result ≡ addresses }
+        ensures whole { (addresses : List AddressParts) → AddressesSpell addresses list.now →
+            result ≡ addresses }
     {
         Addresses { rest: list }
     }

@@ -19,11 +19,13 @@ pub enum ChunkFault {
     Malformed(usize),
 }
 
-/// Reads a chunk of type `kind` from its payload (RFC 7016 section 2.3). What it gives are parts of the payload.
+/// Reads a chunk of type `kind` from its payload (RFC 7016 section 2.3). What it gives are parts of
+/// the payload.
 pub fn read_chunk(kind: u8, payload: &[u8]) -> Result<ChunkView<'_>, ChunkFault>
     // The payload reads so, and in no other way.
     ensures reads { Reading kind payload.now (shown result) }
-    ensures only { (other : Result Chunk ChunkFault) → Reading kind payload.now other → other ≡ shown result }
+    ensures only { (other : Result Chunk ChunkFault) → Reading kind payload.now other →
+        other ≡ shown result }
 
     // All of this as one function.
     ensures exact { shown result ≡ chunk_reading kind payload.now }

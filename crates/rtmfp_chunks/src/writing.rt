@@ -1,11 +1,13 @@
 //! Chunks written into a packet.
-ghost use Rattle.std.specs.Prelude.{◌≡◌, ◌+◌, ◌^◌, ◌<◌, ◌≤◌, ◌↔◌, ◌++◌, ◌∷◌, ◌-◌, length, min, OnOk, OnErr, IsErr};
+ghost use Rattle.std.specs.Prelude.{◌≡◌, ◌+◌, ◌^◌, ◌<◌, ◌≤◌, ◌↔◌, ◌++◌, ◌∷◌, ◌-◌, length, min, OnOk,
+    OnErr, IsErr};
 ghost use Rattle.std.specs.Int.{w16, to_be_bytes};
 ghost use Rattle.rtmfp_forms.specs.Address.{IsAddress};
 ghost use Rattle.rtmfp_forms.specs.Outgoing.{packet_limit};
 ghost use Rattle.rtmfp_chunks.specs.Fields.{Counted, SessionId, More, Place};
 ghost use Rattle.rtmfp_chunks.specs.Chunk.{Spells, chunk_of, kind_of, parts_of};
-ghost use Rattle.rtmfp_chunks.specs.Writing.{IsWritable, PartsFit, chunk_bytes, field_bytes, payload_bytes};
+ghost use Rattle.rtmfp_chunks.specs.Writing.{IsWritable, PartsFit, chunk_bytes, field_bytes,
+    payload_bytes};
 
 use crate::view::*;
 use rtmfp_forms::{Address, NoRoom, Outgoing};
@@ -14,16 +16,19 @@ use rtmfp_vlu::vlu_len;
 /// The bytes of a chunk before its payload: the type and the length.
 const HEAD_LEN: usize = 3;
 
-/// Puts a chunk at the end of a packet, its type, the length of its payload and the payload (RFC 7016 section 2.2.4),
-/// all or nothing. The list of a redirect has to be whole addresses, and is copied as it stands.
+/// Puts a chunk at the end of a packet, its type, the length of its payload and the payload (RFC
+/// 7016 section 2.2.4), all or nothing. The list of a redirect has to be whole addresses, and is
+/// copied as it stands.
 pub fn write_chunk(view: &ChunkView<'_>, out: &mut Outgoing) -> Result<(), NoRoom>
     requires { IsWritable (chunk_of view.now) }
     ensures ok { OnOk result (out.new ≡ out.old ++ chunk_bytes (chunk_of view.now)) }
-    ensures no_room { IsErr result ↔ (packet_limit < length out.old + length (chunk_bytes (chunk_of view.now))) }
+    ensures no_room { IsErr result ↔ (packet_limit
+        < length out.old + length (chunk_bytes (chunk_of view.now))) }
     ensures err { OnErr result (out.new ≡ out.old) }
 
     // What is written reads as the same chunk.
-    ensures spells { Spells (chunk_of view.now) (kind_of (chunk_of view.now)) (payload_bytes (chunk_of view.now)) }
+    ensures spells { Spells (chunk_of view.now) (kind_of (chunk_of view.now))
+        (payload_bytes (chunk_of view.now)) }
 {
     let len = payload_len(view);
     if len.saturating_add(HEAD_LEN) > out.room() {

@@ -11,22 +11,31 @@ use Rattle.rtmfp_cli.specs.declared.doing.Doing.TheVariants.{Playing, Showing}
 use Rattle.rtmfp_cli.specs.Doing.{Holds, limit_of, playing, showing}
 use Rattle.rtmfp_cli.specs.Script.{Runs, max_lines}
 
--- Whatever the lines of a script are, the history of the world that they leave holds, also where they are none.
+-- Whatever the lines of a script are, the history of the world that they leave holds, also where
+-- they are none.
 abbrev pub EveryRunHolds : Type 0
-EveryRunHolds = (lines : List (List ℕ)) (left : Doing) (text : List ℕ) → Runs 1 playing lines left text → Holds left
+EveryRunHolds = (lines : List (List ℕ)) (left : Doing) (text : List ℕ) →
+    Runs 1 playing lines left text → Holds left
 
--- These lines of a journal tell this text: what is told of each, one after another from the oldest on. Of all ends, so many at least were there before the first, and so many datagrams were sent. A line is told with the names of the ends that were there when it was done: the one that it calls is among them, and ends come and don't go.
+-- These lines of a journal tell this text: what is told of each, one after another from the oldest
+-- on. Of all ends, so many at least were there before the first, and so many datagrams were sent. A
+-- line is told with the names of the ends that were there when it was done: the one that it calls
+-- is among them, and ends come and don't go.
 abbrev pub IsReport : List Named → ℕ → ℕ → List JournalLine → List ℕ → Type 0
 IsReport names before sent [] text = text ≡ []
 IsReport names before sent (line ∷ lines) text =
     (there : ℕ) × (rest : List ℕ) × (before ≤ there) × (line.end < there) × (there ≤ length names)
-    × (text ≡ told_of (take there names) sent line line.refused ++ rest) × IsReport names there (sent + count_in line) lines rest
+    × (text ≡ told_of (take there names) sent line line.refused ++ rest) ×
+      IsReport names there (sent + count_in line) lines rest
 
--- What is written of a script is the report of the journal that its lines leave: no line of the journal is left out, and nothing else is written.
+-- What is written of a script is the report of the journal that its lines leave: no line of the
+-- journal is left out, and nothing else is written.
 abbrev pub EachTextIsTheReport : Type 0
-EachTextIsTheReport = (lines : List (List ℕ)) (w : Seen) (text : List ℕ) → Runs 1 playing lines (Playing w) text → IsReport (names_of w) 0 0 w.lines text
+EachTextIsTheReport = (lines : List (List ℕ)) (w : Seen) (text : List ℕ) →
+    Runs 1 playing lines (Playing w) text → IsReport (names_of w) 0 0 w.lines text
 
--- What two runs leave is the same but for the room that outboxes of a journal have left, which is a matter of memory.
+-- What two runs leave is the same but for the room that outboxes of a journal have left, which is a
+-- matter of memory.
 abbrev pub AreSame : Doing → Doing → Type 0
 AreSame Showing Showing = Unit {0}
 AreSame Showing (Playing t) = ⊥
@@ -36,7 +45,9 @@ AreSame (Playing w) (Playing t) = AreSameWorlds w t
 -- What lines leave, and the text that is written of them, are decided by the lines.
 abbrev pub EachScriptHasOneRun : Type 0
 EachScriptHasOneRun =
-    (n : ℕ) (doing left other : Doing) (lines : List (List ℕ)) (text words : List ℕ) → Runs n doing lines left text → Runs n doing lines other words → AreSame left other × (text ≡ words)
+    (n : ℕ) (doing left other : Doing) (lines : List (List ℕ)) (text words : List ℕ) →
+      Runs n doing lines left text → Runs n doing lines other words → AreSame left other ×
+      (text ≡ words)
 
 pub record Limits : Type 0 where
   pub lines : max_lines ≡ 1000000

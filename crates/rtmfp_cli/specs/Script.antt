@@ -1,5 +1,6 @@
 -- How a run over the lines of a source ends, and what it has written then.
-use Rattle.std.specs.Prelude.{◌≡◌, ℕ, ◌+◌, ◌≤◌, ◌⊎◌, List, [], ◌∷◌, ◌++◌, length, take, Option, Some, IfSome}
+use Rattle.std.specs.Prelude.{◌≡◌, ℕ, ◌+◌, ◌≤◌, ◌⊎◌, List, [], ◌∷◌, ◌++◌, length, take, Option,
+    Some, IfSome}
 use Rattle.std.specs.List.{AllByRecursion}
 use Rattle.rtmfp_host.specs.Writing.{Appends}
 use Rattle.rtmfp_cli.specs.declared.doing.Doing.{Doing}
@@ -19,7 +20,8 @@ max_lines = 1000000
 abbrev pub Runs : ℕ → Doing → List (List ℕ) → Doing → List ℕ → Type 0
 Runs n doing [] left text = (left ≡ doing) × (text ≡ [])
 Runs n doing (line ∷ lines) left text =
-    (middle : Doing) × (first : List ℕ) × (rest : List ℕ) × Does doing n line middle first × Runs (n + 1) middle lines left rest × (text ≡ first ++ rest)
+    (middle : Doing) × (first : List ℕ) × (rest : List ℕ) × Does doing n line middle first ×
+      Runs (n + 1) middle lines left rest × (text ≡ first ++ rest)
 
 -- these first lines were done, their text was written, and nothing else; what they leave holds
 pub record HasDone (doing : Doing) (before after : Outside) (lines : List (List ℕ)) : Type 0 where
@@ -31,19 +33,23 @@ pub record HasDone (doing : Doing) (before after : Outside) (lines : List (List 
 
 -- ---- what was read
 
--- no line of these bytes, whole or begun, is over its limit, and there are no more than there may be
+-- no line of these bytes, whole or begun, is over its limit, and there are no more than there may
+-- be
 pub record AreWithin (doing : Doing) (bytes : List ℕ) : Type 0 where
   pub short : AllByRecursion (λ line. length line ≤ limit_of doing) (lines_of bytes)
   pub few : length (lines_of bytes) ≤ max_lines
 
--- Nothing was taken, or the last read was needed: in what was taken without it each whole line was done, no line is over
--- its limit, and there is none too many.
+-- Nothing was taken, or the last read was needed: in what was taken without it each whole line was
+-- done, no line is over its limit, and there is none too many.
 abbrev pub WasNeeded : Doing → List (List ℕ) → (taken rest : List ℕ) → Option (List ℕ) → Type 0
-WasNeeded doing lines taken rest asked = (taken ≡ []) ⊎ ((front : List ℕ) × (got : List ℕ) × (later : List (List ℕ))
-    × (taken ≡ front ++ got) × (asked ≡ Some (got ++ rest)) × (lines ≡ whole_lines front ++ later) × AreWithin doing front)
+WasNeeded doing lines taken rest asked = (taken ≡ []) ⊎
+    ((front : List ℕ) × (got : List ℕ) × (later : List (List ℕ))
+    × (taken ≡ front ++ got) × (asked ≡ Some (got ++ rest)) × (lines ≡ whole_lines front ++ later) ×
+      AreWithin doing front)
 
 -- what was taken from the source of a script, of which these lines were done
-pub record HasTaken (doing : Doing) (script : List ℕ) (lines : List (List ℕ)) (after : SourceSeen) : Type 0 where
+pub record HasTaken (doing : Doing) (script : List ℕ) (lines : List (List ℕ)) (after : SourceSeen)
+    : Type 0 where
   pub taken : List ℕ
   pub rest : List ℕ
   pub split : script ≡ taken ++ rest
@@ -74,7 +80,8 @@ pub record SomeDone (doing : Doing) (script : List ℕ) (before after : Outside)
   pub has : HasDone doing before after lines
 
 -- the lines before line n were done, and line n is of this kind after them
-pub record StopsOn (Kind : Doing → ℕ → List ℕ → Type 0) (doing : Doing) (script : List ℕ) (n : ℕ) (before after : Outside) : Type 0 where
+pub record StopsOn (Kind : Doing → ℕ → List ℕ →
+    Type 0) (doing : Doing) (script : List ℕ) (n : ℕ) (before after : Outside) : Type 0 where
   pub lines : List (List ℕ)
   pub line : List ℕ
   pub stops : StopsAt script n lines line
@@ -91,8 +98,8 @@ pub record TooMany (doing : Doing) (script : List ℕ) (before after : Outside) 
   pub took : HasTaken doing script lines after.source
   pub has : HasDone doing before after lines
 
--- The whole lines of what was taken from the source were done, and in it no line is over its limit, and there is none too
--- many: so another read was needed.
+-- The whole lines of what was taken from the source were done, and in it no line is over its limit,
+-- and there is none too many: so another read was needed.
 pub record TakenDone (doing : Doing) (script : List ℕ) (before after : Outside) : Type 0 where
   pub taken : List ℕ
   pub rest : List ℕ
@@ -104,7 +111,8 @@ pub record TakenDone (doing : Doing) (script : List ℕ) (before after : Outside
 -- nothing, or the first bytes of the text of line n, the next one
 abbrev pub IsPartOfNext : Doing → ℕ → List (List ℕ) → List ℕ → Type 0
 IsPartOfNext doing n more part =
-    (part ≡ []) ⊎ ((line : List ℕ) × (later : List (List ℕ)) × (left : Doing) × (text : List ℕ) × (k : ℕ)
+    (part ≡ []) ⊎ ((line : List ℕ) × (later : List (List ℕ)) × (left : Doing) × (text : List ℕ) ×
+      (k : ℕ)
     × (more ≡ line ∷ later) × Does doing n line left text × (part ≡ take k text))
 
 -- the text of the first lines was written, and perhaps a part of that of the next
@@ -125,18 +133,25 @@ pub record CutShort (doing : Doing) (script : List ℕ) (before after : Outside)
 abbrev pub Told : Outside → (List ℕ → Type 0) → Type 0
 Told before P = IfSome before.source.left P
 
--- How a run over the source ends with each status, where nothing has failed but by the status, and this holds of the outside
--- where nothing has.
+-- How a run over the source ends with each status, where nothing has failed but by the status, and
+-- this holds of the outside where nothing has.
 abbrev pub EndsWhere : (Outside → Outside → Type 0) → Doing → Status → Outside → Outside → Type 0
-EndsWhere P doing status.Done before after = P before after × Told before (λ script. AllDone doing script before after)
-EndsWhere P doing status.Memory before after = P before after × Told before (λ script. SomeDone doing script before after)
+EndsWhere P doing status.Done before after = P before after ×
+    Told before (λ script. AllDone doing script before after)
+EndsWhere P doing status.Memory before after = P before after ×
+    Told before (λ script. SomeDone doing script before after)
 EndsWhere P doing status.BadWords before after = ⊥
-EndsWhere P doing (status.BadScript n) before after = P before after × Told before (λ script. StopsOn IsBadLine doing script n before after)
-EndsWhere P doing (status.Forged n) before after = P before after × Told before (λ script. StopsOn IsForgedLine doing script n before after)
-EndsWhere P doing status.SinkFault before after = SinkFailed before after × Told before (λ script. CutShort doing script before after)
+EndsWhere P doing (status.BadScript n) before after = P before after ×
+    Told before (λ script. StopsOn IsBadLine doing script n before after)
+EndsWhere P doing (status.Forged n) before after = P before after ×
+    Told before (λ script. StopsOn IsForgedLine doing script n before after)
+EndsWhere P doing status.SinkFault before after = SinkFailed before after ×
+    Told before (λ script. CutShort doing script before after)
 EndsWhere P doing status.SourceFault before after =
-    SourceFailed before after × (after.sink.passed ≡ after.sink.written) × Told before (λ script. TakenDone doing script before after)
-EndsWhere P doing status.ScriptLong before after = P before after × Told before (λ script. TooMany doing script before after)
+    SourceFailed before after × (after.sink.passed ≡ after.sink.written) ×
+      Told before (λ script. TakenDone doing script before after)
+EndsWhere P doing status.ScriptLong before after = P before after ×
+    Told before (λ script. TooMany doing script before after)
 
 -- nothing has failed, and all that was written was passed on
 pub record IsWhole (before after : Outside) : Type 0 where

@@ -14,7 +14,8 @@ use Rattle.rtmfp_lines.specs.Reading.{Asks, IsPart}
 use Rattle.rtmfp_cli.specs.Doing.{Does, IsBadLine, IsForgedLine, limit_of}
 use Rattle.rtmfp_cli.specs.Script.{Runs}
 
--- more bytes of the source are taken, behind those that were not handled yet, and each read was needed
+-- more bytes of the source are taken, behind those that were not handled yet, and each read was
+-- needed
 pub record Takes (limit : ℕ) (before after : Outside) (old bytes : List ℕ) : Type 0 where
   pub got : List ℕ
   pub consumed : Consumes before.source.left after.source.left got
@@ -22,7 +23,8 @@ pub record Takes (limit : ℕ) (before after : Outside) (old bytes : List ℕ) :
   pub asks : Asks limit before.source after.source old bytes
 
 -- a line and its LF are handled, and line n is done
-pub record DoesOne (doing left : Doing) (n : ℕ) (before after : Outside) (old new : List ℕ) : Type 0 where
+pub record DoesOne (doing left : Doing) (n : ℕ) (before after : Outside) (old new : List ℕ)
+    : Type 0 where
   pub line : List ℕ
   pub text : List ℕ
   pub takes : Takes (limit_of doing) before after old (line ++ 10 ∷ new)
@@ -58,47 +60,63 @@ NextLine P after bytes = IfSome after.source.left (λ rest.
 -- nothing more is done, and the next line is of this kind
 abbrev pub StopsBefore : (List ℕ → Type 0) → ℕ → Outside → Outside → List ℕ → Type 0
 StopsBefore P limit before after old =
-    NothingFailed before after × ((bytes : List ℕ) × DoesNone limit before after old bytes × NextLine P after bytes)
+    NothingFailed before after × ((bytes : List ℕ) × DoesNone limit before after old bytes ×
+      NextLine P after bytes)
 
 -- nothing more is done, and the source failed where more was needed
 abbrev pub StopsReading : ℕ → Outside → Outside → List ℕ → Type 0
 StopsReading limit before after old =
-    SourceFailed before after × (after.sink.passed ≡ after.sink.written) × ((bytes : List ℕ) × DoesNone limit before after old bytes × IsPart limit bytes)
+    SourceFailed before after × (after.sink.passed ≡ after.sink.written) ×
+      ((bytes : List ℕ) × DoesNone limit before after old bytes × IsPart limit bytes)
 
 -- a part of the text of the next line is written, or nothing
 pub record DoesPart (doing : Doing) (n : ℕ) (before after : Outside) (old : List ℕ) : Type 0 where
   pub bytes : List ℕ
   pub part : List ℕ
   pub takes : Takes (limit_of doing) before after old bytes
-  pub next : (part ≡ []) ⊎ ((left : Doing) × (text : List ℕ) × (k : ℕ) × (part ≡ take k text) × NextLine (λ line. Does doing n line left text) after bytes)
+  pub next : (part ≡ []) ⊎ ((left : Doing) × (text : List ℕ) × (k : ℕ) × (part ≡ take k text) ×
+    NextLine (λ line. Does doing n line left text) after bytes)
   pub written : Appends before.sink.written after.sink.written part
   pub failed : SinkFailed before after
 
 abbrev pub Turned : Turn → Doing → Doing → ℕ → Outside → Outside → List ℕ → List ℕ → Type 0
 Turned Went doing left n before after old new = DoesOne doing left n before after old new
 Turned (Ended status.Done) doing left n before after old new = DoesRest doing n before after old
-Turned (Ended status.Memory) doing left n before after old new = NothingFailed before after × ((bytes : List ℕ) × DoesNone (limit_of doing) before after old bytes)
+Turned (Ended status.Memory) doing left n before after old new = NothingFailed before after ×
+    ((bytes : List ℕ) × DoesNone (limit_of doing) before after old bytes)
 Turned (Ended status.BadWords) doing left n before after old new = ⊥
-Turned (Ended (status.BadScript m)) doing left n before after old new = (m ≡ n) × StopsBefore (IsBadLine doing n) (limit_of doing) before after old
-Turned (Ended (status.Forged m)) doing left n before after old new = (m ≡ n) × StopsBefore (IsForgedLine doing n) (limit_of doing) before after old
-Turned (Ended status.SinkFault) doing left n before after old new = DoesPart doing n before after old
-Turned (Ended status.SourceFault) doing left n before after old new = StopsReading (limit_of doing) before after old
+Turned (Ended (status.BadScript m)) doing left n before after old new = (m ≡ n) ×
+    StopsBefore (IsBadLine doing n) (limit_of doing) before after old
+Turned (Ended (status.Forged m)) doing left n before after old new = (m ≡ n) ×
+    StopsBefore (IsForgedLine doing n) (limit_of doing) before after old
+Turned (Ended status.SinkFault) doing left n before after old new =
+    DoesPart doing n before after old
+Turned (Ended status.SourceFault) doing left n before after old new =
+    StopsReading (limit_of doing) before after old
 Turned (Ended status.ScriptLong) doing left n before after old new = ⊥
 
 -- what doing line n writes to the sink, and how often the sink has failed before and after it
-abbrev pub Printed : Turn → Doing → Doing → ℕ → List ℕ → (before after : Option (List ℕ)) → (faults later : ℕ) → Type 0
-Printed Went doing left n line before after faults later = (text : List ℕ) × Does doing n line left text × Appends before after text × (later ≡ faults)
-Printed (Ended (status.BadScript m)) doing left n line before after faults later = (m ≡ n) × IsBadLine doing n line × (after ≡ before) × (later ≡ faults)
-Printed (Ended (status.Forged m)) doing left n line before after faults later = (m ≡ n) × IsForgedLine doing n line × (after ≡ before) × (later ≡ faults)
+abbrev pub Printed : Turn → Doing → Doing → ℕ → List ℕ → (before after : Option (List ℕ)) →
+    (faults later : ℕ) → Type 0
+Printed Went doing left n line before after faults later = (text : List ℕ) ×
+    Does doing n line left text × Appends before after text × (later ≡ faults)
+Printed (Ended (status.BadScript m)) doing left n line before after faults later = (m ≡ n) ×
+    IsBadLine doing n line × (after ≡ before) × (later ≡ faults)
+Printed (Ended (status.Forged m)) doing left n line before after faults later = (m ≡ n) ×
+    IsForgedLine doing n line × (after ≡ before) × (later ≡ faults)
 Printed (Ended status.SinkFault) doing left n line before after faults later =
-    (text : List ℕ) × (k : ℕ) × Does doing n line left text × Appends before after (take k text) × Rose faults later
-Printed (Ended status.Memory) doing left n line before after faults later = (after ≡ before) × (later ≡ faults)
+    (text : List ℕ) × (k : ℕ) × Does doing n line left text × Appends before after (take k text) ×
+      Rose faults later
+Printed (Ended status.Memory) doing left n line before after faults later = (after ≡ before) ×
+    (later ≡ faults)
 Printed (Ended other) doing left n line before after faults later = ⊥
 
 -- How a source ends of which as many lines were done as it may have. There no byte may stand.
 abbrev pub Closed : RunStatus → Outside → Outside → List ℕ → Type 0
-Closed status.Done before after old = NothingFailed before after × DoesNone 0 before after old [] × IsAtEnd after.source.left
+Closed status.Done before after old = NothingFailed before after × DoesNone 0 before after old [] ×
+    IsAtEnd after.source.left
 Closed status.ScriptLong before after old = StopsBefore (λ line. Unit {0}) 0 before after old
 Closed status.SourceFault before after old = StopsReading 0 before after old
-Closed status.SinkFault before after old = SinkFailed before after × ((bytes : List ℕ) × DoesNone 0 before after old bytes)
+Closed status.SinkFault before after old = SinkFailed before after ×
+    ((bytes : List ℕ) × DoesNone 0 before after old bytes)
 Closed other before after old = ⊥

@@ -38,7 +38,8 @@ impl Doing {
         requires fits { length line.now ≤ limit_of self.old }
         requires next { IsNext self.old number }
         ensures said { IfOk result (λ said. Tells said self.old number line.now self.new text.new) }
-        ensures next { IfOk result (λ said. said ≡ Said.Text → number < 2 ^ 32 - 1 → IsNext self.new (number + 1)) }
+        ensures next { IfOk result (λ said. said ≡ Said.Text → number < 2 ^ 32 - 1 →
+            IsNext self.new (number + 1)) }
         ensures limit { limit_of self.new ≡ limit_of self.old }
     {
         match self {

@@ -1,20 +1,22 @@
 //! What holds of all runs over lines. The functions do nothing: the contract of each is its law.
-ghost use Rattle.rtmfp_cli.specs.Laws.{EachScriptHasOneRun, EachTextIsTheReport, EveryRunHolds, Limits};
+ghost use Rattle.rtmfp_cli.specs.Laws.{EachScriptHasOneRun, EachTextIsTheReport, EveryRunHolds,
+    Limits};
 
-/// No run of a script leaves two ends that keep different sessions with each other: its history is lawful,
-/// honest and fresh, and so it is agreed.
+/// No run of a script leaves two ends that keep different sessions with each other: its history is
+/// lawful, honest and fresh, and so it is agreed.
 pub fn every_run_holds()
     ensures { EveryRunHolds }
 {}
 
-/// What is written of a script is the report of its journal: the text of each of its lines, from the oldest on,
-/// and nothing else. A line of the script that adds none to the journal writes nothing.
+/// What is written of a script is the report of its journal: the text of each of its lines, from
+/// the oldest on, and nothing else. A line of the script that adds none to the journal writes
+/// nothing.
 pub fn each_text_is_the_report_of_its_journal()
     ensures { EachTextIsTheReport }
 {}
 
-/// The lines of a script decide what they leave and what is written of them. Left open is only how much room the
-/// outboxes of the journal have free, which is a matter of memory.
+/// The lines of a script decide what they leave and what is written of them. Left open is only how
+/// much room the outboxes of the journal have free, which is a matter of memory.
 pub fn each_script_has_one_run()
     ensures { EachScriptHasOneRun }
 {}

@@ -16,10 +16,12 @@ use rtmfp_words::{Command, read_command};
 use std::alloc::Global;
 
 /// Does what the words of the command line say, over the source and the sink, and says how it ended
-/// (own). The words are those after the program's name. The first event in the order of the run gives
-/// the status.
+/// (own). The words are those after the program's name. The first event in the order of the run
+/// gives the status.
 ///
-/// `show` reads one packet a line in hexadecimal, and writes its text. `replay` reads one step of a script a line, does it, and writes its report. `replay --generate N --steps K` makes a script of its own, and writes one line that sums it up.
+/// `show` reads one packet a line in hexadecimal, and writes its text. `replay` reads one step of a
+/// script a line, does it, and writes its report. `replay --generate N --steps K` makes a script of
+/// its own, and writes one line that sums it up.
 pub fn run<S: Source, K: Sink>(
     alloc: Global,
     words: &[String],
@@ -32,11 +34,22 @@ pub fn run<S: Source, K: Sink>(
     ensures nothing_read { result ≡ Status.BadWords → source.new ≡ source.old }
     ensures nothing_written { result ≡ Status.BadWords → sink.new ≡ sink.old }
 
-    ensures show { IsShow words.now → ScriptEnds showing result (outside (seen_source (S.left source.old) (S.asked source.old) (S.faults source.old)) (seen_sink (K.written sink.old) (K.passed sink.old) (K.faults sink.old)))
-        (outside (seen_source (S.left source.new) (S.asked source.new) (S.faults source.new)) (seen_sink (K.written sink.new) (K.passed sink.new) (K.faults sink.new))) }
-    ensures replay { IsReplay words.now → ScriptEnds playing result (outside (seen_source (S.left source.old) (S.asked source.old) (S.faults source.old)) (seen_sink (K.written sink.old) (K.passed sink.old) (K.faults sink.old)))
-        (outside (seen_source (S.left source.new) (S.asked source.new) (S.faults source.new)) (seen_sink (K.written sink.new) (K.passed sink.new) (K.faults sink.new))) }
-    ensures generate { (seed steps : ℕ) → IsGenerate words.now seed steps → GeneratedEnds seed steps result (seen_sink (K.written sink.old) (K.passed sink.old) (K.faults sink.old)) (seen_sink (K.written sink.new) (K.passed sink.new) (K.faults sink.new)) }
+    ensures show { IsShow words.now →
+        ScriptEnds showing result
+        (outside (seen_source (S.left source.old) (S.asked source.old) (S.faults source.old))
+        (seen_sink (K.written sink.old) (K.passed sink.old) (K.faults sink.old)))
+        (outside (seen_source (S.left source.new) (S.asked source.new) (S.faults source.new))
+          (seen_sink (K.written sink.new) (K.passed sink.new) (K.faults sink.new))) }
+    ensures replay { IsReplay words.now →
+        ScriptEnds playing result
+        (outside (seen_source (S.left source.old) (S.asked source.old) (S.faults source.old))
+        (seen_sink (K.written sink.old) (K.passed sink.old) (K.faults sink.old)))
+        (outside (seen_source (S.left source.new) (S.asked source.new) (S.faults source.new))
+          (seen_sink (K.written sink.new) (K.passed sink.new) (K.faults sink.new))) }
+    ensures generate { (seed steps : ℕ) → IsGenerate words.now seed steps →
+        GeneratedEnds seed steps result (seen_sink (K.written sink.old) (K.passed sink.old)
+        (K.faults sink.old)) (seen_sink (K.written sink.new) (K.passed sink.new)
+        (K.faults sink.new)) }
 
     // A generated script needs no source.
     ensures unread { (seed steps : ℕ) → IsGenerate words.now seed steps → source.new ≡ source.old }
@@ -63,17 +76,23 @@ fn over_lines<S: Source, K: Sink>(
 ) -> Status
     requires next { IsNext doing 1 }
     requires holds { Holds doing }
-    ensures { ScriptEnds doing result (outside (seen_source (S.left source.old) (S.asked source.old) (S.faults source.old)) (seen_sink (K.written sink.old) (K.passed sink.old) (K.faults sink.old)))
-        (outside (seen_source (S.left source.new) (S.asked source.new) (S.faults source.new)) (seen_sink (K.written sink.new) (K.passed sink.new) (K.faults sink.new))) }
+    ensures { ScriptEnds doing result (outside
+        (seen_source (S.left source.old) (S.asked source.old) (S.faults source.old))
+        (seen_sink (K.written sink.old) (K.passed sink.old) (K.faults sink.old)))
+        (outside (seen_source (S.left source.new) (S.asked source.new) (S.faults source.new))
+          (seen_sink (K.written sink.new) (K.passed sink.new) (K.faults sink.new))) }
 {
     let status = run_script(alloc, doing, source, sink);
     finish(status, sink)
 }
 
-/// Passes on what the sink still holds, unless the outside has failed: the text of the lines that were done
-/// isn't lost, however the run ended. All was passed on before the source was asked in vain.
+/// Passes on what the sink still holds, unless the outside has failed: the text of the lines that
+/// were done isn't lost, however the run ended. All was passed on before the source was asked in
+/// vain.
 fn finish<K: Sink>(status: Status, sink: &mut K) -> Status
-    ensures { Finishes status result (seen_sink (K.written sink.old) (K.passed sink.old) (K.faults sink.old)) (seen_sink (K.written sink.new) (K.passed sink.new) (K.faults sink.new)) }
+    ensures { Finishes status result (seen_sink (K.written sink.old) (K.passed sink.old)
+        (K.faults sink.old)) (seen_sink (K.written sink.new) (K.passed sink.new)
+        (K.faults sink.new)) }
 {
     match status {
         Status::SinkFault => Status::SinkFault,
@@ -89,7 +108,9 @@ fn finish<K: Sink>(status: Status, sink: &mut K) -> Status
 
 /// Passes on what the sink still holds.
 fn pass_on<K: Sink>(status: Status, sink: &mut K) -> Status
-    ensures { PassesOn status result (seen_sink (K.written sink.old) (K.passed sink.old) (K.faults sink.old)) (seen_sink (K.written sink.new) (K.passed sink.new) (K.faults sink.new)) }
+    ensures { PassesOn status result (seen_sink (K.written sink.old) (K.passed sink.old)
+        (K.faults sink.old)) (seen_sink (K.written sink.new) (K.passed sink.new)
+        (K.faults sink.new)) }
 {
     match sink.flush() {
         Wrote::Done => status,

@@ -1,22 +1,29 @@
 -- What an ack acknowledges above its cumulative number (RFC 7016 sections 2.3.13 and 2.3.14).
-use Rattle.std.specs.Prelude.{◌≡◌, ℕ, zero, suc, ◌+◌, ◌-◌, ◌*◌, ◌/◌, ◌%◌, ◌^◌, ◌<◌, ◌≤◌, ◌==◌, ◌⊎◌, ◌↔◌, min, Bool, true, List, [], ◌∷◌, length, drop, get_or, Result, Ok, Err, nat_lt, if◌then◌else◌}
-use Rattle.rtmfp_data_chunks.specs.Chunk.{DataChunk, Data, Next, AckBitmap, AckRanges, Probe, Exception}
+use Rattle.std.specs.Prelude.{◌≡◌, ℕ, zero, suc, ◌+◌, ◌-◌, ◌*◌, ◌/◌, ◌%◌, ◌^◌, ◌<◌, ◌≤◌, ◌==◌, ◌⊎◌,
+    ◌↔◌, min, Bool, true, List, [], ◌∷◌, length, drop, get_or, Result, Ok, Err, nat_lt,
+    if◌then◌else◌}
+use Rattle.rtmfp_data_chunks.specs.Chunk.{DataChunk, Data, Next, AckBitmap, AckRanges, Probe,
+    Exception}
 use Rattle.rtmfp_data_chunks.specs.Fields.{flag}
 use Rattle.rtmfp_data_chunks.specs.Acks.{PairsTell}
 use Rattle.rtmfp_vlu.specs.declared.reading.VluFault.{VluFault}
 use Rattle.rtmfp_vlu.specs.Reading.{number_at}
 
--- the stretches that pairs tell of, above the last number that was told of. A pair is one less than the count of the
--- numbers that aren't there, and one less than the count of those that are. It ends where a pair isn't whole or
--- would pass 64 bits
-abbrev pub with_received : (ℕ → List ℕ → List (ℕ × ℕ)) → ℕ → List ℕ → Result (ℕ × ℕ) VluFault → List (ℕ × ℕ)
+-- the stretches that pairs tell of, above the last number that was told of. A pair is one less than
+-- the count of the numbers that aren't there, and one less than the count of those that are. It
+-- ends where a pair isn't whole or would pass 64 bits
+abbrev pub with_received : (ℕ → List ℕ → List (ℕ × ℕ)) → ℕ → List ℕ → Result (ℕ × ℕ) VluFault →
+    List (ℕ × ℕ)
 with_received later first bytes (Err fault) = []
 with_received later first bytes (Ok received) =
-    if nat_lt (first + received.0) (2 ^ 64) then (first, first + received.0) ∷ later (first + received.0) (drop received.1 bytes) else []
+    if nat_lt (first + received.0) (2 ^ 64) then
+      (first, first + received.0) ∷ later (first + received.0) (drop received.1 bytes) else []
 
-abbrev pub with_holes : (ℕ → List ℕ → List (ℕ × ℕ)) → ℕ → List ℕ → Result (ℕ × ℕ) VluFault → List (ℕ × ℕ)
+abbrev pub with_holes : (ℕ → List ℕ → List (ℕ × ℕ)) → ℕ → List ℕ → Result (ℕ × ℕ) VluFault →
+    List (ℕ × ℕ)
 with_holes later last bytes (Err fault) = []
-with_holes later last bytes (Ok holes) = with_received later (last + holes.0 + 2) (drop holes.1 bytes) (number_at (drop holes.1 bytes))
+with_holes later last bytes (Ok holes) = with_received later (last + holes.0 + 2)
+    (drop holes.1 bytes) (number_at (drop holes.1 bytes))
 
 -- in so many steps
 unfoldable pub pairs_within : ℕ → ℕ → List ℕ → List (ℕ × ℕ)
@@ -29,12 +36,13 @@ acked_pairs upto bytes = pairs_within (suc (length bytes)) upto bytes
 
 -- ---- bits
 
--- the bit that speaks of number n is set: the least significant bit of the first byte speaks of upto + 2, and each
--- further one of the next number
+-- the bit that speaks of number n is set: the least significant bit of the first byte speaks of
+-- upto + 2, and each further one of the next number
 abbrev pub is_set : ℕ → List ℕ → ℕ → Bool
 is_set upto bits n = flag (get_or bits ((n - (upto + 2)) / 8) 0) ((n - (upto + 2)) % 8)
 
--- the numbers a to b in front of stretches, as one with the first of them where that begins behind b
+-- the numbers a to b in front of stretches, as one with the first of them where that begins behind
+-- b
 abbrev pub in_front : ℕ → ℕ → List (ℕ × ℕ) → List (ℕ × ℕ)
 in_front a b [] = (a, b) ∷ []
 in_front a b (s ∷ ss) = if s.0 == b + 1 then (a, s.1) ∷ ss else (a, b) ∷ (s ∷ ss)
@@ -42,7 +50,8 @@ in_front a b (s ∷ ss) = if s.0 == b + 1 then (a, s.1) ∷ ss else (a, b) ∷ (
 -- the stretches of the numbers that pass a test, of so many from n on
 unfoldable pub runs : (ℕ → Bool) → ℕ → ℕ → List (ℕ × ℕ)
 runs test n zero = []
-runs test n (suc count) = if test n then in_front n n (runs test (suc n) count) else runs test (suc n) count
+runs test n (suc count) = if test n then in_front n n (runs test (suc n) count)
+    else runs test (suc n) count
 
 -- how many bits speak of numbers of 64 bits
 abbrev pub bits_told : ℕ → List ℕ → ℕ
@@ -71,11 +80,14 @@ abbrev pub AreApart : ℕ → List (ℕ × ℕ) → Type 0
 AreApart above [] = Unit {0}
 AreApart above (s ∷ ss) = (above + 2 ≤ s.0) × (s.0 ≤ s.1) × AreApart s.1 ss
 
--- the stretches are those of the ack: of the numbers whose bit is set, or those that the pairs tell of
+-- the stretches are those of the ack: of the numbers whose bit is set, or those that the pairs tell
+-- of
 abbrev pub AckTells : DataChunk → List (ℕ × ℕ) → Type 0
 AckTells (Data user) ss = ss ≡ []
 AckTells (Next user) ss = ss ≡ []
-AckTells (AckBitmap flow blocks upto bits) ss = AreApart upto ss × ((n : ℕ) → IsTold n ss ↔ ((upto + 2 ≤ n) × (n < 2 ^ 64) × (is_set upto bits n ≡ true)))
-AckTells (AckRanges flow blocks upto pairs) ss = (told : List (ℕ × ℕ)) → PairsTell upto told pairs → ss ≡ told
+AckTells (AckBitmap flow blocks upto bits) ss = AreApart upto ss ×
+    ((n : ℕ) → IsTold n ss ↔ ((upto + 2 ≤ n) × (n < 2 ^ 64) × (is_set upto bits n ≡ true)))
+AckTells (AckRanges flow blocks upto pairs) ss = (told : List (ℕ × ℕ)) → PairsTell upto told pairs →
+    ss ≡ told
 AckTells (Probe flow) ss = ss ≡ []
 AckTells (Exception flow code) ss = ss ≡ []

@@ -1,13 +1,17 @@
--- What acks tell beside their cumulative number (RFC 7016 sections 2.3.13 and 2.3.14). Own: no number above 64 bits.
-use Rattle.std.specs.Prelude.{◌≡◌, ℕ, ◌+◌, ◌-◌, ◌*◌, ◌^◌, ◌<◌, ◌≤◌, ◌⊎◌, List, [], ◌∷◌, ◌++◌, length, get_or}
+-- What acks tell beside their cumulative number (RFC 7016 sections 2.3.13 and 2.3.14). Own: no
+-- number above 64 bits.
+use Rattle.std.specs.Prelude.{◌≡◌, ℕ, ◌+◌, ◌-◌, ◌*◌, ◌^◌, ◌<◌, ◌≤◌, ◌⊎◌, List, [], ◌∷◌, ◌++◌,
+    length, get_or}
 use Rattle.std.specs.Int.{bit_at}
 use Rattle.rtmfp_data_chunks.specs.Fields.{NumbersSpell, NumbersBreak}
 
--- ---- bits: the least significant bit of the first byte speaks of upto + 2, and each further one of the next number
+-- ---- bits: the least significant bit of the first byte speaks of upto + 2, and each further one
+-- of the next number
 
 -- a set bit of byte i speaks of a number above 64 bits
 abbrev pub Passes : ℕ → List ℕ → ℕ → Type 0
-Passes upto bits i = (j : ℕ) × (j < 8) × (bit_at (get_or bits i 0) j ≡ 1) × (2 ^ 64 ≤ upto + 2 + (8 * i + j))
+Passes upto bits i = (j : ℕ) × (j < 8) × (bit_at (get_or bits i 0) j ≡ 1) ×
+    (2 ^ 64 ≤ upto + 2 + (8 * i + j))
 
 abbrev pub BitsFit : ℕ → List ℕ → Type 0
 BitsFit upto bits = (i : ℕ) → Passes upto bits i → ⊥
@@ -17,8 +21,8 @@ pub record BitsPass (upto : ℕ) (bits : List ℕ) (at : ℕ) : Type 0 where
   pub passes : Passes upto bits at
   pub first : (i : ℕ) → i < at → Passes upto bits i → ⊥
 
--- ---- pairs: each is one less than the count of numbers that are missing, and one less than the count of those that
--- are there, and they walk upward
+-- ---- pairs: each is one less than the count of numbers that are missing, and one less than the
+-- count of those that are there, and they walk upward
 
 -- the pairs tell of these stretches above a number, each by its first and its last number
 abbrev pub PairsTell : ℕ → List (ℕ × ℕ) → List ℕ → Type 0
@@ -48,7 +52,8 @@ pub record PairPasses (above : ℕ) (b : List ℕ) : Type 0 where
   pub spell : NumbersSpell (holes ∷ received ∷ []) pair
   pub passes : 2 ^ 64 ≤ above + holes + 2 + received
 
--- bytes are left, and no good pair is in front of them: a number is missing at this offset, or the pair passes
+-- bytes are left, and no good pair is in front of them: a number is missing at this offset, or the
+-- pair passes
 abbrev pub PairBreaks : ℕ → List ℕ → ℕ → Type 0
 PairBreaks above b at = (0 < length b) × (NumbersBreak 2 b at ⊎ (PairPasses above b × (at ≡ 0)))
 

@@ -1,5 +1,6 @@
 -- The fields that chunks of flows are made of.
-use Rattle.std.specs.Prelude.{◌≡◌, ℕ, ◌/◌, ◌%◌, ◌<◌, ◌==◌, ◌⊎◌, Bool, true, List, [], ◌∷◌, ◌++◌, length, Option, Some, None, is_some}
+use Rattle.std.specs.Prelude.{◌≡◌, ℕ, ◌/◌, ◌%◌, ◌<◌, ◌==◌, ◌⊎◌, Bool, true, List, [], ◌∷◌, ◌++◌,
+    length, Option, Some, None, is_some}
 use Rattle.std.specs.Int.{bit_at}
 use Rattle.rtmfp_vlu.specs.Vlu.{VluSpells, IsCut, IsLarge}
 use Rattle.rtmfp_forms.specs.declared.fault.FormFault.{FormFault}
@@ -13,7 +14,8 @@ use Rattle.rtmfp_data_chunks.specs.Chunk.{UserParts}
 -- these numbers stand one after another, each in any spelling
 abbrev pub NumbersSpell : List ℕ → List ℕ → Type 0
 NumbersSpell [] s = s ≡ []
-NumbersSpell (n ∷ ns) s = (first : List ℕ) × (others : List ℕ) × VluSpells n first × (s ≡ first ++ others) × NumbersSpell ns others
+NumbersSpell (n ∷ ns) s = (first : List ℕ) × (others : List ℕ) × VluSpells n first ×
+    (s ≡ first ++ others) × NumbersSpell ns others
 
 -- no number stands in front
 abbrev pub NoNumber : List ℕ → Type 0

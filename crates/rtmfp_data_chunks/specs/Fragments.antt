@@ -1,5 +1,6 @@
 -- Messages and their fragments.
-use Rattle.std.specs.Prelude.{ℕ, ◌+◌, ◌-◌, ◌*◌, ◌/◌, ◌<◌, ◌≤◌, ◌==◌, if◌then◌else◌, nat_lt, nat_le, List, [], ◌∷◌, Option, Some, None, length, take, drop}
+use Rattle.std.specs.Prelude.{ℕ, ◌+◌, ◌-◌, ◌*◌, ◌/◌, ◌<◌, ◌≤◌, ◌==◌, if◌then◌else◌, nat_lt, nat_le,
+    List, [], ◌∷◌, Option, Some, None, length, take, drop}
 use Rattle.rtmfp_data_chunks.specs.declared.user_data.Part.{Part}
 use Rattle.rtmfp_data_chunks.specs.declared.user_data.Part.TheVariants.{Whole, Begin, End, Middle}
 
@@ -21,7 +22,8 @@ fragment_count m = fragments_of_length (length m.bytes)
 
 -- the part of fragment k of so many
 abbrev pub part_of : ℕ → ℕ → Part
-part_of count k = if count == 1 then Whole else if k == 0 then Begin else if k + 1 == count then End else Middle
+part_of count k = if count == 1 then Whole else if k == 0 then Begin else if k + 1 == count then End
+    else Middle
 
 -- the bytes of fragment k of a message
 abbrev pub piece : List ℕ → ℕ → List ℕ
@@ -37,7 +39,8 @@ Spans m n = (m.number ≤ n) × (n < m.number + fragment_count m)
 
 -- the fragment of number n, where the messages were queued one after another, the newest first
 abbrev pub fragment_at : Message → ℕ → Fragment
-fragment_at m n = record { part = part_of (fragment_count m) (n - m.number); bytes = piece m.bytes (n - m.number) }
+fragment_at m n = record { part = part_of (fragment_count m) (n - m.number);
+    bytes = piece m.bytes (n - m.number) }
 
 abbrev pub fragment_of : List Message → ℕ → Option Fragment
 fragment_of [] n = None

@@ -18,10 +18,12 @@ Differ [] = Unit {0}
 Differ (m ∷ ms) = ((other : Message) → IsIn other ms → m.number ≡ other.number → ⊥) × Differ ms
 
 -- whole, at most once, in queueing order, skipping only abandoned ones
-pub record HandsOver (queued : List Message) (abandoned : List ℕ) (handed : List Message) : Type 0 where
+pub record HandsOver (queued : List Message) (abandoned : List ℕ) (handed : List Message)
+    : Type 0 where
   pub rise : Rise handed
   pub were_queued : (m : Message) → IsIn m handed → IsIn m queued
-  pub skipped : (m later : Message) → IsIn m queued → IsIn later handed → m.number < later.number → (IsIn m handed → ⊥) → IsIn m.number abandoned
+  pub skipped : (m later : Message) → IsIn m queued → IsIn later handed → m.number < later.number →
+    (IsIn m handed → ⊥) → IsIn m.number abandoned
 
 -- whole, at most once
 pub record HandsOnce (queued : List Message) (handed : List Message) : Type 0 where

@@ -1,5 +1,7 @@
 -- The same from left to right, with the first fault that is met.
-use Rattle.std.specs.Prelude.{◌≡◌, ℕ, zero, suc, ◌+◌, ◌-◌, ◌/◌, ◌%◌, ◌^◌, ◌==◌, if◌then◌else◌, nat_lt, not, min, Bool, true, false, List, [], ◌∷◌, length, drop, get_or, Option, Some, None, Result, Ok, Err}
+use Rattle.std.specs.Prelude.{◌≡◌, ℕ, zero, suc, ◌+◌, ◌-◌, ◌/◌, ◌%◌, ◌^◌, ◌==◌, if◌then◌else◌,
+    nat_lt, not, min, Bool, true, false, List, [], ◌∷◌, length, drop, get_or, Option, Some, None,
+    Result, Ok, Err}
 use Rattle.std.specs.Option.{option_map}
 use Rattle.rtmfp_vlu.specs.declared.reading.VluFault.{VluFault}
 use Rattle.rtmfp_vlu.specs.Reading.{number_at}
@@ -10,8 +12,10 @@ use Rattle.rtmfp_data_chunks.specs.declared.user_data.Part.{Part}
 use Rattle.rtmfp_data_chunks.specs.declared.user_data.Part.TheVariants.{Whole, Begin, End, Middle}
 use Rattle.rtmfp_data_chunks.specs.declared.user_data.Numbers.{Numbers}
 use Rattle.rtmfp_data_chunks.specs.declared.view.DataFault.{DataFault}
-use Rattle.rtmfp_data_chunks.specs.declared.view.DataFault.TheVariants.{Unknown, Malformed, BadOffset}
-use Rattle.rtmfp_data_chunks.specs.Chunk.{UserParts, DataChunk, Data, Next, AckBitmap, AckRanges, Probe, Exception}
+use Rattle.rtmfp_data_chunks.specs.declared.view.DataFault.TheVariants.{Unknown, Malformed,
+    BadOffset}
+use Rattle.rtmfp_data_chunks.specs.Chunk.{UserParts, DataChunk, Data, Next, AckBitmap, AckRanges,
+    Probe, Exception}
 use Rattle.rtmfp_data_chunks.specs.Fields.{flag}
 
 -- what a function returned, seen by view, is what reading gives
@@ -36,13 +40,16 @@ numbers_then (suc count) size b = do
   others ← numbers_then count size first.1
   Ok (first.0 ∷ others.0, others.1)
 
-abbrev pub listed : ℕ → Result (List OptionParts × List ℕ) FormFault → Result (Option (List OptionParts) × List ℕ) DataFault
+abbrev pub listed : ℕ → Result (List OptionParts × List ℕ) FormFault →
+    Result (Option (List OptionParts) × List ℕ) DataFault
 listed at (Ok found) = Ok (Some found.0, found.1)
 listed at (Err fault) = Err (Malformed at)
 
 -- options where they are flagged, and the bytes after them
-unfoldable pub options_at : Bool → ℕ → List ℕ → Result (Option (List OptionParts) × List ℕ) DataFault
-options_at flagged size b = if flagged then listed (size - length b) (options_then b) else Ok (None, b)
+unfoldable pub options_at : Bool → ℕ → List ℕ →
+    Result (Option (List OptionParts) × List ℕ) DataFault
+options_at flagged size b = if flagged then listed (size - length b) (options_then b)
+    else Ok (None, b)
 
 -- ---- data and next
 
@@ -66,7 +73,8 @@ user_then flags numbers size b = do
 
 -- an offset that passes the number, or is 0 without abandon
 abbrev pub is_bad_offset : ℕ → ℕ → ℕ → Bool
-is_bad_offset flags seq behind = if nat_lt seq behind then true else if behind == 0 then not (flag flags 1) else false
+is_bad_offset flags seq behind = if nat_lt seq behind then true
+    else if behind == 0 then not (flag flags 1) else false
 
 unfoldable pub data_then : List ℕ → Result UserParts DataFault
 data_then [] = Err (Malformed 0)
@@ -75,7 +83,8 @@ data_then (flags ∷ b) = do
   behind ← number_then (suc (length b)) numbers.1
   if is_bad_offset flags (get_or numbers.0 1 0) behind.0
       then Err (BadOffset (suc (length b) - length numbers.1))
-      else user_then flags (record { flow = get_or numbers.0 0 0; seq = get_or numbers.0 1 0; forward = get_or numbers.0 1 0 - behind.0 }) (suc (length b)) behind.1
+      else user_then flags (record { flow = get_or numbers.0 0 0; seq = get_or numbers.0 1 0;
+        forward = get_or numbers.0 1 0 - behind.0 }) (suc (length b)) behind.1
 
 abbrev pub next_body : Numbers → List ℕ → Result UserParts DataFault
 next_body numbers [] = Err (Malformed 0)
@@ -97,7 +106,8 @@ bits_fitting upto = 2 ^ 64 - (upto + 2)
 -- the first byte that has a set bit from the one of this number on
 unfoldable pub passing_byte : ℕ → List ℕ → Option ℕ
 passing_byte fitting [] = None
-passing_byte fitting (b ∷ bs) = if b / 2 ^ min fitting 8 == 0 then option_map suc (passing_byte (fitting - 8) bs) else Some 0
+passing_byte fitting (b ∷ bs) = if b / 2 ^ min fitting 8 == 0 then
+    option_map suc (passing_byte (fitting - 8) bs) else Some 0
 
 abbrev pub bits_checked : ℕ → DataChunk → Option ℕ → Result DataChunk DataFault
 bits_checked at chunk None = Ok chunk
@@ -106,7 +116,8 @@ bits_checked at chunk (Some byte) = Err (Malformed (at + byte))
 unfoldable pub bitmap_then : List ℕ → Result DataChunk DataFault
 bitmap_then b = do
   numbers ← numbers_then 3 (length b) b
-  bits_checked (length b - length numbers.1) (AckBitmap (get_or numbers.0 0 0) (get_or numbers.0 1 0) (get_or numbers.0 2 0) numbers.1)
+  bits_checked (length b - length numbers.1)
+    (AckBitmap (get_or numbers.0 0 0) (get_or numbers.0 1 0) (get_or numbers.0 2 0) numbers.1)
       (passing_byte (bits_fitting (get_or numbers.0 2 0)) numbers.1)
 
 -- the last number that pairs tell of above a number, in so many steps
@@ -116,7 +127,8 @@ walk_within (suc steps) size above [] = Ok above
 walk_within (suc steps) size above (b ∷ bs) = do
   numbers ← numbers_then 2 size (b ∷ bs)
   let end = above + get_or numbers.0 0 0 + 2 + get_or numbers.0 1 0 in
-      if nat_lt end (2 ^ 64) then walk_within steps size end numbers.1 else Err (Malformed (size - length (b ∷ bs)))
+      if nat_lt end (2 ^ 64) then walk_within steps size end numbers.1
+        else Err (Malformed (size - length (b ∷ bs)))
 
 -- a pair has at least two bytes
 unfoldable pub pairs_then : ℕ → ℕ → List ℕ → Result ℕ DataFault

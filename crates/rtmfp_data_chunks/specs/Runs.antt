@@ -1,5 +1,7 @@
--- What becomes of numbers by the data chunks that a receiver takes, and which messages it hands over.
-use Rattle.std.specs.Prelude.{ℕ, ◌+◌, ◌-◌, ◌==◌, if◌then◌else◌, nat_le, Bool, true, false, not, map, List, [], ◌∷◌, ◌++◌, Option, Some, None, length}
+-- What becomes of numbers by the data chunks that a receiver takes, and which messages it hands
+-- over.
+use Rattle.std.specs.Prelude.{ℕ, ◌+◌, ◌-◌, ◌==◌, if◌then◌else◌, nat_le, Bool, true, false, not, map,
+    List, [], ◌∷◌, ◌++◌, Option, Some, None, length}
 use Prim.Native.Nat.{zero, suc}
 use Rattle.std.specs.Prelude.{max}
 use Rattle.std.specs.List.{filter, sum_by}
@@ -26,8 +28,8 @@ is_missing Missing = true
 is_missing (Held p b) = false
 is_missing GivenUp = false
 
--- what a chunk makes of a number that is missing.
--- Without abandon it holds its own number, with abandon it gives it up; and it gives up all at or below its forward number
+-- what a chunk makes of a number that is missing. Without abandon it holds its own number, with
+-- abandon it gives it up; and it gives up all at or below its forward number
 abbrev pub changed_by : Chunk → ℕ → Number
 changed_by c n =
     if n == c.seq then (if c.abandon then GivenUp else Held c.part c.bytes)
@@ -44,7 +46,8 @@ unfoldable pub number_of : List Chunk → ℕ → Number
 number_of [] n = if n == 0 then GivenUp else Missing
 number_of (c ∷ earlier) n = first_change (number_of earlier n) (changed_by c n)
 
--- a stretch of held numbers that fit, its bytes joined. front: it begins with a begin or a whole; rear: it ends with an end or a whole
+-- a stretch of held numbers that fit, its bytes joined. front: it begins with a begin or a whole;
+-- rear: it ends with an end or a whole
 pub record Run : Type 0 where
   pub first : ℕ
   pub last : ℕ
@@ -69,17 +72,20 @@ single n p b = record { first = n; last = n; front = has_front p; rear = has_rea
 
 -- the second follows the first and fits: the first lacks its rear and the second its front
 abbrev pub fits : Run → Run → Bool
-fits a b = if a.last + 1 == b.first then (if a.rear then false else if b.front then false else true) else false
+fits a b = if a.last + 1 == b.first then (if a.rear then false else if b.front then false else true)
+    else false
 
 abbrev pub joined : Run → Run → Run
-joined a b = record { first = a.first; last = b.last; front = a.front; rear = b.rear; bytes = a.bytes ++ b.bytes }
+joined a b = record { first = a.first; last = b.last; front = a.front; rear = b.rear;
+    bytes = a.bytes ++ b.bytes }
 
 -- the longest stretch of held numbers that fit and end at number n
 abbrev pub stretch_with : Number → ℕ → Option Run → Option Run
 stretch_with Missing n before = None
 stretch_with GivenUp n before = None
 stretch_with (Held p b) n None = Some (single n p b)
-stretch_with (Held p b) n (Some y) = if fits y (single n p b) then Some (joined y (single n p b)) else Some (single n p b)
+stretch_with (Held p b) n (Some y) = if fits y (single n p b) then Some (joined y (single n p b))
+    else Some (single n p b)
 
 unfoldable pub stretch : (ℕ → Number) → ℕ → Option Run
 stretch s zero = None
@@ -105,11 +111,13 @@ runs_to s (suc n) = runs_to s n ++ run_ending (stretch s (suc n)) (s (suc (suc n
 abbrev pub is_whole : Run → Bool
 is_whole y = if y.front then y.rear else false
 
--- it lacks its front and the number before it isn't missing, or lacks its rear and the number after it isn't missing
+-- it lacks its front and the number before it isn't missing, or lacks its rear and the number after
+-- it isn't missing
 abbrev pub is_dead : (ℕ → Bool) → Run → Bool
 is_dead missing y =
     if y.front then (if y.rear then false else not (missing (y.last + 1)))
-    else if missing (y.first - 1) then (if y.rear then false else not (missing (y.last + 1))) else true
+    else if missing (y.first - 1) then (if y.rear then false else not (missing (y.last + 1)))
+      else true
 
 abbrev pub message_of : Run → Message
 message_of y = record { number = y.first; bytes = y.bytes }
@@ -119,7 +127,8 @@ abbrev pub highest : List Chunk → ℕ
 highest [] = 0
 highest (c ∷ earlier) = max c.seq (highest earlier)
 
--- t is the greatest number up to n at or below which none is missing. This is the one up to n + 1, where n + 1 is so
+-- t is the greatest number up to n at or below which none is missing. This is the one up to n + 1,
+-- where n + 1 is so
 abbrev pub through_with : Number → ℕ → ℕ → ℕ
 through_with Missing n t = t
 through_with (Held p b) n t = if t == n then n + 1 else t
@@ -156,8 +165,10 @@ has_number n (m ∷ ms) = if m.number == n then true else has_number n ms
 
 -- a run that isn't dead and hasn't been handed over
 abbrev pub is_kept : List Chunk → List Message → Run → Bool
-is_kept taken handed y = if is_dead (missing_of taken) y then false else not (has_number y.first handed)
+is_kept taken handed y = if is_dead (missing_of taken) y then false
+    else not (has_number y.first handed)
 
 -- the bytes held: those of the runs that aren't dead and haven't been handed over
 abbrev pub bytes_held : List Chunk → List Message → ℕ
-bytes_held taken handed = sum_by (λ y. length y.bytes) (filter (is_kept taken handed) (runs_of taken))
+bytes_held taken handed = sum_by (λ y. length y.bytes)
+    (filter (is_kept taken handed) (runs_of taken))

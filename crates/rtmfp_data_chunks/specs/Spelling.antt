@@ -1,15 +1,20 @@
 -- What spells the chunks of flows: the fields of each, one after another.
-use Rattle.std.specs.Prelude.{◌≡◌, ℕ, ◌+◌, ◌-◌, ◌^◌, ◌<◌, ◌≤◌, ◌==◌, ◌||◌, ◌⊎◌, Bool, true, false, List, [], ◌∷◌, ◌++◌, length, Option, Some, None, Result, Ok, Err}
+use Rattle.std.specs.Prelude.{◌≡◌, ℕ, ◌+◌, ◌-◌, ◌^◌, ◌<◌, ◌≤◌, ◌==◌, ◌||◌, ◌⊎◌, Bool, true, false,
+    List, [], ◌∷◌, ◌++◌, length, Option, Some, None, Result, Ok, Err}
 use Rattle.rtmfp_vlu.specs.Vlu.{VluSpells}
 use Rattle.rtmfp_data_chunks.specs.declared.user_data.Numbers.{Numbers}
 use Rattle.rtmfp_data_chunks.specs.declared.view.DataView.{DataView}
 use Rattle.rtmfp_data_chunks.specs.declared.view.DataFault.{DataFault}
-use Rattle.rtmfp_data_chunks.specs.declared.view.DataFault.TheVariants.{Unknown, Malformed, BadOffset}
-use Rattle.rtmfp_data_chunks.specs.Chunk.{UserParts, DataChunk, Data, Next, AckBitmap, AckRanges, Probe, Exception, data_chunk}
-use Rattle.rtmfp_data_chunks.specs.Fields.{NumbersSpell, NumbersBreak, flag, FlagsTell, OptionsStand, OptionsBreak}
+use Rattle.rtmfp_data_chunks.specs.declared.view.DataFault.TheVariants.{Unknown, Malformed,
+    BadOffset}
+use Rattle.rtmfp_data_chunks.specs.Chunk.{UserParts, DataChunk, Data, Next, AckBitmap, AckRanges,
+    Probe, Exception, data_chunk}
+use Rattle.rtmfp_data_chunks.specs.Fields.{NumbersSpell, NumbersBreak, flag, FlagsTell,
+    OptionsStand, OptionsBreak}
 use Rattle.rtmfp_data_chunks.specs.Acks.{BitsFit, BitsPass, PairsTell, PairsBreak}
 
--- ---- data: flags, the flow, the number, how far the forward number is behind it, options where flagged, bytes
+-- ---- data: flags, the flow, the number, how far the forward number is behind it, options where
+-- flagged, bytes
 
 -- the forward number is at or below the number, and at it only where this is given up
 abbrev pub IsBehind : ℕ → ℕ → Bool → Type 0
@@ -76,7 +81,8 @@ HasNext (Some before) = before.seq + 1 < 2 ^ 64
 -- the flow and the forward number of the chunk before it, and the next number
 abbrev pub Follows : UserParts → Option Numbers → Type 0
 Follows user None = ⊥
-Follows user (Some before) = (user.flow ≡ before.flow) × (user.seq ≡ before.seq + 1) × (user.forward ≡ before.forward)
+Follows user (Some before) = (user.flow ≡ before.flow) × (user.seq ≡ before.seq + 1) ×
+    (user.forward ≡ before.forward)
 
 pub record NextSpells (user : UserParts) (last : Option Numbers) (b : List ℕ) : Type 0 where
   pub flags : ℕ
@@ -94,7 +100,8 @@ NextBodyBreaks (flags ∷ b) at = OptionsBreak flags b × (at ≡ 1)
 abbrev pub NextBreaks : Option Numbers → List ℕ → ℕ → Type 0
 NextBreaks last b at = ((HasNext last → ⊥) × (at ≡ 0)) ⊎ (HasNext last × NextBodyBreaks b at)
 
--- ---- acks: the flow, the blocks of 1,024 bytes that there is room for, the cumulative number, and bits or pairs
+-- ---- acks: the flow, the blocks of 1,024 bytes that there is room for, the cumulative number, and
+-- bits or pairs
 
 pub record BitmapSpells (flow blocks upto : ℕ) (bits b : List ℕ) : Type 0 where
   pub numbers : List ℕ
@@ -125,7 +132,8 @@ pub record AckBreaks (Breaks : ℕ → List ℕ → ℕ → Type 0) (b : List �
 -- ---- numbers alone, behind which bytes say nothing
 
 abbrev pub NumbersStand : List ℕ → List ℕ → Type 0
-NumbersStand ns b = (numbers : List ℕ) × (rest : List ℕ) × NumbersSpell ns numbers × (b ≡ numbers ++ rest)
+NumbersStand ns b = (numbers : List ℕ) × (rest : List ℕ) × NumbersSpell ns numbers ×
+    (b ≡ numbers ++ rest)
 
 -- ---- all chunks
 
@@ -151,7 +159,8 @@ abbrev pub DataSpells : DataChunk → Option Numbers → ℕ → List ℕ → Ty
 DataSpells chunk last kind b = (kind ≡ kind_of chunk) × PayloadSpells chunk last b
 
 abbrev pub is_known : ℕ → Bool
-is_known kind = (kind == 0x10) || (kind == 0x11) || (kind == 0x50) || (kind == 0x51) || (kind == 0x18) || (kind == 0x5e)
+is_known kind = (kind == 0x10) || (kind == 0x11) || (kind == 0x50) || (kind == 0x51)
+    || (kind == 0x18) || (kind == 0x5e)
 
 -- the first field that can't be read begins at this offset
 abbrev pub Breaks : Option Numbers → ℕ → List ℕ → ℕ → Type 0
@@ -177,8 +186,10 @@ shown (Err fault) = Err fault
 
 -- what the next chunk stands behind: a data or next chunk that was read
 abbrev pub before_next : Result DataChunk DataFault → Option Numbers
-before_next (Ok (Data user)) = Some (record { flow = user.flow; seq = user.seq; forward = user.forward })
-before_next (Ok (Next user)) = Some (record { flow = user.flow; seq = user.seq; forward = user.forward })
+before_next (Ok (Data user)) =
+    Some (record { flow = user.flow; seq = user.seq; forward = user.forward })
+before_next (Ok (Next user)) =
+    Some (record { flow = user.flow; seq = user.seq; forward = user.forward })
 before_next (Ok (AckBitmap flow blocks upto bits)) = None
 before_next (Ok (AckRanges flow blocks upto pairs)) = None
 before_next (Ok (Probe flow)) = None

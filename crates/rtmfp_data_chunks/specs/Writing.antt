@@ -1,11 +1,13 @@
--- The one spelling of a chunk that is written: its type, the length of its payload in two bytes, and the payload, with
--- each number and option in its shortest spelling.
-use Rattle.std.specs.Prelude.{ℕ, ◌+◌, ◌-◌, ◌*◌, Bool, if◌then◌else◌, List, [], ◌∷◌, ◌++◌, length, Option, Some, None, is_some}
+-- The one spelling of a chunk that is written: its type, the length of its payload in two bytes,
+-- and the payload, with each number and option in its shortest spelling.
+use Rattle.std.specs.Prelude.{ℕ, ◌+◌, ◌-◌, ◌*◌, Bool, if◌then◌else◌, List, [], ◌∷◌, ◌++◌, length,
+    Option, Some, None, is_some}
 use Rattle.std.specs.Int.{to_be_bytes, w16}
 use Rattle.rtmfp_vlu.specs.Vlu.{vlu}
 use Rattle.rtmfp_forms.specs.Options.{OptionParts, options_bytes}
 use Rattle.rtmfp_data_chunks.specs.declared.user_data.Numbers.{Numbers}
-use Rattle.rtmfp_data_chunks.specs.Chunk.{UserParts, DataChunk, Data, Next, AckBitmap, AckRanges, Probe, Exception}
+use Rattle.rtmfp_data_chunks.specs.Chunk.{UserParts, DataChunk, Data, Next, AckBitmap, AckRanges,
+    Probe, Exception}
 use Rattle.rtmfp_data_chunks.specs.Fields.{part_number}
 use Rattle.rtmfp_data_chunks.specs.Acks.{BitsFit, PairsTell}
 use Rattle.rtmfp_data_chunks.specs.Spelling.{IsBehind, HasNext, Follows, kind_of}
@@ -15,7 +17,8 @@ abbrev pub IsDataChunk : DataChunk → Type 0
 IsDataChunk (Data user) = IsBehind user.forward user.seq user.abandon
 IsDataChunk (Next user) = IsBehind user.forward user.seq user.abandon
 IsDataChunk (AckBitmap flow blocks upto bits) = BitsFit upto bits
-IsDataChunk (AckRanges flow blocks upto pairs) = (stretches : List (ℕ × ℕ)) × PairsTell upto stretches pairs
+IsDataChunk (AckRanges flow blocks upto pairs) = (stretches : List (ℕ × ℕ)) ×
+    PairsTell upto stretches pairs
 IsDataChunk (Probe flow) = Unit {0}
 IsDataChunk (Exception flow code) = Unit {0}
 
@@ -34,7 +37,8 @@ abbrev pub bit : Bool → ℕ
 bit set = if set then 1 else 0
 
 abbrev pub flags_of : UserParts → ℕ
-flags_of user = 128 * bit (is_some user.options) + 16 * part_number user.part + 2 * bit user.abandon + bit user.last
+flags_of user = 128 * bit (is_some user.options) + 16 * part_number user.part + 2 * bit user.abandon
+    + bit user.last
 
 abbrev pub list_bytes : Option (List OptionParts) → List ℕ
 list_bytes None = []
@@ -47,7 +51,8 @@ body_bytes user = list_bytes user.options ++ user.bytes
 -- ---- all chunks
 
 abbrev pub payload_bytes : DataChunk → List ℕ
-payload_bytes (Data user) = flags_of user ∷ (vlu user.flow ++ (vlu user.seq ++ (vlu (user.seq - user.forward) ++ body_bytes user)))
+payload_bytes (Data user) = flags_of user ∷ (vlu user.flow
+    ++ (vlu user.seq ++ (vlu (user.seq - user.forward) ++ body_bytes user)))
 payload_bytes (Next user) = flags_of user ∷ body_bytes user
 payload_bytes (AckBitmap flow blocks upto bits) = vlu flow ++ (vlu blocks ++ (vlu upto ++ bits))
 payload_bytes (AckRanges flow blocks upto pairs) = vlu flow ++ (vlu blocks ++ (vlu upto ++ pairs))
@@ -55,4 +60,5 @@ payload_bytes (Probe flow) = vlu flow
 payload_bytes (Exception flow code) = vlu flow ++ vlu code
 
 abbrev pub data_bytes : DataChunk → List ℕ
-data_bytes chunk = kind_of chunk ∷ (to_be_bytes w16 (length (payload_bytes chunk)) ++ payload_bytes chunk)
+data_bytes chunk = kind_of chunk ∷ (to_be_bytes w16 (length (payload_bytes chunk))
+    ++ payload_bytes chunk)

@@ -1,6 +1,7 @@
 //! The numbers that an ack acknowledges above its cumulative number.
 
-ghost use Rattle.std.specs.Prelude.{◌≡◌, ℕ, ◌+◌, ◌*◌, ◌<◌, ◌≤◌, ◌^◌, ◌⊎◌, [], ◌∷◌, List, true, false, length, drop, MatchOption, IfSome};
+ghost use Rattle.std.specs.Prelude.{◌≡◌, ℕ, ◌+◌, ◌*◌, ◌<◌, ◌≤◌, ◌^◌, ◌⊎◌, [], ◌∷◌, List, true,
+    false, length, drop, MatchOption, IfSome};
 ghost use Rattle.std.specs.Iterator.{YieldsFirst, item_count};
 ghost use Rattle.rtmfp_data_chunks.specs.Chunk.{data_chunk};
 ghost use Rattle.rtmfp_data_chunks.specs.Acked.{acked_pairs, is_set, acked_bits, acked, AckTells};
@@ -10,9 +11,9 @@ use crate::view::DataView;
 use rtmfp_vlu::read_vlu;
 use std::marker::Model;
 
-/// An iterator of the first and the last number of each stretch that an ack acknowledges above its cumulative
-/// number, rising. It ends before a pair that isn't whole, and before a pair or a bit that passes 64 bits. Contracts
-/// see the stretches that are left.
+/// An iterator of the first and the last number of each stretch that an ack acknowledges above its
+/// cumulative number, rising. It ends before a pair that isn't whole, and before a pair or a bit
+/// that passes 64 bits. Contracts see the stretches that are left.
 #[derive(Drop)]
 pub struct AckedRanges<'a> {
     source: Source<'a>,
@@ -64,7 +65,9 @@ struct Run<'a> {
 
 /// The stretch of the pair in front, above a number.
 fn next_stretch(above: u64, bytes: &[u8]) -> Option<Stretch<'_>>
-    ensures { MatchOption result (acked_pairs above bytes.now ≡ []) (λ s. acked_pairs above bytes.now ≡ (s.first, s.last) ∷ acked_pairs s.last s.after.now) }
+    ensures { MatchOption result (acked_pairs above bytes.now
+        ≡ []) (λ s. acked_pairs above bytes.now
+        ≡ (s.first, s.last) ∷ acked_pairs s.last s.after.now) }
 {
     let Ok((holes, used)) = read_vlu(bytes) else {
         return None;
@@ -113,7 +116,8 @@ fn skip_unset(bits: Bits<'_>) -> Bits<'_>
     requires { AreThere bits }
     ensures there { AreThere result }
     ensures same { bits_left result ≡ bits_left bits.entry }
-    ensures found { (result.left ≡ 0) ⊎ (is_set result.upto result.bits.now (result.upto + 2 + result.at) ≡ true) }
+    ensures found { (result.left ≡ 0) ⊎
+        (is_set result.upto result.bits.now (result.upto + 2 + result.at) ≡ true) }
 {
     let mut rest = bits;
     while rest.left > 0 {
@@ -156,7 +160,8 @@ fn run_from(bits: Bits<'_>) -> Run<'_>
 fn next_run(bits: Bits<'_>) -> Option<Run<'_>>
     requires { AreThere bits }
     ensures there { IfSome result (λ r. AreThere r.after) }
-    ensures first { MatchOption result (bits_left bits.entry ≡ []) (λ r. bits_left bits.entry ≡ (r.first, r.last) ∷ bits_left r.after) }
+    ensures first { MatchOption result (bits_left bits.entry ≡ []) (λ r. bits_left bits.entry
+        ≡ (r.first, r.last) ∷ bits_left r.after) }
 {
     let rest = skip_unset(bits);
     if rest.left == 0 {
@@ -229,8 +234,8 @@ impl<'a> Iterator for AckedRanges<'a> {
 }
 
 impl<'a> DataView<'a> {
-    /// The first and the last number of each stretch that an ack acknowledges above its cumulative number. Other chunks
-    /// acknowledge none.
+    /// The first and the last number of each stretch that an ack acknowledges above its cumulative
+    /// number. Other chunks acknowledge none.
     pub fn acked(&self) -> AckedRanges<'a>
         ensures acked { result ≡ acked (data_chunk self.now) }
 

@@ -10,8 +10,8 @@ use crate::user_data::{Numbers, UserData};
 use crate::view::{DataFault, DataView};
 use std::marker::Model;
 
-/// Reads chunks of flows, each behind the one before it. Contracts see the numbers that a next chunk would stand
-/// behind, of a data or next chunk that was read just before, or nothing.
+/// Reads chunks of flows, each behind the one before it. Contracts see the numbers that a next
+/// chunk would stand behind, of a data or next chunk that was read just before, or nothing.
 #[derive(Drop)]
 pub struct DataCursor {
     before: Option<Numbers>,
@@ -41,7 +41,8 @@ impl DataCursor {
     pub fn read<'a>(&mut self, kind: u8, payload: &'a [u8]) -> Result<DataView<'a>, DataFault>
         // The payload reads so, and in no other way.
         ensures reads { DataReading self.old kind payload.now (shown result) }
-        ensures only { (other : Result DataChunk DataFault) → DataReading self.old kind payload.now other → other ≡ shown result }
+        ensures only { (other : Result DataChunk DataFault) →
+            DataReading self.old kind payload.now other → other ≡ shown result }
 
         // What is read can be written.
         ensures whole { IfOk result (λ view. IsDataChunk (data_chunk view)) }
@@ -74,7 +75,8 @@ fn before_next(read: &Result<DataView<'_>, DataFault>) -> Option<Numbers>
 }
 
 fn numbers(user: &UserData<'_>) -> Numbers
-    ensures { result ≡ record { flow = user.now.flow; seq = user.now.seq; forward = user.now.forward } }
+    ensures { result ≡ record { flow = user.now.flow; seq = user.now.seq;
+        forward = user.now.forward } }
 {
     Numbers {
         flow: user.flow,

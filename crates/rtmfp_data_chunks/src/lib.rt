@@ -1,5 +1,5 @@
-//! The chunks of flows (RFC 7016 sections 2.3.11 to 2.3.16), read in place and written, and what numbers, fragments
-//! and runs of a flow are.
+//! The chunks of flows (RFC 7016 sections 2.3.11 to 2.3.16), read in place and written, and what
+//! numbers, fragments and runs of a flow are.
 #![tactic(auto)]
 
 mod acked;

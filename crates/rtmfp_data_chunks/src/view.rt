@@ -17,8 +17,8 @@ pub enum DataView<'a> {
         blocks: u64,
         /// All numbers up to this one are acknowledged.
         upto: u64,
-        /// The least significant bit of the first byte speaks of `upto` + 2, and each further one of the next
-        /// number.
+        /// The least significant bit of the first byte speaks of `upto` + 2, and each further one
+        /// of the next number.
         bits: &'a [u8],
     },
     /// An ack by ranges (RFC 7016 section 2.3.14).
@@ -28,8 +28,8 @@ pub enum DataView<'a> {
         blocks: u64,
         /// All numbers up to this one are acknowledged.
         upto: u64,
-        /// Pairs of numbers that walk upward from `upto`: one less than the count of those that are missing, and
-        /// one less than the count of those that are there.
+        /// Pairs of numbers that walk upward from `upto`: one less than the count of those that are
+        /// missing, and one less than the count of those that are there.
         pairs: &'a [u8],
     },
     /// Asks the receiver of a flow for an ack (RFC 7016 section 2.3.15).
@@ -52,8 +52,8 @@ pub enum DataFault {
     /// The field at this offset of the payload can't be read.
     #[error("malformed at offset {0}")]
     Malformed(usize),
-    /// The offset of the forward number, at this offset of the payload, passes the sequence number, or is 0 without
-    /// abandon.
+    /// The offset of the forward number, at this offset of the payload, passes the sequence number,
+    /// or is 0 without abandon.
     #[error("a bad forward number at offset {0}")]
     BadOffset(usize),
 }

@@ -1,5 +1,6 @@
 //! Chunks of flows written, each in its shortest spelling.
-ghost use Rattle.std.specs.Prelude.{◌≡◌, ℕ, ◌+◌, ◌-◌, ◌^◌, ◌<◌, ◌≤◌, ◌↔◌, ◌++◌, ◌∷◌, min, length, Bool, Option, OnOk, OnErr, IsErr};
+ghost use Rattle.std.specs.Prelude.{◌≡◌, ℕ, ◌+◌, ◌-◌, ◌^◌, ◌<◌, ◌≤◌, ◌↔◌, ◌++◌, ◌∷◌, min, length,
+    Bool, Option, OnOk, OnErr, IsErr};
 ghost use Rattle.std.specs.Int.{to_be_bytes, w16};
 ghost use Rattle.rtmfp_vlu.specs.Vlu.{vlu};
 ghost use Rattle.rtmfp_forms.specs.Outgoing.{packet_limit};
@@ -7,24 +8,28 @@ ghost use Rattle.rtmfp_data_chunks.specs.declared.user_data.Numbers.{Numbers};
 ghost use Rattle.rtmfp_data_chunks.specs.Chunk.{user_parts, data_chunk};
 ghost use Rattle.rtmfp_data_chunks.specs.Fields.{OptionsStand, part_number};
 ghost use Rattle.rtmfp_data_chunks.specs.Spelling.{IsBehind, PayloadSpells, DataSpells, kind_of};
-ghost use Rattle.rtmfp_data_chunks.specs.Writing.{IsDataChunk, CanFollow, bit, flags_of, list_bytes, body_bytes, payload_bytes, data_bytes};
+ghost use Rattle.rtmfp_data_chunks.specs.Writing.{IsDataChunk, CanFollow, bit, flags_of, list_bytes,
+    body_bytes, payload_bytes, data_bytes};
 
 use crate::user_data::{Part, UserData};
 use crate::view::DataView;
 use rtmfp_forms::{NoRoom, Options, Outgoing, append_options, options_len};
 use rtmfp_vlu::vlu_len;
 
-/// Puts the chunk at the end, its type and its length included, all or nothing. Numbers and options get their shortest
-/// spelling; the pairs of an ack stay as they are.
+/// Puts the chunk at the end, its type and its length included, all or nothing. Numbers and options
+/// get their shortest spelling; the pairs of an ack stay as they are.
 pub fn write_data(view: &DataView<'_>, out: &mut Outgoing) -> Result<(), NoRoom>
     // A chunk that can be read.
     requires { IsDataChunk (data_chunk view.now) }
     ensures ok { OnOk result (out.new ≡ out.old ++ data_bytes (data_chunk view.now)) }
-    ensures no_room { IsErr result ↔ (packet_limit < length out.old + length (data_bytes (data_chunk view.now))) }
+    ensures no_room { IsErr result ↔ (packet_limit
+        < length out.old + length (data_bytes (data_chunk view.now))) }
     ensures err { OnErr result (out.new ≡ out.old) }
 
     // What is written reads as the same chunk, a next chunk behind the one before it.
-    ensures spells { (last : Option Numbers) → CanFollow (data_chunk view.now) last → DataSpells (data_chunk view.now) last (kind_of (data_chunk view.now)) (payload_bytes (data_chunk view.now)) }
+    ensures spells { (last : Option Numbers) → CanFollow (data_chunk view.now) last →
+        DataSpells (data_chunk view.now) last (kind_of (data_chunk view.now))
+        (payload_bytes (data_chunk view.now)) }
 {
     let len = payload_len(view);
     if len.saturating_add(3) > out.room() {
@@ -62,7 +67,8 @@ fn append_head(kind: u8, len: u16, out: &mut Outgoing)
 fn payload_len(view: &DataView<'_>) -> usize
     requires { IsDataChunk (data_chunk view.now) }
     ensures length { result ≡ min (length (payload_bytes (data_chunk view.now))) (2 ^ 64 - 1) }
-    ensures spells { (last : Option Numbers) → CanFollow (data_chunk view.now) last → PayloadSpells (data_chunk view.now) last (payload_bytes (data_chunk view.now)) }
+    ensures spells { (last : Option Numbers) → CanFollow (data_chunk view.now) last →
+        PayloadSpells (data_chunk view.now) last (payload_bytes (data_chunk view.now)) }
 {
     match view {
         DataView::Data(user) => {
@@ -162,7 +168,8 @@ fn append_payload(view: &DataView<'_>, out: &mut Outgoing)
 
 /// Puts three numbers at the end, for which there is room.
 fn append_three(first: u64, second: u64, third: u64, out: &mut Outgoing)
-    requires { length out.old + (length (vlu first) + length (vlu second) + length (vlu third)) ≤ packet_limit }
+    requires { length out.old + (length (vlu first) + length (vlu second) + length (vlu third))
+        ≤ packet_limit }
     ensures { out.new ≡ ((out.old ++ vlu first) ++ vlu second) ++ vlu third }
 {
     out.append_vlu(first);

@@ -1,6 +1,7 @@
--- Transport addresses (RFC 7016 section 2.1.5): a byte of flags, 4 or 16 bytes of host, 2 bytes of port.
--- Own: the five middle bits of the flags are ignored on reading, and written as 0.
-use Rattle.std.specs.Prelude.{◌≡◌, ℕ, ◌+◌, ◌-◌, ◌%◌, ◌^◌, ◌<◌, ◌≤◌, Bool, nat_le, if◌then◌else◌, List, [], ◌∷◌, ◌++◌, length, take, drop, replicate}
+-- Transport addresses (RFC 7016 section 2.1.5): a byte of flags, 4 or 16 bytes of host, 2 bytes of
+-- port. Own: the five middle bits of the flags are ignored on reading, and written as 0.
+use Rattle.std.specs.Prelude.{◌≡◌, ℕ, ◌+◌, ◌-◌, ◌%◌, ◌^◌, ◌<◌, ◌≤◌, Bool, nat_le, if◌then◌else◌,
+    List, [], ◌∷◌, ◌++◌, length, take, drop, replicate}
 use Rattle.std.specs.Int.{w16, to_be_bytes}
 
 -- an address as contracts see it
@@ -27,7 +28,8 @@ pub record SamePlace (a b : AddressParts) : Type 0 where
   pub host : a.host ≡ b.host
   pub port : a.port ≡ b.port
 
--- the bytes spell the address: the highest bit of the flags says IPv6, and the lowest two are the origin
+-- the bytes spell the address: the highest bit of the flags says IPv6, and the lowest two are the
+-- origin
 pub record AddressSpells (a : AddressParts) (b : List ℕ) : Type 0 where
   pub flags : ℕ
   pub flags_fit : flags < 256
@@ -38,7 +40,8 @@ pub record AddressSpells (a : AddressParts) (b : List ℕ) : Type 0 where
 
 -- the one spelling that is written
 abbrev pub address_bytes : AddressParts → List ℕ
-address_bytes a = ((if a.v6 then 128 else 0) + a.origin) ∷ take (host_len a.v6) a.host ++ to_be_bytes w16 a.port
+address_bytes a = ((if a.v6 then 128 else 0) + a.origin) ∷ take (host_len a.v6) a.host
+    ++ to_be_bytes w16 a.port
 
 -- the flags, the host or the port isn't there whole
 abbrev pub IsCutAddress : List ℕ → Type 0

@@ -1,5 +1,6 @@
 -- Options and lists of them (RFC 7016 sections 2.1.3 and 2.1.4).
-use Rattle.std.specs.Prelude.{◌≡◌, ℕ, ◌<◌, ◌≤◌, ◌⊎◌, List, [], ◌∷◌, ◌++◌, length, take, Result, Ok, Err}
+use Rattle.std.specs.Prelude.{◌≡◌, ℕ, ◌<◌, ◌≤◌, ◌⊎◌, List, [], ◌∷◌, ◌++◌, length, take, Result, Ok,
+    Err}
 use Rattle.std.specs.List.{flat_map}
 use Rattle.rtmfp_vlu.specs.Vlu.{VluSpells, IsCut, IsLarge, vlu}
 use Rattle.rtmfp_forms.specs.declared.fault.FormFault.{FormFault}
@@ -21,7 +22,8 @@ pub record PieceSpells (o : OptionParts) (piece : List ℕ) : Type 0 where
 -- one piece for each option
 abbrev pub PiecesSpell : List OptionParts → List ℕ → Type 0
 PiecesSpell [] bytes = bytes ≡ []
-PiecesSpell (o ∷ os) bytes = (piece : List ℕ) × (rest : List ℕ) × (bytes ≡ piece ++ rest) × PieceSpells o piece × PiecesSpell os rest
+PiecesSpell (o ∷ os) bytes = (piece : List ℕ) × (rest : List ℕ) × (bytes ≡ piece ++ rest) ×
+    PieceSpells o piece × PiecesSpell os rest
 
 -- the pieces, and then a spelling of 0 as the marker
 pub record OptionsSpell (os : List OptionParts) (bytes : List ℕ) : Type 0 where
@@ -45,12 +47,15 @@ pub record HasPiece (bytes : List ℕ) (size : ℕ) (counted : List ℕ) : Type 
 -- the kind leaves the bytes that are counted, or these aren't there whole
 abbrev pub IsCutPiece : ℕ → List ℕ → Type 0
 IsCutPiece size counted =
-    IsCut counted ⊎ ((kind : ℕ) × (n : ℕ) × (n ≤ length counted) × VluSpells kind (take n counted) × (length counted < size))
+    IsCut counted ⊎ ((kind : ℕ) × (n : ℕ) × (n ≤ length counted) × VluSpells kind (take n counted) ×
+      (length counted < size))
 
 -- what is wrong where an option or the marker has to stand
 abbrev pub IsFaultAt : FormFault → List ℕ → Type 0
-IsFaultAt Short bytes = ((0 < length bytes) × IsCut bytes) ⊎ ((size : ℕ) × (counted : List ℕ) × HasPiece bytes size counted × IsCutPiece size counted)
-IsFaultAt Large bytes = IsLarge bytes ⊎ ((size : ℕ) × (counted : List ℕ) × HasPiece bytes size counted × IsLarge counted)
+IsFaultAt Short bytes = ((0 < length bytes) × IsCut bytes) ⊎
+    ((size : ℕ) × (counted : List ℕ) × HasPiece bytes size counted × IsCutPiece size counted)
+IsFaultAt Large bytes = IsLarge bytes ⊎ ((size : ℕ) × (counted : List ℕ) ×
+    HasPiece bytes size counted × IsLarge counted)
 IsFaultAt NoMarker bytes = bytes ≡ []
 
 -- whole options, and then this fault

@@ -1,5 +1,7 @@
-ghost use Rattle.std.specs.Prelude.{◌≡◌, ℕ, ◌+◌, ◌-◌, ◌^◌, ◌<◌, ◌≤◌, ◌↔◌, ◌++◌, Bool, false, if◌then◌else◌, List, length, take, drop, replicate, IsTrue, IfOk, IfErr, Ok};
-ghost use Rattle.rtmfp_forms.specs.Address.{AddressParts, host_len, IsAddress, SamePlace, AddressSpells, address_bytes, IsCutAddress};
+ghost use Rattle.std.specs.Prelude.{◌≡◌, ℕ, ◌+◌, ◌-◌, ◌^◌, ◌<◌, ◌≤◌, ◌↔◌, ◌++◌, Bool, false,
+    if◌then◌else◌, List, length, take, drop, replicate, IsTrue, IfOk, IfErr, Ok};
+ghost use Rattle.rtmfp_forms.specs.Address.{AddressParts, host_len, IsAddress, SamePlace,
+    AddressSpells, address_bytes, IsCutAddress};
 ghost use Rattle.rtmfp_forms.specs.AddressReading.{address_at};
 
 use crate::fault::FormFault;
@@ -12,7 +14,8 @@ pub struct Address {
     pub v6: bool,
     /// Where it comes from: 0 unknown, 1 local, 2 observed, 3 relay.
     pub origin: u8,
-    /// The host, most significant byte first. An IPv4 host has the first four bytes, and zeros after them.
+    /// The host, most significant byte first. An IPv4 host has the first four bytes, and zeros
+    /// after them.
     pub host: [u8; 16],
     pub port: u16,
 }
@@ -24,7 +27,8 @@ impl Model for Address {
 
     ghost view = { λ a. record { v6 = a.v6; origin = a.origin; host = a.host; port = a.port } };
 
-    ghost invariant = { λ a. IsAddress (record { v6 = a.v6; origin = a.origin; host = a.host; port = a.port }) };
+    ghost invariant =
+        { λ a. IsAddress (record { v6 = a.v6; origin = a.origin; host = a.host; port = a.port }) };
 
     ghost inverse = { λ a. record { v6 = a.v6; origin = a.origin; host = a.host; port = a.port } };
 }
@@ -32,7 +36,8 @@ impl Model for Address {
 impl Address {
     /// An IPv4 address of unknown origin.
     pub fn v4(host: [u8; 4], port: u16) -> Address
-        ensures { result ≡ record { v6 = false; origin = 0; host = host ++ replicate 12 0; port = port } }
+        ensures { result ≡ record { v6 = false; origin = 0; host = host ++ replicate 12 0;
+            port = port } }
     {
         let mut filled = [0; 16];
         filled[..4].copy_from_slice(&host);
@@ -52,13 +57,15 @@ impl Address {
     }
 }
 
-/// Reads the address that the bytes begin with, and the number of bytes that it takes, 7 or 19. The five middle
-/// bits of the flags are ignored (own).
+/// Reads the address that the bytes begin with, and the number of bytes that it takes, 7 or 19. The
+/// five middle bits of the flags are ignored (own).
 pub fn read_address(bytes: &[u8]) -> Result<(Address, usize), FormFault>
     // What is read stands there.
-    ensures ok { IfOk result (λ found. (found.1 ≤ length bytes.now) × AddressSpells found.0 (take found.1 bytes.now)) }
+    ensures ok { IfOk result (λ found. (found.1 ≤ length bytes.now) ×
+        AddressSpells found.0 (take found.1 bytes.now)) }
     // What stands there is read.
-    ensures complete { (a : AddressParts) (n : ℕ) → n ≤ length bytes.now → AddressSpells a (take n bytes.now) → result ≡ Ok (a, n) }
+    ensures complete { (a : AddressParts) (n : ℕ) → n ≤ length bytes.now →
+        AddressSpells a (take n bytes.now) → result ≡ Ok (a, n) }
 
     ensures short { (result ≡ Err FormFault.Short) ↔ IsCutAddress bytes.now }
     ensures only_short { IfErr result (λ fault. fault ≡ FormFault.Short) }
@@ -92,7 +99,8 @@ fn address_of(bytes: &[u8]) -> Result<(Address, usize), FormFault>
     Ok((address, host_len + 3))
 }
 
-/// Writes an address at the front, and gives its length, 7 or 19. The bytes after it stay as they are.
+/// Writes an address at the front, and gives its length, 7 or 19. The bytes after it stay as they
+/// are.
 pub fn write_address(address: &Address, out: &mut [u8; 19]) -> usize
     ensures spells { AddressSpells address.now (take result out.new) }
     ensures written { out.new ≡ address_bytes address.now ++ drop result out.old }

@@ -1,4 +1,5 @@
-//! Addresses and options of RFC 7016 section 2.1, read and written exactly, and a packer of plain packets.
+//! Addresses and options of RFC 7016 section 2.1, read and written exactly, and a packer of plain
+//! packets.
 #![tactic(auto)]
 
 mod address;

@@ -1,5 +1,6 @@
 ghost use Rattle.std.specs.Prelude.{◌≡◌, ◌+◌, ◌^◌, ◌<◌, ◌≤◌, ◌↔◌, ◌++◌, length, OnOk, OnErr, IsErr};
-ghost use Rattle.rtmfp_forms.specs.Options.{OptionsSpell, counted_bytes, option_bytes, options_bytes};
+ghost use Rattle.rtmfp_forms.specs.Options.{OptionsSpell, counted_bytes, option_bytes,
+    options_bytes};
 ghost use Rattle.rtmfp_forms.specs.OptionReading.{option_parts};
 ghost use Rattle.rtmfp_forms.specs.Outgoing.{packet_limit};
 
@@ -25,7 +26,8 @@ pub fn options_len(options: &Options<'_>) -> usize
 /// Puts the options' shortest spelling at the end, the marker included, all or nothing.
 pub fn write_options(options: &Options<'_>, out: &mut Outgoing) -> Result<(), NoRoom>
     ensures ok { OnOk result (out.new ≡ out.old ++ options_bytes options.now) }
-    ensures no_room { IsErr result ↔ (packet_limit < length out.old + length (options_bytes options.now)) }
+    ensures no_room { IsErr result ↔ (packet_limit
+        < length out.old + length (options_bytes options.now)) }
     ensures err { OnErr result (out.new ≡ out.old) }
 
     // What is written reads as the same options.

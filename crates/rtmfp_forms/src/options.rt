@@ -1,8 +1,10 @@
-ghost use Rattle.std.specs.Prelude.{◌≡◌, ℕ, ◌+◌, ◌<◌, ◌≤◌, ◌↔◌, ◌++◌, [], ◌∷◌, List, length, take, drop, Option, Some, None, Ok, Err, IfOk, IfErr};
+ghost use Rattle.std.specs.Prelude.{◌≡◌, ℕ, ◌+◌, ◌<◌, ◌≤◌, ◌↔◌, ◌++◌, [], ◌∷◌, List, length, take,
+    drop, Option, Some, None, Ok, Err, IfOk, IfErr};
 ghost use Rattle.std.specs.Iterator.{YieldsFirstBy, item_count};
 ghost use Rattle.rtmfp_forms.specs.declared.fault.FormFault.{FormFault};
 ghost use Rattle.rtmfp_forms.specs.Options.{OptionParts, OptionsSpell, HasFault, Lists};
-ghost use Rattle.rtmfp_forms.specs.OptionReading.{option_parts, Shows, number_of, piece_of, number_then, counted_then, piece_then, options_then};
+ghost use Rattle.rtmfp_forms.specs.OptionReading.{option_parts, Shows, number_of, piece_of,
+    number_then, counted_then, piece_then, options_then};
 
 use crate::fault::FormFault;
 use rtmfp_vlu::{VluFault, read_vlu};
@@ -15,7 +17,8 @@ pub struct OptionView<'a> {
     pub value: &'a [u8],
 }
 
-/// The options of a list that was checked, one after another, as parts of the bytes that it was read from.
+/// The options of a list that was checked, one after another, as parts of the bytes that it was
+/// read from.
 #[derive(Drop)]
 pub struct Options<'a> {
     rest: &'a [u8],
@@ -68,19 +71,22 @@ impl<'a> Iterator for Options<'a> {
     }
 }
 
-/// Reads the options that the bytes begin with, up to the marker, and the number of bytes that they take, the
-/// marker included.
+/// Reads the options that the bytes begin with, up to the marker, and the number of bytes that they
+/// take, the marker included.
 pub fn read_options(bytes: &[u8]) -> Result<(Options<'_>, usize), FormFault>
     // What is read stands there.
-    ensures ok { IfOk result (λ found. (found.1 ≤ length bytes.now) × OptionsSpell found.0 (take found.1 bytes.now)) }
+    ensures ok { IfOk result (λ found. (found.1 ≤ length bytes.now) ×
+        OptionsSpell found.0 (take found.1 bytes.now)) }
     // What stands there is read.
-    ensures complete { (os : List OptionParts) (n : ℕ) → n ≤ length bytes.now → OptionsSpell os (take n bytes.now) → result ≡ Ok (os, n) }
+    ensures complete { (os : List OptionParts) (n : ℕ) → n ≤ length bytes.now →
+        OptionsSpell os (take n bytes.now) → result ≡ Ok (os, n) }
 
     // Each fault is the first one from the left.
     ensures faults { (fault : FormFault) → (result ≡ Err fault) ↔ HasFault fault bytes.now }
 
     // All of this as one function.
-    ensures exact { Shows (λ found. (found.0, drop found.1 bytes.now)) result (options_then bytes.now) }
+    ensures exact { Shows (λ found. (found.0, drop found.1 bytes.now)) result
+        (options_then bytes.now) }
 {
     listed(bytes)
 }

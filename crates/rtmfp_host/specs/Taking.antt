@@ -15,6 +15,7 @@ IsAtEnd (Some left) = left ≡ []
 
 -- what one read does: at Done its bytes are taken, else none; at End none is left
 abbrev pub Takes : Option (List ℕ) → Option (List ℕ) → Taken → List ℕ → Type 0
-Takes before now (Done count) buf = (0 < count) × (count ≤ length buf) × Consumes before now (take count buf)
+Takes before now (Done count) buf = (0 < count) × (count ≤ length buf) ×
+    Consumes before now (take count buf)
 Takes before now End buf = (now ≡ before) × IsAtEnd before
 Takes before now Failed buf = now ≡ before

@@ -8,8 +8,8 @@ use crate::plan::Plan;
 use crate::{Sink, Wrote};
 use std::alloc::Global;
 
-/// Bytes in memory. It never fails: its count of faults is 0. It tells the bytes that it took for as
-/// long as there was memory to keep them all.
+/// Bytes in memory. It never fails: its count of faults is 0. It tells the bytes that it took for
+/// as long as there was memory to keep them all.
 #[derive(Drop)]
 pub struct MemorySink {
     bytes: Vec<u8>,
@@ -63,9 +63,9 @@ impl Sink for MemorySink {
     }
 }
 
-/// Bytes in memory, and two lists of calls that are to fail, each counted from 1. It holds back what it
-/// took until a flush that is done. A write that fails takes the first of its bytes, a flush that fails
-/// passes on nothing.
+/// Bytes in memory, and two lists of calls that are to fail, each counted from 1. It holds back
+/// what it took until a flush that is done. A write that fails takes the first of its bytes, a
+/// flush that fails passes on nothing.
 #[derive(Drop)]
 pub struct FaultySink {
     sink: MemorySink,
@@ -77,10 +77,11 @@ pub struct FaultySink {
 }
 
 impl FaultySink {
-    ghost use Rattle.rtmfp_host.specs.Memory.{faulty_sink_passed, faulty_sink_written, flush_plan, front_count, passed_count, sink_faults, write_plan};
+    ghost use Rattle.rtmfp_host.specs.Memory.{faulty_sink_passed, faulty_sink_written, flush_plan,
+        front_count, passed_count, sink_faults, write_plan};
 
-    /// A sink that has taken nothing, and whose writes and flushes with these numbers fail. A write that
-    /// fails takes at most `front` bytes.
+    /// A sink that has taken nothing, and whose writes and flushes with these numbers fail. A write
+    /// that fails takes at most `front` bytes.
     pub fn new(alloc: Global, writes: Vec<u64>, flushes: Vec<u64>, front: usize) -> FaultySink
         ensures written { faulty_sink_written result ≡ Some [] }
         ensures passed { passed_count result ≡ 0 }
@@ -115,7 +116,8 @@ impl FaultySink {
 }
 
 impl Sink for FaultySink {
-    ghost use Rattle.rtmfp_host.specs.Memory.{faulty_sink_passed, faulty_sink_written, flush_plan, front_count, passed_count, sink_faults, write_plan};
+    ghost use Rattle.rtmfp_host.specs.Memory.{faulty_sink_passed, faulty_sink_written, flush_plan,
+        front_count, passed_count, sink_faults, write_plan};
     ghost use Rattle.rtmfp_host.specs.Plan.{fails_now, after_call};
     ghost use Rattle.rtmfp_host.specs.Parts.{first_where};
 
@@ -128,12 +130,15 @@ impl Sink for FaultySink {
     ghost faults = { sink_faults };
 
     fn write(&mut self, bytes: &[u8]) -> Wrote
-        ensures bytes { Writes (faulty_sink_written self.old) (faulty_sink_written self.new) result bytes.now }
+        ensures bytes { Writes (faulty_sink_written self.old) (faulty_sink_written self.new) result
+            bytes.now }
         ensures faults { CountsWrote result (sink_faults self.old) (sink_faults self.new) }
 
         // It fails exactly where it was to, and takes the first of the bytes then.
         ensures fails { (result ≡ Wrote.Failed) ↔ IsTrue (fails_now (write_plan self.old)) }
-        ensures front { result ≡ Wrote.Failed → Appends (faulty_sink_written self.old) (faulty_sink_written self.new) (take (front_count self.old) bytes.now) }
+        ensures front { result ≡ Wrote.Failed →
+            Appends (faulty_sink_written self.old) (faulty_sink_written self.new)
+            (take (front_count self.old) bytes.now) }
         ensures writes { write_plan self.new ≡ after_call (write_plan self.old) }
         ensures flushes { flush_plan self.new ≡ flush_plan self.old }
         ensures passed { passed_count self.new ≡ passed_count self.old }
@@ -148,7 +153,8 @@ impl Sink for FaultySink {
 
     fn flush(&mut self) -> Wrote
         ensures bytes { Appends (faulty_sink_written self.old) (faulty_sink_written self.new) [] }
-        ensures passed { Passes result (faulty_sink_written self.new) (faulty_sink_passed self.new) }
+        ensures passed { Passes result (faulty_sink_written self.new)
+            (faulty_sink_passed self.new) }
         ensures faults { CountsWrote result (sink_faults self.old) (sink_faults self.new) }
 
         // It fails exactly where it was to, and passes on nothing then.

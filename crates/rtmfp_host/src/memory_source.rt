@@ -80,7 +80,8 @@ pub struct FaultySource {
 }
 
 impl FaultySource {
-    ghost use Rattle.rtmfp_host.specs.Memory.{source_left, faulty_source_left, source_plan, source_faults};
+    ghost use Rattle.rtmfp_host.specs.Memory.{source_left, faulty_source_left, source_plan,
+        source_faults};
 
     /// A source that gives what `source` gives, and whose calls with these numbers fail.
     pub fn new(source: MemorySource, failing: Vec<u64>) -> FaultySource
@@ -97,7 +98,8 @@ impl FaultySource {
 }
 
 impl Source for FaultySource {
-    ghost use Rattle.rtmfp_host.specs.Memory.{faulty_source_asked, faulty_source_left, source_plan, source_faults};
+    ghost use Rattle.rtmfp_host.specs.Memory.{faulty_source_asked, faulty_source_left, source_plan,
+        source_faults};
     ghost use Rattle.rtmfp_host.specs.Plan.{fails_now, after_call};
 
     ghost left = { λ s. Some (faulty_source_left s) };
@@ -108,7 +110,8 @@ impl Source for FaultySource {
 
     fn read(&mut self, buf: &mut [u8]) -> Taken
         requires { 0 < length buf.old }
-        ensures bytes { Takes (Some (faulty_source_left self.old)) (Some (faulty_source_left self.new)) result buf.new }
+        ensures bytes { Takes (Some (faulty_source_left self.old))
+            (Some (faulty_source_left self.new)) result buf.new }
         ensures asked { Some (faulty_source_asked self.new) ≡ Some (faulty_source_left self.old) }
         ensures faults { CountsTaken result (source_faults self.old) (source_faults self.new) }
 

@@ -5,8 +5,8 @@ ghost use Rattle.rtmfp_host.specs.Faults.{CountsWrote};
 use crate::{Sink, Wrote};
 use std::io::Write;
 
-/// A writer to the outside. It tells nothing of the bytes that were taken. A write that takes none of
-/// its bytes is a fault.
+/// A writer to the outside. It tells nothing of the bytes that were taken. A write that takes none
+/// of its bytes is a fault.
 #[derive(Drop)]
 pub struct StreamSink<W: Write + Drop> {
     writer: W,

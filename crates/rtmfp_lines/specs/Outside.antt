@@ -2,7 +2,8 @@
 use Rattle.std.specs.Prelude.{◌≡◌, ℕ, List, Option}
 use Rattle.rtmfp_host.specs.Faults.{Rose}
 
--- of a source: the bytes that are left, those that were left before its last read, and how often it has failed
+-- of a source: the bytes that are left, those that were left before its last read, and how often it
+-- has failed
 pub record SourceSeen : Type 0 where
   pub left : Option (List ℕ)
   pub asked : Option (List ℕ)

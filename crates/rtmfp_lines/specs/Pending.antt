@@ -33,5 +33,6 @@ pub record Behind (before after : Option (List ℕ)) (end count : ℕ) (old new 
 
 abbrev pub ReadsBehind : Option (List ℕ) → Option (List ℕ) → ℕ → Taken → List ℕ → List ℕ → Type 0
 ReadsBehind before after end (Done count) old new = Behind before after end count old new
-ReadsBehind before after end End old new = (after ≡ before) × IsAtEnd before × (take end new ≡ take end old)
+ReadsBehind before after end End old new = (after ≡ before) × IsAtEnd before ×
+    (take end new ≡ take end old)
 ReadsBehind before after end Failed old new = (after ≡ before) × (take end new ≡ take end old)

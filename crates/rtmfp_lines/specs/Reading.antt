@@ -1,5 +1,6 @@
 -- Reading one line from a source, in whatever pieces it gives.
-use Rattle.std.specs.Prelude.{◌≡◌, ◌≢◌, ℕ, ◌+◌, ◌<◌, ◌≤◌, ◌⊎◌, List, [], ◌∷◌, ◌++◌, length, take, drop, slice_index, Option, Some, None}
+use Rattle.std.specs.Prelude.{◌≡◌, ◌≢◌, ℕ, ◌+◌, ◌<◌, ◌≤◌, ◌⊎◌, List, [], ◌∷◌, ◌++◌, length, take,
+    drop, slice_index, Option, Some, None}
 use Rattle.rtmfp_host.specs.Taking.{Consumes, IsAtEnd}
 use Rattle.rtmfp_lines.specs.declared.lines.Found.{Found}
 use Rattle.rtmfp_lines.specs.declared.lines.Found.TheVariants as found
@@ -39,7 +40,8 @@ pub record HasRead (before after : Option (List ℕ)) (old new : List ℕ) : Typ
   pub consumed : Consumes before after got
   pub joined : new ≡ old ++ got
 
--- Before the last read a part of a line stood there, so that it was needed; what it gave stands behind that.
+-- Before the last read a part of a line stood there, so that it was needed; what it gave stands
+-- behind that.
 pub record LastRead (limit : ℕ) (asked left : Option (List ℕ)) (bytes : List ℕ) : Type 0 where
   pub part : List ℕ
   pub got : List ℕ
@@ -55,7 +57,8 @@ pub record NotRead (before after : SourceSeen) (old new : List ℕ) : Type 0 whe
 
 -- each read of the source was needed
 abbrev pub Asks : ℕ → SourceSeen → SourceSeen → List ℕ → List ℕ → Type 0
-Asks limit before after old new = NotRead before after old new ⊎ LastRead limit after.asked after.left new
+Asks limit before after old new = NotRead before after old new ⊎
+    LastRead limit after.asked after.left new
 
 -- what has failed; all that the sink held was passed on before the source was asked in vain
 abbrev pub NextFaults : Next → Outside → Outside → Type 0
@@ -63,7 +66,8 @@ NextFaults (next.Line len) before after = NothingFailed before after
 NextFaults next.Last before after = NothingFailed before after
 NextFaults next.End before after = NothingFailed before after
 NextFaults next.TooLong before after = NothingFailed before after
-NextFaults next.SourceFailed before after = SourceFailed before after × (after.sink.passed ≡ after.sink.written)
+NextFaults next.SourceFailed before after = SourceFailed before after ×
+    (after.sink.passed ≡ after.sink.written)
 NextFaults next.SinkFailed before after = SinkFailed before after
 
 -- what stands in the buffer after a line was read
@@ -76,4 +80,5 @@ LineStands limit left next.SourceFailed bytes = IsPart limit bytes
 LineStands limit left next.SinkFailed bytes = IsPart limit bytes
 
 abbrev pub ReadsLine : ℕ → Option (List ℕ) → Option (List ℕ) → Next → List ℕ → List ℕ → Type 0
-ReadsLine limit before after result old new = HasRead before after old new × LineStands limit after result new
+ReadsLine limit before after result old new = HasRead before after old new ×
+    LineStands limit after result new

@@ -1,5 +1,5 @@
-//! The lines of a source: they are read in whatever pieces it gives, and a run over them ends with a
-//! status.
+//! The lines of a source: they are read in whatever pieces it gives, and a run over them ends with
+//! a status.
 #![tactic(auto)]
 
 mod buffer;

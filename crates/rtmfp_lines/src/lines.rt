@@ -64,8 +64,8 @@ fn find_line(bytes: &[u8], scanned: usize, limit: usize) -> Found
     }
 }
 
-/// Reads on until a line of at most `limit` bytes stands in front of the buffer. The sink passes on what
-/// it holds before the source is asked, which may wait.
+/// Reads on until a line of at most `limit` bytes stands in front of the buffer. The sink passes on
+/// what it holds before the source is asked, which may wait.
 pub fn next_line<S: Source, K: Sink>(
     buffer: &mut Buffer,
     limit: usize,
@@ -74,14 +74,19 @@ pub fn next_line<S: Source, K: Sink>(
 ) -> Next
     requires capacity { 2 * limit < buffer.old.capacity }
     requires limit { limit < 2 ^ 32 }
-    ensures read { ReadsLine limit (S.left source.old) (S.left source.new) result buffer.old.bytes buffer.new.bytes }
+    ensures read { ReadsLine limit (S.left source.old) (S.left source.new) result buffer.old.bytes
+        buffer.new.bytes }
     ensures written { Appends (K.written sink.old) (K.written sink.new) [] }
     ensures capacity { buffer.new.capacity ≡ buffer.old.capacity }
-    ensures asks { Asks limit (seen_source (S.left source.old) (S.asked source.old) (S.faults source.old)) (seen_source (S.left source.new) (S.asked source.new) (S.faults source.new))
+    ensures asks
+        { Asks limit (seen_source (S.left source.old) (S.asked source.old) (S.faults source.old))
+        (seen_source (S.left source.new) (S.asked source.new) (S.faults source.new))
         buffer.old.bytes buffer.new.bytes }
     ensures faults { NextFaults result
-        (outside (seen_source (S.left source.old) (S.asked source.old) (S.faults source.old)) (seen_sink (K.written sink.old) (K.passed sink.old) (K.faults sink.old)))
-        (outside (seen_source (S.left source.new) (S.asked source.new) (S.faults source.new)) (seen_sink (K.written sink.new) (K.passed sink.new) (K.faults sink.new))) }
+        (outside (seen_source (S.left source.old) (S.asked source.old) (S.faults source.old))
+          (seen_sink (K.written sink.old) (K.passed sink.old) (K.faults sink.old)))
+        (outside (seen_source (S.left source.new) (S.asked source.new) (S.faults source.new))
+          (seen_sink (K.written sink.new) (K.passed sink.new) (K.faults sink.new))) }
 {
     let mut scanned = 0;
     'reading: loop {

@@ -43,7 +43,8 @@ impl Status {
         }
     }
 
-    /// Adds what the program prints of it on standard error: nothing where the run was done, else one line.
+    /// Adds what the program prints of it on standard error: nothing where the run was done, else
+    /// one line.
     pub fn complain(self, text: &mut Text) -> Result<(), AllocError>
         ensures { OnOk result (text.new ≡ text.old ++ complaint self) }
     {

@@ -1,6 +1,7 @@
--- The head of a plain packet (RFC 7016 section 2.2.4): a byte of flags, then the timestamp and the echo,
--- each where it is flagged. Own: two bits of the flags are not looked at.
-use Rattle.std.specs.Prelude.{◌≡◌, ◌≢◌, ℕ, ◌+◌, ◌%◌, ◌^◌, ◌<◌, ◌==◌, Bool, List, [], ◌∷◌, ◌++◌, length, Option, Some, None, is_some, IfSome, if◌then◌else◌}
+-- The head of a plain packet (RFC 7016 section 2.2.4): a byte of flags, then the timestamp and the
+-- echo, each where it is flagged. Own: two bits of the flags are not looked at.
+use Rattle.std.specs.Prelude.{◌≡◌, ◌≢◌, ℕ, ◌+◌, ◌%◌, ◌^◌, ◌<◌, ◌==◌, Bool, List, [], ◌∷◌, ◌++◌,
+    length, Option, Some, None, is_some, IfSome, if◌then◌else◌}
 use Rattle.std.specs.Int.{bit_at, to_be_bytes, w16}
 use Rattle.rtmfp_packet.specs.declared.head.PacketHead.{PacketHead}
 use Rattle.rtmfp_packet.specs.declared.head.Mode.{Mode}
@@ -15,7 +16,8 @@ mode_number Startup = 3
 abbrev pub flag : ℕ → ℕ → Bool
 flag flags k = bit_at flags k == 1
 
--- the flags say what the head has: 80 time critical, 40 time critical reverse, 08 timestamp, 04 echo, 03 mode
+-- the flags say what the head has: 80 time critical, 40 time critical reverse, 08 timestamp, 04
+-- echo, 03 mode
 pub record FlagsTell (flags : ℕ) (head : PacketHead) : Type 0 where
   pub byte : flags < 256
   pub critical : flag flags 7 ≡ head.critical
@@ -52,7 +54,8 @@ flagged_len is_flagged = if is_flagged then 2 else 0
 -- there is a mode, and a flagged timestamp or echo isn't there whole
 abbrev pub IsShortStamp : List ℕ → Type 0
 IsShortStamp [] = ⊥
-IsShortStamp (flags ∷ rest) = (flags % 4 ≢ 0) × (length rest < flagged_len (flag flags 3) + flagged_len (flag flags 2))
+IsShortStamp (flags ∷ rest) = (flags % 4 ≢ 0) ×
+    (length rest < flagged_len (flag flags 3) + flagged_len (flag flags 2))
 
 -- ---- the one spelling that is written
 
@@ -62,7 +65,8 @@ flag_value is_set bit = if is_set then bit else 0
 -- the flags of a head: bits that say nothing are 0
 abbrev pub head_flags : PacketHead → ℕ
 head_flags head =
-    flag_value head.critical 128 + flag_value head.reverse 64 + flag_value (is_some head.stamp) 8 + flag_value (is_some head.echo) 4
+    flag_value head.critical 128 + flag_value head.reverse 64 + flag_value (is_some head.stamp) 8
+      + flag_value (is_some head.echo) 4
     + mode_number head.mode
 
 abbrev pub head_bytes : PacketHead → List ℕ

@@ -11,7 +11,8 @@ use Rattle.rtmfp_packet.specs.Whole.{Whole}
 
 -- these flags and the bytes behind them begin with the head, or have the fault
 abbrev pub HeadReads : ℕ → List ℕ → Result (PacketHead × Bor (List ℕ)) PacketFault → Type 0
-HeadReads flags b (Ok found) = (front : List ℕ) × HeadSpells found.0 front × (flags ∷ b ≡ front ++ found.1.now)
+HeadReads flags b (Ok found) = (front : List ℕ) × HeadSpells found.0 front ×
+    (flags ∷ b ≡ front ++ found.1.now)
 HeadReads flags b (Err Empty) = ⊥
 HeadReads flags b (Err ModeZero) = IsModeZero (flags ∷ b)
 HeadReads flags b (Err ShortStamp) = IsShortStamp (flags ∷ b)
@@ -19,7 +20,8 @@ HeadReads flags b (Err ShortStamp) = IsShortStamp (flags ∷ b)
 -- the bytes spell what was read, whose first chunk stands where the head ends
 pub record Reads (packet : Whole) (b : List ℕ) : Type 0 where
   pub spells : PacketSpells packet.head packet.chunks packet.padding b
-  pub start : packet.start + length (flat_map chunk_bytes packet.chunks ++ packet.padding) ≡ length b
+  pub start : packet.start + length (flat_map chunk_bytes packet.chunks ++ packet.padding)
+    ≡ length b
 
 -- how bytes read: as a packet that they spell, or with the fault of their head
 abbrev pub PacketReading : List ℕ → Result Whole PacketFault → Type 0

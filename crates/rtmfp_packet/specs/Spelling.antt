@@ -24,7 +24,8 @@ IsPadding (kind ∷ high ∷ low ∷ rest) = length rest < high * 256 + low
 IsPadding short = Unit {0}
 
 -- the bytes are a packet of this head, these chunks and this padding
-pub record PacketSpells (head : PacketHead) (chunks : List Chunk) (padding : List ℕ) (b : List ℕ) : Type 0 where
+pub record PacketSpells (head : PacketHead) (chunks : List Chunk) (padding : List ℕ) (b : List ℕ)
+    : Type 0 where
   pub front : List ℕ
   pub head_spelled : HeadSpells head front
   pub each : AllByRecursion IsChunk chunks

@@ -1,5 +1,6 @@
 -- The walk over the chunks of a packet.
-use Rattle.std.specs.Prelude.{ℕ, suc, ◌+◌, ◌*◌, ◌==◌, ◌||◌, nat_le, not, Bool, List, [], ◌∷◌, length, take, drop, filter, if◌then◌else◌}
+use Rattle.std.specs.Prelude.{ℕ, suc, ◌+◌, ◌*◌, ◌==◌, ◌||◌, nat_le, not, Bool, List, [], ◌∷◌,
+    length, take, drop, filter, if◌then◌else◌}
 use Rattle.rtmfp_packet.specs.Spelling.{Chunk}
 
 -- what stands behind a head: chunks, and padding
@@ -17,7 +18,8 @@ only_padding b = record { chunks = []; padding = b }
 abbrev pub walk : ℕ → List ℕ → Body
 walk (suc n) (kind ∷ high ∷ low ∷ rest) =
     if nat_le (high * 256 + low) (length rest)
-    then then_body (record { kind = kind; payload = take (high * 256 + low) rest }) (walk n (drop (high * 256 + low) rest))
+    then then_body (record { kind = kind; payload = take (high * 256 + low) rest })
+      (walk n (drop (high * 256 + low) rest))
     else only_padding (kind ∷ high ∷ low ∷ rest)
 walk n b = only_padding b
 
@@ -38,7 +40,8 @@ is_ignored kind = (kind == 0) || (kind == 255)
 abbrev pub all_placed_from : ℕ → List Chunk → List Placed
 all_placed_from at [] = []
 all_placed_from at (chunk ∷ chunks) =
-    record { kind = chunk.kind; at = at; payload = chunk.payload } ∷ all_placed_from (at + (3 + length chunk.payload)) chunks
+    record { kind = chunk.kind; at = at; payload = chunk.payload }
+      ∷ all_placed_from (at + (3 + length chunk.payload)) chunks
 
 -- the chunks that are not passed over
 abbrev pub visible : List Placed → List Placed

@@ -94,8 +94,10 @@ fn read_mode(flags: u8) -> Result<Mode, PacketFault>
 
 /// Reads the two bytes of a timestamp or an echo where it is flagged.
 fn read_stamp(flagged: bool, bytes: &[u8]) -> Result<(Option<u16>, &[u8]), PacketFault>
-    ensures ok { IfOk result (λ found. (flagged ≡ is_some found.0) × IsStamp found.0 × (bytes.now ≡ stamp_bytes found.0 ++ found.1.now)) }
-    ensures err { IfErr result (λ fault. (fault ≡ PacketFault.ShortStamp) × (flagged ≡ true) × (length bytes.now < 2)) }
+    ensures ok { IfOk result (λ found. (flagged ≡ is_some found.0) × IsStamp found.0 ×
+        (bytes.now ≡ stamp_bytes found.0 ++ found.1.now)) }
+    ensures err { IfErr result (λ fault. (fault ≡ PacketFault.ShortStamp) × (flagged ≡ true) ×
+        (length bytes.now < 2)) }
 {
     if !flagged {
         return Ok((None, bytes));

@@ -7,8 +7,8 @@ use crate::chunks::Chunks;
 use crate::head::{PacketFault, PacketHead, read_head};
 use std::marker::Model;
 
-/// A plain packet of RFC 7016 section 2.2.4: a head, chunks and padding. It is a view of the bytes that
-/// it was read from.
+/// A plain packet of RFC 7016 section 2.2.4: a head, chunks and padding. It is a view of the bytes
+/// that it was read from.
 #[derive(Drop)]
 pub struct Packet<'a> {
     head: PacketHead,
@@ -23,7 +23,9 @@ impl<'a> Model for Packet<'a> {
 
     ghost Value = { Whole };
 
-    ghost view = { λ p. record { head = p.head; start = p.start; chunks = (body_of p.body.now).chunks; padding = (body_of p.body.now).padding } };
+    ghost view =
+        { λ p. record { head = p.head; start = p.start; chunks = (body_of p.body.now).chunks;
+        padding = (body_of p.body.now).padding } };
 
     ghost invariant = { λ p. p.start + length p.body.now < 2 ^ 64 };
 }
@@ -61,7 +63,8 @@ impl<'a> Packet<'a> {
 pub fn read_packet(bytes: &[u8]) -> Result<Packet<'_>, PacketFault>
     // The bytes read so, and in no other way.
     ensures reads { PacketReading bytes.now result }
-    ensures only { (other : Result Whole PacketFault) → PacketReading bytes.now other → other ≡ result }
+    ensures only { (other : Result Whole PacketFault) → PacketReading bytes.now other →
+        other ≡ result }
 {
     read_whole(bytes)
 }

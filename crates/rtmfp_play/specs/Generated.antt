@@ -1,9 +1,12 @@
 -- The generated run: eight ends, and steps that a sequence of numbers picks.
-use Rattle.std.specs.Prelude.{ℕ, zero, suc, ◌+◌, ◌-◌, ◌*◌, ◌/◌, ◌%◌, ◌^◌, ◌==◌, ◌≡◌, ◌<◌, ◌⊎◌, nat_lt, List, [], ◌∷◌, ◌++◌, length, slice_index, take, codes, replicate, Option, Some, None, false, if◌then◌else◌}
+use Rattle.std.specs.Prelude.{ℕ, zero, suc, ◌+◌, ◌-◌, ◌*◌, ◌/◌, ◌%◌, ◌^◌, ◌==◌, ◌≡◌, ◌<◌, ◌⊎◌,
+    nat_lt, List, [], ◌∷◌, ◌++◌, length, slice_index, take, codes, replicate, Option, Some, None,
+    false, if◌then◌else◌}
 use Rattle.rtmfp_forms.specs.Address.{AddressParts}
 use Rattle.endpoint.specs.declared.entry.Entry.{Entry}
 use Rattle.rendezvous_world.specs.declared.step.Step.{Step}
-use Rattle.rendezvous_world.specs.declared.step.Step.TheVariants.{End, At, Open, Cancel, Deliver, Tick}
+use Rattle.rendezvous_world.specs.declared.step.Step.TheVariants.{End, At, Open, Cancel, Deliver,
+    Tick}
 use Rattle.rendezvous_world.specs.declared.journal.JournalLine.{JournalLine}
 use Rattle.rendezvous_world.specs.Seen.{Seen}
 use Rattle.rendezvous_world.specs.Datagrams.{nth}
@@ -45,7 +48,8 @@ end_step who = End (end_name who) 65536 4096 (end_cert who)
 
 -- its address: 10.0.0.1:1935 for the first
 abbrev pub end_place : ℕ → AddressParts
-end_place who = record { v6 = false; origin = 0; host = 10 ∷ 0 ∷ 0 ∷ (who + 1) ∷ replicate 12 0; port = 1935 }
+end_place who = record { v6 = false; origin = 0; host = 10 ∷ 0 ∷ 0 ∷ (who + 1) ∷ replicate 12 0;
+    port = 1935 }
 
 -- the end that has this address, by the last number of its host
 abbrev pub end_at : AddressParts → ℕ
@@ -63,15 +67,19 @@ number_after (suc count) seed = next_number (number_after count seed)
 
 -- ---- the step that a number picks
 
--- A datagram reaches the end that it was sent to, from the address of the end that sent it. Each is from one of the eight ends.
+-- A datagram reaches the end that it was sent to, from the address of the end that sent it. Each is
+-- from one of the eight ends.
 abbrev pub delivery : ℕ → ℕ → Option (ℕ × AddressParts) → Step
 delivery end number None = Tick end
-delivery end number (Some (by, to)) = if nat_lt by end_count then Deliver number (end_at to) (end_place by) else Tick end
+delivery end number (Some (by, to)) = if nat_lt by end_count then
+    Deliver number (end_at to) (end_place by) else Tick end
 
 -- one of the last 16 datagrams is delivered; where none was sent, the end does what is due
 abbrev pub delivery_or_tick : List Sent → ℕ → ℕ → Step
 delivery_or_tick sent end back =
-    if length sent == 0 then Tick end else delivery end (length sent - back % length sent) (passing (nth sent (length sent - back % length sent)))
+    if length sent == 0 then Tick end
+      else delivery end (length sent - back % length sent)
+      (passing (nth sent (length sent - back % length sent)))
 
 abbrev pub picked : Seen → (operation end other back : ℕ) → Step
 picked w operation end other back =
@@ -83,7 +91,8 @@ picked w operation end other back =
 
 -- by a number of the sequence, of which the lower 33 bits don't count
 abbrev pub generated_step : Seen → ℕ → Step
-generated_step w x = picked w (x / 2 ^ 33 % 16) (x / 2 ^ 33 / 16 % 8) (x / 2 ^ 33 / 128 % 8) (x / 2 ^ 33 / 1024 % 16)
+generated_step w x = picked w (x / 2 ^ 33 % 16) (x / 2 ^ 33 / 16 % 8) (x / 2 ^ 33 / 128 % 8)
+    (x / 2 ^ 33 / 1024 % 16)
 
 -- ---- the run
 
@@ -95,7 +104,8 @@ Begun (suc who) w = (v : Seen) × Begun who v × Stepped v (who + 1) (end_step w
 -- the world after the eight ends and so many steps; the first of these is on line 9
 abbrev pub Generates : ℕ → ℕ → Seen → Type 0
 Generates seed zero w = Begun end_count w
-Generates seed (suc count) w = (v : Seen) × Generates seed count v × Stepped v (end_count + count + 1) (generated_step v (number_after (count + 1) seed)) w
+Generates seed (suc count) w = (v : Seen) × Generates seed count v ×
+    Stepped v (end_count + count + 1) (generated_step v (number_after (count + 1) seed)) w
 
 -- ---- the summary
 
@@ -106,7 +116,8 @@ all_entries (line ∷ lines) = line.out.entries ++ all_entries lines
 
 -- the line that is written of a generated run
 abbrev pub summary_of : ℕ → Seen → List ℕ
-summary_of steps w = summary_text (length w.ends) steps (tally_of (all_entries w.lines)) (kept_pairs w.ends w.ends)
+summary_of steps w = summary_text (length w.ends) steps (tally_of (all_entries w.lines))
+    (kept_pairs w.ends w.ends)
 
 -- ---- how a generated run ends
 
@@ -134,7 +145,8 @@ abbrev pub IsForgedStep : Option StepFault → Type 0
 IsForgedStep fault = fault ≡ Some Forged
 
 -- its summary was written, or the first bytes of it, and the history holds
-pub record HasWritten (seed steps : ℕ) (before after : Option (List ℕ)) (shorten : List ℕ → List ℕ) : Type 0 where
+pub record HasWritten (seed steps : ℕ) (before after : Option (List ℕ)) (shorten : List ℕ →
+    List ℕ) : Type 0 where
   pub world : Seen
   pub ran : Generates seed steps world
   pub holds : HistoryHolds world
@@ -142,9 +154,14 @@ pub record HasWritten (seed steps : ℕ) (before after : Option (List ℕ)) (sho
 
 -- By its status: what it has written and passed on, and what has failed. Other statuses don't come.
 abbrev pub GeneratedEnds : ℕ → ℕ → Status → SinkSeen → SinkSeen → Type 0
-GeneratedEnds seed steps status.Done before after = HasWritten seed steps before.written after.written (λ text. text) × Settled before after
+GeneratedEnds seed steps status.Done before after =
+    HasWritten seed steps before.written after.written (λ text. text) × Settled before after
 GeneratedEnds seed steps status.Memory before after = after ≡ before
-GeneratedEnds seed steps (status.BadScript line) before after = StopsAtLine IsBadStep seed steps line × (after ≡ before)
-GeneratedEnds seed steps (status.Forged line) before after = StopsAtLine IsForgedStep seed steps line × (after ≡ before)
-GeneratedEnds seed steps status.SinkFault before after = ((k : ℕ) × HasWritten seed steps before.written after.written (take k)) × Rose before.faults after.faults
+GeneratedEnds seed steps (status.BadScript line) before after =
+    StopsAtLine IsBadStep seed steps line × (after ≡ before)
+GeneratedEnds seed steps (status.Forged line) before after =
+    StopsAtLine IsForgedStep seed steps line × (after ≡ before)
+GeneratedEnds seed steps status.SinkFault before after =
+    ((k : ℕ) × HasWritten seed steps before.written after.written (take k)) ×
+    Rose before.faults after.faults
 GeneratedEnds seed steps other before after = ⊥

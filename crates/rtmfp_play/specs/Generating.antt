@@ -22,7 +22,8 @@ StepEnds line fault (status.Forged n) = (n ≡ line) × IsForgedStep fault
 StepEnds line fault other = ⊥
 
 -- A step of line n was done, or ended the run.
-pub record TakesStep (w : Seen) (line : ℕ) (step : Step) (result : Result (Unit {0}) Status) (t : Seen) : Type 0 where
+pub record TakesStep (w : Seen) (line : ℕ) (step : Step) (result : Result (Unit {0}) Status)
+    (t : Seen) : Type 0 where
   pub ok : OnOk result (Stepped w line step t)
   pub below : OnOk result (AreBelow t.lines (line + 1))
   pub err : IfErr result (StepEnds line (step_fault w step))
@@ -36,8 +37,10 @@ RunEnds Stops other = ⊥
 
 -- The text was written and passed on, or a first part of it was written.
 abbrev pub HandsOver : List ℕ → Status → SinkSeen → SinkSeen → Type 0
-HandsOver text status.Done before after = Appends before.written after.written text × Settled before after
-HandsOver text status.SinkFault before after = ((k : ℕ) × Appends before.written after.written (take k text)) × Rose before.faults after.faults
+HandsOver text status.Done before after = Appends before.written after.written text ×
+    Settled before after
+HandsOver text status.SinkFault before after =
+    ((k : ℕ) × Appends before.written after.written (take k text)) × Rose before.faults after.faults
 HandsOver text other before after = ⊥
 
 -- The summary was written, or no memory was found for it.

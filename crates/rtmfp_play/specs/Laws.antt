@@ -26,4 +26,5 @@ pub record Adds (w t : Seen) (text : List ℕ) : Type 0 where
 
 -- A line of a script is told by what it adds to the journal.
 abbrev pub EachLineIsTold : Type 0
-EachLineIsTold = (w : Seen) (n : ℕ) (line : List ℕ) (t : Seen) (text : List ℕ) → Plays w n line t text → Adds w t text
+EachLineIsTold = (w : Seen) (n : ℕ) (line : List ℕ) (t : Seen) (text : List ℕ) →
+    Plays w n line t text → Adds w t text

@@ -1,5 +1,6 @@
 -- What `replay` makes of a line of a script.
-use Rattle.std.specs.Prelude.{ℕ, ◌≡◌, ◌≤◌, ◌⊎◌, List, [], map, length, position, slice_get, Option, Some, None}
+use Rattle.std.specs.Prelude.{ℕ, ◌≡◌, ◌≤◌, ◌⊎◌, List, [], map, length, position, slice_get, Option,
+    Some, None}
 use Rattle.std.specs.Str.{bytes_eq}
 use Rattle.rtmfp_text.specs.declared.names.Named.{Named}
 use Rattle.rtmfp_script.specs.declared.line.ScriptLine.{ScriptLine}
@@ -8,10 +9,12 @@ use Rattle.rtmfp_script.specs.Grammar.{IsLineOf, IsSkipped, line_limit}
 use Rattle.rendezvous_world.specs.declared.step.Step.{Step}
 use Rattle.rendezvous_world.specs.declared.step.Step.TheVariants as step
 use Rattle.rendezvous_world.specs.declared.step.StepFault.{StepFault}
-use Rattle.rendezvous_world.specs.declared.step.StepFault.TheVariants.{NoEnd, NoDatagram, BadStep, Forged, Memory}
+use Rattle.rendezvous_world.specs.declared.step.StepFault.TheVariants.{NoEnd, NoDatagram, BadStep,
+    Forged, Memory}
 use Rattle.rendezvous_world.specs.declared.journal.JournalLine.{JournalLine}
 use Rattle.rendezvous_world.specs.declared.journal.Refused.{Refused}
-use Rattle.rendezvous_world.specs.declared.journal.Refused.TheVariants.{Open as OpenRefused, Call as CallRefused}
+use Rattle.rendezvous_world.specs.declared.journal.Refused.TheVariants.{Open as OpenRefused,
+    Call as CallRefused}
 use Rattle.endpoint.specs.Agreed.{IsAgreed}
 use Rattle.rendezvous_world.specs.Seen.{Seen, group_secret, setup_at}
 use Rattle.rendezvous_world.specs.History.{history_of}
@@ -42,13 +45,20 @@ step_by_both (Some end) (Some peer) step = Some (step end peer)
 abbrev pub step_said : List Named → ScriptLine → Option Step
 step_said ends (line.End name peers sessions cert) = Some (step.End name peers sessions cert)
 step_said ends (line.At moment) = Some (step.At moment)
-step_said ends (line.Open name peer places) = step_by_both (number_of ends name) (number_of ends peer) (λ end other. step.Open end other places)
-step_said ends (line.Cancel name number) = step_by (number_of ends name) (λ end. step.Cancel end number)
+step_said ends (line.Open name peer places) =
+    step_by_both (number_of ends name) (number_of ends peer)
+    (λ end other. step.Open end other places)
+step_said ends (line.Cancel name number) = step_by (number_of ends name)
+    (λ end. step.Cancel end number)
 step_said ends (line.Tick name) = step_by (number_of ends name) (λ end. step.Tick end)
-step_said ends (line.Deliver number name from) = step_by (number_of ends name) (λ end. step.Deliver number end from)
-step_said ends (line.Bent number place name from) = step_by (number_of ends name) (λ end. step.Bent number place end from)
-step_said ends (line.Inject name from bytes) = step_by (number_of ends name) (λ end. step.Inject end from bytes)
-step_said ends (line.Forge name from bytes) = step_by (number_of ends name) (λ end. step.Forge end from bytes)
+step_said ends (line.Deliver number name from) =
+    step_by (number_of ends name) (λ end. step.Deliver number end from)
+step_said ends (line.Bent number place name from) =
+    step_by (number_of ends name) (λ end. step.Bent number place end from)
+step_said ends (line.Inject name from bytes) =
+    step_by (number_of ends name) (λ end. step.Inject end from bytes)
+step_said ends (line.Forge name from bytes) =
+    step_by (number_of ends name) (λ end. step.Forge end from bytes)
 
 abbrev pub names_of : Seen → List Named
 names_of w = map named_of w.ends
@@ -65,21 +75,27 @@ name_at ends who = name_or_none (slice_get ends who)
 
 -- a refused call, or what the call did, where so many datagrams were sent before
 abbrev pub told_of : List Named → ℕ → JournalLine → Option Refused → List ℕ
-told_of ends sent line None = entries_text group_secret ends line.line (name_at ends line.end) sent line.out.entries
-told_of ends sent line (Some (OpenRefused refusal)) = refused_line line.line (name_at ends line.end) (open_refusal_text refusal)
-told_of ends sent line (Some (CallRefused refusal)) = refused_line line.line (name_at ends line.end) (call_refusal_text refusal)
+told_of ends sent line None = entries_text group_secret ends line.line (name_at ends line.end) sent
+    line.out.entries
+told_of ends sent line (Some (OpenRefused refusal)) =
+    refused_line line.line (name_at ends line.end) (open_refusal_text refusal)
+told_of ends sent line (Some (CallRefused refusal)) =
+    refused_line line.line (name_at ends line.end) (call_refusal_text refusal)
 
 abbrev pub told_next : List Named → ℕ → Option JournalLine → List ℕ
 told_next ends sent None = []
 told_next ends sent (Some line) = told_of ends sent line line.refused
 
--- what is told of the line that the journal of t has beyond that of w, if there is one; a step adds one at most
+-- what is told of the line that the journal of t has beyond that of w, if there is one; a step adds
+-- one at most
 abbrev pub report_since : Seen → Seen → List ℕ
-report_since w t = told_next (names_of t) (length (sent_in w.lines)) (slice_get t.lines (length w.lines))
+report_since w t = told_next (names_of t) (length (sent_in w.lines))
+    (slice_get t.lines (length w.lines))
 
 -- ---- what is made of line n
 
--- What holds of a world after each line: each end stands for its own log, but that it may keep a later moment, the history is lawful, honest and fresh, and hence agreed.
+-- What holds of a world after each line: each end stands for its own log, but that it may keep a
+-- later moment, the history is lawful, honest and fresh, and hence agreed.
 pub record HistoryHolds (w : Seen) : Type 0 where
   pub sound : IsSound w
   pub agreed : IsAgreed (setup_at w.ends) (history_of w)
@@ -116,7 +132,8 @@ IsBadStep (Some Memory) = ⊥
 -- The line is too long, or neither skipped nor the line of a step that could be done or is forged.
 pub record IsBadPlay (w : Seen) (line : List ℕ) : Type 0 where
   pub not_skipped : IsSkipped line → length line ≤ line_limit → ⊥
-  pub bad : (said : ScriptLine) (step : Step) → IsLineOf line said → step_said (names_of w) said ≡ Some step → IsBadStep (step_fault w step)
+  pub bad : (said : ScriptLine) (step : Step) → IsLineOf line said →
+    step_said (names_of w) said ≡ Some step → IsBadStep (step_fault w step)
 
 -- The line says a step that brings a datagram that nobody sent.
 pub record IsForgedPlay (w : Seen) (line : List ℕ) : Type 0 where

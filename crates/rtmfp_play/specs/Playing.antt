@@ -7,7 +7,8 @@ use Rattle.rendezvous_world.specs.declared.step.StepFault.TheVariants.{Forged as
 use Rattle.rendezvous_world.specs.Seen.{Seen}
 use Rattle.rendezvous_world.specs.Faults.{step_fault}
 use Rattle.rendezvous_world.specs.Stepping.{Stepped}
-use Rattle.rtmfp_play.specs.Play.{Plays, HistoryHolds, IsBadPlay, IsForgedPlay, IsBadStep, report_since}
+use Rattle.rtmfp_play.specs.Play.{Plays, HistoryHolds, IsBadPlay, IsForgedPlay, IsBadStep,
+    report_since}
 
 -- of line n
 abbrev pub PlayedAs : Said → Seen → ℕ → List ℕ → Seen → List ℕ → Type 0
@@ -17,6 +18,7 @@ PlayedAs Forged w n line t text = IsForgedPlay w line
 
 -- of the step of line n
 abbrev pub SteppedAs : Said → Seen → ℕ → Step → Seen → List ℕ → List ℕ → Type 0
-SteppedAs Text w n step t before after = Stepped w n step t × HistoryHolds t × (after ≡ before ++ report_since w t)
+SteppedAs Text w n step t before after = Stepped w n step t × HistoryHolds t ×
+    (after ≡ before ++ report_since w t)
 SteppedAs Bad w n step t before after = IsBadStep (step_fault w step)
 SteppedAs Forged w n step t before after = step_fault w step ≡ Some ForgedStep

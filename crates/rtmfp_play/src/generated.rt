@@ -1,9 +1,12 @@
 //! The generated run: eight ends, and steps that a sequence of numbers picks.
-ghost use Rattle.std.specs.Prelude.{◌≡◌, ◌+◌, ◌<◌, ◌≤◌, ◌^◌, ◌++◌, ◌∷◌, [], IfErr, IfOk, OnOk, codes};
+ghost use Rattle.std.specs.Prelude.{◌≡◌, ◌+◌, ◌<◌, ◌≤◌, ◌^◌, ◌++◌, ◌∷◌, [], IfErr, IfOk, OnOk,
+    codes};
 ghost use Rattle.rendezvous_world.specs.Laws.{empty_world};
 ghost use Rattle.rendezvous_world.specs.Sent.{sent_in};
 ghost use Rattle.rendezvous_world.specs.Sound.{AreBelow};
-ghost use Rattle.rtmfp_play.specs.Generated.{Begun, GeneratedEnds, Generates, StopsAtEnd, StopsAtStep, delivery, delivery_or_tick, end_place, end_step, generated_step, next_number, summary_of};
+ghost use Rattle.rtmfp_play.specs.Generated.{Begun, GeneratedEnds, Generates, StopsAtEnd,
+    StopsAtStep, delivery, delivery_or_tick, end_place, end_step, generated_step, next_number,
+    summary_of};
 ghost use Rattle.rtmfp_play.specs.Play.{HistoryHolds};
 ghost use Rattle.rtmfp_lines.specs.Outside.{seen_sink};
 ghost use Rattle.rtmfp_play.specs.Generating.{HandsOver, RunEnds, Summarizes, TakesStep};
@@ -35,7 +38,9 @@ const PAUSE: u64 = 500;
 /// Does so many generated steps, and writes their summary.
 pub fn generate<K: Sink>(alloc: Global, seed: u64, steps: u64, sink: &mut K) -> Status
     requires { steps ≤ MOST_STEPS }
-    ensures { GeneratedEnds seed steps result (seen_sink (K.written sink.old) (K.passed sink.old) (K.faults sink.old)) (seen_sink (K.written sink.new) (K.passed sink.new) (K.faults sink.new)) }
+    ensures { GeneratedEnds seed steps result
+        (seen_sink (K.written sink.old) (K.passed sink.old) (K.faults sink.old))
+        (seen_sink (K.written sink.new) (K.passed sink.new) (K.faults sink.new)) }
 {
     let mut world = World::new(alloc);
     if let Err(status) = begin(&mut world) {
@@ -131,7 +136,8 @@ fn end_step(who: u8) -> Result<Step, AllocError>
 
 /// The certificate of an end: an instance of 16 bytes, and the name. Both end with its digit.
 fn end_cert(digit: u8) -> Result<Certificate, AllocError>
-    ensures { IfOk result (λ cert. cert ≡ codes "generated-end-0" ++ digit ∷ codes "e" ++ digit ∷ []) }
+    ensures { IfOk result (λ cert. cert ≡ codes "generated-end-0" ++ digit ∷ codes "e"
+        ++ digit ∷ []) }
 {
     let mut bytes = *b"generated-end-0_e_";
     bytes[15] = digit;
@@ -239,7 +245,9 @@ fn holds(world: &World)
 
 /// Writes the line of a run that is over.
 fn write_summary<K: Sink>(alloc: Global, world: &World, steps: u64, sink: &mut K) -> Status
-    ensures summary { Summarizes steps world.now result (seen_sink (K.written sink.old) (K.passed sink.old) (K.faults sink.old)) (seen_sink (K.written sink.new) (K.passed sink.new) (K.faults sink.new)) }
+    ensures summary { Summarizes steps world.now result
+        (seen_sink (K.written sink.old) (K.passed sink.old) (K.faults sink.old))
+        (seen_sink (K.written sink.new) (K.passed sink.new) (K.faults sink.new)) }
     ensures holds { HistoryHolds world.now }
 {
     holds(world);
@@ -252,7 +260,9 @@ fn write_summary<K: Sink>(alloc: Global, world: &World, steps: u64, sink: &mut K
 
 /// Writes a text and passes it on.
 fn hand_over<K: Sink>(text: &[u8], sink: &mut K) -> Status
-    ensures { HandsOver text.now result (seen_sink (K.written sink.old) (K.passed sink.old) (K.faults sink.old)) (seen_sink (K.written sink.new) (K.passed sink.new) (K.faults sink.new)) }
+    ensures { HandsOver text.now result (seen_sink (K.written sink.old) (K.passed sink.old)
+        (K.faults sink.old)) (seen_sink (K.written sink.new) (K.passed sink.new)
+        (K.faults sink.new)) }
 {
     match sink.write(text) {
         Wrote::Done => match sink.flush() {

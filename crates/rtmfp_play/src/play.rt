@@ -4,7 +4,8 @@ ghost use Rattle.rendezvous_world.specs.Seen.{group_secret};
 ghost use Rattle.rtmfp_report.specs.EntryText.{entries_text};
 ghost use Rattle.rendezvous_world.specs.Sent.{sent_in};
 ghost use Rattle.rendezvous_world.specs.Sound.{AreBelow};
-ghost use Rattle.rtmfp_play.specs.Play.{name_at, number_of, step_by, step_by_both, step_said, told_next, told_of};
+ghost use Rattle.rtmfp_play.specs.Play.{name_at, number_of, step_by, step_by_both, step_said,
+    told_next, told_of};
 ghost use Rattle.rtmfp_play.specs.Playing.{PlayedAs, SteppedAs};
 
 use crate::said::Said;
@@ -19,7 +20,8 @@ use std::alloc::{AllocError, Global};
 /// The longest line of a script, in bytes without its LF.
 pub const LINE_LIMIT: usize = 2_097_664;
 
-/// Does a line of a script in a world, and makes the text of its report by the keys of the group. `scratch` holds a datagram meanwhile, and its memory is used again.
+/// Does a line of a script in a world, and makes the text of its report by the keys of the group.
+/// `scratch` holds a datagram meanwhile, and its memory is used again.
 pub(crate) fn play_in(
     alloc: Global,
     world: &mut World,
@@ -33,7 +35,8 @@ pub(crate) fn play_in(
     requires short { length line.now ≤ LINE_LIMIT }
     requires above { AreBelow world.old.lines number }
     requires fits { number < 2 ^ 32 }
-    ensures played { IfOk result (λ said. PlayedAs said world.old number line.now world.new text.new) }
+    ensures played
+        { IfOk result (λ said. PlayedAs said world.old number line.now world.new text.new) }
     ensures above { IfOk result (λ said. said ≡ Said.Text → AreBelow world.new.lines (number + 1)) }
 {
     text.clear();
@@ -60,7 +63,9 @@ fn take_step(
     requires keys { keys.now ≡ group_secret }
     requires above { AreBelow world.old.lines number }
     requires fits { number < 2 ^ 32 }
-    ensures stepped { IfOk result (λ said. SteppedAs said world.old number step.now world.new text.old text.new) }
+    ensures stepped
+        { IfOk result (λ said. SteppedAs said world.old number step.now world.new text.old
+        text.new) }
     ensures above { IfOk result (λ said. said ≡ Said.Text → AreBelow world.new.lines (number + 1)) }
 {
     let lines = world.journal().lines().len();
@@ -151,7 +156,8 @@ fn open_said(
     peer: &Name,
     places: &[Address],
 ) -> Result<Option<Step>, AllocError>
-    ensures { IfOk result (λ step. step ≡ step_by_both (number_of ends.now name.now) (number_of ends.now peer.now) (λ end other. Step.Open end other places.now)) }
+    ensures { IfOk result (λ step. step ≡ step_by_both (number_of ends.now name.now)
+        (number_of ends.now peer.now) (λ end other. Step.Open end other places.now)) }
 {
     let Some(end) = number_of(ends, name) else {
         return Ok(None);
@@ -185,7 +191,8 @@ fn deliver_said(ends: &[Named], number: u64, name: &Name, from: Address) -> Opti
 }
 
 fn bent_said(ends: &[Named], number: u64, place: usize, name: &Name, from: Address) -> Option<Step>
-    ensures { result ≡ step_by (number_of ends.now name.now) (λ end. Step.Bent number place end from) }
+    ensures { result ≡ step_by (number_of ends.now name.now)
+        (λ end. Step.Bent number place end from) }
 {
     let end = number_of(ends, name)?;
     Some(Step::Bent {
@@ -212,7 +219,8 @@ fn forge_said(ends: &[Named], name: &Name, from: Address, plain: Message) -> Opt
 
 // ---- the report
 
-/// Adds what is told of the line of the journal at this place, if there is one, where so many datagrams were sent before it.
+/// Adds what is told of the line of the journal at this place, if there is one, where so many
+/// datagrams were sent before it.
 fn push_line(
     keys: &GroupKeys,
     ends: &[Named],
@@ -223,7 +231,8 @@ fn push_line(
     text: &mut Text,
 ) -> Result<(), AllocError>
     requires { keys.now ≡ group_secret }
-    ensures { OnOk result (text.new ≡ text.old ++ told_next ends.now sent (slice_get lines.now at)) }
+    ensures { OnOk result (text.new ≡ text.old
+        ++ told_next ends.now sent (slice_get lines.now at)) }
 {
     match lines.get(at) {
         Some(line) => push_told(keys, ends, sent, line, scratch, text),
@@ -262,7 +271,8 @@ fn push_done(
     text: &mut Text,
 ) -> Result<(), AllocError>
     requires { keys.now ≡ group_secret }
-    ensures { OnOk result (text.new ≡ text.old ++ entries_text group_secret ends.now line.now.line name.now sent line.now.out.entries) }
+    ensures { OnOk result (text.new ≡ text.old
+        ++ entries_text group_secret ends.now line.now.line name.now sent line.now.out.entries) }
 {
     push_entries(
         keys,

@@ -12,7 +12,8 @@ use Rattle.rtmfp_report.specs.SentText.{sent_text}
 
 -- a discard: its place, and its cause
 unfoldable pub drop_text : ℕ → Cause → List ℕ
-drop_text place cause = text_of (number_field_text (codes "drop ") place ∷ codes " " ∷ cause_text cause ∷ [])
+drop_text place cause =
+    text_of (number_field_text (codes "drop ") place ∷ codes " " ∷ cause_text cause ∷ [])
 
 -- how many datagrams were sent after an entry, where so many were before: one that goes out counts
 abbrev pub counted_after : ℕ → Entry → ℕ
@@ -28,13 +29,15 @@ told_text secret ends number (Out to datagram context) = sent_text secret number
 
 -- the line of an entry of the end with this name
 abbrev pub entry_text : List ℕ → List Named → ℕ → List ℕ → ℕ → Entry → List ℕ
-entry_text secret ends line name number entry = line_text line name (told_text secret ends number entry)
+entry_text secret ends line name number entry =
+    line_text line name (told_text secret ends number entry)
 
 -- the lines of entries, one after another, where so many datagrams were sent before
 abbrev pub entries_text : List ℕ → List Named → ℕ → List ℕ → ℕ → List Entry → List ℕ
 entries_text secret ends line name sent [] = []
 entries_text secret ends line name sent (entry ∷ entries) =
-    entry_text secret ends line name (counted_after sent entry) entry ++ entries_text secret ends line name (counted_after sent entry) entries
+    entry_text secret ends line name (counted_after sent entry) entry
+      ++ entries_text secret ends line name (counted_after sent entry) entries
 
 -- how many datagrams were sent after entries, where so many were before
 abbrev pub sent_after : ℕ → List Entry → ℕ

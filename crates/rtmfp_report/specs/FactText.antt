@@ -1,10 +1,12 @@
 -- The texts of facts.
 use Rattle.std.specs.Prelude.{ℕ, List, [], ◌∷◌, codes}
 use Rattle.glare_core.specs.declared.facts.Why.{Why}
-use Rattle.glare_core.specs.declared.facts.Why.TheVariants.{Cancelled, Expired, Glare, Override, Unconfirmed, Near, Far, Idle}
+use Rattle.glare_core.specs.declared.facts.Why.TheVariants.{Cancelled, Expired, Glare, Override,
+    Unconfirmed, Near, Far, Idle}
 use Rattle.glare_core.specs.declared.facts.Joined.{Joined}
 use Rattle.glare_core.specs.declared.facts.Fact.{Fact}
-use Rattle.glare_core.specs.declared.facts.Fact.TheVariants.{Started, Born, Opened, Confirmed, Ended}
+use Rattle.glare_core.specs.declared.facts.Fact.TheVariants.{Started, Born, Opened, Confirmed,
+    Ended}
 use Rattle.rtmfp_text.specs.Words.{number_field_text, text_of}
 use Rattle.rtmfp_text.specs.Names.{peer_text}
 use Rattle.rtmfp_text.specs.declared.names.Named.{Named}
@@ -32,7 +34,8 @@ joined_text ends joined = text_of (
     ∷ number_field_text (codes " k=") joined.k ∷ [])
 
 unfoldable pub ended_text : ℕ → Why → List ℕ
-ended_text near why = text_of (number_field_text (codes "ended near=") near ∷ codes " " ∷ why_text why ∷ [])
+ended_text near why =
+    text_of (number_field_text (codes "ended near=") near ∷ codes " " ∷ why_text why ∷ [])
 
 -- a fact, its peer called as among these ends
 unfoldable pub fact_text : List Named → Fact → List ℕ

@@ -19,11 +19,14 @@ abbrev pub kinds_text : List ℕ → List ℕ
 kinds_text [] = codes "none"
 kinds_text (kind ∷ kinds) = kind_text kind ++ behind_pluses kinds
 
--- The types of the chunks of a datagram's plain packet; none where it has no head. The sealed part stands behind the 4 bytes of the session ID. It is deciphered by the keys of its context, whatever its tag.
+-- The types of the chunks of a datagram's plain packet; none where it has no head. The sealed part
+-- stands behind the 4 bytes of the session ID. It is deciphered by the keys of its context,
+-- whatever its tag.
 abbrev pub sent_kinds : List ℕ → Context → List ℕ → List ℕ
 sent_kinds secret context datagram = kinds_in (plain_of (keys_of secret context) (drop 4 datagram))
 
 -- the datagram of this number, where it goes, and the names of its chunks
 unfoldable pub sent_text : List ℕ → ℕ → AddressParts → List ℕ → Context → List ℕ
 sent_text secret number to datagram context = text_of (
-    number_field_text (codes "sent ") number ∷ codes " " ∷ address_text to ∷ codes " " ∷ kinds_text (sent_kinds secret context datagram) ∷ [])
+    number_field_text (codes "sent ") number ∷ codes " " ∷ address_text to ∷ codes " "
+      ∷ kinds_text (sent_kinds secret context datagram) ∷ [])

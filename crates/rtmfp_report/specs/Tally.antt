@@ -1,14 +1,16 @@
 -- How many things of each kind ends did, and the line that tells it.
 use Rattle.std.specs.Prelude.{ℕ, ◌+◌, List, [], ◌∷◌, codes}
 use Rattle.glare_core.specs.declared.facts.Fact.{Fact}
-use Rattle.glare_core.specs.declared.facts.Fact.TheVariants.{Started, Born, Opened, Confirmed, Ended}
+use Rattle.glare_core.specs.declared.facts.Fact.TheVariants.{Started, Born, Opened, Confirmed,
+    Ended}
 use Rattle.endpoint.specs.declared.entry.Entry.{Entry}
 use Rattle.endpoint.specs.declared.entry.Entry.TheVariants.{Fact as FactEntry, Discard, Out}
 use Rattle.rtmfp_text.specs.Words.{number_field_text, text_of}
 use Rattle.rtmfp_report.specs.declared.tally.Tally.{Tally}
 
 abbrev pub nothing_counted : Tally
-nothing_counted = record { sent = 0; started = 0; born = 0; opened = 0; confirmed = 0; ended = 0; dropped = 0 }
+nothing_counted = record { sent = 0; started = 0; born = 0; opened = 0; confirmed = 0; ended = 0;
+    dropped = 0 }
 
 -- a fact counts one among those of its kind
 abbrev pub with_fact : Tally → Fact → Tally
@@ -32,7 +34,8 @@ with_entries t (entry ∷ entries) = with_entries (with_entry t entry) entries
 abbrev pub tally_of : List Entry → Tally
 tally_of entries = with_entries nothing_counted entries
 
--- the line of a run: its ends, its steps, what the ends did, and how many pairs of an end and a peer keep a session when it is over
+-- the line of a run: its ends, its steps, what the ends did, and how many pairs of an end and a
+-- peer keep a session when it is over
 unfoldable pub summary_text : ℕ → ℕ → Tally → ℕ → List ℕ
 summary_text ends steps tally kept = text_of (
     number_field_text (codes "ends=") ends

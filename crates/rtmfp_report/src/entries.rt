@@ -1,6 +1,7 @@
 //! The lines of what ends did.
 ghost use Rattle.std.specs.Prelude.{◌≡◌, ◌++◌, IfOk, OnOk};
-ghost use Rattle.rtmfp_report.specs.EntryText.{counted_after, drop_text, entries_text, entry_text, sent_after, told_text};
+ghost use Rattle.rtmfp_report.specs.EntryText.{counted_after, drop_text, entries_text, entry_text,
+    sent_after, told_text};
 
 use crate::causes::push_cause;
 use crate::facts::push_fact;
@@ -12,9 +13,13 @@ use rtmfp_text::{Name, Named, Text};
 use startup::Cause;
 use std::alloc::AllocError;
 
-/// Adds the lines of what the end with this name did in a line of the script, one for each entry, in their order. The peers of facts are called as among `ends`. `sent` datagrams were sent before; it gives how many were sent after.
+/// Adds the lines of what the end with this name did in a line of the script, one for each entry,
+/// in their order. The peers of facts are called as among `ends`. `sent` datagrams were sent
+/// before; it gives how many were sent after.
 ///
-/// The names of the chunks of a datagram are found by the group's keys; `scratch` holds the datagram meanwhile, and its memory is used again. More than 2^64-1 datagrams count as want of memory.
+/// The names of the chunks of a datagram are found by the group's keys; `scratch` holds the
+/// datagram meanwhile, and its memory is used again. More than 2^64-1 datagrams count as want of
+/// memory.
 pub fn push_entries(
     keys: &GroupKeys,
     ends: &[Named],
@@ -25,7 +30,8 @@ pub fn push_entries(
     scratch: &mut Vec<u8>,
     text: &mut Text,
 ) -> Result<u64, AllocError>
-    ensures text { OnOk result (text.new ≡ text.old ++ entries_text keys.now ends.now line name.now sent entries.now) }
+    ensures text { OnOk result (text.new ≡ text.old
+        ++ entries_text keys.now ends.now line name.now sent entries.now) }
     ensures count { IfOk result (λ count. count ≡ sent_after sent entries.now) }
 {
     let mut count = sent;
@@ -60,7 +66,8 @@ fn push_entry(
     scratch: &mut Vec<u8>,
     text: &mut Text,
 ) -> Result<(), AllocError>
-    ensures { OnOk result (text.new ≡ text.old ++ entry_text keys.now ends.now line name.now number entry.now) }
+    ensures { OnOk result (text.new ≡ text.old
+        ++ entry_text keys.now ends.now line name.now number entry.now) }
 {
     push_head(line, name, text)?;
     push_told(keys, ends, number, entry, scratch, text)?;

@@ -36,7 +36,8 @@ fn push_started(
     ni: &[u8; 16],
     text: &mut Text,
 ) -> Result<(), AllocError>
-    ensures { OnOk result (text.new ≡ text.old ++ fact_text ends.now (Fact.Started peer.now n near ni.now)) }
+    ensures { OnOk result (text.new ≡ text.old
+        ++ fact_text ends.now (Fact.Started peer.now n near ni.now)) }
 {
     text.push("started peer=")?;
     push_peer(ends, peer, text)?;

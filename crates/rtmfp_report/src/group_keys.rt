@@ -42,7 +42,8 @@ impl GroupKeys {
         }
     }
 
-    /// Deciphers a sealed part of this context in place, whatever its tag: its plain packet then stands from byte 32 on.
+    /// Deciphers a sealed part of this context in place, whatever its tag: its plain packet then
+    /// stands from byte 32 on.
     pub(crate) fn decipher(&self, context: &Context, part: &mut [u8])
         requires { 32 ≤ length part.old }
         ensures head { take 32 part.new ≡ take 32 part.old }

@@ -1,6 +1,7 @@
 //! The lines of calls that were refused.
 ghost use Rattle.std.specs.Prelude.{◌≡◌, ◌++◌, OnOk};
-ghost use Rattle.rtmfp_report.specs.RefusalText.{call_refusal_text, open_refusal_text, refused_line, start_refusal_text};
+ghost use Rattle.rtmfp_report.specs.RefusalText.{call_refusal_text, open_refusal_text, refused_line,
+    start_refusal_text};
 
 use crate::lines::push_head;
 use endpoint::{CallRefusal, OpenRefusal};
@@ -8,14 +9,16 @@ use glare_core::StartRefusal;
 use rtmfp_text::{Name, Text};
 use std::alloc::AllocError;
 
-/// Adds the line of an attempt that the end with this name didn't open. Want of memory has no name; it isn't reported.
+/// Adds the line of an attempt that the end with this name didn't open. Want of memory has no name;
+/// it isn't reported.
 pub fn push_open_refusal(
     line: u64,
     name: &Name,
     refusal: &OpenRefusal,
     text: &mut Text,
 ) -> Result<(), AllocError>
-    ensures { OnOk result (text.new ≡ text.old ++ refused_line line name.now (open_refusal_text refusal.now)) }
+    ensures { OnOk result (text.new ≡ text.old
+        ++ refused_line line name.now (open_refusal_text refusal.now)) }
 {
     push_head(line, name, text)?;
     text.push("refused ")?;
@@ -24,14 +27,16 @@ pub fn push_open_refusal(
     Ok(())
 }
 
-/// Adds the line of another call that the end with this name refused. Want of memory has no name; it isn't reported.
+/// Adds the line of another call that the end with this name refused. Want of memory has no name;
+/// it isn't reported.
 pub fn push_call_refusal(
     line: u64,
     name: &Name,
     refusal: &CallRefusal,
     text: &mut Text,
 ) -> Result<(), AllocError>
-    ensures { OnOk result (text.new ≡ text.old ++ refused_line line name.now (call_refusal_text refusal.now)) }
+    ensures { OnOk result (text.new ≡ text.old
+        ++ refused_line line name.now (call_refusal_text refusal.now)) }
 {
     push_head(line, name, text)?;
     text.push("refused ")?;

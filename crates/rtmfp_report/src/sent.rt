@@ -26,7 +26,8 @@ pub(crate) fn push_sent(
     scratch: &mut Vec<u8>,
     text: &mut Text,
 ) -> Result<(), AllocError>
-    ensures { OnOk result (text.new ≡ text.old ++ sent_text keys.now number to.now datagram.now context.now) }
+    ensures { OnOk result (text.new ≡ text.old
+        ++ sent_text keys.now number to.now datagram.now context.now) }
 {
     text.push_number_field("sent ", number)?;
     text.push(" ")?;
@@ -44,7 +45,8 @@ fn push_sent_kinds(
     scratch: &mut Vec<u8>,
     text: &mut Text,
 ) -> Result<(), AllocError>
-    ensures { OnOk result (text.new ≡ text.old ++ kinds_text (sent_kinds keys.now context.now datagram.now)) }
+    ensures { OnOk result (text.new ≡ text.old
+        ++ kinds_text (sent_kinds keys.now context.now datagram.now)) }
 {
     if datagram.len() < SEALED_AT + CIPHERED_AT {
         return text.push("none");

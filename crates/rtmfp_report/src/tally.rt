@@ -1,7 +1,8 @@
 //! How many things of each kind ends did, and the line that tells it.
 ghost use Rattle.std.specs.Prelude.{◌≡◌, ◌+◌, ◌++◌, List, OnOk};
 ghost use Rattle.endpoint.specs.declared.entry.Entry.{Entry as EntryType};
-ghost use Rattle.rtmfp_report.specs.Tally.{nothing_counted, summary_text, tally_of, with_entries, with_entry, with_fact};
+ghost use Rattle.rtmfp_report.specs.Tally.{nothing_counted, summary_text, tally_of, with_entries,
+    with_entry, with_fact};
 
 use endpoint::Entry;
 use glare_core::Fact;
@@ -43,12 +44,14 @@ impl Tally {
         }
     }
 
-    /// Counts entries. More than 2^64-1 of a kind count as want of memory; some of the entries are counted then.
+    /// Counts entries. More than 2^64-1 of a kind count as want of memory; some of the entries are
+    /// counted then.
     pub fn count(&mut self, entries: &[Entry]) -> Result<(), AllocError>
         ensures value { OnOk result (self.new ≡ with_entries self.old entries.now) }
 
         // Behind entries that were counted before, these are counted as well.
-        ensures more { (before : List EntryType) → self.old ≡ tally_of before → OnOk result (self.new ≡ tally_of (before ++ entries.now)) }
+        ensures more { (before : List EntryType) → self.old ≡ tally_of before →
+            OnOk result (self.new ≡ tally_of (before ++ entries.now)) }
     {
         self.count_all(entries)
     }
@@ -94,7 +97,8 @@ fn add_one(count: &mut u64) -> Result<(), AllocError>
     Ok(())
 }
 
-/// Adds the line of a run that had so many ends and steps, and in which so many pairs of an end and a peer keep a session when it is over.
+/// Adds the line of a run that had so many ends and steps, and in which so many pairs of an end and
+/// a peer keep a session when it is over.
 pub fn push_summary(
     ends: u64,
     steps: u64,

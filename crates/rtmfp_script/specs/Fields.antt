@@ -1,5 +1,7 @@
 -- How the fields of a line are read, as functions.
-use Rattle.std.specs.Prelude.{ℕ, zero, suc, ◌+◌, ◌-◌, ◌*◌, ◌%◌, ◌^◌, ◌==◌, ◌&&◌, ◌||◌, nat_lt, nat_le, Bool, true, false, if◌then◌else◌, List, [], ◌∷◌, ◌++◌, length, drop, slice_index, replicate, Option, Some, None, Result, Ok, Err}
+use Rattle.std.specs.Prelude.{ℕ, zero, suc, ◌+◌, ◌-◌, ◌*◌, ◌%◌, ◌^◌, ◌==◌, ◌&&◌, ◌||◌, nat_lt,
+    nat_le, Bool, true, false, if◌then◌else◌, List, [], ◌∷◌, ◌++◌, length, drop, slice_index,
+    replicate, Option, Some, None, Result, Ok, Err}
 use Rattle.std.specs.List.{list_all}
 use Rattle.std.specs.Char.{is_ascii_digit}
 use Rattle.hex.specs.Hex.{decode_pairs}
@@ -41,7 +43,8 @@ unfoldable pub name_of : List ℕ → Option (List ℕ)
 name_of word = only_if (is_name word) word
 
 abbrev pub is_cert : List ℕ → Bool
-is_cert rest = nat_le 17 (length rest) && (nat_le (length rest) 80 && list_all (λ b. nat_lt b 0x80) rest)
+is_cert rest =
+    nat_le 17 (length rest) && (nat_le (length rest) 80 && list_all (λ b. nat_lt b 0x80) rest)
 
 unfoldable pub cert_of : List ℕ → Option (List ℕ)
 cert_of rest = only_if (is_cert rest) rest
@@ -50,7 +53,8 @@ cert_of rest = only_if (is_cert rest) rest
 
 -- a number with one digit more behind it, if that is a number of 64 bits
 unfoldable pub with_digit : ℕ → ℕ → Option ℕ
-with_digit n digit = only_if (is_ascii_digit digit && nat_lt (n * 10 + (digit - 48)) (2 ^ 64)) (n * 10 + (digit - 48))
+with_digit n digit = only_if (is_ascii_digit digit && nat_lt (n * 10 + (digit - 48)) (2 ^ 64))
+    (n * 10 + (digit - 48))
 
 -- the same with all these digits
 unfoldable pub number_from : ℕ → List ℕ → Option ℕ
@@ -83,7 +87,8 @@ value_of (Err e) = None
 
 -- the bytes of an even number of digits
 unfoldable pub digits_of : List ℕ → Option (List ℕ)
-digits_of word = if length word % 2 == 0 && list_all is_lower_digit word then value_of (decode_pairs 0 word) else None
+digits_of word = if length word % 2 == 0 && list_all is_lower_digit word then
+    value_of (decode_pairs 0 word) else None
 
 abbrev pub is_hyphen : List ℕ → Bool
 is_hyphen [] = false
@@ -113,7 +118,8 @@ v4_of host =
 
 -- 32 digits, and a bracket behind them
 unfoldable pub v6_of : List ℕ → Option (List ℕ)
-v6_of rest = split_of 93 rest >>= λ parts. (if length parts.1 == 0 && length parts.0 == 32 then digits_of parts.0 else None)
+v6_of rest = split_of 93 rest >>= λ parts. (if length parts.1 == 0 && length parts.0 == 32 then
+    digits_of parts.0 else None)
 
 abbrev pub v4_place : ℕ → List ℕ → AddressParts
 v4_place port host = record { v6 = false; origin = 0; host = host ++ replicate 12 0; port = port }
@@ -128,7 +134,8 @@ place_at host port =
     else (v4_of host >>= λ bytes. Some (v4_place port bytes))
 
 unfoldable pub place_of : List ℕ → Option AddressParts
-place_of word = split_of 58 word >>= λ parts. number_below (2 ^ 16) parts.1 >>= λ port. place_at parts.0 port
+place_of word = split_of 58 word >>= λ parts. number_below (2 ^ 16) parts.1 >>= λ port. place_at
+    parts.0 port
 
 -- at most so many addresses behind those that were read
 unfoldable pub places_from : ℕ → List AddressParts → List ℕ → Option (List AddressParts)

@@ -1,11 +1,13 @@
 -- The lines of a script: the text of what a line says, and the limits (own).
-use Rattle.std.specs.Prelude.{◌≡◌, ℕ, ◌^◌, ◌<◌, ◌≤◌, ◌&&◌, ◌||◌, nat_lt, nat_le, Bool, true, List, [], ◌∷◌, ◌++◌, map, length, codes, decimal}
+use Rattle.std.specs.Prelude.{◌≡◌, ℕ, ◌^◌, ◌<◌, ◌≤◌, ◌&&◌, ◌||◌, nat_lt, nat_le, Bool, true, List,
+    [], ◌∷◌, ◌++◌, map, length, codes, decimal}
 use Rattle.std.specs.List.{list_all}
 use Rattle.rtmfp_forms.specs.Address.{AddressParts, IsAddress}
 use Rattle.rtmfp_text.specs.AddressText.{address_text}
 use Rattle.rtmfp_text.specs.Words.{bytes_text}
 use Rattle.rtmfp_script.specs.declared.line.ScriptLine.{ScriptLine}
-use Rattle.rtmfp_script.specs.declared.line.ScriptLine.TheVariants.{End, At, Open, Cancel, Tick, Deliver, Bent, Inject, Forge}
+use Rattle.rtmfp_script.specs.declared.line.ScriptLine.TheVariants.{End, At, Open, Cancel, Tick,
+    Deliver, Bent, Inject, Forge}
 
 -- words, with one space between each two
 abbrev pub words_text : List (List ℕ) → List ℕ
@@ -15,15 +17,21 @@ words_text (word ∷ next ∷ words) = word ++ 32 ∷ words_text (next ∷ words
 
 -- the text of what a line says
 abbrev pub line_text : ScriptLine → List ℕ
-line_text (End name peers sessions cert) = words_text (codes "end" ∷ name ∷ decimal peers ∷ decimal sessions ∷ cert ∷ [])
+line_text (End name peers sessions cert) = words_text
+    (codes "end" ∷ name ∷ decimal peers ∷ decimal sessions ∷ cert ∷ [])
 line_text (At moment) = words_text (codes "at" ∷ decimal moment ∷ [])
-line_text (Open name peer places) = words_text (codes "open" ∷ name ∷ peer ∷ map address_text places)
+line_text (Open name peer places) = words_text
+    (codes "open" ∷ name ∷ peer ∷ map address_text places)
 line_text (Cancel name number) = words_text (codes "cancel" ∷ name ∷ decimal number ∷ [])
 line_text (Tick name) = words_text (codes "tick" ∷ name ∷ [])
-line_text (Deliver number name from) = words_text (codes "deliver" ∷ decimal number ∷ name ∷ address_text from ∷ [])
-line_text (Bent number place name from) = words_text (codes "bent" ∷ decimal number ∷ decimal place ∷ name ∷ address_text from ∷ [])
-line_text (Inject name from bytes) = words_text (codes "inject" ∷ name ∷ address_text from ∷ bytes_text bytes ∷ [])
-line_text (Forge name from bytes) = words_text (codes "forge" ∷ name ∷ address_text from ∷ bytes_text bytes ∷ [])
+line_text (Deliver number name from) = words_text
+    (codes "deliver" ∷ decimal number ∷ name ∷ address_text from ∷ [])
+line_text (Bent number place name from) = words_text
+    (codes "bent" ∷ decimal number ∷ decimal place ∷ name ∷ address_text from ∷ [])
+line_text (Inject name from bytes) = words_text
+    (codes "inject" ∷ name ∷ address_text from ∷ bytes_text bytes ∷ [])
+line_text (Forge name from bytes) = words_text
+    (codes "forge" ∷ name ∷ address_text from ∷ bytes_text bytes ∷ [])
 
 -- `a` to `z` and `0` to `9`
 abbrev pub is_name_byte : ℕ → Bool
@@ -57,13 +65,16 @@ pub record IsBytesUpTo (most : ℕ) (bytes : List ℕ) : Type 0 where
 
 -- what a line may say
 abbrev pub IsWithin : ScriptLine → Type 0
-IsWithin (End name peers sessions cert) = IsName name × (peers < 2 ^ 32) × (sessions < 2 ^ 32) × IsCert cert
+IsWithin (End name peers sessions cert) = IsName name × (peers < 2 ^ 32) × (sessions < 2 ^ 32) ×
+    IsCert cert
 IsWithin (At moment) = moment < 2 ^ 64
-IsWithin (Open name peer places) = IsName name × IsName peer × (length places ≤ 32) × EachIsPlace places
+IsWithin (Open name peer places) = IsName name × IsName peer × (length places ≤ 32) ×
+    EachIsPlace places
 IsWithin (Cancel name number) = IsName name × (number < 2 ^ 64)
 IsWithin (Tick name) = IsName name
 IsWithin (Deliver number name from) = (number < 2 ^ 64) × IsName name × IsPlace from
-IsWithin (Bent number place name from) = (number < 2 ^ 64) × (place < 2 ^ 64) × IsName name × IsPlace from
+IsWithin (Bent number place name from) = (number < 2 ^ 64) × (place < 2 ^ 64) × IsName name ×
+    IsPlace from
 IsWithin (Inject name from bytes) = IsName name × IsPlace from × IsBytesUpTo 2048 bytes
 IsWithin (Forge name from bytes) = IsName name × IsPlace from × IsBytesUpTo 1164 bytes
 

@@ -1,12 +1,15 @@
 -- How a line is read, as a function.
-use Rattle.std.specs.Prelude.{ℕ, ◌^◌, nat_le, List, [], length, codes, Option, Some, None, if◌then◌else◌}
+use Rattle.std.specs.Prelude.{ℕ, ◌^◌, nat_le, List, [], length, codes, Option, Some, None,
+    if◌then◌else◌}
 use Rattle.std.specs.Str.{bytes_eq}
 use Rattle.rtmfp_script.specs.declared.line.ScriptLine.{ScriptLine}
-use Rattle.rtmfp_script.specs.declared.line.ScriptLine.TheVariants.{End, At, Open, Cancel, Tick, Deliver, Bent, Inject, Forge}
+use Rattle.rtmfp_script.specs.declared.line.ScriptLine.TheVariants.{End, At, Open, Cancel, Tick,
+    Deliver, Bent, Inject, Forge}
 use Rattle.rtmfp_script.specs.declared.line.Said.{Said}
 use Rattle.rtmfp_script.specs.declared.line.Said.TheVariants.{Nothing, Step, Outside}
 use Rattle.rtmfp_script.specs.Grammar.{IsLineOf, IsSkipped, TakesMemory, line_limit}
-use Rattle.rtmfp_script.specs.Fields.{split_of, name_of, cert_of, number_of, number_below, bytes_of, place_of, places_of, either, ◌>>=◌}
+use Rattle.rtmfp_script.specs.Fields.{split_of, name_of, cert_of, number_of, number_below, bytes_of,
+    place_of, places_of, either, ◌>>=◌}
 
 -- what stands behind the first word of a line
 unfoldable pub end_of : List ℕ → Option ScriptLine
@@ -26,7 +29,8 @@ at_of rest = number_of rest >>= λ moment. Some (At moment)
 unfoldable pub open_to : List ℕ → List ℕ → Option ScriptLine
 open_to name rest = either
     (name_of rest >>= λ peer. Some (Open name peer []))
-    (λ parts. name_of parts.0 >>= λ peer. places_of parts.1 >>= λ places. Some (Open name peer places))
+    (λ parts. name_of parts.0 >>= λ peer. places_of parts.1 >>= λ places. Some
+      (Open name peer places))
     (split_of 32 rest)
 
 unfoldable pub open_of : List ℕ → Option ScriptLine
@@ -95,7 +99,8 @@ word_of word rest =
     else None
 
 unfoldable pub step_of : List ℕ → Option ScriptLine
-step_of line = if nat_le (length line) line_limit then (split_of 32 line >>= λ a. word_of a.0 a.1) else None
+step_of line = if nat_le (length line) line_limit then (split_of 32 line >>= λ a. word_of a.0 a.1)
+    else None
 
 -- it is a step, and takes memory
 abbrev pub StepTakesMemory : Option ScriptLine → Type 0

@@ -1,8 +1,11 @@
 //! The fields of a line, each read whole.
-ghost use Rattle.std.specs.Prelude.{◌≡◌, ◌≤◌, ◌<◌, ◌^◌, ◌*◌, ◌%◌, ◌==◌, nat_le, nat_lt, length, Some, None, MatchOption, IfOk, Ok};
+ghost use Rattle.std.specs.Prelude.{◌≡◌, ◌≤◌, ◌<◌, ◌^◌, ◌*◌, ◌%◌, ◌==◌, nat_le, nat_lt, length,
+    Some, None, MatchOption, IfOk, Ok};
 ghost use Rattle.std.specs.List.{list_all};
 ghost use Rattle.rtmfp_script.specs.Grammar.{is_name_byte};
-ghost use Rattle.rtmfp_script.specs.Fields.{split_of, is_name, name_of, is_cert, cert_of, with_digit, number_from, is_unwritten, number_of, number_below, is_lower_digit, digits_of, is_hyphen, bytes_of, v4_of, v6_of, place_of, places_of};
+ghost use Rattle.rtmfp_script.specs.Fields.{split_of, is_name, name_of, is_cert, cert_of,
+    with_digit, number_from, is_unwritten, number_of, number_below, is_lower_digit, digits_of,
+    is_hyphen, bytes_of, v4_of, v6_of, place_of, places_of};
 
 use identity::Certificate;
 use memchr::memchr;
@@ -10,7 +13,8 @@ use rtmfp_text::Name;
 
 /// What stands in front of the first such byte, and what stands behind it.
 pub(crate) fn split(byte: u8, text: &[u8]) -> Option<(&[u8], &[u8])>
-    ensures { MatchOption result (split_of byte text.now ≡ None) (λ parts. split_of byte text.now ≡ Some (parts.0.now, parts.1.now)) }
+    ensures { MatchOption result (split_of byte text.now ≡ None) (λ parts. split_of byte text.now
+        ≡ Some (parts.0.now, parts.1.now)) }
 {
     match memchr(byte, text) {
         Some(at) => {

@@ -1,7 +1,8 @@
 //! Lines that are read.
 ghost use Rattle.std.specs.Prelude.{◌≡◌, ◌↔◌, IsTrue, IfErr, IfOk};
 ghost use Rattle.rtmfp_script.specs.Grammar.{IsLineOf, IsSkipped, TakesMemory};
-ghost use Rattle.rtmfp_script.specs.Lines.{end_of, at_of, open_of, open_to, cancel_of, tick_of, deliver_of, bent_of, inject_of, forge_of, word_of, step_of, StepTakesMemory, Says};
+ghost use Rattle.rtmfp_script.specs.Lines.{end_of, at_of, open_of, open_to, cancel_of, tick_of,
+    deliver_of, bent_of, inject_of, forge_of, word_of, step_of, StepTakesMemory, Says};
 
 use crate::bytes::bytes;
 use crate::fields::{cert, name, number, number32, split};
@@ -232,7 +233,8 @@ pub fn read_line(alloc: Global, line: &[u8]) -> Result<Said, Memory>
     ensures only { (other : Said) → Says line.now other → IfOk result (λ said. said ≡ other) }
 
     // Memory can be wanting for the bytes of an `inject` or of a `forge` alone.
-    ensures memory { IfErr result (λ _. (said : ScriptLine) × (IsLineOf line.now said × TakesMemory said)) }
+    ensures memory { IfErr result (λ _. (said : ScriptLine) ×
+        (IsLineOf line.now said × TakesMemory said)) }
 {
     if is_skipped(line) {
         return Ok(Said::Nothing);

@@ -9,7 +9,8 @@ abbrev pub Adds : (List ℕ → Type 0) → List ℕ → List ℕ → Type 0
 Adds P old new = (text : List ℕ) × P text × (new ≡ old ++ text)
 
 -- the line of a chunk was added
-pub record AddsChunk (before : Option Numbers) (chunk : RawChunk) (old new : List ℕ) (after : Option Numbers) : Type 0 where
+pub record AddsChunk (before : Option Numbers) (chunk : RawChunk) (old new : List ℕ)
+    (after : Option Numbers) : Type 0 where
   pub fields : List ℕ
   pub told : FieldsText before chunk.kind chunk.payload.now fields after
   pub joined : new ≡ old ++ chunk_line chunk.at fields

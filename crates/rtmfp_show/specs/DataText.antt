@@ -1,12 +1,15 @@
 -- The texts of the chunks of flows.
-use Rattle.std.specs.Prelude.{ℕ, zero, suc, ◌-◌, Bool, List, [], ◌∷◌, map, codes, decimal, Option, Some, None}
+use Rattle.std.specs.Prelude.{ℕ, zero, suc, ◌-◌, Bool, List, [], ◌∷◌, map, codes, decimal, Option,
+    Some, None}
 use Rattle.std.specs.List.{flat_map}
 use Rattle.rtmfp_forms.specs.Options.{OptionParts}
 use Rattle.rtmfp_data_chunks.specs.declared.user_data.Part.{Part}
 use Rattle.rtmfp_data_chunks.specs.declared.user_data.Part.TheVariants.{Whole, Begin, End, Middle}
-use Rattle.rtmfp_data_chunks.specs.Chunk.{UserParts, DataChunk, Data, Next, AckBitmap, AckRanges, Probe, Exception}
+use Rattle.rtmfp_data_chunks.specs.Chunk.{UserParts, DataChunk, Data, Next, AckBitmap, AckRanges,
+    Probe, Exception}
 use Rattle.rtmfp_data_chunks.specs.Acked.{acked_bits, acked_pairs}
-use Rattle.rtmfp_text.specs.Words.{bit_field_text, field_text, list_text, number_field_text, text_of}
+use Rattle.rtmfp_text.specs.Words.{bit_field_text, field_text, list_text, number_field_text,
+    text_of}
 
 -- ---- user data
 
@@ -81,7 +84,13 @@ numbers_of stretch = stretch.0 ∷ count_up (suc stretch.0) (stretch.1 - stretch
 unfoldable pub data_text : DataChunk → List ℕ
 data_text (Data user) = user_text (codes " data") user
 data_text (Next user) = user_text (codes " next") user
-data_text (AckBitmap flow blocks upto bits) = text_of (ack_text (codes " ackbits flow=") flow blocks upto ∷ list_text (map decimal (flat_map numbers_of (acked_bits upto bits))) ∷ [])
-data_text (AckRanges flow blocks upto pairs) = text_of (ack_text (codes " ackranges flow=") flow blocks upto ∷ list_text (map stretch_text (acked_pairs upto pairs)) ∷ [])
+data_text (AckBitmap flow blocks upto bits) =
+    text_of (ack_text (codes " ackbits flow=") flow blocks upto
+    ∷ list_text (map decimal (flat_map numbers_of (acked_bits upto bits))) ∷ [])
+data_text (AckRanges flow blocks upto pairs) =
+    text_of (ack_text (codes " ackranges flow=") flow blocks upto
+    ∷ list_text (map stretch_text (acked_pairs upto pairs)) ∷ [])
 data_text (Probe flow) = number_field_text (codes " probe flow=") flow
-data_text (Exception flow code) = text_of (number_field_text (codes " exception flow=") flow ∷ number_field_text (codes " code=") code ∷ [])
+data_text (Exception flow code) =
+    text_of (number_field_text (codes " exception flow=") flow
+    ∷ number_field_text (codes " code=") code ∷ [])

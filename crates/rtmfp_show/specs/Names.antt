@@ -10,7 +10,8 @@ use Rattle.rtmfp_show.specs.ShowLine.{show_limit}
 
 -- a space and the name, and then nothing or a space and more
 abbrev pub BeginsWith : List ℕ → List ℕ → Type 0
-BeginsWith name text = (text ≡ codes " " ++ name) ⊎ ((rest : List ℕ) × (text ≡ codes " " ++ (name ++ (codes " " ++ rest))))
+BeginsWith name text = (text ≡ codes " " ++ name) ⊎
+    ((rest : List ℕ) × (text ≡ codes " " ++ (name ++ (codes " " ++ rest))))
 
 -- the text of a chunk begins with the name of its type
 pub record EachTextHasItsName : Type 0 where

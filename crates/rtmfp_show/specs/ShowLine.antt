@@ -7,7 +7,8 @@ use Rattle.rtmfp_show.specs.ShowText.{PacketText}
 abbrev pub show_limit : ℕ
 show_limit = 4096
 
--- the line is a packet in hexadecimal digits, in either case: an even number of them, which may be 0
+-- the line is a packet in hexadecimal digits, in either case: an even number of them, which may be
+-- 0
 pub record ShowsPacket (line : List ℕ) (b : List ℕ) : Type 0 where
   pub fits : length line ≤ show_limit
   pub decoded : decode_of line ≡ Ok b

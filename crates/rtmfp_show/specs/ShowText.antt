@@ -1,5 +1,6 @@
 -- What `show` prints of one packet.
-use Rattle.std.specs.Prelude.{◌≡◌, ℕ, List, [], ◌∷◌, ◌++◌, length, codes, decimal, Option, None, Result, Ok, Err}
+use Rattle.std.specs.Prelude.{◌≡◌, ℕ, List, [], ◌∷◌, ◌++◌, length, codes, decimal, Option, None,
+    Result, Ok, Err}
 use Rattle.hex.specs.Hex.{encode_lower}
 use Rattle.rtmfp_packet.specs.declared.head.PacketHead.{PacketHead}
 use Rattle.rtmfp_packet.specs.declared.head.PacketFault.{PacketFault}
@@ -39,7 +40,8 @@ unknown_text kind = text_of (codes " unknown " ∷ encode_lower (kind ∷ []) �
 
 -- the name of the type, and the offset
 unfoldable pub malformed_text : ℕ → ℕ → List ℕ
-malformed_text kind at = text_of (codes " malformed " ∷ kind_text kind ∷ codes " " ∷ decimal at ∷ [])
+malformed_text kind at =
+    text_of (codes " malformed " ∷ kind_text kind ∷ codes " " ∷ decimal at ∷ [])
 
 -- what stands behind the place of a chunk of this type that reads so as a chunk of a flow
 abbrev pub flow_text : ℕ → Result DataChunk DataFault → List ℕ
@@ -49,28 +51,35 @@ flow_text kind (Err (flow.Malformed at)) = malformed_text kind at
 flow_text kind (Err (BadOffset at)) = malformed_text kind at
 
 -- it reads so as a chunk of a flow, behind the numbers of the chunk before it
-pub record FlowText (before : Option Numbers) (kind : ℕ) (payload text : List ℕ) (after : Option Numbers) : Type 0 where
+pub record FlowText (before : Option Numbers) (kind : ℕ) (payload text : List ℕ)
+    (after : Option Numbers) : Type 0 where
   pub result : Result DataChunk DataFault
   pub reads : DataReading before kind payload result
   pub is_text : text ≡ flow_text kind result
   pub is_after : after ≡ before_next result
 
--- what stands behind the place of a chunk that reads so as a chunk of no flow. A type that isn't known here can be one
--- of flows
-abbrev pub ReadText : Result Chunk ChunkFault → Option Numbers → ℕ → List ℕ → List ℕ → Option Numbers → Type 0
+-- what stands behind the place of a chunk that reads so as a chunk of no flow. A type that isn't
+-- known here can be one of flows
+abbrev pub ReadText : Result Chunk ChunkFault → Option Numbers → ℕ → List ℕ → List ℕ →
+    Option Numbers → Type 0
 ReadText (Ok chunk) before kind payload text after = (text ≡ chunk_text chunk) × (after ≡ None)
-ReadText (Err (Malformed at)) before kind payload text after = (text ≡ malformed_text kind at) × (after ≡ None)
-ReadText (Err (Unknown told)) before kind payload text after = FlowText before kind payload text after
+ReadText (Err (Malformed at)) before kind payload text after = (text ≡ malformed_text kind at) ×
+    (after ≡ None)
+ReadText (Err (Unknown told)) before kind payload text after =
+    FlowText before kind payload text after
 
--- what stands behind the place of a chunk, and the numbers that a next chunk stands behind, before it and after it
+-- what stands behind the place of a chunk, and the numbers that a next chunk stands behind, before
+-- it and after it
 abbrev pub FieldsText : Option Numbers → ℕ → List ℕ → List ℕ → Option Numbers → Type 0
-FieldsText before kind payload text after = (result : Result Chunk ChunkFault) × Reading kind payload result × ReadText result before kind payload text after
+FieldsText before kind payload text after = (result : Result Chunk ChunkFault) ×
+    Reading kind payload result × ReadText result before kind payload text after
 
 unfoldable pub chunk_line : ℕ → List ℕ → List ℕ
 chunk_line at fields = text_of (decimal at ∷ fields ∷ codes "\n" ∷ [])
 
 -- the line of a chunk
-pub record LineText (before : Option Numbers) (chunk : Placed) (line : List ℕ) (after : Option Numbers) : Type 0 where
+pub record LineText (before : Option Numbers) (chunk : Placed) (line : List ℕ)
+    (after : Option Numbers) : Type 0 where
   pub fields : List ℕ
   pub told : FieldsText before chunk.kind chunk.payload fields after
   pub is_line : line ≡ chunk_line chunk.at fields
@@ -90,7 +99,8 @@ padding_text count = text_of (codes "padding " ∷ decimal count ∷ codes "\n" 
 -- the head, the chunks and the padding, each chunk and each of the others on a line
 abbrev pub WholeText : Whole → List ℕ → Type 0
 WholeText packet text =
-    (lines : List ℕ) × (after : Option Numbers) × ChunksText None (visible (all_placed_from packet.start packet.chunks)) lines after
+    (lines : List ℕ) × (after : Option Numbers) ×
+      ChunksText None (visible (all_placed_from packet.start packet.chunks)) lines after
     × (text ≡ text_of (head_text packet.head ∷ lines ∷ padding_text (length packet.padding) ∷ []))
 
 abbrev pub ResultText : Result Whole PacketFault → List ℕ → Type 0
@@ -101,4 +111,5 @@ ResultText (Err ShortStamp) text = text ≡ codes "bad short-stamp\n"
 
 -- what is printed of the bytes of a packet
 abbrev pub PacketText : List ℕ → List ℕ → Type 0
-PacketText b text = (result : Result Whole PacketFault) × PacketReading b result × ResultText result text
+PacketText b text = (result : Result Whole PacketFault) × PacketReading b result ×
+    ResultText result text

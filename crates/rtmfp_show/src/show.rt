@@ -3,7 +3,8 @@ ghost use Rattle.std.specs.Prelude.{◌≡◌, ◌++◌, ◌≤◌, length, OnOk
 ghost use Rattle.rtmfp_packet.specs.Head.{mode_number};
 ghost use Rattle.rtmfp_data_chunks.specs.Spelling.{shown};
 ghost use Rattle.rtmfp_text.specs.Words.{number_text};
-ghost use Rattle.rtmfp_show.specs.ShowText.{FieldsText, FlowText, PacketText, WholeText, flow_text, head_text, malformed_text, padding_text, unknown_text};
+ghost use Rattle.rtmfp_show.specs.ShowText.{FieldsText, FlowText, PacketText, WholeText, flow_text,
+    head_text, malformed_text, padding_text, unknown_text};
 ghost use Rattle.rtmfp_show.specs.ShowLine.{IsNoPacket, ShowsLine};
 ghost use Rattle.rtmfp_show.specs.Adding.{Adds, AddsChunk};
 
@@ -24,7 +25,8 @@ const PACKET: usize = LIMIT / 2;
 /// Makes the text of a line. It is `false`, with no text, where the line is outside the grammar.
 pub fn show_line(line: &[u8], text: &mut Text) -> Result<bool, AllocError>
     requires { length line.now ≤ LIMIT }
-    ensures { IfOk result (λ good. MatchBool good (ShowsLine line.now text.new) (IsNoPacket line.now)) }
+    ensures { IfOk result (λ good. MatchBool good (ShowsLine line.now text.new)
+        (IsNoPacket line.now)) }
 {
     text.clear();
     let mut packet = [0; PACKET];
@@ -122,14 +124,16 @@ fn show_chunk(
     Ok(())
 }
 
-/// Adds what stands behind the place of a chunk. One that can't be of a flow ends a run of user data.
+/// Adds what stands behind the place of a chunk. One that can't be of a flow ends a run of user
+/// data.
 fn show_fields(
     kind: u8,
     payload: &[u8],
     flows: &mut DataCursor,
     text: &mut Text,
 ) -> Result<(), AllocError>
-    ensures { OnOk result (Adds (λ fields. FieldsText flows.old kind payload.now fields flows.new) text.old text.new) }
+    ensures { OnOk result (Adds (λ fields. FieldsText flows.old kind payload.now fields flows.new)
+        text.old text.new) }
 {
     match read_chunk(kind, payload) {
         Ok(view) => {
@@ -151,7 +155,8 @@ fn show_flow(
     flows: &mut DataCursor,
     text: &mut Text,
 ) -> Result<(), AllocError>
-    ensures { OnOk result (Adds (λ fields. FlowText flows.old kind payload.now fields flows.new) text.old text.new) }
+    ensures { OnOk result (Adds (λ fields. FlowText flows.old kind payload.now fields flows.new)
+        text.old text.new) }
 {
     let read = flows.read(kind, payload);
     show_flow_reading(kind, &read, text)

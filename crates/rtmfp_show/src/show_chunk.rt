@@ -1,6 +1,7 @@
 //! What `show` prints of a chunk: its name and its fields.
 ghost use Rattle.std.specs.Prelude.{◌≡◌, ◌++◌, OnOk, map};
-ghost use Rattle.rtmfp_chunks.specs.Chunk.{Fragment, FIHello, IHello, IIKeying, CookieChange, RHello, RIKeying, Redirect, chunk_of};
+ghost use Rattle.rtmfp_chunks.specs.Chunk.{Fragment, FIHello, IHello, IIKeying, CookieChange,
+    RHello, RIKeying, Redirect, chunk_of};
 ghost use Rattle.rtmfp_chunks.specs.FieldReading.{addresses_in};
 ghost use Rattle.rtmfp_text.specs.Words.{behind_commas, list_text};
 ghost use Rattle.rtmfp_text.specs.AddressText.{address_text};
@@ -100,7 +101,8 @@ fn show_iikeying(
     sign: &[u8],
     text: &mut Text,
 ) -> Result<(), AllocError>
-    ensures { OnOk result (text.new ≡ text.old ++ chunk_text (IIKeying near cookie.now cert.now part.now sign.now)) }
+    ensures { OnOk result (text.new ≡ text.old
+        ++ chunk_text (IIKeying near cookie.now cert.now part.now sign.now)) }
 {
     text.push_number_field(" iikeying near=", near)?;
     text.push_field(" cookie=", cookie)?;
@@ -137,7 +139,8 @@ fn show_fragment(
 
 /// Adds addresses with commas between them, or `-` where there are none.
 fn show_addresses(list: &[u8], text: &mut Text) -> Result<(), AllocError>
-    ensures { OnOk result (text.new ≡ text.old ++ list_text (map address_text (addresses_in list.now))) }
+    ensures { OnOk result (text.new ≡ text.old
+        ++ list_text (map address_text (addresses_in list.now))) }
 {
     let mut addresses = Addresses::new(list);
     match addresses.next() {
@@ -151,7 +154,8 @@ fn show_addresses(list: &[u8], text: &mut Text) -> Result<(), AllocError>
 
 /// Adds addresses, each behind a comma.
 fn show_more_addresses(addresses: Addresses<'_>, text: &mut Text) -> Result<(), AllocError>
-    ensures { OnOk result (text.new ≡ text.old ++ behind_commas (map address_text addresses.entry)) }
+    ensures { OnOk result (text.new ≡ text.old
+        ++ behind_commas (map address_text addresses.entry)) }
 {
     for address in addresses {
         text.push(",")?;

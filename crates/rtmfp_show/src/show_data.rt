@@ -3,9 +3,11 @@ ghost use Rattle.std.specs.Prelude.{◌≡◌, ◌++◌, ◌-◌, suc, OnOk, dec
 ghost use Rattle.std.specs.List.{flat_map};
 ghost use Rattle.rtmfp_forms.specs.OptionReading.{option_parts};
 ghost use Rattle.rtmfp_data_chunks.specs.Acked.{acked_bits, acked_pairs};
-ghost use Rattle.rtmfp_data_chunks.specs.Chunk.{AckBitmap, AckRanges, Exception, data_chunk, user_parts};
+ghost use Rattle.rtmfp_data_chunks.specs.Chunk.{AckBitmap, AckRanges, Exception, data_chunk,
+    user_parts};
 ghost use Rattle.rtmfp_text.specs.Words.{behind_commas, list_text};
-ghost use Rattle.rtmfp_show.specs.DataText.{ack_text, count_up, data_text, marks_text, numbers_of, numbers_text, option_text, options_text, part_text, stretch_text, user_text};
+ghost use Rattle.rtmfp_show.specs.DataText.{ack_text, count_up, data_text, marks_text, numbers_of,
+    numbers_text, option_text, options_text, part_text, stretch_text, user_text};
 
 use rtmfp_data_chunks::{AckedRanges, DataView, Part, UserData};
 use rtmfp_forms::{OptionView, Options};
@@ -148,14 +150,16 @@ fn show_ranges(
     pairs: &[u8],
     text: &mut Text,
 ) -> Result<(), AllocError>
-    ensures { OnOk result (text.new ≡ text.old ++ data_text (AckRanges flow blocks upto pairs.now)) }
+    ensures { OnOk result (text.new ≡ text.old
+        ++ data_text (AckRanges flow blocks upto pairs.now)) }
 {
     show_ack(" ackranges flow=", flow, blocks, upto, text)?;
     show_stretches(AckedRanges::of_pairs(upto, pairs), text)?;
     Ok(())
 }
 
-/// Adds the first and the last number of each stretch with commas between them, or `-` where there are none.
+/// Adds the first and the last number of each stretch with commas between them, or `-` where there
+/// are none.
 fn show_stretches(stretches: AckedRanges<'_>, text: &mut Text) -> Result<(), AllocError>
     ensures { OnOk result (text.new ≡ text.old ++ list_text (map stretch_text stretches.entry)) }
 {
@@ -169,7 +173,8 @@ fn show_stretches(stretches: AckedRanges<'_>, text: &mut Text) -> Result<(), All
 
 /// Adds stretches, each behind a comma.
 fn show_more_stretches(stretches: AckedRanges<'_>, text: &mut Text) -> Result<(), AllocError>
-    ensures { OnOk result (text.new ≡ text.old ++ behind_commas (map stretch_text stretches.entry)) }
+    ensures { OnOk result (text.new ≡ text.old
+        ++ behind_commas (map stretch_text stretches.entry)) }
 {
     for stretch in stretches {
         text.push(",")?;
@@ -203,7 +208,8 @@ fn show_bitmap(
 
 /// Adds each number of stretches with commas between them, or `-` where there are none.
 fn show_each_number(stretches: AckedRanges<'_>, text: &mut Text) -> Result<(), AllocError>
-    ensures { OnOk result (text.new ≡ text.old ++ list_text (map decimal (flat_map numbers_of stretches.entry))) }
+    ensures { OnOk result (text.new ≡ text.old
+        ++ list_text (map decimal (flat_map numbers_of stretches.entry))) }
 {
     let mut others = stretches;
     let Some((first, last)) = others.next() else {
@@ -217,7 +223,8 @@ fn show_each_number(stretches: AckedRanges<'_>, text: &mut Text) -> Result<(), A
 
 /// Adds each number of stretches behind a comma.
 fn show_numbers_of_more(stretches: AckedRanges<'_>, text: &mut Text) -> Result<(), AllocError>
-    ensures { OnOk result (text.new ≡ text.old ++ behind_commas (map decimal (flat_map numbers_of stretches.entry))) }
+    ensures { OnOk result (text.new ≡ text.old
+        ++ behind_commas (map decimal (flat_map numbers_of stretches.entry))) }
 {
     for (first, last) in stretches {
         text.push(",")?;
@@ -229,7 +236,8 @@ fn show_numbers_of_more(stretches: AckedRanges<'_>, text: &mut Text) -> Result<(
 
 /// Adds the numbers above one, up to another, each behind a comma.
 fn show_more_numbers(above: u64, last: u64, text: &mut Text) -> Result<(), AllocError>
-    ensures { OnOk result (text.new ≡ text.old ++ behind_commas (map decimal (count_up (suc above) (last - above)))) }
+    ensures { OnOk result (text.new ≡ text.old
+        ++ behind_commas (map decimal (count_up (suc above) (last - above)))) }
 {
     let mut shown = above;
     while shown < last {

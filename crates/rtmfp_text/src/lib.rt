@@ -1,4 +1,5 @@
-//! Text that is being made: words, numbers, bytes in hexadecimal, addresses, and the names of chunks and ends.
+//! Text that is being made: words, numbers, bytes in hexadecimal, addresses, and the names of
+//! chunks and ends.
 #![tactic(auto)]
 
 mod address_text;

@@ -1,5 +1,6 @@
 -- The same from left to right: which number bytes begin with, and how many bytes it takes.
-use Rattle.std.specs.Prelude.{ℕ, zero, suc, ◌^◌, List, [], ◌∷◌, take, Result, Ok, Err, nat_lt, if◌then◌else◌}
+use Rattle.std.specs.Prelude.{ℕ, zero, suc, ◌^◌, List, [], ◌∷◌, take, Result, Ok, Err, nat_lt,
+    if◌then◌else◌}
 use Rattle.rtmfp_vlu.specs.declared.reading.VluFault.{VluFault}
 use Rattle.rtmfp_vlu.specs.declared.reading.VluFault.TheVariants.{Short, Large}
 use Rattle.rtmfp_vlu.specs.Vlu.{value}
@@ -15,7 +16,8 @@ end_within (suc most) [] = Err Short
 end_within (suc most) (b ∷ bs) = if nat_lt b 128 then Ok 1 else one_more (end_within most bs)
 
 abbrev pub fitting : List ℕ → Result ℕ VluFault → Result (ℕ × ℕ) VluFault
-fitting bytes (Ok n) = if nat_lt (value (take n bytes)) (2 ^ 64) then Ok (value (take n bytes), n) else Err Large
+fitting bytes (Ok n) = if nat_lt (value (take n bytes)) (2 ^ 64) then Ok (value (take n bytes), n)
+    else Err Large
 fitting bytes (Err fault) = Err fault
 
 unfoldable pub number_at : List ℕ → Result (ℕ × ℕ) VluFault

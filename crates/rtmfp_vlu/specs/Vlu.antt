@@ -1,7 +1,8 @@
--- Variable-length unsigned integers (RFC 7016 section 2.1.2): seven bits of the number in each byte, the
--- most significant first, and the high bit set on every byte but the last. Own: at most ten bytes, and
--- numbers below 2 ^ 64.
-use Rattle.std.specs.Prelude.{◌≡◌, ◌≢◌, ℕ, zero, suc, ◌+◌, ◌++◌, ◌*◌, ◌/◌, ◌%◌, ◌^◌, ◌<◌, ◌≤◌, ◌⊎◌, List, [], ◌∷◌, length, take}
+-- Variable-length unsigned integers (RFC 7016 section 2.1.2): seven bits of the number in each
+-- byte, the most significant first, and the high bit set on every byte but the last. Own: at most
+-- ten bytes, and numbers below 2 ^ 64.
+use Rattle.std.specs.Prelude.{◌≡◌, ◌≢◌, ℕ, zero, suc, ◌+◌, ◌++◌, ◌*◌, ◌/◌, ◌%◌, ◌^◌, ◌<◌, ◌≤◌, ◌⊎◌,
+    List, [], ◌∷◌, length, take}
 use Rattle.std.specs.List.{AllByRecursion}
 
 -- the low seven bits of each byte, times 128 to the power of the number of bytes after it
@@ -47,13 +48,15 @@ IsCut b = (length b < 10) × AllContinued b
 abbrev pub EndsAt : ℕ → List ℕ → Type 0
 EndsAt n b = (n ≤ length b) × (n ≤ 10) × IsEnded (take n b)
 
--- ten bytes stand in front, and none of them ends the spelling; or it ends, and its value needs more than 64 bits
+-- ten bytes stand in front, and none of them ends the spelling; or it ends, and its value needs
+-- more than 64 bits
 abbrev pub IsLarge : List ℕ → Type 0
 IsLarge b =
     ((10 ≤ length b) × AllContinued (take 10 b))
     ⊎ ((n : ℕ) × EndsAt n b × (2 ^ 64 ≤ value (take n b)))
 
--- the groups of a number before the last one, of which there are at most count, and none before the first that counts
+-- the groups of a number before the last one, of which there are at most count, and none before the
+-- first that counts
 unfoldable pub groups_before : ℕ → ℕ → List ℕ
 groups_before zero v = []
 groups_before (suc count) zero = []

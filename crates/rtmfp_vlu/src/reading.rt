@@ -19,13 +19,15 @@ pub enum VluFault {
 /// The length of the longest spelling.
 const MAX_LEN: usize = 10;
 
-/// Reads the number that the bytes begin with, in any of its spellings, and the number of bytes that it
-/// takes. What follows it is not looked at.
+/// Reads the number that the bytes begin with, in any of its spellings, and the number of bytes
+/// that it takes. What follows it is not looked at.
 pub fn read_vlu(bytes: &[u8]) -> Result<(u64, usize), VluFault>
     // What is read stands there.
-    ensures ok { IfOk result (λ found. (found.1 ≤ length bytes.now) × VluSpells found.0 (take found.1 bytes.now)) }
+    ensures ok { IfOk result (λ found. (found.1 ≤ length bytes.now) ×
+        VluSpells found.0 (take found.1 bytes.now)) }
     // What stands there is read.
-    ensures complete { (v n : ℕ) → n ≤ length bytes.now → VluSpells v (take n bytes.now) → result ≡ Ok (v, n) }
+    ensures complete { (v n : ℕ) → n ≤ length bytes.now → VluSpells v (take n bytes.now) →
+        result ≡ Ok (v, n) }
 
     ensures short { (result ≡ Err VluFault.Short) ↔ IsCut bytes.now }
     ensures large { (result ≡ Err VluFault.Large) ↔ IsLarge bytes.now }

@@ -10,7 +10,8 @@ pub fn vlu_len(value: u64) -> usize
     (value.max(1).ilog2() / 7 + 1) as usize
 }
 
-/// Writes the shortest spelling of a number at the front, and gives its length. The bytes after it stay as they are.
+/// Writes the shortest spelling of a number at the front, and gives its length. The bytes after it
+/// stay as they are.
 pub fn write_vlu(value: u64, out: &mut [u8; 10]) -> usize
     ensures shortest { Shortest value (take result out.new) }
     ensures written { out.new ≡ vlu value ++ drop result out.old }

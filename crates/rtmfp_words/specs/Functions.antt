@@ -1,5 +1,6 @@
 -- How the words are read, as functions of their texts.
-use Rattle.std.specs.Prelude.{ℕ, ◌==◌, nat_le, Bool, true, false, if◌then◌else◌, List, [], ◌∷◌, codes, Option, Some, None}
+use Rattle.std.specs.Prelude.{ℕ, ◌==◌, nat_le, Bool, true, false, if◌then◌else◌, List, [], ◌∷◌,
+    codes, Option, Some, None}
 use Rattle.std.specs.Str.{bytes_eq}
 use Rattle.rtmfp_script.specs.Fields.{number_of, ◌>>=◌, either, only_if}
 use Rattle.rtmfp_words.specs.declared.option.Setting.{Setting}
@@ -39,7 +40,8 @@ setting_of name value =
 
 -- an option that is one word
 unfoldable pub joined_of : List ℕ → Option Setting
-joined_of word = either (behind_of (codes "--steps=") word >>= steps_of) seed_of (behind_of (codes "--generate=") word)
+joined_of word = either (behind_of (codes "--steps=") word >>= steps_of) seed_of
+    (behind_of (codes "--generate=") word)
 
 -- an option whose value is the next word
 unfoldable pub apart_of : List ℕ → List (List ℕ) → Option (Setting × List (List ℕ))
@@ -47,7 +49,8 @@ apart_of name parts = head_of parts >>= λ p. setting_of name p.0 >>= λ setting
 
 -- the option that stands in front, and the words behind it
 unfoldable pub option_of : List (List ℕ) → Option (Setting × List (List ℕ))
-option_of parts = head_of parts >>= λ p. either (apart_of p.0 p.1) (λ setting. Some (setting, p.1)) (joined_of p.0)
+option_of parts = head_of parts >>= λ p. either (apart_of p.0 p.1) (λ setting. Some (setting, p.1))
+    (joined_of p.0)
 
 -- ---- commands
 
@@ -58,7 +61,8 @@ both (Steps steps) (Seed seed) = Some (Generate seed steps)
 both (Steps steps) (Steps other) = None
 
 unfoldable pub generate_of : List (List ℕ) → Option Command
-generate_of parts = option_of parts >>= λ a. option_of a.1 >>= λ b. (if is_empty b.1 then both a.0 b.0 else None)
+generate_of parts = option_of parts >>= λ a. option_of a.1 >>= λ b. (if is_empty b.1 then
+    both a.0 b.0 else None)
 
 unfoldable pub replay_of : List (List ℕ) → Option Command
 replay_of parts = if is_empty parts then Some Replay else generate_of parts

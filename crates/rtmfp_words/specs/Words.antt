@@ -1,5 +1,6 @@
 -- The words of the command line after the program's name (own).
-use Rattle.std.specs.Prelude.{◌≡◌, ◌⊎◌, ℕ, ◌^◌, ◌<◌, ◌≤◌, List, [], ◌∷◌, ◌++◌, map, codes, decimal, Option, Some, None, String, string_bytes}
+use Rattle.std.specs.Prelude.{◌≡◌, ◌⊎◌, ℕ, ◌^◌, ◌<◌, ◌≤◌, List, [], ◌∷◌, ◌++◌, map, codes, decimal,
+    Option, Some, None, String, string_bytes}
 use Rattle.std.specs.declared.alloc.Global.{Global}
 use Rattle.rtmfp_words.specs.declared.command.Command.{Command}
 use Rattle.rtmfp_words.specs.declared.command.Command.TheVariants.{Show, Replay, Generate}
@@ -14,7 +15,8 @@ IsReplay words = map string_bytes words ≡ codes "replay" ∷ []
 
 -- an option is its name and its value as two words, or one word with `=` between them
 abbrev pub OptionSpells : List ℕ → List ℕ → List (List ℕ) → Type 0
-OptionSpells name value parts = (parts ≡ name ∷ value ∷ []) ⊎ (parts ≡ (name ++ codes "=" ++ value) ∷ [])
+OptionSpells name value parts = (parts ≡ name ∷ value ∷ []) ⊎
+    (parts ≡ (name ++ codes "=" ++ value) ∷ [])
 
 -- `replay` with its two options, one after another, in one of the two orders
 pub record IsGenerate (words : List (String Global)) (seed steps : ℕ) : Type 0 where

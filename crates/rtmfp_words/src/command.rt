@@ -24,14 +24,16 @@ pub enum Command {
 
 /// The command that the words after the program's name say (own).
 ///
-/// They are `show`; or `replay`; or `replay` with the options `--generate N` and `--steps K`, each once, in
-/// either order. An option is two words, or one with `=` between the name and the value. N and K are decimal
-/// numbers without leading zeros; N is below 2^64, and K is at most 100,000. All other words are faulty.
+/// They are `show`; or `replay`; or `replay` with the options `--generate N` and `--steps K`, each
+/// once, in either order. An option is two words, or one with `=` between the name and the value. N
+/// and K are decimal numbers without leading zeros; N is below 2^64, and K is at most 100,000. All
+/// other words are faulty.
 pub fn read_command(words: &[String]) -> Option<Command>
     ensures reads { Reads words.now result }
     ensures show { IsShow words.now → result ≡ Some Command.Show }
     ensures replay { IsReplay words.now → result ≡ Some Command.Replay }
-    ensures generate { (seed steps : ℕ) → IsGenerate words.now seed steps → result ≡ Some (Command.Generate seed steps) }
+    ensures generate { (seed steps : ℕ) → IsGenerate words.now seed steps →
+        result ≡ Some (Command.Generate seed steps) }
 {
     find_command(words)
 }

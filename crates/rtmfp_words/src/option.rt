@@ -1,7 +1,8 @@
 //! The two options of `replay`.
 ghost use Rattle.std.specs.Prelude.{◌≡◌, map, string_bytes, None, Some, MatchOption};
 ghost use Rattle.rtmfp_script.specs.Fields.{number_of};
-ghost use Rattle.rtmfp_words.specs.Functions.{seed_of, steps_of, setting_of, joined_of, apart_of, option_of};
+ghost use Rattle.rtmfp_words.specs.Functions.{seed_of, steps_of, setting_of, joined_of, apart_of,
+    option_of};
 
 use crate::words::{behind, next_word};
 use rtmfp_script::read_number;
@@ -73,7 +74,9 @@ fn read_joined(word: &[u8]) -> Option<Setting>
 /// An option whose value is the next word.
 #[tactic(auto, unfolding(crate::specs::Functions::apart_of))]
 fn read_apart<'a>(name: &[u8], words: &'a [String]) -> Option<(Setting, &'a [String])>
-    ensures { MatchOption result (apart_of name.now (map string_bytes words.now) ≡ None) (λ p. apart_of name.now (map string_bytes words.now) ≡ Some (p.0, map string_bytes p.1.now)) }
+    ensures { MatchOption result (apart_of name.now (map string_bytes words.now)
+        ≡ None) (λ p. apart_of name.now (map string_bytes words.now)
+        ≡ Some (p.0, map string_bytes p.1.now)) }
 {
     let (value, rest) = next_word(words)?;
     Some((read_setting(name, value)?, rest))
@@ -82,7 +85,9 @@ fn read_apart<'a>(name: &[u8], words: &'a [String]) -> Option<(Setting, &'a [Str
 /// The option that stands in front, and the words behind it.
 #[tactic(auto, unfolding(crate::specs::Functions::option_of))]
 pub(crate) fn read_option(words: &[String]) -> Option<(Setting, &[String])>
-    ensures { MatchOption result (option_of (map string_bytes words.now) ≡ None) (λ p. option_of (map string_bytes words.now) ≡ Some (p.0, map string_bytes p.1.now)) }
+    ensures { MatchOption result (option_of (map string_bytes words.now)
+        ≡ None) (λ p. option_of (map string_bytes words.now)
+        ≡ Some (p.0, map string_bytes p.1.now)) }
 {
     let (word, rest) = next_word(words)?;
     match read_joined(word) {

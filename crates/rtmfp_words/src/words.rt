@@ -4,7 +4,9 @@ ghost use Rattle.rtmfp_words.specs.Functions.{head_of, is_empty, behind_of};
 
 /// The next word, and the words behind it.
 pub(crate) fn next_word(words: &[String]) -> Option<(&[u8], &[String])>
-    ensures { MatchOption result (head_of (map string_bytes words.now) ≡ None) (λ p. head_of (map string_bytes words.now) ≡ Some (p.0.now, map string_bytes p.1.now)) }
+    ensures { MatchOption result (head_of (map string_bytes words.now)
+        ≡ None) (λ p. head_of (map string_bytes words.now)
+        ≡ Some (p.0.now, map string_bytes p.1.now)) }
 {
     match words.split_first() {
         Some((word, rest)) => Some((word.as_bytes(), rest)),
@@ -24,7 +26,8 @@ pub(crate) fn is_end(words: &[String]) -> bool
 
 /// What stands in a word behind this front.
 pub(crate) fn behind<'a>(front: &[u8], word: &'a [u8]) -> Option<&'a [u8]>
-    ensures { MatchOption result (behind_of front.now word.now ≡ None) (λ rest. behind_of front.now word.now ≡ Some rest.now) }
+    ensures { MatchOption result (behind_of front.now word.now
+        ≡ None) (λ rest. behind_of front.now word.now ≡ Some rest.now) }
 {
     word.strip_prefix(front)
 }

@@ -1,9 +1,11 @@
 -- Lists of calls on a session, and its values by such a list. Each list has the newest call first.
-use Rattle.std.specs.Prelude.{◌≡◌, ℕ, ◌+◌, ◌&&◌, List, [], ◌∷◌, Bool, true, nat_le, if◌then◌else◌, Option, None, Some}
+use Rattle.std.specs.Prelude.{◌≡◌, ℕ, ◌+◌, ◌&&◌, List, [], ◌∷◌, Bool, true, nat_le, if◌then◌else◌,
+    Option, None, Some}
 use Rattle.rtmfp_forms.specs.Address.{AddressParts}
 use Rattle.rtmfp_packet.specs.declared.head.PacketHead.{PacketHead}
 use Rattle.session_core.specs.declared.stage.Stage.{Stage}
-use Rattle.session_core.specs.declared.stage.Stage.TheVariants.{Opening, Open, NearClose, FarLinger, Closed}
+use Rattle.session_core.specs.declared.stage.Stage.TheVariants.{Opening, Open, NearClose, FarLinger,
+    Closed}
 use Rattle.session_core.specs.declared.stamps.Stamp.{Stamp}
 use Rattle.session_core.specs.declared.trips.RoundTrip.{RoundTrip}
 use Rattle.session_core.specs.declared.congestion.Congestion.{Congestion}
@@ -12,7 +14,8 @@ use Rattle.session_core.specs.Congestion.{grown, shrunk}
 use Rattle.session_core.specs.Session.{SessionState, confirmed, with_stamps, moved_to}
 use Rattle.session_core.specs.Sealed.{after_seal}
 use Rattle.session_core.specs.Hearing.{after_heard, counted}
-use Rattle.session_core.specs.Closing.{closed_near, asked_to_close, close_answered, first_due, after_due, kept_alive, with_acknowledged, with_loss}
+use Rattle.session_core.specs.Closing.{closed_near, asked_to_close, close_answered, first_due,
+    after_due, kept_alive, with_acknowledged, with_loss}
 
 -- a call on a session, of those that change it
 pub data Call : Type 0 where
@@ -95,7 +98,8 @@ pub record Course : Type 0 where
   pub keepalive : Option ℕ
 
 abbrev pub course_of : SessionState → Course
-course_of s = record { stage = s.stage; since = s.since; taken = s.taken; close_sent = s.close_sent; keepalive = s.keepalive }
+course_of s = record { stage = s.stage; since = s.since; taken = s.taken; close_sent = s.close_sent;
+    keepalive = s.keepalive }
 
 abbrev pub confirms : Stage → Course → Course
 confirms Opening c = record c { stage = Open }
@@ -134,19 +138,22 @@ is_late span (Some last) moment = nat_le (last + span) moment
 
 -- What is due: the end of its stage, and of a closing one its close again.
 abbrev pub goes_on : Stage → ℕ → Course → Course
-goes_on Opening moment c = if nat_le (c.since + 20000) moment then record c { stage = Closed } else c
+goes_on Opening moment c = if nat_le (c.since + 20000) moment then record c { stage = Closed }
+    else c
 goes_on Open moment c = if nat_le (c.taken + 120000) moment then record c { stage = Closed } else c
 goes_on NearClose moment c =
     if nat_le (c.since + 90000) moment then record c { stage = Closed }
     else if is_late 5000 c.close_sent moment then record c { close_sent = Some moment }
     else c
-goes_on FarLinger moment c = if nat_le (c.since + 19000) moment then record c { stage = Closed } else c
+goes_on FarLinger moment c = if nat_le (c.since + 19000) moment then record c { stage = Closed }
+    else c
 goes_on Closed moment c = c
 
 -- an open session sends a keepalive 10,000 ms after the last datagram taken and the last keepalive
 abbrev pub keeps_alive : Stage → ℕ → Course → Course
 keeps_alive Opening moment c = c
-keeps_alive Open moment c = if nat_le (c.taken + 10000) moment && is_late 10000 c.keepalive moment then record c { keepalive = Some moment } else c
+keeps_alive Open moment c = if nat_le (c.taken + 10000) moment
+    && is_late 10000 c.keepalive moment then record c { keepalive = Some moment } else c
 keeps_alive NearClose moment c = c
 keeps_alive FarLinger moment c = c
 keeps_alive Closed moment c = c
@@ -165,24 +172,31 @@ course_step call c = c
 -- ---- laws
 
 abbrev pub TakenIsTheLast : Type 0
-TakenIsTheLast = (s : SessionState) (calls : List Call) → (after_calls s calls).taken ≡ folded taken_step s.taken calls
+TakenIsTheLast = (s : SessionState) (calls : List Call) →
+    (after_calls s calls).taken ≡ folded taken_step s.taken calls
 
 abbrev pub StampIsTheLast : Type 0
-StampIsTheLast = (s : SessionState) (calls : List Call) → (after_calls s calls).stamp ≡ folded stamp_step s.stamp calls
+StampIsTheLast = (s : SessionState) (calls : List Call) →
+    (after_calls s calls).stamp ≡ folded stamp_step s.stamp calls
 
 abbrev pub TripIsByTheSamples : Type 0
-TripIsByTheSamples = (s : SessionState) (calls : List Call) → (after_calls s calls).trip ≡ folded trip_step s.trip calls
+TripIsByTheSamples = (s : SessionState) (calls : List Call) →
+    (after_calls s calls).trip ≡ folded trip_step s.trip calls
 
 abbrev pub WindowIsByAcksAndLosses : Type 0
-WindowIsByAcksAndLosses = (s : SessionState) (calls : List Call) → (after_calls s calls).congestion ≡ folded window_step s.congestion calls
+WindowIsByAcksAndLosses = (s : SessionState) (calls : List Call) →
+    (after_calls s calls).congestion ≡ folded window_step s.congestion calls
 
 abbrev pub AddressIsTheLast : Type 0
-AddressIsTheLast = (s : SessionState) (calls : List Call) → (after_calls s calls).address ≡ folded address_step s.address calls
+AddressIsTheLast = (s : SessionState) (calls : List Call) →
+    (after_calls s calls).address ≡ folded address_step s.address calls
 
 abbrev pub CourseIsByTheTable : Type 0
-CourseIsByTheTable = (s : SessionState) (calls : List Call) → course_of (after_calls s calls) ≡ folded course_step (course_of s) calls
+CourseIsByTheTable = (s : SessionState) (calls : List Call) →
+    course_of (after_calls s calls) ≡ folded course_step (course_of s) calls
 
 -- what no call changes: who the ends are, and the secret
 abbrev pub EndsStay : Type 0
 EndsStay = (s : SessionState) (calls : List Call)
-    → ((after_calls s calls).joined ≡ s.joined) × ((after_calls s calls).own ≡ s.own) × ((after_calls s calls).role ≡ s.role) × ((after_calls s calls).secret ≡ s.secret)
+    → ((after_calls s calls).joined ≡ s.joined) × ((after_calls s calls).own ≡ s.own) ×
+      ((after_calls s calls).role ≡ s.role) × ((after_calls s calls).secret ≡ s.secret)

@@ -1,10 +1,13 @@
 -- How sessions end, and what is due of them.
-use Rattle.std.specs.Prelude.{ℕ, ◌-◌, [], ◌∷◌, Bool, true, false, ◌||◌, ◌&&◌, nat_le, if◌then◌else◌, Option, None, Some}
+use Rattle.std.specs.Prelude.{ℕ, ◌-◌, [], ◌∷◌, Bool, true, false, ◌||◌, ◌&&◌, nat_le, if◌then◌else◌,
+    Option, None, Some}
 use Rattle.glare_core.specs.Calls.{where_true, first_that_stands}
 use Rattle.session_core.specs.declared.stage.Stage.{Stage}
-use Rattle.session_core.specs.declared.stage.Stage.TheVariants.{Opening, Open, NearClose, FarLinger, Closed}
+use Rattle.session_core.specs.declared.stage.Stage.TheVariants.{Opening, Open, NearClose, FarLinger,
+    Closed}
 use Rattle.session_core.specs.declared.stage.SessionDue.{SessionDue}
-use Rattle.session_core.specs.declared.stage.SessionDue.TheVariants.{Unconfirmed, Idle, Over, RepeatClose}
+use Rattle.session_core.specs.declared.stage.SessionDue.TheVariants.{Unconfirmed, Idle, Over,
+    RepeatClose}
 use Rattle.session_core.specs.Session.{SessionState, is_opening}
 use Rattle.session_core.specs.Congestion.{grown, shrunk}
 
@@ -37,11 +40,13 @@ is_held stage = is_opening stage || is_open stage
 
 -- this end closes the session, and sends a close
 abbrev pub closed_near : ℕ → SessionState → SessionState
-closed_near moment s = if is_held s.stage then record s { stage = NearClose; since = moment; close_sent = Some moment } else s
+closed_near moment s = if is_held s.stage then
+    record s { stage = NearClose; since = moment; close_sent = Some moment } else s
 
 -- the peer asks to close: the session lingers from then on, unless it already does or is over
 abbrev pub asked_to_close : ℕ → SessionState → SessionState
-asked_to_close moment s = if is_held s.stage || is_near_close s.stage then record s { stage = FarLinger; since = moment } else s
+asked_to_close moment s = if is_held s.stage || is_near_close s.stage then
+    record s { stage = FarLinger; since = moment } else s
 
 abbrev pub ended : SessionState → SessionState
 ended s = record s { stage = Closed }
@@ -61,9 +66,11 @@ abbrev pub is_past_last : ℕ → Option ℕ → ℕ → Bool
 is_past_last span None moment = true
 is_past_last span (Some at) moment = is_past span at moment
 
--- A session that this end closes is over after 90,000 ms without an answer, one that lingers after 19,000 ms.
+-- A session that this end closes is over after 90,000 ms without an answer, one that lingers after
+-- 19,000 ms.
 abbrev pub is_over : SessionState → ℕ → Bool
-is_over s moment = (is_near_close s.stage && is_past 90000 s.since moment) || (is_far_linger s.stage && is_past 19000 s.since moment)
+is_over s moment = (is_near_close s.stage && is_past 90000 s.since moment)
+    || (is_far_linger s.stage && is_past 19000 s.since moment)
 
 -- the first that is due
 abbrev pub first_due : SessionState → ℕ → Option SessionDue
@@ -85,7 +92,8 @@ after_due (Some RepeatClose) moment s = record s { close_sent = Some moment }
 
 -- an open session that took nothing for 10,000 ms sends a keepalive, and again after as long
 abbrev pub needs_keepalive : SessionState → ℕ → Bool
-needs_keepalive s moment = is_open s.stage && is_past 10000 s.taken moment && is_past_last 10000 s.keepalive moment
+needs_keepalive s moment = is_open s.stage && is_past 10000 s.taken moment
+    && is_past_last 10000 s.keepalive moment
 
 abbrev pub kept_alive : ℕ → SessionState → SessionState
 kept_alive moment s = if needs_keepalive s moment then record s { keepalive = Some moment } else s

@@ -1,5 +1,6 @@
 -- Sealed parts heard in a session.
-use Rattle.std.specs.Prelude.{◌≡◌, ◌↔◌, ℕ, List, ◌++◌, length, take, drop, replicate, Bool, true, false, not, ◌&&◌, nat_lt, if◌then◌else◌, IsTrue, Option, None, Some, is_none, Result, Ok, Err}
+use Rattle.std.specs.Prelude.{◌≡◌, ◌↔◌, ℕ, List, ◌++◌, length, take, drop, replicate, Bool, true,
+    false, not, ◌&&◌, nat_lt, if◌then◌else◌, IsTrue, Option, None, Some, is_none, Result, Ok, Err}
 use Rattle.std.specs.Int.{w64, from_be_bytes}
 use Rattle.std.specs.Str.{bytes_eq}
 use Rattle.std.specs.declared.ops.Range.{Range}
@@ -27,7 +28,8 @@ inward_keys s = keys_of s.secret (context_of s false)
 
 -- whether a part opens under keys and a session ID, with a number of a session
 abbrev pub opens_under : Keys → ℕ → List ℕ → Bool
-opens_under keys sid part = is_none (open_refusal keys sid part) && is_session_number (number_of part)
+opens_under keys sid part = is_none (open_refusal keys sid part)
+    && is_session_number (number_of part)
 
 -- whether a part opens in the context towards this end
 abbrev pub opens_in : SessionState → List ℕ → Bool
@@ -38,7 +40,8 @@ abbrev pub is_new : Result (Unit {0}) Seen → Bool
 is_new (Ok done) = true
 is_new (Err why) = false
 
--- why a part isn't heard, by whether it opens and whether its number is new: the first of these that stands
+-- why a part isn't heard, by whether it opens and whether its number is new: the first of these
+-- that stands
 abbrev pub unheard_by : Bool → Bool → List ℕ → Option Unheard
 unheard_by opens new part =
     if nat_lt (length part) 32 then Some Short
@@ -59,20 +62,23 @@ heard_answer s part = answered (unheard s part) part
 
 -- the session after a part: what opens leaves its number, where that is new
 abbrev pub after_heard : SessionState → List ℕ → SessionState
-after_heard s part = if opens_in s part then record s { window = kept_after s.window (count_of part) } else s
+after_heard s part = if opens_in s part then
+    record s { window = kept_after s.window (count_of part) } else s
 
 -- the session after the number of a part was taken
 abbrev pub counted : SessionState → List ℕ → SessionState
 counted s part = record s { window = kept_after s.window (count_of part) }
 
--- the buffer after a part: what opens leaves its plain packet from byte 32 on, anything else stays as it was
+-- the buffer after a part: what opens leaves its plain packet from byte 32 on, anything else stays
+-- as it was
 abbrev pub opened : SessionState → List ℕ → List ℕ
 opened s part = if opens_in s part then take 32 part ++ plain_of (inward_keys s) part else part
 
 -- ---- by the whole list of the numbers taken
 
 abbrev pub heard_by : SessionState → List ℕ → List ℕ → Result (Range ℕ) Unheard
-heard_by s taken part = answered (unheard_by (opens_in s part) (is_new (answer taken (count_of part))) part) part
+heard_by s taken part =
+    answered (unheard_by (opens_in s part) (is_new (answer taken (count_of part))) part) part
 
 abbrev pub taken_hearing : SessionState → List ℕ → List ℕ → List ℕ
 taken_hearing s taken part = if opens_in s part then taken_after taken (count_of part) else taken
@@ -82,14 +88,18 @@ taken_hearing s taken part = if opens_in s part then taken_after taken (count_of
 -- what is kept of the numbers taken hears each part as the whole list does, and goes on with it
 abbrev pub HearsByTaken : Type 0
 HearsByTaken = (s : SessionState) (taken part : List ℕ) → s.window ≡ kept_of taken
-    → (heard_answer s part ≡ heard_by s taken part) × ((after_heard s part).window ≡ kept_of (taken_hearing s taken part))
+    → (heard_answer s part ≡ heard_by s taken part) ×
+      ((after_heard s part).window ≡ kept_of (taken_hearing s taken part))
 
--- a part opens exactly where it is the sealed part of a plain packet in the context towards this end
+-- a part opens exactly where it is the sealed part of a plain packet in the context towards this
+-- end
 abbrev pub OpensSomePlain : Type 0
 OpensSomePlain = (s : SessionState) (part : List ℕ)
-    → IsTrue (opens_in s part) ↔ ((plain : List ℕ) × Opens s.secret (context_of s false) s.joined.near part plain)
+    → IsTrue (opens_in s part) ↔ ((plain : List ℕ) ×
+      Opens s.secret (context_of s false) s.joined.near part plain)
 
 -- and then its plain packet is the one that is given
 abbrev pub OpensThisPlain : Type 0
-OpensThisPlain = (s : SessionState) (part plain : List ℕ) → Opens s.secret (context_of s false) s.joined.near part plain
+OpensThisPlain = (s : SessionState) (part plain : List ℕ) →
+    Opens s.secret (context_of s false) s.joined.near part plain
     → plain ≡ plain_of (inward_keys s) part

@@ -11,7 +11,8 @@ abbrev pub other_role : Role → Role
 other_role Initiator = Responder
 other_role Responder = Initiator
 
--- these are the two ends of one session: they have its nonces, and each other's fingerprints and session IDs
+-- these are the two ends of one session: they have its nonces, and each other's fingerprints and
+-- session IDs
 pub record AreEnds (a b : SessionState) : Type 0 where
   pub secret : a.secret ≡ b.secret
   pub ni : a.joined.ni ≡ b.joined.ni
@@ -26,9 +27,12 @@ pub record AreEnds (a b : SessionState) : Type 0 where
 
 -- The context away from one end is that towards the other.
 abbrev pub ContextsMeet : Type 0
-ContextsMeet = (a b : SessionState) (outward : Bool) → AreEnds a b → context_of a outward ≡ context_of b (not outward)
+ContextsMeet = (a b : SessionState) (outward : Bool) → AreEnds a b →
+    context_of a outward ≡ context_of b (not outward)
 
 -- What one end seals opens at the other, with the same plain packet and the next count.
 abbrev pub SealedOpensThere : Type 0
 SealedOpensThere = (a b : SessionState) (plain : List ℕ) → AreEnds a b → a.sealed < 2 ^ 64 - 1
-    → (opens_in b (sealed_part a plain) ≡ true) × (plain_of (inward_keys b) (sealed_part a plain) ≡ plain) × (count_of (sealed_part a plain) ≡ a.sealed + 1)
+    → (opens_in b (sealed_part a plain) ≡ true) ×
+      (plain_of (inward_keys b) (sealed_part a plain) ≡ plain) ×
+      (count_of (sealed_part a plain) ≡ a.sealed + 1)

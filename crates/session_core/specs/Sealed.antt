@@ -1,5 +1,6 @@
 -- Packets of a session sealed.
-use Rattle.std.specs.Prelude.{ℕ, ◌+◌, ◌-◌, ◌^◌, ◌==◌, List, ◌++◌, length, take, drop, replicate, Bool, true, Option, None, Some, if◌then◌else◌}
+use Rattle.std.specs.Prelude.{ℕ, ◌+◌, ◌-◌, ◌^◌, ◌==◌, List, ◌++◌, length, take, drop, replicate,
+    Bool, true, Option, None, Some, if◌then◌else◌}
 use Rattle.std.specs.Int.{w64, to_be_bytes}
 use Rattle.crypto_profile.specs.Sealing.{sealed_in}
 use Rattle.session_core.specs.Session.{SessionState, context_of}
@@ -10,13 +11,15 @@ number_bytes count = replicate 8 0 ++ to_be_bytes w64 count
 
 -- the sealed part of a session's next packet
 abbrev pub sealed_part : SessionState → List ℕ → List ℕ
-sealed_part s plain = sealed_in s.secret (context_of s true) s.joined.far (number_bytes (s.sealed + 1)) plain
+sealed_part s plain = sealed_in s.secret (context_of s true) s.joined.far
+    (number_bytes (s.sealed + 1)) plain
 
 -- all counts are used
 abbrev pub is_spent : SessionState → Bool
 is_spent s = s.sealed == 2 ^ 64 - 1
 
--- the length of the datagram: 4 bytes of its session ID and 32 bytes before the ciphertext; none where all counts are used
+-- the length of the datagram: 4 bytes of its session ID and 32 bytes before the ciphertext; none
+-- where all counts are used
 abbrev pub seal_answer : SessionState → List ℕ → Option ℕ
 seal_answer s plain = if is_spent s then None else Some (36 + length plain)
 

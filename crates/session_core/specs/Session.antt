@@ -3,7 +3,8 @@ use Rattle.std.specs.Prelude.{◌≡◌, ℕ, List, [], Bool, true, false, not, 
 use Rattle.rtmfp_forms.specs.Address.{AddressParts}
 use Rattle.rtmfp_packet.specs.declared.head.PacketHead.{PacketHead}
 use Rattle.rtmfp_packet.specs.declared.head.Mode.{Mode}
-use Rattle.rtmfp_packet.specs.declared.head.Mode.TheVariants.{Initiator as FromInitiator, Responder as FromResponder}
+use Rattle.rtmfp_packet.specs.declared.head.Mode.TheVariants.{Initiator as FromInitiator,
+    Responder as FromResponder}
 use Rattle.crypto_profile.specs.declared.keys.Context.{Context}
 use Rattle.crypto_profile.specs.declared.keys.Context.TheVariants.{Session as SessionContext}
 use Rattle.crypto_profile.specs.Keys.{Keys, keys_of}
@@ -12,7 +13,8 @@ use Rattle.glare_core.specs.declared.facts.Joined.{Joined}
 use Rattle.session_core.specs.declared.stage.Role.{Role}
 use Rattle.session_core.specs.declared.stage.Role.TheVariants.{Initiator, Responder}
 use Rattle.session_core.specs.declared.stage.Stage.{Stage}
-use Rattle.session_core.specs.declared.stage.Stage.TheVariants.{Opening, Open, NearClose, FarLinger, Closed}
+use Rattle.session_core.specs.declared.stage.Stage.TheVariants.{Opening, Open, NearClose, FarLinger,
+    Closed}
 use Rattle.session_core.specs.declared.stamps.Stamp.{Stamp}
 use Rattle.session_core.specs.declared.trips.RoundTrip.{RoundTrip}
 use Rattle.session_core.specs.declared.congestion.Congestion.{Congestion}
@@ -49,16 +51,19 @@ pub record SessionState : Type 0 where
 
 -- ---- the contexts
 
--- the context of packets away from an end of this role, or towards it: both ends name the initiator's values first
+-- the context of packets away from an end of this role, or towards it: both ends name the
+-- initiator's values first
 abbrev pub context_between : Joined → List ℕ → Role → Bool → Context
 context_between j own Initiator outward = SessionContext j.ni j.nr own j.peer j.near j.far outward
-context_between j own Responder outward = SessionContext j.ni j.nr j.peer own j.far j.near (not outward)
+context_between j own Responder outward = SessionContext j.ni j.nr j.peer own j.far j.near
+    (not outward)
 
 abbrev pub context_of : SessionState → Bool → Context
 context_of s outward = context_between s.joined s.own s.role outward
 
 -- the keys of both directions are those of their contexts
-pub record IsKeyed (secret own : List ℕ) (joined : Joined) (role : Role) (inward outward : Keys) : Type 0 where
+pub record IsKeyed (secret own : List ℕ) (joined : Joined) (role : Role) (inward outward : Keys)
+    : Type 0 where
   pub towards : inward ≡ keys_of secret (context_between joined own role false)
   pub away : outward ≡ keys_of secret (context_between joined own role true)
 
@@ -124,9 +129,11 @@ head_at s moment = record {
   mode = mode_of s.role;
 }
 
--- A datagram with this head was taken at a moment: its timestamp is kept, and its echo times a round trip.
+-- A datagram with this head was taken at a moment: its timestamp is kept, and its echo times a
+-- round trip.
 abbrev pub with_stamps : PacketHead → ℕ → SessionState → SessionState
-with_stamps head moment s = record s { stamp = stamp_after s.stamp head.stamp moment; taken = moment; trip = trip_after s.trip head.echo moment }
+with_stamps head moment s = record s { stamp = stamp_after s.stamp head.stamp moment;
+    taken = moment; trip = trip_after s.trip head.echo moment }
 
 -- ---- the address
 

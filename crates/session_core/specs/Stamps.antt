@@ -6,11 +6,12 @@ use Rattle.session_core.specs.declared.stamps.Stamp.{Stamp}
 abbrev pub tick_of : ℕ → ℕ
 tick_of moment = moment / 4 % 65536
 
--- The echo of a timestamp at a moment: with the time since it was taken, where that is less than 128,000 ms. A moment
--- before that counts as none later.
+-- The echo of a timestamp at a moment: with the time since it was taken, where that is less than
+-- 128,000 ms. A moment before that counts as none later.
 abbrev pub echo_of : Option Stamp → ℕ → Option ℕ
 echo_of None moment = None
-echo_of (Some s) moment = if nat_lt (moment - s.at) 128000 then Some ((s.value + (moment - s.at) / 4) % 65536) else None
+echo_of (Some s) moment = if nat_lt (moment - s.at) 128000 then
+    Some ((s.value + (moment - s.at) / 4) % 65536) else None
 
 -- the timestamp that is kept once a packet with this one, or with none, was taken at a moment
 abbrev pub stamp_after : Option Stamp → Option ℕ → ℕ → Option Stamp

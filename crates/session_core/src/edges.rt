@@ -1,26 +1,33 @@
-//! Each number of the rules at its edge, and the value beside it. The functions do nothing: the contract of each states what
-//! the definitions that the other contracts cite are there. All numbers are own but the units of a timestamp (RFC 7016
-//! section 2.2.4).
+//! Each number of the rules at its edge, and the value beside it. The functions do nothing: the
+//! contract of each states what the definitions that the other contracts cite are there. All
+//! numbers are own but the units of a timestamp (RFC 7016 section 2.2.4).
 
-ghost use Rattle.std.specs.Prelude.{◌≡◌, ◌∷◌, ◌++◌, ◌-◌, ◌^◌, ℕ, List, [], Bool, true, false, Option, Some, None, replicate, length};
+ghost use Rattle.std.specs.Prelude.{◌≡◌, ◌∷◌, ◌++◌, ◌-◌, ◌^◌, ℕ, List, [], Bool, true, false,
+    Option, Some, None, replicate, length};
 ghost use Rattle.rtmfp_forms.specs.Address.{AddressParts};
-ghost use Rattle.rtmfp_packet.specs.declared.head.Mode.TheVariants.{Initiator as FromInitiator, Responder as FromResponder};
+ghost use Rattle.rtmfp_packet.specs.declared.head.Mode.TheVariants.{Initiator as FromInitiator,
+    Responder as FromResponder};
 ghost use Rattle.crypto_profile.specs.declared.keys.Context.TheVariants.{Session as SessionContext};
 ghost use Rattle.glare_core.specs.declared.facts.Joined.{Joined};
-ghost use Rattle.session_core.specs.declared.stage.Stage.TheVariants.{Opening, Open, NearClose, FarLinger, Closed};
-ghost use Rattle.session_core.specs.declared.stage.SessionDue.TheVariants.{Unconfirmed, Idle, Over, RepeatClose};
+ghost use Rattle.session_core.specs.declared.stage.Stage.TheVariants.{Opening, Open, NearClose,
+    FarLinger, Closed};
+ghost use Rattle.session_core.specs.declared.stage.SessionDue.TheVariants.{Unconfirmed, Idle, Over,
+    RepeatClose};
 ghost use Rattle.session_core.specs.declared.stage.Role.{Role};
 ghost use Rattle.session_core.specs.declared.stage.Role.TheVariants.{Initiator, Responder};
 ghost use Rattle.session_core.specs.declared.stamps.Stamp.{Stamp};
 ghost use Rattle.session_core.specs.declared.trips.RoundTrip.{RoundTrip};
-ghost use Rattle.session_core.specs.Session.{SessionState, context_between, head_at, new_session, confirmed, first_stage, mode_of};
-ghost use Rattle.session_core.specs.Closing.{closed_near, asked_to_close, close_answered, first_due, after_due, needs_keepalive, kept_alive};
+ghost use Rattle.session_core.specs.Session.{SessionState, context_between, head_at, new_session,
+    confirmed, first_stage, mode_of};
+ghost use Rattle.session_core.specs.Closing.{closed_near, asked_to_close, close_answered, first_due,
+    after_due, needs_keepalive, kept_alive};
 ghost use Rattle.session_core.specs.Congestion.{first_congestion, grown, shrunk};
 ghost use Rattle.session_core.specs.Stamps.{tick_of, echo_of, stamp_after};
 ghost use Rattle.session_core.specs.Trips.{sample_of, trip_with, trip_after, resend_time};
 ghost use Rattle.session_core.specs.Sealed.{number_bytes, seal_answer, after_seal};
 ghost use Rattle.session_core.specs.Hearing.{is_session_number};
-ghost use Rattle.session_core.specs.Edges.{stamp, trip, congestion, opening, closing, lingering, open_since, at_stage, sealed_before, HasBegun, IsHeadOf};
+ghost use Rattle.session_core.specs.Edges.{stamp, trip, congestion, opening, closing, lingering,
+    open_since, at_stage, sealed_before, HasBegun, IsHeadOf};
 
 /// A timestamp counts 4 ms, modulo 65,536.
 pub fn a_timestamp_counts_4_ms()
@@ -44,10 +51,12 @@ pub fn an_echo_counts_on_for_128_seconds()
 /// The last timestamp is kept; a packet without one leaves it.
 pub fn a_timestamp_stays_until_the_next()
     ensures none { (kept : Option Stamp) (moment : ℕ) → stamp_after kept None moment ≡ kept }
-    ensures some { (kept : Option Stamp) (value moment : ℕ) → stamp_after kept (Some value) moment ≡ stamp value moment }
+    ensures some { (kept : Option Stamp) (value moment : ℕ) →
+        stamp_after kept (Some value) moment ≡ stamp value moment }
 {}
 
-/// An echo gives 4 ms for each unit from it to the moment's timestamp, modulo 65,536. Half of all units are no sample.
+/// An echo gives 4 ms for each unit from it to the moment's timestamp, modulo 65,536. Half of all
+/// units are no sample.
 pub fn a_sample_is_less_than_half_of_all_units()
     ensures none { sample_of None 1000 ≡ None }
     ensures same { sample_of (Some 250) 1003 ≡ Some 0 }
@@ -58,8 +67,9 @@ pub fn a_sample_is_less_than_half_of_all_units()
     ensures ahead { sample_of (Some 251) 1000 ≡ None }
 {}
 
-/// The first sample is the smoothed time, and half of it the variation. Of a later one the smoothed time takes an eighth and
-/// the variation a quarter, of its distance from the smoothed time before it. Divisions drop the rest.
+/// The first sample is the smoothed time, and half of it the variation. Of a later one the smoothed
+/// time takes an eighth and the variation a quarter, of its distance from the smoothed time before
+/// it. Divisions drop the rest.
 pub fn a_sample_is_smoothed()
     ensures first { trip_with None 101 ≡ trip 101 50 }
     ensures longer { trip_with (Some (trip 101 50)) 204 ≡ trip 113 63 }
@@ -69,8 +79,8 @@ pub fn a_sample_is_smoothed()
     ensures timed { trip_after (Some (trip 101 50)) (Some 199) 1000 ≡ Some (trip 113 63) }
 {}
 
-/// What was sent is sent again after the smoothed time, four variations and 200 ms, at least after 250 and at most after
-/// 10,000 ms; before the first sample after 1,000 ms.
+/// What was sent is sent again after the smoothed time, four variations and 200 ms, at least after
+/// 250 and at most after 10,000 ms; before the first sample after 1,000 ms.
 pub fn a_resend_time_is_within_its_limits()
     ensures first { resend_time None ≡ 1000 }
     ensures least { resend_time (Some (trip 0 0)) ≡ 250 }
@@ -83,8 +93,9 @@ pub fn a_resend_time_is_within_its_limits()
     ensures above_most { resend_time (Some (trip 9801 0)) ≡ 10000 }
 {}
 
-/// The window begins at 4,380 bytes and grows to at most 1,048,576: by the bytes newly acknowledged below the threshold, and by
-/// their thousandfold over the window from there on. The window before decides.
+/// The window begins at 4,380 bytes and grows to at most 1,048,576: by the bytes newly acknowledged
+/// below the threshold, and by their thousandfold over the window from there on. The window before
+/// decides.
 pub fn a_window_grows_fast_below_its_threshold()
     ensures first { first_congestion ≡ congestion 4380 1048576 }
     ensures below { grown 1000 (congestion 5000 5001) ≡ congestion 6000 5001 }
@@ -97,8 +108,8 @@ pub fn a_window_grows_fast_below_its_threshold()
     ensures slow_most { grown 1048576 (congestion 1048000 1048000) ≡ congestion 1048576 1048000 }
 {}
 
-/// A loss leaves half of the window as the threshold, at least 4,380 bytes, and as the window; a loss by time leaves a window of
-/// 4,380 bytes.
+/// A loss leaves half of the window as the threshold, at least 4,380 bytes, and as the window; a
+/// loss by time leaves a window of 4,380 bytes.
 pub fn a_loss_halves_the_window()
     ensures by_acks { shrunk false (congestion 1048576 1048576) ≡ congestion 524288 524288 }
     ensures at_least { shrunk false (congestion 8761 1048576) ≡ congestion 4380 4380 }
@@ -112,14 +123,18 @@ pub fn a_loss_halves_the_window()
 pub fn a_half_open_session_ends_after_20_seconds()
     ensures before { (s : SessionState) → first_due (opening 1000 s) 20999 ≡ None }
     ensures at { (s : SessionState) → first_due (opening 1000 s) 21000 ≡ Some Unconfirmed }
-    ensures after { (s : SessionState) (moment : ℕ) → (after_due (Some Unconfirmed) moment s) ≡ at_stage Closed s }
+    ensures after { (s : SessionState) (moment : ℕ) →
+        (after_due (Some Unconfirmed) moment s) ≡ at_stage Closed s }
 {}
 
 /// An open session ends that took nothing for 120,000 ms, whatever it sent.
 pub fn an_open_session_is_idle_after_120_seconds()
-    ensures before { (s : SessionState) (last : Option ℕ) → first_due (open_since 1000 last s) 120999 ≡ None }
-    ensures at { (s : SessionState) (last : Option ℕ) → first_due (open_since 1000 last s) 121000 ≡ Some Idle }
-    ensures after { (s : SessionState) (moment : ℕ) → (after_due (Some Idle) moment s) ≡ at_stage Closed s }
+    ensures before { (s : SessionState) (last : Option ℕ) →
+        first_due (open_since 1000 last s) 120999 ≡ None }
+    ensures at { (s : SessionState) (last : Option ℕ) →
+        first_due (open_since 1000 last s) 121000 ≡ Some Idle }
+    ensures after { (s : SessionState) (moment : ℕ) →
+        (after_due (Some Idle) moment s) ≡ at_stage Closed s }
 {}
 
 /// A close is sent again every 5,000 ms, and the session is over 90,000 ms after the first.
@@ -129,11 +144,14 @@ pub fn a_closing_session_is_over_after_90_seconds()
     ensures repeat_again { (s : SessionState) → first_due (closing 1000 6000 s) 10999 ≡ None }
     ensures before_over { (s : SessionState) → first_due (closing 1000 86000 s) 90999 ≡ None }
     ensures over { (s : SessionState) → first_due (closing 1000 86000 s) 91000 ≡ Some Over }
-    ensures repeated { (s : SessionState) → after_due (Some RepeatClose) 6000 (closing 1000 1000 s) ≡ closing 1000 6000 s }
-    ensures after { (s : SessionState) (moment : ℕ) → (after_due (Some Over) moment s) ≡ at_stage Closed s }
+    ensures repeated { (s : SessionState) → after_due (Some RepeatClose) 6000 (closing 1000 1000 s)
+        ≡ closing 1000 6000 s }
+    ensures after { (s : SessionState) (moment : ℕ) →
+        (after_due (Some Over) moment s) ≡ at_stage Closed s }
 {}
 
-/// A session that the peer closed lingers for 19,000 ms. What is over stays so, and nothing is due of it.
+/// A session that the peer closed lingers for 19,000 ms. What is over stays so, and nothing is due
+/// of it.
 pub fn a_closed_session_lingers_for_19_seconds()
     ensures before { (s : SessionState) → first_due (lingering 1000 s) 19999 ≡ None }
     ensures at { (s : SessionState) → first_due (lingering 1000 s) 20000 ≡ Some Over }
@@ -141,40 +159,54 @@ pub fn a_closed_session_lingers_for_19_seconds()
     ensures unchanged { (s : SessionState) (moment : ℕ) → after_due None moment s ≡ s }
 {}
 
-/// A keepalive is due of an open session 10,000 ms after the last datagram taken and the last keepalive. Opening counts as a
-/// datagram.
+/// A keepalive is due of an open session 10,000 ms after the last datagram taken and the last
+/// keepalive. Opening counts as a datagram.
 pub fn a_keepalive_is_due_after_10_seconds()
     ensures before { (s : SessionState) → needs_keepalive (open_since 1000 None s) 10999 ≡ false }
     ensures at { (s : SessionState) → needs_keepalive (open_since 1000 None s) 11000 ≡ true }
-    ensures sent { (s : SessionState) → kept_alive 11000 (open_since 1000 None s) ≡ open_since 1000 (Some 11000) s }
-    ensures before_next { (s : SessionState) → needs_keepalive (open_since 1000 (Some 11000) s) 20999 ≡ false }
-    ensures next { (s : SessionState) → needs_keepalive (open_since 1000 (Some 11000) s) 21000 ≡ true }
-    ensures before_later { (s : SessionState) → needs_keepalive (open_since 15000 (Some 11000) s) 24999 ≡ false }
-    ensures later { (s : SessionState) → needs_keepalive (open_since 15000 (Some 11000) s) 25000 ≡ true }
-    ensures half_open { (s : SessionState) (moment : ℕ) → needs_keepalive (at_stage Opening s) moment ≡ false }
-    ensures closing { (s : SessionState) (moment : ℕ) → needs_keepalive (at_stage NearClose s) moment ≡ false }
-    ensures lingering { (s : SessionState) (moment : ℕ) → needs_keepalive (at_stage FarLinger s) moment ≡ false }
-    ensures over { (s : SessionState) (moment : ℕ) → needs_keepalive (at_stage Closed s) moment ≡ false }
+    ensures sent { (s : SessionState) → kept_alive 11000 (open_since 1000 None s)
+        ≡ open_since 1000 (Some 11000) s }
+    ensures before_next { (s : SessionState) →
+        needs_keepalive (open_since 1000 (Some 11000) s) 20999 ≡ false }
+    ensures next { (s : SessionState) → needs_keepalive (open_since 1000 (Some 11000) s) 21000
+        ≡ true }
+    ensures before_later { (s : SessionState) →
+        needs_keepalive (open_since 15000 (Some 11000) s) 24999 ≡ false }
+    ensures later { (s : SessionState) → needs_keepalive (open_since 15000 (Some 11000) s) 25000
+        ≡ true }
+    ensures half_open { (s : SessionState) (moment : ℕ) →
+        needs_keepalive (at_stage Opening s) moment ≡ false }
+    ensures closing { (s : SessionState) (moment : ℕ) →
+        needs_keepalive (at_stage NearClose s) moment ≡ false }
+    ensures lingering { (s : SessionState) (moment : ℕ) →
+        needs_keepalive (at_stage FarLinger s) moment ≡ false }
+    ensures over { (s : SessionState) (moment : ℕ) →
+        needs_keepalive (at_stage Closed s) moment ≡ false }
 {}
 
-/// The number of a session's packet is 8 zero bytes and 8 bytes of its count, of which 2^64 - 1 is the last.
+/// The number of a session's packet is 8 zero bytes and 8 bytes of its count, of which 2^64 - 1 is
+/// the last.
 pub fn a_number_begins_with_8_zero_bytes()
     ensures first { number_bytes 1 ≡ replicate 15 0 ++ 1 ∷ [] }
     ensures most { number_bytes (2 ^ 64 - 1) ≡ replicate 8 0 ++ replicate 8 255 }
     ensures zeros { is_session_number (replicate 8 0 ++ replicate 8 255) ≡ true }
     ensures first_byte { is_session_number (1 ∷ replicate 15 0) ≡ false }
     ensures eighth_byte { is_session_number (replicate 7 0 ++ 1 ∷ replicate 8 0) ≡ false }
-    ensures last { (s : SessionState) (plain : List ℕ) → seal_answer (sealed_before (2 ^ 64 - 2) s) [] ≡ Some 36 }
-    ensures none { (s : SessionState) (plain : List ℕ) → seal_answer (sealed_before (2 ^ 64 - 1) s) plain ≡ None }
-    ensures counted { (s : SessionState) → after_seal (sealed_before (2 ^ 64 - 2) s) ≡ sealed_before (2 ^ 64 - 1) s }
+    ensures last { (s : SessionState) (plain : List ℕ) →
+        seal_answer (sealed_before (2 ^ 64 - 2) s) [] ≡ Some 36 }
+    ensures none { (s : SessionState) (plain : List ℕ) →
+        seal_answer (sealed_before (2 ^ 64 - 1) s) plain ≡ None }
+    ensures counted { (s : SessionState) → after_seal (sealed_before (2 ^ 64 - 2) s)
+        ≡ sealed_before (2 ^ 64 - 1) s }
 {}
 
-/// A new session is open at the initiator and half-open at the responder. Its birth counts as a datagram taken, and it has
-/// sent no close and no keepalive.
+/// A new session is open at the initiator and half-open at the responder. Its birth counts as a
+/// datagram taken, and it has sent no close and no keepalive.
 pub fn a_session_begins_open_at_the_initiator_alone()
     ensures initiator { first_stage Initiator ≡ Open }
     ensures responder { first_stage Responder ≡ Opening }
-    ensures begun { (j : Joined) (own : List ℕ) (role : Role) (at : AddressParts) (secret : List ℕ) → HasBegun 1000 (new_session j own role at secret 1000) }
+    ensures begun { (j : Joined) (own : List ℕ) (role : Role) (at : AddressParts)
+        (secret : List ℕ) → HasBegun 1000 (new_session j own role at secret 1000) }
 {}
 
 /// The first datagram confirms a half-open session, and no session again.
@@ -182,35 +214,50 @@ pub fn a_session_is_confirmed_where_it_is_half_open()
     ensures opening { (s : SessionState) → confirmed (at_stage Opening s) ≡ at_stage Open s }
     ensures open { (s : SessionState) → confirmed (at_stage Open s) ≡ at_stage Open s }
     ensures closing { (s : SessionState) → confirmed (at_stage NearClose s) ≡ at_stage NearClose s }
-    ensures lingering { (s : SessionState) → confirmed (at_stage FarLinger s) ≡ at_stage FarLinger s }
+    ensures lingering { (s : SessionState) → confirmed (at_stage FarLinger s)
+        ≡ at_stage FarLinger s }
     ensures over { (s : SessionState) → confirmed (at_stage Closed s) ≡ at_stage Closed s }
 {}
 
-/// A close begins at a half-open or an open session, and counts as sent. Any other session it leaves.
+/// A close begins at a half-open or an open session, and counts as sent. Any other session it
+/// leaves.
 pub fn a_close_ends_what_is_held()
-    ensures opening { (s : SessionState) (moment : ℕ) → closed_near moment (at_stage Opening s) ≡ closing moment moment s }
-    ensures open { (s : SessionState) (moment : ℕ) → closed_near moment (at_stage Open s) ≡ closing moment moment s }
-    ensures closing { (s : SessionState) (moment : ℕ) → closed_near moment (at_stage NearClose s) ≡ at_stage NearClose s }
-    ensures lingering { (s : SessionState) (moment : ℕ) → closed_near moment (at_stage FarLinger s) ≡ at_stage FarLinger s }
-    ensures over { (s : SessionState) (moment : ℕ) → closed_near moment (at_stage Closed s) ≡ at_stage Closed s }
+    ensures opening { (s : SessionState) (moment : ℕ) →
+        closed_near moment (at_stage Opening s) ≡ closing moment moment s }
+    ensures open { (s : SessionState) (moment : ℕ) →
+        closed_near moment (at_stage Open s) ≡ closing moment moment s }
+    ensures closing { (s : SessionState) (moment : ℕ) →
+        closed_near moment (at_stage NearClose s) ≡ at_stage NearClose s }
+    ensures lingering { (s : SessionState) (moment : ℕ) →
+        closed_near moment (at_stage FarLinger s) ≡ at_stage FarLinger s }
+    ensures over { (s : SessionState) (moment : ℕ) →
+        closed_near moment (at_stage Closed s) ≡ at_stage Closed s }
 {}
 
-/// The peer's close makes a session linger from that moment, also one that this end closes. What lingers already goes on
-/// with its own moment.
+/// The peer's close makes a session linger from that moment, also one that this end closes. What
+/// lingers already goes on with its own moment.
 pub fn a_close_of_the_peer_makes_linger()
-    ensures opening { (s : SessionState) (moment : ℕ) → asked_to_close moment (at_stage Opening s) ≡ lingering moment s }
-    ensures open { (s : SessionState) (moment : ℕ) → asked_to_close moment (at_stage Open s) ≡ lingering moment s }
-    ensures closing { (s : SessionState) (moment : ℕ) → asked_to_close moment (at_stage NearClose s) ≡ lingering moment s }
-    ensures lingering { (s : SessionState) (moment : ℕ) → asked_to_close moment (at_stage FarLinger s) ≡ at_stage FarLinger s }
-    ensures over { (s : SessionState) (moment : ℕ) → asked_to_close moment (at_stage Closed s) ≡ at_stage Closed s }
+    ensures opening { (s : SessionState) (moment : ℕ) →
+        asked_to_close moment (at_stage Opening s) ≡ lingering moment s }
+    ensures open { (s : SessionState) (moment : ℕ) →
+        asked_to_close moment (at_stage Open s) ≡ lingering moment s }
+    ensures closing { (s : SessionState) (moment : ℕ) →
+        asked_to_close moment (at_stage NearClose s) ≡ lingering moment s }
+    ensures lingering { (s : SessionState) (moment : ℕ) →
+        asked_to_close moment (at_stage FarLinger s) ≡ at_stage FarLinger s }
+    ensures over { (s : SessionState) (moment : ℕ) →
+        asked_to_close moment (at_stage Closed s) ≡ at_stage Closed s }
 {}
 
 /// The peer's answer to a close ends what this end closes, and nothing else.
 pub fn an_answered_close_is_over()
-    ensures opening { (s : SessionState) → close_answered (at_stage Opening s) ≡ at_stage Opening s }
+    ensures opening { (s : SessionState) → close_answered (at_stage Opening s)
+        ≡ at_stage Opening s }
     ensures open { (s : SessionState) → close_answered (at_stage Open s) ≡ at_stage Open s }
-    ensures closing { (s : SessionState) → close_answered (at_stage NearClose s) ≡ at_stage Closed s }
-    ensures lingering { (s : SessionState) → close_answered (at_stage FarLinger s) ≡ at_stage FarLinger s }
+    ensures closing { (s : SessionState) → close_answered (at_stage NearClose s)
+        ≡ at_stage Closed s }
+    ensures lingering { (s : SessionState) → close_answered (at_stage FarLinger s)
+        ≡ at_stage FarLinger s }
     ensures over { (s : SessionState) → close_answered (at_stage Closed s) ≡ at_stage Closed s }
 {}
 
@@ -221,10 +268,19 @@ pub fn a_head_has_its_stamp_and_mode()
     ensures head { (s : SessionState) (moment : ℕ) → IsHeadOf s moment (head_at s moment) }
 {}
 
-/// Packets from the initiator are in the direction to the responder, and name the initiator's values first at both ends.
+/// Packets from the initiator are in the direction to the responder, and name the initiator's
+/// values first at both ends.
 pub fn a_context_names_the_initiator_first()
-    ensures out { (j : Joined) (own : List ℕ) → context_between j own Initiator true ≡ SessionContext j.ni j.nr own j.peer j.near j.far true }
-    ensures back { (j : Joined) (own : List ℕ) → context_between j own Initiator false ≡ SessionContext j.ni j.nr own j.peer j.near j.far false }
-    ensures responder_out { (j : Joined) (own : List ℕ) → context_between j own Responder true ≡ SessionContext j.ni j.nr j.peer own j.far j.near false }
-    ensures responder_back { (j : Joined) (own : List ℕ) → context_between j own Responder false ≡ SessionContext j.ni j.nr j.peer own j.far j.near true }
+    ensures out { (j : Joined) (own : List ℕ) →
+        context_between j own Initiator true ≡ SessionContext j.ni j.nr own j.peer j.near j.far
+        true }
+    ensures back { (j : Joined) (own : List ℕ) →
+        context_between j own Initiator false ≡ SessionContext j.ni j.nr own j.peer j.near j.far
+        false }
+    ensures responder_out { (j : Joined) (own : List ℕ) →
+        context_between j own Responder true ≡ SessionContext j.ni j.nr j.peer own j.far j.near
+        false }
+    ensures responder_back { (j : Joined) (own : List ℕ) →
+        context_between j own Responder false ≡ SessionContext j.ni j.nr j.peer own j.far j.near
+        true }
 {}

@@ -55,8 +55,8 @@ pub(crate) fn count_of(part: &[u8]) -> u64
     u64::from_be_bytes(count)
 }
 
-/// Whether a part opens under keys and a session ID, with a number of a session. The number is tested before the tag, which
-/// costs most.
+/// Whether a part opens under keys and a session ID, with a number of a session. The number is
+/// tested before the tag, which costs most.
 pub(crate) fn opens_under(keys: &Keys, sid: u32, part: &[u8]) -> bool
     ensures { result ≡ opens_under keys.now sid part.now }
 {

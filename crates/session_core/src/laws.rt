@@ -1,6 +1,8 @@
-//! What sessions keep, for callers' proofs. The functions do nothing: the contract of each is its law.
+//! What sessions keep, for callers' proofs. The functions do nothing: the contract of each is its
+//! law.
 
-ghost use Rattle.session_core.specs.Calls.{AddressIsTheLast, CourseIsByTheTable, EndsStay, StampIsTheLast, TakenIsTheLast, TripIsByTheSamples, WindowIsByAcksAndLosses};
+ghost use Rattle.session_core.specs.Calls.{AddressIsTheLast, CourseIsByTheTable, EndsStay,
+    StampIsTheLast, TakenIsTheLast, TripIsByTheSamples, WindowIsByAcksAndLosses};
 ghost use Rattle.session_core.specs.Meeting.{ContextsMeet, SealedOpensThere};
 ghost use Rattle.session_core.specs.Hearing.{HearsByTaken, OpensSomePlain, OpensThisPlain};
 
@@ -9,7 +11,8 @@ pub fn a_session_hears_by_what_it_took()
     ensures { HearsByTaken }
 {}
 
-/// A sealed part opens in a session exactly where it is the sealed part of some plain packet, and of one alone.
+/// A sealed part opens in a session exactly where it is the sealed part of some plain packet, and
+/// of one alone.
 pub fn what_opens_was_sealed_in_its_context()
     ensures some { OpensSomePlain }
     ensures one { OpensThisPlain }
@@ -25,8 +28,9 @@ pub fn what_one_end_seals_opens_at_the_other()
     ensures { SealedOpensThere }
 {}
 
-/// After whatever list of calls, the moment of the last datagram is that of the last head taken, or of the beginning; so are the
-/// last timestamp and the address. The round trip and the window are by what came of samples, acks and losses.
+/// After whatever list of calls, the moment of the last datagram is that of the last head taken, or
+/// of the beginning; so are the last timestamp and the address. The round trip and the window are
+/// by what came of samples, acks and losses.
 pub fn values_are_folds_over_the_calls()
     ensures taken { TakenIsTheLast }
     ensures stamp { StampIsTheLast }
@@ -36,8 +40,8 @@ pub fn values_are_folds_over_the_calls()
     ensures ends { EndsStay }
 {}
 
-/// After whatever list of calls, the stage and the moments of its beginning, of the last close and of the last keepalive are
-/// those to which the table of the calls leads.
+/// After whatever list of calls, the stage and the moments of its beginning, of the last close and
+/// of the last keepalive are those to which the table of the calls leads.
 pub fn a_session_goes_by_the_table_of_its_calls()
     ensures { CourseIsByTheTable }
 {}

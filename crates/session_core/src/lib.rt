@@ -1,5 +1,5 @@
-//! One session between two ends: its contexts, packets sealed and heard, the stamps of its packets, its stages and times,
-//! and its window (after RFC 7016 section 3.5).
+//! One session between two ends: its contexts, packets sealed and heard, the stamps of its packets,
+//! its stages and times, and its window (after RFC 7016 section 3.5).
 //!
 //! No call takes memory.
 #![tactic(auto)]

@@ -29,7 +29,8 @@ fn seal_part(keys: &Keys, sid: u32, number: [u8; 16], plain: &[u8], part: &mut [
     seal_in_place(keys, sid, number, part);
 }
 
-/// Seals a plain packet into the buffer from byte 4 on, and gives where the sealed part ends. The other bytes stay.
+/// Seals a plain packet into the buffer from byte 4 on, and gives where the sealed part ends. The
+/// other bytes stay.
 pub(crate) fn seal_into(
     keys: &Keys,
     sid: u32,

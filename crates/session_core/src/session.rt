@@ -1,14 +1,19 @@
 //! One end of a session.
 
-ghost use Rattle.std.specs.Prelude.{◌≡◌, ◌↔◌, ◌<◌, ◌^◌, IsTrue, List, ℕ, false, is_none, ◌≤◌, length, IfSome};
+ghost use Rattle.std.specs.Prelude.{◌≡◌, ◌↔◌, ◌<◌, ◌^◌, IsTrue, List, ℕ, false, is_none, ◌≤◌,
+    length, IfSome};
 ghost use Rattle.crypto_profile.specs.Sealing.{Opens};
 ghost use Rattle.glare_core.specs.Calls.{where_true};
-ghost use Rattle.session_core.specs.Session.{SessionState, context_between, context_of, first_stage, new_session, is_opening, confirmed, mode_of, head_at, with_stamps, moved_to};
-ghost use Rattle.session_core.specs.Closing.{is_held, is_near_close, closed_near, asked_to_close, close_answered, first_due, after_due, needs_keepalive, kept_alive, with_acknowledged, with_loss};
+ghost use Rattle.session_core.specs.Session.{SessionState, context_between, context_of, first_stage,
+    new_session, is_opening, confirmed, mode_of, head_at, with_stamps, moved_to};
+ghost use Rattle.session_core.specs.Closing.{is_held, is_near_close, closed_near, asked_to_close,
+    close_answered, first_due, after_due, needs_keepalive, kept_alive, with_acknowledged,
+    with_loss};
 ghost use Rattle.session_core.specs.Congestion.{IsCongestion};
 ghost use Rattle.session_core.specs.Trips.{resend_time};
 ghost use Rattle.session_core.specs.Sealed.{is_spent, seal_answer, after_seal, sealed_into};
-ghost use Rattle.session_core.specs.Hearing.{counted, opens_in, unheard, heard_answer, after_heard, opened};
+ghost use Rattle.session_core.specs.Hearing.{counted, opens_in, unheard, heard_answer, after_heard,
+    opened};
 
 use crate::congestion::{Congestion, first_congestion, grown, shrunk};
 use crate::hearing::{HEAD_LEN, Unheard, count_of, has_session_number, opens_under};
@@ -66,9 +71,14 @@ impl Model for Session {
 
     ghost Value = { SessionState };
 
-    ghost view = { λ s. record { joined = s.joined; own = s.own; role = s.role; secret = s.secret; address = s.address; stage = s.stage; since = s.since; window = s.window; sealed = s.sealed; stamp = s.stamp; taken = s.taken; keepalive = s.keepalive; close_sent = s.close_sent; trip = s.trip; congestion = s.congestion } };
+    ghost view =
+        { λ s. record { joined = s.joined; own = s.own; role = s.role; secret = s.secret;
+        address = s.address; stage = s.stage; since = s.since; window = s.window; sealed = s.sealed;
+        stamp = s.stamp; taken = s.taken; keepalive = s.keepalive; close_sent = s.close_sent; trip =
+        s.trip; congestion = s.congestion } };
 
-    ghost invariant = { λ s. IsKeyed s.secret s.own s.joined s.role s.inward s.outward × IsCongestion s.congestion };
+    ghost invariant = { λ s. IsKeyed s.secret s.own s.joined s.role s.inward s.outward ×
+        IsCongestion s.congestion };
 }
 
 /// The context of packets away from an end, or towards it.
@@ -116,7 +126,8 @@ fn mode_of(role: Role) -> Mode
 }
 
 impl Session {
-    /// A session that was born or opened at a moment, with the peer at this address. Opening counts as a datagram taken.
+    /// A session that was born or opened at a moment, with the peer at this address. Opening counts
+    /// as a datagram taken.
     pub fn new(
         joined: &Joined,
         own: &[u8; 32],
@@ -181,10 +192,13 @@ impl Session {
         context_between(&self.joined, &self.own, self.role, outward)
     }
 
-    /// Whether a sealed part opens in the context towards this end, also where its number was taken before. It changes nothing.
+    /// Whether a sealed part opens in the context towards this end, also where its number was taken
+    /// before. It changes nothing.
     pub fn opens(&self, sealed: &[u8]) -> bool
         ensures value { result ≡ opens_in self.now sealed.now }
-        ensures exact { IsTrue result ↔ ((plain : List ℕ) × Opens self.now.secret (context_of self.now false) self.now.joined.near sealed.now plain) }
+        ensures exact { IsTrue result ↔ ((plain : List ℕ) ×
+            Opens self.now.secret (context_of self.now false) self.now.joined.near sealed.now
+            plain) }
     {
         opens_under(&self.inward, self.joined.near, sealed)
     }
@@ -196,10 +210,11 @@ impl Session {
         self.opens(sealed) && self.window.answer(count_of(sealed)).is_ok()
     }
 
-    /// Hears a sealed part: it opens it in place, takes its number, and gives the place of the plain packet.
+    /// Hears a sealed part: it opens it in place, takes its number, and gives the place of the
+    /// plain packet.
     ///
-    /// Of the session the numbers taken change alone. The buffer stays as it was after Short and BadTag, and has the plain packet
-    /// after Repeated.
+    /// Of the session the numbers taken change alone. The buffer stays as it was after Short and
+    /// BadTag, and has the plain packet after Repeated.
     pub fn hear(&mut self, sealed: &mut [u8]) -> Result<Range<usize>, Unheard>
         ensures answer { result ≡ heard_answer self.old sealed.old }
         ensures session { self.new ≡ after_heard self.old sealed.old }
@@ -244,7 +259,8 @@ impl Session {
         }
     }
 
-    /// Takes the number of a sealed part that was opened. The first 32 bytes of the part are enough.
+    /// Takes the number of a sealed part that was opened. The first 32 bytes of the part are
+    /// enough.
     pub fn take_number(&mut self, sealed: &[u8])
         requires { 32 ≤ length sealed.now }
         ensures { self.new ≡ counted self.old sealed.now }
@@ -262,8 +278,8 @@ impl Session {
         }
     }
 
-    /// Seals a packet as the session's next into `out`, from byte 4 on, and gives the length of the datagram; None where
-    /// all counts are used. The bytes before and after the sealed part stay.
+    /// Seals a packet as the session's next into `out`, from byte 4 on, and gives the length of the
+    /// datagram; None where all counts are used. The bytes before and after the sealed part stay.
     pub fn seal(&mut self, packet: &Outgoing, out: &mut [u8; 1200]) -> Option<usize>
         ensures length { result ≡ seal_answer self.old packet.now }
         ensures limit { IfSome result (λ len. len ≤ 1200) }
@@ -318,7 +334,8 @@ impl Session {
         }
     }
 
-    /// Counts a datagram with this head as taken at a moment, keeps its timestamp, and times a round trip by its echo.
+    /// Counts a datagram with this head as taken at a moment, keeps its timestamp, and times a
+    /// round trip by its echo.
     pub fn take_stamps(&mut self, head: &PacketHead, moment: u64)
         ensures { self.new ≡ with_stamps head.now moment self.old }
     {
@@ -341,7 +358,8 @@ impl Session {
         true
     }
 
-    /// Takes the peer's close; true exactly where the session hadn't ended. It lingers then, also where this end was closing it.
+    /// Takes the peer's close; true exactly where the session hadn't ended. It lingers then, also
+    /// where this end was closing it.
     pub fn take_close_request(&mut self, moment: u64) -> bool
         ensures answer { result ≡ is_held self.old.stage }
         ensures session { self.new ≡ asked_to_close moment self.old }
@@ -354,7 +372,8 @@ impl Session {
         was_held
     }
 
-    /// Takes the peer's answer to a close; true exactly where this end was closing. The session is over then.
+    /// Takes the peer's answer to a close; true exactly where this end was closing. The session is
+    /// over then.
     pub fn take_close_ack(&mut self) -> bool
         ensures answer { result ≡ is_near_close self.old.stage }
         ensures session { self.new ≡ close_answered self.old }
@@ -392,8 +411,8 @@ impl Session {
         }
     }
 
-    /// The first that is due at a moment of `SessionDue`, in its order. The session is over after each but RepeatClose, with
-    /// which its close counts as sent.
+    /// The first that is due at a moment of `SessionDue`, in its order. The session is over after
+    /// each but RepeatClose, with which its close counts as sent.
     pub fn due(&mut self, moment: u64) -> Option<SessionDue>
         ensures answer { result ≡ first_due self.old moment }
         ensures session { self.new ≡ after_due result moment self.old }

@@ -1,4 +1,5 @@
-//! The times of round trips, by echoes of timestamps (after RFC 7016 section 3.5.2.2; the numbers are own).
+//! The times of round trips, by echoes of timestamps (after RFC 7016 section 3.5.2.2; the numbers
+//! are own).
 
 ghost use Rattle.std.specs.Prelude.{◌≡◌};
 ghost use Rattle.session_core.specs.Trips.{sample_of, trip_with, trip_after, resend_time};

@@ -1,5 +1,6 @@
 -- The attempts of an end: how one begins, goes on from hellos to keyings, and ends.
-use Rattle.std.specs.Prelude.{ℕ, ◌+◌, ◌==◌, Bool, false, nat_lt, if◌then◌else◌, List, [], ◌∷◌, ◌++◌, length, Option, Some, None}
+use Rattle.std.specs.Prelude.{ℕ, ◌+◌, ◌==◌, Bool, false, nat_lt, if◌then◌else◌, List, [], ◌∷◌, ◌++◌,
+    length, Option, Some, None}
 use Rattle.std.specs.List.{find, fold, list_any}
 use Rattle.std.specs.Str.{bytes_eq}
 use Rattle.std.specs.FinMap.{get, insert, remove, entries}
@@ -12,9 +13,11 @@ use Rattle.glare_core.specs.declared.facts.Why.TheVariants.{Cancelled}
 use Rattle.glare_core.specs.declared.facts.Fact.{Fact}
 use Rattle.glare_core.specs.declared.facts.Fact.TheVariants.{Ended}
 use Rattle.glare_core.specs.declared.facts.Held.{Held}
-use Rattle.glare_core.specs.declared.facts.Held.TheVariants.{Opening, HalfOpen, KeptAsResponder, KeptAsInitiator}
+use Rattle.glare_core.specs.declared.facts.Held.TheVariants.{Opening, HalfOpen, KeptAsResponder,
+    KeptAsInitiator}
 use Rattle.glare_core.specs.Ledger.{Ledger, held_with, noted, noted_if}
-use Rattle.glare_core.specs.Calls.{where_true, first_that_stands, started_fact, confirmed_fact, ended_fact}
+use Rattle.glare_core.specs.Calls.{where_true, first_that_stands, started_fact, confirmed_fact,
+    ended_fact}
 use Rattle.startup.specs.declared.attempt.Stage.{Stage}
 use Rattle.startup.specs.declared.attempt.Stage.TheVariants.{Hello, Keying}
 use Rattle.startup.specs.declared.answer.Answer.{Answer}
@@ -54,7 +57,8 @@ with_attempt s near a = record s { attempts = insert s.attempts near a }
 
 -- a fact noted, and the attempt with this near id forgotten
 abbrev pub without_attempt : StartupState → ℕ → Fact → StartupState
-without_attempt s near fact = record s { ledger = noted s.ledger fact; attempts = remove s.attempts near }
+without_attempt s near fact = record s { ledger = noted s.ledger fact;
+    attempts = remove s.attempts near }
 
 -- ---- packets
 
@@ -62,9 +66,11 @@ without_attempt s near fact = record s { ledger = noted s.ledger fact; attempts 
 abbrev pub hello_spread : AttemptState → List AddressParts → SpreadParts
 hello_spread a to = record { to = to; plain = ihello_packet (0x01 ∷ a.peer) a.tag }
 
--- the keying of an attempt, to an address with a cookie: under the signature key, with the own certificate
+-- the keying of an attempt, to an address with a cookie: under the signature key, with the own
+-- certificate
 abbrev pub keying_signed : List ℕ → List ℕ → ℕ → AttemptState → AddressParts → List ℕ → Answer
-keying_signed key cert near a to cookie = record { to = to; sid = 0; plain = iikeying_signed key near cookie cert a.ni a.n a.peer }
+keying_signed key cert near a to cookie = record { to = to; sid = 0;
+    plain = iikeying_signed key near cookie cert a.ni a.n a.peer }
 
 abbrev pub keying_answer : StartupState → ℕ → AttemptState → AddressParts → List ℕ → Answer
 keying_answer s near a to cookie = keying_signed (sign_key_of s.secret) s.cert near a to cookie
@@ -73,13 +79,15 @@ keying_answer s near a to cookie = keying_signed (sign_key_of s.secret) s.cert n
 
 -- An address joins the others unless one at its place is there.
 abbrev pub joined : List AddressParts → AddressParts → List AddressParts
-joined places address = if list_any (is_same_place address) places then places else places ++ address ∷ []
+joined places address = if list_any (is_same_place address) places then places
+    else places ++ address ∷ []
 
 -- of the candidates at one place the first, in their order
 abbrev pub places_of : List AddressParts → List AddressParts
 places_of candidates = fold joined [] candidates
 
-abbrev pub begun_attempt : StartupState → List ℕ → List AddressParts → List ℕ → List ℕ → ℕ → AttemptState
+abbrev pub begun_attempt : StartupState → List ℕ → List AddressParts → List ℕ → List ℕ → ℕ →
+    AttemptState
 begun_attempt s peer candidates ni tag moment =
     record {
       peer = peer;
@@ -93,12 +101,16 @@ begun_attempt s peer candidates ni tag moment =
       gap = 0;
     }
 
-abbrev pub after_begin : StartupState → List ℕ → List AddressParts → ℕ → List ℕ → List ℕ → ℕ → StartupState
+abbrev pub after_begin : StartupState → List ℕ → List AddressParts → ℕ → List ℕ → List ℕ → ℕ →
+    StartupState
 after_begin s peer candidates near ni tag moment =
-    with_attempt (with_ledger s (noted s.ledger (started_fact s.ledger peer near ni))) near (begun_attempt s peer candidates ni tag moment)
+    with_attempt (with_ledger s (noted s.ledger (started_fact s.ledger peer near ni))) near
+      (begun_attempt s peer candidates ni tag moment)
 
-abbrev pub begin_spread : StartupState → List ℕ → List AddressParts → List ℕ → List ℕ → ℕ → SpreadParts
-begin_spread s peer candidates ni tag moment = hello_spread (begun_attempt s peer candidates ni tag moment) (places_of candidates)
+abbrev pub begin_spread : StartupState → List ℕ → List AddressParts → List ℕ → List ℕ → ℕ →
+    SpreadParts
+begin_spread s peer candidates ni tag moment =
+    hello_spread (begun_attempt s peer candidates ni tag moment) (places_of candidates)
 
 -- ---- an attempt is given up
 
@@ -159,7 +171,9 @@ hello_cause_at None print = Some NoAttempt
 hello_cause_at (Some e) print = hello_cause e.1.stage e.1.peer print
 
 abbrev pub hello_cause_among : Attempts → List ℕ → List ℕ → List ℕ → Option Cause
-hello_cause_among attempts tag cookie print = first_that_stands (wide tag ∷ wide cookie ∷ hello_cause_at (lowest (has_tag tag) attempts) print ∷ [])
+hello_cause_among attempts tag cookie print =
+    first_that_stands (wide tag ∷ wide cookie ∷ hello_cause_at (lowest (has_tag tag) attempts) print
+    ∷ [])
 
 -- why a responder's hello with this tag, cookie and certificate is discarded
 abbrev pub rhello_cause : StartupState → List ℕ → List ℕ → List ℕ → Option Cause
@@ -169,17 +183,20 @@ rhello_cause s tag cookie cert = hello_cause_among s.attempts tag cookie (sha256
 abbrev pub answered : AttemptState → AddressParts → List ℕ → ℕ → AttemptState
 answered a from cookie moment = record a { stage = Keying from cookie; last = moment; gap = 0 }
 
-abbrev pub after_answer : StartupState → Option (ℕ × AttemptState) → AddressParts → List ℕ → ℕ → StartupState
+abbrev pub after_answer : StartupState → Option (ℕ × AttemptState) → AddressParts → List ℕ → ℕ →
+    StartupState
 after_answer s None from cookie moment = s
 after_answer s (Some e) from cookie moment = with_attempt s e.0 (answered e.1 from cookie moment)
 
-abbrev pub answer_keying : StartupState → Option (ℕ × AttemptState) → AddressParts → List ℕ → Option Answer
+abbrev pub answer_keying : StartupState → Option (ℕ × AttemptState) → AddressParts → List ℕ →
+    Option Answer
 answer_keying s None from cookie = None
 answer_keying s (Some e) from cookie = Some (keying_answer s e.0 e.1 from cookie)
 
 -- what a responder's hello leaves, and the keying that answers it
 abbrev pub after_rhello : StartupState → List ℕ → List ℕ → AddressParts → ℕ → StartupState
-after_rhello s tag cookie from moment = after_answer s (lowest (has_tag tag) s.attempts) from cookie moment
+after_rhello s tag cookie from moment = after_answer s (lowest (has_tag tag) s.attempts) from cookie
+    moment
 
 abbrev pub rhello_keying : StartupState → List ℕ → List ℕ → AddressParts → Option Answer
 rhello_keying s tag cookie from = answer_keying s (lowest (has_tag tag) s.attempts) from cookie
@@ -191,16 +208,19 @@ abbrev pub if_cookie : List ℕ → ℕ → Option AttemptState → Option (ℕ 
 if_cookie cookie near None = None
 if_cookie cookie near (Some a) = where_true (has_cookie cookie a) (near, a)
 
--- the attempt whose cookie a change under this session ID replaces: under 0 the one with the lowest near id that has the old cookie, and else that attempt alone
+-- the attempt whose cookie a change under this session ID replaces: under 0 the one with the lowest
+-- near id that has the old cookie, and else that attempt alone
 abbrev pub changed : Attempts → ℕ → List ℕ → Option (ℕ × AttemptState)
-changed attempts sid old = if sid == 0 then lowest (has_cookie old) attempts else if_cookie old sid (get attempts sid)
+changed attempts sid old = if sid == 0 then lowest (has_cookie old) attempts
+    else if_cookie old sid (get attempts sid)
 
 abbrev pub none_to_change : Option (ℕ × AttemptState) → Option Cause
 none_to_change None = Some NoAttempt
 none_to_change (Some e) = None
 
 abbrev pub change_cause_among : Attempts → ℕ → List ℕ → List ℕ → Option Cause
-change_cause_among attempts sid old new = first_that_stands (wide old ∷ wide new ∷ none_to_change (changed attempts sid old) ∷ [])
+change_cause_among attempts sid old new = first_that_stands
+    (wide old ∷ wide new ∷ none_to_change (changed attempts sid old) ∷ [])
 
 -- why a change of a cookie is discarded
 abbrev pub cookie_change_cause : StartupState → ℕ → List ℕ → List ℕ → Option Cause
@@ -225,7 +245,8 @@ again_signed key cert near a (Keying at old) cookie = Some (keying_signed key ce
 
 abbrev pub change_keying : StartupState → Option (ℕ × AttemptState) → List ℕ → Option Answer
 change_keying s None cookie = None
-change_keying s (Some e) cookie = again_signed (sign_key_of s.secret) s.cert e.0 e.1 e.1.stage cookie
+change_keying s (Some e) cookie = again_signed (sign_key_of s.secret) s.cert e.0 e.1 e.1.stage
+    cookie
 
 -- what a change of a cookie leaves, and the keying that answers it
 abbrev pub after_cookie_change : StartupState → ℕ → List ℕ → List ℕ → ℕ → StartupState

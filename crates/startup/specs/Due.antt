@@ -1,5 +1,6 @@
 -- What time makes due of the attempts: their repeats, and their ends.
-use Rattle.std.specs.Prelude.{ℕ, ◌+◌, ◌==◌, ◌||◌, Bool, nat_le, if◌then◌else◌, List, length, Option, Some, None, min}
+use Rattle.std.specs.Prelude.{ℕ, ◌+◌, ◌==◌, ◌||◌, Bool, nat_le, if◌then◌else◌, List, length, Option,
+    Some, None, min}
 use Rattle.rtmfp_forms.specs.Address.{AddressParts}
 use Rattle.crypto_profile.specs.Keys.{sign_key_of}
 use Rattle.glare_core.specs.declared.facts.Why.TheVariants.{Expired}
@@ -7,11 +8,14 @@ use Rattle.rtmfp_base.specs.Counts.{count_where}
 use Rattle.startup.specs.declared.attempt.Stage.{Stage}
 use Rattle.startup.specs.declared.attempt.Stage.TheVariants.{Hello, Keying}
 use Rattle.startup.specs.declared.answer.Due.{Due}
-use Rattle.startup.specs.declared.answer.Due.TheVariants.{Ended as EndDue, Hello as HelloDue, Keying as KeyingDue}
+use Rattle.startup.specs.declared.answer.Due.TheVariants.{Ended as EndDue, Hello as HelloDue,
+    Keying as KeyingDue}
 use Rattle.startup.specs.State.{AttemptState, StartupState}
-use Rattle.startup.specs.Attempts.{lowest, with_attempt, without_attempt, ended_attempt, hello_spread, keying_signed}
+use Rattle.startup.specs.Attempts.{lowest, with_attempt, without_attempt, ended_attempt,
+    hello_spread, keying_signed}
 
--- how many milliseconds stand before the repeat with this number, from the last sending; the last of them stays
+-- how many milliseconds stand before the repeat with this number, from the last sending; the last
+-- of them stays
 abbrev pub gap_of : ℕ → ℕ
 gap_of gap =
     if gap == 0 then 1000
@@ -34,22 +38,27 @@ is_due moment a = is_over moment a || is_repeat_due moment a
 abbrev pub repeated : AttemptState → ℕ → AttemptState
 repeated a moment = record a { last = moment; gap = min (a.gap + 1) 4 }
 
--- what is sent again: the hellos to all candidates, or the keying, under the signature key with the own certificate
+-- what is sent again: the hellos to all candidates, or the keying, under the signature key with the
+-- own certificate
 abbrev pub repeat_signed : List ℕ → List ℕ → ℕ → AttemptState → Stage → Due
 repeat_signed key cert near a Hello = HelloDue (hello_spread a a.candidates)
-repeat_signed key cert near a (Keying at cookie) = KeyingDue (keying_signed key cert near a at cookie)
+repeat_signed key cert near a (Keying at cookie) =
+    KeyingDue (keying_signed key cert near a at cookie)
 
 abbrev pub repeat_of : StartupState → ℕ → AttemptState → Due
 repeat_of s near a = repeat_signed (sign_key_of s.secret) s.cert near a a.stage
 
--- the one thing that is done of an attempt that is due: its end where it is over, and else its repeat
+-- the one thing that is done of an attempt that is due: its end where it is over, and else its
+-- repeat
 abbrev pub due_of : StartupState → ℕ → Option (ℕ × AttemptState) → Option Due
 due_of s moment None = None
-due_of s moment (Some e) = Some (if is_over moment e.1 then EndDue (ended_attempt e Expired) else repeat_of s e.0 e.1)
+due_of s moment (Some e) = Some (if is_over moment e.1 then EndDue (ended_attempt e Expired)
+    else repeat_of s e.0 e.1)
 
 abbrev pub after_due_of : StartupState → ℕ → Option (ℕ × AttemptState) → StartupState
 after_due_of s moment None = s
-after_due_of s moment (Some e) = if is_over moment e.1 then without_attempt s e.0 (ended_attempt e Expired) else with_attempt s e.0 (repeated e.1 moment)
+after_due_of s moment (Some e) = if is_over moment e.1 then
+    without_attempt s e.0 (ended_attempt e Expired) else with_attempt s e.0 (repeated e.1 moment)
 
 -- what is due first, by rising near id, and what is left after it
 abbrev pub due : StartupState → ℕ → Option Due

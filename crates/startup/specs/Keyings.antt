@@ -1,5 +1,7 @@
--- The keyings that bear and open sessions: how they read, why they are discarded, and what they make.
-use Rattle.std.specs.Prelude.{ℕ, List, [], ◌∷◌, ◌+◌, ◌-◌, ◌==◌, ◌||◌, Bool, true, false, not, length, drop, Option, Some, None, is_some, is_none, Result, Ok, Err, if◌then◌else◌}
+-- The keyings that bear and open sessions: how they read, why they are discarded, and what they
+-- make.
+use Rattle.std.specs.Prelude.{ℕ, List, [], ◌∷◌, ◌+◌, ◌-◌, ◌==◌, ◌||◌, Bool, true, false, not,
+    length, drop, Option, Some, None, is_some, is_none, Result, Ok, Err, if◌then◌else◌}
 use Rattle.std.specs.Str.{bytes_eq}
 use Rattle.std.specs.FinMap.{get, remove}
 use Rattle.sha2.specs.Sha256.{sha256}
@@ -7,7 +9,8 @@ use Rattle.rtmfp_vlu.specs.declared.reading.VluFault.{VluFault}
 use Rattle.rtmfp_vlu.specs.Reading.{number_at}
 use Rattle.rtmfp_forms.specs.Address.{AddressParts}
 use Rattle.rtmfp_chunks.specs.declared.reading.ChunkFault.{ChunkFault}
-use Rattle.rtmfp_chunks.specs.declared.reading.ChunkFault.TheVariants.{Unknown, Malformed as BadField}
+use Rattle.rtmfp_chunks.specs.declared.reading.ChunkFault.TheVariants.{Unknown,
+    Malformed as BadField}
 use Rattle.rtmfp_chunks.specs.Chunk.{Chunk, IIKeying, RIKeying}
 use Rattle.rtmfp_chunks.specs.FieldReading.{chunk_reading}
 use Rattle.cookies.specs.declared.CookieTest.{CookieTest}
@@ -20,14 +23,19 @@ use Rattle.glare_core.specs.declared.facts.Fact.{Fact}
 use Rattle.glare_core.specs.declared.facts.Fact.TheVariants.{Opened}
 use Rattle.glare_core.specs.declared.facts.Joined.{Joined}
 use Rattle.glare_core.specs.declared.facts.Held.{Held}
-use Rattle.glare_core.specs.declared.facts.Held.TheVariants.{Opening, HalfOpen, KeptAsResponder, KeptAsInitiator}
+use Rattle.glare_core.specs.declared.facts.Held.TheVariants.{Opening, HalfOpen, KeptAsResponder,
+    KeptAsInitiator}
 use Rattle.glare_core.specs.declared.answers.Keying.{Keying}
 use Rattle.glare_core.specs.declared.answers.HearRefusal.{HearRefusal}
-use Rattle.glare_core.specs.declared.answers.HearRefusal.TheVariants.{Stale as StaleNumber, Glare as OwnPrevails, PeersFull as NoRow, SessionsFull as NoPlace, Memory as NoMemory}
+use Rattle.glare_core.specs.declared.answers.HearRefusal.TheVariants.{Stale as StaleNumber,
+    Glare as OwnPrevails, PeersFull as NoRow, SessionsFull as NoPlace, Memory as NoMemory}
 use Rattle.glare_core.specs.Ledger.{Ledger, held_with, knows}
-use Rattle.glare_core.specs.Calls.{where_true, first_that_stands, is_born_of, hear_refusal, heard, heard_noted, way_made, born_fact}
+use Rattle.glare_core.specs.Calls.{where_true, first_that_stands, is_born_of, hear_refusal, heard,
+    heard_noted, way_made, born_fact}
 use Rattle.startup.specs.declared.cause.Cause.{Cause}
-use Rattle.startup.specs.declared.cause.Cause.TheVariants.{UnknownChunk, Malformed, NotSelected, NoAttempt, WrongPeer, WrongState, BadCookie, BadSignature, WrongResponder, OwnCertificate, Stale, Glare, PeersFull, SessionsFull}
+use Rattle.startup.specs.declared.cause.Cause.TheVariants.{UnknownChunk, Malformed, NotSelected,
+    NoAttempt, WrongPeer, WrongState, BadCookie, BadSignature, WrongResponder, OwnCertificate,
+    Stale, Glare, PeersFull, SessionsFull}
 use Rattle.startup.specs.declared.answer.Answer.{Answer}
 use Rattle.startup.specs.declared.answer.Keyed.{Keyed}
 use Rattle.startup.specs.declared.answer.Keyed.TheVariants.{Change, Again, Birth}
@@ -35,7 +43,8 @@ use Rattle.startup.specs.declared.attempt.Stage.{Stage}
 use Rattle.startup.specs.declared.attempt.Stage.TheVariants.{Hello, Keying as KeyingStage}
 use Rattle.startup.specs.declared.parts.InitiatorPart.{InitiatorPart}
 use Rattle.startup.specs.declared.parts.ResponderPart.{ResponderPart}
-use Rattle.startup.specs.Packets.{initiator_part_in, responder_part_in, is_signed, rhello_packet, cookiechange_packet, rikeying_packet}
+use Rattle.startup.specs.Packets.{initiator_part_in, responder_part_in, is_signed, rhello_packet,
+    cookiechange_packet, rikeying_packet}
 use Rattle.startup.specs.State.{AttemptState, Attempts, StartupState}
 use Rattle.startup.specs.Attempts.{wide, without_attempt}
 
@@ -66,7 +75,8 @@ bytes_used (Err fault) = 0
 abbrev pub behind_vlu : List ℕ → ℕ → ℕ
 behind_vlu payload at = at + bytes_used (number_at (drop at payload))
 
--- the offset of the certificate, which stands behind its length, after the session ID and a cookie of so many bytes behind their length
+-- the offset of the certificate, which stands behind its length, after the session ID and a cookie
+-- of so many bytes behind their length
 unfoldable pub cert_offset : List ℕ → ℕ → ℕ
 cert_offset payload cookie_len = behind_vlu payload (behind_vlu payload 4 + cookie_len)
 
@@ -78,20 +88,27 @@ abbrev pub fault_cause : ChunkFault → Cause
 fault_cause (Unknown kind) = UnknownChunk kind
 fault_cause (BadField at) = Malformed at
 
-abbrev pub with_initiator_part : ℕ → ℕ → List ℕ → List ℕ → List ℕ → Option InitiatorPart → Result InitiatorKeying Cause
+abbrev pub with_initiator_part : ℕ → ℕ → List ℕ → List ℕ → List ℕ → Option InitiatorPart →
+    Result InitiatorKeying Cause
 with_initiator_part at near cookie cert sign None = Err (Malformed at)
-with_initiator_part at near cookie cert sign (Some part) = Ok (record { near = near; cookie = cookie; cert = cert; part = part; sign = sign })
+with_initiator_part at near cookie cert sign (Some part) =
+    Ok (record { near = near; cookie = cookie; cert = cert; part = part; sign = sign })
 
--- these fields, where each has its form: the session ID isn't 0, and the certificate and the part are ones; the first that hasn't is told
-abbrev pub formed_initiator : List ℕ → ℕ → List ℕ → List ℕ → List ℕ → List ℕ → Result InitiatorKeying Cause
+-- these fields, where each has its form: the session ID isn't 0, and the certificate and the part
+-- are ones; the first that hasn't is told
+abbrev pub formed_initiator : List ℕ → ℕ → List ℕ → List ℕ → List ℕ → List ℕ →
+    Result InitiatorKeying Cause
 formed_initiator payload near cookie cert part sign =
     if near == 0 then Err (Malformed 0)
-    else if is_some (certificate_fault cert) then Err (Malformed (cert_offset payload (length cookie)))
-    else with_initiator_part (part_offset payload part sign) near cookie cert sign (initiator_part_in part)
+    else if is_some (certificate_fault cert) then
+      Err (Malformed (cert_offset payload (length cookie)))
+    else with_initiator_part (part_offset payload part sign) near cookie cert sign
+      (initiator_part_in part)
 
 -- no other chunk has the type
 abbrev pub initiator_fields : List ℕ → Result Chunk ChunkFault → Result InitiatorKeying Cause
-initiator_fields payload (Ok (IIKeying near cookie cert part sign)) = formed_initiator payload near cookie cert part sign
+initiator_fields payload (Ok (IIKeying near cookie cert part sign)) =
+    formed_initiator payload near cookie cert part sign
 initiator_fields payload (Ok chunk) = Err (UnknownChunk 0x38)
 initiator_fields payload (Err fault) = Err (fault_cause fault)
 
@@ -99,13 +116,15 @@ initiator_fields payload (Err fault) = Err (fault_cause fault)
 unfoldable pub initiator_keying_in : List ℕ → Result InitiatorKeying Cause
 initiator_keying_in payload = initiator_fields payload (chunk_reading 0x38 payload)
 
-abbrev pub with_responder_part : ℕ → ℕ → List ℕ → Option ResponderPart → Result ResponderKeying Cause
+abbrev pub with_responder_part : ℕ → ℕ → List ℕ → Option ResponderPart →
+    Result ResponderKeying Cause
 with_responder_part at near sign None = Err (Malformed at)
 with_responder_part at near sign (Some part) = Ok (record { near = near; part = part; sign = sign })
 
 abbrev pub formed_responder : List ℕ → ℕ → List ℕ → List ℕ → Result ResponderKeying Cause
 formed_responder payload near part sign =
-    if near == 0 then Err (Malformed 0) else with_responder_part (part_offset payload part sign) near sign (responder_part_in part)
+    if near == 0 then Err (Malformed 0)
+      else with_responder_part (part_offset payload part sign) near sign (responder_part_in part)
 
 abbrev pub responder_fields : List ℕ → Result Chunk ChunkFault → Result ResponderKeying Cause
 responder_fields payload (Ok (RIKeying near part sign)) = formed_responder payload near part sign
@@ -127,21 +146,26 @@ abbrev pub selects : Option Epd → List ℕ → Bool
 selects None print = false
 selects (Some epd) print = bytes_eq epd.print print
 
--- why an initiator's hello isn't answered: its tag is wide, or its discriminator doesn't select the own certificate
+-- why an initiator's hello isn't answered: its tag is wide, or its discriminator doesn't select the
+-- own certificate
 abbrev pub initiator_hello_cause : StartupState → List ℕ → List ℕ → Option Cause
-initiator_hello_cause s epd tag = first_that_stands (wide tag ∷ where_true (not (selects (discriminator_of epd) (sha256 s.cert))) NotSelected ∷ [])
+initiator_hello_cause s epd tag = first_that_stands
+    (wide tag ∷ where_true (not (selects (discriminator_of epd) (sha256 s.cert))) NotSelected ∷ [])
 
 -- what answers it: its tag, a new cookie for the address, and the own certificate
 abbrev pub initiator_hello_answer : StartupState → List ℕ → AddressParts → ℕ → Answer
-initiator_hello_answer s tag to now = record { to = to; sid = 0; plain = rhello_packet tag (cookie_of s.cookie_secret to now) s.cert }
+initiator_hello_answer s tag to now = record { to = to; sid = 0;
+    plain = rhello_packet tag (cookie_of s.cookie_secret to now) s.cert }
 
 -- ---- initiators' keyings
 
 -- what a keying says to the ledger
 abbrev pub keying_of : InitiatorKeying → Keying
-keying_of keying = record { peer = sha256 keying.cert; n = keying.part.n; ni = keying.part.ni; far = keying.near }
+keying_of keying = record { peer = sha256 keying.cert; n = keying.part.n; ni = keying.part.ni;
+    far = keying.near }
 
--- Whether it is the own certificate. Another one with the same fingerprint would count as the own one, too, since ends are named by their fingerprints; nobody knows such a pair.
+-- Whether it is the own certificate. Another one with the same fingerprint would count as the own
+-- one, too, since ends are named by their fingerprints; nobody knows such a pair.
 abbrev pub is_own : StartupState → List ℕ → Bool
 is_own s cert = bytes_eq cert s.cert || bytes_eq (sha256 cert) (sha256 s.cert)
 
@@ -168,7 +192,8 @@ named_cause s keying full =
     ∷ heard_cause full (hear_refusal s.ledger (keying_of keying) (is_none full))
     ∷ [])
 
--- A cookie that moved or expired is no cause: it is changed. With a good one this later cause stands.
+-- A cookie that moved or expired is no cause: it is changed. With a good one this later cause
+-- stands.
 abbrev pub cookie_cause : CookieTest → Option Cause → Option Cause
 cookie_cause Bad later = Some BadCookie
 cookie_cause Moved later = None
@@ -176,7 +201,8 @@ cookie_cause Expired later = None
 cookie_cause Current later = later
 
 -- why a keying is discarded that reads
-abbrev pub initiator_cause : StartupState → List ℕ → AddressParts → ℕ → Option ℕ → InitiatorKeying → Option Cause
+abbrev pub initiator_cause : StartupState → List ℕ → AddressParts → ℕ → Option ℕ → InitiatorKeying →
+    Option Cause
 initiator_cause s payload from now full keying =
     first_that_stands (
     where_true (not (is_signed s.secret payload keying.sign)) BadSignature
@@ -184,18 +210,22 @@ initiator_cause s payload from now full keying =
     ∷ cookie_cause (cookie_test s.cookie_secret keying.cookie from now) (named_cause s keying full)
     ∷ [])
 
--- Why an initiator's keying is discarded, where it came from this address at this moment; full is the limit on sessions where no place is free. Want of memory stands behind all this.
+-- Why an initiator's keying is discarded, where it came from this address at this moment; full is
+-- the limit on sessions where no place is free. Want of memory stands behind all this.
 abbrev pub iikeying_cause : StartupState → List ℕ → AddressParts → ℕ → Option ℕ → Option Cause
-iikeying_cause s payload from now full = cause_by (initiator_cause s payload from now full) (initiator_keying_in payload)
+iikeying_cause s payload from now full = cause_by (initiator_cause s payload from now full)
+    (initiator_keying_in payload)
 
 -- a new cookie for the address, in place of that of the keying
 abbrev pub change_answer : StartupState → InitiatorKeying → AddressParts → ℕ → Answer
 change_answer s keying from now =
-    record { to = from; sid = keying.near; plain = cookiechange_packet keying.cookie (cookie_of s.cookie_secret from now) }
+    record { to = from; sid = keying.near; plain = cookiechange_packet keying.cookie
+      (cookie_of s.cookie_secret from now) }
 
 -- the responder's keying of a session
 abbrev pub session_answer : StartupState → Joined → AddressParts → Answer
-session_answer s j from = record { to = from; sid = j.far; plain = rikeying_packet s.secret j.near j.nr j.k (sha256 s.cert) j.ni }
+session_answer s j from = record { to = from; sid = j.far;
+    plain = rikeying_packet s.secret j.near j.nr j.k (sha256 s.cert) j.ni }
 
 -- the held session that was born of this very keying
 abbrev pub repeated_session : Option Held → Keying → Option Joined
@@ -208,26 +238,34 @@ repeated_session (Some (KeptAsInitiator j)) keying = None
 -- the session that is born of a keying
 abbrev pub born_session : Ledger → Keying → ℕ → List ℕ → Joined
 born_session l keying near nr =
-    record { peer = keying.peer; n = keying.n; near = near; far = keying.far; ni = keying.ni; nr = nr; k = l.started }
+    record { peer = keying.peer; n = keying.n; near = near; far = keying.far; ni = keying.ni;
+      nr = nr; k = l.started }
 
-abbrev pub again_or_birth : StartupState → Keying → AddressParts → ℕ → List ℕ → Option Joined → Keyed
+abbrev pub again_or_birth : StartupState → Keying → AddressParts → ℕ → List ℕ → Option Joined →
+    Keyed
 again_or_birth s keying from near nr (Some j) = Again (session_answer s j from)
 again_or_birth s keying from near nr None =
-    Birth (way_made keying.peer (held_with s.ledger keying.peer)) (born_fact s.ledger keying near nr)
+    Birth (way_made keying.peer (held_with s.ledger keying.peer))
+      (born_fact s.ledger keying near nr)
     (session_answer s (born_session s.ledger keying near nr) from)
 
-abbrev pub keyed_with : StartupState → AddressParts → ℕ → ℕ → List ℕ → InitiatorKeying → CookieTest → Keyed
+abbrev pub keyed_with : StartupState → AddressParts → ℕ → ℕ → List ℕ → InitiatorKeying →
+    CookieTest → Keyed
 keyed_with s from now near nr keying Current =
-    again_or_birth s (keying_of keying) from near nr (repeated_session (held_with s.ledger (sha256 keying.cert)) (keying_of keying))
+    again_or_birth s (keying_of keying) from near nr
+      (repeated_session (held_with s.ledger (sha256 keying.cert)) (keying_of keying))
 keyed_with s from now near nr keying Bad = Change (change_answer s keying from now)
 keyed_with s from now near nr keying Moved = Change (change_answer s keying from now)
 keyed_with s from now near nr keying Expired = Change (change_answer s keying from now)
 
-abbrev pub keyed_reading : StartupState → AddressParts → ℕ → ℕ → List ℕ → Result InitiatorKeying Cause → Option Keyed
-keyed_reading s from now near nr (Ok keying) = Some (keyed_with s from now near nr keying (cookie_test s.cookie_secret keying.cookie from now))
+abbrev pub keyed_reading : StartupState → AddressParts → ℕ → ℕ → List ℕ →
+    Result InitiatorKeying Cause → Option Keyed
+keyed_reading s from now near nr (Ok keying) =
+    Some (keyed_with s from now near nr keying (cookie_test s.cookie_secret keying.cookie from now))
 keyed_reading s from now near nr (Err cause) = None
 
--- What an initiator's keying gives that isn't discarded: a new cookie, the keying of its held session again, or the birth of a session with this near id and nonce. None where it doesn't read.
+-- What an initiator's keying gives that isn't discarded: a new cookie, the keying of its held
+-- session again, or the birth of a session with this near id and nonce. None where it doesn't read.
 abbrev pub keyed : StartupState → List ℕ → AddressParts → ℕ → ℕ → List ℕ → Option Keyed
 keyed s payload from now near nr = keyed_reading s from now near nr (initiator_keying_in payload)
 
@@ -252,20 +290,26 @@ after_again_or_birth s keying near nr None =
       attempts = without s.attempts (opening_id (held_with s.ledger keying.peer));
     }
 
-abbrev pub after_keyed_with : StartupState → ℕ → List ℕ → InitiatorKeying → CookieTest → StartupState
+abbrev pub after_keyed_with : StartupState → ℕ → List ℕ → InitiatorKeying → CookieTest →
+    StartupState
 after_keyed_with s near nr keying Current =
-    after_again_or_birth s (keying_of keying) near nr (repeated_session (held_with s.ledger (sha256 keying.cert)) (keying_of keying))
+    after_again_or_birth s (keying_of keying) near nr
+      (repeated_session (held_with s.ledger (sha256 keying.cert)) (keying_of keying))
 after_keyed_with s near nr keying Bad = s
 after_keyed_with s near nr keying Moved = s
 after_keyed_with s near nr keying Expired = s
 
-abbrev pub after_keyed_reading : StartupState → AddressParts → ℕ → ℕ → List ℕ → Result InitiatorKeying Cause → StartupState
-after_keyed_reading s from now near nr (Ok keying) = after_keyed_with s near nr keying (cookie_test s.cookie_secret keying.cookie from now)
+abbrev pub after_keyed_reading : StartupState → AddressParts → ℕ → ℕ → List ℕ →
+    Result InitiatorKeying Cause → StartupState
+after_keyed_reading s from now near nr (Ok keying) =
+    after_keyed_with s near nr keying (cookie_test s.cookie_secret keying.cookie from now)
 after_keyed_reading s from now near nr (Err cause) = s
 
--- What it leaves: only a birth changes anything. An attempt that makes way for the session isn't kept.
+-- What it leaves: only a birth changes anything. An attempt that makes way for the session isn't
+-- kept.
 abbrev pub after_keying : StartupState → List ℕ → AddressParts → ℕ → ℕ → List ℕ → StartupState
-after_keying s payload from now near nr = after_keyed_reading s from now near nr (initiator_keying_in payload)
+after_keying s payload from now near nr = after_keyed_reading s from now near nr
+    (initiator_keying_in payload)
 
 -- Whether it takes memory: for the row of a peer that has none.
 abbrev pub needs_row_with : StartupState → InitiatorKeying → CookieTest → Bool
@@ -275,7 +319,8 @@ needs_row_with s keying Moved = false
 needs_row_with s keying Expired = false
 
 abbrev pub needs_row_reading : StartupState → AddressParts → ℕ → Result InitiatorKeying Cause → Bool
-needs_row_reading s from now (Ok keying) = needs_row_with s keying (cookie_test s.cookie_secret keying.cookie from now)
+needs_row_reading s from now (Ok keying) = needs_row_with s keying
+    (cookie_test s.cookie_secret keying.cookie from now)
 needs_row_reading s from now (Err cause) = false
 
 abbrev pub needs_row : StartupState → List ℕ → AddressParts → ℕ → Bool
@@ -313,12 +358,14 @@ responder_cause s near payload keying =
 
 -- why a responder's keying is discarded that came under this near id
 abbrev pub rikeying_cause : StartupState → ℕ → List ℕ → Option Cause
-rikeying_cause s near payload = cause_by (responder_cause s near payload) (responder_keying_in payload)
+rikeying_cause s near payload = cause_by (responder_cause s near payload)
+    (responder_keying_in payload)
 
 -- the session of an attempt that this keying opens
 abbrev pub opened_with : ℕ → ResponderKeying → AttemptState → Fact
 opened_with near keying a =
-    Opened (record { peer = a.peer; n = a.n; near = near; far = keying.near; ni = a.ni; nr = keying.part.nr; k = keying.part.k })
+    Opened (record { peer = a.peer; n = a.n; near = near; far = keying.near; ni = a.ni;
+      nr = keying.part.nr; k = keying.part.k })
 
 abbrev pub opened_reading : ℕ → Option AttemptState → Result ResponderKeying Cause → Option Fact
 opened_reading near (Some a) (Ok keying) = Some (opened_with near keying a)

@@ -1,5 +1,7 @@
--- The plain packets of session startup (own profile over RFC 7016 section 2.3), and the parts of keying chunks.
-use Rattle.std.specs.Prelude.{ℕ, ◌-◌, ◌==◌, Bool, List, [], ◌∷◌, ◌++◌, length, take, drop, Option, Some, None, if◌then◌else◌}
+-- The plain packets of session startup (own profile over RFC 7016 section 2.3), and the parts of
+-- keying chunks.
+use Rattle.std.specs.Prelude.{ℕ, ◌-◌, ◌==◌, Bool, List, [], ◌∷◌, ◌++◌, length, take, drop, Option,
+    Some, None, if◌then◌else◌}
 use Rattle.std.specs.Int.{w64, to_be_bytes, from_be_bytes}
 use Rattle.std.specs.Str.{bytes_eq}
 use Rattle.rtmfp_chunks.specs.Chunk.{Chunk, IHello, RHello, CookieChange, IIKeying, RIKeying}
@@ -37,13 +39,16 @@ responder_part nr k responder ni = nr ++ to_be_bytes w64 k ++ responder ++ ni
 -- what such a part of an initiator says: it has 56 bytes
 unfoldable pub initiator_part_in : List ℕ → Option InitiatorPart
 initiator_part_in bytes =
-    if length bytes == 56 then Some (record { ni = take 16 bytes; n = from_be_bytes w64 (take 8 (drop 16 bytes)); responder = drop 24 bytes }) else None
+    if length bytes == 56 then
+      Some (record { ni = take 16 bytes; n = from_be_bytes w64 (take 8 (drop 16 bytes));
+      responder = drop 24 bytes }) else None
 
 -- what such a part of a responder says: it has 72 bytes
 unfoldable pub responder_part_in : List ℕ → Option ResponderPart
 responder_part_in bytes =
     if length bytes == 72
-    then Some (record { nr = take 16 bytes; k = from_be_bytes w64 (take 8 (drop 16 bytes)); responder = take 32 (drop 24 bytes); ni = drop 56 bytes })
+    then Some (record { nr = take 16 bytes; k = from_be_bytes w64 (take 8 (drop 16 bytes));
+      responder = take 32 (drop 24 bytes); ni = drop 56 bytes })
     else None
 
 -- ---- signatures
@@ -65,22 +70,28 @@ is_signed secret payload sign = is_signed_by (sign_key_of secret) payload sign
 
 -- ---- keying packets
 
--- the packet of an initiator's keying, signed under the key: the signature is of the fields before it
+-- the packet of an initiator's keying, signed under the key: the signature is of the fields before
+-- it
 unfoldable pub iikeying_signed : List ℕ → ℕ → List ℕ → List ℕ → List ℕ → ℕ → List ℕ → List ℕ
 iikeying_signed key near cookie cert ni n peer =
     startup_packet (
-    IIKeying near cookie cert (initiator_part ni n peer) (signature_by key (payload_bytes (IIKeying near cookie cert (initiator_part ni n peer) []))))
+    IIKeying near cookie cert (initiator_part ni n peer)
+      (signature_by key (payload_bytes (IIKeying near cookie cert (initiator_part ni n peer) []))))
 
 -- the same for a responder's keying
 unfoldable pub rikeying_signed : List ℕ → ℕ → List ℕ → ℕ → List ℕ → List ℕ → List ℕ
 rikeying_signed key near nr k own ni =
     startup_packet (
-    RIKeying near (responder_part nr k own ni) (signature_by key (payload_bytes (RIKeying near (responder_part nr k own ni) []))))
+    RIKeying near (responder_part nr k own ni)
+      (signature_by key (payload_bytes (RIKeying near (responder_part nr k own ni) []))))
 
--- under the group secret: the own session ID, cookie and certificate, the nonce and the number of the attempt, and the fingerprint of the end that is called
+-- under the group secret: the own session ID, cookie and certificate, the nonce and the number of
+-- the attempt, and the fingerprint of the end that is called
 abbrev pub iikeying_packet : List ℕ → ℕ → List ℕ → List ℕ → List ℕ → ℕ → List ℕ → List ℕ
-iikeying_packet secret near cookie cert ni n peer = iikeying_signed (sign_key_of secret) near cookie cert ni n peer
+iikeying_packet secret near cookie cert ni n peer =
+    iikeying_signed (sign_key_of secret) near cookie cert ni n peer
 
--- under the group secret: the own session ID, the own nonce, the own count of attempts, the own fingerprint, and the initiator's nonce
+-- under the group secret: the own session ID, the own nonce, the own count of attempts, the own
+-- fingerprint, and the initiator's nonce
 abbrev pub rikeying_packet : List ℕ → ℕ → List ℕ → ℕ → List ℕ → List ℕ → List ℕ
 rikeying_packet secret near nr k own ni = rikeying_signed (sign_key_of secret) near nr k own ni

@@ -1,5 +1,7 @@
--- Why a chunk of startup that an end takes would be discarded, by its type and payload: what the calls for these chunks answer, without making them.
-use Rattle.std.specs.Prelude.{ℕ, ◌-◌, ◌==◌, List, length, Option, Some, None, is_some, Result, Ok, Err, if◌then◌else◌}
+-- Why a chunk of startup that an end takes would be discarded, by its type and payload: what the
+-- calls for these chunks answer, without making them.
+use Rattle.std.specs.Prelude.{ℕ, ◌-◌, ◌==◌, List, length, Option, Some, None, is_some, Result, Ok,
+    Err, if◌then◌else◌}
 use Rattle.rtmfp_forms.specs.Address.{AddressParts}
 use Rattle.rtmfp_chunks.specs.declared.reading.ChunkFault.{ChunkFault}
 use Rattle.rtmfp_chunks.specs.Chunk.{Chunk, RHello, CookieChange}
@@ -11,13 +13,16 @@ use Rattle.startup.specs.State.{StartupState}
 use Rattle.startup.specs.Attempts.{rhello_cause, cookie_change_cause}
 use Rattle.startup.specs.Keyings.{fault_cause, iikeying_cause, rikeying_cause}
 
--- A responder's hello whose certificate has no form is malformed there; the certificate ends the payload.
+-- A responder's hello whose certificate has no form is malformed there; the certificate ends the
+-- payload.
 abbrev pub rhello_refusal_with : StartupState → List ℕ → List ℕ → List ℕ → List ℕ → Option Cause
 rhello_refusal_with s payload tag cookie cert =
-    if is_some (certificate_fault cert) then Some (Malformed (length payload - length cert)) else rhello_cause s tag cookie cert
+    if is_some (certificate_fault cert) then Some (Malformed (length payload - length cert))
+      else rhello_cause s tag cookie cert
 
 abbrev pub rhello_refusal_reading : StartupState → List ℕ → Result Chunk ChunkFault → Option Cause
-rhello_refusal_reading s payload (Ok (RHello tag cookie cert)) = rhello_refusal_with s payload tag cookie cert
+rhello_refusal_reading s payload (Ok (RHello tag cookie cert)) =
+    rhello_refusal_with s payload tag cookie cert
 rhello_refusal_reading s payload (Ok chunk) = Some (UnknownChunk 0x70)
 rhello_refusal_reading s payload (Err fault) = Some (fault_cause fault)
 
@@ -30,9 +35,11 @@ cookie_change_refusal_reading s sid (Ok chunk) = Some (UnknownChunk 0x79)
 cookie_change_refusal_reading s sid (Err fault) = Some (fault_cause fault)
 
 unfoldable pub cookie_change_refusal : StartupState → ℕ → List ℕ → Option Cause
-cookie_change_refusal s sid payload = cookie_change_refusal_reading s sid (chunk_reading 0x79 payload)
+cookie_change_refusal s sid payload = cookie_change_refusal_reading s sid
+    (chunk_reading 0x79 payload)
 
--- The cause with which a responder's hello, a change of a cookie or a keying would be discarded that came under this session ID from this address at this moment. There is none for other types.
+-- The cause with which a responder's hello, a change of a cookie or a keying would be discarded
+-- that came under this session ID from this address at this moment. There is none for other types.
 abbrev pub refusal : StartupState → ℕ → ℕ → List ℕ → AddressParts → ℕ → Option ℕ → Option Cause
 refusal s sid kind payload from now full =
     if kind == 0x70 then rhello_refusal s payload

@@ -29,15 +29,21 @@ fn holds_session(peers: &Peers, peer: &[u8; 32]) -> bool
 }
 
 impl Startup {
-    ghost use Rattle.std.specs.Prelude.{◌≡◌, ◌≢◌, ◌≤◌, length, None, Some, Err, IfSome, IfNone, IfOk, IfErr, IsOk, OnErr};
+    ghost use Rattle.std.specs.Prelude.{◌≡◌, ◌≢◌, ◌≤◌, length, None, Some, Err, IfSome, IfNone,
+        IfOk, IfErr, IsOk, OnErr};
     ghost use Rattle.std.specs.FinMap.{get};
     ghost use Rattle.glare_core.specs.Ledger.{held_with};
     ghost use Rattle.glare_core.specs.Calls.{start_refusal, started_fact, MayEnd};
-    ghost use Rattle.startup.specs.Attempts.{begin_spread, after_begin, cancel_fact, after_cancel, confirm_fact, after_confirm, end_fact, after_end, rhello_cause, rhello_keying, after_rhello, cookie_change_cause, cookie_change_keying, after_cookie_change, session_in};
+    ghost use Rattle.startup.specs.Attempts.{begin_spread, after_begin, cancel_fact, after_cancel,
+        confirm_fact, after_confirm, end_fact, after_end, rhello_cause, rhello_keying, after_rhello,
+        cookie_change_cause, cookie_change_keying, after_cookie_change, session_in};
 
-    /// Begins an attempt towards the end that the discriminator names, under a near id that isn't 0 and that no held attempt has, with 1 to 16 candidate addresses; candidates at the same place count once.
+    /// Begins an attempt towards the end that the discriminator names, under a near id that isn't 0
+    /// and that no held attempt has, with 1 to 16 candidate addresses; candidates at the same place
+    /// count once.
     ///
-    /// It gives Started, and the hello for all candidate places, in order. The refusals are those of `Peers::start`, in their order; where it is refused, all is as before.
+    /// It gives Started, and the hello for all candidate places, in order. The refusals are those
+    /// of `Peers::start`, in their order; where it is refused, all is as before.
     pub fn begin(
         &mut self,
         epd: &Epd,
@@ -51,11 +57,16 @@ impl Startup {
         requires few { length candidates.now ≤ 16 }
         requires near { near ≢ 0 }
         requires free { get self.old.attempts near ≡ None }
-        ensures fact { IfOk result (λ told. told.0 ≡ started_fact self.old.ledger epd.now.print near ni) }
-        ensures spread { IfOk result (λ told. told.1 ≡ begin_spread self.old epd.now.print candidates.now ni tag moment) }
-        ensures after { IfOk result (λ _. self.new ≡ after_begin self.old epd.now.print candidates.now near ni tag moment) }
-        ensures refused { IfSome (start_refusal self.old.ledger epd.now.print) (λ refusal. result ≡ Err refusal) }
-        ensures memory { IfNone (start_refusal self.old.ledger epd.now.print) (IfErr result (λ refusal. refusal ≡ StartRefusal.Memory)) }
+        ensures fact { IfOk result (λ told. told.0
+            ≡ started_fact self.old.ledger epd.now.print near ni) }
+        ensures spread { IfOk result (λ told. told.1
+            ≡ begin_spread self.old epd.now.print candidates.now ni tag moment) }
+        ensures after { IfOk result (λ _. self.new
+            ≡ after_begin self.old epd.now.print candidates.now near ni tag moment) }
+        ensures refused { IfSome (start_refusal self.old.ledger epd.now.print) (λ refusal. result
+            ≡ Err refusal) }
+        ensures memory { IfNone (start_refusal self.old.ledger epd.now.print)
+            (IfErr result (λ refusal. refusal ≡ StartRefusal.Memory)) }
         ensures err { OnErr result (self.new ≡ self.old) }
     {
         match self.peers.start_refusal(&epd.print) {
@@ -88,7 +99,8 @@ impl Startup {
         Ok((fact, spread))
     }
 
-    /// Gives up the attempt with this number; None exactly where no held attempt has it. It takes no memory.
+    /// Gives up the attempt with this number; None exactly where no held attempt has it. It takes
+    /// no memory.
     pub fn cancel(&mut self, n: u64) -> Option<Fact>
         ensures fact { result ≡ cancel_fact self.old n }
         ensures after { self.new ≡ after_cancel self.old n }
@@ -99,7 +111,8 @@ impl Startup {
         }
     }
 
-    /// Confirms the half-open session with the peer; None exactly where nothing half-open is held. It takes no memory.
+    /// Confirms the half-open session with the peer; None exactly where nothing half-open is held.
+    /// It takes no memory.
     pub fn confirm(&mut self, peer: &[u8; 32]) -> Option<Fact>
         ensures fact { result ≡ confirm_fact self.old peer.now }
         ensures after { self.new ≡ after_confirm self.old peer.now }
@@ -107,9 +120,11 @@ impl Startup {
         self.peers.confirm(peer)
     }
 
-    /// Ends the session with the peer; None exactly where no session is held with it. It takes no memory.
+    /// Ends the session with the peer; None exactly where no session is held with it. It takes no
+    /// memory.
     ///
-    /// A half-open session ends here with Unconfirmed, Near or Far, a kept one with Near, Far or Idle.
+    /// A half-open session ends here with Unconfirmed, Near or Far, a kept one with Near, Far or
+    /// Idle.
     pub fn end(&mut self, peer: &[u8; 32], why: Why) -> Option<Fact>
         requires { IfSome (session_in (held_with self.old.ledger peer.now)) (MayEnd why) }
         ensures fact { result ≡ end_fact self.old peer.now why }
@@ -122,9 +137,12 @@ impl Startup {
         }
     }
 
-    /// Hears a responder's hello with this tag, cookie and certificate, from an address: the attempt goes on to keyings, and its keying is given.
+    /// Hears a responder's hello with this tag, cookie and certificate, from an address: the
+    /// attempt goes on to keyings, and its keying is given.
     ///
-    /// The causes, in their order, are a wide tag or cookie, no attempt with this tag (of several the one with the lowest near id counts), an attempt that was answered already, and the certificate of another end; where one stands, all is as before. It never answers Memory.
+    /// The causes, in their order, are a wide tag or cookie, no attempt with this tag (of several
+    /// the one with the lowest near id counts), an attempt that was answered already, and the
+    /// certificate of another end; where one stands, all is as before. It never answers Memory.
     pub fn responder_hello(
         &mut self,
         tag: &[u8],
@@ -133,9 +151,12 @@ impl Startup {
         from: &Address,
         moment: u64,
     ) -> Result<Answer, KeyRefusal>
-        ensures answer { IfOk result (λ answer. rhello_keying self.old tag.now cookie.now from.now ≡ Some answer) }
-        ensures after { IfOk result (λ _. self.new ≡ after_rhello self.old tag.now cookie.now from.now moment) }
-        ensures refused { IfSome (rhello_cause self.old tag.now cookie.now cert.now) (λ cause. result ≡ Err (KeyRefusal.Cause cause)) }
+        ensures answer { IfOk result (λ answer. rhello_keying self.old tag.now cookie.now from.now
+            ≡ Some answer) }
+        ensures after { IfOk result (λ _. self.new
+            ≡ after_rhello self.old tag.now cookie.now from.now moment) }
+        ensures refused { IfSome (rhello_cause self.old tag.now cookie.now cert.now)
+            (λ cause. result ≡ Err (KeyRefusal.Cause cause)) }
         ensures heard { IfNone (rhello_cause self.old tag.now cookie.now cert.now) (IsOk result) }
         ensures err { OnErr result (self.new ≡ self.old) }
     {
@@ -151,7 +172,10 @@ impl Startup {
 
     /// Hears a change of a cookie under a session ID: the keying goes out again with the new one.
     ///
-    /// Under 0 it is of the attempt with the lowest near id that has the old cookie, else of the attempt with that near id alone. The causes, in their order, are a wide cookie, the old one before the new one, and no such attempt in the keying stage; where one stands, all is as before. It takes no memory.
+    /// Under 0 it is of the attempt with the lowest near id that has the old cookie, else of the
+    /// attempt with that near id alone. The causes, in their order, are a wide cookie, the old one
+    /// before the new one, and no such attempt in the keying stage; where one stands, all is as
+    /// before. It takes no memory.
     pub fn cookie_change(
         &mut self,
         sid: u32,
@@ -159,9 +183,12 @@ impl Startup {
         new: &[u8],
         moment: u64,
     ) -> Result<Answer, Cause>
-        ensures answer { IfOk result (λ answer. cookie_change_keying self.old sid old.now new.now ≡ Some answer) }
-        ensures after { IfOk result (λ _. self.new ≡ after_cookie_change self.old sid old.now new.now moment) }
-        ensures refused { IfSome (cookie_change_cause self.old sid old.now new.now) (λ cause. result ≡ Err cause) }
+        ensures answer { IfOk result (λ answer. cookie_change_keying self.old sid old.now new.now
+            ≡ Some answer) }
+        ensures after { IfOk result (λ _. self.new
+            ≡ after_cookie_change self.old sid old.now new.now moment) }
+        ensures refused { IfSome (cookie_change_cause self.old sid old.now new.now) (λ cause. result
+            ≡ Err cause) }
         ensures heard { IfNone (cookie_change_cause self.old sid old.now new.now) (IsOk result) }
         ensures err { OnErr result (self.new ≡ self.old) }
     {

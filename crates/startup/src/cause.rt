@@ -1,6 +1,7 @@
 //! Why a datagram or a chunk is discarded (own rules).
 
-/// Why a datagram or a chunk is discarded. The variants stand in the order of their numbers, from 1.
+/// Why a datagram or a chunk is discarded. The variants stand in the order of their numbers, from
+/// 1.
 #[derive(Clone, Copy, Debug, PartialEq, Eq)]
 pub enum Cause {
     /// The datagram has fewer than 36 bytes.
@@ -15,7 +16,8 @@ pub enum Cause {
     BadPacket(u8),
     /// No chunk has this type.
     UnknownChunk(u8),
-    /// The field at this offset of the payload can't be read, a certificate or component there hasn't its form, or a session ID there is 0.
+    /// The field at this offset of the payload can't be read, a certificate or component there
+    /// hasn't its form, or a session ID there is 0.
     Malformed(u64),
     /// The chunk doesn't belong under the datagram's session ID, or the packet's mode doesn't.
     WrongPlace,
@@ -45,11 +47,13 @@ pub enum Cause {
     SessionsFull(u64),
     /// An earlier chunk of the datagram is an initiator's keying.
     SecondKeying,
-    /// The flow isn't there, and the chunk doesn't make it, or it is associated with a flow that isn't there.
+    /// The flow isn't there, and the chunk doesn't make it, or it is associated with a flow that
+    /// isn't there.
     UnknownFlow,
     /// The bytes would pass the flow's buffer; how many are held.
     BeyondBuffer(u64),
-    /// The number is above the flow's last number, or an end is told below the highest number taken; that number.
+    /// The number is above the flow's last number, or an end is told below the highest number
+    /// taken; that number.
     AfterFinal(u64),
     /// This number was acknowledged, and is above the highest one sent.
     AckBeyond(u64),

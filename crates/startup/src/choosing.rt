@@ -3,7 +3,8 @@
 ghost use Rattle.std.specs.Prelude.{◌≡◌, ◌≤◌, length, IfOk, IfErr, Some, None};
 ghost use Rattle.std.specs.FinMap.{get, len};
 ghost use Rattle.startup.specs.Rows.{table_of};
-ghost use Rattle.startup.specs.Attempts.{wide, lowest, has_tag, hello_cause, hello_cause_among, changed, if_cookie, change_cause_among};
+ghost use Rattle.startup.specs.Attempts.{wide, lowest, has_tag, hello_cause, hello_cause_among,
+    changed, if_cookie, change_cause_among};
 ghost use Rattle.startup.specs.Sought.{IsChosen};
 
 use crate::attempt::{Attempt, Row, Stage};
@@ -41,7 +42,8 @@ fn hello_cause(attempt: &Attempt, print: &[u8; 32]) -> Option<Cause>
     }
 }
 
-/// The place of the attempt that a responder's hello with this tag, cookie and fingerprint answers, or why it is discarded.
+/// The place of the attempt that a responder's hello with this tag, cookie and fingerprint answers,
+/// or why it is discarded.
 pub(crate) fn answered_place(
     rows: &[Row],
     tag: &[u8],
@@ -49,10 +51,16 @@ pub(crate) fn answered_place(
     print: &[u8; 32],
 ) -> Result<usize, Cause>
     requires { len (table_of rows.now) ≡ length rows.now }
-    ensures ok { IfOk result (λ place. IsChosen (lowest (has_tag tag.now) (table_of rows.now)) rows.now (Some place)) }
+    ensures ok
+        { IfOk result (λ place. IsChosen (lowest (has_tag tag.now) (table_of rows.now)) rows.now
+        (Some place)) }
     ensures cookie { IfOk result (λ _. length cookie.now ≤ 128) }
-    ensures cause { IfOk result (λ _. hello_cause_among (table_of rows.now) tag.now cookie.now print.now ≡ None) }
-    ensures refused { IfErr result (λ cause. hello_cause_among (table_of rows.now) tag.now cookie.now print.now ≡ Some cause) }
+    ensures cause
+        { IfOk result (λ _. hello_cause_among (table_of rows.now) tag.now cookie.now print.now
+        ≡ None) }
+    ensures refused
+        { IfErr result (λ cause. hello_cause_among (table_of rows.now) tag.now cookie.now print.now
+        ≡ Some cause) }
 {
     match wide(tag) {
         Some(cause) => return Err(cause),
@@ -100,13 +108,19 @@ fn chosen_place(rows: &[Row], sid: u32, old: &[u8]) -> Option<usize>
     }
 }
 
-/// The place of the attempt whose cookie a change under this session ID replaces, or why it is discarded.
+/// The place of the attempt whose cookie a change under this session ID replaces, or why it is
+/// discarded.
 pub(crate) fn changed_place(rows: &[Row], sid: u32, old: &[u8], new: &[u8]) -> Result<usize, Cause>
     requires { len (table_of rows.now) ≡ length rows.now }
-    ensures ok { IfOk result (λ place. IsChosen (changed (table_of rows.now) sid old.now) rows.now (Some place)) }
+    ensures ok
+        { IfOk result (λ place. IsChosen (changed (table_of rows.now) sid old.now) rows.now
+        (Some place)) }
     ensures cookie { IfOk result (λ _. length new.now ≤ 128) }
-    ensures cause { IfOk result (λ _. change_cause_among (table_of rows.now) sid old.now new.now ≡ None) }
-    ensures refused { IfErr result (λ cause. change_cause_among (table_of rows.now) sid old.now new.now ≡ Some cause) }
+    ensures cause { IfOk result (λ _. change_cause_among (table_of rows.now) sid old.now new.now
+        ≡ None) }
+    ensures refused
+        { IfErr result (λ cause. change_cause_among (table_of rows.now) sid old.now new.now
+        ≡ Some cause) }
 {
     match wide(old) {
         Some(cause) => return Err(cause),

@@ -10,7 +10,9 @@ impl Startup {
     ghost use Rattle.std.specs.Prelude.{◌≡◌, ◌<◌, IfSome};
     ghost use Rattle.startup.specs.Due.{due, after_due, due_count};
 
-    /// The first thing that is due at this moment, by rising near id: an attempt ends 95,000 ms after its start, and before that it repeats what it sends. None exactly where nothing is due. It takes no memory.
+    /// The first thing that is due at this moment, by rising near id: an attempt ends 95,000 ms
+    /// after its start, and before that it repeats what it sends. None exactly where nothing is
+    /// due. It takes no memory.
     ///
     /// What is given isn't due any more at this moment, so calls until None give all that is.
     pub fn due(&mut self, moment: u64) -> Option<Due>

@@ -1,7 +1,9 @@
-//! The rules of attempts and keyings at their edges and one beside, and the order of causes. The functions do nothing: the
-//! contract of each states what the definitions that the other contracts cite are there. All numbers are own.
+//! The rules of attempts and keyings at their edges and one beside, and the order of causes. The
+//! functions do nothing: the contract of each states what the definitions that the other contracts
+//! cite are there. All numbers are own.
 
-ghost use Rattle.std.specs.Prelude.{◌≡◌, ◌∷◌, ◌++◌, ◌+◌, ℕ, List, [], true, false, Option, Some, None, Err, is_none, length, replicate};
+ghost use Rattle.std.specs.Prelude.{◌≡◌, ◌∷◌, ◌++◌, ◌+◌, ℕ, List, [], true, false, Option, Some,
+    None, Err, is_none, length, replicate};
 ghost use Rattle.std.specs.Str.{bytes_eq};
 ghost use Rattle.std.specs.FinMap.{entries, get};
 ghost use Rattle.rtmfp_forms.specs.Address.{AddressParts};
@@ -14,20 +16,32 @@ ghost use Rattle.glare_core.specs.declared.facts.Joined.{Joined};
 ghost use Rattle.glare_core.specs.declared.facts.Why.TheVariants.{Expired as LastedTooLong};
 ghost use Rattle.startup.specs.declared.attempt.Stage.TheVariants.{Hello, Keying};
 ghost use Rattle.startup.specs.declared.cause.Cause.{Cause};
-ghost use Rattle.startup.specs.declared.cause.Cause.TheVariants.{BadCookie, BadSignature, Malformed, NoAttempt, OwnCertificate, SessionsFull as CauseFull, Wide, WrongPeer, WrongResponder, WrongState};
-ghost use Rattle.startup.specs.declared.answer.Due.TheVariants.{Ended as EndDue, Hello as HelloDue, Keying as KeyingDue};
+ghost use Rattle.startup.specs.declared.cause.Cause.TheVariants.{BadCookie, BadSignature, Malformed,
+    NoAttempt, OwnCertificate, SessionsFull as CauseFull, Wide, WrongPeer, WrongResponder,
+    WrongState};
+ghost use Rattle.startup.specs.declared.answer.Due.TheVariants.{Ended as EndDue, Hello as HelloDue,
+    Keying as KeyingDue};
 ghost use Rattle.startup.specs.State.{AttemptState, Attempts, StartupState};
-ghost use Rattle.startup.specs.Attempts.{after_answer, after_change, answered, begun_attempt, change_cause_among, changed, ended_attempt, has_tag, hello_cause, hello_cause_among, keying_signed, lowest, places_of, recookied, wide, with_attempt, without_attempt};
-ghost use Rattle.startup.specs.Due.{after_due_of, due_of, gap_of, is_over, is_repeat_due, repeat_signed, repeated, sends};
-ghost use Rattle.startup.specs.Keyings.{InitiatorKeying, ResponderKeying, attempt_cause, cert_offset, change_answer, cookie_cause, formed_initiator, formed_responder, heard_cause, initiator_cause, initiator_hello_answer, is_own, keying_of, named_cause, responder_cause, session_answer};
+ghost use Rattle.startup.specs.Attempts.{after_answer, after_change, answered, begun_attempt,
+    change_cause_among, changed, ended_attempt, has_tag, hello_cause, hello_cause_among,
+    keying_signed, lowest, places_of, recookied, wide, with_attempt, without_attempt};
+ghost use Rattle.startup.specs.Due.{after_due_of, due_of, gap_of, is_over, is_repeat_due,
+    repeat_signed, repeated, sends};
+ghost use Rattle.startup.specs.Keyings.{InitiatorKeying, ResponderKeying, attempt_cause,
+    cert_offset, change_answer, cookie_cause, formed_initiator, formed_responder, heard_cause,
+    initiator_cause, initiator_hello_answer, is_own, keying_of, named_cause, responder_cause,
+    session_answer};
 ghost use Rattle.startup.specs.Refusals.{rhello_refusal_with};
-ghost use Rattle.startup.specs.Packets.{cookiechange_packet, ihello_packet, iikeying_signed, initiator_part, initiator_part_in, is_signed, responder_part, responder_part_in, rhello_packet, rikeying_packet};
+ghost use Rattle.startup.specs.Packets.{cookiechange_packet, ihello_packet, iikeying_signed,
+    initiator_part, initiator_part_in, is_signed, responder_part, responder_part_in, rhello_packet,
+    rikeying_packet};
 ghost use Rattle.startup.specs.Edges.{v4, timed, in_hello, in_keying, AreTwo};
 
-/// What isn't answered is sent again after 1,000, 1,500, 2,250, 3,375 and 5,062 ms, and then after 5,062 ms each, counted from
-/// the last sending.
+/// What isn't answered is sent again after 1,000, 1,500, 2,250, 3,375 and 5,062 ms, and then after
+/// 5,062 ms each, counted from the last sending.
 pub fn a_repeat_is_due_after_its_gap()
-    ensures gaps { gap_of 0 ∷ gap_of 1 ∷ gap_of 2 ∷ gap_of 3 ∷ gap_of 4 ∷ [] ≡ 1000 ∷ 1500 ∷ 2250 ∷ 3375 ∷ 5062 ∷ [] }
+    ensures gaps { gap_of 0 ∷ gap_of 1 ∷ gap_of 2 ∷ gap_of 3 ∷ gap_of 4 ∷ []
+        ≡ 1000 ∷ 1500 ∷ 2250 ∷ 3375 ∷ 5062 ∷ [] }
     ensures before_first { (a : AttemptState) → is_repeat_due 1999 (timed 0 1000 0 a) ≡ false }
     ensures first { (a : AttemptState) → is_repeat_due 2000 (timed 0 1000 0 a) ≡ true }
     ensures before_second { (a : AttemptState) → is_repeat_due 2499 (timed 0 1000 1 a) ≡ false }
@@ -43,143 +57,263 @@ pub fn a_repeat_is_due_after_its_gap()
 pub fn an_attempt_is_over_after_95_seconds()
     ensures before { (a : AttemptState) → is_over 95999 (timed 1000 90000 4 a) ≡ false }
     ensures over { (a : AttemptState) → is_over 96000 (timed 1000 90000 4 a) ≡ true }
-    ensures last_repeat { (s : StartupState) (a : AttemptState) → due_of s 95999 (Some (5, in_hello (timed 1000 90000 4 a))) ≡ Some (HelloDue (record { to = a.candidates; plain = ihello_packet (1 ∷ a.peer) a.tag })) }
-    ensures end { (s : StartupState) (a : AttemptState) → due_of s 96000 (Some (5, in_hello (timed 1000 90000 4 a))) ≡ Some (EndDue (ended_attempt (5, a) LastedTooLong)) }
-    ensures after_end { (s : StartupState) (a : AttemptState) → after_due_of s 96000 (Some (5, timed 1000 90000 4 a)) ≡ without_attempt s 5 (ended_attempt (5, a) LastedTooLong) }
-    ensures after_repeat { (s : StartupState) (a : AttemptState) → after_due_of s 95999 (Some (5, timed 1000 90000 4 a)) ≡ with_attempt s 5 (timed 1000 95999 4 a) }
+    ensures last_repeat { (s : StartupState) (a : AttemptState) →
+        due_of s 95999 (Some (5, in_hello (timed 1000 90000 4 a)))
+        ≡ Some (HelloDue (record { to = a.candidates; plain = ihello_packet (1 ∷ a.peer) a.tag })) }
+    ensures end { (s : StartupState) (a : AttemptState) →
+        due_of s 96000 (Some (5, in_hello (timed 1000 90000 4 a)))
+        ≡ Some (EndDue (ended_attempt (5, a) LastedTooLong)) }
+    ensures after_end { (s : StartupState) (a : AttemptState) →
+        after_due_of s 96000 (Some (5, timed 1000 90000 4 a))
+        ≡ without_attempt s 5 (ended_attempt (5, a) LastedTooLong) }
+    ensures after_repeat { (s : StartupState) (a : AttemptState) →
+        after_due_of s 95999 (Some (5, timed 1000 90000 4 a))
+        ≡ with_attempt s 5 (timed 1000 95999 4 a) }
     ensures nothing_sent { (a : AttemptState) → sends 96000 (timed 1000 90000 4 a) ≡ 0 }
 {}
 
-/// Hellos are repeated to all candidates, in their order, and a keying to the address that answered.
+/// Hellos are repeated to all candidates, in their order, and a keying to the address that
+/// answered.
 pub fn a_repeat_goes_to_all_candidates()
-    ensures hello { (key cert : List ℕ) (near : ℕ) (a : AttemptState) → repeat_signed key cert near a Hello ≡ HelloDue (record { to = a.candidates; plain = ihello_packet (1 ∷ a.peer) a.tag }) }
-    ensures keying { (key cert : List ℕ) (near : ℕ) (a : AttemptState) (at : AddressParts) (cookie : List ℕ) → repeat_signed key cert near a (Keying at cookie) ≡ KeyingDue (keying_signed key cert near a at cookie) }
-    ensures places { places_of (v4 0 2 ∷ v4 0 1 ∷ v4 0 2 ∷ v4 2 1 ∷ v4 0 3 ∷ []) ≡ v4 0 2 ∷ v4 0 1 ∷ v4 0 3 ∷ [] }
-    ensures two { (a : AttemptState) → sends 1000 (in_hello (record (timed 0 0 0 a) { candidates = v4 0 1 ∷ v4 0 2 ∷ [] })) ≡ 2 }
-    ensures one { (a : AttemptState) (at : AddressParts) (cookie : List ℕ) → sends 1000 (in_keying at cookie (record (timed 0 0 0 a) { candidates = v4 0 1 ∷ v4 0 2 ∷ [] })) ≡ 1 }
+    ensures hello { (key cert : List ℕ) (near : ℕ) (a : AttemptState) →
+        repeat_signed key cert near a Hello ≡ HelloDue
+        (record { to = a.candidates; plain = ihello_packet (1 ∷ a.peer) a.tag }) }
+    ensures keying { (key cert : List ℕ) (near : ℕ) (a : AttemptState) (at : AddressParts)
+        (cookie : List ℕ) → repeat_signed key cert near a (Keying at cookie)
+        ≡ KeyingDue (keying_signed key cert near a at cookie) }
+    ensures places { places_of (v4 0 2 ∷ v4 0 1 ∷ v4 0 2 ∷ v4 2 1 ∷ v4 0 3 ∷ [])
+        ≡ v4 0 2 ∷ v4 0 1 ∷ v4 0 3 ∷ [] }
+    ensures two { (a : AttemptState) →
+        sends 1000 (in_hello (record (timed 0 0 0 a) { candidates = v4 0 1 ∷ v4 0 2 ∷ [] })) ≡ 2 }
+    ensures one { (a : AttemptState) (at : AddressParts) (cookie : List ℕ) →
+        sends 1000
+        (in_keying at cookie (record (timed 0 0 0 a) { candidates = v4 0 1 ∷ v4 0 2 ∷ [] })) ≡ 1 }
 {}
 
-/// An attempt begins with its hello as its last sending, and its number is one more than that of the last.
+/// An attempt begins with its hello as its last sending, and its number is one more than that of
+/// the last.
 pub fn an_attempt_begins_with_its_hello()
-    ensures begun { (s : StartupState) (peer ni tag : List ℕ) → begun_attempt s peer (v4 0 1 ∷ v4 2 1 ∷ []) ni tag 1000 ≡ record { peer = peer; n = s.ledger.started + 1; ni = ni; tag = tag; start = 1000; candidates = v4 0 1 ∷ []; stage = Hello; last = 1000; gap = 0 } }
+    ensures begun { (s : StartupState) (peer ni tag : List ℕ) →
+        begun_attempt s peer (v4 0 1 ∷ v4 2 1 ∷ []) ni tag 1000
+        ≡ record { peer = peer; n = s.ledger.started + 1; ni = ni; tag = tag; start = 1000;
+        candidates = v4 0 1 ∷ []; stage = Hello; last = 1000; gap = 0 } }
 {}
 
-/// An answer begins the keying stage: its gaps begin anew at 1,000 ms, and the attempt lasts as long as before.
+/// An answer begins the keying stage: its gaps begin anew at 1,000 ms, and the attempt lasts as
+/// long as before.
 pub fn the_keying_stage_begins_again_at_the_first_gap()
-    ensures kept { (s : StartupState) (a : AttemptState) (from : AddressParts) (cookie : List ℕ) (moment : ℕ) → after_answer s (Some (5, a)) from cookie moment ≡ with_attempt s 5 (answered a from cookie moment) }
-    ensures answered { (a : AttemptState) (from : AddressParts) (cookie : List ℕ) → answered (in_hello (timed 0 1000 3 a)) from cookie 3000 ≡ in_keying from cookie (timed 0 3000 0 a) }
-    ensures before { (a : AttemptState) (from : AddressParts) (cookie : List ℕ) → is_repeat_due 3999 (answered (timed 0 1000 3 a) from cookie 3000) ≡ false }
-    ensures again { (a : AttemptState) (from : AddressParts) (cookie : List ℕ) → is_repeat_due 4000 (answered (timed 0 1000 3 a) from cookie 3000) ≡ true }
+    ensures kept { (s : StartupState) (a : AttemptState) (from : AddressParts) (cookie : List ℕ)
+        (moment : ℕ) → after_answer s (Some (5, a)) from cookie moment
+        ≡ with_attempt s 5 (answered a from cookie moment) }
+    ensures answered { (a : AttemptState) (from : AddressParts) (cookie : List ℕ) →
+        answered (in_hello (timed 0 1000 3 a)) from cookie 3000
+        ≡ in_keying from cookie (timed 0 3000 0 a) }
+    ensures before { (a : AttemptState) (from : AddressParts) (cookie : List ℕ) →
+        is_repeat_due 3999 (answered (timed 0 1000 3 a) from cookie 3000) ≡ false }
+    ensures again { (a : AttemptState) (from : AddressParts) (cookie : List ℕ) →
+        is_repeat_due 4000 (answered (timed 0 1000 3 a) from cookie 3000) ≡ true }
 {}
 
-/// A change of a cookie counts as a sending, and leaves the gap as it was: only a repeat goes on to the next one.
+/// A change of a cookie counts as a sending, and leaves the gap as it was: only a repeat goes on to
+/// the next one.
 pub fn a_change_of_a_cookie_counts_as_a_sending()
-    ensures kept { (s : StartupState) (a : AttemptState) (cookie : List ℕ) (moment : ℕ) → after_change s (Some (5, a)) cookie moment ≡ with_attempt s 5 (recookied a cookie moment) }
-    ensures changed { (a : AttemptState) (at : AddressParts) (old new : List ℕ) → recookied (in_keying at old (timed 0 1000 2 a)) new 3000 ≡ in_keying at new (timed 0 3000 2 a) }
-    ensures before { (a : AttemptState) (at : AddressParts) (old new : List ℕ) → is_repeat_due 5249 (recookied (in_keying at old (timed 0 1000 2 a)) new 3000) ≡ false }
-    ensures again { (a : AttemptState) (at : AddressParts) (old new : List ℕ) → is_repeat_due 5250 (recookied (in_keying at old (timed 0 1000 2 a)) new 3000) ≡ true }
+    ensures kept { (s : StartupState) (a : AttemptState) (cookie : List ℕ) (moment : ℕ) →
+        after_change s (Some (5, a)) cookie moment ≡ with_attempt s 5 (recookied a cookie moment) }
+    ensures changed { (a : AttemptState) (at : AddressParts) (old new : List ℕ) →
+        recookied (in_keying at old (timed 0 1000 2 a)) new 3000
+        ≡ in_keying at new (timed 0 3000 2 a) }
+    ensures before { (a : AttemptState) (at : AddressParts) (old new : List ℕ) →
+        is_repeat_due 5249 (recookied (in_keying at old (timed 0 1000 2 a)) new 3000) ≡ false }
+    ensures again { (a : AttemptState) (at : AddressParts) (old new : List ℕ) →
+        is_repeat_due 5250 (recookied (in_keying at old (timed 0 1000 2 a)) new 3000) ≡ true }
 {}
 
-/// A change under an attempt's near id is of that attempt alone; one under 0 is of the attempt with the lowest near id that has
-/// the old cookie. In the hello stage an attempt has none.
+/// A change under an attempt's near id is of that attempt alone; one under 0 is of the attempt with
+/// the lowest near id that has the old cookie. In the hello stage an attempt has none.
 pub fn a_change_under_a_near_id_is_of_that_attempt_alone()
-    ensures own { (all : Attempts) (a : AttemptState) (at : AddressParts) → get all 6 ≡ Some (in_keying at (8 ∷ []) a) → changed all 6 (8 ∷ []) ≡ Some (6, in_keying at (8 ∷ []) a) }
-    ensures other { (all : Attempts) (a : AttemptState) (at : AddressParts) → get all 5 ≡ Some (in_keying at (7 ∷ []) a) → changed all 5 (8 ∷ []) ≡ None }
-    ensures hello { (all : Attempts) (a : AttemptState) → get all 5 ≡ Some (in_hello a) → changed all 5 [] ≡ None }
-    ensures unknown { (all : Attempts) (cookie : List ℕ) → get all 5 ≡ None → changed all 5 cookie ≡ None }
-    ensures lowest { (all : Attempts) (a b : AttemptState) (at : AddressParts) → AreTwo all (in_keying at (8 ∷ []) a) (in_keying at (8 ∷ []) b) → changed all 0 (8 ∷ []) ≡ Some (5, in_keying at (8 ∷ []) a) }
-    ensures by_cookie { (all : Attempts) (a b : AttemptState) (at : AddressParts) → AreTwo all (in_keying at (7 ∷ []) a) (in_keying at (8 ∷ []) b) → changed all 0 (8 ∷ []) ≡ Some (6, in_keying at (8 ∷ []) b) }
-    ensures by_stage { (all : Attempts) (a b : AttemptState) (at : AddressParts) → AreTwo all (in_hello a) (in_keying at [] b) → changed all 0 [] ≡ Some (6, in_keying at [] b) }
+    ensures own { (all : Attempts) (a : AttemptState) (at : AddressParts) →
+        get all 6 ≡ Some (in_keying at (8 ∷ []) a) →
+        changed all 6 (8 ∷ []) ≡ Some (6, in_keying at (8 ∷ []) a) }
+    ensures other { (all : Attempts) (a : AttemptState) (at : AddressParts) →
+        get all 5 ≡ Some (in_keying at (7 ∷ []) a) → changed all 5 (8 ∷ []) ≡ None }
+    ensures hello { (all : Attempts) (a : AttemptState) → get all 5 ≡ Some (in_hello a) →
+        changed all 5 [] ≡ None }
+    ensures unknown { (all : Attempts) (cookie : List ℕ) → get all 5 ≡ None →
+        changed all 5 cookie ≡ None }
+    ensures lowest { (all : Attempts) (a b : AttemptState) (at : AddressParts) →
+        AreTwo all (in_keying at (8 ∷ []) a) (in_keying at (8 ∷ []) b) →
+        changed all 0 (8 ∷ []) ≡ Some (5, in_keying at (8 ∷ []) a) }
+    ensures by_cookie { (all : Attempts) (a b : AttemptState) (at : AddressParts) →
+        AreTwo all (in_keying at (7 ∷ []) a) (in_keying at (8 ∷ []) b) →
+        changed all 0 (8 ∷ []) ≡ Some (6, in_keying at (8 ∷ []) b) }
+    ensures by_stage { (all : Attempts) (a b : AttemptState) (at : AddressParts) →
+        AreTwo all (in_hello a) (in_keying at [] b) →
+        changed all 0 [] ≡ Some (6, in_keying at [] b) }
 {}
 
-/// Of several attempts that have a tag, the one with the lowest near id counts, also where it can't be answered.
+/// Of several attempts that have a tag, the one with the lowest near id counts, also where it can't
+/// be answered.
 pub fn the_lowest_near_id_of_a_tag_counts()
-    ensures both { (all : Attempts) (a b : AttemptState) → AreTwo all (record a { tag = 7 ∷ [] }) (record b { tag = 7 ∷ [] }) → lowest (has_tag (7 ∷ [])) all ≡ Some (5, record a { tag = 7 ∷ [] }) }
-    ensures second { (all : Attempts) (a b : AttemptState) → AreTwo all (record a { tag = 8 ∷ [] }) (record b { tag = 7 ∷ [] }) → lowest (has_tag (7 ∷ [])) all ≡ Some (6, record b { tag = 7 ∷ [] }) }
-    ensures none { (all : Attempts) (a b : AttemptState) → AreTwo all (record a { tag = 8 ∷ [] }) (record b { tag = 9 ∷ [] }) → lowest (has_tag (7 ∷ [])) all ≡ None }
+    ensures both { (all : Attempts) (a b : AttemptState) →
+        AreTwo all (record a { tag = 7 ∷ [] }) (record b { tag = 7 ∷ [] }) →
+        lowest (has_tag (7 ∷ [])) all ≡ Some (5, record a { tag = 7 ∷ [] }) }
+    ensures second { (all : Attempts) (a b : AttemptState) →
+        AreTwo all (record a { tag = 8 ∷ [] }) (record b { tag = 7 ∷ [] }) →
+        lowest (has_tag (7 ∷ [])) all ≡ Some (6, record b { tag = 7 ∷ [] }) }
+    ensures none { (all : Attempts) (a b : AttemptState) →
+        AreTwo all (record a { tag = 8 ∷ [] }) (record b { tag = 9 ∷ [] }) →
+        lowest (has_tag (7 ∷ [])) all ≡ None }
 {}
 
-/// A tag or a cookie of 129 bytes is wide; of two wide ones the first counts, and both come before all else.
+/// A tag or a cookie of 129 bytes is wide; of two wide ones the first counts, and both come before
+/// all else.
 pub fn a_field_of_129_bytes_is_wide()
     ensures most { wide (replicate 128 0) ≡ None }
     ensures above { wide (replicate 129 0) ≡ Some (Wide 129) }
-    ensures tag_first { (attempts : Attempts) (print : List ℕ) → hello_cause_among attempts (replicate 129 0) (replicate 130 0) print ≡ Some (Wide 129) }
-    ensures then_cookie { (attempts : Attempts) (print : List ℕ) → hello_cause_among attempts (replicate 128 0) (replicate 130 0) print ≡ Some (Wide 130) }
-    ensures then_attempt { (all : Attempts) (print : List ℕ) → entries all ≡ [] → hello_cause_among all (replicate 128 0) (replicate 128 0) print ≡ Some NoAttempt }
-    ensures old_first { (attempts : Attempts) (sid : ℕ) → change_cause_among attempts sid (replicate 129 0) (replicate 130 0) ≡ Some (Wide 129) }
-    ensures then_new { (attempts : Attempts) (sid : ℕ) → change_cause_among attempts sid (replicate 128 0) (replicate 130 0) ≡ Some (Wide 130) }
-    ensures then_none { (all : Attempts) → entries all ≡ [] → change_cause_among all 0 (replicate 128 0) (replicate 128 0) ≡ Some NoAttempt }
+    ensures tag_first { (attempts : Attempts) (print : List ℕ) →
+        hello_cause_among attempts (replicate 129 0) (replicate 130 0) print ≡ Some (Wide 129) }
+    ensures then_cookie { (attempts : Attempts) (print : List ℕ) →
+        hello_cause_among attempts (replicate 128 0) (replicate 130 0) print ≡ Some (Wide 130) }
+    ensures then_attempt { (all : Attempts) (print : List ℕ) → entries all ≡ [] →
+        hello_cause_among all (replicate 128 0) (replicate 128 0) print ≡ Some NoAttempt }
+    ensures old_first { (attempts : Attempts) (sid : ℕ) →
+        change_cause_among attempts sid (replicate 129 0) (replicate 130 0) ≡ Some (Wide 129) }
+    ensures then_new { (attempts : Attempts) (sid : ℕ) →
+        change_cause_among attempts sid (replicate 128 0) (replicate 130 0) ≡ Some (Wide 130) }
+    ensures then_none { (all : Attempts) → entries all ≡ [] →
+        change_cause_among all 0 (replicate 128 0) (replicate 128 0) ≡ Some NoAttempt }
 {}
 
-/// A responder's hello meets an attempt in the hello stage, of the end whose certificate it has; the stage comes first.
+/// A responder's hello meets an attempt in the hello stage, of the end whose certificate it has;
+/// the stage comes first.
 pub fn a_hello_meets_the_hello_stage()
     ensures right { hello_cause Hello (7 ∷ []) (7 ∷ []) ≡ None }
     ensures peer { hello_cause Hello (7 ∷ []) (8 ∷ []) ≡ Some WrongPeer }
-    ensures stage { (at : AddressParts) (cookie peer print : List ℕ) → hello_cause (Keying at cookie) peer print ≡ Some WrongState }
+    ensures stage { (at : AddressParts) (cookie peer print : List ℕ) →
+        hello_cause (Keying at cookie) peer print ≡ Some WrongState }
 {}
 
-/// The part of an initiator has 56 bytes: its nonce, the number of its attempt and the fingerprint of the end that it calls.
+/// The part of an initiator has 56 bytes: its nonce, the number of its attempt and the fingerprint
+/// of the end that it calls.
 #[tactic(auto, unfolding(crate::specs::Packets::initiator_part_in))]
 pub fn a_part_of_an_initiator_has_56_bytes()
-    ensures fields { initiator_part_in (replicate 16 1 ++ replicate 7 0 ++ 2 ∷ replicate 32 3) ≡ Some (record { ni = replicate 16 1; n = 2; responder = replicate 32 3 }) }
+    ensures fields { initiator_part_in (replicate 16 1 ++ replicate 7 0 ++ 2 ∷ replicate 32 3)
+        ≡ Some (record { ni = replicate 16 1; n = 2; responder = replicate 32 3 }) }
     ensures short { initiator_part_in (replicate 55 1) ≡ None }
     ensures long { initiator_part_in (replicate 57 1) ≡ None }
-    ensures spelled { initiator_part (replicate 16 1) 2 (replicate 32 3) ≡ replicate 16 1 ++ replicate 7 0 ++ 2 ∷ replicate 32 3 }
+    ensures spelled { initiator_part (replicate 16 1) 2 (replicate 32 3) ≡ replicate 16 1
+        ++ replicate 7 0 ++ 2 ∷ replicate 32 3 }
 {}
 
-/// The part of a responder has 72 bytes: its nonce, the count of its attempts, its fingerprint and the initiator's nonce.
+/// The part of a responder has 72 bytes: its nonce, the count of its attempts, its fingerprint and
+/// the initiator's nonce.
 #[tactic(auto, unfolding(crate::specs::Packets::responder_part_in))]
 pub fn a_part_of_a_responder_has_72_bytes()
-    ensures fields { responder_part_in (replicate 16 1 ++ replicate 7 0 ++ 2 ∷ replicate 32 3 ++ replicate 16 4) ≡ Some (record { nr = replicate 16 1; k = 2; responder = replicate 32 3; ni = replicate 16 4 }) }
+    ensures fields { responder_part_in (replicate 16 1 ++ replicate 7 0 ++ 2 ∷ replicate 32 3
+        ++ replicate 16 4)
+        ≡ Some (record { nr = replicate 16 1; k = 2; responder = replicate 32 3;
+        ni = replicate 16 4 }) }
     ensures short { responder_part_in (replicate 71 1) ≡ None }
     ensures long { responder_part_in (replicate 73 1) ≡ None }
-    ensures spelled { responder_part (replicate 16 1) 2 (replicate 32 3) (replicate 16 4) ≡ replicate 16 1 ++ replicate 7 0 ++ 2 ∷ replicate 32 3 ++ replicate 16 4 }
+    ensures spelled { responder_part (replicate 16 1) 2 (replicate 32 3) (replicate 16 4)
+        ≡ replicate 16 1 ++ replicate 7 0 ++ 2 ∷ replicate 32 3 ++ replicate 16 4 }
 {}
 
-/// A keying's form is told in the order of its fields: a session ID of 0, then the certificate, then the part, which stands
-/// before the signature at the end.
+/// A keying's form is told in the order of its fields: a session ID of 0, then the certificate,
+/// then the part, which stands before the signature at the end.
 pub fn the_first_field_without_its_form_is_told()
-    ensures id { (payload cookie cert part sign : List ℕ) → formed_initiator payload 0 cookie cert part sign ≡ Err (Malformed 0) }
-    ensures certificate { (payload cookie part sign : List ℕ) → formed_initiator payload 1 cookie (replicate 16 0x61) part sign ≡ Err (Malformed (cert_offset payload (length cookie))) }
-    ensures part { (cookie : List ℕ) → initiator_part_in (replicate 55 1) ≡ None → formed_initiator (replicate 200 0) 1 cookie (replicate 17 0x61) (replicate 55 1) (replicate 32 2) ≡ Err (Malformed 113) }
-    ensures responder_id { (payload part sign : List ℕ) → formed_responder payload 0 part sign ≡ Err (Malformed 0) }
-    ensures responder_part { responder_part_in (replicate 71 1) ≡ None → formed_responder (replicate 200 0) 1 (replicate 71 1) (replicate 32 2) ≡ Err (Malformed 97) }
-    ensures hello { (s : StartupState) (tag cookie : List ℕ) → rhello_refusal_with s (replicate 100 0) tag cookie (replicate 16 0x61) ≡ Some (Malformed 84) }
+    ensures id { (payload cookie cert part sign : List ℕ) →
+        formed_initiator payload 0 cookie cert part sign ≡ Err (Malformed 0) }
+    ensures certificate { (payload cookie part sign : List ℕ) →
+        formed_initiator payload 1 cookie (replicate 16 0x61) part sign
+        ≡ Err (Malformed (cert_offset payload (length cookie))) }
+    ensures part { (cookie : List ℕ) → initiator_part_in (replicate 55 1) ≡ None →
+        formed_initiator (replicate 200 0) 1 cookie (replicate 17 0x61) (replicate 55 1)
+        (replicate 32 2) ≡ Err (Malformed 113) }
+    ensures responder_id { (payload part sign : List ℕ) →
+        formed_responder payload 0 part sign ≡ Err (Malformed 0) }
+    ensures responder_part { responder_part_in (replicate 71 1) ≡ None →
+        formed_responder (replicate 200 0) 1 (replicate 71 1) (replicate 32 2)
+        ≡ Err (Malformed 97) }
+    ensures hello { (s : StartupState) (tag cookie : List ℕ) →
+        rhello_refusal_with s (replicate 100 0) tag cookie (replicate 16 0x61)
+        ≡ Some (Malformed 84) }
 {}
 
-/// An initiator's keying is discarded for its signature, then for a wide cookie, then for a bad cookie, and then for what it
-/// says. A cookie that has moved or expired is no cause, whatever it says.
+/// An initiator's keying is discarded for its signature, then for a wide cookie, then for a bad
+/// cookie, and then for what it says. A cookie that has moved or expired is no cause, whatever it
+/// says.
 pub fn a_keying_is_tested_from_its_signature_on()
-    ensures signature { (s : StartupState) (payload : List ℕ) (from : AddressParts) (now : ℕ) (full : Option ℕ) (keying : InitiatorKeying) → is_signed s.secret payload keying.sign ≡ false → initiator_cause s payload from now full keying ≡ Some BadSignature }
-    ensures wide { (s : StartupState) (payload : List ℕ) (from : AddressParts) (now : ℕ) (full : Option ℕ) (keying : InitiatorKeying) → is_signed s.secret payload keying.sign ≡ true → length keying.cookie ≡ 129 → initiator_cause s payload from now full keying ≡ Some (Wide 129) }
-    ensures cookie { (s : StartupState) (payload : List ℕ) (from : AddressParts) (now : ℕ) (full : Option ℕ) (keying : InitiatorKeying) → is_signed s.secret payload keying.sign ≡ true → length keying.cookie ≡ 128 → cookie_test s.cookie_secret keying.cookie from now ≡ Bad → initiator_cause s payload from now full keying ≡ Some BadCookie }
+    ensures signature { (s : StartupState) (payload : List ℕ) (from : AddressParts) (now : ℕ)
+        (full : Option ℕ) (keying : InitiatorKeying) →
+        is_signed s.secret payload keying.sign ≡ false →
+        initiator_cause s payload from now full keying ≡ Some BadSignature }
+    ensures wide { (s : StartupState) (payload : List ℕ) (from : AddressParts) (now : ℕ)
+        (full : Option ℕ) (keying : InitiatorKeying) →
+        is_signed s.secret payload keying.sign ≡ true → length keying.cookie ≡ 129 →
+        initiator_cause s payload from now full keying ≡ Some (Wide 129) }
+    ensures cookie { (s : StartupState) (payload : List ℕ) (from : AddressParts) (now : ℕ)
+        (full : Option ℕ) (keying : InitiatorKeying) →
+        is_signed s.secret payload keying.sign ≡ true → length keying.cookie ≡ 128 →
+        cookie_test s.cookie_secret keying.cookie from now ≡ Bad →
+        initiator_cause s payload from now full keying ≡ Some BadCookie }
     ensures moved { (later : Option Cause) → cookie_cause Moved later ≡ None }
     ensures expired { (later : Option Cause) → cookie_cause Expired later ≡ None }
     ensures current { (later : Option Cause) → cookie_cause Current later ≡ later }
 {}
 
-/// A keying that is of another responder is discarded so, also where it is the own one; the own one is, whatever the ledger says.
+/// A keying that is of another responder is discarded so, also where it is the own one; the own one
+/// is, whatever the ledger says.
 pub fn a_keying_is_of_this_responder_and_of_another_end()
-    ensures responder { (s : StartupState) (full : Option ℕ) (keying : InitiatorKeying) → bytes_eq keying.part.responder (sha256 s.cert) ≡ false → named_cause s keying full ≡ Some WrongResponder }
-    ensures own { (s : StartupState) (full : Option ℕ) (keying : InitiatorKeying) → bytes_eq keying.part.responder (sha256 s.cert) ≡ true → is_own s keying.cert ≡ true → named_cause s keying full ≡ Some OwnCertificate }
-    ensures heard { (s : StartupState) (full : Option ℕ) (keying : InitiatorKeying) → bytes_eq keying.part.responder (sha256 s.cert) ≡ true → is_own s keying.cert ≡ false → named_cause s keying full ≡ heard_cause full (hear_refusal s.ledger (keying_of keying) (is_none full)) }
+    ensures responder { (s : StartupState) (full : Option ℕ) (keying : InitiatorKeying) →
+        bytes_eq keying.part.responder (sha256 s.cert) ≡ false →
+        named_cause s keying full ≡ Some WrongResponder }
+    ensures own { (s : StartupState) (full : Option ℕ) (keying : InitiatorKeying) →
+        bytes_eq keying.part.responder (sha256 s.cert) ≡ true → is_own s keying.cert ≡ true →
+        named_cause s keying full ≡ Some OwnCertificate }
+    ensures heard { (s : StartupState) (full : Option ℕ) (keying : InitiatorKeying) →
+        bytes_eq keying.part.responder (sha256 s.cert) ≡ true → is_own s keying.cert ≡ false →
+        named_cause s keying full ≡ heard_cause full
+        (hear_refusal s.ledger (keying_of keying) (is_none full)) }
     ensures full { heard_cause (Some 4096) (Some SessionsFull) ≡ Some (CauseFull 4096) }
 {}
 
-/// A responder's keying needs an attempt in the keying stage, then the attempt's peer, then its nonce.
+/// A responder's keying needs an attempt in the keying stage, then the attempt's peer, then its
+/// nonce.
 pub fn an_answer_needs_the_stage_the_peer_and_the_nonce()
     ensures none { (keying : ResponderKeying) → attempt_cause keying None ≡ Some NoAttempt }
-    ensures stage { (keying : ResponderKeying) (a : AttemptState) → attempt_cause keying (Some (in_hello a)) ≡ Some WrongState }
-    ensures peer { (keying : ResponderKeying) (a : AttemptState) (at : AddressParts) (cookie : List ℕ) → bytes_eq keying.part.responder a.peer ≡ false → attempt_cause keying (Some (in_keying at cookie a)) ≡ Some WrongPeer }
-    ensures nonce { (keying : ResponderKeying) (a : AttemptState) (at : AddressParts) (cookie : List ℕ) → bytes_eq keying.part.responder a.peer ≡ true → bytes_eq keying.part.ni a.ni ≡ false → attempt_cause keying (Some (in_keying at cookie a)) ≡ Some NoAttempt }
-    ensures right { (keying : ResponderKeying) (a : AttemptState) (at : AddressParts) (cookie : List ℕ) → bytes_eq keying.part.responder a.peer ≡ true → bytes_eq keying.part.ni a.ni ≡ true → attempt_cause keying (Some (in_keying at cookie a)) ≡ None }
-    ensures signature { (s : StartupState) (near : ℕ) (payload : List ℕ) (keying : ResponderKeying) → is_signed s.secret payload keying.sign ≡ false → responder_cause s near payload keying ≡ Some BadSignature }
+    ensures stage { (keying : ResponderKeying) (a : AttemptState) →
+        attempt_cause keying (Some (in_hello a)) ≡ Some WrongState }
+    ensures peer { (keying : ResponderKeying) (a : AttemptState) (at : AddressParts)
+        (cookie : List ℕ) → bytes_eq keying.part.responder a.peer ≡ false →
+        attempt_cause keying (Some (in_keying at cookie a)) ≡ Some WrongPeer }
+    ensures nonce { (keying : ResponderKeying) (a : AttemptState) (at : AddressParts)
+        (cookie : List ℕ) → bytes_eq keying.part.responder a.peer ≡ true →
+        bytes_eq keying.part.ni a.ni ≡ false → attempt_cause keying (Some (in_keying at cookie a))
+        ≡ Some NoAttempt }
+    ensures right { (keying : ResponderKeying) (a : AttemptState) (at : AddressParts)
+        (cookie : List ℕ) → bytes_eq keying.part.responder a.peer ≡ true →
+        bytes_eq keying.part.ni a.ni ≡ true → attempt_cause keying (Some (in_keying at cookie a))
+        ≡ None }
+    ensures signature { (s : StartupState) (near : ℕ) (payload : List ℕ)
+        (keying : ResponderKeying) → is_signed s.secret payload keying.sign ≡ false →
+        responder_cause s near payload keying ≡ Some BadSignature }
 {}
 
-/// A hello, an initiator's keying and their answers go under session ID 0, or under that which the other end named.
+/// A hello, an initiator's keying and their answers go under session ID 0, or under that which the
+/// other end named.
 pub fn answers_go_where_they_are_taken()
-    ensures hello { (s : StartupState) (tag : List ℕ) (to : AddressParts) (now : ℕ) → initiator_hello_answer s tag to now ≡ record { to = to; sid = 0; plain = rhello_packet tag (cookie_of s.cookie_secret to now) s.cert } }
-    ensures keying { (key cert : List ℕ) (near : ℕ) (a : AttemptState) (to : AddressParts) (cookie : List ℕ) → keying_signed key cert near a to cookie ≡ record { to = to; sid = 0; plain = iikeying_signed key near cookie cert a.ni a.n a.peer } }
-    ensures change { (s : StartupState) (keying : InitiatorKeying) (from : AddressParts) (now : ℕ) → change_answer s keying from now ≡ record { to = from; sid = keying.near; plain = cookiechange_packet keying.cookie (cookie_of s.cookie_secret from now) } }
-    ensures again { (s : StartupState) (j : Joined) (from : AddressParts) → session_answer s j from ≡ record { to = from; sid = j.far; plain = rikeying_packet s.secret j.near j.nr j.k (sha256 s.cert) j.ni } }
+    ensures hello { (s : StartupState) (tag : List ℕ) (to : AddressParts) (now : ℕ) →
+        initiator_hello_answer s tag to now ≡ record { to = to; sid = 0;
+        plain = rhello_packet tag (cookie_of s.cookie_secret to now) s.cert } }
+    ensures keying { (key cert : List ℕ) (near : ℕ) (a : AttemptState) (to : AddressParts)
+        (cookie : List ℕ) → keying_signed key cert near a to cookie
+        ≡ record { to = to; sid = 0; plain = iikeying_signed key near cookie cert a.ni a.n
+        a.peer } }
+    ensures change { (s : StartupState) (keying : InitiatorKeying) (from : AddressParts) (now : ℕ) →
+        change_answer s keying from now ≡ record { to = from; sid = keying.near;
+        plain = cookiechange_packet keying.cookie (cookie_of s.cookie_secret from now) } }
+    ensures again { (s : StartupState) (j : Joined) (from : AddressParts) →
+        session_answer s j from ≡ record { to = from; sid = j.far;
+        plain = rikeying_packet s.secret j.near j.nr j.k (sha256 s.cert) j.ni } }
 {}

@@ -1,6 +1,8 @@
-//! The keyings that bear and open sessions, and the hellos that an end answers (RFC 7016 section 3.5.1).
+//! The keyings that bear and open sessions, and the hellos that an end answers (RFC 7016 section
+//! 3.5.1).
 
-ghost use Rattle.std.specs.Prelude.{[], ◌∷◌, ◌≡◌, ◌≢◌, ◌≤◌, length, not, false, is_none, IsOk, IfOk, IfErr, IfSome, IfNone, IsOkAnd, IsTrue, OnErr, Ok, Err, Some, None};
+ghost use Rattle.std.specs.Prelude.{[], ◌∷◌, ◌≡◌, ◌≢◌, ◌≤◌, length, not, false, is_none, IsOk, IfOk,
+    IfErr, IfSome, IfNone, IsOkAnd, IsTrue, OnErr, Ok, Err, Some, None};
 ghost use Rattle.std.specs.FinMap.{get, len};
 ghost use Rattle.std.specs.Option.{option_copied};
 ghost use Rattle.sha2.specs.Sha256.{sha256};
@@ -9,7 +11,12 @@ ghost use Rattle.glare_core.specs.Account.{Gave};
 ghost use Rattle.glare_core.specs.Calls.{where_true, is_born_of, hear_refusal};
 ghost use Rattle.startup.specs.State.{peer_of_attempt};
 ghost use Rattle.startup.specs.Rows.{table_of};
-ghost use Rattle.startup.specs.Keyings.{selects, initiator_hello_cause, initiator_hello_answer, keying_of, is_own, heard_cause, named_cause, initiator_cause, iikeying_cause, change_answer, session_answer, repeated_session, born_session, again_or_birth, after_again_or_birth, keyed_with, after_keyed_with, keyed, after_keying, needs_row, keyed_facts, opening_id, is_in_hello, attempt_cause, responder_cause, rikeying_cause, opened, opened_with, after_opening};
+ghost use Rattle.startup.specs.Keyings.{selects, initiator_hello_cause, initiator_hello_answer,
+    keying_of, is_own, heard_cause, named_cause, initiator_cause, iikeying_cause, change_answer,
+    session_answer, repeated_session, born_session, again_or_birth, after_again_or_birth,
+    keyed_with, after_keyed_with, keyed, after_keying, needs_row, keyed_facts, opening_id,
+    is_in_hello, attempt_cause, responder_cause, rikeying_cause, opened, opened_with,
+    after_opening};
 ghost use Rattle.startup.specs.Read.{initiator_of, responder_of};
 
 use crate::answer::{Answer, KeyRefusal, Keyed};
@@ -167,12 +174,17 @@ impl Startup {
         }
     }
 
-    /// Answers an initiator's hello, which came from an address or has it as its reply address, by the own hello: its tag, a new cookie for the address, and the own certificate (RFC 7016 section 3.5.1.1). It takes no memory.
+    /// Answers an initiator's hello, which came from an address or has it as its reply address, by
+    /// the own hello: its tag, a new cookie for the address, and the own certificate (RFC 7016
+    /// section 3.5.1.1). It takes no memory.
     ///
-    /// The causes are, in this order: a wide tag, and a discriminator that doesn't select the own certificate.
+    /// The causes are, in this order: a wide tag, and a discriminator that doesn't select the own
+    /// certificate.
     pub fn hello(&self, epd: &[u8], tag: &[u8], to: &Address, moment: u64) -> Result<Answer, Cause>
-        ensures ok { IfNone (initiator_hello_cause self.now epd.now tag.now) (result ≡ Ok (initiator_hello_answer self.now tag.now to.now moment)) }
-        ensures refused { IfSome (initiator_hello_cause self.now epd.now tag.now) (λ cause. result ≡ Err cause) }
+        ensures ok { IfNone (initiator_hello_cause self.now epd.now tag.now) (result
+            ≡ Ok (initiator_hello_answer self.now tag.now to.now moment)) }
+        ensures refused { IfSome (initiator_hello_cause self.now epd.now tag.now) (λ cause. result
+            ≡ Err cause) }
     {
         if let Some(cause) = self.initiator_hello_cause(epd, tag) {
             return Err(cause);
@@ -216,7 +228,8 @@ impl Startup {
         full: Option<u32>,
         fields: &InitiatorFields<'_>,
     ) -> Option<Cause>
-        ensures { result ≡ initiator_cause self.now payload.now from.now moment full (initiator_of fields.now) }
+        ensures { result ≡ initiator_cause self.now payload.now from.now moment full
+            (initiator_of fields.now) }
     {
         if !is_signed(&self.sign, payload, fields.sign) {
             return Some(Cause::BadSignature);
@@ -290,11 +303,17 @@ impl Startup {
     ) -> Result<Keyed, KeyRefusal>
         requires other { sha256 self.old.cert ≢ keying.now.peer }
         requires heard { hear_refusal self.old.ledger keying.now free ≡ None }
-        requires fresh { repeated_session (held_with self.old.ledger keying.now.peer) keying.now ≡ None }
-        ensures ok { IfOk result (λ answer. (answer ≡ again_or_birth self.old keying.now from.now near nr None) × (self.new ≡ after_again_or_birth self.old keying.now near nr None)) }
-        ensures memory { IfErr result (λ refusal. (refusal ≡ KeyRefusal.Memory) × (knows self.old.ledger keying.now.peer ≡ false)) }
+        requires fresh { repeated_session (held_with self.old.ledger keying.now.peer) keying.now
+            ≡ None }
+        ensures ok
+            { IfOk result
+            (λ answer. (answer ≡ again_or_birth self.old keying.now from.now near nr None) ×
+            (self.new ≡ after_again_or_birth self.old keying.now near nr None)) }
+        ensures memory { IfErr result (λ refusal. (refusal ≡ KeyRefusal.Memory) ×
+            (knows self.old.ledger keying.now.peer ≡ false)) }
         ensures err { OnErr result (self.new ≡ self.old) }
-        ensures gave { IfOk result (λ answer. Gave self.old.ledger (keyed_facts answer) self.new.ledger) }
+        ensures gave
+            { IfOk result (λ answer. Gave self.old.ledger (keyed_facts answer) self.new.ledger) }
     {
         let session = Joined {
             peer: keying.peer,
@@ -321,7 +340,8 @@ impl Startup {
         }
     }
 
-    /// Hears a keying that isn't refused: the responder's keying goes out again where its session is held, and else its session is born.
+    /// Hears a keying that isn't refused: the responder's keying goes out again where its session
+    /// is held, and else its session is born.
     fn hear(
         &mut self,
         keying: &Keying,
@@ -332,10 +352,17 @@ impl Startup {
     ) -> Result<Keyed, KeyRefusal>
         requires other { sha256 self.old.cert ≢ keying.now.peer }
         requires heard { hear_refusal self.old.ledger keying.now free ≡ None }
-        ensures ok { IfOk result (λ answer. (answer ≡ again_or_birth self.old keying.now from.now near nr (repeated_session (held_with self.old.ledger keying.now.peer) keying.now)) × (self.new ≡ after_again_or_birth self.old keying.now near nr (repeated_session (held_with self.old.ledger keying.now.peer) keying.now))) }
-        ensures memory { IfErr result (λ refusal. (refusal ≡ KeyRefusal.Memory) × (knows self.old.ledger keying.now.peer ≡ false)) }
+        ensures ok
+            { IfOk result
+            (λ answer. (answer ≡ again_or_birth self.old keying.now from.now near nr
+            (repeated_session (held_with self.old.ledger keying.now.peer) keying.now)) ×
+            (self.new ≡ after_again_or_birth self.old keying.now near nr
+            (repeated_session (held_with self.old.ledger keying.now.peer) keying.now))) }
+        ensures memory { IfErr result (λ refusal. (refusal ≡ KeyRefusal.Memory) ×
+            (knows self.old.ledger keying.now.peer ≡ false)) }
         ensures err { OnErr result (self.new ≡ self.old) }
-        ensures gave { IfOk result (λ answer. Gave self.old.ledger (keyed_facts answer) self.new.ledger) }
+        ensures gave
+            { IfOk result (λ answer. Gave self.old.ledger (keyed_facts answer) self.new.ledger) }
     {
         match repeated_session(self.peers.held(&keying.peer), keying) {
             Some(session) => Ok(Keyed::Again(self.session_answer(&session, from))),
@@ -343,10 +370,17 @@ impl Startup {
         }
     }
 
-    /// Takes an initiator's keying, the payload of its chunk, which came from an address, and a near id and a nonce for a session (RFC 7016 section 3.5.1.2); `full` is the limit on sessions where no place is free.
+    /// Takes an initiator's keying, the payload of its chunk, which came from an address, and a
+    /// near id and a nonce for a session (RFC 7016 section 3.5.1.2); `full` is the limit on
+    /// sessions where no place is free.
     ///
-    /// Where its cookie was made for another place or too long ago, a new one is sent. Where its session is held, the responder's keying is sent again. Else the session is born, and what was held with the peer ends: an attempt, which leaves, with Glare, and a session with Override.
-    /// The causes are, in this order: malformed, a wrong signature, a wide cookie, a bad one, and where it is a current one another responder, the own certificate, and the refusals of the ledger. Only the row of a peer that has none takes memory. Where it is refused, all is as before.
+    /// Where its cookie was made for another place or too long ago, a new one is sent. Where its
+    /// session is held, the responder's keying is sent again. Else the session is born, and what
+    /// was held with the peer ends: an attempt, which leaves, with Glare, and a session with
+    /// Override. The causes are, in this order: malformed, a wrong signature, a wide cookie, a bad
+    /// one, and where it is a current one another responder, the own certificate, and the refusals
+    /// of the ledger. Only the row of a peer that has none takes memory. Where it is refused, all
+    /// is as before.
     pub fn initiator_keying(
         &mut self,
         payload: &[u8],
@@ -356,11 +390,18 @@ impl Startup {
         nr: [u8; 16],
         full: Option<u32>,
     ) -> Result<Keyed, KeyRefusal>
-        ensures ok { IfOk result (λ answer. (keyed self.old payload.now from.now moment near nr ≡ Some answer) × (self.new ≡ after_keying self.old payload.now from.now moment near nr)) }
-        ensures refused { IfSome (iikeying_cause self.old payload.now from.now moment full) (λ cause. result ≡ Err (KeyRefusal.Cause cause)) }
-        ensures memory { IfNone (iikeying_cause self.old payload.now from.now moment full) (IfErr result (λ refusal. (refusal ≡ KeyRefusal.Memory) × IsTrue (needs_row self.old payload.now from.now moment))) }
+        ensures ok
+            { IfOk result (λ answer. (keyed self.old payload.now from.now moment near nr
+            ≡ Some answer) ×
+            (self.new ≡ after_keying self.old payload.now from.now moment near nr)) }
+        ensures refused { IfSome (iikeying_cause self.old payload.now from.now moment full)
+            (λ cause. result ≡ Err (KeyRefusal.Cause cause)) }
+        ensures memory { IfNone (iikeying_cause self.old payload.now from.now moment full)
+            (IfErr result (λ refusal. (refusal ≡ KeyRefusal.Memory) ×
+            IsTrue (needs_row self.old payload.now from.now moment))) }
         ensures err { OnErr result (self.new ≡ self.old) }
-        ensures gave { IfOk result (λ answer. Gave self.old.ledger (keyed_facts answer) self.new.ledger) }
+        ensures gave
+            { IfOk result (λ answer. Gave self.old.ledger (keyed_facts answer) self.new.ledger) }
     {
         let fields = match read_initiator_keying(payload) {
             Ok(fields) => fields,
@@ -406,7 +447,8 @@ impl Startup {
     /// Opens the session of the attempt with this near id, which is one with this peer.
     fn open(&mut self, near: u32, peer: &[u8; 32], fields: &ResponderFields<'_>) -> Fact
         requires { peer_of_attempt (get self.old.attempts near) ≡ Some peer.now }
-        ensures fact { IfSome (get self.old.attempts near) (λ a. result ≡ opened_with near (responder_of fields.now) a) }
+        ensures fact { IfSome (get self.old.attempts near) (λ a. result
+            ≡ opened_with near (responder_of fields.now) a) }
         ensures after { self.new ≡ after_opening self.old near result }
         ensures gave { Gave self.old.ledger (result ∷ []) self.new.ledger }
     {
@@ -422,12 +464,19 @@ impl Startup {
         }
     }
 
-    /// Takes a responder's keying, the payload of its chunk, which came under the near id of an attempt (RFC 7016 section 3.5.1.3): the session of the attempt is opened, and the attempt leaves. It takes no memory.
+    /// Takes a responder's keying, the payload of its chunk, which came under the near id of an
+    /// attempt (RFC 7016 section 3.5.1.3): the session of the attempt is opened, and the attempt
+    /// leaves. It takes no memory.
     ///
-    /// The causes are, in this order: malformed, a wrong signature, an attempt that still sends hellos, another peer, and another nonce or no attempt at all. Where it is discarded, all is as before.
+    /// The causes are, in this order: malformed, a wrong signature, an attempt that still sends
+    /// hellos, another peer, and another nonce or no attempt at all. Where it is discarded, all is
+    /// as before.
     pub fn responder_keying(&mut self, near: u32, payload: &[u8]) -> Result<Fact, Cause>
-        ensures ok { IfNone (rikeying_cause self.old near payload.now) (IsOkAnd result (λ fact. (opened self.old near payload.now ≡ Some fact) × (self.new ≡ after_opening self.old near fact))) }
-        ensures refused { IfSome (rikeying_cause self.old near payload.now) (λ cause. result ≡ Err cause) }
+        ensures ok { IfNone (rikeying_cause self.old near payload.now)
+            (IsOkAnd result (λ fact. (opened self.old near payload.now ≡ Some fact) ×
+            (self.new ≡ after_opening self.old near fact))) }
+        ensures refused { IfSome (rikeying_cause self.old near payload.now) (λ cause. result
+            ≡ Err cause) }
         ensures err { OnErr result (self.new ≡ self.old) }
         ensures gave { IfOk result (λ fact. Gave self.old.ledger (fact ∷ []) self.new.ledger) }
     {

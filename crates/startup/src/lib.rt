@@ -1,4 +1,5 @@
-//! Opening sessions: the attempts of an end, the hellos that it answers, and the keyings that bear and open sessions.
+//! Opening sessions: the attempts of an end, the hellos that it answers, and the keyings that bear
+//! and open sessions.
 #![tactic(auto)]
 
 mod answer;

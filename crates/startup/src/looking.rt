@@ -38,7 +38,8 @@ impl Startup {
         is_numbered(&self.attempts, n)
     }
 
-    /// How many datagrams the first thing sends that `due` would give; None exactly where nothing is due.
+    /// How many datagrams the first thing sends that `due` would give; None exactly where nothing
+    /// is due.
     pub fn due_sends(&self, moment: u64) -> Option<usize>
         ensures { result ≡ due_sends self.now moment }
     {

@@ -1,7 +1,9 @@
-//! The parts of the session key that the two ends send in their keyings, and the signatures of keyings (own profile).
+//! The parts of the session key that the two ends send in their keyings, and the signatures of
+//! keyings (own profile).
 
 ghost use Rattle.std.specs.Prelude.{◌≡◌, ◌≤◌, IfSome, length};
-ghost use Rattle.startup.specs.Packets.{initiator_part, responder_part, initiator_part_in, responder_part_in, is_signed_by};
+ghost use Rattle.startup.specs.Packets.{initiator_part, responder_part, initiator_part_in,
+    responder_part_in, is_signed_by};
 
 use crypto_profile::{hmac, same_bytes};
 
@@ -33,7 +35,8 @@ pub(crate) struct ResponderPart {
 #[tactic(auto, unfolding(crate::specs::Packets::initiator_part_in))]
 pub(crate) fn read_initiator_part(bytes: &[u8]) -> Option<InitiatorPart>
     ensures value { result ≡ initiator_part_in bytes.now }
-    ensures spelled { IfSome result (λ part. bytes.now ≡ initiator_part part.ni part.n part.responder) }
+    ensures spelled { IfSome result (λ part. bytes.now
+        ≡ initiator_part part.ni part.n part.responder) }
 {
     if bytes.len() != 56 {
         return None;
@@ -55,7 +58,8 @@ pub(crate) fn read_initiator_part(bytes: &[u8]) -> Option<InitiatorPart>
 #[tactic(auto, unfolding(crate::specs::Packets::responder_part_in))]
 pub(crate) fn read_responder_part(bytes: &[u8]) -> Option<ResponderPart>
     ensures value { result ≡ responder_part_in bytes.now }
-    ensures spelled { IfSome result (λ part. bytes.now ≡ responder_part part.nr part.k part.responder part.ni) }
+    ensures spelled { IfSome result (λ part. bytes.now
+        ≡ responder_part part.nr part.k part.responder part.ni) }
 {
     if bytes.len() != 72 {
         return None;
@@ -76,7 +80,8 @@ pub(crate) fn read_responder_part(bytes: &[u8]) -> Option<ResponderPart>
     })
 }
 
-/// Whether the signature that a payload ends with is right under the signature key. It is compared in constant time.
+/// Whether the signature that a payload ends with is right under the signature key. It is compared
+/// in constant time.
 #[tactic(auto, unfolding(crate::specs::Packets::is_signed_by))]
 pub(crate) fn is_signed(key: &[u8; 32], payload: &[u8], sign: &[u8]) -> bool
     ensures { result ≡ is_signed_by key.now payload.now sign.now }

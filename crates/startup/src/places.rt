@@ -29,7 +29,8 @@ fn has_place(places: &[Address], address: &Address) -> bool
     places.iter().any(|place| is_same_place(address, place))
 }
 
-/// An address joins the first `count` of these, unless one of them is at its place; how many there are then.
+/// An address joins the first `count` of these, unless one of them is at its place; how many there
+/// are then.
 fn join(to: &mut [Address; CANDIDATES], count: usize, address: &Address) -> usize
     requires { count < 16 }
     ensures joined { take result to.new ≡ joined (take count to.old) address.now }

@@ -1,7 +1,9 @@
-//! Keyings read from their payloads (RFC 7016 sections 2.3.7 and 2.3.8, with the own form of what they carry).
+//! Keyings read from their payloads (RFC 7016 sections 2.3.7 and 2.3.8, with the own form of what
+//! they carry).
 
 ghost use Rattle.std.specs.Prelude.{◌≡◌, ◌≤◌, length, max};
-ghost use Rattle.startup.specs.Keyings.{behind_vlu, cert_offset, part_offset, fault_cause, initiator_keying_in, formed_initiator, responder_keying_in, formed_responder};
+ghost use Rattle.startup.specs.Keyings.{behind_vlu, cert_offset, part_offset, fault_cause,
+    initiator_keying_in, formed_initiator, responder_keying_in, formed_responder};
 ghost use Rattle.startup.specs.Read.{initiator_read, responder_read};
 
 use crate::cause::Cause;
@@ -111,7 +113,8 @@ fn formed_initiator<'a>(
     part: &[u8],
     sign: &'a [u8],
 ) -> Result<InitiatorFields<'a>, Cause>
-    ensures { initiator_read result ≡ formed_initiator payload.now near cookie.now cert.now part.now sign.now }
+    ensures { initiator_read result ≡ formed_initiator payload.now near cookie.now cert.now part.now
+        sign.now }
 {
     if near == 0 {
         return Err(Cause::Malformed(0));

@@ -1,7 +1,8 @@
 //! Why a chunk would be discarded, without taking it.
 
 ghost use Rattle.std.specs.Prelude.{◌≡◌};
-ghost use Rattle.startup.specs.Refusals.{rhello_refusal_with, rhello_refusal, cookie_change_refusal, refusal};
+ghost use Rattle.startup.specs.Refusals.{rhello_refusal_with, rhello_refusal, cookie_change_refusal,
+    refusal};
 ghost use Rattle.startup.specs.Attempts.{rhello_cause, cookie_change_cause};
 
 use crate::cause::Cause;
@@ -19,9 +20,13 @@ const RHELLO: u8 = 0x70;
 const COOKIE_CHANGE: u8 = 0x79;
 
 impl Startup {
-    /// The cause with which `responder_hello`, `cookie_change`, `initiator_keying` or `responder_keying` would refuse the chunk of this type and payload, which came under this session ID; `full` is the limit on sessions where no place is free. None exactly where that call would give no cause, and for other types.
+    /// The cause with which `responder_hello`, `cookie_change`, `initiator_keying` or
+    /// `responder_keying` would refuse the chunk of this type and payload, which came under this
+    /// session ID; `full` is the limit on sessions where no place is free. None exactly where that
+    /// call would give no cause, and for other types.
     ///
-    /// A payload that doesn't read, and a responder's hello whose certificate has no form, are malformed. It changes nothing and takes no memory.
+    /// A payload that doesn't read, and a responder's hello whose certificate has no form, are
+    /// malformed. It changes nothing and takes no memory.
     pub fn refuses(
         &self,
         sid: u32,

@@ -7,7 +7,8 @@ ghost use Rattle.startup.specs.Rows.{near_in, attempt_in, table_of};
 ghost use Rattle.startup.specs.Attempts.{has_cookie, answered, recookied};
 ghost use Rattle.startup.specs.Due.{gap_of, is_over, is_repeat_due, repeated};
 ghost use Rattle.startup.specs.Sought.{fits, IsLowest, IsChanged, IsGone};
-ghost use Rattle.std.specs.Prelude.{ℕ, List, [], ◌∷◌, ◌++◌, Some, slice_index_or, vec_len, vec_capacity};
+ghost use Rattle.std.specs.Prelude.{ℕ, List, [], ◌∷◌, ◌++◌, Some, slice_index_or, vec_len,
+    vec_capacity};
 ghost use Rattle.glare_core.specs.declared.facts.Held.TheVariants.{Opening};
 ghost use Rattle.glare_core.specs.Ledger.{held_with, noted};
 ghost use Rattle.glare_core.specs.Calls.{MayEnd};
@@ -84,7 +85,8 @@ fn fits(attempt: &Attempt, sought: &Sought<'_>) -> bool
     }
 }
 
-/// The place of the row with the lowest near id of those that are sought, once the row at `place` was looked at too.
+/// The place of the row with the lowest near id of those that are sought, once the row at `place`
+/// was looked at too.
 fn better(rows: &[Row], sought: &Sought<'_>, best: Option<usize>, place: usize) -> Option<usize>
     requires within { place < length rows.now }
     requires best { IsBest near_in attempt_in (fits sought.now) rows.now place best }
@@ -140,7 +142,8 @@ pub(crate) fn answer_at(
     requires within { place < length rows.old.items }
     requires distinct { len (table_of rows.old.items) ≡ length rows.old.items }
     requires cookie { length cookie.now ≤ 128 }
-    ensures { IsChanged rows.old.items place (λ a. answered a from.now cookie.now moment) rows.new.items }
+    ensures { IsChanged rows.old.items place (λ a. answered a from.now cookie.now moment)
+        rows.new.items }
 {
     rows[place].attempt.answer(from, cookie, moment);
 }
@@ -177,9 +180,11 @@ pub(crate) fn forget_at(rows: &mut Vec<Row>, place: usize)
 pub(crate) fn end_at(peers: &mut Peers, rows: &mut Vec<Row>, place: usize, why: Why) -> Fact
     requires within { place < length rows.old.items }
     requires distinct { len (table_of rows.old.items) ≡ length rows.old.items }
-    requires held { (d : Row) → let a = (slice_index_or rows.old.items place d) in held_with peers.old a.attempt.peer ≡ Some (Opening a.attempt.n a.near a.attempt.ni) }
+    requires held { (d : Row) → let a = (slice_index_or rows.old.items place d) in
+        held_with peers.old a.attempt.peer ≡ Some (Opening a.attempt.n a.near a.attempt.ni) }
     requires why { (n near : ℕ) (ni : List ℕ) → MayEnd why (Opening n near ni) }
-    ensures fact { (d : Row) → result ≡ ended_attempt (entry_of (slice_index_or rows.old.items place d)) why }
+    ensures fact { (d : Row) →
+        result ≡ ended_attempt (entry_of (slice_index_or rows.old.items place d)) why }
     ensures ledger { peers.new ≡ noted peers.old result }
     ensures gone { IsGone rows.old.items place rows.new.items }
 {

@@ -35,7 +35,8 @@ pub(crate) fn keying_answer(
     cookie: &[u8],
 ) -> Answer
     requires { length cookie.now ≤ 128 }
-    ensures { result ≡ keying_signed key.now cert.now row.now.near row.now.attempt to.now cookie.now }
+    ensures { result ≡ keying_signed key.now cert.now row.now.near row.now.attempt to.now
+        cookie.now }
 {
     let attempt = &row.attempt;
     Answer {
@@ -53,7 +54,8 @@ pub(crate) fn keying_answer(
     }
 }
 
-/// The keying of an attempt, to the address that answered, with another cookie; None in the hello stage.
+/// The keying of an attempt, to the address that answered, with another cookie; None in the hello
+/// stage.
 pub(crate) fn keying_again(
     row: &Row,
     key: &[u8; 32],
@@ -61,7 +63,8 @@ pub(crate) fn keying_again(
     cookie: &[u8],
 ) -> Option<Answer>
     requires { length cookie.now ≤ 128 }
-    ensures { result ≡ again_signed key.now cert.now row.now.near row.now.attempt row.now.attempt.stage cookie.now }
+    ensures { result ≡ again_signed key.now cert.now row.now.near row.now.attempt
+        row.now.attempt.stage cookie.now }
 {
     let attempt = &row.attempt;
     match &attempt.stage {
@@ -72,7 +75,8 @@ pub(crate) fn keying_again(
 
 /// What an attempt sends again.
 pub(crate) fn repeat_of(row: &Row, key: &[u8; 32], cert: &Certificate) -> Due
-    ensures { result ≡ repeat_signed key.now cert.now row.now.near row.now.attempt row.now.attempt.stage }
+    ensures { result ≡ repeat_signed key.now cert.now row.now.near row.now.attempt
+        row.now.attempt.stage }
 {
     let attempt = &row.attempt;
     match &attempt.stage {

@@ -8,9 +8,11 @@ use identity::Certificate;
 use std::alloc::Global;
 use std::marker::Model;
 
-/// What an end keeps to open sessions: its certificate and secrets, what it holds with its peers, and its attempts.
+/// What an end keeps to open sessions: its certificate and secrets, what it holds with its peers,
+/// and its attempts.
 ///
-/// Contracts see it as the certificate, the secrets, the ledger of its peers, and a finite map from near ids to attempts.
+/// Contracts see it as the certificate, the secrets, the ledger of its peers, and a finite map from
+/// near ids to attempts.
 #[derive(Drop)]
 pub struct Startup {
     pub(crate) cert: Certificate,
@@ -38,7 +40,8 @@ impl Model for Startup {
 
     ghost view = { λ s. state_of s.cert s.secret s.cookies s.peers s.attempts.items };
 
-    ghost invariant = { λ s. IsStartup s.cert s.print s.secret s.sign s.cookies s.peers s.attempts.items };
+    ghost invariant =
+        { λ s. IsStartup s.cert s.print s.secret s.sign s.cookies s.peers s.attempts.items };
 }
 
 impl Startup {

@@ -1,4 +1,5 @@
-//! Keyings between two ends, and each reason to discard one. The payloads are put together here, byte by byte.
+//! Keyings between two ends, and each reason to discard one. The payloads are put together here,
+//! byte by byte.
 
 ghost use Rattle.std.specs.Prelude.{◌≡◌, IfOk, None};
 ghost use Rattle.std.specs.FinMap.{get};

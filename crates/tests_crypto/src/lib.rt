@@ -1,5 +1,6 @@
-//! Tests of the profile, of identities and cookies, of what ends hold with each other, of sessions and of startup: values of
-//! other programs, and calls one after another. They use public items alone.
+//! Tests of the profile, of identities and cookies, of what ends hold with each other, of sessions
+//! and of startup: values of other programs, and calls one after another. They use public items
+//! alone.
 #![tactic(auto)]
 
 #[cfg(test)]

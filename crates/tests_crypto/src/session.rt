@@ -57,8 +57,8 @@ fn ping(session: &Session, moment: u64) -> Outgoing {
     packet
 }
 
-/// The datagrams that scripts/baseline/vectors.py computes: a ping of the initiator at 1,000 ms, and the responder's answer at
-/// 1,500 ms.
+/// The datagrams that scripts/baseline/vectors.py computes: a ping of the initiator at 1,000 ms,
+/// and the responder's answer at 1,500 ms.
 const PING: &[u8] =
     b"\xc4\x12\xea\xfe\x4d\x22\x39\x4f\x89\x30\xd3\xb7\x2d\xe8\x6d\x57\xec\x51\x92\x01\x00\x00\x00\x00\x00\x00\x00\x00\x00\x00\x00\x00\x00\x00\x00\x01\xc7\xab\x50\xc4\x8e\xe6";
 
@@ -69,7 +69,8 @@ const PINGREPLY: &[u8] =
 const PING_PART: &[u8; 38] =
     b"\x4d\x22\x39\x4f\x89\x30\xd3\xb7\x2d\xe8\x6d\x57\xec\x51\x92\x01\x00\x00\x00\x00\x00\x00\x00\x00\x00\x00\x00\x00\x00\x00\x00\x01\xc7\xab\x50\xc4\x8e\xe6";
 
-/// The same ping under a number that has a byte other than 0 among its first 8, sealed under the right keys.
+/// The same ping under a number that has a byte other than 0 among its first 8, sealed under the
+/// right keys.
 const PING_OF_NO_SESSION: &[u8; 38] =
     b"\xf1\xfc\x2d\xf9\x3a\xb7\x96\x51\x69\x13\x90\x09\x8a\x65\x36\xdd\x00\x00\x00\x00\x00\x00\x00\x01\x00\x00\x00\x00\x00\x00\x00\x01\x46\x60\x3a\x29\xfa\xbc";
 

@@ -120,7 +120,8 @@ pub(crate) fn last_of(out: &Outbox) -> Letter {
     last
 }
 
-/// Gives a datagram to an end, and puts its last answer in the datagram's place; whether it did just this.
+/// Gives a datagram to an end, and puts its last answer in the datagram's place; whether it did
+/// just this.
 pub(crate) fn passes(
     alloc: Global,
     end: &mut Endpoint,

@@ -1,4 +1,5 @@
-//! The bytes of a whole handshake, beside those of a program written apart: `scripts/baseline/handshake.py` prints them.
+//! The bytes of a whole handshake, beside those of a program written apart:
+//! `scripts/baseline/handshake.py` prints them.
 
 use crate::by_hand::{ANSWERER, CALLER, Letter, draws, end, epd_of, last_of, place};
 use endpoint::{Endpoint, Entry, Outbox};
@@ -43,7 +44,8 @@ fn hex_of(alloc: Global, out: &Outbox) -> Result<String, AllocError> {
     Ok(text)
 }
 
-/// Gives a datagram to an end at a moment, and puts its last answer in the datagram's place; whether that has these bytes.
+/// Gives a datagram to an end at a moment, and puts its last answer in the datagram's place;
+/// whether that has these bytes.
 fn answers_with(
     alloc: Global,
     end: &mut Endpoint,

@@ -1,4 +1,5 @@
-//! Tests of ends, through what `endpoint` gives to all: two ends by hand, datagrams that a member of the group makes, rows of rules, and the bytes of a whole handshake.
+//! Tests of ends, through what `endpoint` gives to all: two ends by hand, datagrams that a member
+//! of the group makes, rows of rules, and the bytes of a whole handshake.
 #![tactic(auto)]
 
 #[cfg(test)]

@@ -36,7 +36,8 @@ fn an_end_tells_what_to_send_and_what_happened(rt: HostRuntime) -> Result<(), Fa
             Entry::Discard { .. } => dropped = dropped.saturating_add(1),
         }
     }
-    // A hello and its repeat; that an attempt started; and bytes that no member of the group sealed.
+    // A hello and its repeat; that an attempt started; and bytes that no member of the group
+    // sealed.
     assert_eq!(rt; (sent, told, dropped), (2, 1, 1));
     Ok(())
 }

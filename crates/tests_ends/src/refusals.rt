@@ -1,4 +1,5 @@
-//! Startup chunks that a member of the group makes, for the causes of which they are discarded, in their order: what comes later is wrong, too.
+//! Startup chunks that a member of the group makes, for the causes of which they are discarded, in
+//! their order: what comes later is wrong, too.
 
 ghost use Rattle.rtmfp_chunks.specs.Chunk.{chunk_of};
 ghost use Rattle.rtmfp_chunks.specs.Writing.{IsWritable};
@@ -138,7 +139,8 @@ fn initiators_keyings_that_are_refused(rt: HostRuntime) -> Result<(), Fail> {
     Ok(())
 }
 
-/// An answerer with these limits, which bears a session with the caller and is given the keying of another; whether it does as expected.
+/// An answerer with these limits, which bears a session with the caller and is given the keying of
+/// another; whether it does as expected.
 fn is_full(alloc: Global, peers: u32, sessions: u32, expected: &str) -> Result<bool, Fail> {
     let config = Config {
         max_peers: peers,
@@ -157,7 +159,8 @@ fn is_full(alloc: Global, peers: u32, sessions: u32, expected: &str) -> Result<b
     Ok(bears && refuses)
 }
 
-/// Gives the keying of one end, who holds nothing, to another, who holds an attempt towards it; whether it does as expected.
+/// Gives the keying of one end, who holds nothing, to another, who holds an attempt towards it;
+/// whether it does as expected.
 fn crosses(alloc: Global, expected: &str) -> Result<bool, Fail> {
     let mut a = end(alloc, CALLER)?;
     let _hello = hello_of(alloc, &mut a)?;

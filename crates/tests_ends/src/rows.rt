@@ -124,7 +124,8 @@ fn why_no_attempt_is_opened(rt: HostRuntime) -> Result<(), Fail> {
 fn the_order_of_causes(rt: HostRuntime) -> Result<(), Fail> {
     let alloc = rt.alloc();
     let mut b = end(alloc, ANSWERER)?;
-    // a fragment whose flags, or whose packet's number, isn't there; one that is whole; a responder's keying whose session ID isn't there, and one in the wrong place
+    // a fragment whose flags, or whose packet's number, isn't there; one that is whole; a
+    // responder's keying whose session ID isn't there, and one in the wrong place
     assert!(rt; answers(alloc, &mut b, &[0x03, 0x7f, 0, 0], "drop 1 Malformed(0); ")?);
     assert!(rt;
         answers(

@@ -1,5 +1,6 @@
-//! Tests of the crates of flows: what the proofs can't see, which is that calls succeed, and whether the definitions say
-//! what the rules say. Each row is from the rules, with a limit and the value beside it.
+//! Tests of the crates of flows: what the proofs can't see, which is that calls succeed, and
+//! whether the definitions say what the rules say. Each row is from the rules, with a limit and the
+//! value beside it.
 #![tactic(auto)]
 
 #[cfg(test)]

@@ -86,7 +86,8 @@ fn nothing_is_taken_after_the_last_number(rt: HostRuntime) {
     assert_eq!(rt; flow.take(&notice), Ok(Took::ForwardOnly));
 }
 
-/// What an ack tells beside its flow, 2: the free blocks, and the number at or below which none is missing.
+/// What an ack tells beside its flow, 2: the free blocks, and the number at or below which none is
+/// missing.
 fn told(flow: &FlowReceiver) -> Option<(u8, u8, u8)> {
     let mut out = Outgoing::new(0x03);
     match flow.ack_into(2, &mut out) {

@@ -68,7 +68,8 @@ fn chunks_come_at_these_limits(rt: HostRuntime) -> Result<(), Memory> {
         flow.next_chunk(true, 100, 0, 4380, 0, 1000),
         Err(NoChunk::Room)
     );
-    // The chunk has a head of 4 bytes, 3 numbers of a byte each, 7 bytes of options, and the fragment.
+    // The chunk has a head of 4 bytes, 3 numbers of a byte each, 7 bytes of options, and the
+    // fragment.
     assert_eq!(rt;
         flow.next_chunk(true, 1013, 0, 4380, 0, 1000),
         Err(NoChunk::Room)
@@ -95,7 +96,8 @@ fn chunks_come_at_these_limits(rt: HostRuntime) -> Result<(), Memory> {
 
 #[test]
 fn room_counts_the_distance_of_the_forward_number(rt: HostRuntime) -> Result<(), Memory> {
-    // Number 201 takes two bytes and its distance from 200 one: a head of 4 bytes, 1 + 2 + 1, and the fragment.
+    // Number 201 takes two bytes and its distance from 200 one: a head of 4 bytes, 1 + 2 + 1, and
+    // the fragment.
     let mut flow = FlowSender::new(rt.alloc(), 2, &[], None, 0, 201)?;
     assert_eq!(rt; flow.queue(&[0x55; 4], PLAIN), Ok(201));
     let no_room = flow.next_chunk(false, 11, 0, 4, 0, 1000);

@@ -1,4 +1,5 @@
-//! The tests of the program's crates and of those of scripts and reports, a module a crate: texts from the rules, through public items alone.
+//! The tests of the program's crates and of those of scripts and reports, a module a crate: texts
+//! from the rules, through public items alone.
 #![tactic(auto)]
 
 #[cfg(test)]

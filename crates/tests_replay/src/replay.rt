@@ -392,8 +392,8 @@ deliver 7 b 10.0.0.1:1935\n\
 ",
 };
 
-/// A comment and an empty line are counted, a last line may stand without LF, a cancel needs an attempt of its number,
-/// and an attempt is repeated and then expires.
+/// A comment and an empty line are counted, a last line may stand without LF, a cancel needs an
+/// attempt of its number, and an attempt is repeated and then expires.
 const TIMES: Row = Row {
     script: "\
 # two ends\n\
@@ -499,7 +499,8 @@ fn generated_runs_are_summarized(rt: HostRuntime) -> Result<(), Fail> {
             "1",
             "ends=8 steps=1 sent=1 started=1 born=0 opened=0 confirmed=0 ended=0 dropped=0 kept=0\n",
         ),
-        // These are what the plain program of `scripts/baseline` prints, which was written apart from this one.
+        // These are what the plain program of `scripts/baseline` prints, which was written apart
+        // from this one.
         (
             "10",
             "100",

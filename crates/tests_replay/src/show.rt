@@ -7,7 +7,8 @@ use std::test::Fail;
 
 const HEAD: &str = "packet mode=3 critical=0 reverse=0 stamp=- echo=-\n";
 
-/// Runs `show` over pieces of the input, with reads and writes that fail, and gives what was written.
+/// Runs `show` over pieces of the input, with reads and writes that fail, and gives what was
+/// written.
 fn shown(
     alloc: Global,
     input: &str,
@@ -215,8 +216,9 @@ fn takes_the_one_word_show(rt: HostRuntime) -> Result<(), Fail> {
     Ok(())
 }
 
-/// One packet a line, with all that a row is to have: lines of packets whose heads and chunks have ignored bits and
-/// bytes, of each type whose payload is empty, and of a number that has none after it.
+/// One packet a line, with all that a row is to have: lines of packets whose heads and chunks have
+/// ignored bits and bytes, of each type whose payload is empty, and of a number that has none after
+/// it.
 const EDGES: &str = "\
 83\n\
 f3\n\

@@ -6,7 +6,8 @@ use rtmfp_forms::{Address, NoRoom, Outgoing};
 use std::alloc::{AllocError, Global};
 use std::test::Fail;
 
-/// A type and a payload, and what they say. Each is the shortest spelling, so it is written as it was read.
+/// A type and a payload, and what they say. Each is the shortest spelling, so it is written as it
+/// was read.
 const CHUNKS: &str = "30 02414243 = ihello 4142 43
 0f 0141020a000001078f4344 = fihello 41 2 1935 4344
 70 014102424344 = rhello 41 4243 44

@@ -1,4 +1,5 @@
-//! The chunks of flows. A row gives one or more chunks of a packet, each by its type and its payload.
+//! The chunks of flows. A row gives one or more chunks of a packet, each by its type and its
+//! payload.
 
 use crate::rows::{byte, bytes, digits, sides, word};
 use rtmfp_data_chunks::{DataCursor, DataFault, DataView, Part, UserData, write_data};
@@ -52,8 +53,8 @@ const BROKEN: &str = "30 02 = unknown
 5e 02 = malformed 1
 5e 0280 = malformed 1";
 
-/// Acks at the last number, which is 2^64 - 1: the cumulative number is 2^64 - 6 and the first pair ends at 2^64 - 4, and
-/// the first bit speaks of 2^64 - 4.
+/// Acks at the last number, which is 2^64 - 1: the cumulative number is 2^64 - 6 and the first pair
+/// ends at 2^64 - 4, and the first bit speaks of 2^64 - 4.
 const LAST_NUMBERS: &str =
     "51 020181ffffffffffffffff7a00000001 = ack 2 1 18446744073709551610 18446744073709551612-18446744073709551612 18446744073709551614-18446744073709551615
 51 020181ffffffffffffffff7a00000002 = malformed 14

@@ -9,7 +9,8 @@ use rtmfp_vlu::vlu_len;
 use std::alloc::{AllocError, Global};
 use std::test::Fail;
 
-/// Bytes, and the list of options in front of them: its length, and each kind and value; or why there is none.
+/// Bytes, and the list of options in front of them: its length, and each kind and value; or why
+/// there is none.
 const OPTIONS: &str = "00 = 1
 02004100 = 4 0:41
 80038100410000ff = 6 128:41
@@ -22,7 +23,8 @@ const OPTIONS: &str = "00 = 1
 0b80808080808080808080 = large
 0b808080808080808080800000 = large";
 
-/// Bytes that begin with an address: its host, port, family and origin, and its length; or why there is none.
+/// Bytes that begin with an address: its host, port, family and origin, and its length; or why
+/// there is none.
 const ADDRESSES: &str =
     "000a000001078f = 0a000001000000000000000000000000 1935 v6=false origin=0 in 7
 7f0a000001078fff = 0a000001000000000000000000000000 1935 v6=false origin=3 in 7

@@ -1,5 +1,6 @@
-//! Tests of the crates of wire forms: what the proofs can't see, which is whether their definitions say what the
-//! protocol says. Each row is from the protocol's text, with a rule's edge and the value beside it.
+//! Tests of the crates of wire forms: what the proofs can't see, which is whether their definitions
+//! say what the protocol says. Each row is from the protocol's text, with a rule's edge and the
+//! value beside it.
 #![tactic(auto)]
 
 #[cfg(test)]

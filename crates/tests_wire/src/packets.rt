@@ -15,7 +15,8 @@ const HEADS: &str = "01 = mode=1 false false -1 -1
 051234 = mode=1 false false -1 4660
 0d1234fedc = mode=1 false false 4660 65244";
 
-/// Packets: the mode, the two flags and the two stamps; each chunk with its place; and the padding; or why there is none.
+/// Packets: the mode, the two flags and the two stamps; each chunk with its place; and the padding;
+/// or why there is none.
 const PACKETS: &str = "31 = mode=1 false false -1 -1 padding=0
 - = empty
 00 = mode-zero
