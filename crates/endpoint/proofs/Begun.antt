@@ -7,7 +7,7 @@ use Rattle.cookies.specs.Cookie.{is_same_place}
 use Rattle.glare_core.specs.Calls.{first_that_stands, start_refusal}
 use Rattle.startup.specs.Attempts.{joined, lowest, places_of}
 use Rattle.startup.specs.Due.{due, due_of, due_sends, due_sends_of, is_due}
-use Rattle.endpoint.specs.declared.answers.OpenRefusal.{OpenRefusal}
+use Rattle.endpoint_model.specs.declared.answers.OpenRefusal.{OpenRefusal}
 use Rattle.crypto_profile.specs.Keys.{Keys}
 use Rattle.rtmfp_forms.specs.Address.{AddressParts}
 use Rattle.rtmfp_chunks.specs.Chunk.{Ping}
@@ -19,17 +19,17 @@ use Rattle.startup.specs.declared.answer.Keyed.{Keyed}
 use Rattle.startup.specs.State.{AttemptState, StartupState}
 use Rattle.startup.specs.Keyings.{ResponderKeying, responder_keying_in, keyed, after_keying, opened_with, opened_reading, opened, after_opening}
 use Rattle.session_core.specs.Session.{SessionState}
-use Rattle.endpoint.specs.declared.config.Config.{Config}
-use Rattle.endpoint.specs.declared.config.Draws.{Draws}
-use Rattle.endpoint.specs.declared.entry.Entry.{Entry}
-use Rattle.endpoint.specs.declared.entry.Entry.TheVariants.{Fact as FactEntry}
-use Rattle.endpoint.specs.Added.{Added}
-use Rattle.endpoint.specs.Due.{candidates_refusal, start_refused, full_refused, open_refusal, tick_once, ticks, initiator_keyed, keying_done, responder_keyed, opening_done, sessions_born, sessions_opened, with_born, with_opened}
+use Rattle.endpoint_model.specs.declared.config.Config.{Config}
+use Rattle.endpoint_model.specs.declared.config.Draws.{Draws}
+use Rattle.endpoint_model.specs.declared.entry.Entry.{Entry}
+use Rattle.endpoint_model.specs.declared.entry.Entry.TheVariants.{Fact as FactEntry}
+use Rattle.endpoint_model.specs.Added.{Added}
+use Rattle.endpoint_model.specs.Due.{candidates_refusal, start_refused, full_refused, open_refusal, tick_once, ticks, initiator_keyed, keying_done, responder_keyed, opening_done, sessions_born, sessions_opened, with_born, with_opened}
 use Rattle.endpoint.specs.Kept.{IsEndpoint, table_of, state_of}
-use Rattle.endpoint.specs.Sending.{sent_in_session}
-use Rattle.endpoint.specs.State.{State, Did, Done, nothing, then_do, after_entries, uses, is_used, is_free, full, free_from, with_startup, with_sessions}
-use Rattle.endpoint.proofs.Ids.{free_from_is_free}
-use Rattle.endpoint.proofs.Steps.{done_nothing, done_still, then_nothing, then_then, joined as steps_joined}
+use Rattle.endpoint_model.specs.Sending.{sent_in_session}
+use Rattle.endpoint_model.specs.State.{State, Did, Done, nothing, then_do, after_entries, uses, is_used, is_free, full, free_from, with_startup, with_sessions}
+use Rattle.endpoint_model.proofs.Ids.{free_from_is_free}
+use Rattle.endpoint_model.proofs.Steps.{done_nothing, done_still, then_nothing, then_then, joined as steps_joined}
 use Rattle.endpoint.proofs.Constants.{IsSameEnd, end_stays, keying_keeps, opening_keeps}
 
 -- ---- what an outbox got

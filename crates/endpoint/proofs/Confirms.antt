@@ -9,17 +9,17 @@ use Rattle.startup.specs.State.{StartupState}
 use Rattle.startup.specs.Attempts.{after_confirm, confirm_fact}
 use Rattle.session_core.specs.Session.{SessionState, with_stamps, is_opening, confirmed}
 use Rattle.session_core.specs.Hearing.{counted}
-use Rattle.endpoint.specs.declared.place.Place.{Place}
-use Rattle.endpoint.specs.declared.place.Place.TheVariants.{Startup, Attempt, Session}
-use Rattle.endpoint.specs.Added.{Added}
-use Rattle.endpoint.specs.State.{State, Sessions, Did, Done, with_session, with_sessions, with_startup, fact_entries, nothing}
-use Rattle.endpoint.proofs.Steps.{done_nothing}
+use Rattle.endpoint_model.specs.declared.place.Place.{Place}
+use Rattle.endpoint_model.specs.declared.place.Place.TheVariants.{Startup, Attempt, Session}
+use Rattle.endpoint_model.specs.Added.{Added}
+use Rattle.endpoint_model.specs.State.{State, Sessions, Did, Done, with_session, with_sessions, with_startup, fact_entries, nothing}
+use Rattle.endpoint_model.proofs.Steps.{done_nothing}
 use Rattle.rtmfp_forms.specs.Address.{AddressParts}
 use Rattle.rtmfp_packet.specs.Whole.{Whole}
-use Rattle.endpoint.specs.Keying.{chunks_of}
-use Rattle.endpoint.specs.Due.{AreQuiet, AddsDiscards, discards, discards_among}
-use Rattle.endpoint.specs.Log.{IsStop, not_taken}
-use Rattle.endpoint.specs.Admission.{confirms, confirms_by, confirming, confirming_by, taken_packet, counted_at, counted_by, timed_at, timed_by}
+use Rattle.endpoint_model.specs.Keying.{chunks_of}
+use Rattle.endpoint_model.specs.Due.{AreQuiet, AddsDiscards, discards, discards_among}
+use Rattle.endpoint_model.specs.Log.{IsStop, not_taken}
+use Rattle.endpoint_model.specs.Admission.{confirms, confirms_by, confirming, confirming_by, taken_packet, counted_at, counted_by, timed_at, timed_by}
 
 counted_still : (s : State) (near : ℕ) (part : List ℕ) (o : Option SessionState) → get s.sessions near ≡ o → confirms_by (get (counted_by s near part o).sessions near) ≡ confirms_by o
 counted_still s near part None e = ap confirms_by e

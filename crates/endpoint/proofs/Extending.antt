@@ -5,19 +5,19 @@ use Rattle.rtmfp_base.specs.declared.memory.Memory.{Memory}
 use Rattle.rtmfp_forms.specs.Address.{AddressParts}
 use Rattle.startup.specs.Attempts.{cancel_fact}
 use Rattle.startup.specs.Due.{due}
-use Rattle.endpoint.specs.declared.config.Draws.{Draws}
-use Rattle.endpoint.specs.declared.entry.Entry.{Entry}
-use Rattle.endpoint.specs.declared.answers.OpenRefusal.{OpenRefusal}
-use Rattle.endpoint.specs.declared.answers.OpenRefusal.TheVariants.{Memory as NoMemoryToOpen}
-use Rattle.endpoint.specs.declared.answers.CallRefusal.{CallRefusal}
-use Rattle.endpoint.specs.declared.answers.CallRefusal.TheVariants.{NoAttempt, Memory as NoMemory}
-use Rattle.endpoint.specs.declared.answers.Stopped.{Stopped as Stop}
-use Rattle.endpoint.specs.Added.{Added}
-use Rattle.endpoint.specs.Event.{Event, Cancel, Refused, Done as Finished}
-use Rattle.endpoint.specs.State.{State, Did, Does, Done, nothing, fresh, at_moment}
-use Rattle.endpoint.specs.Admission.{admission}
-use Rattle.endpoint.specs.Due.{open_refusal, opening, cancelling, ticks, received}
-use Rattle.endpoint.specs.Log.{Step, Answers, Leads, Extends, IsTaken, IsStop, stopped, not_opened, open_event, cancel_event, receive_event, tick_event}
+use Rattle.endpoint_model.specs.declared.config.Draws.{Draws}
+use Rattle.endpoint_model.specs.declared.entry.Entry.{Entry}
+use Rattle.endpoint_model.specs.declared.answers.OpenRefusal.{OpenRefusal}
+use Rattle.endpoint_model.specs.declared.answers.OpenRefusal.TheVariants.{Memory as NoMemoryToOpen}
+use Rattle.endpoint_model.specs.declared.answers.CallRefusal.{CallRefusal}
+use Rattle.endpoint_model.specs.declared.answers.CallRefusal.TheVariants.{NoAttempt, Memory as NoMemory}
+use Rattle.endpoint_model.specs.declared.answers.Stopped.{Stopped as Stop}
+use Rattle.endpoint_model.specs.Added.{Added}
+use Rattle.endpoint_model.specs.Event.{Event, Cancel, Refused, Done as Finished}
+use Rattle.endpoint_model.specs.State.{State, Did, Does, Done, nothing, fresh, at_moment}
+use Rattle.endpoint_model.specs.Admission.{admission}
+use Rattle.endpoint_model.specs.Due.{open_refusal, opening, cancelling, ticks, received}
+use Rattle.endpoint_model.specs.Log.{Step, Answers, Leads, Extends, IsTaken, IsStop, stopped, not_opened, open_event, cancel_event, receive_event, tick_event}
 
 leads_more : (s t u : State) (es : List Event) (e : Event) → Leads s es t → Step t e u → Leads s (es ++ e ∷ []) u
 leads_more s t u [] e h step = (u, (let P : State → Type 0 = λ x. Step x e u in subst P (sym h) step), refl)

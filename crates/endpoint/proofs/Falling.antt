@@ -8,9 +8,9 @@ use Rattle.startup.specs.declared.answer.Due.TheVariants.{Ended as EndDue, Hello
 use Rattle.startup.specs.Attempts.{lowest}
 use Rattle.startup.specs.Due.{due, due_of, after_due, due_count, due_sends, due_sends_of, is_due}
 use Rattle.startup.proofs.Falling.{due_falls}
-use Rattle.endpoint.specs.State.{State, Did, with_startup}
-use Rattle.endpoint.specs.Sending.{sent_startup, sent_each, last_count}
-use Rattle.endpoint.specs.Due.{due_done, tick_once}
+use Rattle.endpoint_model.specs.State.{State, Did, with_startup}
+use Rattle.endpoint_model.specs.Sending.{sent_startup, sent_each, last_count}
+use Rattle.endpoint_model.specs.Due.{due_done, tick_once}
 
 -- what sending startup packets leaves as it is
 pub record IsSame (s t : State) : Type 0 where

@@ -8,15 +8,15 @@ use Rattle.crypto_profile.specs.declared.keys.Context.{Context}
 use Rattle.session_core.specs.Session.{SessionState, context_of}
 use Rattle.session_core.specs.Sealed.{after_seal, is_spent}
 use Rattle.startup.specs.State.{StartupState}
-use Rattle.endpoint.specs.declared.config.Config.{Config}
-use Rattle.endpoint.specs.declared.entry.Entry.{Entry}
-use Rattle.endpoint.specs.declared.entry.Entry.TheVariants.{Out}
-use Rattle.endpoint.specs.Added.{Added}
+use Rattle.endpoint_model.specs.declared.config.Config.{Config}
+use Rattle.endpoint_model.specs.declared.entry.Entry.{Entry}
+use Rattle.endpoint_model.specs.declared.entry.Entry.TheVariants.{Out}
+use Rattle.endpoint_model.specs.Added.{Added}
 use Rattle.endpoint.specs.Kept.{near_of, state_of, table_of}
-use Rattle.endpoint.specs.Sending.{sent_by, sent_in_session, session_datagram}
-use Rattle.endpoint.specs.State.{State, Did, Done, Sessions, nothing, with_session, with_sessions}
+use Rattle.endpoint_model.specs.Sending.{sent_by, sent_in_session, session_datagram}
+use Rattle.endpoint_model.specs.State.{State, Did, Done, Sessions, nothing, with_session, with_sessions}
 use Rattle.endpoint.proofs.Keeping.{place_in, kept_at, found_at}
-use Rattle.endpoint.proofs.Steps.{done_nothing}
+use Rattle.endpoint_model.proofs.Steps.{done_nothing}
 
 -- ---- nothing goes out
 

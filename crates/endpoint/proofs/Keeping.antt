@@ -7,9 +7,9 @@ use Rattle.rtmfp_base.proofs.Rows.{place_found, place_none, table_set, set_are_d
 use Rattle.rtmfp_base.proofs.Places.{place_tells}
 use Rattle.session_core.specs.Session.{SessionState}
 use Rattle.std.proofs.lemmas.Bool.Decides.{nat_tests}
-use Rattle.endpoint.specs.declared.place.Place.TheVariants.{Startup, Attempt, Session}
-use Rattle.endpoint.specs.State.{State, Sessions}
-use Rattle.endpoint.specs.Admission.{place_of}
+use Rattle.endpoint_model.specs.declared.place.Place.TheVariants.{Startup, Attempt, Session}
+use Rattle.endpoint_model.specs.State.{State, Sessions}
+use Rattle.endpoint_model.specs.Admission.{place_of}
 use Rattle.endpoint.specs.Kept.{near_of, table_of}
 
 abbrev itself : SessionState → SessionState

@@ -8,11 +8,11 @@ use Rattle.crypto_profile.specs.Opening.{open_refusal}
 use Rattle.packet_scramble.specs.Datagram.{sid_of}
 use Rattle.session_core.specs.Session.{SessionState, context_of}
 use Rattle.session_core.specs.Hearing.{opens_in as opens_in_session}
-use Rattle.endpoint.specs.declared.place.Place.{Place}
-use Rattle.endpoint.specs.declared.place.Place.TheVariants.{Startup, Attempt, Session}
-use Rattle.endpoint.specs.State.{State}
-use Rattle.endpoint.specs.Admission.{place_of, startup_keys}
-use Rattle.endpoint.specs.OpensIn.{startup_unless, context_in_session, context_found, opens_in}
+use Rattle.endpoint_model.specs.declared.place.Place.{Place}
+use Rattle.endpoint_model.specs.declared.place.Place.TheVariants.{Startup, Attempt, Session}
+use Rattle.endpoint_model.specs.State.{State}
+use Rattle.endpoint_model.specs.Admission.{place_of, startup_keys}
+use Rattle.endpoint_laws.specs.OpensIn.{startup_unless, context_in_session, context_found, opens_in}
 use Rattle.endpoint.specs.NamedContext.{context_towards, context_of_place, named_context}
 
 in_startup : (o : Option SealFault) (c : Context) → startup_unless o ≡ Some c → ◌≡◌ {A = Option Context} (Some StartupContext) (Some c)

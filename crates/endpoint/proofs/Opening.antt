@@ -16,9 +16,9 @@ use Rattle.session_core.specs.declared.hearing.Unheard.TheVariants.{Short as Sho
 use Rattle.crypto_profile.specs.Kept.{kept_answer}
 use Rattle.session_core.specs.Session.{SessionState}
 use Rattle.session_core.specs.Hearing.{answered, count_of, is_new, inward_keys, opened, opens_in, unheard, unheard_by}
-use Rattle.endpoint.specs.State.{State}
-use Rattle.endpoint.specs.Admission.{heard_by, opened_by, opened_in_startup, startup_keys}
-use Rattle.endpoint.proofs.Parts.{past_front}
+use Rattle.endpoint_model.specs.State.{State}
+use Rattle.endpoint_model.specs.Admission.{heard_by, opened_by, opened_in_startup, startup_keys}
+use Rattle.endpoint_model.proofs.Parts.{past_front}
 
 -- ---- what opens has 32 bytes before its ciphertext, which stay
 

@@ -10,10 +10,10 @@ use Rattle.startup.specs.declared.cause.Cause.{Cause}
 use Rattle.startup.specs.declared.cause.Cause.TheVariants.{UnknownChunk, Malformed, WrongPlace, Fragment}
 use Rattle.startup.specs.Attempts.{rhello_cause}
 use Rattle.startup.specs.Refusals.{rhello_refusal_reading, rhello_refusal, cookie_change_refusal_reading, cookie_change_refusal}
-use Rattle.endpoint.specs.declared.place.Place.{Place}
-use Rattle.endpoint.specs.State.{State}
-use Rattle.endpoint.specs.Admission.{sid_at}
-use Rattle.endpoint.specs.Causes.{chunk_cause, form_cause, is_known, last_cause, read_cause, read_fault, takes}
+use Rattle.endpoint_model.specs.declared.place.Place.{Place}
+use Rattle.endpoint_model.specs.State.{State}
+use Rattle.endpoint_model.specs.Admission.{sid_at}
+use Rattle.endpoint_model.specs.Causes.{chunk_cause, form_cause, is_known, last_cause, read_cause, read_fault, takes}
 
 -- ---- where none of several stands
 

@@ -6,12 +6,12 @@ use Rattle.rtmfp_chunks.specs.Chunk.{row_of}
 use Rattle.rtmfp_chunks.specs.FieldReading.{chunk_reading}
 use Rattle.rtmfp_chunks.specs.FieldReading as X
 use Rattle.startup.specs.declared.cause.Cause.{Cause}
-use Rattle.endpoint.specs.declared.config.Draws.{Draws}
-use Rattle.endpoint.specs.declared.place.Place.{Place}
-use Rattle.endpoint.specs.Added.{Added}
-use Rattle.endpoint.specs.State.{State, Did, Done, nothing}
-use Rattle.endpoint.specs.Due.{AreQuiet, chunk_did, discarded_or, discards_among, discards_for, effect, keyed_after, read_done}
-use Rattle.endpoint.specs.Causes.{chunk_cause}
+use Rattle.endpoint_model.specs.declared.config.Draws.{Draws}
+use Rattle.endpoint_model.specs.declared.place.Place.{Place}
+use Rattle.endpoint_model.specs.Added.{Added}
+use Rattle.endpoint_model.specs.State.{State, Did, Done, nothing}
+use Rattle.endpoint_model.specs.Due.{AreQuiet, chunk_did, discarded_or, discards_among, discards_for, effect, keyed_after, read_done}
+use Rattle.endpoint_model.specs.Causes.{chunk_cause}
 
 -- what is left adds nothing but discards, and there is room for these
 pub record IsRoomy (s : State) (place : Place) (from : AddressParts) (keyed : Bool) (rest : List Placed) (free : ℕ) : Type 0 where

@@ -9,7 +9,7 @@ use Rattle.rtmfp_packet.specs.declared.head.PacketHead.{PacketHead}
 use Rattle.rtmfp_packet.specs.Head.{head_bytes, stamp_bytes}
 use Rattle.rtmfp_chunks.specs.Chunk.{Chunk}
 use Rattle.rtmfp_chunks.specs.Writing.{chunk_bytes}
-use Rattle.endpoint.proofs.Parts.{past_front}
+use Rattle.endpoint_model.proofs.Parts.{past_front}
 
 pub sealed_len : (s : SessionState) (plain : List ℕ) (len : ℕ) → is_spent s ≡ false → Some len ≡ seal_answer s plain → len ≡ 36 + length plain
 sealed_len s plain len spent answer =

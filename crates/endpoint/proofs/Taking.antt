@@ -14,15 +14,15 @@ use Rattle.startup.specs.declared.cause.Cause.{Cause}
 use Rattle.startup.specs.declared.cause.Cause.TheVariants.{Short as ShortCause, BadPacket, WrongPlace}
 use Rattle.session_core.specs.Session.{SessionState}
 use Rattle.session_core.specs.Hearing.{counted, count_of}
-use Rattle.endpoint.specs.declared.config.Draws.{Draws}
-use Rattle.endpoint.specs.declared.answers.Stopped.{Stopped}
-use Rattle.endpoint.specs.declared.place.Place.{Place}
-use Rattle.endpoint.specs.declared.place.Place.TheVariants.{Startup, Attempt, Session}
-use Rattle.endpoint.specs.Added.{Added}
-use Rattle.endpoint.specs.State.{State, Done, nothing, with_session}
-use Rattle.endpoint.specs.Admission.{Admission, Rejected, Admitted, admission, admitted, admitted_packet, opened_datagram, counted_at, counted_by, timed_at, taken_packet, mode_at, mode_by, has_mode, fault_number, packet_in}
-use Rattle.endpoint.specs.Due.{discarded}
-use Rattle.endpoint.specs.Log.{IsTaken, IsStop, stopped, not_taken}
+use Rattle.endpoint_model.specs.declared.config.Draws.{Draws}
+use Rattle.endpoint_model.specs.declared.answers.Stopped.{Stopped}
+use Rattle.endpoint_model.specs.declared.place.Place.{Place}
+use Rattle.endpoint_model.specs.declared.place.Place.TheVariants.{Startup, Attempt, Session}
+use Rattle.endpoint_model.specs.Added.{Added}
+use Rattle.endpoint_model.specs.State.{State, Done, nothing, with_session}
+use Rattle.endpoint_model.specs.Admission.{Admission, Rejected, Admitted, admission, admitted, admitted_packet, opened_datagram, counted_at, counted_by, timed_at, taken_packet, mode_at, mode_by, has_mode, fault_number, packet_in}
+use Rattle.endpoint_model.specs.Due.{discarded}
+use Rattle.endpoint_model.specs.Log.{IsTaken, IsStop, stopped, not_taken}
 
 -- ---- one admission for another
 

@@ -4,7 +4,7 @@ use Rattle.glare_core.specs.declared.facts.Held.{Held}
 use Rattle.glare_core.specs.declared.facts.Held.TheVariants.{Opening, HalfOpen, KeptAsResponder,
     KeptAsInitiator}
 use Rattle.glare_core.specs.Ledger.{held_with}
-use Rattle.endpoint.specs.State.{State}
+use Rattle.endpoint_model.specs.State.{State}
 
 -- a session is kept from its Opened, or from the Confirmed after its Born
 abbrev pub is_kept : Option Held → Bool

@@ -5,8 +5,8 @@ use Rattle.crypto_profile.specs.declared.keys.Context.TheVariants.{Startup}
 use Rattle.crypto_profile.specs.Keys.{Keys, keys_of}
 use Rattle.startup.specs.State.{StartupState}
 use Rattle.session_core.specs.Session.{SessionState}
-use Rattle.endpoint.specs.declared.config.Config.{Config}
-use Rattle.endpoint.specs.State.{State, Sessions}
+use Rattle.endpoint_model.specs.declared.config.Config.{Config}
+use Rattle.endpoint_model.specs.State.{State, Sessions}
 
 -- the session ID of a session
 abbrev pub near_of : SessionState → ℕ

@@ -6,8 +6,8 @@ use Rattle.rtmfp_packet.specs.Walk.{Placed}
 use Rattle.rtmfp_packet.specs.Chunks.{left}
 use Rattle.rtmfp_packet.specs.Whole.{Whole}
 use Rattle.endpoint.specs.declared.kinds.Kinds.{Kinds}
-use Rattle.endpoint.specs.Admission.{packet_in}
-use Rattle.endpoint.specs.Keying.{chunks_of}
+use Rattle.endpoint_model.specs.Admission.{packet_in}
+use Rattle.endpoint_model.specs.Keying.{chunks_of}
 
 abbrev pub kinds_of : List Placed → List ℕ
 kinds_of chunks = map (λ chunk. chunk.kind) chunks

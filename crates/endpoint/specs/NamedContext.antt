@@ -6,10 +6,10 @@ use Rattle.crypto_profile.specs.declared.keys.Context.{Context}
 use Rattle.crypto_profile.specs.declared.keys.Context.TheVariants.{Startup as StartupContext}
 use Rattle.packet_scramble.specs.Datagram.{sid_of}
 use Rattle.session_core.specs.Session.{SessionState, context_of}
-use Rattle.endpoint.specs.declared.place.Place.{Place}
-use Rattle.endpoint.specs.declared.place.Place.TheVariants.{Startup, Attempt, Session}
-use Rattle.endpoint.specs.State.{State}
-use Rattle.endpoint.specs.Admission.{place_of}
+use Rattle.endpoint_model.specs.declared.place.Place.{Place}
+use Rattle.endpoint_model.specs.declared.place.Place.TheVariants.{Startup, Attempt, Session}
+use Rattle.endpoint_model.specs.State.{State}
+use Rattle.endpoint_model.specs.Admission.{place_of}
 
 -- a session's context towards this end
 abbrev pub context_towards : Option SessionState → Option Context

@@ -3,14 +3,14 @@
 ghost use Rattle.std.specs.Prelude.{◌≡◌, ◌+◌, IfErr, IfNone, IfOk, IfSome, IsSome, None, OnErr,
     OnOk, Err};
 ghost use Rattle.startup.specs.Attempts.{cancel_fact};
-ghost use Rattle.endpoint.specs.Due.{cancelling, open_refusal, opening};
-ghost use Rattle.endpoint.specs.Log.{Extends, cancel_event, open_event};
-ghost use Rattle.endpoint.specs.State.{Done, at_moment, nothing};
+ghost use Rattle.endpoint_model.specs.Due.{cancelling, open_refusal, opening};
+ghost use Rattle.endpoint_model.specs.Log.{Extends, cancel_event, open_event};
+ghost use Rattle.endpoint_model.specs.State.{Done, at_moment, nothing};
 
-use crate::answers::{CallRefusal, OpenRefusal};
-use crate::config::Draws;
+use endpoint_model::{CallRefusal, OpenRefusal};
+use endpoint_model::Draws;
 use crate::endpoint::Endpoint;
-use crate::entry::Entry;
+use endpoint_model::Entry;
 use crate::outbox::Outbox;
 use crate::sending::blanks;
 use identity::Epd;

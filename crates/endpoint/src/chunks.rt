@@ -10,19 +10,19 @@ ghost use Rattle.rtmfp_packet.specs.Chunks.{shown};
 ghost use Rattle.startup.specs.Attempts.{after_cookie_change, after_rhello, cookie_change_cause,
     cookie_change_keying, rhello_cause, rhello_keying};
 ghost use Rattle.startup.specs.Keyings.{initiator_hello_answer, initiator_hello_cause};
-ghost use Rattle.endpoint.specs.Admission.{sid_at};
-ghost use Rattle.endpoint.specs.Due.{IsQuiet, chunk_did, discarded, discards_for, effect,
+ghost use Rattle.endpoint_model.specs.Admission.{sid_at};
+ghost use Rattle.endpoint_model.specs.Due.{IsQuiet, chunk_did, discarded, discards_for, effect,
     read_done};
-ghost use Rattle.endpoint.specs.Causes.{chunk_cause, form_cause, initiator_keying_cause, is_known,
+ghost use Rattle.endpoint_model.specs.Causes.{chunk_cause, form_cause, initiator_keying_cause, is_known,
     last_cause, read_cause, responder_keying_cause, takes, view_fault};
-ghost use Rattle.endpoint.specs.Sending.{sent_answer, sent_if, sent_in_session};
-ghost use Rattle.endpoint.specs.State.{Done, nothing, with_startup};
+ghost use Rattle.endpoint_model.specs.Sending.{sent_answer, sent_if, sent_in_session};
+ghost use Rattle.endpoint_model.specs.State.{Done, nothing, with_startup};
 
-use crate::config::Draws;
+use endpoint_model::Draws;
 use crate::endpoint::Endpoint;
-use crate::entry::Entry;
+use endpoint_model::Entry;
 use crate::outbox::Outbox;
-use crate::place::Place;
+use endpoint_model::Place;
 use crate::sealing::blank;
 use identity::Certificate;
 use rtmfp_chunks::{ChunkFault, ChunkView, read_chunk};

@@ -1,6 +1,6 @@
 //! One end.
 
-use crate::config::Config;
+use endpoint_model::Config;
 use crypto_profile::{Context, Keys};
 use identity::Certificate;
 use session_core::Session;
@@ -30,8 +30,8 @@ pub struct Endpoint {
 }
 
 impl Model for Endpoint {
-    ghost use Rattle.endpoint.specs.State.{State, state_code};
-    ghost use Rattle.endpoint.specs.contracts.config.Config as config_type;
+    ghost use Rattle.endpoint_model.specs.State.{State, state_code};
+    ghost use Rattle.endpoint_model.specs.contracts.config.Config as config_type;
     ghost use Rattle.startup.specs.contracts.startup.Startup as startup_type;
     ghost use Rattle.session_core.specs.contracts.session.Session as session_type;
 
@@ -51,8 +51,8 @@ impl Model for Endpoint {
 
 impl Endpoint {
     ghost use Rattle.std.specs.Prelude.{◌≡◌, ◌≤◌, []};
-    ghost use Rattle.endpoint.specs.State.{fresh, at_moment};
-    ghost use Rattle.endpoint.specs.Log.{StandsFor};
+    ghost use Rattle.endpoint_model.specs.State.{fresh, at_moment};
+    ghost use Rattle.endpoint_model.specs.Log.{StandsFor};
 
     /// An end that holds nothing yet. It takes no memory.
     pub fn new(

@@ -4,15 +4,15 @@ ghost use Rattle.std.specs.Prelude.{◌≡◌, ◌+◌, ◌++◌, ◌<◌, ◌�
     vec_capacity};
 ghost use Rattle.std.specs.FinMap.{len};
 ghost use Rattle.startup.specs.Keyings.{iikeying_cause};
-ghost use Rattle.endpoint.specs.Due.{initiator_keyed, responder_keyed, sessions_born,
+ghost use Rattle.endpoint_model.specs.Due.{initiator_keyed, responder_keyed, sessions_born,
     sessions_opened, without_ended};
-ghost use Rattle.endpoint.specs.Causes.{responder_keying_cause};
+ghost use Rattle.endpoint_model.specs.Causes.{responder_keying_cause};
 ghost use Rattle.endpoint.specs.Kept.{table_of};
-ghost use Rattle.endpoint.specs.State.{Done, fact_entries, full, nothing};
+ghost use Rattle.endpoint_model.specs.State.{Done, fact_entries, full, nothing};
 
-use crate::config::Draws;
+use endpoint_model::Draws;
 use crate::endpoint::Endpoint;
-use crate::entry::Entry;
+use endpoint_model::Entry;
 use crate::outbox::Outbox;
 use crate::sealing::blank;
 use crate::sessions::{forget, keep};

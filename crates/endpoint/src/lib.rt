@@ -2,19 +2,14 @@
 #![tactic(auto)]
 
 mod admission;
-mod answers;
 mod attempts;
 mod chunks;
-mod config;
 mod contexts;
 mod endpoint;
-mod entry;
 mod kept_sessions;
 mod keyings;
 mod kinds;
-pub mod laws;
 mod outbox;
-mod place;
 mod receiving;
 mod sealing;
 mod sending;
@@ -23,9 +18,8 @@ mod session_sending;
 mod sessions;
 mod ticking;
 
-pub use answers::{CallRefusal, OpenRefusal, Stopped};
-pub use config::{Config, Draws};
 pub use endpoint::Endpoint;
-pub use entry::Entry;
+pub use endpoint_laws::laws;
+pub use endpoint_model::{CallRefusal, Config, Draws, Entry, OpenRefusal, Stopped};
 pub use kinds::{Kinds, outgoing_kinds};
 pub use outbox::Outbox;

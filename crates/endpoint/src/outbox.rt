@@ -1,9 +1,9 @@
 //! The entries that calls added, in order.
 
 ghost use Rattle.std.specs.Prelude.{◌≡◌, ◌<◌, ◌≤◌, ◌+◌, ◌++◌, [], ◌∷◌, IfOk, IsOk, OnOk, length};
-ghost use Rattle.endpoint.specs.Added.{AreShort, IsShort};
+ghost use Rattle.endpoint_model.specs.Added.{AreShort, IsShort};
 
-use crate::entry::Entry;
+use endpoint_model::Entry;
 use rtmfp_base::Memory;
 use std::alloc::{AllocError, Global};
 use std::marker::Model;
@@ -20,7 +20,7 @@ pub struct Outbox {
 
 impl Model for Outbox {
     ghost use Rattle.std.specs.Prelude.{◌-◌, ◌≤◌, vec_len, vec_capacity};
-    ghost use Rattle.endpoint.specs.Added.{Added, AreShort};
+    ghost use Rattle.endpoint_model.specs.Added.{Added, AreShort};
 
     ghost Value = { Added };
 

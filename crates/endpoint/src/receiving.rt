@@ -5,23 +5,23 @@ ghost use Rattle.std.specs.Prelude.{◌≡◌, ◌+◌, ◌<◌, ◌≤◌, ◌^
 ghost use Rattle.std.specs.List.{AllByRecursion};
 ghost use Rattle.std.specs.FinMap.{get};
 ghost use Rattle.rtmfp_packet.specs.Chunks.{left, shown};
-ghost use Rattle.endpoint.specs.Admission.{admission, admitted_packet, confirming, confirming_by,
+ghost use Rattle.endpoint_model.specs.Admission.{admission, admitted_packet, confirming, confirming_by,
     confirms, confirms_by, counted_at, counted_by, packet_in, taken_packet, timed_at, timed_by};
-ghost use Rattle.endpoint.specs.Due.{AddsDiscards, AreQuiet, chunks_did, discarded, discards,
+ghost use Rattle.endpoint_model.specs.Due.{AddsDiscards, AreQuiet, chunks_did, discarded, discards,
     discards_among, keyed_after, received};
-ghost use Rattle.endpoint.specs.Keying.{AreNear};
-ghost use Rattle.endpoint.specs.Log.{Extends, IsStop, IsTaken, not_taken, receive_event, stopped};
-ghost use Rattle.endpoint.specs.State.{Done, at_moment, nothing};
+ghost use Rattle.endpoint_model.specs.Keying.{AreNear};
+ghost use Rattle.endpoint_model.specs.Log.{Extends, IsStop, IsTaken, not_taken, receive_event, stopped};
+ghost use Rattle.endpoint_model.specs.State.{Done, at_moment, nothing};
 
 use crate::admission::{PLAIN_AT, SEALED_AT, fault_number, has_mode};
-use crate::answers::Stopped;
+use endpoint_model::Stopped;
 use crate::chunks::IIKEYING;
-use crate::config::Draws;
+use endpoint_model::Draws;
 use crate::endpoint::Endpoint;
-use crate::entry::Entry;
+use endpoint_model::Entry;
 use crate::keyings::add_fact;
 use crate::outbox::Outbox;
-use crate::place::Place;
+use endpoint_model::Place;
 use crate::sessions::place_of;
 use rtmfp_forms::Address;
 use rtmfp_packet::{Chunks, Packet, PacketHead, RawChunk, read_packet};

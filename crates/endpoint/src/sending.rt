@@ -7,12 +7,12 @@ ghost use Rattle.rtmfp_chunks.specs.Writing.{IsWritable, chunk_bytes};
 ghost use Rattle.session_core.specs.Session.{SessionState, context_of};
 ghost use Rattle.packet_scramble.specs.Datagram.{datagram};
 ghost use Rattle.session_core.specs.Sealed.{after_seal, is_spent, sealed_part};
-ghost use Rattle.endpoint.specs.State.{Done, nothing};
-ghost use Rattle.endpoint.specs.Sending.{last_count, sent_answer, sent_each, sent_startup,
+ghost use Rattle.endpoint_model.specs.State.{Done, nothing};
+ghost use Rattle.endpoint_model.specs.Sending.{last_count, sent_answer, sent_each, sent_startup,
     session_datagram, startup_number};
 
 use crate::endpoint::Endpoint;
-use crate::entry::Entry;
+use endpoint_model::Entry;
 use crate::outbox::Outbox;
 use crate::sealing::{DATAGRAM_LIMIT, SEALED_AT, blank, seal};
 use crypto_profile::Context;

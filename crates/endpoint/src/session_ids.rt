@@ -1,7 +1,7 @@
 //! The session IDs of an end.
 
 ghost use Rattle.std.specs.Prelude.{◌≡◌, ◌+◌, ◌<◌, ◌^◌};
-ghost use Rattle.endpoint.specs.State.{free_from, full, is_free, is_used, next_id, uses};
+ghost use Rattle.endpoint_model.specs.State.{free_from, full, is_free, is_used, next_id, uses};
 
 use crate::endpoint::Endpoint;
 use crate::sessions::place_of;

@@ -3,11 +3,11 @@
 ghost use Rattle.std.specs.Prelude.{◌≡◌, ◌<◌, ◌≤◌, length};
 ghost use Rattle.rtmfp_chunks.specs.Chunk.{chunk_of};
 ghost use Rattle.rtmfp_chunks.specs.Writing.{IsWritable, chunk_bytes};
-ghost use Rattle.endpoint.specs.State.{Done};
-ghost use Rattle.endpoint.specs.Sending.{sent_in_session};
+ghost use Rattle.endpoint_model.specs.State.{Done};
+ghost use Rattle.endpoint_model.specs.Sending.{sent_in_session};
 
 use crate::endpoint::Endpoint;
-use crate::entry::Entry;
+use endpoint_model::Entry;
 use crate::outbox::Outbox;
 use crate::sending::session_datagram;
 use crate::sessions::place_of;

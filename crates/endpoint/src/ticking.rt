@@ -2,13 +2,13 @@
 
 ghost use Rattle.std.specs.Prelude.{◌≡◌, ◌≤◌, ℕ, IsSome, None, OnErr, OnOk, Some};
 ghost use Rattle.startup.specs.Due.{due, due_sends};
-ghost use Rattle.endpoint.specs.Due.{tick_once, ticks};
-ghost use Rattle.endpoint.specs.Log.{Extends, tick_event};
-ghost use Rattle.endpoint.specs.State.{Done, at_moment, nothing};
+ghost use Rattle.endpoint_model.specs.Due.{tick_once, ticks};
+ghost use Rattle.endpoint_model.specs.Log.{Extends, tick_event};
+ghost use Rattle.endpoint_model.specs.State.{Done, at_moment, nothing};
 
-use crate::config::Draws;
+use endpoint_model::Draws;
 use crate::endpoint::Endpoint;
-use crate::entry::Entry;
+use endpoint_model::Entry;
 use crate::outbox::Outbox;
 use crate::sending::blanks;
 use rtmfp_base::Memory;

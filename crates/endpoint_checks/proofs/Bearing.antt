@@ -11,7 +11,7 @@ use Rattle.sha2.specs.Sha256.{sha256}
 use Rattle.crypto_profile.specs.Hmac.{hmac}
 use Rattle.crypto_profile.specs.Keys.{sign_key_of}
 use Rattle.identity.specs.Certificates.{IsCertificate}
-use Rattle.endpoint.specs.Event.{Receive}
+use Rattle.endpoint_model.specs.Event.{Receive}
 use Rattle.rtmfp_packet.specs.Walk.{Placed}
 use Rattle.cookies.specs.Cookie.{IsCookieOf}
 use Rattle.cookies.proofs.Reading.{one_place_and_moment}
@@ -22,11 +22,11 @@ use Rattle.glare_core.specs.declared.facts.Held.{Held}
 use Rattle.glare_core.specs.declared.facts.Held.TheVariants.{Opening, HalfOpen}
 use Rattle.glare_core.specs.declared.facts.Joined.{Joined}
 use Rattle.glare_core.specs.Standing.{held, peers_in, peer_of}
-use Rattle.endpoint.specs.Event.{Setup, own_of}
-use Rattle.endpoint.specs.Past.{ids_in_use}
-use Rattle.endpoint.specs.Keying.{IsFirst, IsSigned, chunks_of, initiator_part}
-use Rattle.endpoint.specs.Admissible.{Admissible, Offer}
-use Rattle.endpoint.specs.Lawful.{WayMade, IsLawful}
+use Rattle.endpoint_model.specs.Event.{Setup, own_of}
+use Rattle.endpoint_laws.specs.Past.{ids_in_use}
+use Rattle.endpoint_model.specs.Keying.{IsFirst, IsSigned, chunks_of, initiator_part}
+use Rattle.endpoint_laws.specs.Admissible.{Admissible, Offer}
+use Rattle.endpoint_laws.specs.Lawful.{WayMade, IsLawful}
 use Rattle.endpoint_checks.specs.Brings.{Keying, BringsKeying}
 use Rattle.endpoint_checks.specs.Births.{born_in, TheTableRefusesBirths, TheTableRefusesKeyings, TheTableRefusesLaterBirths}
 use Rattle.endpoint_checks.proofs.Logs.{same, other}

@@ -13,8 +13,8 @@ use Rattle.rtmfp_packet.proofs.Readings.{packet_reading_same}
 use Rattle.rtmfp_chunks.specs.declared.reading.ChunkFault.{ChunkFault}
 use Rattle.rtmfp_chunks.specs.Chunk.{Chunk, IIKeying, RIKeying, Spells}
 use Rattle.rtmfp_chunks.proofs.ReadingLaws.{reading_same}
-use Rattle.endpoint.specs.Contexts.{ReadsUnder}
-use Rattle.endpoint.specs.Keying.{IsFirst, IsSigned}
+use Rattle.endpoint_laws.specs.Contexts.{ReadsUnder}
+use Rattle.endpoint_model.specs.Keying.{IsFirst, IsSigned}
 
 -- what opens in a context reads as one packet
 whole_or : Whole → Result Whole PacketFault → Whole

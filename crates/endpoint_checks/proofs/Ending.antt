@@ -5,7 +5,7 @@ use Rattle.std.specs.Str.{bytes_eq}
 use Rattle.glare_core.specs.declared.facts.Held.{Held}
 use Rattle.glare_core.specs.declared.facts.Held.TheVariants.{Opening, HalfOpen, KeptAsResponder, KeptAsInitiator}
 use Rattle.glare_core.specs.Things.{IsAttempt, IsSession, near_of}
-use Rattle.endpoint.specs.Past.{Stamped, WasDone}
+use Rattle.endpoint_laws.specs.Past.{Stamped, WasDone}
 use Rattle.endpoint_checks.specs.Ends.{TheTableRefusesCancels, TheTableRefusesExpiries, TheTableRefusesWays, TheTableRefusesOtherEnds}
 use Rattle.endpoint_checks.proofs.Logs.{same, other}
 

@@ -3,9 +3,9 @@ use Rattle.std.proofs.Common.{ℕ, List, [], ◌∷◌, ◌++◌, ◌≡◌, ◌
 use Rattle.std.specs.Str.{bytes_eq}
 use Rattle.std.proofs.lemmas.Slice.Eq.{bytes_eq-Decides}
 use Rattle.std.specs.Prelude.{Bool}
-use Rattle.endpoint.specs.Event.{Setup, Event, moment_at}
-use Rattle.endpoint.specs.Past.{Stamped, onto, past_of, last_moment}
-use Rattle.endpoint.specs.Lawful.{EntriesLawful, LawfulFrom}
+use Rattle.endpoint_model.specs.Event.{Setup, Event, moment_at}
+use Rattle.endpoint_laws.specs.Past.{Stamped, onto, past_of, last_moment}
+use Rattle.endpoint_laws.specs.Lawful.{EntriesLawful, LawfulFrom}
 
 -- bytes are themselves, and no others
 pub same : (x y : List ℕ) → x ≡ y → bytes_eq x y ≡ true

@@ -14,10 +14,10 @@ use Rattle.glare_core.specs.declared.facts.Held.TheVariants.{Opening, HalfOpen}
 use Rattle.glare_core.specs.declared.facts.Joined.{Joined}
 use Rattle.glare_core.specs.Standing.{confirmed}
 use Rattle.glare_core.specs.Things.{near_of}
-use Rattle.endpoint.specs.Event.{own_of}
-use Rattle.endpoint.specs.Contexts.{inward}
-use Rattle.endpoint.specs.Keying.{IsAmong, IsSigned, chunks_of, responder_part}
-use Rattle.endpoint.specs.Lawful.{AnswersAttempt}
+use Rattle.endpoint_model.specs.Event.{own_of}
+use Rattle.endpoint_laws.specs.Contexts.{inward}
+use Rattle.endpoint_model.specs.Keying.{IsAmong, IsSigned, chunks_of, responder_part}
+use Rattle.endpoint_laws.specs.Lawful.{AnswersAttempt}
 use Rattle.endpoint_checks.specs.Brings.{Answer, BringsAnswer}
 use Rattle.endpoint_checks.specs.Opens.{TheTableRefusesOpenings, TheTableRefusesAnswers, TheTableRefusesConfirms}
 use Rattle.endpoint_checks.proofs.Logs.{same, other}

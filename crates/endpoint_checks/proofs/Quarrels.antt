@@ -9,9 +9,9 @@ use Rattle.glare_core.specs.declared.facts.Joined.{Joined}
 use Rattle.glare_core.specs.Tells.{Values}
 use Rattle.glare_core.specs.Steps.{Item, Did, Step, step, holding, Happened}
 use Rattle.glare_core.specs.Agreed.{AreOne, Attempt, AreCrossed}
-use Rattle.endpoint.specs.Event.{Setup, own_of}
-use Rattle.endpoint.specs.History.{History}
-use Rattle.endpoint.specs.Agreed.{AreAgreed}
+use Rattle.endpoint_model.specs.Event.{Setup, own_of}
+use Rattle.endpoint_laws.specs.History.{History}
+use Rattle.endpoint_laws.specs.Agreed.{AreAgreed}
 use Rattle.endpoint_checks.specs.Histories.{HistoriesRefuseDisagreed}
 use Rattle.endpoint_checks.proofs.Logs.{same, other}
 

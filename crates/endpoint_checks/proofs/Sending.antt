@@ -20,11 +20,11 @@ use Rattle.glare_core.specs.declared.facts.Held.TheVariants.{Opening, HalfOpen, 
 use Rattle.glare_core.specs.declared.facts.Joined.{Joined}
 use Rattle.glare_core.specs.Standing.{opened}
 use Rattle.glare_core.specs.Tells.{as_responder}
-use Rattle.endpoint.specs.Event.{Setup, own_of}
-use Rattle.endpoint.specs.Past.{Stamped, facts_of}
-use Rattle.endpoint.specs.Contexts.{session_context, outward, HeldUnder}
-use Rattle.endpoint.specs.Keying.{initiator_part, responder_part}
-use Rattle.endpoint.specs.Lawful.{OutLine, KeyingOfAttempt, KeyingOfBorn, IsBornHere, InSession, IsFarOf}
+use Rattle.endpoint_model.specs.Event.{Setup, own_of}
+use Rattle.endpoint_laws.specs.Past.{Stamped, facts_of}
+use Rattle.endpoint_laws.specs.Contexts.{session_context, outward, HeldUnder}
+use Rattle.endpoint_model.specs.Keying.{initiator_part, responder_part}
+use Rattle.endpoint_laws.specs.Lawful.{OutLine, KeyingOfAttempt, KeyingOfBorn, IsBornHere, InSession, IsFarOf}
 use Rattle.endpoint_checks.specs.Sends.{HasChunk, TheTableRefusesSends, TheTableRefusesNumbers, TheTableRefusesKeyingsSent, TheTableRefusesAnswersSent, TheTableRefusesSendsInSessions}
 
 -- ---- what stands behind the session ID

@@ -11,11 +11,11 @@ use Rattle.glare_core.specs.declared.facts.Fact.TheVariants.{Started, Born}
 use Rattle.glare_core.specs.declared.facts.Held.{Held}
 use Rattle.glare_core.specs.declared.facts.Held.TheVariants.{Opening, HalfOpen}
 use Rattle.glare_core.specs.Tells.{as_responder}
-use Rattle.endpoint.specs.declared.entry.Entry.TheVariants.{Out}
-use Rattle.endpoint.specs.Event.{Setup, own_of}
-use Rattle.endpoint.specs.Contexts.{session_context, inward, OpensUnder, ContextOf}
-use Rattle.endpoint.specs.History.{History, IsOut, WasSent}
-use Rattle.endpoint.proofs.AnswerCarried.{opens_again}
+use Rattle.endpoint_model.specs.declared.entry.Entry.TheVariants.{Out}
+use Rattle.endpoint_model.specs.Event.{Setup, own_of}
+use Rattle.endpoint_laws.specs.Contexts.{session_context, inward, OpensUnder, ContextOf}
+use Rattle.endpoint_laws.specs.History.{History, IsOut, WasSent}
+use Rattle.endpoint_laws.proofs.AnswerCarried.{opens_again}
 use Rattle.endpoint_checks.specs.Histories.{did, HistoriesRefuseForged, HistoriesRefuseForgedInSessions, HistoriesRefuseStale}
 use Rattle.endpoint_checks.proofs.Logs.{same}
 

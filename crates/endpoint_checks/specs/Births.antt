@@ -13,11 +13,11 @@ use Rattle.identity.specs.Certificates.{IsCertificate}
 use Rattle.glare_core.specs.declared.facts.Why.TheVariants.{Cancelled, Override}
 use Rattle.glare_core.specs.declared.facts.Fact.TheVariants.{Started, Born, Opened, Ended}
 use Rattle.glare_core.specs.declared.facts.Joined.{Joined}
-use Rattle.endpoint.specs.declared.config.Draws.{Draws}
-use Rattle.endpoint.specs.declared.entry.Entry.TheVariants.{Fact as FactEntry}
-use Rattle.endpoint.specs.Event.{Setup, own_of, Call, Open, Cancel, Receive, Tick, Event}
-use Rattle.endpoint.specs.Contexts.{ReadsUnder}
-use Rattle.endpoint.specs.Keying.{chunks_of, initiator_part}
+use Rattle.endpoint_model.specs.declared.config.Draws.{Draws}
+use Rattle.endpoint_model.specs.declared.entry.Entry.TheVariants.{Fact as FactEntry}
+use Rattle.endpoint_model.specs.Event.{Setup, own_of, Call, Open, Cancel, Receive, Tick, Event}
+use Rattle.endpoint_laws.specs.Contexts.{ReadsUnder}
+use Rattle.endpoint_model.specs.Keying.{chunks_of, initiator_part}
 use Rattle.endpoint_checks.specs.Logs.{doing, says, IsRefused, joined}
 use Rattle.endpoint_checks.specs.Brings.{Keying, BringsKeying}
 

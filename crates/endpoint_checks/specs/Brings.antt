@@ -4,8 +4,8 @@ use Rattle.crypto_profile.specs.declared.keys.Context.TheVariants.{Startup}
 use Rattle.rtmfp_packet.specs.Whole.{Whole}
 use Rattle.rtmfp_packet.specs.Walk.{Placed}
 use Rattle.rtmfp_chunks.specs.Chunk.{IIKeying, RIKeying, Spells}
-use Rattle.endpoint.specs.Contexts.{ReadsUnder}
-use Rattle.endpoint.specs.Keying.{IsFirst, chunks_of}
+use Rattle.endpoint_laws.specs.Contexts.{ReadsUnder}
+use Rattle.endpoint_model.specs.Keying.{IsFirst, chunks_of}
 
 -- what an initiator's keying says; the signature ends its payload
 pub record Keying : Type 0 where

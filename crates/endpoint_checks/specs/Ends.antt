@@ -8,11 +8,11 @@ use Rattle.glare_core.specs.declared.facts.Why.TheVariants.{Cancelled, Expired, 
     Unconfirmed, Near, Far, Idle}
 use Rattle.glare_core.specs.declared.facts.Fact.TheVariants.{Started, Born, Confirmed, Ended}
 use Rattle.glare_core.specs.declared.facts.Joined.{Joined}
-use Rattle.endpoint.specs.declared.config.Draws.{Draws}
-use Rattle.endpoint.specs.declared.entry.Entry.TheVariants.{Fact as FactEntry, Discard, Out}
-use Rattle.endpoint.specs.Event.{Setup, own_of, Call, Open, Cancel, Receive, Tick, Event}
-use Rattle.endpoint.specs.Past.{stamped}
-use Rattle.endpoint.specs.Lawful.{EndedLine}
+use Rattle.endpoint_model.specs.declared.config.Draws.{Draws}
+use Rattle.endpoint_model.specs.declared.entry.Entry.TheVariants.{Fact as FactEntry, Discard, Out}
+use Rattle.endpoint_model.specs.Event.{Setup, own_of, Call, Open, Cancel, Receive, Tick, Event}
+use Rattle.endpoint_laws.specs.Past.{stamped}
+use Rattle.endpoint_laws.specs.Lawful.{EndedLine}
 use Rattle.endpoint_checks.specs.Logs.{doing, says, IsRefused}
 
 -- the log of an attempt that some call started at a moment, and then of one more event

@@ -13,13 +13,13 @@ use Rattle.glare_core.specs.declared.facts.Fact.TheVariants.{Started, Born, Open
 use Rattle.glare_core.specs.declared.facts.Joined.{Joined}
 use Rattle.glare_core.specs.Tells.{as_initiator, as_responder}
 use Rattle.glare_core.specs.declared.facts.Held.TheVariants.{HalfOpen}
-use Rattle.endpoint.specs.declared.config.Draws.{Draws}
-use Rattle.endpoint.specs.declared.entry.Entry.{Entry}
-use Rattle.endpoint.specs.declared.entry.Entry.TheVariants.{Fact as FactEntry, Out}
-use Rattle.endpoint.specs.Event.{Setup, own_of, Cancel, Receive}
-use Rattle.endpoint.specs.Contexts.{session_context, inward, OpensUnder}
-use Rattle.endpoint.specs.History.{Happened, IsHonest, IsFresh}
-use Rattle.endpoint.specs.Agreed.{IsAgreed}
+use Rattle.endpoint_model.specs.declared.config.Draws.{Draws}
+use Rattle.endpoint_model.specs.declared.entry.Entry.{Entry}
+use Rattle.endpoint_model.specs.declared.entry.Entry.TheVariants.{Fact as FactEntry, Out}
+use Rattle.endpoint_model.specs.Event.{Setup, own_of, Cancel, Receive}
+use Rattle.endpoint_laws.specs.Contexts.{session_context, inward, OpensUnder}
+use Rattle.endpoint_laws.specs.History.{Happened, IsHonest, IsFresh}
+use Rattle.endpoint_laws.specs.Agreed.{IsAgreed}
 use Rattle.endpoint_checks.specs.Logs.{doing, says}
 
 -- an end did this, in a call that takes no datagram

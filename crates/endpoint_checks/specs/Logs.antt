@@ -2,10 +2,10 @@
 use Rattle.std.specs.Prelude.{ℕ, List, [], ◌∷◌}
 use Rattle.glare_core.specs.declared.facts.Fact.{Fact}
 use Rattle.glare_core.specs.declared.facts.Joined.{Joined}
-use Rattle.endpoint.specs.declared.entry.Entry.{Entry}
-use Rattle.endpoint.specs.declared.entry.Entry.TheVariants.{Fact as FactEntry}
-use Rattle.endpoint.specs.Event.{Setup, Call, Done, Event}
-use Rattle.endpoint.specs.Lawful.{IsLawful}
+use Rattle.endpoint_model.specs.declared.entry.Entry.{Entry}
+use Rattle.endpoint_model.specs.declared.entry.Entry.TheVariants.{Fact as FactEntry}
+use Rattle.endpoint_model.specs.Event.{Setup, Call, Done, Event}
+use Rattle.endpoint_laws.specs.Lawful.{IsLawful}
 
 -- a call at a moment, and what it added; the table reads no answer
 abbrev pub doing : ℕ → Call → List Entry → Event

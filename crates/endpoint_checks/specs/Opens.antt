@@ -9,10 +9,10 @@ use Rattle.rtmfp_forms.specs.Address.{AddressParts}
 use Rattle.glare_core.specs.declared.facts.Fact.TheVariants.{Started, Born, Opened, Confirmed}
 use Rattle.glare_core.specs.declared.facts.Joined.{Joined}
 use Rattle.glare_core.specs.Tells.{as_responder}
-use Rattle.endpoint.specs.declared.config.Draws.{Draws}
-use Rattle.endpoint.specs.Event.{Setup, own_of, Call, Open, Cancel, Receive, Tick, Event}
-use Rattle.endpoint.specs.Contexts.{session_context}
-use Rattle.endpoint.specs.Keying.{responder_part}
+use Rattle.endpoint_model.specs.declared.config.Draws.{Draws}
+use Rattle.endpoint_model.specs.Event.{Setup, own_of, Call, Open, Cancel, Receive, Tick, Event}
+use Rattle.endpoint_laws.specs.Contexts.{session_context}
+use Rattle.endpoint_model.specs.Keying.{responder_part}
 use Rattle.endpoint_checks.specs.Logs.{doing, says, IsRefused}
 use Rattle.endpoint_checks.specs.Brings.{Answer, BringsAnswer}
 

@@ -13,11 +13,11 @@ use Rattle.glare_core.specs.declared.facts.Why.TheVariants.{Cancelled, Override}
 use Rattle.glare_core.specs.declared.facts.Fact.TheVariants.{Started, Born, Opened, Ended}
 use Rattle.glare_core.specs.declared.facts.Joined.{Joined}
 use Rattle.glare_core.specs.Tells.{as_initiator, as_responder}
-use Rattle.endpoint.specs.declared.entry.Entry.{Entry}
-use Rattle.endpoint.specs.declared.entry.Entry.TheVariants.{Fact as FactEntry, Out}
-use Rattle.endpoint.specs.Event.{Setup, own_of, Call}
-use Rattle.endpoint.specs.Contexts.{session_context}
-use Rattle.endpoint.specs.Keying.{IsAmong, chunks_of, initiator_part, responder_part}
+use Rattle.endpoint_model.specs.declared.entry.Entry.{Entry}
+use Rattle.endpoint_model.specs.declared.entry.Entry.TheVariants.{Fact as FactEntry, Out}
+use Rattle.endpoint_model.specs.Event.{Setup, own_of, Call}
+use Rattle.endpoint_laws.specs.Contexts.{session_context}
+use Rattle.endpoint_model.specs.Keying.{IsAmong, chunks_of, initiator_part, responder_part}
 use Rattle.endpoint_checks.specs.Logs.{doing, says, IsRefused}
 
 -- a datagram that goes out in a context

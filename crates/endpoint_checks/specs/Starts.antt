@@ -5,8 +5,8 @@ use Rattle.glare_core.specs.declared.facts.Why.TheVariants.{Cancelled}
 use Rattle.glare_core.specs.declared.facts.Fact.TheVariants.{Started, Born, Opened, Confirmed,
     Ended}
 use Rattle.glare_core.specs.declared.facts.Joined.{Joined}
-use Rattle.endpoint.specs.declared.config.Draws.{Draws}
-use Rattle.endpoint.specs.Event.{Setup, own_of, Call, Open, Cancel, Receive, Tick, Event}
+use Rattle.endpoint_model.specs.declared.config.Draws.{Draws}
+use Rattle.endpoint_model.specs.Event.{Setup, own_of, Call, Open, Cancel, Receive, Tick, Event}
 use Rattle.endpoint_checks.specs.Logs.{doing, says, IsRefused}
 
 -- Of an attempt towards a peer, with this number, session ID and nonce, in a call with these draws.

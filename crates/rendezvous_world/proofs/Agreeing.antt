@@ -1,5 +1,5 @@
 -- The history of a world is agreed.
-use Rattle.endpoint.proofs.AgreedLaw.{every_history_is_agreed}
+use Rattle.endpoint_laws.proofs.AgreedLaw.{every_history_is_agreed}
 use Rattle.rendezvous_world.specs.Seen.{setup_at}
 use Rattle.rendezvous_world.specs.History.{history_of}
 use Rattle.rendezvous_world.specs.Sound.{IsSound}

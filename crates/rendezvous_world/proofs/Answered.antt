@@ -4,19 +4,19 @@ use Rattle.rtmfp_base.specs.declared.memory.Memory.{Memory}
 use Rattle.rtmfp_forms.specs.Address.{AddressParts}
 use Rattle.startup.specs.Attempts.{cancel_fact}
 use Rattle.startup.specs.Due.{due}
-use Rattle.endpoint.specs.declared.config.Draws.{Draws}
-use Rattle.endpoint.specs.declared.entry.Entry.{Entry}
-use Rattle.endpoint.specs.declared.answers.OpenRefusal.{OpenRefusal}
-use Rattle.endpoint.specs.declared.answers.OpenRefusal.TheVariants.{Memory as NoMemoryToOpen}
-use Rattle.endpoint.specs.declared.answers.CallRefusal.{CallRefusal}
-use Rattle.endpoint.specs.declared.answers.CallRefusal.TheVariants.{NoAttempt, Memory as NoMemory}
-use Rattle.endpoint.specs.declared.answers.Stopped.{Stopped as Stop}
-use Rattle.endpoint.specs.Added.{Added}
-use Rattle.endpoint.specs.Event.{Call, Open, Cancel, Receive, Tick, Answer, Began, Event}
-use Rattle.endpoint.specs.State.{State, Done, nothing, at_moment}
-use Rattle.endpoint.specs.Admission.{admission}
-use Rattle.endpoint.specs.Due.{open_refusal, opening, cancelling, ticks, received}
-use Rattle.endpoint.specs.Log.{Step as StepOf, Answers, IsStop, stopped, answer_of_open, answer_of_cancel, answer_of_receive, answer_of_tick, event}
+use Rattle.endpoint_model.specs.declared.config.Draws.{Draws}
+use Rattle.endpoint_model.specs.declared.entry.Entry.{Entry}
+use Rattle.endpoint_model.specs.declared.answers.OpenRefusal.{OpenRefusal}
+use Rattle.endpoint_model.specs.declared.answers.OpenRefusal.TheVariants.{Memory as NoMemoryToOpen}
+use Rattle.endpoint_model.specs.declared.answers.CallRefusal.{CallRefusal}
+use Rattle.endpoint_model.specs.declared.answers.CallRefusal.TheVariants.{NoAttempt, Memory as NoMemory}
+use Rattle.endpoint_model.specs.declared.answers.Stopped.{Stopped as Stop}
+use Rattle.endpoint_model.specs.Added.{Added}
+use Rattle.endpoint_model.specs.Event.{Call, Open, Cancel, Receive, Tick, Answer, Began, Event}
+use Rattle.endpoint_model.specs.State.{State, Done, nothing, at_moment}
+use Rattle.endpoint_model.specs.Admission.{admission}
+use Rattle.endpoint_model.specs.Due.{open_refusal, opening, cancelling, ticks, received}
+use Rattle.endpoint_model.specs.Log.{Step as StepOf, Answers, IsStop, stopped, answer_of_open, answer_of_cancel, answer_of_receive, answer_of_tick, event}
 use Rattle.endpoint.proofs.Extending.{open_steps, cancel_steps, tick_steps, receive_steps}
 use Rattle.rendezvous_world.specs.declared.journal.Refused.{Refused}
 use Rattle.rendezvous_world.specs.declared.step.Step.{Step}

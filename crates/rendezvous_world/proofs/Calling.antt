@@ -10,17 +10,17 @@ use Rattle.rtmfp_forms.specs.Address.{AddressParts}
 use Rattle.glare_core.specs.Calls.{where_true, first_that_stands}
 use Rattle.glare_core.specs.Steps.{Among}
 use Rattle.glare_core.specs.Told.{AllDifferent}
-use Rattle.endpoint.specs.declared.config.Draws.{Draws}
-use Rattle.endpoint.specs.declared.entry.Entry.{Entry}
-use Rattle.endpoint.specs.Event.{Setup, own_of, Receive, Event, moment_at}
-use Rattle.endpoint.specs.Past.{facts_of, onto}
-use Rattle.endpoint.specs.State.{State, at_moment}
-use Rattle.endpoint.specs.OpensIn.{opens_in}
-use Rattle.endpoint.specs.Lawful.{nonces_of}
-use Rattle.endpoint.specs.Log.{Step as StepOf}
-use Rattle.endpoint.specs.Laws.{AreBytes, IsCall, AreCalls}
-use Rattle.endpoint.specs.History.{Happened, History, log_of, facts_at, IsHonestCall, IsHonest, WasSent, nonces_in}
-use Rattle.endpoint.proofs.Opened.{opens_in_found}
+use Rattle.endpoint_model.specs.declared.config.Draws.{Draws}
+use Rattle.endpoint_model.specs.declared.entry.Entry.{Entry}
+use Rattle.endpoint_model.specs.Event.{Setup, own_of, Receive, Event, moment_at}
+use Rattle.endpoint_laws.specs.Past.{facts_of, onto}
+use Rattle.endpoint_model.specs.State.{State, at_moment}
+use Rattle.endpoint_laws.specs.OpensIn.{opens_in}
+use Rattle.endpoint_laws.specs.Lawful.{nonces_of}
+use Rattle.endpoint_model.specs.Log.{Step as StepOf}
+use Rattle.endpoint_laws.specs.Laws.{AreBytes, IsCall, AreCalls}
+use Rattle.endpoint_laws.specs.History.{Happened, History, log_of, facts_at, IsHonestCall, IsHonest, WasSent, nonces_in}
+use Rattle.endpoint_laws.proofs.Opened.{opens_in_found}
 use Rattle.rendezvous_world.specs.declared.journal.JournalLine.{JournalLine}
 use Rattle.rendezvous_world.specs.declared.step.Step.{Step}
 use Rattle.rendezvous_world.specs.declared.step.Step.TheVariants.{End, At, Open, Cancel, Deliver, Bent, Inject, Forge, Tick}
@@ -35,7 +35,7 @@ use Rattle.rendezvous_world.specs.Sound.{AreBelow, StandsUpTo}
 use Rattle.rendezvous_world.specs.Stepping.{in_state, with_state, called_by, HasItsAnswer, IsAnswered, IsLineOf, Called, StoppedIn}
 use Rattle.rendezvous_world.specs.Faults.{is_missing, lacks_end, lacks_datagram, is_bad, is_forged_by, is_forged, step_fault}
 use Rattle.rendezvous_world.specs.Kept.{IsGiven, name_of, print_of, HasPeer, IsLineIn, IsOfLine, IsWorld}
-use Rattle.endpoint.proofs.Drawn.{Once, MayDraw, answers_draw, nonces_none, nonces_once}
+use Rattle.endpoint_laws.proofs.Drawn.{Once, MayDraw, answers_draw, nonces_none, nonces_once}
 use Rattle.rendezvous_world.proofs.Ends.{tested, setup_is, below_length, setups_stay, length-with_state, changed_end, other_end, was_there, apart_with_state}
 use Rattle.rendezvous_world.proofs.Told.{SameSetups, same_happened, same_lines, one_more_line, all_more, rise_more, of_line_stays, of_line_new, number_below, log_same, log_other, calls_more, honest_same}
 use Rattle.rendezvous_world.proofs.Forging.{was_sent}

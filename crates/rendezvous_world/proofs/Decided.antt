@@ -7,18 +7,18 @@ use Rattle.glare_core.specs.declared.facts.Fact.{Fact}
 use Rattle.startup.specs.State.{AttemptState}
 use Rattle.startup.specs.Attempts.{cancel_fact, lowest}
 use Rattle.startup.specs.Due.{after_due_of, due, due_of, is_due}
-use Rattle.endpoint.specs.declared.config.Draws.{Draws}
-use Rattle.endpoint.specs.declared.entry.Entry.{Entry}
-use Rattle.endpoint.specs.declared.answers.OpenRefusal.{OpenRefusal}
-use Rattle.endpoint.specs.declared.answers.OpenRefusal.TheVariants.{Memory as NoMemoryToOpen}
-use Rattle.endpoint.specs.declared.answers.CallRefusal.{CallRefusal}
-use Rattle.endpoint.specs.declared.answers.CallRefusal.TheVariants.{NoAttempt, Memory as NoMemoryToCall}
-use Rattle.endpoint.specs.declared.answers.Stopped.{Stopped as Stop}
-use Rattle.endpoint.specs.Event.{Call, Open as OpenCall, Cancel as CancelCall, Receive, Tick as TickCall, Answer, Began, Done, NotOpened, Refused as RefusedCall, Stopped, OutOfMemory, Event}
-use Rattle.endpoint.specs.State.{State, Did, Does, after_entries, at_moment, nothing, then_do, with_startup}
-use Rattle.endpoint.specs.Admission.{admission}
-use Rattle.endpoint.specs.Due.{cancelling, due_done, opening, received, tick_once, ticks}
-use Rattle.endpoint.specs.Log.{Answers, Step as StepOf, not_opened}
+use Rattle.endpoint_model.specs.declared.config.Draws.{Draws}
+use Rattle.endpoint_model.specs.declared.entry.Entry.{Entry}
+use Rattle.endpoint_model.specs.declared.answers.OpenRefusal.{OpenRefusal}
+use Rattle.endpoint_model.specs.declared.answers.OpenRefusal.TheVariants.{Memory as NoMemoryToOpen}
+use Rattle.endpoint_model.specs.declared.answers.CallRefusal.{CallRefusal}
+use Rattle.endpoint_model.specs.declared.answers.CallRefusal.TheVariants.{NoAttempt, Memory as NoMemoryToCall}
+use Rattle.endpoint_model.specs.declared.answers.Stopped.{Stopped as Stop}
+use Rattle.endpoint_model.specs.Event.{Call, Open as OpenCall, Cancel as CancelCall, Receive, Tick as TickCall, Answer, Began, Done, NotOpened, Refused as RefusedCall, Stopped, OutOfMemory, Event}
+use Rattle.endpoint_model.specs.State.{State, Did, Does, after_entries, at_moment, nothing, then_do, with_startup}
+use Rattle.endpoint_model.specs.Admission.{admission}
+use Rattle.endpoint_model.specs.Due.{cancelling, due_done, opening, received, tick_once, ticks}
+use Rattle.endpoint_model.specs.Log.{Answers, Step as StepOf, not_opened}
 use Rattle.rendezvous_world.specs.declared.journal.JournalLine.{JournalLine}
 use Rattle.rendezvous_world.specs.declared.journal.Refused.{Refused}
 use Rattle.rendezvous_world.specs.declared.journal.Refused.TheVariants.{Open as OpenRefused, Call as CallRefused}

@@ -6,14 +6,14 @@ use Rattle.std.proofs.lemmas.Bool.Decides.{nat_tests}
 use Rattle.std.proofs.lemmas.Slice.Eq.{bytes_eq-Decides}
 use Rattle.crypto_profile.specs.declared.keys.Context.{Context}
 use Rattle.crypto_profile.specs.declared.keys.Context.TheVariants.{Startup, Session}
-use Rattle.endpoint.specs.declared.entry.Entry.{Entry}
-use Rattle.endpoint.specs.declared.entry.Entry.TheVariants.{Fact, Discard, Out}
-use Rattle.endpoint.specs.declared.config.Draws.{Draws}
+use Rattle.endpoint_model.specs.declared.entry.Entry.{Entry}
+use Rattle.endpoint_model.specs.declared.entry.Entry.TheVariants.{Fact, Discard, Out}
+use Rattle.endpoint_model.specs.declared.config.Draws.{Draws}
 use Rattle.rtmfp_forms.specs.Address.{AddressParts}
-use Rattle.endpoint.specs.Event.{Setup, Receive}
-use Rattle.endpoint.specs.History.{History, HasOut, WasSent, IsHonestCall, facts_at, log_of}
-use Rattle.endpoint.specs.OpensIn.{opens_in, OpensAt}
-use Rattle.endpoint.proofs.Opened.{opens_in_told}
+use Rattle.endpoint_model.specs.Event.{Setup, Receive}
+use Rattle.endpoint_laws.specs.History.{History, HasOut, WasSent, IsHonestCall, facts_at, log_of}
+use Rattle.endpoint_laws.specs.OpensIn.{opens_in, OpensAt}
+use Rattle.endpoint_laws.proofs.Opened.{opens_in_told}
 use Rattle.rendezvous_world.specs.declared.journal.JournalLine.{JournalLine}
 use Rattle.rendezvous_world.specs.Seen.{EndSeen, Seen, setup_at}
 use Rattle.rendezvous_world.specs.Sent.{Sent, sent_among, sent_in}

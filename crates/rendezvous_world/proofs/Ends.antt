@@ -1,7 +1,7 @@
 -- Ends by their numbers: after one more came, and after one changed its state.
 use Rattle.std.proofs.Common.{◌≡◌, ◌≢◌, ℕ, zero, suc, ◌+◌, ◌-◌, ◌<◌, ◌≤◌, ◌==◌, List, [], ◌∷◌, ◌++◌, length, slice_get, Bool, true, false, if◌then◌else◌, Option, Some, inl, inr, ◌⊎◌, refl, sym, ap, ◌∙◌, arith}
 use Rattle.std.proofs.lemmas.Bool.Decides.{nat_tests}
-use Rattle.endpoint.specs.State.{State}
+use Rattle.endpoint_model.specs.State.{State}
 use Rattle.rendezvous_world.specs.Seen.{EndSeen, setup_at}
 use Rattle.rendezvous_world.specs.Stepping.{in_state, with_state}
 use Rattle.rendezvous_world.specs.Kept.{AreApart}

@@ -2,13 +2,13 @@
 use Rattle.std.proofs.Common.{◌≡◌, ℕ, zero, suc, ◌+◌, ◌-◌, ◌<◌, ◌^◌, List, [], ◌∷◌, ◌++◌, map, set, length, get_or, Option, Some, None, is_some, Err, slice_get, refl, sym, ap, ◌∙◌, subst, arith, length-append, inl, inr, ◌⊎◌, true, false, Bool, option_map}
 use Rattle.std.proofs.lemmas.List.{length-map, set-get_or}
 use Rattle.std.proofs.lemmas.Option.{slice_get-map, slice_get_read}
-use Rattle.endpoint.specs.Laws.{AreBytes}
-use Rattle.endpoint.specs.Event.{Call}
-use Rattle.endpoint.specs.Added.{Added}
-use Rattle.endpoint.specs.declared.answers.Stopped.{Stopped as Stop}
-use Rattle.endpoint.specs.State.{State, at_moment}
-use Rattle.endpoint.specs.Due.{open_refusal}
-use Rattle.endpoint.specs.Log.{Answers, Step as StepOf}
+use Rattle.endpoint_laws.specs.Laws.{AreBytes}
+use Rattle.endpoint_model.specs.Event.{Call}
+use Rattle.endpoint_model.specs.Added.{Added}
+use Rattle.endpoint_model.specs.declared.answers.Stopped.{Stopped as Stop}
+use Rattle.endpoint_model.specs.State.{State, at_moment}
+use Rattle.endpoint_model.specs.Due.{open_refusal}
+use Rattle.endpoint_model.specs.Log.{Answers, Step as StepOf}
 use Rattle.rtmfp_text.specs.declared.names.Named.{Named}
 use Rattle.rendezvous_world.specs.declared.end.End.{End as EndKept}
 use Rattle.rendezvous_world.specs.declared.journal.JournalLine.{JournalLine}

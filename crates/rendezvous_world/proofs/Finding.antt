@@ -4,9 +4,9 @@ use Rattle.std.specs.List.{AllWithin}
 use Rattle.std.specs.List.Sorted.{IsPartitionedBy}
 use Rattle.std.proofs.lemmas.Bool.Decides.{nat_tests}
 use Rattle.std.proofs.lemmas.Bool.{ltb-true, ltb-false, lt-ltb}
-use Rattle.endpoint.specs.declared.entry.Entry.{Entry}
-use Rattle.endpoint.specs.declared.entry.Entry.TheVariants.{Fact, Discard, Out}
-use Rattle.endpoint.specs.Added.{AreShort}
+use Rattle.endpoint_model.specs.declared.entry.Entry.{Entry}
+use Rattle.endpoint_model.specs.declared.entry.Entry.TheVariants.{Fact, Discard, Out}
+use Rattle.endpoint_model.specs.Added.{AreShort}
 use Rattle.rendezvous_world.specs.declared.journal.JournalLine.{JournalLine}
 use Rattle.rendezvous_world.specs.declared.sent.Letter.{Letter}
 use Rattle.rendezvous_world.specs.Datagrams.{nth}

@@ -1,7 +1,7 @@
 -- Each step leaves a world.
 use Rattle.std.proofs.Common.{◌≡◌, ℕ, ◌<◌, ◌≤◌, ◌^◌, nat_lt, false, List, Option, None, inl, inr, ◌⊎◌, sym, subst, arith}
 use Rattle.std.proofs.lemmas.Bool.Decides.{nat_tests}
-use Rattle.endpoint.specs.Laws.{AreBytes}
+use Rattle.endpoint_laws.specs.Laws.{AreBytes}
 use Rattle.rendezvous_world.specs.declared.journal.JournalLine.{JournalLine}
 use Rattle.rendezvous_world.specs.declared.step.Step.{Step}
 use Rattle.rendezvous_world.specs.declared.step.Step.TheVariants.{End, At, Open, Cancel, Deliver, Bent, Inject, Forge, Tick}
@@ -11,7 +11,7 @@ use Rattle.rendezvous_world.specs.Datagrams.{datagram_of}
 use Rattle.rendezvous_world.specs.History.{bytes_or_none}
 use Rattle.rendezvous_world.specs.Faults.{step_fault}
 use Rattle.rendezvous_world.specs.Sound.{AreBelow}
-use Rattle.endpoint.specs.State.{at_moment}
+use Rattle.endpoint_model.specs.State.{at_moment}
 use Rattle.rendezvous_world.specs.Stepping.{with_state, called_by, Called, Stepped, StoppedIn, Noted}
 use Rattle.rendezvous_world.specs.Kept.{IsWorld}
 use Rattle.rendezvous_world.specs.Laws.{IsSized, EveryStepKeepsAWorld}

@@ -9,10 +9,10 @@ use Rattle.sha2.proofs.Facts256.{length-sha256}
 use Rattle.identity.specs.Certificates.{IsCertificate}
 use Rattle.glare_core.specs.Steps.{Among}
 use Rattle.glare_core.specs.Told.{AllDifferent}
-use Rattle.endpoint.specs.Event.{Event, own_of}
-use Rattle.endpoint.specs.State.{fresh}
-use Rattle.endpoint.specs.Laws.{AreCalls}
-use Rattle.endpoint.specs.History.{History, log_of, IsHonest, TakesPart, nonces_in}
+use Rattle.endpoint_model.specs.Event.{Event, own_of}
+use Rattle.endpoint_model.specs.State.{fresh}
+use Rattle.endpoint_laws.specs.Laws.{AreCalls}
+use Rattle.endpoint_laws.specs.History.{History, log_of, IsHonest, TakesPart, nonces_in}
 use Rattle.rendezvous_world.specs.declared.journal.JournalLine.{JournalLine}
 use Rattle.rendezvous_world.specs.declared.step.Step.{Step}
 use Rattle.rendezvous_world.specs.declared.step.Step.TheVariants.{End, At, Open, Cancel, Deliver, Bent, Inject, Forge, Tick}

@@ -4,13 +4,13 @@ use Rattle.std.specs.List.{AllByRecursion}
 use Rattle.glare_core.specs.Steps.{Among}
 use Rattle.glare_core.specs.Told.{AllDifferent}
 use Rattle.startup.specs.Attempts.{after_cancel}
-use Rattle.endpoint.specs.declared.entry.Entry.{Entry}
-use Rattle.endpoint.specs.Event.{Setup, own_of, Call, Open, Cancel, Receive, Tick, Answer, Began, Done, NotOpened, Refused, Stopped, OutOfMemory, Event}
-use Rattle.endpoint.specs.State.{State, at_moment, with_startup}
-use Rattle.endpoint.specs.OpensIn.{opens_in}
-use Rattle.endpoint.specs.Log.{StandsFor, Answers, Step as StepOf}
-use Rattle.endpoint.specs.Laws.{AreCalls}
-use Rattle.endpoint.specs.History.{History, log_of, IsHonest, nonces_in}
+use Rattle.endpoint_model.specs.declared.entry.Entry.{Entry}
+use Rattle.endpoint_model.specs.Event.{Setup, own_of, Call, Open, Cancel, Receive, Tick, Answer, Began, Done, NotOpened, Refused, Stopped, OutOfMemory, Event}
+use Rattle.endpoint_model.specs.State.{State, at_moment, with_startup}
+use Rattle.endpoint_laws.specs.OpensIn.{opens_in}
+use Rattle.endpoint_model.specs.Log.{StandsFor, Answers, Step as StepOf}
+use Rattle.endpoint_laws.specs.Laws.{AreCalls}
+use Rattle.endpoint_laws.specs.History.{History, log_of, IsHonest, nonces_in}
 use Rattle.endpoint.proofs.Extending.{extends}
 use Rattle.rendezvous_world.specs.Seen.{EndSeen, Seen, setup_at}
 use Rattle.rendezvous_world.specs.History.{history_of}

@@ -4,9 +4,9 @@ use Rattle.std.specs.List.{list_any}
 use Rattle.sha2.specs.Sha256.{sha256}
 use Rattle.identity.specs.Certificates.{IsCertificate}
 use Rattle.crypto_profile.specs.declared.keys.Context.{Context}
-use Rattle.endpoint.specs.Event.{Setup}
-use Rattle.endpoint.specs.State.{State, fresh}
-use Rattle.endpoint.specs.OpensIn.{opens_in}
+use Rattle.endpoint_model.specs.Event.{Setup}
+use Rattle.endpoint_model.specs.State.{State, fresh}
+use Rattle.endpoint_laws.specs.OpensIn.{opens_in}
 use Rattle.rtmfp_text.specs.declared.names.Named.{Named}
 use Rattle.rendezvous_world.specs.declared.end.End.{End as EndKept}
 use Rattle.rendezvous_world.specs.declared.journal.JournalLine.{JournalLine}

@@ -1,9 +1,9 @@
 -- A world is sound.
 use Rattle.std.proofs.Common.{◌≡◌, ℕ, ◌<◌, List, [], length, inl, inr, sym, ap, subst, ◌∙◌, arith}
-use Rattle.endpoint.specs.Event.{Setup, Event, own_of}
-use Rattle.endpoint.specs.Lawful.{IsLawful}
-use Rattle.endpoint.specs.History.{log_of, AreLawful, IsFresh, TakesPart}
-use Rattle.endpoint.proofs.OutLaw.{every_log_is_lawful}
+use Rattle.endpoint_model.specs.Event.{Setup, Event, own_of}
+use Rattle.endpoint_laws.specs.Lawful.{IsLawful}
+use Rattle.endpoint_laws.specs.History.{log_of, AreLawful, IsFresh, TakesPart}
+use Rattle.endpoint_laws.proofs.OutLaw.{every_log_is_lawful}
 use Rattle.rendezvous_world.specs.Seen.{Seen, setup_at}
 use Rattle.rendezvous_world.specs.History.{history_of}
 use Rattle.rendezvous_world.specs.Sound.{IsSound}

@@ -1,9 +1,9 @@
 -- The history that a journal tells, line by line.
 use Rattle.std.proofs.Common.{◌≡◌, ◌≢◌, ℕ, ◌<◌, ◌≤◌, List, [], ◌∷◌, ◌++◌, Bool, if◌then◌else◌, Option, inl, inr, ◌⊎◌, refl, sym, ap, subst, ◌∙◌, arith}
 use Rattle.std.specs.List.{AllByRecursion}
-use Rattle.endpoint.specs.Event.{Setup, own_of, Call, Open as OpenCall, Event}
-use Rattle.endpoint.specs.Laws.{IsCall, AreCalls}
-use Rattle.endpoint.specs.History.{Happened, History, log_of, facts_at, IsHonestCall, IsHonest, TakesPart}
+use Rattle.endpoint_model.specs.Event.{Setup, own_of, Call, Open as OpenCall, Event}
+use Rattle.endpoint_laws.specs.Laws.{IsCall, AreCalls}
+use Rattle.endpoint_laws.specs.History.{Happened, History, log_of, facts_at, IsHonestCall, IsHonest, TakesPart}
 use Rattle.rendezvous_world.specs.declared.journal.JournalLine.{JournalLine}
 use Rattle.rendezvous_world.specs.declared.step.Step.{Step}
 use Rattle.rendezvous_world.specs.declared.step.Step.TheVariants.{End, At, Open, Cancel, Deliver, Bent, Inject, Forge, Tick}

@@ -1,7 +1,7 @@
 -- The random values of a call, which the number of its line decides.
 use Rattle.std.specs.Prelude.{ℕ, List, ◌++◌}
 use Rattle.std.specs.Int.{w64, to_be_bytes}
-use Rattle.endpoint.specs.declared.config.Draws.{Draws}
+use Rattle.endpoint_model.specs.declared.config.Draws.{Draws}
 
 -- two numbers of 64 bits
 abbrev pub two_numbers : ℕ → ℕ → List ℕ

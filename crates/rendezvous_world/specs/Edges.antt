@@ -1,8 +1,8 @@
 -- Small worlds, in which the rules are told at their edges.
 use Rattle.std.specs.Prelude.{ℕ, ◌≡◌, List, [], ◌∷◌, length, false}
 use Rattle.std.specs.List.{list_any}
-use Rattle.endpoint.specs.Event.{Setup}
-use Rattle.endpoint.specs.State.{State}
+use Rattle.endpoint_model.specs.Event.{Setup}
+use Rattle.endpoint_model.specs.State.{State}
 use Rattle.rendezvous_world.specs.Seen.{EndSeen, Seen}
 use Rattle.rendezvous_world.specs.Faults.{is_like}
 

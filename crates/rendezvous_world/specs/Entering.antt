@@ -3,12 +3,12 @@ use Rattle.std.specs.Prelude.{ℕ, ◌≡◌, ◌<◌, ◌≤◌, ◌^◌, ◌�
     Option, Some, None, IfSome, IfNone, is_some, OnOk, OnErr, IfErr, Result, Ok, Err}
 use Rattle.std.specs.List.{list_any}
 use Rattle.crypto_profile.specs.declared.keys.Context.{Context}
-use Rattle.endpoint.specs.declared.entry.Entry.{Entry}
-use Rattle.endpoint.specs.declared.answers.Stopped.{Stopped as Stop}
-use Rattle.endpoint.specs.Laws.{AreBytes}
-use Rattle.endpoint.specs.State.{State, at_moment}
-use Rattle.endpoint.specs.Due.{open_refusal}
-use Rattle.endpoint.specs.Event.{Call, Open as OpenCall, Cancel as CancelCall, Receive,
+use Rattle.endpoint_model.specs.declared.entry.Entry.{Entry}
+use Rattle.endpoint_model.specs.declared.answers.Stopped.{Stopped as Stop}
+use Rattle.endpoint_laws.specs.Laws.{AreBytes}
+use Rattle.endpoint_model.specs.State.{State, at_moment}
+use Rattle.endpoint_model.specs.Due.{open_refusal}
+use Rattle.endpoint_model.specs.Event.{Call, Open as OpenCall, Cancel as CancelCall, Receive,
     Tick as TickCall, Event}
 use Rattle.rendezvous_world.specs.declared.bringing.Fetched.{Fetched}
 use Rattle.rendezvous_world.specs.declared.journal.JournalLine.{JournalLine}

@@ -7,8 +7,8 @@ use Rattle.crypto_profile.specs.declared.keys.Context.{Context}
 use Rattle.crypto_profile.specs.declared.keys.Context.TheVariants.{Startup, Session}
 use Rattle.sha2.specs.Sha256.{sha256}
 use Rattle.glare_core.specs.Calls.{first_that_stands, where_true}
-use Rattle.endpoint.specs.Event.{own_of}
-use Rattle.endpoint.specs.OpensIn.{opens_in}
+use Rattle.endpoint_model.specs.Event.{own_of}
+use Rattle.endpoint_laws.specs.OpensIn.{opens_in}
 use Rattle.rendezvous_world.specs.declared.step.Step.{Step}
 use Rattle.rendezvous_world.specs.declared.step.Step.TheVariants.{End, At, Open, Cancel, Deliver,
     Bent, Inject, Forge, Tick}

@@ -1,13 +1,13 @@
 -- The history that a journal tells: its lines as events of its ends.
 use Rattle.std.specs.Prelude.{ℕ, List, [], ◌∷◌, Option, Some, None}
 use Rattle.glare_core.specs.declared.facts.Fact.TheVariants.{Started}
-use Rattle.endpoint.specs.declared.entry.Entry.{Entry}
-use Rattle.endpoint.specs.declared.entry.Entry.TheVariants.{Fact}
-use Rattle.endpoint.specs.declared.answers.Stopped.{Stopped as Stop}
-use Rattle.endpoint.specs.Event.{Call, Open as OpenCall, Cancel as CancelCall, Receive,
+use Rattle.endpoint_model.specs.declared.entry.Entry.{Entry}
+use Rattle.endpoint_model.specs.declared.entry.Entry.TheVariants.{Fact}
+use Rattle.endpoint_model.specs.declared.answers.Stopped.{Stopped as Stop}
+use Rattle.endpoint_model.specs.Event.{Call, Open as OpenCall, Cancel as CancelCall, Receive,
     Tick as TickCall, Answer, Began, Done, NotOpened, Refused as RefusedCall, Stopped, OutOfMemory,
     Event}
-use Rattle.endpoint.specs.History.{Happened, History}
+use Rattle.endpoint_laws.specs.History.{Happened, History}
 use Rattle.rendezvous_world.specs.declared.journal.JournalLine.{JournalLine}
 use Rattle.rendezvous_world.specs.declared.journal.Refused.{Refused}
 use Rattle.rendezvous_world.specs.declared.journal.Refused.TheVariants.{Open as OpenRefused,

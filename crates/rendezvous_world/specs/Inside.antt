@@ -5,7 +5,7 @@ use Rattle.std.specs.Str.{bytes_eq}
 use Rattle.sha2.specs.Sha256.{sha256}
 use Rattle.rtmfp_forms.specs.Address.{AddressParts}
 use Rattle.rtmfp_text.specs.declared.names.Named.{Named}
-use Rattle.endpoint.specs.Event.{own_of}
+use Rattle.endpoint_model.specs.Event.{own_of}
 use Rattle.rendezvous_world.specs.declared.end.End.{End}
 use Rattle.rendezvous_world.specs.declared.sent.Letter.{Letter}
 use Rattle.rendezvous_world.specs.declared.journal.JournalLine.{JournalLine}

@@ -3,9 +3,9 @@ use Rattle.std.specs.Prelude.{ℕ, ◌≡◌, ◌<◌, ◌^◌, ◌⊎◌, List,
 use Rattle.std.specs.List.{AllByRecursion}
 use Rattle.glare_core.specs.Steps.{Among}
 use Rattle.glare_core.specs.Told.{AllDifferent}
-use Rattle.endpoint.specs.Event.{Setup, own_of}
-use Rattle.endpoint.specs.Laws.{IsSetup, AreCalls}
-use Rattle.endpoint.specs.History.{log_of, IsHonest, nonces_in}
+use Rattle.endpoint_model.specs.Event.{Setup, own_of}
+use Rattle.endpoint_laws.specs.Laws.{IsSetup, AreCalls}
+use Rattle.endpoint_laws.specs.History.{log_of, IsHonest, nonces_in}
 use Rattle.rendezvous_world.specs.declared.journal.JournalLine.{JournalLine}
 use Rattle.rendezvous_world.specs.declared.step.Step.{Step}
 use Rattle.rendezvous_world.specs.declared.step.Step.TheVariants.{End, At, Open, Cancel, Deliver,

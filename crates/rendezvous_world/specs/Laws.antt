@@ -2,11 +2,11 @@
 use Rattle.std.specs.Prelude.{ℕ, ◌≡◌, ◌<◌, ◌^◌, ◌⊎◌, List, [], slice_get, None, Some, true}
 use Rattle.identity.specs.Certificates.{IsCertificate}
 use Rattle.rtmfp_forms.specs.Address.{AddressParts}
-use Rattle.endpoint.specs.declared.config.Draws.{Draws}
-use Rattle.endpoint.specs.Event.{Receive}
-use Rattle.endpoint.specs.History.{IsHonestCall, facts_at}
-use Rattle.endpoint.specs.Laws.{AreBytes}
-use Rattle.endpoint.specs.Agreed.{IsAgreed}
+use Rattle.endpoint_model.specs.declared.config.Draws.{Draws}
+use Rattle.endpoint_model.specs.Event.{Receive}
+use Rattle.endpoint_laws.specs.History.{IsHonestCall, facts_at}
+use Rattle.endpoint_laws.specs.Laws.{AreBytes}
+use Rattle.endpoint_laws.specs.Agreed.{IsAgreed}
 use Rattle.rendezvous_world.specs.declared.journal.JournalLine.{JournalLine}
 use Rattle.rendezvous_world.specs.declared.step.Step.{Step}
 use Rattle.rendezvous_world.specs.declared.step.Step.TheVariants.{End}

@@ -2,9 +2,9 @@
 -- first.
 use Rattle.std.specs.Prelude.{ℕ, false, zero, suc, List, [], ◌∷◌, replicate, refl}
 use Rattle.std.specs.Coded.{Coded, code_by, coded×, coded_ℕ, coded_list}
-use Rattle.endpoint.specs.declared.config.Config.{Config}
-use Rattle.endpoint.specs.Event.{Setup, own_of}
-use Rattle.endpoint.specs.State.{State}
+use Rattle.endpoint_model.specs.declared.config.Config.{Config}
+use Rattle.endpoint_model.specs.Event.{Setup, own_of}
+use Rattle.endpoint_model.specs.State.{State}
 use Rattle.rendezvous_world.specs.declared.journal.JournalLine.{JournalLine}
 
 pub record EndSeen : Type 0 where

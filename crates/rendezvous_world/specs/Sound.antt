@@ -2,10 +2,10 @@
 -- for its own log, but that it may keep a later moment.
 use Rattle.std.specs.Prelude.{ℕ, ◌≡◌, ◌<◌, ◌≤◌, List, slice_get, Some}
 use Rattle.std.specs.List.{AllByRecursion}
-use Rattle.endpoint.specs.Event.{Setup, Event}
-use Rattle.endpoint.specs.State.{State, at_moment}
-use Rattle.endpoint.specs.Log.{StandsFor}
-use Rattle.endpoint.specs.History.{log_of, AreLawful, IsHonest, IsFresh}
+use Rattle.endpoint_model.specs.Event.{Setup, Event}
+use Rattle.endpoint_model.specs.State.{State, at_moment}
+use Rattle.endpoint_model.specs.Log.{StandsFor}
+use Rattle.endpoint_laws.specs.History.{log_of, AreLawful, IsHonest, IsFresh}
 use Rattle.rendezvous_world.specs.declared.journal.JournalLine.{JournalLine}
 use Rattle.rendezvous_world.specs.Seen.{EndSeen, Seen, setup_at}
 use Rattle.rendezvous_world.specs.History.{history_of}

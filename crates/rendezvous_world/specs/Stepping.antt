@@ -2,17 +2,17 @@
 use Rattle.std.specs.Prelude.{ℕ, ◌≡◌, ◌≢◌, ◌-◌, ◌==◌, true, false, List, [], ◌∷◌, ◌++◌, Option,
     Some, None, IfSome, is_some, slice_get, if◌then◌else◌}
 use Rattle.sha2.specs.Sha256.{sha256}
-use Rattle.endpoint.specs.Event.{Setup}
-use Rattle.endpoint.specs.State.{State, fresh, at_moment}
-use Rattle.endpoint.specs.Due.{open_refusal}
-use Rattle.endpoint.specs.Log.{Step as StepOf, not_taken}
+use Rattle.endpoint_model.specs.Event.{Setup}
+use Rattle.endpoint_model.specs.State.{State, fresh, at_moment}
+use Rattle.endpoint_model.specs.Due.{open_refusal}
+use Rattle.endpoint_model.specs.Log.{Step as StepOf, not_taken}
 use Rattle.rendezvous_world.specs.declared.journal.JournalLine.{JournalLine}
 use Rattle.rendezvous_world.specs.declared.journal.Refused.{Refused}
 use Rattle.rendezvous_world.specs.declared.journal.Refused.TheVariants.{Open as OpenRefused,
     Call as CallRefused}
-use Rattle.endpoint.specs.declared.answers.OpenRefusal.TheVariants.{Memory as NoMemoryToOpen}
-use Rattle.endpoint.specs.declared.answers.CallRefusal.TheVariants.{Memory as NoMemoryToCall}
-use Rattle.endpoint.specs.declared.answers.Stopped.{Stopped as Stop}
+use Rattle.endpoint_model.specs.declared.answers.OpenRefusal.TheVariants.{Memory as NoMemoryToOpen}
+use Rattle.endpoint_model.specs.declared.answers.CallRefusal.TheVariants.{Memory as NoMemoryToCall}
+use Rattle.endpoint_model.specs.declared.answers.Stopped.{Stopped as Stop}
 use Rattle.rendezvous_world.specs.declared.step.Step.{Step}
 use Rattle.rendezvous_world.specs.declared.step.Step.TheVariants.{End, At, Open, Cancel, Deliver,
     Bent, Inject, Forge, Tick}

@@ -1,7 +1,7 @@
 //! Steps that bring a datagram to an end.
 
 ghost use Rattle.std.specs.Prelude.{◌≡◌, ◌<◌, ◌≤◌, ◌^◌, IfOk, Some, length};
-ghost use Rattle.endpoint.specs.Laws.{AreBytes};
+ghost use Rattle.endpoint_laws.specs.Laws.{AreBytes};
 ghost use Rattle.rendezvous_world.specs.Datagrams.{nth};
 ghost use Rattle.rendezvous_world.specs.Entering.{IsBringing, IsDone, IsFetched, WasSentIn,
     is_same};

@@ -1,11 +1,11 @@
 //! The calls of ends that steps make.
 
 ghost use Rattle.std.specs.Prelude.{◌≡◌, ◌≢◌, ◌<◌, ◌≤◌, ◌^◌, [], false, length, IfSome, None, true};
-ghost use Rattle.endpoint.specs.Due.{open_refusal};
-ghost use Rattle.endpoint.specs.Event.{Cancel as CancelCall, Open as OpenCall, Receive,
+ghost use Rattle.endpoint_model.specs.Due.{open_refusal};
+ghost use Rattle.endpoint_model.specs.Event.{Cancel as CancelCall, Open as OpenCall, Receive,
     Tick as TickCall};
-ghost use Rattle.endpoint.specs.Log.{Step as StepOf, not_taken};
-ghost use Rattle.endpoint.specs.State.{at_moment};
+ghost use Rattle.endpoint_model.specs.Log.{Step as StepOf, not_taken};
+ghost use Rattle.endpoint_model.specs.State.{at_moment};
 ghost use Rattle.rendezvous_world.specs.Entering.{CallsAnEnd, IsUndone, event_by};
 ghost use Rattle.rendezvous_world.specs.History.{answer_to_cancel, answer_to_datagram,
     answer_to_open, answer_to_tick};

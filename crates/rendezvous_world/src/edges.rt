@@ -6,8 +6,8 @@ ghost use Rattle.std.specs.Prelude.{◌≡◌, ℕ, List, [], ◌∷◌, replica
     false};
 ghost use Rattle.sha2.specs.Sha256.{sha256};
 ghost use Rattle.rtmfp_forms.specs.Address.{AddressParts};
-ghost use Rattle.endpoint.specs.Event.{Setup};
-ghost use Rattle.endpoint.specs.State.{State};
+ghost use Rattle.endpoint_model.specs.Event.{Setup};
+ghost use Rattle.endpoint_model.specs.State.{State};
 ghost use Rattle.rendezvous_world.specs.Seen.{EndSeen, Seen, group_secret};
 ghost use Rattle.rendezvous_world.specs.Draws.{draws_of};
 ghost use Rattle.rendezvous_world.specs.Datagrams.{nth, bent, forged_number};

@@ -28,7 +28,7 @@ pub struct World {
 }
 
 impl Model for World {
-    ghost use Rattle.endpoint.specs.contracts.config.Config as config_type;
+    ghost use Rattle.endpoint_model.specs.contracts.config.Config as config_type;
     ghost use Rattle.endpoint.specs.contracts.endpoint.Endpoint as endpoint_type;
     ghost use Rattle.rendezvous_world.specs.contracts.journal.JournalLine as line_type;
     ghost use Rattle.rendezvous_world.specs.Seen.{Seen, seen_code};
@@ -52,7 +52,7 @@ impl World {
     ghost use Rattle.rendezvous_world.specs.Datagrams.{nth};
     ghost use Rattle.rendezvous_world.specs.Entering.{IsDone};
     ghost use Rattle.rendezvous_world.specs.Faults.{step_fault};
-    ghost use Rattle.endpoint.specs.Agreed.{IsAgreed};
+    ghost use Rattle.endpoint_laws.specs.Agreed.{IsAgreed};
     ghost use Rattle.rendezvous_world.specs.History.{history_of};
     ghost use Rattle.rendezvous_world.specs.Inside.{named_of, passing};
     ghost use Rattle.rendezvous_world.specs.Seen.{setup_at};

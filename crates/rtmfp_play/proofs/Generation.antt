@@ -6,7 +6,7 @@ use Rattle.rendezvous_world.specs.declared.step.StepFault.{StepFault}
 use Rattle.rendezvous_world.specs.Seen.{Seen}
 use Rattle.rendezvous_world.specs.Faults.{step_fault}
 use Rattle.rendezvous_world.specs.Stepping.{Stepped}
-use Rattle.endpoint.specs.declared.entry.Entry.{Entry}
+use Rattle.endpoint_model.specs.declared.entry.Entry.{Entry}
 use Rattle.rtmfp_lines.specs.declared.status.Status.{Status}
 use Rattle.rtmfp_lines.specs.declared.status.Status.TheVariants as status
 use Rattle.rtmfp_play.specs.Generated.{Generates, StopsAtStep, all_entries, generated_step, next_number, number_after}

@@ -3,7 +3,7 @@ use Rattle.std.specs.Prelude.{ℕ, zero, suc, ◌+◌, ◌-◌, ◌*◌, ◌/◌
     nat_lt, List, [], ◌∷◌, ◌++◌, length, slice_index, take, codes, replicate, Option, Some, None,
     false, if◌then◌else◌}
 use Rattle.rtmfp_forms.specs.Address.{AddressParts}
-use Rattle.endpoint.specs.declared.entry.Entry.{Entry}
+use Rattle.endpoint_model.specs.declared.entry.Entry.{Entry}
 use Rattle.rendezvous_world.specs.declared.step.Step.{Step}
 use Rattle.rendezvous_world.specs.declared.step.Step.TheVariants.{End, At, Open, Cancel, Deliver,
     Tick}

@@ -15,7 +15,7 @@ use Rattle.rendezvous_world.specs.declared.journal.JournalLine.{JournalLine}
 use Rattle.rendezvous_world.specs.declared.journal.Refused.{Refused}
 use Rattle.rendezvous_world.specs.declared.journal.Refused.TheVariants.{Open as OpenRefused,
     Call as CallRefused}
-use Rattle.endpoint.specs.Agreed.{IsAgreed}
+use Rattle.endpoint_laws.specs.Agreed.{IsAgreed}
 use Rattle.rendezvous_world.specs.Seen.{Seen, group_secret, setup_at}
 use Rattle.rendezvous_world.specs.History.{history_of}
 use Rattle.rendezvous_world.specs.Sound.{IsSound}

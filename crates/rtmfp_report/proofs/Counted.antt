@@ -1,6 +1,6 @@
 -- Entries that are counted behind others.
 use Rattle.std.proofs.Common.{◌≡◌, List, [], ◌∷◌, ◌++◌, refl}
-use Rattle.endpoint.specs.declared.entry.Entry.{Entry}
+use Rattle.endpoint_model.specs.declared.entry.Entry.{Entry}
 use Rattle.rtmfp_report.specs.declared.tally.Tally.{Tally}
 use Rattle.rtmfp_report.specs.Tally.{with_entry, with_entries}
 

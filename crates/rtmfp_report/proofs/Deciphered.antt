@@ -5,7 +5,7 @@ use Rattle.crypto_profile.specs.Keys.{Keys}
 use Rattle.crypto_profile.specs.Opening.{plain_of}
 use Rattle.crypto_profile.specs.Sealing.{ciphered, number_of}
 use Rattle.crypto_profile.proofs.Opened.{length-ciphered}
-use Rattle.endpoint.specs.Admission.{packet_in}
+use Rattle.endpoint_model.specs.Admission.{packet_in}
 use Rattle.endpoint.specs.Kinds.{kinds_in}
 
 -- a part without ciphertext has no plain packet

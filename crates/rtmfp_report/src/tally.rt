@@ -1,6 +1,6 @@
 //! How many things of each kind ends did, and the line that tells it.
 ghost use Rattle.std.specs.Prelude.{◌≡◌, ◌+◌, ◌++◌, List, OnOk};
-ghost use Rattle.endpoint.specs.declared.entry.Entry.{Entry as EntryType};
+ghost use Rattle.endpoint_model.specs.declared.entry.Entry.{Entry as EntryType};
 ghost use Rattle.rtmfp_report.specs.Tally.{nothing_counted, summary_text, tally_of, with_entries,
     with_entry, with_fact};
 

@@ -1,7 +1,7 @@
 use Rattle.std.proofs.Common.{sym, ap, ◌∙◌, arith}
-use Rattle.endpoint.specs.Admission.{packet_in}
+use Rattle.endpoint_model.specs.Admission.{packet_in}
 use Rattle.endpoint.specs.Kinds.{kinds_of, kinds_read}
-use Rattle.endpoint.proofs.Reading.{packet_reads}
+use Rattle.endpoint_model.proofs.Reading.{packet_reads}
 use Rattle.endpoint.proofs.kinds.outgoing_kinds.Goals as goal
 
 pub returns-in-Ok-clause-value : goal.returns-in-Ok-clause-value

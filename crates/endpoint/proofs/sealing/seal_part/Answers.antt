@@ -1,6 +1,6 @@
 use Rattle.std.proofs.Common.{ap, ◌∙◌}
 use Rattle.crypto_profile.specs.Sealing.{sealed}
-use Rattle.endpoint.proofs.Parts.{past_front}
+use Rattle.endpoint_model.proofs.Parts.{past_front}
 use Rattle.endpoint.proofs.sealing.seal_part.Goals as goal
 
 pub returns : goal.returns

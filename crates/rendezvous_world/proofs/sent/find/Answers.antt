@@ -1,8 +1,8 @@
 use Rattle.std.proofs.Common.{ℕ, ◌≡◌, ◌-◌, List, false, nat_lt, length, get_or, sym, ap, ◌∙◌, subst, arith}
 use Rattle.std.specs.List.{AllWithin}
 use Rattle.std.specs.List.Sorted.{IsPartitionedBy}
-use Rattle.endpoint.specs.declared.entry.Entry.{Entry}
-use Rattle.endpoint.specs.Added.{AreShort}
+use Rattle.endpoint_model.specs.declared.entry.Entry.{Entry}
+use Rattle.endpoint_model.specs.Added.{AreShort}
 use Rattle.rendezvous_world.specs.Datagrams.{nth}
 use Rattle.rendezvous_world.specs.Sent.{sent_among}
 use Rattle.rendezvous_world.proofs.Finding.{starts_parted, before_first, behind_within, found_at, found_short}

@@ -2,7 +2,7 @@ use Rattle.std.proofs.Common.{◌≤◌, length, ap, ◌∙◌, subst, arith}
 use Rattle.std.proofs.lemmas.Grind.{common_steps}
 use Rattle.std.specs.FinMap.{get}
 use Rattle.startup.specs.State.{SpreadParts}
-use Rattle.endpoint.specs.State.{State}
+use Rattle.endpoint_model.specs.State.{State}
 use Rattle.endpoint.proofs.Begun.{unused_from, few_places}
 use Rattle.endpoint.proofs.endpoint.Endpoint.begin.Goals as goal
 

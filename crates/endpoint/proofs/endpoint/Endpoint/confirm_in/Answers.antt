@@ -5,7 +5,7 @@ use Rattle.crypto_profile.specs.Keys.{keys_of}
 use Rattle.glare_core.specs.declared.facts.Joined.{Joined}
 use Rattle.startup.specs.State.{StartupState}
 use Rattle.startup.specs.Attempts.{confirm_fact, after_confirm}
-use Rattle.endpoint.specs.State.{State}
+use Rattle.endpoint_model.specs.State.{State}
 use Rattle.endpoint.specs.Kept.{table_of, near_of, state_of}
 use Rattle.endpoint.proofs.Keeping.{place_in, found_nowhere}
 use Rattle.endpoint.proofs.Changing.{changed_at}

@@ -1,8 +1,8 @@
 use Rattle.std.proofs.Common.{◌≡◌, Some, None, sym, ap, ◌∙◌}
 use Rattle.std.specs.FinMap.{get}
-use Rattle.endpoint.specs.State.{State}
+use Rattle.endpoint_model.specs.State.{State}
 use Rattle.endpoint.specs.Kept.{table_of}
-use Rattle.endpoint.specs.Admission.{confirms_by}
+use Rattle.endpoint_model.specs.Admission.{confirms_by}
 use Rattle.endpoint.proofs.Keeping.{place_in, found_at, found_nowhere}
 use Rattle.endpoint.proofs.endpoint.Endpoint.confirms_in.Goals as goal
 

@@ -2,9 +2,9 @@ use Rattle.std.proofs.Common.{◌≡◌, Bool, false, if◌then◌else◌, None,
 use Rattle.std.specs.FinMap.{get}
 use Rattle.crypto_profile.specs.declared.keys.Context.{Context}
 use Rattle.session_core.specs.Session.{SessionState, context_of}
-use Rattle.endpoint.specs.State.{State}
+use Rattle.endpoint_model.specs.State.{State}
 use Rattle.endpoint.specs.Kept.{table_of}
-use Rattle.endpoint.specs.OpensIn.{context_in_session}
+use Rattle.endpoint_laws.specs.OpensIn.{context_in_session}
 use Rattle.endpoint.proofs.Keeping.{place_in, found_at, found_nowhere}
 use Rattle.endpoint.proofs.endpoint.Endpoint.context_in_session.Goals as goal
 

@@ -2,7 +2,7 @@ use Rattle.std.proofs.Common.{◌≡◌, None, Some, Option, sym, ap, ◌∙◌}
 use Rattle.std.specs.FinMap.{get}
 use Rattle.crypto_profile.specs.declared.keys.Context.{Context}
 use Rattle.session_core.specs.Session.{SessionState}
-use Rattle.endpoint.specs.State.{State}
+use Rattle.endpoint_model.specs.State.{State}
 use Rattle.endpoint.specs.Kept.{table_of}
 use Rattle.endpoint.specs.NamedContext.{context_towards}
 use Rattle.endpoint.proofs.Keeping.{place_in, found_at, found_nowhere}

@@ -1,6 +1,6 @@
 use Rattle.std.proofs.Common.{◌≡◌, Some, rules, subst, sym}
 use Rattle.startup.specs.Due.{due_sends}
-use Rattle.endpoint.specs.State.{State, at_moment}
+use Rattle.endpoint_model.specs.State.{State, at_moment}
 use Rattle.endpoint.proofs.Begun.{one_done}
 use Rattle.endpoint.proofs.Falling.{tick_falls}
 use Rattle.endpoint.proofs.endpoint.Endpoint.do_due.Goals as goal

@@ -1,5 +1,5 @@
 use Rattle.startup.specs.Due.{due_count}
-use Rattle.endpoint.specs.State.{at_moment}
+use Rattle.endpoint_model.specs.State.{at_moment}
 use Rattle.endpoint.proofs.Begun.{SomeDone}
 use Rattle.endpoint.proofs.endpoint.Endpoint.do_due.Given as goal
 

@@ -1,6 +1,6 @@
 use Rattle.std.proofs.Common.{sym, ap, ◌∙◌}
-use Rattle.endpoint.specs.State.{State}
-use Rattle.endpoint.specs.Admission.{confirms}
+use Rattle.endpoint_model.specs.State.{State}
+use Rattle.endpoint_model.specs.Admission.{confirms}
 use Rattle.endpoint.proofs.Confirms.{confirms_counted, confirms_timed}
 use Rattle.endpoint.proofs.endpoint.Endpoint.enter.Goals as goal
 

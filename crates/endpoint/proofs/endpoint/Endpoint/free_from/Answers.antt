@@ -1,5 +1,5 @@
 use Rattle.std.proofs.Common.{ℕ, ◌≡◌, ◌≤◌, ◌+◌, ◌-◌, suc, false, if◌then◌else◌, ap, sym, ◌∙◌, arith}
-use Rattle.endpoint.specs.State.{State, free_among, free_from, is_free, next_id, uses}
+use Rattle.endpoint_model.specs.State.{State, free_among, free_from, is_free, next_id, uses}
 use Rattle.endpoint.proofs.endpoint.Endpoint.free_from.Goals as goal
 
 -- at first all are still to be tried

@@ -1,5 +1,5 @@
 use Rattle.std.proofs.Common.{◌≡◌, ◌+◌, ◌-◌}
-use Rattle.endpoint.specs.State.{free_among, free_from, uses}
+use Rattle.endpoint_model.specs.State.{free_among, free_from, uses}
 use Rattle.endpoint.proofs.endpoint.Endpoint.free_from.Given as goal
 
 abbrev pub invariant-loop : goal.invariant-loop

@@ -1,6 +1,6 @@
 use Rattle.std.proofs.Common.{◌≡◌, ◌||◌, false, is_some, sym, ap, ◌∙◌}
 use Rattle.std.specs.FinMap.{contains_key}
-use Rattle.endpoint.specs.State.{State, is_used}
+use Rattle.endpoint_model.specs.State.{State, is_used}
 use Rattle.endpoint.specs.Kept.{table_of}
 use Rattle.endpoint.proofs.Keeping.{place_in, has_place}
 use Rattle.endpoint.proofs.endpoint.Endpoint.is_used.Goals as goal

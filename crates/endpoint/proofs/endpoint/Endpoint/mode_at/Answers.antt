@@ -1,9 +1,9 @@
 use Rattle.std.proofs.Common.{◌≡◌, Some, None, sym, ap, ◌∙◌}
 use Rattle.std.specs.FinMap.{get}
-use Rattle.endpoint.specs.declared.place.Place.TheVariants.{Session}
-use Rattle.endpoint.specs.State.{State}
+use Rattle.endpoint_model.specs.declared.place.Place.TheVariants.{Session}
+use Rattle.endpoint_model.specs.State.{State}
 use Rattle.endpoint.specs.Kept.{table_of}
-use Rattle.endpoint.specs.Admission.{mode_at, mode_by, peers_mode}
+use Rattle.endpoint_model.specs.Admission.{mode_at, mode_by, peers_mode}
 use Rattle.endpoint.proofs.Keeping.{place_in, found_at, found_nowhere}
 use Rattle.endpoint.proofs.endpoint.Endpoint.mode_at.Goals as goal
 

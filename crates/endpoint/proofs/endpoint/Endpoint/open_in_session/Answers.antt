@@ -2,9 +2,9 @@ use Rattle.std.proofs.Common.{◌≡◌, None, Some, Err, sym, ap, ◌∙◌}
 use Rattle.std.specs.FinMap.{get}
 use Rattle.session_core.specs.declared.hearing.Unheard.TheVariants.{Short as ShortPart, BadTag as WrongTag, Repeated as OldNumber}
 use Rattle.session_core.specs.Hearing.{unheard}
-use Rattle.endpoint.specs.State.{State}
+use Rattle.endpoint_model.specs.State.{State}
 use Rattle.endpoint.specs.Kept.{table_of}
-use Rattle.endpoint.specs.Admission.{heard_by, heard_in}
+use Rattle.endpoint_model.specs.Admission.{heard_by, heard_in}
 use Rattle.endpoint.proofs.Keeping.{place_in, found_at, found_nowhere}
 use Rattle.endpoint.proofs.Opening.{heard_whole, unheard_for, is_heard, heard_in_place, heard_plain}
 use Rattle.endpoint.proofs.endpoint.Endpoint.open_in_session.Goals as goal

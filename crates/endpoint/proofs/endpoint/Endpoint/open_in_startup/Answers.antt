@@ -1,6 +1,6 @@
 use Rattle.std.proofs.Common.{◌≡◌, None, ap, ◌∙◌}
 use Rattle.crypto_profile.specs.Opening.{open_refusal}
-use Rattle.endpoint.specs.Admission.{startup_keys}
+use Rattle.endpoint_model.specs.Admission.{startup_keys}
 use Rattle.endpoint.proofs.Opening.{is_opened, not_short, opened_so, unrefused}
 use Rattle.endpoint.proofs.endpoint.Endpoint.open_in_startup.Goals as goal
 

@@ -1,4 +1,4 @@
-use Rattle.endpoint.proofs.Opened.{opens_by_the_log}
+use Rattle.endpoint_laws.proofs.Opened.{opens_by_the_log}
 use Rattle.endpoint.proofs.endpoint.Endpoint.opens_in.Goals as goal
 
 pub returns-clause-log : goal.returns-clause-log

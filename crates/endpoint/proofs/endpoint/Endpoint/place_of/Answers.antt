@@ -1,8 +1,8 @@
 use Rattle.std.proofs.Common.{◌≡◌, true, false, is_some, sym, ap, ◌∙◌}
 use Rattle.std.specs.FinMap.{contains_key}
-use Rattle.endpoint.specs.State.{State}
+use Rattle.endpoint_model.specs.State.{State}
 use Rattle.endpoint.specs.Kept.{state_of, table_of}
-use Rattle.endpoint.specs.Admission.{place_of}
+use Rattle.endpoint_model.specs.Admission.{place_of}
 use Rattle.endpoint.proofs.Keeping.{place_in, has_place, place_by}
 use Rattle.endpoint.proofs.endpoint.Endpoint.place_of.Goals as goal
 

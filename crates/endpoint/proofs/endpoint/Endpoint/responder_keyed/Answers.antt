@@ -2,12 +2,12 @@ use Rattle.std.proofs.Common.{◌≡◌, ◌++◌, ◌∷◌, [], Some, None, ap
 use Rattle.std.specs.FinMap.{contains_key}
 use Rattle.rtmfp_chunks.specs.Chunk.{Ping}
 use Rattle.startup.specs.Keyings.{rikeying_cause, opened, after_opening}
-use Rattle.endpoint.specs.declared.entry.Entry.TheVariants.{Fact as FactEntry}
-use Rattle.endpoint.specs.Due.{responder_keyed, with_opened}
-use Rattle.endpoint.specs.Causes.{responder_keying_cause}
+use Rattle.endpoint_model.specs.declared.entry.Entry.TheVariants.{Fact as FactEntry}
+use Rattle.endpoint_model.specs.Due.{responder_keyed, with_opened}
+use Rattle.endpoint_model.specs.Causes.{responder_keying_cause}
 use Rattle.endpoint.specs.Kept.{IsEndpoint, state_of}
-use Rattle.endpoint.specs.Sending.{sent_in_session}
-use Rattle.endpoint.specs.State.{State, Done, with_startup}
+use Rattle.endpoint_model.specs.Sending.{sent_in_session}
+use Rattle.endpoint_model.specs.State.{State, Done, with_startup}
 use Rattle.endpoint.proofs.Begun.{kept_opening, no_cause, when_none, startup_put, opened_state, opened_so, added_first, IsAdded}
 use Rattle.endpoint.proofs.endpoint.Endpoint.responder_keyed.Goals as goal
 

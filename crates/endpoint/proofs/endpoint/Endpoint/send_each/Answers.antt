@@ -2,9 +2,9 @@ use Rattle.std.proofs.Common.{ℕ, ◌≡◌, ◌+◌, List, ◌++◌, ◌∷◌
 use Rattle.std.specs.Prelude.{option_to_list}
 use Rattle.std.proofs.lemmas.List.{take_more}
 use Rattle.std.proofs.lemmas.List.Elements.{All-pop}
-use Rattle.endpoint.specs.State.{Done, then_do}
-use Rattle.endpoint.specs.Sending.{sent_each, sent_startup}
-use Rattle.endpoint.proofs.Steps.{joined, each_more, startup_entry}
+use Rattle.endpoint_model.specs.State.{Done, then_do}
+use Rattle.endpoint_model.specs.Sending.{sent_each, sent_startup}
+use Rattle.endpoint_model.proofs.Steps.{joined, each_more, startup_entry}
 use Rattle.endpoint.proofs.endpoint.Endpoint.send_each.Goals as goal
 
 popped : {A : Type 0} (xs ys : List A) (r : Option A) (x : A) → xs ≡ ys ++ option_to_list r → r ≡ Some x → length xs ≡ length ys + 1

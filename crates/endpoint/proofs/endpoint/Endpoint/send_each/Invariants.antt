@@ -1,7 +1,7 @@
 use Rattle.std.proofs.Common.{◌≡◌, ◌≤◌, ◌+◌, length, take}
 use Rattle.std.specs.List.{All}
-use Rattle.endpoint.specs.State.{Done}
-use Rattle.endpoint.specs.Sending.{sent_each}
+use Rattle.endpoint_model.specs.State.{Done}
+use Rattle.endpoint_model.specs.Sending.{sent_each}
 use Rattle.endpoint.proofs.endpoint.Endpoint.send_each.Given as goal
 
 abbrev pub invariant-loop-to : goal.invariant-loop-to

@@ -1,7 +1,7 @@
 use Rattle.std.proofs.Common.{◌≡◌, Some, None, sym, ap, ◌∙◌}
 use Rattle.std.specs.FinMap.{get}
 use Rattle.rtmfp_chunks.specs.Chunk.{chunk_of}
-use Rattle.endpoint.specs.State.{State}
+use Rattle.endpoint_model.specs.State.{State}
 use Rattle.endpoint.proofs.Keeping.{place_in, found_at, found_nowhere}
 use Rattle.endpoint.proofs.InSession.{unsent_unknown, unsent_spent, put_back, sent_one}
 use Rattle.endpoint.proofs.endpoint.Endpoint.send_in_session.Goals as goal

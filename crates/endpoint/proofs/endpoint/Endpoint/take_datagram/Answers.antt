@@ -1,7 +1,7 @@
 use Rattle.std.proofs.Common.{subst, arith}
-use Rattle.endpoint.specs.State.{State}
-use Rattle.endpoint.specs.Admission.{admission}
-use Rattle.endpoint.specs.Log.{IsTaken}
+use Rattle.endpoint_model.specs.State.{State}
+use Rattle.endpoint_model.specs.Admission.{admission}
+use Rattle.endpoint_model.specs.Log.{IsTaken}
 use Rattle.endpoint.proofs.Taking.{taken_as, refused_so, unopened_is, opened_long, datagram_taken}
 use Rattle.endpoint.proofs.endpoint.Endpoint.take_datagram.Goals as goal
 

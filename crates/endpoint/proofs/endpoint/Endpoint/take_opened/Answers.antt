@@ -1,6 +1,6 @@
 use Rattle.std.proofs.Common.{List, ℕ, drop, subst}
-use Rattle.endpoint.specs.Admission.{admitted_packet, counted_at, packet_in}
-use Rattle.endpoint.specs.Log.{IsTaken}
+use Rattle.endpoint_model.specs.Admission.{admitted_packet, counted_at, packet_in}
+use Rattle.endpoint_model.specs.Log.{IsTaken}
 use Rattle.endpoint.proofs.endpoint.Endpoint.take_opened.Goals as goal
 
 pub returns : goal.returns

@@ -1,9 +1,9 @@
 use Rattle.std.proofs.Common.{List, ◌≤◌, false, subst, sym}
 use Rattle.rtmfp_packet.specs.Walk.{Placed}
 use Rattle.rtmfp_packet.specs.declared.head.PacketHead.{PacketHead}
-use Rattle.endpoint.specs.State.{Done}
-use Rattle.endpoint.specs.Admission.{confirming, counted_at, timed_at}
-use Rattle.endpoint.specs.Due.{AreQuiet, discards_among}
+use Rattle.endpoint_model.specs.State.{Done}
+use Rattle.endpoint_model.specs.Admission.{confirming, counted_at, timed_at}
+use Rattle.endpoint_model.specs.Due.{AreQuiet, discards_among}
 use Rattle.endpoint.proofs.Confirms.{stopped_before, not_refused, refused_chunks}
 use Rattle.endpoint.proofs.endpoint.Endpoint.take_packet.Goals as goal
 

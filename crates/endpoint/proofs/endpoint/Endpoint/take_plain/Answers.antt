@@ -1,8 +1,8 @@
 use Rattle.std.proofs.Common.{◌≡◌, Ok, Err, sym, ap, ◌∙◌, arith, true, false}
 use Rattle.rtmfp_packet.specs.declared.head.PacketHead.{PacketHead}
 use Rattle.startup.specs.declared.cause.Cause.TheVariants.{BadPacket}
-use Rattle.endpoint.specs.Admission.{Rejected, counted_at, packet_in, has_mode, mode_at}
-use Rattle.endpoint.proofs.Reading.{packet_reads}
+use Rattle.endpoint_model.specs.Admission.{Rejected, counted_at, packet_in, has_mode, mode_at}
+use Rattle.endpoint_model.proofs.Reading.{packet_reads}
 use Rattle.endpoint.proofs.Taking.{taken_as, refused_so, taken_is, wrong_is, bad_is}
 use Rattle.endpoint.proofs.Near.{near_if_short}
 use Rattle.endpoint.proofs.endpoint.Endpoint.take_plain.Goals as goal

@@ -1,8 +1,8 @@
 use Rattle.std.proofs.Common.{◌≡◌, None, sym, ap, ◌∙◌}
 use Rattle.std.specs.FinMap.{get}
-use Rattle.endpoint.specs.State.{State, with_sessions, with_session}
+use Rattle.endpoint_model.specs.State.{State, with_sessions, with_session}
 use Rattle.endpoint.specs.Kept.{table_of, near_of, state_of}
-use Rattle.endpoint.specs.Admission.{timed_by}
+use Rattle.endpoint_model.specs.Admission.{timed_by}
 use Rattle.endpoint.proofs.Keeping.{place_in, found_nowhere}
 use Rattle.endpoint.proofs.Changing.{changed_at}
 use Rattle.endpoint.proofs.endpoint.Endpoint.time_in.Goals as goal

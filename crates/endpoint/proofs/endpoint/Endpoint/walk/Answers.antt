@@ -2,7 +2,7 @@ use Rattle.std.proofs.Common.{Bool, List, ◌<◌, ◌+◌, ◌^◌, ◌∷◌, 
 use Rattle.std.specs.List.{AllByRecursion}
 use Rattle.rtmfp_packet.specs.Walk.{Placed}
 use Rattle.rtmfp_packet.specs.Chunks.{left, shown}
-use Rattle.endpoint.proofs.Steps.{IsGone, one_gone}
+use Rattle.endpoint_model.proofs.Steps.{IsGone, one_gone}
 use Rattle.endpoint.proofs.Refusals.{IsRoomy, one_refused}
 use Rattle.endpoint.proofs.endpoint.Endpoint.walk.Goals as goal
 

@@ -1,8 +1,8 @@
 use Rattle.std.proofs.Common.{◌≡◌, ◌+◌, ◌<◌, ◌≤◌, ◌^◌, false, length}
 use Rattle.std.specs.List.{AllByRecursion}
 use Rattle.rtmfp_packet.specs.Chunks.{left}
-use Rattle.endpoint.specs.Due.{AreQuiet, discards_among}
-use Rattle.endpoint.proofs.Steps.{IsGone}
+use Rattle.endpoint_model.specs.Due.{AreQuiet, discards_among}
+use Rattle.endpoint_model.proofs.Steps.{IsGone}
 use Rattle.endpoint.proofs.Refusals.{IsRoomy}
 use Rattle.endpoint.proofs.endpoint.Endpoint.walk.Given as goal
 

@@ -1,5 +1,5 @@
 use Rattle.std.proofs.Common.{◌≡◌, ℕ, List, ◌<◌, ◌^◌, get_or, length, sym, ap, ◌∙◌, subst, arith}
-use Rattle.endpoint.specs.declared.entry.Entry.{Entry}
+use Rattle.endpoint_model.specs.declared.entry.Entry.{Entry}
 use Rattle.rendezvous_world.specs.Seen.{Seen}
 use Rattle.rendezvous_world.specs.Sent.{sent_among}
 use Rattle.rendezvous_world.specs.Entering.{IsEntering}

@@ -5,7 +5,7 @@ use Rattle.rendezvous_world.specs.Seen.{EndSeen, Seen}
 use Rattle.rendezvous_world.specs.Sent.{sent_in}
 use Rattle.rendezvous_world.specs.Faults.{is_forged_by}
 use Rattle.rendezvous_world.specs.Inside.{end_seen}
-use Rattle.endpoint.specs.OpensIn.{opens_in}
+use Rattle.endpoint_laws.specs.OpensIn.{opens_in}
 use Rattle.rendezvous_world.specs.Entering.{WasSentIn, is_same}
 use Rattle.rendezvous_world.proofs.Pieces.{forged_there, same_sent, unsent_nowhere, sent_where_named}
 use Rattle.rendezvous_world.proofs.world.World.is_forged.Goals as goal

@@ -1,5 +1,0 @@
-use Rattle.endpoint.proofs.OutLaw.{every_log_is_lawful}
-use Rattle.endpoint.proofs.laws.every_log_is_lawful.Goals as goal
-
-pub returns : goal.returns
-returns c = every_log_is_lawful

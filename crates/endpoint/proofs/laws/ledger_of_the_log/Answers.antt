@@ -1,5 +1,0 @@
-use Rattle.endpoint.proofs.Logged.{ledger_of_log}
-use Rattle.endpoint.proofs.laws.ledger_of_the_log.Goals as goal
-
-pub returns : goal.returns
-returns c = ledger_of_log

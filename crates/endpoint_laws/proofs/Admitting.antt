@@ -1,0 +1,268 @@
+-- How a datagram comes in: what its admission leaves, and what it says of the datagram.
+use Rattle.std.proofs.Common.{◌≡◌, ℕ, ◌+◌, ◌==◌, List, [], ◌∷◌, ◌++◌, length, drop, cond, not, nat_lt, Bool, true, false, if◌then◌else◌, Option, Some, None, Result, Ok, Err, inl, inr, refl, sym, ap, subst, ◌∙◌, append_assoc}
+use Rattle.std.specs.List.{flat_map}
+use Rattle.std.specs.FinMap.{get, contains_key}
+use Rattle.rtmfp_base.proofs.Maps.{get_inserted}
+use Rattle.rtmfp_vlu.proofs.Bytes.{IsBytes, IsBytes-drop}
+use Rattle.crypto_profile.specs.Keys.{Keys}
+use Rattle.crypto_profile.specs.declared.keys.Context.TheVariants.{Startup as StartupContext}
+use Rattle.crypto_profile.specs.declared.sealing.SealFault.{SealFault}
+use Rattle.crypto_profile.specs.Opening.{open_refusal, plain_of}
+use Rattle.crypto_profile.proofs.Opened.{opens_by_its_tag}
+use Rattle.packet_scramble.specs.Datagram.{sid_of}
+use Rattle.rtmfp_packet.specs.declared.head.PacketHead.{PacketHead}
+use Rattle.rtmfp_packet.specs.declared.head.PacketFault.{PacketFault}
+use Rattle.rtmfp_packet.specs.declared.head.Mode.{Mode}
+use Rattle.rtmfp_packet.specs.declared.head.Mode.TheVariants.{Initiator as FromInitiator, Responder as FromResponder, Startup as FromStartup}
+use Rattle.rtmfp_packet.specs.Head.{mode_number}
+use Rattle.rtmfp_packet.specs.Spelling.{Chunk as RawChunk, chunk_bytes}
+use Rattle.rtmfp_packet.specs.Walk.{Placed, all_placed_from, visible, is_ignored}
+use Rattle.rtmfp_packet.specs.Whole.{Whole}
+use Rattle.rtmfp_packet.specs.Reading.{PacketReading, Reads}
+use Rattle.startup.specs.declared.cause.Cause.{Cause}
+use Rattle.startup.specs.declared.cause.Cause.TheVariants.{Short, WrongPlace}
+use Rattle.crypto_profile.specs.Sealing.{Opens}
+use Rattle.endpoint_model.proofs.Members.{tested}
+use Rattle.session_core.specs.declared.hearing.Unheard.{Unheard}
+use Rattle.session_core.specs.declared.hearing.Unheard.TheVariants.{Short as ShortPart, BadTag as WrongTag, Repeated as OldNumber}
+use Rattle.session_core.specs.Session.{SessionState, context_of, with_stamps}
+use Rattle.session_core.specs.Hearing.{counted, unheard, opens_in, is_new, count_of}
+use Rattle.crypto_profile.specs.Kept.{kept_answer}
+use Rattle.session_core.proofs.Hears.{opens_some_plain}
+use Rattle.endpoint_model.specs.declared.place.Place.{Place}
+use Rattle.endpoint_model.specs.declared.place.Place.TheVariants.{Startup, Attempt, Session}
+use Rattle.endpoint_model.specs.Event.{Setup}
+use Rattle.endpoint_laws.specs.Past.{Stamped}
+use Rattle.endpoint_laws.specs.Contexts.{OpensUnder, ReadsUnder}
+use Rattle.endpoint_model.specs.Keying.{IsAmong, chunks_of}
+use Rattle.endpoint_model.specs.State.{State}
+use Rattle.endpoint_model.specs.Admission.{packet_in, place_of, sid_at, opened_by, opened_in_startup, startup_keys, heard_by, heard_in, opened_at, placed, opened_found, opened_datagram, counted_by, counted_at, timed_by, timed_at, mode_at, has_mode, Admission, Rejected, Admitted, admitted_packet, admitted, admission}
+use Rattle.endpoint_laws.proofs.Bytes.{front_are, back_are, plain_is}
+use Rattle.endpoint_model.proofs.Reading.{packet_reads}
+use Rattle.endpoint_laws.proofs.Tied.{Tied}
+use Rattle.endpoint_laws.proofs.Moving.{tied_session}
+use Rattle.endpoint_laws.proofs.Confirming.{HeardIn, HeardAt}
+
+-- ---- the place
+
+place_id_by : (sid : ℕ) (a b c : Bool) (place : Place) → (sid == 0) ≡ a →
+    (if a then Some Startup else if b then Some (Attempt sid) else if c then Some (Session sid) else None) ≡ Some place → sid_at place ≡ sid
+place_id_by sid true b c place z e =
+    let same : Startup ≡ place = cc in
+    sym (ap sid_at same) ∙ sym (elim (tested sid 0) [ inl is ↦ is.0 | inr is ↦ absurd (let clash : true ≡ false = sym z ∙ is.1 in cc) ])
+place_id_by sid false true c place z e = let same : Attempt sid ≡ place = cc in sym (ap sid_at same)
+place_id_by sid false false true place z e = let same : Session sid ≡ place = cc in sym (ap sid_at same)
+place_id_by sid false false false place z e = absurd (cc)
+
+place_id : (s : State) (sid : ℕ) (place : Place) → place_of s sid ≡ Some place → sid_at place ≡ sid
+place_id s sid place e = place_id_by sid (sid == 0) (contains_key s.startup.attempts sid) (contains_key s.sessions sid) place refl e
+
+-- ---- what was opened
+
+record IsOpened (s : State) (datagram : List ℕ) (place : Place) (plain : List ℕ) : Type 0 where
+  id : sid_at place ≡ sid_of datagram
+  opened : opened_at s place (drop 4 datagram) ≡ Ok plain
+
+placed_is : (place : Place) (r : Result (List ℕ) Cause) (found : Place × List ℕ) → placed place r ≡ Ok found → (place ≡ found.0) × (r ≡ Ok found.1)
+placed_is place (Ok plain) found e = let same : (place, plain) ≡ found = cc in (ap (λ (x : Place × List ℕ). x.0) same, ap (λ (x : Place × List ℕ). Ok x.1) same)
+placed_is place (Err cause) found e = absurd (cc)
+
+found_is : (s : State) (datagram : List ℕ) (o : Option Place) (found : Place × List ℕ) → ((place : Place) → o ≡ Some place → sid_at place ≡ sid_of datagram) →
+    opened_found s o (drop 4 datagram) ≡ Ok found → IsOpened s datagram found.0 found.1
+found_is s datagram None found id e = absurd (cc)
+found_is s datagram (Some place) found id e =
+    let both = placed_is place (opened_at s place (drop 4 datagram)) found e in
+    record { id = ap sid_at (sym both.0) ∙ id place refl; opened = ap (λ p. opened_at s p (drop 4 datagram)) (sym both.0) ∙ both.1 }
+
+datagram_is : (s : State) (datagram : List ℕ) (b : Bool) (cause : Cause) (found : Place × List ℕ) →
+    (if b then Err cause else opened_found s (place_of s (sid_of datagram)) (drop 4 datagram)) ≡ Ok found → IsOpened s datagram found.0 found.1
+datagram_is s datagram true cause found e = absurd (cc)
+datagram_is s datagram false cause found e = found_is s datagram (place_of s (sid_of datagram)) found (λ place is. place_id s (sid_of datagram) place is) e
+
+-- in the startup context
+
+record IsStartupPlain (s : State) (datagram : List ℕ) (sid : ℕ) (plain : List ℕ) : Type 0 where
+  under : OpensUnder s.startup.secret StartupContext sid datagram plain
+  bytes : IsBytes plain
+
+by_none : (keys : Keys) (part : List ℕ) (o : Option SealFault) (plain : List ℕ) → opened_by keys part o ≡ Ok plain → (o ≡ None) × (plain ≡ plain_of keys part)
+by_none keys part None plain e = (refl, let same : plain ≡ plain_of keys part = cc in same)
+by_none keys part (Some fault) plain e = absurd (cc)
+
+startup_plain : (s : State) (datagram : List ℕ) (sid : ℕ) (plain : List ℕ) → IsBytes datagram → sid ≡ sid_of datagram → opened_in_startup s sid (drop 4 datagram) ≡ Ok plain → IsStartupPlain s datagram sid plain
+startup_plain s datagram sid plain are id e =
+    let both = by_none (startup_keys s) (drop 4 datagram) (open_refusal (startup_keys s) sid (drop 4 datagram)) plain e in
+    record {
+      under = record { id = sym id; opens = (opens_by_its_tag s.startup.secret StartupContext sid (drop 4 datagram) plain).1 (both.0, tt, both.1) };
+      bytes = subst IsBytes (sym both.1) (plain_is (startup_keys s) (drop 4 datagram) (IsBytes-drop 4 datagram are));
+    }
+
+-- in a session
+
+opens_if : (a opens new : Bool) → (if a then Some ShortPart else if not opens then Some WrongTag else if not new then Some OldNumber else None) ≡ None → opens ≡ true
+opens_if true opens new e = absurd (cc)
+opens_if false true new e = refl
+opens_if false false new e = absurd (cc)
+
+heard_is : (session : SessionState) (part : List ℕ) (o : Option Unheard) (plain : List ℕ) → heard_by session part o ≡ Ok plain → o ≡ None
+heard_is session part None plain e = refl
+heard_is session part (Some ShortPart) plain e = absurd (cc)
+heard_is session part (Some WrongTag) plain e = absurd (cc)
+heard_is session part (Some OldNumber) plain e = absurd (cc)
+
+session_heard : (datagram : List ℕ) (near : ℕ) (o : Option SessionState) (plain : List ℕ) → near ≡ sid_of datagram → ((session : SessionState) → o ≡ Some session → session.joined.near ≡ near) →
+    heard_in o (drop 4 datagram) ≡ Ok plain → HeardIn datagram near o
+session_heard datagram near None plain id same e = tt
+session_heard datagram near (Some session) plain id same e =
+    let part : List ℕ = drop 4 datagram in
+    let none : unheard session part ≡ None = heard_is session part (unheard session part) plain e in
+    let opens : opens_in session part ≡ true = opens_if (nat_lt (length part) 32) (opens_in session part) (is_new (kept_answer session.window (count_of part))) none in
+    let found = (opens_some_plain session part).0 opens in
+    (found.0, record { id = sym id; opens = subst (λ n. Opens session.secret (context_of session false) n part found.0) (same session refl) found.1 })
+
+-- ---- payloads are bytes
+
+payloads_are : (at : ℕ) (chunks : List RawChunk) → IsBytes (flat_map chunk_bytes chunks) → (c : Placed) → IsAmong c (visible (all_placed_from at chunks)) → IsBytes c.payload
+payloads_are at [] are c among = absurd among
+payloads_are at (chunk ∷ chunks) are c among =
+    let first : IsBytes (chunk_bytes chunk) = front_are (chunk_bytes chunk ++ flat_map chunk_bytes chunks) (chunk_bytes chunk) (flat_map chunk_bytes chunks) refl are in
+    let later : IsBytes (flat_map chunk_bytes chunks) = back_are (chunk_bytes chunk ++ flat_map chunk_bytes chunks) (chunk_bytes chunk) (flat_map chunk_bytes chunks) refl are in
+    let payload : IsBytes chunk.payload = IsBytes-drop 3 (chunk_bytes chunk) first in
+    go (not (is_ignored chunk.kind)) payload (λ there. payloads_are (at + (3 + length chunk.payload)) chunks later c there) among
+  where
+    go : (b : Bool) → IsBytes chunk.payload → (IsAmong c (visible (all_placed_from (at + (3 + length chunk.payload)) chunks)) → IsBytes c.payload) →
+        IsAmong c (cond b (record { kind = chunk.kind; at = at; payload = chunk.payload } ∷ visible (all_placed_from (at + (3 + length chunk.payload)) chunks)) (visible (all_placed_from (at + (3 + length chunk.payload)) chunks))) → IsBytes c.payload
+    go true payload rest (inl is) = subst IsBytes (ap (λ (p : Placed). p.payload) (sym is)) payload
+    go true payload rest (inr there) = rest there
+    go false payload rest there = rest there
+
+chunks_are : (plain : List ℕ) (packet : Whole) → IsBytes plain → Reads packet plain → (c : Placed) → IsAmong c (chunks_of packet) → IsBytes c.payload
+chunks_are plain packet are reads c among =
+    let joined : plain ≡ reads.spells.front ++ (flat_map chunk_bytes packet.chunks ++ packet.padding) =
+    reads.spells.joined ∙ append_assoc reads.spells.front (flat_map chunk_bytes packet.chunks) packet.padding in
+    let body = back_are plain reads.spells.front (flat_map chunk_bytes packet.chunks ++ packet.padding) joined are in
+    payloads_are packet.start packet.chunks (front_are (flat_map chunk_bytes packet.chunks ++ packet.padding) (flat_map chunk_bytes packet.chunks) packet.padding refl body) c among
+
+-- ---- what a datagram that is taken is
+
+pub record IsRead (secret : List ℕ) (sid : ℕ) (datagram : List ℕ) (packet : Whole) : Type 0 where
+  pub reads : ReadsUnder secret StartupContext sid datagram packet
+  pub bytes : (c : Placed) → IsAmong c (chunks_of packet) → IsBytes c.payload
+
+abbrev pub Came : Setup → List ℕ → Place → Whole → Type 0
+Came setup datagram Startup packet = IsRead setup.secret 0 datagram packet × (packet.head.mode ≡ FromStartup)
+Came setup datagram (Attempt near) packet = IsRead setup.secret near datagram packet
+Came setup datagram (Session near) packet = Unit {0}
+
+read_is : (plain : List ℕ) (packet : Whole) → IsBytes plain → packet_in plain ≡ Ok packet → Reads packet plain
+read_is plain packet are e = subst (PacketReading plain) e (packet_reads plain are)
+
+startup_read : (setup : Setup) (past : List Stamped) (s : State) (datagram : List ℕ) (sid : ℕ) (plain : List ℕ) (packet : Whole) → Tied setup past s → IsStartupPlain s datagram sid plain → packet_in plain ≡ Ok packet →
+    IsRead setup.secret sid datagram packet
+startup_read setup past s datagram sid plain packet tied opened e =
+    let reads = read_is plain packet opened.bytes e in
+    record {
+      reads = record { plain = plain; opens = subst (λ secret. OpensUnder secret StartupContext sid datagram plain) tied.secret opened.under; reads = reads };
+      bytes = chunks_are plain packet opened.bytes reads;
+    }
+
+mode_is : (mode : Mode) → (mode_number mode == mode_number FromStartup) ≡ true → mode ≡ FromStartup
+mode_is FromInitiator e = absurd (cc)
+mode_is FromResponder e = absurd (cc)
+mode_is FromStartup e = refl
+
+came_of : (setup : Setup) (past : List Stamped) (s t : State) (datagram plain : List ℕ) (place : Place) (packet : Whole) → Tied setup past s → IsBytes datagram → IsOpened s datagram place plain →
+    packet_in plain ≡ Ok packet → has_mode packet.head (mode_at t place) ≡ true → Came setup datagram place packet
+came_of setup past s t datagram plain Startup packet tied are opened e mode =
+    (startup_read setup past s datagram 0 plain packet tied (startup_plain s datagram 0 plain are opened.id opened.opened) e, mode_is packet.head.mode mode)
+came_of setup past s t datagram plain (Attempt near) packet tied are opened e mode =
+    startup_read setup past s datagram near plain packet tied (startup_plain s datagram near plain are opened.id opened.opened) e
+came_of setup past s t datagram plain (Session near) packet tied are opened e mode = tt
+
+heard_of : (setup : Setup) (past : List Stamped) (s : State) (datagram plain : List ℕ) (place : Place) → Tied setup past s → IsOpened s datagram place plain → HeardAt s place datagram
+heard_of setup past s datagram plain Startup tied opened = tt
+heard_of setup past s datagram plain (Attempt near) tied opened = tt
+heard_of setup past s datagram plain (Session near) tied opened =
+    session_heard datagram near (get s.sessions near) plain opened.id (λ session is. (tied.sessions near session is).id) opened.opened
+
+-- ---- what it leaves
+
+-- the state after a step of the admission
+pub record Leaves (setup : Setup) (past : List Stamped) (s : State) (datagram : List ℕ) (place : Place) (t : State) : Type 0 where
+  pub tied : Tied setup past t
+  pub moment : t.moment ≡ s.moment
+  pub heard : HeardAt t place datagram
+
+abbrev HeardStays : List ℕ → ℕ → Option SessionState → Option SessionState → Type 0
+HeardStays datagram near old new = HeardIn datagram near old → HeardIn datagram near new
+
+counted_leaves : (setup : Setup) (past : List Stamped) (s : State) (datagram part : List ℕ) (near : ℕ) (o : Option SessionState) → get s.sessions near ≡ o → Tied setup past s → HeardIn datagram near o →
+    Leaves setup past s datagram (Session near) (counted_by s near part o)
+counted_leaves setup past s datagram part near None is tied heard = record { tied = tied; moment = refl; heard = subst (HeardIn datagram near) (sym is) heard }
+counted_leaves setup past s datagram part near (Some session) is tied heard =
+    let new : SessionState = counted session part in
+    record {
+      tied = tied_session setup past s near session new tied is refl (λ ours. record { own = ours.own; secret = ours.secret; stage = ours.stage });
+      moment = refl;
+      heard = subst (HeardIn datagram near) (sym (get_inserted s.sessions near new)) heard;
+    }
+
+timed_leaves : (setup : Setup) (past : List Stamped) (s : State) (datagram : List ℕ) (head : PacketHead) (near : ℕ) (o : Option SessionState) → get s.sessions near ≡ o → Tied setup past s → HeardIn datagram near o →
+    Leaves setup past s datagram (Session near) (timed_by s near head o)
+timed_leaves setup past s datagram head near None is tied heard = record { tied = tied; moment = refl; heard = subst (HeardIn datagram near) (sym is) heard }
+timed_leaves setup past s datagram head near (Some session) is tied heard =
+    let new : SessionState = with_stamps head s.moment session in
+    record {
+      tied = tied_session setup past s near session new tied is refl (λ ours. record { own = ours.own; secret = ours.secret; stage = ours.stage });
+      moment = refl;
+      heard = subst (HeardIn datagram near) (sym (get_inserted s.sessions near new)) heard;
+    }
+
+counted_at_leaves : (setup : Setup) (past : List Stamped) (s : State) (datagram part : List ℕ) (place : Place) → Tied setup past s → HeardAt s place datagram → Leaves setup past s datagram place (counted_at s place part)
+counted_at_leaves setup past s datagram part Startup tied heard = record { tied = tied; moment = refl; heard = heard }
+counted_at_leaves setup past s datagram part (Attempt near) tied heard = record { tied = tied; moment = refl; heard = heard }
+counted_at_leaves setup past s datagram part (Session near) tied heard = counted_leaves setup past s datagram part near (get s.sessions near) refl tied heard
+
+timed_at_leaves : (setup : Setup) (past : List Stamped) (s : State) (datagram : List ℕ) (head : PacketHead) (place : Place) → Tied setup past s → HeardAt s place datagram → Leaves setup past s datagram place (timed_at s place head)
+timed_at_leaves setup past s datagram head Startup tied heard = record { tied = tied; moment = refl; heard = heard }
+timed_at_leaves setup past s datagram head (Attempt near) tied heard = record { tied = tied; moment = refl; heard = heard }
+timed_at_leaves setup past s datagram head (Session near) tied heard = timed_leaves setup past s datagram head near (get s.sessions near) refl tied heard
+
+-- What an admission says: the state that it leaves agrees, and a datagram that is taken is what it has to be.
+pub record IsTaken (setup : Setup) (past : List Stamped) (s : State) (datagram : List ℕ) (t : State) (place : Place) (packet : Whole) : Type 0 where
+  pub leaves : Leaves setup past s datagram place t
+  pub came : Came setup datagram place packet
+
+pub record IsRejected (setup : Setup) (past : List Stamped) (s t : State) : Type 0 where
+  pub tied : Tied setup past t
+  pub moment : t.moment ≡ s.moment
+
+abbrev pub AdmissionIs : Setup → List Stamped → State → List ℕ → Admission → Type 0
+AdmissionIs setup past s datagram (Rejected t cause) = IsRejected setup past s t
+AdmissionIs setup past s datagram (Admitted t place packet) = IsTaken setup past s datagram t place packet
+
+packet_admitted : (setup : Setup) (past : List Stamped) (s t : State) (datagram : List ℕ) (place : Place) (r : Result Whole PacketFault) → Leaves setup past s datagram place t →
+    ((packet : Whole) → r ≡ Ok packet → has_mode packet.head (mode_at t place) ≡ true → Came setup datagram place packet) → AdmissionIs setup past s datagram (admitted_packet t place r)
+packet_admitted setup past s t datagram place (Err fault) leaves came = record { tied = leaves.tied; moment = leaves.moment }
+packet_admitted setup past s t datagram place (Ok packet) leaves came = by_mode (has_mode packet.head (mode_at t place)) (came packet refl)
+  where
+    by_mode : (b : Bool) → (b ≡ true → Came setup datagram place packet) →
+        AdmissionIs setup past s datagram (if b then Admitted (timed_at t place packet.head) place packet else Rejected t WrongPlace)
+    by_mode true is =
+        let timed = timed_at_leaves setup past t datagram packet.head place leaves.tied leaves.heard in
+        record { leaves = record { tied = timed.tied; moment = timed.moment ∙ leaves.moment; heard = timed.heard }; came = is refl }
+    by_mode false is = record { tied = leaves.tied; moment = leaves.moment }
+
+admitted_is : (setup : Setup) (past : List Stamped) (s : State) (datagram : List ℕ) (r : Result (Place × List ℕ) Cause) → Tied setup past s → IsBytes datagram →
+    ((found : Place × List ℕ) → r ≡ Ok found → IsOpened s datagram found.0 found.1) → AdmissionIs setup past s datagram (admitted s datagram r)
+admitted_is setup past s datagram (Err cause) tied are opened = record { tied = tied; moment = refl }
+admitted_is setup past s datagram (Ok found) tied are opened =
+    let is = opened found refl in
+    let t : State = counted_at s found.0 (drop 4 datagram) in
+    packet_admitted setup past s t datagram found.0 (packet_in found.1)
+    (counted_at_leaves setup past s datagram (drop 4 datagram) found.0 tied (heard_of setup past s datagram found.1 found.0 tied is))
+    (λ packet e mode. came_of setup past s t datagram found.1 found.0 packet tied are is e mode)
+
+pub admission_is : (setup : Setup) (past : List Stamped) (s : State) (datagram : List ℕ) → Tied setup past s → IsBytes datagram → AdmissionIs setup past s datagram (admission s datagram)
+admission_is setup past s datagram tied are =
+    admitted_is setup past s datagram (opened_datagram s datagram) tied are (λ found e. datagram_is s datagram (nat_lt (length datagram) 36) Short found e)

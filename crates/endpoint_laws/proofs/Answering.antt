@@ -1,0 +1,145 @@
+-- An attempt is opened: what is stated is lawful, and the state agrees with it.
+use Rattle.std.proofs.Common.{◌≡◌, ℕ, ◌+◌, ◌-◌, ◌<◌, List, [], ◌∷◌, option_to_list, Option, Some, None, Ok, is_some, ◌||◌, Bool, true, false, inl, inr, refl, sym, ap, subst, ◌∙◌, arith}
+use Rattle.std.specs.FinMap.{get, insert, remove, len}
+use Rattle.rtmfp_base.proofs.Maps.{get_inserted, get_beside, get_removed, get_left, len_new, len_less}
+use Rattle.rtmfp_forms.specs.Address.{AddressParts}
+use Rattle.rtmfp_chunks.specs.Chunk.{RIKeying, Ping, Spells}
+use Rattle.rtmfp_packet.specs.Walk.{Placed}
+use Rattle.rtmfp_packet.specs.Whole.{Whole}
+use Rattle.glare_core.specs.declared.facts.Fact.TheVariants.{Opened}
+use Rattle.glare_core.specs.declared.facts.Joined.{Joined}
+use Rattle.glare_core.specs.declared.facts.Held.{Held}
+use Rattle.glare_core.specs.declared.facts.Held.TheVariants.{Opening, KeptAsInitiator}
+use Rattle.glare_core.specs.Standing.{opened as opened_held}
+use Rattle.glare_core.specs.Things.{near_of}
+use Rattle.glare_core.specs.Ledger.{held_with, noted_if}
+use Rattle.glare_core.specs.Calls.{opened_fact}
+use Rattle.glare_core.specs.Account.{Gave}
+use Rattle.glare_core.proofs.Giving.{gave_opened}
+use Rattle.startup.specs.Packets.{is_signed}
+use Rattle.startup.specs.State.{AttemptState}
+use Rattle.startup.specs.Keyings.{ResponderKeying, responder_keying_in, opened_reading, opened, after_opening}
+use Rattle.session_core.specs.declared.stage.Role.TheVariants.{Initiator}
+use Rattle.session_core.specs.Session.{SessionState, new_session}
+use Rattle.endpoint_model.specs.declared.config.Draws.{Draws}
+use Rattle.endpoint_model.specs.declared.entry.Entry.TheVariants.{Fact as FactEntry}
+use Rattle.endpoint_model.specs.Event.{Setup, Receive, own_of}
+use Rattle.endpoint_laws.specs.Past.{Stamped, stamped, facts_of, ids_in_use}
+use Rattle.endpoint_model.specs.Keying.{IsSigned, IsAmong, chunks_of, responder_part}
+use Rattle.endpoint_laws.specs.Lawful.{AnswersAttempt}
+use Rattle.endpoint_model.specs.State.{State, Did, is_used, with_startup, with_session}
+use Rattle.endpoint_model.specs.Sending.{sent_in_session}
+use Rattle.endpoint_model.specs.Due.{opening_done, responder_keyed}
+use Rattle.endpoint_laws.proofs.Matching.{of_peer, ids_same}
+use Rattle.endpoint_model.proofs.Members.{tested}
+use Rattle.endpoint_laws.proofs.Tied.{Tied}
+use Rattle.endpoint_laws.proofs.Agrees.{IsAt, found_of_attempt, used_here, used_elsewhere, agrees_changed, agrees_of, tied_of}
+use Rattle.endpoint_laws.proofs.Moving.{noted_matches, rows_after_known, knows_held}
+use Rattle.endpoint_laws.proofs.Facts.{stands_of}
+use Rattle.endpoint_laws.proofs.Going.{Goes, goes_then, goes_in_session}
+use Rattle.endpoint_laws.proofs.Ending.{some_entry}
+use Rattle.endpoint_laws.proofs.Spelled.{responder_signed}
+use Rattle.endpoint_laws.proofs.Says.{responder_says}
+use Rattle.endpoint_laws.proofs.Admitting.{IsRead}
+
+-- What a responder's keying is that isn't discarded: it reads, is signed, and is of the attempt under this session ID.
+pub record OpensAttempt (s : State) (near : ℕ) (payload : List ℕ) : Type 0 where
+  pub a : AttemptState
+  pub there : get s.startup.attempts near ≡ Some a
+  pub keying : ResponderKeying
+  pub reads : responder_keying_in payload ≡ Ok keying
+  pub signed : is_signed s.startup.secret payload keying.sign ≡ true
+  pub responder : keying.part.responder ≡ a.peer
+  pub ni : keying.part.ni ≡ a.ni
+
+first_or : (a b : Bool) → a ≡ true → (a || b) ≡ true
+first_or true b e = refl
+first_or false b e = absurd (cc)
+
+moved_one : (a b c d : ℕ) → a ≡ c - 1 → 0 < c → b ≡ d + 1 → a + b ≡ c + d
+moved_one a b c d p some q = omega arith
+
+module _ (setup : Setup) (from : AddressParts) (datagram : List ℕ) (draws : Draws) (packet : Whole) (past : List Stamped) (s : State) (tied : Tied setup past s) (near : ℕ) (c : Placed) (opens : OpensAttempt s near c.payload) where
+  abbrev a : AttemptState
+  a = opens.a
+
+  abbrev j : Joined
+  j = record { peer = a.peer; n = a.n; near = near; far = opens.keying.near; ni = a.ni; nr = opens.keying.part.nr; k = opens.keying.part.k }
+
+  abbrev new : SessionState
+  new = new_session j s.startup.ledger.own Initiator from s.startup.secret s.moment
+
+  abbrev t : State
+  t = with_session (with_startup s (after_opening s.startup near (Opened j))) near new
+
+  abbrev now : List Stamped
+  now = stamped s.moment (FactEntry (Opened j)) ∷ past
+
+  held_is : held_with s.startup.ledger a.peer ≡ Some (Opening a.n near a.ni)
+  held_is = tied.sound.held near a opens.there
+
+  abbrev gave : Option Held → Type 0
+  gave o = Gave s.startup.ledger (option_to_list (opened_fact o a.peer j.nr j.far j.k)) (noted_if s.startup.ledger (opened_fact o a.peer j.nr j.far j.k))
+
+  opened_tied : Tied setup now t
+  opened_tied =
+      let g = agrees_of setup past s tied in
+      let no_session : get s.sessions near ≡ None = tied.apart near a opens.there in
+      let at : IsAt near None (Some new) s t = record {
+        attempt = get_removed s.startup.attempts near;
+        session = get_inserted s.sessions near new;
+        attempts = λ q other. get_left s.startup.attempts near q other;
+        sessions = λ q other. get_beside s.sessions near new q other;
+      } in
+      let all_used : (q : ℕ) → is_used t q ≡ is_used s q = λ q. elim (tested q near) [
+        | inl e ↦
+            ap (is_used t) e.0 ∙ used_here near None (Some new) s t at
+            ∙ sym (first_or (is_some (get s.startup.attempts near)) (is_some (get s.sessions near)) (ap (λ (o : Option AttemptState). is_some o) opens.there)) ∙ ap (is_used s) (sym e.0)
+        | inr e ↦ used_elsewhere near None (Some new) s t at q e.0
+      ] in
+      tied_of setup now t
+      (agrees_changed setup past now s t near None (Some new) g
+      (record { config = g.given.config; cert = g.given.cert; secret = g.given.secret; cookie_secret = g.given.cookie_secret; own = g.given.own; max_peers = g.given.max_peers }) at
+      (noted_matches s t (Opened j) near None (Some new) g.matches at refl (found_of_attempt s near a opens.there ∙ sym (ap (of_peer a.peer) held_is))
+      (sym (ap (λ o. of_peer a.peer (opened_held j o)) held_is))
+      (λ h e. let same : Some (KeptAsInitiator j) ≡ Some h = sym (ap (opened_held j) held_is) ∙ e in let thing : KeptAsInitiator j ≡ h = cc in ap near_of (sym thing)))
+      (record { own = tied.own; secret = tied.secret; stage = tt })
+      (λ done w. inr w)
+      (ids_same setup.config.max_sessions (ids_in_use (facts_of past)) s t g.ids all_used
+      (moved_one (len (remove s.startup.attempts near)) (len (insert s.sessions near new)) (len s.startup.attempts) (len s.sessions)
+      (len_less s.startup.attempts near a opens.there) (some_entry s.startup.attempts near a opens.there) (len_new s.sessions near new no_session)))
+      (rows_after_known s.startup.ledger (Opened j) setup.config.max_peers (knows_held s.startup.ledger a.peer (Opening a.n near a.ni) held_is) tied.rows))
+      ((subst gave held_is (gave_opened s.startup.ledger a.peer j.nr j.far j.k)) 0 (facts_of past) tied.account)
+
+  answers : IsRead setup.secret near datagram packet → IsAmong c (chunks_of packet) → c.kind ≡ 0x78 → AnswersAttempt setup.secret j datagram
+  answers read among kind =
+      let keying : ResponderKeying = opens.keying in
+      let says = responder_says c.payload keying (read.bytes c among) opens.reads in
+      let signed = responder_signed s.startup.secret c.payload keying.near (responder_part keying.part.nr keying.part.k keying.part.responder keying.part.ni) keying.sign says.spells opens.signed in
+      record {
+        packet = packet;
+        reads = read.reads;
+        chunk = c;
+        among = among;
+        sign = keying.sign;
+        spells =
+            subst (λ k. Spells (RIKeying j.far (responder_part j.nr j.k j.peer j.ni) keying.sign) k c.payload) (sym kind)
+            (subst (λ n. Spells (RIKeying j.far (responder_part j.nr j.k j.peer n) keying.sign) 0x78 c.payload) opens.ni
+            (subst (λ r. Spells (RIKeying j.far (responder_part j.nr j.k r keying.part.ni) keying.sign) 0x78 c.payload) opens.responder says.spells));
+        number = says.number;
+        signed = subst (λ x. IsSigned x c.payload keying.sign) tied.secret signed;
+      }
+
+  told : opened s.startup near c.payload ≡ Some (Opened j)
+  told = ap (λ (o : Option AttemptState). opened_reading near o (responder_keying_in c.payload)) opens.there ∙ ap (opened_reading near (Some a)) opens.reads
+
+  pub goes_responder : IsRead setup.secret near datagram packet → IsAmong c (chunks_of packet) → c.kind ≡ 0x78 → Goes setup (Receive from datagram draws) past s (responder_keyed s near from c.payload)
+  goes_responder read among kind =
+      let first : Did = record { state = t; entries = FactEntry (Opened j) ∷ [] } in
+      let one : Goes setup (Receive from datagram draws) past s first = record {
+        meets = ((stands_of (own_of setup) t.startup.ledger (Opened j) (facts_of past) opened_tied.own opened_tied.account, answers read among kind), tt);
+        tied = opened_tied;
+        moment = refl;
+      } in
+      subst (λ o. Goes setup (Receive from datagram draws) past s (opening_done s near from o)) (sym told)
+      (goes_then setup (Receive from datagram draws) past s first (λ u. sent_in_session u near from (Ping [])) one (goes_in_session setup (Receive from datagram draws) t near from (Ping []) now opened_tied))

@@ -1,0 +1,292 @@
+-- The chunks of a datagram, one after another: what is stated is lawful, and the state agrees with it.
+use Rattle.std.proofs.Common.{◌≡◌, ℕ, ◌≤◌, ◌<◌, ◌^◌, List, [], ◌∷◌, ◌++◌, length, nat_lt, Bool, true, false, not, ◌||◌, if◌then◌else◌, Option, Some, None, Result, Ok, Err, inl, inr, ◌⊎◌, refl, sym, ap, subst, ◌∙◌, append_assoc}
+use Rattle.std.specs.Prelude.{◌==◌}
+use Rattle.std.specs.Str.{bytes_eq}
+use Rattle.std.specs.FinMap.{get, contains_key}
+use Rattle.std.proofs.lemmas.Slice.Eq.{bytes_eq-Decides}
+use Rattle.rtmfp_base.proofs.Lowest.{first_is_there}
+use Rattle.rtmfp_forms.specs.Address.{AddressParts}
+use Rattle.rtmfp_packet.specs.Walk.{Placed}
+use Rattle.rtmfp_packet.specs.Whole.{Whole}
+use Rattle.rtmfp_chunks.specs.declared.reading.ChunkFault.{ChunkFault}
+use Rattle.rtmfp_chunks.specs.Chunk.{Chunk, IHello, FIHello, RHello, Redirect, CookieChange, IIKeying, RIKeying, Ping, PingReply, Close, CloseAck, Fragment}
+use Rattle.rtmfp_chunks.specs.FieldReading.{chunk_reading}
+use Rattle.startup.specs.declared.cause.Cause.{Cause}
+use Rattle.startup.specs.declared.cause.Cause.TheVariants.{UnknownChunk, WrongPlace, NoAttempt, WrongState, WrongPeer, BadSignature, Wide, Fragment as FragmentCause}
+use Rattle.startup.specs.declared.answer.Answer.{Answer}
+use Rattle.startup.specs.State.{AttemptState, Attempts}
+use Rattle.startup.specs.Packets.{is_signed}
+use Rattle.startup.specs.Attempts.{lowest, has_tag, has_cookie, with_attempt, answered, after_answer, answer_keying, if_cookie, changed, recookied, after_change, change_keying}
+use Rattle.startup.specs.Keyings.{InitiatorKeying, ResponderKeying, initiator_keying_in, responder_keying_in, initiator_hello_answer, fault_in, cause_by, named_cause, cookie_cause, initiator_cause, iikeying_cause, is_in_hello, attempt_cause, responder_cause, rikeying_cause}
+use Rattle.cookies.specs.Cookie.{cookie_test}
+use Rattle.glare_core.specs.Calls.{where_true}
+use Rattle.endpoint_model.specs.declared.config.Draws.{Draws}
+use Rattle.endpoint_model.specs.declared.place.Place.{Place}
+use Rattle.endpoint_model.specs.declared.place.Place.TheVariants.{Startup, Attempt, Session}
+use Rattle.endpoint_model.specs.Event.{Setup, Call, Receive}
+use Rattle.endpoint_laws.specs.Past.{Stamped, onto}
+use Rattle.endpoint_model.specs.Keying.{IsAmong, IsFirst, chunks_of}
+use Rattle.endpoint_model.specs.State.{State, Did, with_startup, full}
+use Rattle.endpoint_model.specs.Sending.{sent_if}
+use Rattle.endpoint_model.specs.Admission.{sid_at}
+use Rattle.endpoint_model.specs.Due.{initiator_keyed, responder_keyed, read_done, effect, discarded_or, chunk_did, keyed_after, chunks_did}
+use Rattle.endpoint_model.specs.Causes.{is_known, form_cause, read_fault, takes, initiator_keying_cause, responder_keying_cause, last_cause, chunk_cause}
+use Rattle.endpoint_model.proofs.Members.{tested}
+use Rattle.endpoint_laws.proofs.Tied.{Tied}
+use Rattle.endpoint_laws.proofs.Facts.{all_none, test_fails}
+use Rattle.endpoint_laws.proofs.Moving.{tied_attempt}
+use Rattle.endpoint_laws.proofs.Going.{Keeps, Goes, goes_nothing, goes_then, goes_discarded, goes_answer, goes_if, goes_in_session}
+use Rattle.endpoint_laws.proofs.Admitting.{Came}
+use Rattle.endpoint_laws.proofs.Bearing.{IsHeard}
+use Rattle.endpoint_laws.proofs.Keyed.{goes_initiator}
+use Rattle.endpoint_laws.proofs.Answering.{OpensAttempt, goes_responder}
+
+-- ---- chunks that are read: hellos, changes of cookies, and pings
+
+module _ (setup : Setup) (call : Call) where
+  -- what is sent in a state that was reached without entries
+  then_sent : (s t : State) (answer : Option Answer) → t.moment ≡ s.moment → ((past : List Stamped) → Tied setup past s → Tied setup past t) → Keeps setup call s (sent_if t answer)
+  then_sent s t answer moment more past tied =
+      goes_then setup call past s (record { state = t; entries = [] }) (λ u. sent_if u answer) (record { meets = tt; tied = more past tied; moment = moment }) (goes_if setup call t answer past (more past tied))
+
+  rhello_keeps : (s : State) (e : Option (ℕ × AttemptState)) (from : AddressParts) (cookie : List ℕ) → ((found : ℕ × AttemptState) → e ≡ Some found → get s.startup.attempts found.0 ≡ Some found.1) →
+      Keeps setup call s (sent_if (with_startup s (after_answer s.startup e from cookie s.moment)) (answer_keying s.startup e from cookie))
+  rhello_keeps s None from cookie there = goes_nothing setup call s
+  rhello_keeps s (Some e) from cookie there =
+      let t : State = with_startup s (with_attempt s.startup e.0 (answered e.1 from cookie s.moment)) in
+      then_sent s t (answer_keying s.startup (Some e) from cookie) refl
+      (λ past tied. tied_attempt setup past s e.0 e.1 (answered e.1 from cookie s.moment) tied (there e refl) refl (λ w. w))
+
+  change_keeps : (s : State) (e : Option (ℕ × AttemptState)) (cookie : List ℕ) → ((found : ℕ × AttemptState) → e ≡ Some found → get s.startup.attempts found.0 ≡ Some found.1) →
+      Keeps setup call s (sent_if (with_startup s (after_change s.startup e cookie s.moment)) (change_keying s.startup e cookie))
+  change_keeps s None cookie there = goes_nothing setup call s
+  change_keeps s (Some e) cookie there =
+      let t : State = with_startup s (with_attempt s.startup e.0 (recookied e.1 cookie s.moment)) in
+      then_sent s t (change_keying s.startup (Some e) cookie) refl
+      (λ past tied. tied_attempt setup past s e.0 e.1 (recookied e.1 cookie s.moment) tied (there e refl) refl (λ w. w))
+
+  if_cookie_there : (cookie : List ℕ) (near : ℕ) (o : Option AttemptState) (e : ℕ × AttemptState) → if_cookie cookie near o ≡ Some e → (near ≡ e.0) × (o ≡ Some e.1)
+  if_cookie_there cookie near None e is = absurd (cc)
+  if_cookie_there cookie near (Some a) e is = by (has_cookie cookie a) is
+    where
+      by : (b : Bool) → where_true b (near, a) ≡ Some e → (near ≡ e.0) × (Some a ≡ Some e.1)
+      by true is = let same : (near, a) ≡ e = cc in (ap (λ (p : ℕ × AttemptState). p.0) same, ap (λ (p : ℕ × AttemptState). Some p.1) same)
+      by false is = absurd (cc)
+
+  changed_there : (attempts : Attempts) (sid : ℕ) (old : List ℕ) (e : ℕ × AttemptState) → changed attempts sid old ≡ Some e → get attempts e.0 ≡ Some e.1
+  changed_there attempts sid old e is = by (sid == 0) is
+    where
+      by : (b : Bool) → (if b then lowest (has_cookie old) attempts else if_cookie old sid (get attempts sid)) ≡ Some e → get attempts e.0 ≡ Some e.1
+      by true is = (first_is_there (has_cookie old) attempts e is).0
+      by false is = let found = if_cookie_there old sid (get attempts sid) e is in ap (get attempts) (sym found.0) ∙ found.1
+
+  goes_read : (s : State) (place : Place) (from : AddressParts) (r : Result Chunk ChunkFault) → Keeps setup call s (read_done s place from r)
+  goes_read s place from (Ok (IHello epd tag)) = goes_answer setup call s (initiator_hello_answer s.startup tag from s.moment)
+  goes_read s place from (Ok (FIHello epd reply tag)) = goes_answer setup call s (initiator_hello_answer s.startup tag reply s.moment)
+  goes_read s place from (Ok (RHello tag cookie cert)) =
+      rhello_keeps s (lowest (has_tag tag) s.startup.attempts) from cookie (λ found is. (first_is_there (has_tag tag) s.startup.attempts found is).0)
+  goes_read s place from (Ok (CookieChange old new)) =
+      change_keeps s (changed s.startup.attempts (sid_at place) old) new (λ found is. changed_there s.startup.attempts (sid_at place) old found is)
+  goes_read s place from (Ok (Ping bytes)) = goes_in_session setup call s (sid_at place) from (PingReply bytes)
+  goes_read s place from (Ok (Redirect tag list)) = goes_nothing setup call s
+  goes_read s place from (Ok (IIKeying near cookie cert part sign)) = goes_nothing setup call s
+  goes_read s place from (Ok (RIKeying near part sign)) = goes_nothing setup call s
+  goes_read s place from (Ok (PingReply bytes)) = goes_nothing setup call s
+  goes_read s place from (Ok Close) = goes_nothing setup call s
+  goes_read s place from (Ok CloseAck) = goes_nothing setup call s
+  goes_read s place from (Ok (Fragment more id number bytes)) = goes_nothing setup call s
+  goes_read s place from (Err fault) = goes_nothing setup call s
+
+-- ---- what there being no cause says of keyings
+
+pub read_ok : {A : Type 0} (r : Result A Cause) → fault_in r ≡ None → (x : A) × (r ≡ Ok x)
+read_ok (Ok x) e = (x, refl)
+read_ok (Err cause) e = absurd (cc)
+
+if_is : {A : Type 0} (b : Bool) (x y : A) → b ≡ true → (if b then x else y) ≡ x
+if_is true x y e = refl
+if_is false x y e = absurd (cc)
+
+if_not : {A : Type 0} (b : Bool) (x y : A) → b ≡ false → (if b then x else y) ≡ y
+if_not true x y e = absurd (cc)
+if_not false x y e = refl
+
+-- the forms of keyings, by their type
+first_form : (a b : Bool) (x y z : Option Cause) → a ≡ true → (if a || b then (if a then x else if b then y else None) else z) ≡ None → x ≡ None
+first_form true b x y z is e = e
+first_form false b x y z is e = absurd (cc)
+
+second_form : (a b : Bool) (x y z : Option Cause) → a ≡ false → b ≡ true → (if a || b then (if a then x else if b then y else None) else z) ≡ None → y ≡ None
+second_form true b x y z other is e = absurd (cc)
+second_form false true x y z other is e = e
+second_form false false x y z other is e = absurd (cc)
+
+not_false : (b : Bool) → not b ≡ false → b ≡ true
+not_false true e = refl
+not_false false e = absurd (cc)
+
+same_bytes : (x y : List ℕ) → not (bytes_eq x y) ≡ false → x ≡ y
+same_bytes x y e = (bytes_eq-Decides x y).0 (not_false (bytes_eq x y) e)
+
+-- no keying came before this one
+keyed_none : (s : State) (keyed_before : Bool) (from : AddressParts) (payload : List ℕ) → initiator_keying_cause s keyed_before from payload ≡ None →
+    (keyed_before ≡ false) × (iikeying_cause s.startup payload from s.moment (full s) ≡ None)
+keyed_none s true from payload e = absurd (cc)
+keyed_none s false from payload e = (refl, e)
+
+heard_of : (s : State) (from : AddressParts) (payload : List ℕ) (keying : InitiatorKeying) → initiator_keying_in payload ≡ Ok keying → iikeying_cause s.startup payload from s.moment (full s) ≡ None → IsHeard s from payload keying
+heard_of s from payload keying reads e =
+    let none : initiator_cause s.startup payload from s.moment (full s) keying ≡ None = sym (ap (cause_by (initiator_cause s.startup payload from s.moment (full s))) reads) ∙ e in
+    let all = all_none (
+    where_true (not (is_signed s.startup.secret payload keying.sign)) BadSignature
+    ∷ where_true (nat_lt 128 (length keying.cookie)) (Wide (length keying.cookie))
+    ∷ cookie_cause (cookie_test s.startup.cookie_secret keying.cookie from s.moment) (named_cause s.startup keying (full s))
+    ∷ []) none in
+    record {
+      reads = reads;
+      signed = not_false (is_signed s.startup.secret payload keying.sign) (test_fails (not (is_signed s.startup.secret payload keying.sign)) BadSignature all.0);
+      narrow = test_fails (nat_lt 128 (length keying.cookie)) (Wide (length keying.cookie)) all.1.0;
+      cause = all.1.1.0;
+    }
+
+opens_of : (s : State) (near : ℕ) (payload : List ℕ) (keying : ResponderKeying) → responder_keying_in payload ≡ Ok keying → (o : Option AttemptState) → get s.startup.attempts near ≡ o →
+    is_signed s.startup.secret payload keying.sign ≡ true → attempt_cause keying o ≡ None → OpensAttempt s near payload
+opens_of s near payload keying reads None is signed e = absurd (cc)
+opens_of s near payload keying reads (Some a) is signed e =
+    let all = all_none (
+    where_true (is_in_hello a.stage) WrongState
+    ∷ where_true (not (bytes_eq keying.part.responder a.peer)) WrongPeer
+    ∷ where_true (not (bytes_eq keying.part.ni a.ni)) NoAttempt
+    ∷ []) e in
+    record {
+      a = a;
+      there = is;
+      keying = keying;
+      reads = reads;
+      signed = signed;
+      responder = same_bytes keying.part.responder a.peer (test_fails (not (bytes_eq keying.part.responder a.peer)) WrongPeer all.1.0);
+      ni = same_bytes keying.part.ni a.ni (test_fails (not (bytes_eq keying.part.ni a.ni)) NoAttempt all.1.1.0);
+    }
+
+pub opening_of : (s : State) (near : ℕ) (payload : List ℕ) (keying : ResponderKeying) → responder_keying_in payload ≡ Ok keying → responder_keying_cause s near payload ≡ None → OpensAttempt s near payload
+opening_of s near payload keying reads e = by (contains_key s.startup.attempts near) e
+  where
+    by : (b : Bool) → (if b then rikeying_cause s.startup near payload else Some NoAttempt) ≡ None → OpensAttempt s near payload
+    by true e =
+        let none : responder_cause s.startup near payload keying ≡ None = sym (ap (cause_by (responder_cause s.startup near payload)) reads) ∙ e in
+        let all = all_none (
+        where_true (not (is_signed s.startup.secret payload keying.sign)) BadSignature
+        ∷ attempt_cause keying (get s.startup.attempts near)
+        ∷ []) none in
+        opens_of s near payload keying reads (get s.startup.attempts near) refl
+        (not_false (is_signed s.startup.secret payload keying.sign) (test_fails (not (is_signed s.startup.secret payload keying.sign)) BadSignature all.0)) all.1.0
+    by false e = absurd (cc)
+
+-- ---- a chunk
+
+module _ (setup : Setup) (from : AddressParts) (datagram : List ℕ) (draws : Draws) (most : setup.config.max_sessions ≤ 65536) (small : draws.word < 2 ^ 32) (packet : Whole) where
+  abbrev call : Call
+  call = Receive from datagram draws
+
+  -- what the causes say, each of which is none
+  abbrev causes : State → Place → Bool → Placed → List (Option Cause)
+  causes s place keyed_before c =
+      where_true (not (is_known c.kind)) (UnknownChunk c.kind)
+      ∷ form_cause c.kind c.payload
+      ∷ where_true (c.kind == 0x7f) FragmentCause
+      ∷ where_true (not (takes place c.kind)) WrongPlace
+      ∷ last_cause s place keyed_before from c
+      ∷ []
+
+  initiator_goes : (s : State) (past : List Stamped) (place : Place) (keyed_before : Bool) (c : Placed) → Tied setup past s → Came setup datagram place packet → IsAmong c (chunks_of packet) → (keyed_before ≡ false → c.kind ≡ 0x38 → IsFirst c (chunks_of packet)) →
+      c.kind ≡ 0x38 → takes place 0x38 ≡ true → initiator_keying_cause s keyed_before from c.payload ≡ None → fault_in (initiator_keying_in c.payload) ≡ None → Goes setup call past s (initiator_keyed s from draws c.payload)
+  initiator_goes s past Startup keyed_before c tied came among first kind taken none formed =
+      let reads = read_ok (initiator_keying_in c.payload) formed in
+      let both = keyed_none s keyed_before from c.payload none in
+      goes_initiator setup from datagram draws most small past s tied reads.0 packet c came.0 came.1 among (first both.0 kind) kind (heard_of s from c.payload reads.0 reads.1 both.1)
+  initiator_goes s past (Attempt near) keyed_before c tied came among first kind taken none formed = absurd (cc)
+  initiator_goes s past (Session near) keyed_before c tied came among first kind taken none formed = absurd (cc)
+
+  responder_goes : (s : State) (past : List Stamped) (place : Place) (c : Placed) → Tied setup past s → Came setup datagram place packet → IsAmong c (chunks_of packet) →
+      c.kind ≡ 0x78 → takes place 0x78 ≡ true → responder_keying_cause s (sid_at place) c.payload ≡ None → fault_in (responder_keying_in c.payload) ≡ None → Goes setup call past s (responder_keyed s (sid_at place) from c.payload)
+  responder_goes s past Startup c tied came among kind taken none formed = absurd (cc)
+  responder_goes s past (Attempt near) c tied came among kind taken none formed =
+      let reads = read_ok (responder_keying_in c.payload) formed in
+      goes_responder setup from datagram draws packet past s tied near c (opening_of s near c.payload reads.0 reads.1 none) came among kind
+  responder_goes s past (Session near) c tied came among kind taken none formed = absurd (cc)
+
+  effect_goes : (s : State) (past : List Stamped) (place : Place) (keyed_before : Bool) (c : Placed) → Tied setup past s → Came setup datagram place packet → IsAmong c (chunks_of packet) → (keyed_before ≡ false → c.kind ≡ 0x38 → IsFirst c (chunks_of packet)) →
+      chunk_cause s place keyed_before from c ≡ None → Goes setup call past s (effect s place from draws c)
+  effect_goes s past place keyed_before c tied came among first none =
+      let all = all_none (causes s place keyed_before c) none in
+      let taken : takes place c.kind ≡ true = not_false (takes place c.kind) (test_fails (not (takes place c.kind)) WrongPlace all.1.1.1.0) in
+      elim (tested c.kind 0x38) [
+        | inl is ↦
+            subst (λ d. Goes setup call past s d) (sym (if_is (c.kind == 0x38) (initiator_keyed s from draws c.payload) _ is.1))
+            (initiator_goes s past place keyed_before c tied came among first is.0 (ap (takes place) (sym is.0) ∙ taken)
+            (sym (if_is (c.kind == 0x38) (initiator_keying_cause s keyed_before from c.payload) _ is.1) ∙ all.1.1.1.1.0)
+            (first_form (c.kind == 0x38) (c.kind == 0x78) (fault_in (initiator_keying_in c.payload)) (fault_in (responder_keying_in c.payload)) (read_fault (length c.payload) (chunk_reading c.kind c.payload)) is.1 all.1.0))
+        | inr other ↦
+            subst (λ d. Goes setup call past s d) (sym (if_not (c.kind == 0x38) (initiator_keyed s from draws c.payload) _ other.1)) (elim (tested c.kind 0x78) [
+              | inl is ↦
+                  subst (λ d. Goes setup call past s d) (sym (if_is (c.kind == 0x78) (responder_keyed s (sid_at place) from c.payload) _ is.1))
+                  (responder_goes s past place c tied came among is.0 (ap (takes place) (sym is.0) ∙ taken)
+                  (sym (if_is (c.kind == 0x78) (responder_keying_cause s (sid_at place) c.payload) _ is.1) ∙ sym (if_not (c.kind == 0x38) (initiator_keying_cause s keyed_before from c.payload) _ other.1) ∙ all.1.1.1.1.0)
+                  (second_form (c.kind == 0x38) (c.kind == 0x78) (fault_in (initiator_keying_in c.payload)) (fault_in (responder_keying_in c.payload)) (read_fault (length c.payload) (chunk_reading c.kind c.payload)) other.1 is.1 all.1.0))
+              | inr neither ↦
+                  subst (λ d. Goes setup call past s d) (sym (if_not (c.kind == 0x78) (responder_keyed s (sid_at place) from c.payload) _ neither.1))
+                  (goes_read setup call s place from (chunk_reading c.kind c.payload) past tied)
+            ])
+      ]
+
+  chunk_goes : (s : State) (past : List Stamped) (place : Place) (keyed_before : Bool) (c : Placed) → Tied setup past s → Came setup datagram place packet → IsAmong c (chunks_of packet) → (keyed_before ≡ false → c.kind ≡ 0x38 → IsFirst c (chunks_of packet)) →
+      Goes setup call past s (chunk_did place from draws keyed_before s c)
+  chunk_goes s past place keyed_before c tied came among first = by (chunk_cause s place keyed_before from c) refl
+    where
+      by : (o : Option Cause) → chunk_cause s place keyed_before from c ≡ o → Goes setup call past s (discarded_or s c.at o (effect s place from draws c))
+      by None is = effect_goes s past place keyed_before c tied came among first is
+      by (Some cause) is = goes_discarded setup call s c.at cause past tied
+
+  -- ---- all of them
+
+  -- these chunks come after some, of which one is a keying where one was before
+  pub record IsNext (keyed_before : Bool) (before cs : List Placed) : Type 0 where
+    pub whole : chunks_of packet ≡ before ++ cs
+    pub keyed : keyed_before ≡ false → (c : Placed) → IsAmong c before → c.kind ≡ 0x38 → ⊥
+
+  among_back : (before : List Placed) (c : Placed) (cs : List Placed) → IsAmong c (before ++ c ∷ cs)
+  among_back [] c cs = inl refl
+  among_back (b ∷ before) c cs = inr (among_back before c cs)
+
+  first_back : (before : List Placed) (c : Placed) (cs : List Placed) → ((b : Placed) → IsAmong b before → b.kind ≡ 0x38 → ⊥) → c.kind ≡ 0x38 → IsFirst c (before ++ c ∷ cs)
+  first_back [] c cs none kind = inl refl
+  first_back (b ∷ before) c cs none kind = inr ((λ e. none b (inl refl) (e ∙ kind)), first_back before c cs (λ x among. none x (inr among)) kind)
+
+  among_end : (before : List Placed) (c b : Placed) → IsAmong b (before ++ c ∷ []) → IsAmong b before ⊎ (b ≡ c)
+  among_end [] c b (inl is) = inr is
+  among_end [] c b (inr none) = absurd none
+  among_end (x ∷ before) c b (inl is) = inl (inl is)
+  among_end (x ∷ before) c b (inr later) = elim (among_end before c b later) [ inl there ↦ inl (inr there) | inr is ↦ inr is ]
+
+  neither : (a b : Bool) → (a || b) ≡ false → (a ≡ false) × (b ≡ false)
+  neither true b e = absurd (cc)
+  neither false b e = (refl, e)
+
+  pub chunks_go : (place : Place) → Came setup datagram place packet → (keyed_before : Bool) (before cs rest : List Placed) (s : State) (past : List Stamped) → IsNext keyed_before before (cs ++ rest) → Tied setup past s →
+      Goes setup call past s (chunks_did place from draws keyed_before s cs)
+  chunks_go place came keyed_before before [] rest s past next tied = goes_nothing setup call s past tied
+  chunks_go place came keyed_before before (c ∷ cs) rest s past next tied =
+      let among : IsAmong c (chunks_of packet) = subst (IsAmong c) (sym next.whole) (among_back before c (cs ++ rest)) in
+      let one = chunk_goes s past place keyed_before c tied came among (λ e kind. subst (IsFirst c) (sym next.whole) (first_back before c (cs ++ rest) (next.keyed e) kind)) in
+      let later : IsNext (keyed_after keyed_before c) (before ++ c ∷ []) (cs ++ rest) = record {
+        whole = next.whole ∙ sym (append_assoc before (c ∷ []) (cs ++ rest));
+        keyed = λ e b in_all kind.
+            let both = neither keyed_before (c.kind == 0x38) e in
+            elim (among_end before c b in_all) [
+              | inl there ↦ next.keyed both.0 b there kind
+              | inr is ↦ elim (tested c.kind 0x38) [ inl same ↦ (let clash : true ≡ false = sym same.1 ∙ both.1 in cc) | inr other ↦ other.0 (ap (λ (p : Placed). p.kind) (sym is) ∙ kind) ]
+            ];
+      } in
+      let d : Did = chunk_did place from draws keyed_before s c in
+      goes_then setup call past s d (λ t. chunks_did place from draws (keyed_after keyed_before c) t cs) one
+      (chunks_go place came (keyed_after keyed_before c) (before ++ c ∷ []) cs rest d.state (onto s.moment d.entries past) later one.tied)

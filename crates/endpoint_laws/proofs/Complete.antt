@@ -1,0 +1,574 @@
+-- Admissible keyings bear, and responders' keyings that nothing discards open.
+use Rattle.std.proofs.Common.{◌≡◌, ◌≢◌, ℕ, ◌+◌, ◌^◌, ◌<◌, ◌≤◌, ◌==◌, max, List, [], ◌∷◌, ◌++◌, length, take, drop, length-drop, nat_lt, Bool, true, false, not, if◌then◌else◌, Option, Some, None, Result, Ok, Err, inl, inr, refl, sym, ap, subst, ◌∙◌, arith, append_assoc, length-append}
+use Rattle.std.specs.Int.{w64, to_be_bytes}
+use Rattle.std.specs.FinMap.{get}
+use Rattle.std.proofs.lemmas.Bool.Decides.{nat_tests}
+use Rattle.std.proofs.lemmas.List.{length-take-le, take-append-drop, append-nil}
+use Rattle.sha2.specs.Sha256.{sha256}
+use Rattle.sha2.proofs.Facts256.{length-sha256}
+use Rattle.rtmfp_base.proofs.Maps.{get_inserted}
+use Rattle.rtmfp_vlu.proofs.Bytes.{IsBytes, IsBytes-drop}
+use Rattle.rtmfp_forms.specs.Address.{AddressParts}
+use Rattle.rtmfp_packet.specs.declared.head.Mode.{Mode}
+use Rattle.rtmfp_packet.specs.declared.head.Mode.TheVariants.{Startup as FromStartup}
+use Rattle.rtmfp_packet.specs.Head.{mode_number, head_bytes}
+use Rattle.rtmfp_packet.specs.Whole.{Whole}
+use Rattle.rtmfp_packet.specs.Walk.{Placed}
+use Rattle.rtmfp_packet.proofs.Readings.{packet_reading_same}
+use Rattle.rtmfp_chunks.specs.declared.reading.ChunkFault.{ChunkFault}
+use Rattle.rtmfp_chunks.specs.Chunk.{Chunk, IHello, FIHello, RHello, Redirect, CookieChange, IIKeying, RIKeying, Ping, PingReply, Close, CloseAck, Fragment, parts_of}
+use Rattle.rtmfp_chunks.proofs.WritingLaws.{parts_bytes-spell}
+use Rattle.rtmfp_chunks.specs.FieldReading.{chunk_reading}
+use Rattle.crypto_profile.specs.declared.keys.Context.TheVariants.{Startup as StartupContext}
+use Rattle.crypto_profile.specs.Keys.{keys_of}
+use Rattle.crypto_profile.specs.Opening.{open_refusal, plain_of}
+use Rattle.crypto_profile.specs.Sealing.{sealed_in}
+use Rattle.crypto_profile.proofs.Opened.{opens_by_its_tag}
+use Rattle.packet_scramble.specs.Datagram.{datagram, sid_of}
+use Rattle.cookies.specs.declared.CookieTest.{CookieTest}
+use Rattle.glare_core.specs.declared.facts.Fact.{Fact}
+use Rattle.glare_core.specs.declared.facts.Fact.TheVariants.{Born, Opened}
+use Rattle.glare_core.specs.declared.facts.Joined.{Joined}
+use Rattle.glare_core.specs.declared.answers.Keying.{Keying}
+use Rattle.glare_core.specs.declared.answers.Heard.{Heard}
+use Rattle.glare_core.specs.declared.answers.Heard.TheVariants.{Again, Birth}
+use Rattle.glare_core.specs.Standing.{count}
+use Rattle.glare_core.specs.Ledger.{Ledger, held_with}
+use Rattle.glare_core.specs.Calls.{where_true, way_made, heard, heard_noted}
+use Rattle.glare_core.proofs.Accounts.{reads_started}
+use Rattle.startup.specs.declared.cause.Cause.{Cause}
+use Rattle.startup.specs.declared.cause.Cause.TheVariants.{Short, WrongPlace, UnknownChunk, Fragment as FragmentCause}
+use Rattle.startup.specs.declared.answer.Answer.{Answer}
+use Rattle.startup.specs.State.{StartupState}
+use Rattle.startup.specs.Packets.{rikeying_packet}
+use Rattle.startup.specs.Attempts.{after_rhello, rhello_keying, after_cookie_change, cookie_change_keying}
+use Rattle.startup.specs.Keyings.{InitiatorKeying, keying_of, initiator_hello_answer, fault_in, responder_keying_in, session_answer, born_session, again_or_birth, keyed_with, keyed_reading, after_again_or_birth, after_keyed_with, after_keyed_reading, opened, opened_reading, after_opening}
+use Rattle.session_core.specs.Session.{SessionState, new_session, head_at}
+use Rattle.session_core.specs.Sealed.{number_bytes}
+use Rattle.glare_core.specs.Tells.{as_initiator}
+use Rattle.endpoint_laws.specs.Contexts.{session_context}
+use Rattle.session_core.specs.declared.stage.Role.TheVariants.{Initiator}
+use Rattle.endpoint_model.specs.declared.config.Draws.{Draws}
+use Rattle.endpoint_model.specs.declared.place.Place.{Place}
+use Rattle.endpoint_model.specs.declared.place.Place.TheVariants.{Startup, Attempt}
+use Rattle.endpoint_model.specs.declared.entry.Entry.{Entry}
+use Rattle.endpoint_model.specs.declared.entry.Entry.TheVariants.{Fact as FactEntry, Discard, Out}
+use Rattle.endpoint_model.specs.Event.{Setup, own_of, Receive, Answer as CallAnswer, Began, Done, NotOpened, Refused, Stopped, OutOfMemory, Event}
+use Rattle.endpoint_laws.specs.Past.{Stamped, stamped, onto, facts_of, past_of, last_moment}
+use Rattle.endpoint_model.specs.Keying.{IsFirst, chunks_of}
+use Rattle.endpoint_laws.specs.Admissible.{Admissible, Offer}
+use Rattle.endpoint_laws.specs.Lawful.{AnswersAttempt}
+use Rattle.endpoint_model.specs.State.{State, Did, nothing, after_entries, then_do, fact_entries, with_startup, free_from, fresh, at_moment}
+use Rattle.endpoint_model.specs.Sending.{last_count, startup_number, startup_datagram, session_packet, session_datagram, sent_answer, sent_if, sent_by}
+use Rattle.endpoint_model.specs.Admission.{Admission, Rejected, Admitted, place_of, sid_at, opened_by, placed, opened_found, opened_datagram, admission, admitted, admitted_packet, packet_in, has_mode, confirming}
+use Rattle.endpoint_model.specs.Causes.{is_known, form_cause, takes, last_cause, chunk_cause}
+use Rattle.endpoint_model.specs.Due.{with_born, keying_done, initiator_keyed, responder_keyed, with_opened, opening_done, read_done, effect, discarded_or, chunk_did, keyed_after, chunks_did, received, part_received}
+use Rattle.endpoint_model.specs.Log.{Answers, Leads}
+use Rattle.endpoint_laws.specs.Laws.{IsSetup, IsCall, AreCalls}
+use Rattle.endpoint_laws.specs.Complete.{WentThrough, IsPing, outs_in, at_initiator, IsOfOffer, IsBornAndTold, AdmissibleKeyingsBear, OpensItsSession, KeyingsWithoutCauseOpen}
+use Rattle.endpoint_laws.proofs.Bytes.{of_bytes, plain_is}
+use Rattle.endpoint_model.proofs.Reading.{packet_reads}
+use Rattle.endpoint_laws.proofs.Facts.{all_none, test_fails}
+use Rattle.endpoint_model.proofs.Members.{tested}
+use Rattle.endpoint_laws.proofs.Tied.{Tied, fresh_tied}
+use Rattle.endpoint_laws.proofs.Moving.{tied_alike}
+use Rattle.endpoint_laws.proofs.Going.{Goes}
+use Rattle.endpoint_model.proofs.Steps.{then_then}
+use Rattle.endpoint_laws.proofs.Admitting.{Came, AdmissionIs, admission_is}
+use Rattle.endpoint_laws.proofs.Answering.{OpensAttempt}
+use Rattle.endpoint_laws.proofs.Chunked.{chunks_go, read_ok, opening_of}
+use Rattle.endpoint_laws.proofs.Logged.{answers_go, tied_to_log}
+use Rattle.endpoint_laws.proofs.OutBirths.{small_free}
+use Rattle.endpoint_laws.proofs.OutLaw.{count_of_log}
+use Rattle.endpoint_laws.proofs.Few.{few_chunks, few_of_log, outs_append}
+use Rattle.endpoint_laws.proofs.OutPackets.{one_whole, session_reads}
+use Rattle.endpoint_laws.proofs.ReadsBack.{none_all, less_is_other, IsBearing, read_as, is_bearing}
+use Rattle.endpoint_laws.proofs.AnswerCarried.{keying_answers}
+
+-- ---- entries that state nothing
+
+abbrev NoFacts : List Entry → Type 0
+NoFacts [] = Unit {0}
+NoFacts (FactEntry fact ∷ rest) = ⊥
+NoFacts (Discard at cause ∷ rest) = NoFacts rest
+NoFacts (Out to sent context ∷ rest) = NoFacts rest
+
+facts_stay : (now : ℕ) (entries : List Entry) (past : List Stamped) → NoFacts entries → facts_of (onto now entries past) ≡ facts_of past
+facts_stay now [] past none = refl
+facts_stay now (FactEntry fact ∷ rest) past none = absurd none
+facts_stay now (Discard at cause ∷ rest) past none = facts_stay now rest (stamped now (Discard at cause) ∷ past) none
+facts_stay now (Out to sent context ∷ rest) past none = facts_stay now rest (stamped now (Out to sent context) ∷ past) none
+
+none_in_both : (xs ys : List Entry) → NoFacts xs → NoFacts ys → NoFacts (xs ++ ys)
+none_in_both [] ys p q = q
+none_in_both (FactEntry fact ∷ xs) ys p q = absurd p
+none_in_both (Discard at cause ∷ xs) ys p q = none_in_both xs ys p q
+none_in_both (Out to sent context ∷ xs) ys p q = none_in_both xs ys p q
+
+none_either : (b : Bool) (d e : Did) → NoFacts d.entries → NoFacts e.entries → NoFacts (if b then d else e).entries
+none_either true d e p q = p
+none_either false d e p q = q
+
+none_answer : (s : State) (answer : Answer) → NoFacts (sent_answer s answer).entries
+none_answer s answer = by (s.sealed == last_count)
+  where
+    by : (b : Bool) → NoFacts (if b then nothing s else record { state = record s { sealed = s.sealed + 1 }; entries = Out answer.to (startup_datagram s answer.sid answer.plain) StartupContext ∷ [] }).entries
+    by true = tt
+    by false = tt
+
+none_if : (s : State) (answer : Option Answer) → NoFacts (sent_if s answer).entries
+none_if s None = tt
+none_if s (Some answer) = none_answer s answer
+
+none_by : (s : State) (near : ℕ) (to : AddressParts) (chunk : Chunk) (o : Option SessionState) → NoFacts (sent_by s near to chunk o).entries
+none_by s near to chunk None = tt
+none_by s near to chunk (Some session) = none_either (session.sealed == last_count) (nothing s) _ tt tt
+
+none_read : (s : State) (place : Place) (from : AddressParts) (r : Result Chunk ChunkFault) → NoFacts (read_done s place from r).entries
+none_read s place from (Ok (IHello epd tag)) = none_answer s (initiator_hello_answer s.startup tag from s.moment)
+none_read s place from (Ok (FIHello epd reply tag)) = none_answer s (initiator_hello_answer s.startup tag reply s.moment)
+none_read s place from (Ok (RHello tag cookie cert)) = none_if (with_startup s (after_rhello s.startup tag cookie from s.moment)) (rhello_keying s.startup tag cookie from)
+none_read s place from (Ok (CookieChange old new)) =
+    none_if (with_startup s (after_cookie_change s.startup (sid_at place) old new s.moment)) (cookie_change_keying s.startup (sid_at place) old new)
+none_read s place from (Ok (Ping bytes)) = none_by s (sid_at place) from (PingReply bytes) (get s.sessions (sid_at place))
+none_read s place from (Ok (Redirect tag list)) = tt
+none_read s place from (Ok (IIKeying near cookie cert part sign)) = tt
+none_read s place from (Ok (RIKeying near part sign)) = tt
+none_read s place from (Ok (PingReply bytes)) = tt
+none_read s place from (Ok Close) = tt
+none_read s place from (Ok CloseAck) = tt
+none_read s place from (Ok (Fragment more id number bytes)) = tt
+none_read s place from (Err fault) = tt
+
+-- ---- the chunks before a keying
+
+-- none of these is an initiator's keying
+abbrev AreOthers : List Placed → Type 0
+AreOthers [] = Unit {0}
+AreOthers (c ∷ cs) = (c.kind ≢ 0x38) × AreOthers cs
+
+record Split (c : Placed) (cs : List Placed) : Type 0 where
+  front : List Placed
+  back : List Placed
+  whole : cs ≡ front ++ c ∷ back
+  others : AreOthers front
+
+split : (c : Placed) (cs : List Placed) → c.kind ≡ 0x38 → IsFirst c cs → Split c cs
+split c [] kind first = absurd first
+split c (x ∷ cs) kind (inl is) = record { front = []; back = cs; whole = ap (λ (y : Placed). y ∷ cs) (sym is); others = tt }
+split c (x ∷ cs) kind (inr later) =
+    let rest = split c cs kind later.1 in
+    record { front = x ∷ rest.front; back = rest.back; whole = ap (λ (ys : List Placed). x ∷ ys) rest.whole; others = ((λ e. later.0 (e ∙ sym kind)), rest.others) }
+
+keyed_false : (c : Placed) → c.kind ≢ 0x38 → keyed_after false c ≡ false
+keyed_false c other = elim (tested c.kind 0x38) [ inl is ↦ absurd (other is.0) | inr is ↦ is.1 ]
+
+false_is : {A : Type 0} (b : Bool) (x y : A) → b ≡ false → (if b then x else y) ≡ y
+false_is true x y e = absurd (cc)
+false_is false x y e = refl
+
+true_is : {A : Type 0} (b : Bool) (x y : A) → b ≡ true → (if b then x else y) ≡ x
+true_is true x y e = refl
+true_is false x y e = absurd (cc)
+
+abbrev causes : State → Place → Bool → AddressParts → Placed → List (Option Cause)
+causes s place keyed_before from c =
+    where_true (not (is_known c.kind)) (UnknownChunk c.kind)
+    ∷ form_cause c.kind c.payload
+    ∷ where_true (c.kind == 0x7f) FragmentCause
+    ∷ where_true (not (takes place c.kind)) WrongPlace
+    ∷ last_cause s place keyed_before from c
+    ∷ []
+
+module _ (from : AddressParts) (draws : Draws) where
+  -- another chunk at the place of startup states nothing
+  none_other : (s : State) (c : Placed) → c.kind ≢ 0x38 → NoFacts (chunk_did Startup from draws false s c).entries
+  none_other s c other = by (chunk_cause s Startup false from c) refl
+    where
+      first : (c.kind == 0x38) ≡ false
+      first = elim (tested c.kind 0x38) [ inl is ↦ absurd (other is.0) | inr is ↦ is.1 ]
+
+      inner : (b : Bool) → (c.kind == 0x78) ≡ b → chunk_cause s Startup false from c ≡ None →
+          NoFacts (if b then responder_keyed s 0 from c.payload else read_done s Startup from (chunk_reading c.kind c.payload)).entries
+      inner true is none =
+          let all = all_none (causes s Startup false from c) none in
+          let taken : not (takes Startup c.kind) ≡ false = test_fails (not (takes Startup c.kind)) WrongPlace all.1.1.1.0 in
+          let kind : c.kind ≡ 0x78 = elim (tested c.kind 0x78) [ inl same ↦ same.0 | inr apart ↦ (let clash : true ≡ false = sym is ∙ apart.1 in absurd (cc)) ] in
+          let clash : true ≡ false = ap (λ (k : ℕ). not (takes Startup k)) (sym kind) ∙ taken in
+          absurd (cc)
+      inner false is none = none_read s Startup from (chunk_reading c.kind c.payload)
+
+      by : (o : Option Cause) → chunk_cause s Startup false from c ≡ o → NoFacts (discarded_or s c.at o (effect s Startup from draws c)).entries
+      by (Some cause) e = tt
+      by None e =
+          subst (λ (d : Did). NoFacts d.entries)
+          (sym (false_is (c.kind == 0x38) (initiator_keyed s from draws c.payload) (if c.kind == 0x78 then responder_keyed s 0 from c.payload else read_done s Startup from (chunk_reading c.kind c.payload)) first))
+          (inner (c.kind == 0x78) refl e)
+
+  none_front : (front : List Placed) → AreOthers front → (s : State) → NoFacts (chunks_did Startup from draws false s front).entries
+  none_front [] others s = tt
+  none_front (c ∷ front) others s =
+      let d : Did = chunk_did Startup from draws false s c in
+      none_in_both d.entries (chunks_did Startup from draws (keyed_after false c) d.state front).entries (none_other s c others.0)
+      (subst (λ (k : Bool). NoFacts (chunks_did Startup from draws k d.state front).entries) (sym (keyed_false c others.0)) (none_front front others.1 d.state))
+
+  -- the chunks after them go on from what they left
+  front_then : (front rest : List Placed) → AreOthers front → (s : State) →
+      chunks_did Startup from draws false s (front ++ rest) ≡ then_do (chunks_did Startup from draws false s front) (λ t. chunks_did Startup from draws false t rest)
+  front_then [] rest others s = refl
+  front_then (c ∷ front) rest others s =
+      let d : Did = chunk_did Startup from draws false s c in
+      let last : State → Did = λ t. chunks_did Startup from draws false t rest in
+      let same = keyed_false c others.0 in
+      ap (λ (k : Bool). then_do d (λ t. chunks_did Startup from draws k t (front ++ rest))) same
+      ∙ ap (after_entries d.entries) (front_then front rest others.1 d.state)
+      ∙ sym (then_then d (λ t. chunks_did Startup from draws false t front) last)
+      ∙ ap (λ (k : Bool). then_do (then_do d (λ t. chunks_did Startup from draws k t front)) last) (sym same)
+
+-- ---- what the keying adds
+
+heard_own : (l : Ledger) (h : Heard) → (heard_noted l h).own ≡ l.own
+heard_own l (Again near) = refl
+heard_own l (Birth None born) = refl
+heard_own l (Birth (Some ended) born) = refl
+
+module _ (setup : Setup) (past : List Stamped) (u : State) (tied : Tied setup past u) (from : AddressParts) (draws : Draws) (payload : List ℕ) (keying : InitiatorKeying) (b : IsBearing u from payload keying)
+    (some : (u.sealed == last_count) ≡ false) where
+  abbrev k : Keying
+  k = keying_of keying
+
+  abbrev l : Ledger
+  l = u.startup.ledger
+
+  abbrev near : ℕ
+  near = free_from u draws.word
+
+  abbrev j : Joined
+  j = born_session l k near draws.nonce
+
+  abbrev way : Option Fact
+  way = way_made k.peer (held_with l k.peer)
+
+  abbrev answer : Answer
+  answer = session_answer u.startup j from
+
+  abbrev left : StartupState
+  left = after_again_or_birth u.startup k near draws.nonce None
+
+  abbrev t : State
+  t = with_born (with_startup u left) way (Born j) from
+
+  abbrev sent : List ℕ
+  sent = startup_datagram t j.far answer.plain
+
+  abbrev by_reading : Result InitiatorKeying Cause → Did
+  by_reading r = keying_done (with_startup u (after_keyed_reading u.startup from u.moment near draws.nonce r)) from (keyed_reading u.startup from u.moment near draws.nonce r)
+
+  abbrev by_test : CookieTest → Did
+  by_test test = keying_done (with_startup u (after_keyed_with u.startup near draws.nonce keying test)) from (Some (keyed_with u.startup from u.moment near draws.nonce keying test))
+
+  abbrev by_repeat : Option Joined → Did
+  by_repeat o = keying_done (with_startup u (after_again_or_birth u.startup k near draws.nonce o)) from (Some (again_or_birth u.startup k from near draws.nonce o))
+
+  keyed_so : initiator_keyed u from draws payload ≡ by_repeat None
+  keyed_so = ap by_reading b.reads ∙ ap by_test b.current ∙ ap by_repeat b.repeated
+
+  born_entries : (initiator_keyed u from draws payload).entries ≡ fact_entries way ++ FactEntry (Born j) ∷ Out from sent StartupContext ∷ []
+  born_entries =
+      ap (λ (d : Did). d.entries) keyed_so
+      ∙ ap (λ (d : Did). (fact_entries way ++ FactEntry (Born j) ∷ []) ++ d.entries)
+      (false_is (u.sealed == last_count) (nothing t) (record { state = record t { sealed = t.sealed + 1 }; entries = Out from sent StartupContext ∷ [] }) some)
+      ∙ append_assoc (fact_entries way) (FactEntry (Born j) ∷ []) (Out from sent StartupContext ∷ [])
+
+  abbrev number : List ℕ
+  number = startup_number (own_of setup) (u.sealed + 1)
+
+  own_is : left.ledger.own ≡ own_of setup
+  own_is = heard_own l (heard l k near draws.nonce) ∙ tied.own
+
+  print_is : sha256 u.startup.cert ≡ own_of setup
+  print_is = ap sha256 tied.cert
+
+  sent_is : sent ≡ datagram j.far (sealed_in setup.secret StartupContext j.far number (rikeying_packet setup.secret j.near j.nr j.k (own_of setup) j.ni))
+  sent_is =
+      ap (λ (o : List ℕ). datagram j.far (sealed_in u.startup.secret StartupContext j.far (startup_number o (u.sealed + 1)) answer.plain)) own_is
+      ∙ ap (λ (secret : List ℕ). datagram j.far (sealed_in secret StartupContext j.far number (rikeying_packet secret j.near j.nr j.k (sha256 u.startup.cert) j.ni))) tied.secret
+      ∙ ap (λ (o : List ℕ). datagram j.far (sealed_in setup.secret StartupContext j.far number (rikeying_packet setup.secret j.near j.nr j.k o j.ni))) print_is
+
+  number_size : length number ≡ 16
+  number_size = omega (arith, length-append (take 8 (own_of setup)) (to_be_bytes w64 (u.sealed + 1)), length-take-le 8 (own_of setup) (omega (arith, length-sha256 setup.cert)))
+
+  born_answers : j.far < 2 ^ 32 → length j.ni ≡ 16 → j.k < 2 ^ 64 → IsCall (Receive from [] draws) → AnswersAttempt setup.secret (at_initiator (own_of setup) j) sent
+  born_answers far ni few fits =
+      subst (AnswersAttempt setup.secret (at_initiator (own_of setup) j)) (sym sent_is)
+      (keying_answers setup j number far (small_free u draws.word fits.2) (omega (arith, ni)) (omega (arith, fits.1)) number_size few)
+
+-- ---- a datagram with an admissible keying
+
+module _ (setup : Setup) (past : List Stamped) (s : State) (tied : Tied setup past s) (from : AddressParts) (datagram : List ℕ) (draws : Draws) (offer : Offer) (now : ℕ)
+    (a : Admissible setup (facts_of past) now from datagram offer) (at : s.moment ≡ now) (most : setup.config.max_sessions ≤ 65536) (fits : IsCall (Receive from datagram draws))
+    (other : offer.peer ≢ own_of setup) (gone rest : List Placed) (goes : chunks_of a.packet ≡ gone ++ rest) (firstly : IsFirst a.chunk gone) where
+  abbrev part : List ℕ
+  part = drop 4 datagram
+
+  bytes : IsBytes datagram
+  bytes = of_bytes datagram fits.0
+
+  abbrev plain : List ℕ
+  plain = a.reads.plain
+
+  opens_so : (open_refusal (keys_of setup.secret StartupContext) 0 part ≡ None) × (plain ≡ plain_of (keys_of setup.secret StartupContext) part)
+  opens_so = let told = (opens_by_its_tag setup.secret StartupContext 0 part plain).0 a.reads.opens.opens in (told.0, told.2)
+
+  opened_so : opened_datagram s datagram ≡ Ok (Startup, plain)
+  opened_so =
+      let long : 32 ≤ length part = a.reads.opens.opens.0 in
+      let enough : 36 ≤ length datagram = omega (arith, long, length-drop 4 datagram) in
+      let short : nat_lt (length datagram) 36 ≡ false = grind (arith, nat_tests, enough) in
+      let here : List ℕ → Result (Place × List ℕ) Cause = λ p. Ok (Startup, p) in
+      ap (λ (b : Bool). if b then Err Short else opened_found s (place_of s (sid_of datagram)) part) short
+      ∙ ap (λ (sid : ℕ). opened_found s (place_of s sid) part) a.reads.opens.id
+      ∙ ap (λ (secret : List ℕ). placed Startup (opened_by (keys_of secret StartupContext) part (open_refusal (keys_of secret StartupContext) 0 part))) tied.secret
+      ∙ ap (λ o. placed Startup (opened_by (keys_of setup.secret StartupContext) part o)) opens_so.0
+      ∙ ap here (sym opens_so.1)
+
+  packet_so : packet_in plain ≡ Ok a.packet
+  packet_so =
+      packet_reading_same plain (packet_in plain) (Ok a.packet)
+      (packet_reads plain (subst IsBytes (sym opens_so.1) (plain_is (keys_of setup.secret StartupContext) part (IsBytes-drop 4 datagram bytes)))) a.reads.reads
+
+  admission_so : admission s datagram ≡ Admitted s Startup a.packet
+  admission_so =
+      ap (admitted s datagram) opened_so ∙ ap (admitted_packet s Startup) packet_so
+      ∙ true_is (has_mode a.packet.head FromStartup) (Admitted s Startup a.packet) (Rejected s WrongPlace) (ap (λ (m : Mode). mode_number m == mode_number FromStartup) a.mode)
+
+  came : Came setup datagram Startup a.packet
+  came = let is : AdmissionIs setup past s datagram (Admitted s Startup a.packet) = subst (AdmissionIs setup past s datagram) admission_so (admission_is setup past s datagram tied bytes) in is.came
+
+  kind : a.chunk.kind ≡ 0x38
+  kind = a.spells.0
+
+  cut : Split a.chunk gone
+  cut = split a.chunk gone kind firstly
+
+  in_all : chunks_of a.packet ≡ cut.front ++ (a.chunk ∷ (cut.back ++ rest))
+  in_all = goes ∙ ap (λ (cs : List Placed). cs ++ rest) cut.whole ∙ append_assoc cut.front (a.chunk ∷ cut.back) rest
+
+  abbrev first : Did
+  first = chunks_did Startup from draws false s cut.front
+
+  abbrev u : State
+  u = first.state
+
+  after_front : Goes setup (Receive from datagram draws) past s first
+  after_front = chunks_go setup from datagram draws most fits.2 a.packet Startup came false [] cut.front (a.chunk ∷ (cut.back ++ rest)) s past (record { whole = in_all; keyed = λ e c none is. none }) tied
+
+  abbrev told : List Stamped
+  told = onto s.moment first.entries past
+
+  facts_same : facts_of told ≡ facts_of past
+  facts_same = facts_stay s.moment first.entries past (none_front from draws cut.front cut.others s)
+
+  abbrev keying : InitiatorKeying
+  keying = read_as offer.far a.cookie a.cert offer.ni offer.n (own_of setup) a.sign
+
+  bearing : IsBearing u from a.chunk.payload keying
+  bearing = is_bearing setup told u after_front.tied from datagram offer (facts_of past) now a facts_same (after_front.moment ∙ at) other
+
+  abbrev this : Placed
+  this = record { kind = 0x38; at = a.chunk.at; payload = a.chunk.payload }
+
+  this_is : a.chunk ≡ this
+  this_is = let as_kind : ℕ → Placed = λ x. record { kind = x; at = a.chunk.at; payload = a.chunk.payload } in ap as_kind kind
+
+  no_cause : chunk_cause u Startup false from this ≡ None
+  no_cause = none_all (causes u Startup false from this) (refl, (ap fault_in bearing.reads, (refl, (refl, (bearing.cause, tt)))))
+
+  chunk_so : chunk_did Startup from draws false u a.chunk ≡ initiator_keyed u from draws a.chunk.payload
+  chunk_so = ap (chunk_did Startup from draws false u) this_is ∙ ap (λ (o : Option Cause). discarded_or u a.chunk.at o (initiator_keyed u from draws a.chunk.payload)) no_cause
+
+  abbrev later : List Entry
+  later = (chunks_did Startup from draws (keyed_after false a.chunk) (chunk_did Startup from draws false u a.chunk).state cut.back).entries
+
+  in_two : (chunks_did Startup from draws false s gone).entries ≡ first.entries ++ ((chunk_did Startup from draws false u a.chunk).entries ++ later)
+  in_two =
+      ap (λ (cs : List Placed). (chunks_did Startup from draws false s cs).entries) cut.whole
+      ∙ ap (λ (d : Did). d.entries) (front_then from draws cut.front (a.chunk ∷ cut.back) cut.others s)
+
+  few_so : u.sealed ≤ s.sealed + outs_in (chunks_did Startup from draws false s gone).entries
+  few_so =
+      omega (arith, few_chunks Startup from draws false cut.front s, ap outs_in in_two, outs_append first.entries ((chunk_did Startup from draws false u a.chunk).entries ++ later))
+
+  bears : (u.sealed == last_count) ≡ false → count (facts_of past) < 2 ^ 64 → (x : Joined) × IsOfOffer offer draws.nonce (facts_of past) x × IsBornAndTold setup from x (chunks_did Startup from draws false s gone).entries
+  bears some counted =
+      let x : Joined = j setup told u after_front.tied from draws a.chunk.payload keying bearing some in
+      let made : Option Fact = way setup told u after_front.tied from draws a.chunk.payload keying bearing some in
+      let went : List ℕ = sent setup told u after_front.tied from draws a.chunk.payload keying bearing some in
+      let facts : List Entry = fact_entries made in
+      let both : List Entry = FactEntry (Born x) ∷ Out from went StartupContext ∷ [] in
+      let started : u.startup.ledger.started ≡ count (facts_of past) =
+      omega (arith, reads_started 0 u.startup.ledger (facts_of told) after_front.tied.account, ap count facts_same) in (
+        x,
+        record { peer = sym a.peer; n = refl; ni = refl; far = refl; nr = refl; k = started },
+        record {
+          before = first.entries ++ facts;
+          sent = went;
+          later = later;
+          are =
+              in_two
+              ∙ ap (λ (es : List Entry). first.entries ++ (es ++ later)) (ap (λ (d : Did). d.entries) chunk_so ∙ born_entries setup told u after_front.tied from draws a.chunk.payload keying bearing some)
+              ∙ ap (λ (es : List Entry). first.entries ++ es) (append_assoc facts both later)
+              ∙ sym (append_assoc first.entries facts (both ++ later));
+          answers = born_answers setup told u after_front.tied from draws a.chunk.payload keying bearing some a.spells.1.3.0 a.nonce_size (omega (arith, started, counted)) (λ i z lt. absurd (omega (arith, lt)), fits.1, fits.2);
+        },
+      )
+
+-- ---- logs
+
+-- the moment of an end is the last of its log
+pub moment_goes : (setup : Setup) (past : List Stamped) (log : List Event) (s t : State) → IsSetup setup → AreCalls log → Tied setup past s → Leads s log t → t.moment ≡ last_moment s.moment log
+moment_goes setup past [] s t is calls tied leads = ap (λ (x : State). x.moment) (sym leads)
+moment_goes setup past (e ∷ log) s t is calls tied leads =
+    let noted : State = at_moment s e.moment in
+    let one = answers_go setup past noted leads.0 e.call e.answer e.entries is (tied_alike setup past s (max s.moment e.moment) s.sealed tied) calls.0 leads.1 in
+    moment_goes setup (onto noted.moment e.entries past) log leads.0 t is calls.1 one.tied leads.2 ∙ ap (λ (m : ℕ). last_moment m log) one.moment
+
+-- what a call adds that has gone through these chunks of a packet
+went_entries : (noted t u : State) (place : Place) (from : AddressParts) (datagram : List ℕ) (draws : Draws) (answer : CallAnswer) (entries : List Entry) (packet : Whole) (gone : List Placed) →
+    Answers noted (Receive from datagram draws) answer entries t → admission noted datagram ≡ Admitted u place packet → confirming u place ≡ nothing u → WentThrough answer (chunks_of packet) gone →
+    entries ≡ (chunks_did place from draws false u gone).entries
+went_entries noted t u place from datagram draws (Began n) entries packet gone step at quiet went = absurd went
+went_entries noted t u place from datagram draws Done entries packet gone step at quiet went =
+    step.entries ∙ ap (λ (x : Admission). (received from draws x).entries) at ∙ ap (λ (d : Did). (then_do d (λ v. chunks_did place from draws false v (chunks_of packet))).entries) quiet
+    ∙ ap (λ (cs : List Placed). (chunks_did place from draws false u cs).entries) (sym went)
+went_entries noted t u place from datagram draws (NotOpened refusal) entries packet gone step at quiet went = absurd went
+went_entries noted t u place from datagram draws (Refused refusal) entries packet gone step at quiet went = absurd went
+went_entries noted t u place from datagram draws (Stopped stop) entries packet gone step at quiet went =
+    step.1.entries
+    ∙ ap (λ (b : Bool). (if b then part_received from draws (admission noted datagram) stop.chunks else nothing noted).entries) went.0
+    ∙ ap (λ (x : Admission). (part_received from draws x stop.chunks).entries) at
+    ∙ ap (λ (d : Did). (then_do d (λ v. chunks_did place from draws false v (take stop.chunks (chunks_of packet)))).entries) quiet
+    ∙ ap (λ (cs : List Placed). (chunks_did place from draws false u cs).entries) (sym went.1)
+went_entries noted t u place from datagram draws OutOfMemory entries packet gone step at quiet went = absurd went
+
+-- these are the first of the packet's chunks
+went_first : (answer : CallAnswer) (chunks gone : List Placed) → WentThrough answer chunks gone → (rest : List Placed) × (chunks ≡ gone ++ rest)
+went_first (Began n) chunks gone went = absurd went
+went_first Done chunks gone went = ([], sym went ∙ sym (append-nil gone))
+went_first (NotOpened refusal) chunks gone went = absurd went
+went_first (Refused refusal) chunks gone went = absurd went
+went_first (Stopped stop) chunks gone went = (drop stop.chunks chunks, sym (take-append-drop stop.chunks chunks) ∙ ap (λ (cs : List Placed). cs ++ drop stop.chunks chunks) (sym went.1))
+went_first OutOfMemory chunks gone went = absurd went
+
+pub admissible_keyings_bear : AdmissibleKeyingsBear
+admissible_keyings_bear setup log s t moment from datagram draws answer entries offer gone is calls stands fits step a went firstly other few =
+    let past : List Stamped = past_of 0 [] log in
+    let before : Tied setup past s = tied_to_log setup log s is calls stands in
+    let noted : State = at_moment s moment in
+    let tied : Tied setup past noted = tied_alike setup past s (max s.moment moment) s.sealed before in
+    let last : s.moment ≡ last_moment 0 log = moment_goes setup [] log (fresh setup) s is calls (fresh_tied setup) stands in
+    let now : ℕ = max (last_moment 0 log) moment in
+    let at : noted.moment ≡ now = ap (λ (m : ℕ). max m moment) last in
+    let cut = went_first answer (chunks_of a.packet) gone went in
+    let so = admission_so setup past noted tied from datagram draws offer now a at is.sessions fits other gone cut.0 cut.1 firstly in
+    let entries_are : entries ≡ (chunks_did Startup from draws false noted gone).entries = went_entries noted t noted Startup from datagram draws answer entries a.packet gone step so refl went in
+    let left : State = u setup past noted tied from datagram draws offer now a at is.sessions fits other gone cut.0 cut.1 firstly in
+    let sealed_few : left.sealed ≤ noted.sealed + outs_in (chunks_did Startup from draws false noted gone).entries =
+    few_so setup past noted tied from datagram draws offer now a at is.sessions fits other gone cut.0 cut.1 firstly in
+    let room : left.sealed < last_count = omega (arith, sealed_few, few_of_log setup log s stands, ap outs_in entries_are, few) in
+    let born = bears setup past noted tied from datagram draws offer now a at is.sessions fits other gone cut.0 cut.1 firstly (less_is_other left.sealed last_count room) (count_of_log setup log s is calls stands) in
+    (born.0, born.1, subst (IsBornAndTold setup from born.0) (sym entries_are) born.2)
+
+-- ---- responders' keyings
+
+module _ (s : State) (near : ℕ) (from : AddressParts) (draws : Draws) (c : Placed) (opens : OpensAttempt s near c.payload) where
+  abbrev session : Joined
+  session = record { peer = opens.a.peer; n = opens.a.n; near = near; far = opens.keying.near; ni = opens.a.ni; nr = opens.keying.part.nr; k = opens.keying.part.k }
+
+  abbrev kept : SessionState
+  kept = new_session session s.startup.ledger.own Initiator from s.startup.secret s.moment
+
+  opened_as : opened s.startup near c.payload ≡ Some (Opened session)
+  opened_as = ap (λ o. opened_reading near o (responder_keying_in c.payload)) opens.there ∙ ap (opened_reading near (Some opens.a)) opens.reads
+
+  abbrev after_it : State
+  after_it = with_opened (with_startup s (after_opening s.startup near (Opened session))) near (Opened session) from
+
+  entries_are : (responder_keyed s near from c.payload).entries ≡ FactEntry (Opened session) ∷ (sent_by after_it near from (Ping []) (Some kept)).entries
+  entries_are =
+      ap (λ (o : Option Fact). (opening_done s near from o).entries) opened_as
+      ∙ ap (λ (o : Option SessionState). FactEntry (Opened session) ∷ (sent_by after_it near from (Ping []) o).entries) (get_inserted s.sessions near kept)
+
+  -- what goes out is a ping
+  is_ping : IsPing s.startup.secret (session_context (as_initiator s.startup.ledger.own session) true) session.far (session_datagram kept s.moment (Ping []))
+  is_ping = record {
+    number = number_bytes (kept.sealed + 1);
+    plain = session_packet kept s.moment (Ping []);
+    is = refl;
+    packet = one_whole (head_at kept s.moment) (head_bytes (head_at kept s.moment)) 0x01 [];
+    reads = session_reads kept s.moment (Ping []) (omega arith);
+    chunk = record { kind = 0x01; at = length (head_bytes (head_at kept s.moment)); payload = [] };
+    only = refl;
+    spells = (refl, parts_bytes-spell (parts_of (Ping [])) tt);
+  }
+
+  pub opens_its_session : (entries before later : List Entry) → entries ≡ before ++ ((responder_keyed s near from c.payload).entries ++ later) → OpensItsSession s near from entries
+  opens_its_session entries before later e = record {
+    attempt = opens.a;
+    there = opens.there;
+    j = session;
+    peer = refl;
+    n = refl;
+    ni = refl;
+    id = refl;
+    before = before;
+    sent = session_datagram kept s.moment (Ping []);
+    later = later;
+    are = e ∙ ap (λ (es : List Entry). before ++ (es ++ later)) entries_are;
+    ping = is_ping;
+  }
+
+-- a keying that has no cause opens its session, whatever came before it
+one_opens : (s : State) (near : ℕ) (keyed_before keyed : Bool) (from : AddressParts) (draws : Draws) (c : Placed) → c.kind ≡ 0x78 → chunk_cause s (Attempt near) keyed_before from c ≡ None →
+    OpensAttempt s near c.payload × (chunk_did (Attempt near) from draws keyed s c ≡ responder_keyed s near from c.payload)
+one_opens s near keyed_before keyed from draws c kind none =
+    let all = all_none (causes s (Attempt near) keyed_before from c) none in
+    let that : Placed = record { kind = 0x78; at = c.at; payload = c.payload } in
+    let as_kind : ℕ → Placed = λ x. record { kind = x; at = c.at; payload = c.payload } in
+    let is : c ≡ that = ap as_kind kind in
+    let formed : fault_in (responder_keying_in c.payload) ≡ None = ap (λ (x : ℕ). form_cause x c.payload) (sym kind) ∙ all.1.0 in
+    let read = read_ok (responder_keying_in c.payload) formed in
+    let last = ap (last_cause s (Attempt near) keyed_before from) (sym is) ∙ all.1.1.1.1.0 in
+    let opens : OpensAttempt s near c.payload = opening_of s near c.payload read.0 read.1 last in
+    let no_cause : chunk_cause s (Attempt near) keyed from that ≡ None = ap (chunk_cause s (Attempt near) keyed_before from) (sym is) ∙ none in
+    let did : chunk_did (Attempt near) from draws keyed s c ≡ responder_keyed s near from c.payload =
+    ap (chunk_did (Attempt near) from draws keyed s) is ∙ ap (λ (o : Option Cause). discarded_or s c.at o (responder_keyed s near from c.payload)) no_cause in
+    (opens, did)
+
+-- whether a keying was among chunks
+keyed_among : Bool → List Placed → Bool
+keyed_among keyed [] = keyed
+keyed_among keyed (c ∷ cs) = keyed_among (keyed_after keyed c) cs
+
+-- chunks one after another add what each of them adds
+gone_in_two : (place : Place) (from : AddressParts) (draws : Draws) (keyed : Bool) (front : List Placed) (c : Placed) (back : List Placed) (s : State) →
+    (chunks_did place from draws keyed s (front ++ c ∷ back)).entries ≡ (chunks_did place from draws keyed s front).entries
+    ++ ((chunk_did place from draws (keyed_among keyed front) (chunks_did place from draws keyed s front).state c).entries
+    ++ (chunks_did place from draws (keyed_after (keyed_among keyed front) c) (chunk_did place from draws (keyed_among keyed front) (chunks_did place from draws keyed s front).state c).state back).entries)
+unfolding keyed_among
+gone_in_two place from draws keyed [] c back s = refl
+gone_in_two place from draws keyed (x ∷ front) c back s =
+    let one : Did = chunk_did place from draws keyed s x in
+    ap (λ (es : List Entry). one.entries ++ es) (gone_in_two place from draws (keyed_after keyed x) front c back one.state)
+    ∙ sym (append_assoc one.entries (chunks_did place from draws (keyed_after keyed x) one.state front).entries _)
+
+pub keyings_without_cause_open : KeyingsWithoutCauseOpen
+keyings_without_cause_open s t u moment near from datagram draws answer entries packet front back c keyed_before step at went kind none =
+    let v : State = (chunks_did (Attempt near) from draws false u front).state in
+    let one = one_opens v near keyed_before (keyed_among false front) from draws c kind none in
+    let later : List Entry = (chunks_did (Attempt near) from draws (keyed_after (keyed_among false front) c) (chunk_did (Attempt near) from draws (keyed_among false front) v c).state back).entries in
+    let are : entries ≡ (chunks_did (Attempt near) from draws false u front).entries ++ ((responder_keyed v near from c.payload).entries ++ later) =
+    went_entries (at_moment s moment) t u (Attempt near) from datagram draws answer entries packet (front ++ c ∷ back) step at refl went
+    ∙ gone_in_two (Attempt near) from draws false front c back u
+    ∙ ap (λ (d : Did). (chunks_did (Attempt near) from draws false u front).entries ++ (d.entries ++ later)) one.1 in
+    opens_its_session v near from draws c one.0 entries (chunks_did (Attempt near) from draws false u front).entries later are

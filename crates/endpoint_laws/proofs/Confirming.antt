@@ -1,0 +1,160 @@
+-- A half-open session is confirmed: what is stated is lawful, and the state agrees with it.
+use Rattle.std.proofs.Common.{◌≡◌, ℕ, List, ◌∷◌, Bool, true, false, if◌then◌else◌, option_to_list, Option, Some, None, is_some, ◌||◌, inl, inr, refl, sym, ap, subst, ◌∙◌, arith}
+use Rattle.std.specs.FinMap.{get}
+use Rattle.rtmfp_base.proofs.Maps.{get_inserted, get_beside, len_known}
+use Rattle.rtmfp_forms.specs.Address.{AddressParts}
+use Rattle.glare_core.specs.declared.facts.Fact.{Fact}
+use Rattle.glare_core.specs.declared.facts.Fact.TheVariants.{Confirmed}
+use Rattle.glare_core.specs.declared.facts.Joined.{Joined}
+use Rattle.glare_core.specs.declared.facts.Held.{Held}
+use Rattle.glare_core.specs.declared.facts.Held.TheVariants.{HalfOpen, KeptAsResponder}
+use Rattle.glare_core.specs.Standing.{confirmed as confirmed_held}
+use Rattle.glare_core.specs.Things.{near_of}
+use Rattle.glare_core.specs.Ledger.{held_with, noted, noted_if}
+use Rattle.glare_core.specs.Calls.{confirmed_fact}
+use Rattle.glare_core.specs.Account.{Gave}
+use Rattle.glare_core.proofs.Accounts.{reads_held}
+use Rattle.glare_core.proofs.Giving.{gave_confirmed}
+use Rattle.startup.specs.Attempts.{with_ledger, confirm_fact, after_confirm}
+use Rattle.session_core.specs.declared.stage.Role.{Role}
+use Rattle.session_core.specs.declared.stage.Role.TheVariants.{Initiator, Responder}
+use Rattle.session_core.specs.declared.stage.Stage.{Stage}
+use Rattle.session_core.specs.declared.stage.Stage.TheVariants.{Opening, Open, NearClose, FarLinger, Closed}
+use Rattle.session_core.specs.Session.{SessionState, context_of, context_between, is_opening, confirmed_stage, confirmed}
+use Rattle.endpoint_model.specs.declared.config.Draws.{Draws}
+use Rattle.endpoint_model.specs.declared.place.Place.{Place}
+use Rattle.endpoint_model.specs.declared.place.Place.TheVariants.{Startup, Attempt, Session}
+use Rattle.endpoint_model.specs.declared.entry.Entry.TheVariants.{Fact as FactEntry}
+use Rattle.endpoint_model.specs.Event.{Setup, Receive, own_of}
+use Rattle.endpoint_laws.specs.Past.{Stamped, stamped, facts_of, ids_in_use}
+use Rattle.endpoint_laws.specs.Contexts.{inward, OpensUnder}
+use Rattle.endpoint_model.specs.State.{State, Did, is_used, nothing, fact_entries, with_startup, with_session}
+use Rattle.endpoint_model.specs.Admission.{confirming_by, confirming}
+use Rattle.endpoint_laws.proofs.Matching.{of_peer, ids_same}
+use Rattle.endpoint_model.proofs.Members.{tested}
+use Rattle.endpoint_laws.proofs.Tied.{Tied, StageFits, thing_of}
+use Rattle.endpoint_laws.proofs.Agrees.{IsAt, found_of_session, no_attempt, used_here, used_elsewhere, agrees_changed, agrees_of, tied_of}
+use Rattle.endpoint_laws.proofs.Moving.{noted_matches, rows_after_known, knows_held}
+use Rattle.endpoint_laws.proofs.Facts.{stands_of}
+use Rattle.endpoint_laws.proofs.Going.{Keeps, Goes, goes_nothing}
+
+-- The datagram opens in the session that stands under this session ID, if there is one.
+abbrev pub HeardIn : List ℕ → ℕ → Option SessionState → Type 0
+HeardIn datagram near None = Unit {0}
+HeardIn datagram near (Some session) = (plain : List ℕ) × OpensUnder session.secret (context_of session false) near datagram plain
+
+half_open : (role : Role) (stage : Stage) → StageFits role stage → is_opening stage ≡ true → (role ≡ Responder) × (stage ≡ Opening)
+half_open Initiator Opening fits e = absurd fits
+half_open Initiator Open fits e = absurd (cc)
+half_open Initiator NearClose fits e = absurd fits
+half_open Initiator FarLinger fits e = absurd fits
+half_open Initiator Closed fits e = absurd fits
+half_open Responder Opening fits e = (refl, refl)
+half_open Responder Open fits e = absurd (cc)
+half_open Responder NearClose fits e = absurd fits
+half_open Responder FarLinger fits e = absurd fits
+half_open Responder Closed fits e = absurd fits
+
+open_or : (a b : Bool) → b ≡ true → (a || b) ≡ true
+open_or true b e = refl
+open_or false b e = e
+
+module _ (setup : Setup) (from : AddressParts) (datagram : List ℕ) (draws : Draws) (s : State) (near : ℕ) (session : SessionState) (there : get s.sessions near ≡ Some session) where
+  abbrev j : Joined
+  j = session.joined
+
+  -- what is done, by what is held
+  abbrev did : Option Held → Did
+  did o = record {
+    state = with_session (with_startup s (with_ledger s.startup (noted_if s.startup.ledger (confirmed_fact o j.peer)))) near (confirmed session);
+    entries = fact_entries (confirmed_fact o j.peer);
+  }
+
+  abbrev fact : Fact
+  fact = Confirmed j.peer j.near
+
+  abbrev now : List Stamped → List Stamped
+  now past = stamped s.moment (FactEntry fact) ∷ past
+
+  confirmed_tied : (past : List Stamped) → Tied setup past s → session.role ≡ Responder → session.stage ≡ Opening → held_with s.startup.ledger j.peer ≡ Some (HalfOpen j) → Tied setup (now past) (did (Some (HalfOpen j))).state
+  confirmed_tied past tied role stage is =
+      let t : State = (did (Some (HalfOpen j))).state in
+      let a = agrees_of setup past s tied in
+      let new : SessionState = confirmed session in
+      let none = no_attempt s near session (a.apart near) there in
+      let at : IsAt near None (Some new) s t = record {
+        attempt = none;
+        session = get_inserted s.sessions near new;
+        attempts = λ q other. refl;
+        sessions = λ q other. get_beside s.sessions near new q other;
+      } in
+      let was_thing : thing_of session.role session.stage j ≡ HalfOpen j = ap (λ r. thing_of r session.stage j) role ∙ ap (λ g. thing_of Responder g j) stage in
+      let new_thing : thing_of session.role (confirmed_stage session.stage) j ≡ KeptAsResponder j = ap (λ r. thing_of r (confirmed_stage session.stage) j) role ∙ ap (λ g. thing_of Responder (confirmed_stage g) j) stage in
+      let ours = a.ours near session there in
+      let id : j.near ≡ near = (tied.sessions near session there).id in
+      let P : Option Held → Type 0 = λ o. Gave s.startup.ledger (option_to_list (confirmed_fact o j.peer)) (noted_if s.startup.ledger (confirmed_fact o j.peer)) in
+      let all_used : (q : ℕ) → is_used t q ≡ is_used s q = λ q. elim (tested q near) [
+        | inl e ↦
+            ap (is_used t) e.0 ∙ used_here near None (Some new) s t at
+            ∙ sym (open_or (is_some (get s.startup.attempts near)) (is_some (get s.sessions near)) (ap (λ (o : Option SessionState). is_some o) there)) ∙ ap (is_used s) (sym e.0)
+        | inr e ↦ used_elsewhere near None (Some new) s t at q e.0
+      ] in
+      tied_of setup (now past) t
+      (agrees_changed setup past (now past) s t near None (Some new) a
+      (record { config = a.given.config; cert = a.given.cert; secret = a.given.secret; cookie_secret = a.given.cookie_secret; own = a.given.own; max_peers = a.given.max_peers }) at
+      (noted_matches s t fact near None (Some new) a.matches at refl
+      (found_of_session s near session none there ∙ ap (λ h. Some (j.peer, h)) was_thing ∙ sym (ap (of_peer j.peer) is))
+      (ap (λ h. Some (j.peer, h)) new_thing ∙ sym (ap (λ o. of_peer j.peer (confirmed_held o)) is))
+      (λ h e. let same : Some (KeptAsResponder j) ≡ Some h = sym (ap confirmed_held is) ∙ e in let thing : KeptAsResponder j ≡ h = cc in ap near_of (sym thing) ∙ id))
+      (record { own = ours.own; secret = ours.secret; stage = subst (λ r. StageFits r (confirmed_stage session.stage)) (sym role) (subst (λ g. StageFits Responder (confirmed_stage g)) (sym stage) tt) })
+      (λ done w. inr w)
+      (ids_same setup.config.max_sessions (ids_in_use (facts_of past)) s t a.ids all_used (omega (arith, len_known s.sessions near new session there)))
+      (rows_after_known s.startup.ledger fact setup.config.max_peers (knows_held s.startup.ledger j.peer (HalfOpen j) is) tied.rows))
+      ((subst P is (gave_confirmed s.startup.ledger j.peer)) 0 (facts_of past) tied.account)
+
+  confirmed_goes : (past : List Stamped) → Tied setup past s → HeardIn datagram near (Some session) → is_opening session.stage ≡ true →
+      Goes setup (Receive from datagram draws) past s (did (held_with s.startup.ledger j.peer))
+  confirmed_goes past tied heard opening =
+      let is = tied.sessions near session there in
+      let half = half_open session.role session.stage is.stage opening in
+      let held_is : held_with s.startup.ledger j.peer ≡ Some (HalfOpen j) =
+      is.thing ∙ ap (λ h. Some h) (ap (λ r. thing_of r session.stage j) half.0 ∙ ap (λ g. thing_of Responder g j) half.1) in
+      let after = confirmed_tied past tied half.0 half.1 held_is in
+      let context : context_of session false ≡ inward (own_of setup) (HalfOpen j) = ap (λ r. context_between j session.own r false) half.0 ∙ ap (λ own. context_between j own Responder false) is.own in
+      let under : OpensUnder setup.secret (inward (own_of setup) (HalfOpen j)) j.near datagram heard.0 =
+      subst (λ id. OpensUnder setup.secret (inward (own_of setup) (HalfOpen j)) id datagram heard.0) (sym is.id)
+      (subst (λ c. OpensUnder setup.secret c near datagram heard.0) context (subst (λ x. OpensUnder x (context_of session false) near datagram heard.0) is.secret heard.1)) in
+      subst (λ o. Goes setup (Receive from datagram draws) past s (did o)) (sym held_is) (record {
+        meets = (
+          (
+            stands_of (own_of setup) (noted s.startup.ledger fact) fact (facts_of past) after.own after.account,
+            record { j = j; session = sym (reads_held 0 s.startup.ledger (facts_of past) tied.account j.peer) ∙ held_is; by = (heard.0, under) },
+          ),
+          tt,
+        );
+        tied = after;
+        moment = refl;
+      })
+
+pub goes_confirming_by : (setup : Setup) (from : AddressParts) (datagram : List ℕ) (draws : Draws) (s : State) (near : ℕ) (o : Option SessionState) → get s.sessions near ≡ o → HeardIn datagram near o →
+    Keeps setup (Receive from datagram draws) s (confirming_by s near o)
+goes_confirming_by setup from datagram draws s near None is heard = goes_nothing setup (Receive from datagram draws) s
+goes_confirming_by setup from datagram draws s near (Some session) is heard = either (is_opening session.stage) refl
+  where
+    either : (b : Bool) → is_opening session.stage ≡ b → Keeps setup (Receive from datagram draws) s (if b then (record {
+      state = with_session (with_startup s (after_confirm s.startup session.joined.peer)) near (confirmed session);
+      entries = fact_entries (confirm_fact s.startup session.joined.peer);
+    }) else nothing s)
+    either true e past tied = confirmed_goes setup from datagram draws s near session is past tied heard e
+    either false e past tied = goes_nothing setup (Receive from datagram draws) s past tied
+
+-- The datagram opens in the session of its place.
+abbrev pub HeardAt : State → Place → List ℕ → Type 0
+HeardAt s Startup datagram = Unit {0}
+HeardAt s (Attempt near) datagram = Unit {0}
+HeardAt s (Session near) datagram = HeardIn datagram near (get s.sessions near)
+
+pub goes_confirming : (setup : Setup) (from : AddressParts) (datagram : List ℕ) (draws : Draws) (s : State) (place : Place) → HeardAt s place datagram → Keeps setup (Receive from datagram draws) s (confirming s place)
+goes_confirming setup from datagram draws s Startup heard = goes_nothing setup (Receive from datagram draws) s
+goes_confirming setup from datagram draws s (Attempt near) heard = goes_nothing setup (Receive from datagram draws) s
+goes_confirming setup from datagram draws s (Session near) heard = goes_confirming_by setup from datagram draws s near (get s.sessions near) refl heard

@@ -1,0 +1,164 @@
+-- The number of each attempt is one of 64 bits: the last one that is given is the greatest of them.
+use Rattle.std.proofs.Common.{◌≡◌, ℕ, ◌+◌, ◌-◌, ◌^◌, ◌<◌, ◌==◌, max, List, [], ◌∷◌, ◌++◌, Bool, true, false, if◌then◌else◌, None, sym, ap, subst, ◌∙◌, arith}
+use Rattle.std.proofs.lemmas.Bool.Decides.{nat_tests}
+use Rattle.std.specs.Str.{bytes_eq}
+use Rattle.rtmfp_forms.specs.Address.{AddressParts}
+use Rattle.glare_core.specs.declared.facts.Fact.{Fact}
+use Rattle.glare_core.specs.declared.facts.Fact.TheVariants.{Started, Born, Opened, Confirmed, Ended}
+use Rattle.glare_core.specs.declared.answers.StartRefusal.TheVariants.{OwnPrint, AttemptsSpent, PeersFull}
+use Rattle.glare_core.specs.Standing.{count}
+use Rattle.glare_core.specs.Ledger.{Ledger, held_with, row_count}
+use Rattle.glare_core.specs.Calls.{where_true, start_held, peers_full}
+use Rattle.glare_core.proofs.Accounts.{reads_started}
+use Rattle.startup.specs.Attempts.{begin_spread, after_begin}
+use Rattle.crypto_profile.specs.declared.keys.Context.TheVariants.{Startup}
+use Rattle.endpoint_model.specs.declared.config.Draws.{Draws}
+use Rattle.endpoint_model.specs.declared.entry.Entry.{Entry}
+use Rattle.endpoint_model.specs.declared.entry.Entry.TheVariants.{Fact as FactEntry, Discard, Out}
+use Rattle.endpoint_model.specs.Event.{Setup, own_of, Call, Open, Cancel, Receive, Tick, Answer, Began, Done, NotOpened, Refused, Stopped, OutOfMemory, Event, moment_at}
+use Rattle.endpoint_laws.specs.Past.{Stamped, stamped, onto, facts_of, past_of}
+use Rattle.endpoint_laws.specs.Lawful.{Opens, FactLine, IsCounted}
+use Rattle.endpoint_model.specs.State.{State, Did, nothing, at_moment, with_startup, with_sealed, free_from}
+use Rattle.endpoint_model.specs.Sending.{last_count, startup_datagram, sent_startup, sent_each}
+use Rattle.endpoint_model.specs.Due.{open_refusal, opening}
+use Rattle.endpoint_model.specs.Log.{Answers, Leads}
+use Rattle.endpoint_laws.specs.Laws.{AreCalls}
+use Rattle.endpoint_laws.proofs.Counted.{count_more}
+use Rattle.endpoint_laws.proofs.Facts.{all_none, test_fails}
+use Rattle.endpoint_laws.proofs.Lines.{EntriesMeet, EventsMeet, FactPart, CountPart}
+use Rattle.endpoint_laws.proofs.Tied.{Tied}
+use Rattle.endpoint_laws.proofs.Starting.{may_start}
+use Rattle.endpoint_laws.proofs.OutLog.{TiesGoOn}
+
+-- ---- entries that are no facts
+
+abbrev NoFacts : List Entry → Type 0
+NoFacts [] = Unit {0}
+NoFacts (FactEntry fact ∷ rest) = ⊥
+NoFacts (Discard place cause ∷ rest) = NoFacts rest
+NoFacts (Out to sent context ∷ rest) = NoFacts rest
+
+no_facts_both : (xs ys : List Entry) → NoFacts xs → NoFacts ys → NoFacts (xs ++ ys)
+no_facts_both [] ys p q = q
+no_facts_both (FactEntry fact ∷ rest) ys p q = absurd p
+no_facts_both (Discard place cause ∷ rest) ys p q = no_facts_both rest ys p q
+no_facts_both (Out to sent context ∷ rest) ys p q = no_facts_both rest ys p q
+
+startup_no_facts : (s : State) (to : AddressParts) (sid : ℕ) (plain : List ℕ) → NoFacts (sent_startup s to sid plain).entries
+startup_no_facts s to sid plain = by (s.sealed == last_count)
+  where
+    by : (b : Bool) → NoFacts (let d : Did = (if b then nothing s else record { state = with_sealed s (s.sealed + 1); entries = Out to (startup_datagram s sid plain) Startup ∷ [] }) in d.entries)
+    by true = tt
+    by false = tt
+
+each_no_facts : (s : State) (plain : List ℕ) (to : List AddressParts) → NoFacts (sent_each s plain to).entries
+each_no_facts s plain [] = tt
+each_no_facts s plain (to ∷ rest) =
+    let first = sent_startup s to 0 plain in
+    no_facts_both first.entries (sent_each first.state plain rest).entries (startup_no_facts s to 0 plain) (each_no_facts first.state plain rest)
+
+no_facts_counted : (setup : Setup) (now : ℕ) (call : Call) (past : List Stamped) (entries : List Entry) → NoFacts entries → EntriesMeet CountPart setup now call past entries
+no_facts_counted setup now call past [] none = tt
+no_facts_counted setup now call past (FactEntry fact ∷ rest) none = absurd none
+no_facts_counted setup now call past (Discard place cause ∷ rest) none = (tt, no_facts_counted setup now call (stamped now (Discard place cause) ∷ past) rest none)
+no_facts_counted setup now call past (Out to sent context ∷ rest) none = (tt, no_facts_counted setup now call (stamped now (Out to sent context) ∷ past) rest none)
+
+-- ---- a call that opens no attempt
+
+abbrev IsNotOpen : Call → Type 0
+IsNotOpen (Open peer candidates draws) = ⊥
+IsNotOpen (Cancel n) = Unit {0}
+IsNotOpen (Receive from datagram draws) = Unit {0}
+IsNotOpen (Tick draws) = Unit {0}
+
+opens_none : (call : Call) (peer ni : List ℕ) → IsNotOpen call → Opens call peer ni → ⊥
+opens_none (Open towards candidates draws) peer ni other by = other
+opens_none (Cancel n) peer ni other by = by
+opens_none (Receive from datagram draws) peer ni other by = by
+opens_none (Tick draws) peer ni other by = by
+
+fact_counted : (setup : Setup) (now : ℕ) (call : Call) (past : List Stamped) (rest : List Entry) (fact : Fact) → IsNotOpen call → FactLine setup now call past rest fact → IsCounted fact
+fact_counted setup now call past rest (Started peer n near ni) other line = absurd (opens_none call peer ni other line.by)
+fact_counted setup now call past rest (Born j) other line = tt
+fact_counted setup now call past rest (Opened j) other line = tt
+fact_counted setup now call past rest (Confirmed peer near) other line = tt
+fact_counted setup now call past rest (Ended peer near why) other line = tt
+
+other_counted : (setup : Setup) (now : ℕ) (call : Call) (past : List Stamped) (entries : List Entry) → IsNotOpen call → EntriesMeet FactPart setup now call past entries → EntriesMeet CountPart setup now call past entries
+other_counted setup now call past [] other meets = tt
+other_counted setup now call past (FactEntry fact ∷ rest) other meets =
+    (fact_counted setup now call past rest fact other meets.0.1, other_counted setup now call (stamped now (FactEntry fact) ∷ past) rest other meets.1)
+other_counted setup now call past (Discard place cause ∷ rest) other meets = (tt, other_counted setup now call (stamped now (Discard place cause) ∷ past) rest other meets.1)
+other_counted setup now call past (Out to sent context ∷ rest) other meets = (tt, other_counted setup now call (stamped now (Out to sent context) ∷ past) rest other meets.1)
+
+-- ---- the count after an event
+
+few_after : (setup : Setup) (now : ℕ) (call : Call) (past : List Stamped) (entries : List Entry) → EntriesMeet FactPart setup now call past entries → EntriesMeet CountPart setup now call past entries →
+    count (facts_of past) < 2 ^ 64 → count (facts_of (onto now entries past)) < 2 ^ 64
+few_after setup now call past [] f n few = few
+few_after setup now call past (FactEntry fact ∷ rest) f n few =
+    few_after setup now call (stamped now (FactEntry fact) ∷ past) rest f.1 n.1 (count_more (own_of setup) (facts_of past) fact few f.0.0 n.0)
+few_after setup now call past (Discard place cause ∷ rest) f n few = few_after setup now call (stamped now (Discard place cause) ∷ past) rest f.1 n.1 few
+few_after setup now call past (Out to sent context ∷ rest) f n few = few_after setup now call (stamped now (Out to sent context) ∷ past) rest f.1 n.1 few
+
+-- the count after the events of a log
+
+pub few_at_end : (setup : Setup) (last : ℕ) (past : List Stamped) (log : List Event) → EventsMeet FactPart setup last past log → EventsMeet CountPart setup last past log →
+    count (facts_of past) < 2 ^ 64 → count (facts_of (past_of last past log)) < 2 ^ 64
+few_at_end setup last past [] f n few = few
+few_at_end setup last past (e ∷ log) f n few =
+    few_at_end setup (moment_at last e) (onto (moment_at last e) e.entries past) log f.1 n.1 (few_after setup (moment_at last e) e.call past e.entries f.0 n.0 few)
+
+-- ---- an attempt
+
+not_last : (s : State) (peer : List ℕ) (candidates : List AddressParts) → open_refusal s peer candidates ≡ None → (s.startup.ledger.started == 2 ^ 64 - 1) ≡ false
+not_last s peer candidates none =
+    let l : Ledger = s.startup.ledger in
+    let each = all_none (where_true (bytes_eq peer l.own) OwnPrint ∷ start_held (held_with l peer) ∷ where_true (l.started == 2 ^ 64 - 1) AttemptsSpent ∷ where_true (peers_full l peer) (PeersFull (row_count l)) ∷ [])
+    (may_start s peer candidates none).start in
+    test_fails (l.started == 2 ^ 64 - 1) AttemptsSpent each.1.1.0
+
+next_fits : (n : ℕ) → n < 2 ^ 64 → (n == 2 ^ 64 - 1) ≡ false → n + 1 < 2 ^ 64
+next_fits n few other = grind (arith, nat_tests)
+
+opening_counted : (setup : Setup) (now : ℕ) (past : List Stamped) (s : State) (peer : List ℕ) (candidates : List AddressParts) (draws : Draws) (entries : List Entry) → Tied setup past s → count (facts_of past) < 2 ^ 64 →
+    open_refusal s peer candidates ≡ None → entries ≡ (opening s peer candidates draws).entries → EntriesMeet CountPart setup now (Open peer candidates draws) past entries
+opening_counted setup now past s peer candidates draws entries tied few none is =
+    let started : s.startup.ledger.started ≡ 0 + count (facts_of past) = reads_started 0 s.startup.ledger (facts_of past) tied.account in
+    let fact : Fact = Started peer (s.startup.ledger.started + 1) (free_from s draws.word) draws.nonce in
+    let t : State = with_startup s (after_begin s.startup peer candidates (free_from s draws.word) draws.nonce draws.tag s.moment) in
+    let spread = begin_spread s.startup peer candidates draws.nonce draws.tag s.moment in
+    subst (λ (es : List Entry). EntriesMeet CountPart setup now (Open peer candidates draws) past es) (sym is) (
+      next_fits s.startup.ledger.started (omega (arith, started, few)) (not_last s peer candidates none),
+      no_facts_counted setup now (Open peer candidates draws) (stamped now (FactEntry fact) ∷ past) (sent_each t spread.plain spread.to).entries (each_no_facts t spread.plain spread.to),
+    )
+
+-- ---- logs
+
+answers_counted : (setup : Setup) (now : ℕ) (past : List Stamped) (s t : State) (call : Call) (answer : Answer) (entries : List Entry) → Tied setup past s → count (facts_of past) < 2 ^ 64 →
+    EntriesMeet FactPart setup now call past entries → Answers s call answer entries t → EntriesMeet CountPart setup now call past entries
+answers_counted setup now past s t (Open peer candidates draws) (Began n) entries tied few meets h = opening_counted setup now past s peer candidates draws entries tied few h.0 h.2.entries
+answers_counted setup now past s t (Open peer candidates draws) (NotOpened refusal) entries tied few meets h =
+    subst (λ (es : List Entry). EntriesMeet CountPart setup now (Open peer candidates draws) past es) (sym h.1.entries) tt
+answers_counted setup now past s t (Open peer candidates draws) Done entries tied few meets h = absurd h
+answers_counted setup now past s t (Open peer candidates draws) (Refused refusal) entries tied few meets h = absurd h
+answers_counted setup now past s t (Open peer candidates draws) (Stopped stop) entries tied few meets h = absurd h
+answers_counted setup now past s t (Open peer candidates draws) OutOfMemory entries tied few meets h = absurd h
+answers_counted setup now past s t (Cancel n) answer entries tied few meets h = other_counted setup now (Cancel n) past entries tt meets
+answers_counted setup now past s t (Receive from datagram draws) answer entries tied few meets h = other_counted setup now (Receive from datagram draws) past entries tt meets
+answers_counted setup now past s t (Tick draws) answer entries tied few meets h = other_counted setup now (Tick draws) past entries tt meets
+
+pub counts_from : (setup : Setup) → TiesGoOn setup → (log : List Event) (last : ℕ) (past : List Stamped) (s t : State) → s.moment ≡ last → Tied setup past s → count (facts_of past) < 2 ^ 64 →
+    AreCalls log → Leads s log t → EventsMeet FactPart setup last past log → EventsMeet CountPart setup last past log
+counts_from setup go [] last past s t is tied few calls leads meets = tt
+counts_from setup go (e ∷ log) last past s t is tied few calls leads meets =
+    let middle : State = leads.0 in
+    let m : ℕ = moment_at last e in
+    let noted : Tied setup past (at_moment s e.moment) = go.noted past s e.moment tied in
+    let now : max s.moment e.moment ≡ m = ap (λ (n : ℕ). max n e.moment) is in
+    let after = go.after past s middle e calls.0 tied leads.1 in
+    let counted = answers_counted setup m past (at_moment s e.moment) middle e.call e.answer e.entries noted few meets.0 leads.1 in (
+      counted,
+      counts_from setup go log m (onto m e.entries past) middle t (after.1 ∙ now) (subst (λ (n : ℕ). Tied setup (onto n e.entries past) middle) now after.0)
+          (few_after setup m e.call past e.entries meets.0 counted few) calls.1 leads.2 meets.1,
+    )

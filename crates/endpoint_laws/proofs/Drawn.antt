@@ -1,0 +1,396 @@
+-- The nonces that a call draws: none, or that of its draws, once.
+use Rattle.std.proofs.Common.{◌≡◌, ℕ, zero, suc, List, [], ◌∷◌, ◌++◌, take, Bool, true, false, if◌then◌else◌, Option, Some, None, Result, Ok, Err, inl, inr, ◌⊎◌, refl, sym, ap, ◌∙◌}
+use Rattle.std.specs.Prelude.{◌==◌, not}
+use Rattle.std.specs.FinMap.{get}
+use Rattle.rtmfp_forms.specs.Address.{AddressParts}
+use Rattle.rtmfp_packet.specs.Walk.{Placed}
+use Rattle.rtmfp_chunks.specs.declared.reading.ChunkFault.{ChunkFault}
+use Rattle.rtmfp_chunks.specs.Chunk.{Chunk, IHello, FIHello, RHello, Redirect, CookieChange, IIKeying, RIKeying, Ping, PingReply, Close, CloseAck, Fragment}
+use Rattle.rtmfp_chunks.specs.FieldReading.{chunk_reading}
+use Rattle.cookies.specs.declared.CookieTest.{CookieTest}
+use Rattle.cookies.specs.declared.CookieTest.TheVariants.{Bad, Moved, Expired as Late, Current}
+use Rattle.cookies.specs.Cookie.{cookie_test}
+use Rattle.glare_core.specs.declared.facts.Why.{Why}
+use Rattle.glare_core.specs.declared.facts.Why.TheVariants.{Cancelled, Expired}
+use Rattle.glare_core.specs.declared.facts.Fact.TheVariants.{Started, Born, Opened, Confirmed, Ended}
+use Rattle.glare_core.specs.declared.facts.Joined.{Joined}
+use Rattle.glare_core.specs.declared.facts.Held.{Held}
+use Rattle.glare_core.specs.declared.facts.Held.TheVariants.{Opening as OpeningHeld, HalfOpen, KeptAsResponder, KeptAsInitiator}
+use Rattle.glare_core.specs.declared.answers.Keying.{Keying}
+use Rattle.glare_core.specs.Ledger.{held_with}
+use Rattle.glare_core.specs.Calls.{where_true, first_that_stands, way_made, born_fact, confirmed_fact}
+use Rattle.startup.specs.declared.cause.Cause.{Cause}
+use Rattle.startup.specs.declared.cause.Cause.TheVariants.{UnknownChunk, WrongPlace, SecondKeying, Fragment as FragmentCause}
+use Rattle.startup.specs.declared.answer.Answer.{Answer}
+use Rattle.startup.specs.declared.answer.Due.TheVariants.{Ended as EndDue}
+use Rattle.startup.specs.declared.attempt.Stage.{Stage}
+use Rattle.startup.specs.declared.attempt.Stage.TheVariants.{Hello, Keying as KeyingStage}
+use Rattle.startup.specs.State.{AttemptState, StartupState, SpreadParts}
+use Rattle.startup.specs.Attempts.{begin_spread, after_begin, hello_spread, keying_signed, confirm_fact, after_confirm, end_of, lowest, has_number, ended_attempt, after_rhello, rhello_keying, after_cookie_change, cookie_change_keying}
+use Rattle.startup.specs.Due.{due_of, after_due, is_due, is_over, repeat_of, repeat_signed}
+use Rattle.startup.specs.Keyings.{InitiatorKeying, ResponderKeying, initiator_keying_in, responder_keying_in, keying_of, repeated_session, again_or_birth, keyed_with, keyed_reading, after_keying, change_answer, session_answer, born_session, opened_reading, initiator_hello_answer}
+use Rattle.session_core.specs.Session.{SessionState, is_opening, confirmed}
+use Rattle.endpoint_model.specs.declared.config.Draws.{Draws}
+use Rattle.endpoint_model.specs.declared.place.Place.{Place}
+use Rattle.endpoint_model.specs.declared.place.Place.TheVariants.{Startup, Attempt, Session}
+use Rattle.endpoint_model.specs.declared.entry.Entry.{Entry}
+use Rattle.endpoint_model.specs.declared.entry.Entry.TheVariants.{Fact as FactEntry, Discard, Out}
+use Rattle.endpoint_model.specs.declared.answers.Stopped.{Stopped as Stop}
+use Rattle.endpoint_model.specs.Event.{Call, Open, Cancel, Receive, Tick, Answer as CallAnswer, Began, Done, NotOpened, Refused, Stopped, OutOfMemory}
+use Rattle.endpoint_laws.specs.Past.{Stamped, stamped, onto, facts_of}
+use Rattle.endpoint_model.specs.State.{State, Did, Does, nothing, fact_entries, with_startup, with_session, free_from}
+use Rattle.endpoint_model.specs.Sending.{sent_startup, sent_answer, sent_if, sent_each, sent_by, sent_in_session, last_count}
+use Rattle.endpoint_model.specs.Admission.{Admission, Rejected, Admitted, admission, sid_at, confirming, confirming_by}
+use Rattle.endpoint_model.specs.Keying.{chunks_of}
+use Rattle.endpoint_model.specs.Due.{opening, cancelling, due_done, tick_once, ticks, keying_done, initiator_keyed, opening_done, responder_keyed, with_born, read_done, effect, discarded_or, chunk_did, keyed_after, chunks_did, received, part_received}
+use Rattle.endpoint_model.specs.Causes.{is_known, form_cause, takes, initiator_keying_cause, responder_keying_cause, read_cause, last_cause, chunk_cause}
+use Rattle.endpoint_laws.specs.Lawful.{nonces_of}
+use Rattle.endpoint_model.specs.Log.{stopped, Answers}
+
+-- ---- the nonces among entries, in their order
+
+abbrev pub drawn_and : Entry → List (List ℕ) → List (List ℕ)
+drawn_and (FactEntry (Started peer n near ni)) rest = ni ∷ rest
+drawn_and (FactEntry (Born j)) rest = j.nr ∷ rest
+drawn_and (FactEntry (Opened j)) rest = rest
+drawn_and (FactEntry (Confirmed peer near)) rest = rest
+drawn_and (FactEntry (Ended peer near why)) rest = rest
+drawn_and (Discard place cause) rest = rest
+drawn_and (Out to datagram context) rest = rest
+
+abbrev pub drawn : List Entry → List (List ℕ)
+drawn [] = []
+drawn (entry ∷ rest) = drawn_and entry (drawn rest)
+
+-- none, or this one once
+abbrev pub Once : List ℕ → List Entry → Type 0
+Once nonce entries = (drawn entries ≡ []) ⊎ (drawn entries ≡ nonce ∷ [])
+
+drawn_both : (xs ys : List Entry) → drawn (xs ++ ys) ≡ drawn xs ++ drawn ys
+drawn_both [] ys = refl
+drawn_both (FactEntry (Started peer n near ni) ∷ xs) ys = ap (λ (l : List (List ℕ)). ni ∷ l) (drawn_both xs ys)
+drawn_both (FactEntry (Born j) ∷ xs) ys = ap (λ (l : List (List ℕ)). j.nr ∷ l) (drawn_both xs ys)
+drawn_both (FactEntry (Opened j) ∷ xs) ys = drawn_both xs ys
+drawn_both (FactEntry (Confirmed peer near) ∷ xs) ys = drawn_both xs ys
+drawn_both (FactEntry (Ended peer near why) ∷ xs) ys = drawn_both xs ys
+drawn_both (Discard place cause ∷ xs) ys = drawn_both xs ys
+drawn_both (Out to datagram context ∷ xs) ys = drawn_both xs ys
+
+none_after : (xs ys : List Entry) (l : List (List ℕ)) → drawn xs ≡ [] → drawn ys ≡ l → drawn (xs ++ ys) ≡ l
+none_after xs ys l p q = drawn_both xs ys ∙ ap (λ (a : List (List ℕ)). a ++ drawn ys) p ∙ q
+
+once_after : (nonce : List ℕ) (xs ys : List Entry) → drawn xs ≡ [] → Once nonce ys → Once nonce (xs ++ ys)
+once_after nonce xs ys p (inl q) = inl (none_after xs ys [] p q)
+once_after nonce xs ys p (inr q) = inr (none_after xs ys (nonce ∷ []) p q)
+
+once_before : (nonce : List ℕ) (xs ys : List Entry) → Once nonce xs → drawn ys ≡ [] → Once nonce (xs ++ ys)
+once_before nonce xs ys (inl p) q = inl (none_after xs ys [] p q)
+once_before nonce xs ys (inr p) q = inr (drawn_both xs ys ∙ ap (λ (a : List (List ℕ)). a ++ drawn ys) p ∙ ap (λ (a : List (List ℕ)). nonce ∷ a) q)
+
+none_either : (b : Bool) (d e : Did) → drawn d.entries ≡ [] → drawn e.entries ≡ [] → drawn (if b then d else e).entries ≡ []
+none_either true d e p q = p
+none_either false d e p q = q
+
+-- ---- what is sent draws none
+
+none_startup : (s : State) (to : AddressParts) (sid : ℕ) (plain : List ℕ) → drawn (sent_startup s to sid plain).entries ≡ []
+none_startup s to sid plain = none_either (s.sealed == last_count) _ _ refl refl
+
+none_answer : (s : State) (answer : Answer) → drawn (sent_answer s answer).entries ≡ []
+none_answer s answer = none_startup s answer.to answer.sid answer.plain
+
+none_if : (s : State) (answer : Option Answer) → drawn (sent_if s answer).entries ≡ []
+none_if s None = refl
+none_if s (Some answer) = none_answer s answer
+
+none_each : (s : State) (plain : List ℕ) (to : List AddressParts) → drawn (sent_each s plain to).entries ≡ []
+none_each s plain [] = refl
+none_each s plain (to ∷ rest) =
+    none_after (sent_startup s to 0 plain).entries (sent_each (sent_startup s to 0 plain).state plain rest).entries [] (none_startup s to 0 plain) (none_each (sent_startup s to 0 plain).state plain rest)
+
+none_by : (s : State) (near : ℕ) (to : AddressParts) (chunk : Chunk) (o : Option SessionState) → drawn (sent_by s near to chunk o).entries ≡ []
+none_by s near to chunk None = refl
+none_by s near to chunk (Some session) = none_either (session.sealed == last_count) _ _ refl refl
+
+none_in_session : (s : State) (near : ℕ) (to : AddressParts) (chunk : Chunk) → drawn (sent_in_session s near to chunk).entries ≡ []
+none_in_session s near to chunk = none_by s near to chunk (get s.sessions near)
+
+-- ---- ends and confirmations draw none
+
+none_confirmed : (h : Option Held) (peer : List ℕ) → drawn (fact_entries (confirmed_fact h peer)) ≡ []
+none_confirmed None peer = refl
+none_confirmed (Some (OpeningHeld n near ni)) peer = refl
+none_confirmed (Some (HalfOpen j)) peer = refl
+none_confirmed (Some (KeptAsResponder j)) peer = refl
+none_confirmed (Some (KeptAsInitiator j)) peer = refl
+
+none_confirming_by : (s : State) (near : ℕ) (o : Option SessionState) → drawn (confirming_by s near o).entries ≡ []
+none_confirming_by s near None = refl
+none_confirming_by s near (Some session) =
+    let d : Did = record {
+      state = with_session (with_startup s (after_confirm s.startup session.joined.peer)) near (confirmed session);
+      entries = fact_entries (confirm_fact s.startup session.joined.peer);
+    } in
+    none_either (is_opening session.stage) d (nothing s) (none_confirmed (held_with s.startup.ledger session.joined.peer) session.joined.peer) refl
+
+none_confirming : (s : State) (place : Place) → drawn (confirming s place).entries ≡ []
+none_confirming s Startup = refl
+none_confirming s (Attempt near) = refl
+none_confirming s (Session near) = none_confirming_by s near (get s.sessions near)
+
+none_end : (o : Option (ℕ × AttemptState)) (why : Why) → drawn (fact_entries (end_of o why)) ≡ []
+none_end None why = refl
+none_end (Some e) why = refl
+
+none_way : (peer : List ℕ) (h : Option Held) → drawn (fact_entries (way_made peer h)) ≡ []
+none_way peer None = refl
+none_way peer (Some (OpeningHeld n near ni)) = refl
+none_way peer (Some (HalfOpen j)) = refl
+none_way peer (Some (KeptAsResponder j)) = refl
+none_way peer (Some (KeptAsInitiator j)) = refl
+
+-- ---- time draws none
+
+none_repeat : (t : State) (key cert : List ℕ) (near : ℕ) (a : AttemptState) (stage : Stage) → drawn (due_done t (Some (repeat_signed key cert near a stage))).entries ≡ []
+none_repeat t key cert near a Hello = none_each t (hello_spread a a.candidates).plain (hello_spread a a.candidates).to
+none_repeat t key cert near a (KeyingStage at cookie) = none_answer t (keying_signed key cert near a at cookie)
+
+none_due : (t : State) (s : StartupState) (moment : ℕ) (o : Option (ℕ × AttemptState)) → drawn (due_done t (due_of s moment o)).entries ≡ []
+none_due t s moment None = refl
+none_due t s moment (Some e) = by (is_over moment e.1)
+  where
+    by : (b : Bool) → drawn (due_done t (Some (if b then EndDue (ended_attempt e Expired) else repeat_of s e.0 e.1))).entries ≡ []
+    by true = refl
+    by false = none_repeat t _ _ e.0 e.1 e.1.stage
+
+none_tick : (s : State) → drawn (tick_once s).entries ≡ []
+none_tick s = none_due (with_startup s (after_due s.startup s.moment)) s.startup s.moment (lowest (is_due s.moment) s.startup.attempts)
+
+none_ticks : (count : ℕ) (s : State) → drawn (ticks count s).entries ≡ []
+none_ticks zero s = refl
+none_ticks (suc count) s = none_after (tick_once s).entries (ticks count (tick_once s).state).entries [] (none_tick s) (none_ticks count (tick_once s).state)
+
+-- ---- a keying of an initiator draws once
+
+once_again : (t : State) (s : StartupState) (from : AddressParts) (keying : Keying) (near : ℕ) (nonce : List ℕ) (o : Option Joined) →
+    Once nonce (keying_done t from (Some (again_or_birth s keying from near nonce o))).entries
+once_again t s from keying near nonce (Some j) = inl (none_answer t (session_answer s j from))
+once_again t s from keying near nonce None =
+    let ended : List Entry = fact_entries (way_made keying.peer (held_with s.ledger keying.peer)) in
+    let born : List Entry = FactEntry (born_fact s.ledger keying near nonce) ∷ [] in
+    let u : State = with_born t (way_made keying.peer (held_with s.ledger keying.peer)) (born_fact s.ledger keying near nonce) from in
+    let answer : Answer = session_answer s (born_session s.ledger keying near nonce) from in
+    once_before nonce (ended ++ born) (sent_answer u answer).entries (inr (none_after ended born (nonce ∷ []) (none_way keying.peer (held_with s.ledger keying.peer)) refl)) (none_answer u answer)
+
+once_tested : (t : State) (s : StartupState) (from : AddressParts) (now near : ℕ) (nonce : List ℕ) (keying : InitiatorKeying) (test : CookieTest) →
+    Once nonce (keying_done t from (Some (keyed_with s from now near nonce keying test))).entries
+once_tested t s from now near nonce keying Bad = inl (none_answer t (change_answer s keying from now))
+once_tested t s from now near nonce keying Moved = inl (none_answer t (change_answer s keying from now))
+once_tested t s from now near nonce keying Late = inl (none_answer t (change_answer s keying from now))
+once_tested t s from now near nonce keying Current =
+    once_again t s from (keying_of keying) near nonce (repeated_session (held_with s.ledger (keying_of keying).peer) (keying_of keying))
+
+once_read : (t : State) (s : StartupState) (from : AddressParts) (now near : ℕ) (nonce : List ℕ) (r : Result InitiatorKeying Cause) →
+    Once nonce (keying_done t from (keyed_reading s from now near nonce r)).entries
+once_read t s from now near nonce (Ok keying) = once_tested t s from now near nonce keying (cookie_test s.cookie_secret keying.cookie from now)
+once_read t s from now near nonce (Err cause) = inl refl
+
+once_keyed : (s : State) (from : AddressParts) (draws : Draws) (payload : List ℕ) → Once draws.nonce (initiator_keyed s from draws payload).entries
+once_keyed s from draws payload =
+    once_read (with_startup s (after_keying s.startup payload from s.moment (free_from s draws.word) draws.nonce)) s.startup from s.moment (free_from s draws.word) draws.nonce (initiator_keying_in payload)
+
+-- ---- the other chunks draw none
+
+none_opening : (s : State) (near : ℕ) (from : AddressParts) (o : Option AttemptState) (r : Result ResponderKeying Cause) → drawn (opening_done s near from (opened_reading near o r)).entries ≡ []
+none_opening s near from None r = refl
+none_opening s near from (Some a) (Err cause) = refl
+none_opening s near from (Some a) (Ok keying) = none_in_session _ near from (Ping [])
+
+none_responder : (s : State) (near : ℕ) (from : AddressParts) (payload : List ℕ) → drawn (responder_keyed s near from payload).entries ≡ []
+none_responder s near from payload = none_opening s near from (get s.startup.attempts near) (responder_keying_in payload)
+
+none_read : (s : State) (place : Place) (from : AddressParts) (r : Result Chunk ChunkFault) → drawn (read_done s place from r).entries ≡ []
+none_read s place from (Ok (IHello epd tag)) = none_answer s (initiator_hello_answer s.startup tag from s.moment)
+none_read s place from (Ok (FIHello epd reply tag)) = none_answer s (initiator_hello_answer s.startup tag reply s.moment)
+none_read s place from (Ok (RHello tag cookie cert)) = none_if (with_startup s (after_rhello s.startup tag cookie from s.moment)) (rhello_keying s.startup tag cookie from)
+none_read s place from (Ok (CookieChange old new)) =
+    none_if (with_startup s (after_cookie_change s.startup (sid_at place) old new s.moment)) (cookie_change_keying s.startup (sid_at place) old new)
+none_read s place from (Ok (Ping bytes)) = none_in_session s (sid_at place) from (PingReply bytes)
+none_read s place from (Ok (Redirect tag list)) = refl
+none_read s place from (Ok (IIKeying near cookie cert part sign)) = refl
+none_read s place from (Ok (RIKeying near part sign)) = refl
+none_read s place from (Ok (PingReply bytes)) = refl
+none_read s place from (Ok Close) = refl
+none_read s place from (Ok CloseAck) = refl
+none_read s place from (Ok (Fragment more id number bytes)) = refl
+none_read s place from (Err fault) = refl
+
+-- ---- a chunk
+
+-- the effect by the type: that of an initiator's keying, that of a responder's, or another
+none_other : (s : State) (place : Place) (from : AddressParts) (draws : Draws) (c : Placed) (a b : Bool) → a ≡ false →
+    drawn (if a then initiator_keyed s from draws c.payload else if b then responder_keyed s (sid_at place) from c.payload else read_done s place from (chunk_reading c.kind c.payload)).entries ≡ []
+none_other s place from draws c true b is = absurd (cc)
+none_other s place from draws c false true is = none_responder s (sid_at place) from c.payload
+none_other s place from draws c false false is = none_read s place from (chunk_reading c.kind c.payload)
+
+once_effect : (s : State) (place : Place) (from : AddressParts) (draws : Draws) (c : Placed) (a b : Bool) →
+    Once draws.nonce (if a then initiator_keyed s from draws c.payload else if b then responder_keyed s (sid_at place) from c.payload else read_done s place from (chunk_reading c.kind c.payload)).entries
+once_effect s place from draws c true b = once_keyed s from draws c.payload
+once_effect s place from draws c false true = inl (none_responder s (sid_at place) from c.payload)
+once_effect s place from draws c false false = inl (none_read s place from (chunk_reading c.kind c.payload))
+
+rest_none : {A : Type 0} (o : Option A) (rest : List (Option A)) → first_that_stands (o ∷ rest) ≡ None → first_that_stands rest ≡ None
+rest_none None rest e = e
+rest_none (Some x) rest e = absurd (cc)
+
+head_none : {A : Type 0} (o : Option A) → first_that_stands (o ∷ []) ≡ None → o ≡ None
+head_none None e = refl
+head_none (Some x) e = absurd (cc)
+
+last_none : {A : Type 0} (a b c d e : Option A) → first_that_stands (a ∷ b ∷ c ∷ d ∷ e ∷ []) ≡ None → e ≡ None
+last_none a b c d e h =
+    head_none e (rest_none d (e ∷ []) (rest_none c (d ∷ e ∷ []) (rest_none b (c ∷ d ∷ e ∷ []) (rest_none a (b ∷ c ∷ d ∷ e ∷ []) h))))
+
+-- a keying after another one isn't without a cause
+not_second : (s : State) (place : Place) (from : AddressParts) (c : Placed) → (c.kind == 0x38) ≡ true → chunk_cause s place true from c ≡ None → ⊥
+not_second s place from c is none =
+    let last : last_cause s place true from c ≡ None =
+    last_none (where_true (not (is_known c.kind)) (UnknownChunk c.kind)) (form_cause c.kind c.payload) (where_true (c.kind == 0x7f) FragmentCause)
+    (where_true (not (takes place c.kind)) WrongPlace) (last_cause s place true from c) none in
+    let clash : Some SecondKeying ≡ None =
+    sym (ap (λ (b : Bool). if b then initiator_keying_cause s true from c.payload
+    else if c.kind == 0x78 then responder_keying_cause s (sid_at place) c.payload
+    else read_cause s place (chunk_reading c.kind c.payload)) is) ∙ last in
+    cc
+
+module _ (place : Place) (from : AddressParts) (draws : Draws) where
+  none_chunk : (s : State) (keyed_before : Bool) (c : Placed) → (c.kind == 0x38) ≡ false → drawn (chunk_did place from draws keyed_before s c).entries ≡ []
+  none_chunk s keyed_before c is = by (chunk_cause s place keyed_before from c)
+    where
+      by : (o : Option Cause) → drawn (discarded_or s c.at o (effect s place from draws c)).entries ≡ []
+      by None = none_other s place from draws c (c.kind == 0x38) (c.kind == 0x78) is
+      by (Some cause) = refl
+
+  none_second : (s : State) (c : Placed) → (c.kind == 0x38) ≡ true → drawn (chunk_did place from draws true s c).entries ≡ []
+  none_second s c is = by (chunk_cause s place true from c) refl
+    where
+      by : (o : Option Cause) → chunk_cause s place true from c ≡ o → drawn (discarded_or s c.at o (effect s place from draws c)).entries ≡ []
+      by None e = absurd (not_second s place from c is e)
+      by (Some cause) e = refl
+
+  none_later : (s : State) (c : Placed) → drawn (chunk_did place from draws true s c).entries ≡ []
+  none_later s c = by (c.kind == 0x38) refl
+    where
+      by : (b : Bool) → (c.kind == 0x38) ≡ b → drawn (chunk_did place from draws true s c).entries ≡ []
+      by true e = none_second s c e
+      by false e = none_chunk s true c e
+
+  once_chunk : (s : State) (keyed_before : Bool) (c : Placed) → Once draws.nonce (chunk_did place from draws keyed_before s c).entries
+  once_chunk s keyed_before c = by (chunk_cause s place keyed_before from c)
+    where
+      by : (o : Option Cause) → Once draws.nonce (discarded_or s c.at o (effect s place from draws c)).entries
+      by None = once_effect s place from draws c (c.kind == 0x38) (c.kind == 0x78)
+      by (Some cause) = inl refl
+
+  -- ---- the chunks of a datagram
+
+  none_chunks : (cs : List Placed) (s : State) (keyed_before : Bool) → keyed_before ≡ true → drawn (chunks_did place from draws keyed_before s cs).entries ≡ []
+  none_chunks [] s keyed_before is = refl
+  none_chunks (c ∷ cs) s true is =
+      let d : Did = chunk_did place from draws true s c in
+      none_after d.entries (chunks_did place from draws (keyed_after true c) d.state cs).entries [] (none_later s c) (none_chunks cs d.state (keyed_after true c) refl)
+  none_chunks (c ∷ cs) s false is = absurd (cc)
+
+  once_chunks : (cs : List Placed) (s : State) (keyed_before : Bool) → keyed_before ≡ false → Once draws.nonce (chunks_did place from draws keyed_before s cs).entries
+  once_chunks [] s keyed_before is = inl refl
+  once_chunks (c ∷ cs) s true is = absurd (cc)
+  once_chunks (c ∷ cs) s false is = by (c.kind == 0x38) refl (λ e. once_chunks cs (chunk_did place from draws false s c).state (keyed_after false c) e)
+    where
+      by : (b : Bool) → (c.kind == 0x38) ≡ b → (keyed_after false c ≡ false → Once draws.nonce (chunks_did place from draws (keyed_after false c) (chunk_did place from draws false s c).state cs).entries) →
+          Once draws.nonce (chunks_did place from draws false s (c ∷ cs)).entries
+      by true e rest =
+          let d : Did = chunk_did place from draws false s c in
+          once_before draws.nonce d.entries (chunks_did place from draws (keyed_after false c) d.state cs).entries (once_chunk s false c) (none_chunks cs d.state (keyed_after false c) e)
+      by false e rest =
+          let d : Did = chunk_did place from draws false s c in
+          once_after draws.nonce d.entries (chunks_did place from draws (keyed_after false c) d.state cs).entries (none_chunk s false c e) (rest e)
+
+once_some : (from : AddressParts) (draws : Draws) (s : State) (place : Place) (cs : List Placed) → Once draws.nonce ((confirming s place).entries ++ (chunks_did place from draws false (confirming s place).state cs).entries)
+once_some from draws s place cs =
+    once_after draws.nonce (confirming s place).entries (chunks_did place from draws false (confirming s place).state cs).entries (none_confirming s place) (once_chunks place from draws cs (confirming s place).state false refl)
+
+once_received : (from : AddressParts) (draws : Draws) (a : Admission) → Once draws.nonce (received from draws a).entries
+once_received from draws (Rejected s cause) = inl refl
+once_received from draws (Admitted s place packet) = once_some from draws s place (chunks_of packet)
+
+once_part : (from : AddressParts) (draws : Draws) (a : Admission) (count : ℕ) → Once draws.nonce (part_received from draws a count).entries
+once_part from draws (Rejected s cause) count = inl refl
+once_part from draws (Admitted s place packet) count = once_some from draws s place (take count (chunks_of packet))
+
+once_stopped : (s : State) (from : AddressParts) (draws : Draws) (a : Admission) (stop : Stop) → Once draws.nonce (stopped s from draws a stop).entries
+once_stopped s from draws a stop = by stop.taken
+  where
+    by : (b : Bool) → Once draws.nonce (if b then part_received from draws a stop.chunks else nothing s).entries
+    by true = once_part from draws a stop.chunks
+    by false = inl refl
+
+-- ---- a call
+
+abbrev pub MayDraw : Call → List Entry → Type 0
+MayDraw (Open peer candidates draws) entries = Once draws.nonce entries
+MayDraw (Cancel n) entries = drawn entries ≡ []
+MayDraw (Receive from datagram draws) entries = Once draws.nonce entries
+MayDraw (Tick draws) entries = drawn entries ≡ []
+
+none_of : (d : Did) (t : State) (entries : List Entry) → Does d t [] entries → drawn d.entries ≡ [] → drawn entries ≡ []
+none_of d t entries does none = ap drawn does.entries ∙ none
+
+once_of : (nonce : List ℕ) (d : Did) (t : State) (entries : List Entry) → Does d t [] entries → Once nonce d.entries → Once nonce entries
+once_of nonce d t entries does (inl none) = inl (ap drawn does.entries ∙ none)
+once_of nonce d t entries does (inr one) = inr (ap drawn does.entries ∙ one)
+
+pub answers_draw : (s t : State) (call : Call) (answer : CallAnswer) (entries : List Entry) → Answers s call answer entries t → MayDraw call entries
+answers_draw s t (Open peer candidates draws) (Began n) entries h =
+    let begun : State = with_startup s (after_begin s.startup peer candidates (free_from s draws.word) draws.nonce draws.tag s.moment) in
+    let spread : SpreadParts = begin_spread s.startup peer candidates draws.nonce draws.tag s.moment in
+    once_of draws.nonce (opening s peer candidates draws) t entries h.2 (inr (ap (λ (l : List (List ℕ)). draws.nonce ∷ l) (none_each begun spread.plain spread.to)))
+answers_draw s t (Open peer candidates draws) (NotOpened refusal) entries h = inl (none_of (nothing s) t entries h.1 refl)
+answers_draw s t (Cancel n) Done entries h = none_of (cancelling s n) t entries h.1 (none_end (lowest (has_number n) s.startup.attempts) Cancelled)
+answers_draw s t (Cancel n) (Refused refusal) entries h = none_of (nothing s) t entries h.2 refl
+answers_draw s t (Receive from datagram draws) Done entries h = once_of draws.nonce (received from draws (admission s datagram)) t entries h (once_received from draws (admission s datagram))
+answers_draw s t (Receive from datagram draws) (Stopped stop) entries h =
+    once_of draws.nonce (stopped s from draws (admission s datagram) stop) t entries h.1 (once_stopped s from draws (admission s datagram) stop)
+answers_draw s t (Tick draws) Done entries h = none_of (ticks h.0.0 s) t entries h.0.1 (none_ticks h.0.0 s)
+answers_draw s t (Tick draws) OutOfMemory entries h = none_of (ticks h.0 s) t entries h.1 (none_ticks h.0 s)
+answers_draw s t call answer entries h = absurd h
+
+-- ---- the nonces of the facts of an event
+
+pub nonces_none : (moment : ℕ) (entries : List Entry) (past : List Stamped) → drawn entries ≡ [] → nonces_of (facts_of (onto moment entries past)) ≡ nonces_of (facts_of past)
+nonces_none moment [] past e = refl
+nonces_none moment (FactEntry (Started peer n near ni) ∷ rest) past e = absurd (cc)
+nonces_none moment (FactEntry (Born j) ∷ rest) past e = absurd (cc)
+nonces_none moment (FactEntry (Opened j) ∷ rest) past e = nonces_none moment rest (stamped moment (FactEntry (Opened j)) ∷ past) e
+nonces_none moment (FactEntry (Confirmed peer near) ∷ rest) past e = nonces_none moment rest (stamped moment (FactEntry (Confirmed peer near)) ∷ past) e
+nonces_none moment (FactEntry (Ended peer near why) ∷ rest) past e = nonces_none moment rest (stamped moment (FactEntry (Ended peer near why)) ∷ past) e
+nonces_none moment (Discard place cause ∷ rest) past e = nonces_none moment rest (stamped moment (Discard place cause) ∷ past) e
+nonces_none moment (Out to datagram context ∷ rest) past e = nonces_none moment rest (stamped moment (Out to datagram context) ∷ past) e
+
+one_front : (x y : List ℕ) (l : List (List ℕ)) → x ∷ l ≡ y ∷ [] → (x ≡ y) × (l ≡ [])
+one_front x y l e = (let same : x ≡ y = cc in same, let rest : l ≡ [] = cc in rest)
+
+nonces_first : (moment : ℕ) (rest : List Entry) (past : List Stamped) (x y : List ℕ) → x ∷ drawn rest ≡ y ∷ [] → nonces_of (facts_of past) ≡ x ∷ [] → nonces_of (facts_of (onto moment rest past)) ≡ y ∷ []
+nonces_first moment rest past x y e is = let front = one_front x y (drawn rest) e in nonces_none moment rest past front.1 ∙ is ∙ ap (λ (z : List ℕ). z ∷ []) front.0
+
+pub nonces_once : (moment : ℕ) (entries : List Entry) (past : List Stamped) (nonce : List ℕ) → nonces_of (facts_of past) ≡ [] → drawn entries ≡ nonce ∷ [] → nonces_of (facts_of (onto moment entries past)) ≡ nonce ∷ []
+nonces_once moment [] past nonce none e = absurd (cc)
+nonces_once moment (FactEntry (Started peer n near ni) ∷ rest) past nonce none e =
+    nonces_first moment rest (stamped moment (FactEntry (Started peer n near ni)) ∷ past) ni nonce e (ap (λ (l : List (List ℕ)). ni ∷ l) none)
+nonces_once moment (FactEntry (Born j) ∷ rest) past nonce none e =
+    nonces_first moment rest (stamped moment (FactEntry (Born j)) ∷ past) j.nr nonce e (ap (λ (l : List (List ℕ)). j.nr ∷ l) none)
+nonces_once moment (FactEntry (Opened j) ∷ rest) past nonce none e = nonces_once moment rest (stamped moment (FactEntry (Opened j)) ∷ past) nonce none e
+nonces_once moment (FactEntry (Confirmed peer near) ∷ rest) past nonce none e = nonces_once moment rest (stamped moment (FactEntry (Confirmed peer near)) ∷ past) nonce none e
+nonces_once moment (FactEntry (Ended peer near why) ∷ rest) past nonce none e = nonces_once moment rest (stamped moment (FactEntry (Ended peer near why)) ∷ past) nonce none e
+nonces_once moment (Discard place cause ∷ rest) past nonce none e = nonces_once moment rest (stamped moment (Discard place cause) ∷ past) nonce none e
+nonces_once moment (Out to datagram context ∷ rest) past nonce none e = nonces_once moment rest (stamped moment (Out to datagram context) ∷ past) nonce none e

@@ -1,0 +1,200 @@
+-- Attempts end and are repeated: what is stated is lawful, and the state agrees with it.
+use Rattle.std.proofs.Common.{◌≡◌, ℕ, zero, suc, ◌+◌, ◌-◌, ◌<◌, ◌≤◌, List, [], ◌∷◌, length, Bool, true, false, if◌then◌else◌, option_to_list, Option, Some, None, is_some, ◌||◌, nat_le, IfSome, inr, refl, sym, ap, subst, ◌∙◌, arith}
+use Rattle.std.specs.Prelude.{◌==◌}
+use Rattle.std.proofs.lemmas.Bool.Decides.{nat_tests}
+use Rattle.std.specs.Ordering.{nat_cmp}
+use Rattle.std.specs.FinMap.{FinMap, get, len, keys, remove}
+use Rattle.rtmfp_base.proofs.Maps.{get_removed, get_left, len_less}
+use Rattle.rtmfp_base.proofs.Lowest.{first_is_there}
+use Rattle.glare_core.specs.declared.facts.Why.{Why}
+use Rattle.glare_core.specs.declared.facts.Why.TheVariants.{Cancelled, Expired}
+use Rattle.glare_core.specs.declared.facts.Fact.{Fact}
+use Rattle.glare_core.specs.declared.facts.Fact.TheVariants.{Ended}
+use Rattle.glare_core.specs.declared.facts.Held.{Held}
+use Rattle.glare_core.specs.declared.facts.Held.TheVariants.{Opening}
+use Rattle.glare_core.specs.Ledger.{Ledger, held_with, noted, noted_if}
+use Rattle.glare_core.specs.Calls.{ended_fact, MayEnd}
+use Rattle.glare_core.specs.Account.{Gave}
+use Rattle.glare_core.proofs.Accounts.{reads_held}
+use Rattle.glare_core.proofs.Giving.{gave_ended}
+use Rattle.startup.specs.State.{AttemptState}
+use Rattle.startup.specs.Attempts.{lowest, has_number, with_attempt, without_attempt, ended_attempt, end_of, after_end_of}
+use Rattle.startup.specs.declared.answer.Due.{Due}
+use Rattle.startup.specs.declared.answer.Due.TheVariants.{Ended as EndDue, Hello as HelloDue, Keying as KeyingDue}
+use Rattle.startup.specs.declared.attempt.Stage.{Stage}
+use Rattle.startup.specs.declared.attempt.Stage.TheVariants.{Hello, Keying}
+use Rattle.crypto_profile.specs.Keys.{sign_key_of}
+use Rattle.startup.specs.Due.{repeat_signed, repeat_of, is_over, is_due, repeated, due_of, after_due_of}
+use Rattle.session_core.specs.Session.{SessionState}
+use Rattle.endpoint_model.specs.declared.entry.Entry.TheVariants.{Fact as FactEntry}
+use Rattle.endpoint_model.specs.Event.{Setup, Call, Cancel, own_of}
+use Rattle.endpoint_laws.specs.Past.{Stamped, stamped, onto, facts_of, ids_in_use}
+use Rattle.endpoint_laws.specs.Lawful.{IsTick}
+use Rattle.endpoint_model.specs.State.{State, Did, fact_entries, with_startup}
+use Rattle.endpoint_model.specs.Due.{cancelling, due_done, tick_once, ticks}
+use Rattle.endpoint_model.proofs.Members.{has}
+use Rattle.endpoint_model.proofs.Ids.{has_keys, count_keys}
+use Rattle.endpoint_laws.proofs.Matching.{of_peer, ids_less}
+use Rattle.endpoint_laws.proofs.Tied.{Tied}
+use Rattle.endpoint_laws.proofs.Agrees.{IsAt, found_of_attempt, used_here, used_elsewhere, agrees_changed, agrees_of, tied_of}
+use Rattle.endpoint_laws.proofs.Moving.{noted_matches, rows_after_known, knows_held, tied_attempt}
+use Rattle.endpoint_laws.proofs.Facts.{stands_of}
+use Rattle.endpoint_laws.proofs.Going.{Keeps, goes_nothing, goes_then, goes_spread, goes_answer}
+
+-- what the end of a held attempt gives
+gave_end : (l : Ledger) (peer : List ℕ) (n near : ℕ) (ni : List ℕ) (why : Why) → held_with l peer ≡ Some (Opening n near ni) → MayEnd why (Opening n near ni) → Gave l (Ended peer near why ∷ []) (noted l (Ended peer near why))
+gave_end l peer n near ni why is may =
+    let P : Option Held → Type 0 = λ o. Gave l (option_to_list (ended_fact o peer why)) (noted_if l (ended_fact o peer why)) in
+    subst P is (gave_ended l peer why (subst (λ (o : Option Held). IfSome o (MayEnd why)) (sym is) may))
+
+used_before : (oa : Option AttemptState) (os : Option SessionState) {a : AttemptState} → oa ≡ Some a → (is_some oa || is_some os) ≡ true
+used_before None os e = absurd (cc)
+used_before (Some b) os e = refl
+
+pub some_length : (n : ℕ) (ids : List ℕ) (q : ℕ) → has q ids ≡ true → n ≡ length ids → 0 < n
+some_length n [] q e is = absurd (cc)
+some_length n (x ∷ ids) q e is = omega arith
+
+less_one : (n m k : ℕ) → m ≡ n - 1 → 0 < n → m + k + 1 ≡ n + k
+less_one n m k e some = omega arith
+
+-- a table in which something is found isn't empty
+pub some_entry : {A : Type 0} (m : FinMap nat_cmp A) (near : ℕ) (a : A) → get m near ≡ Some a → 0 < len m
+some_entry m near a e = some_length (len m) (keys m) near (sym (has_keys m near) ∙ ap is_some e) (sym (count_keys m))
+
+-- the end of an attempt, for a cause that may end attempts
+module _ (setup : Setup) (past : List Stamped) (s : State) (tied : Tied setup past s) (near : ℕ) (a : AttemptState) (there : get s.startup.attempts near ≡ Some a) (why : Why) where
+  abbrev the_end : Fact
+  the_end = Ended a.peer near why
+
+  abbrev left : State
+  left = with_startup s (without_attempt s.startup near the_end)
+
+  pub end_tied : MayEnd why (Opening a.n near a.ni) → Tied setup (stamped s.moment (FactEntry the_end) ∷ past) left
+  end_tied may =
+      let now : List Stamped = stamped s.moment (FactEntry the_end) ∷ past in
+      let g = agrees_of setup past s tied in
+      let is : held_with s.startup.ledger a.peer ≡ Some (Opening a.n near a.ni) = tied.sound.held near a there in
+      let at : IsAt near None None s left = record {
+        attempt = get_removed s.startup.attempts near;
+        session = tied.apart near a there;
+        attempts = λ q other. get_left s.startup.attempts near q other;
+        sessions = λ q other. refl;
+      } in
+      tied_of setup now left
+      (agrees_changed setup past now s left near None None g
+      (record { config = g.given.config; cert = g.given.cert; secret = g.given.secret; cookie_secret = g.given.cookie_secret; own = g.given.own; max_peers = g.given.max_peers }) at
+      (noted_matches s left the_end near None None g.matches at refl (found_of_attempt s near a there ∙ sym (ap (of_peer a.peer) is)) refl (λ h e. absurd (cc)))
+      tt (λ done w. inr w)
+      (ids_less setup.config.max_sessions (ids_in_use (facts_of past)) s left near g.ids (used_elsewhere near None None s left at) (used_here near None None s left at)
+      (used_before (get s.startup.attempts near) (get s.sessions near) there)
+      (less_one (len s.startup.attempts) (len (remove s.startup.attempts near)) (len s.sessions) (len_less s.startup.attempts near a there) (some_entry s.startup.attempts near a there)))
+      (rows_after_known s.startup.ledger the_end setup.config.max_peers (knows_held s.startup.ledger a.peer (Opening a.n near a.ni) is) tied.rows))
+      (gave_end s.startup.ledger a.peer a.n near a.ni why is may 0 (facts_of past) tied.account)
+
+-- ---- giving one up
+
+number_is : (a b : ℕ) → (a == b) ≡ true → b ≡ a
+number_is a b e = grind (arith, nat_tests)
+
+cancel_by : (setup : Setup) (s : State) (n : ℕ) (e : Option (ℕ × AttemptState)) → lowest (has_number n) s.startup.attempts ≡ e →
+    Keeps setup (Cancel n) s (record { state = with_startup s (after_end_of s.startup e Cancelled); entries = fact_entries (end_of e Cancelled) })
+cancel_by setup s n None is = goes_nothing setup (Cancel n) s
+cancel_by setup s n (Some e) is = λ past tied.
+    let found = first_is_there (has_number n) s.startup.attempts e is in
+    let after = end_tied setup past s tied e.0 e.1 found.0 Cancelled tt in
+    let held_is : held_with s.startup.ledger e.1.peer ≡ Some (Opening e.1.n e.0 e.1.ni) = tied.sound.held e.0 e.1 found.0 in
+    record {
+      meets = (
+        (
+          stands_of (own_of setup) (noted s.startup.ledger (ended_attempt e Cancelled)) (ended_attempt e Cancelled) (facts_of past) after.own after.account,
+          record { n = e.1.n; near = e.0; ni = e.1.ni; is_held = sym (reads_held 0 s.startup.ledger (facts_of past) tied.account e.1.peer) ∙ held_is; by = number_is e.1.n n found.1 },
+        ),
+        tt,
+      );
+      tied = after;
+      moment = refl;
+    }
+
+pub goes_cancelling : (setup : Setup) (s : State) (n : ℕ) → Keeps setup (Cancel n) s (cancelling s n)
+goes_cancelling setup s n = cancel_by setup s n (lowest (has_number n) s.startup.attempts) refl
+
+-- ---- time
+
+over_is : (start moment : ℕ) → nat_le (start + 95000) moment ≡ true → start + 95000 ≤ moment
+over_is start moment e = grind (arith, nat_tests)
+
+-- hellos or a keying
+abbrev IsSending : Due → Type 0
+IsSending (EndDue fact) = ⊥
+IsSending (HelloDue spread) = Unit {0}
+IsSending (KeyingDue answer) = Unit {0}
+
+module _ (setup : Setup) (call : Call) (is_tick : IsTick call) (s : State) where
+  tick_end : (e : ℕ × AttemptState) → get s.startup.attempts e.0 ≡ Some e.1 → is_over s.moment e.1 ≡ true →
+      Keeps setup call s (record { state = with_startup s (without_attempt s.startup e.0 (ended_attempt e Expired)); entries = FactEntry (ended_attempt e Expired) ∷ [] })
+  tick_end e there over past tied =
+      let after = end_tied setup past s tied e.0 e.1 there Expired tt in
+      let held_is : held_with s.startup.ledger e.1.peer ≡ Some (Opening e.1.n e.0 e.1.ni) = tied.sound.held e.0 e.1 there in
+      record {
+        meets = (
+          (
+            stands_of (own_of setup) (noted s.startup.ledger (ended_attempt e Expired)) (ended_attempt e Expired) (facts_of past) after.own after.account,
+            (
+              is_tick,
+              record {
+                n = e.1.n;
+                ni = e.1.ni;
+                is_held = sym (reads_held 0 s.startup.ledger (facts_of past) tied.account e.1.peer) ∙ held_is;
+                start = e.1.start;
+                started = tied.started e.0 e.1 there;
+                over = over_is e.1.start s.moment over;
+              },
+            ),
+          ),
+          tt,
+        );
+        tied = after;
+        moment = refl;
+      }
+
+  -- a thing in a state that was reached without entries
+  from : (d : State → Did) (t : State) → t.moment ≡ s.moment → ((past : List Stamped) → Tied setup past s → Tied setup past t) → Keeps setup call t (d t) → Keeps setup call s (d t)
+  from d t moment more keeps past tied =
+      goes_then setup call past s (record { state = t; entries = [] }) d (record { meets = tt; tied = more past tied; moment = moment }) (keeps past (more past tied))
+
+  repeat_keeps : (due : Due) (t : State) → IsSending due → Keeps setup call t (due_done t (Some due))
+  repeat_keeps (EndDue fact) t sends = absurd sends
+  repeat_keeps (HelloDue spread) t sends = goes_spread setup call t spread
+  repeat_keeps (KeyingDue answer) t sends = goes_answer setup call t answer
+
+  repeat_sends : (key : List ℕ) (near : ℕ) (a : AttemptState) (stage : Stage) → IsSending (repeat_signed key s.startup.cert near a stage)
+  repeat_sends key near a Hello = tt
+  repeat_sends key near a (Keying at cookie) = tt
+
+  tick_repeat : (e : ℕ × AttemptState) → get s.startup.attempts e.0 ≡ Some e.1 →
+      Keeps setup call s (due_done (with_startup s (with_attempt s.startup e.0 (repeated e.1 s.moment))) (Some (repeat_of s.startup e.0 e.1)))
+  tick_repeat e there =
+      let due : Due = repeat_of s.startup e.0 e.1 in
+      let t : State = with_startup s (with_attempt s.startup e.0 (repeated e.1 s.moment)) in
+      from (λ u. due_done u (Some due)) t refl (λ past tied. tied_attempt setup past s e.0 e.1 (repeated e.1 s.moment) tied there refl (λ w. w)) (repeat_keeps due t (repeat_sends (sign_key_of s.startup.secret) e.0 e.1 e.1.stage))
+
+  tick_over : (e : ℕ × AttemptState) (b : Bool) → get s.startup.attempts e.0 ≡ Some e.1 → is_over s.moment e.1 ≡ b →
+      Keeps setup call s (due_done (with_startup s (if b then without_attempt s.startup e.0 (ended_attempt e Expired) else with_attempt s.startup e.0 (repeated e.1 s.moment)))
+      (Some (if b then EndDue (ended_attempt e Expired) else repeat_of s.startup e.0 e.1)))
+  tick_over e true there is = tick_end e there is
+  tick_over e false there is = tick_repeat e there
+
+  tick_by : (e : Option (ℕ × AttemptState)) → lowest (is_due s.moment) s.startup.attempts ≡ e →
+      Keeps setup call s (due_done (with_startup s (after_due_of s.startup s.moment e)) (due_of s.startup s.moment e))
+  tick_by None is = goes_nothing setup call s
+  tick_by (Some e) is = tick_over e (is_over s.moment e.1) (first_is_there (is_due s.moment) s.startup.attempts e is).0 refl
+
+  pub goes_tick_once : Keeps setup call s (tick_once s)
+  goes_tick_once = tick_by (lowest (is_due s.moment) s.startup.attempts) refl
+
+pub goes_ticks : (setup : Setup) (call : Call) → IsTick call → (count : ℕ) (s : State) → Keeps setup call s (ticks count s)
+goes_ticks setup call is_tick zero s = goes_nothing setup call s
+goes_ticks setup call is_tick (suc count) s = λ past tied.
+    let one = goes_tick_once setup call is_tick s past tied in
+    goes_then setup call past s (tick_once s) (ticks count) one (goes_ticks setup call is_tick count (tick_once s).state (onto s.moment (tick_once s).entries past) one.tied)

@@ -1,0 +1,161 @@
+-- An event is told: its facts are steps that are sound, each with what it heard before it and what its end tells after it.
+use Rattle.std.proofs.Common.{ℕ, ◌<◌, ◌^◌, List, [], ◌∷◌, Option, Some, ◌≡◌, inl, inr, refl, sym, ap, subst, ◌∙◌}
+use Rattle.crypto_profile.specs.declared.keys.Context.{Context}
+use Rattle.glare_core.specs.declared.facts.Fact.{Fact}
+use Rattle.glare_core.specs.declared.facts.Held.{Held}
+use Rattle.glare_core.specs.Standing.{held, count}
+use Rattle.glare_core.specs.Stands.{Stands}
+use Rattle.glare_core.specs.Tells.{Tell}
+use Rattle.glare_core.specs.Steps.{Item, Told, Did, Step, step, view, facts, holding}
+use Rattle.glare_core.specs.Told.{WasSent, nonces, with_nonce, AllDifferent}
+use Rattle.glare_core.proofs.Views.{view_same}
+use Rattle.endpoint_model.specs.declared.entry.Entry.{Entry}
+use Rattle.endpoint_model.specs.declared.entry.Entry.TheVariants.{Fact as FactEntry, Discard, Out}
+use Rattle.endpoint_model.specs.Event.{Setup, own_of, Call}
+use Rattle.endpoint_laws.specs.Past.{Stamped, stamped, facts_of}
+use Rattle.endpoint_laws.specs.Lawful.{FactLine, IsCounted, EntriesLawful}
+use Rattle.endpoint_laws.specs.History.{HasOut}
+use Rattle.endpoint_laws.specs.Laws.{IsCall}
+use Rattle.endpoint_laws.specs.Agreed.{stated_onto}
+use Rattle.endpoint_laws.proofs.FactsAlone.{alone, facts_alone}
+use Rattle.endpoint_laws.proofs.Fresh.{nonces_alone, different_before, is_new}
+use Rattle.endpoint_laws.proofs.HeldTold.{Holds, FactSizes, tell_of}
+use Rattle.endpoint_laws.proofs.Telling.{Telling, SentFor, Grown, grown, telling_told, stated_no_fact, sent_stays}
+use Rattle.endpoint_laws.proofs.Carried.{Carried, WasTold}
+use Rattle.endpoint_laws.proofs.Since.{CameSince, came_more}
+use Rattle.endpoint_laws.proofs.Heard.{WasCarried, IsHeardBy, Hears, hears, sizes_of}
+use Rattle.endpoint_laws.proofs.Counted.{count_more}
+
+-- How far an event has come: after these entries of its end, the facts of all ends are these, and they are told in these steps.
+pub record Far (setup : Setup) (call : Call) (start : List Fact) (base : List Step) (past : List Stamped) (so_far steps : List Step) : Type 0 where
+  pub telling : Telling steps
+  pub is : alone steps ≡ so_far
+  pub stated : facts (view (own_of setup) steps) ≡ facts_of past
+  pub came : CameSince call start (facts_of past)
+  pub grows : (t : Tell) → WasSent t base → WasSent t steps
+
+-- the steps after the rest of the entries, in which their datagrams carry what was told
+pub record Reached (setup : Setup) (entries : List Entry) (so_far steps : List Step) : Type 0 where
+  pub last : List Step
+  pub telling : Telling last
+  pub is : alone last ≡ stated_onto (own_of setup) entries so_far
+  pub grows : (t : Tell) → WasSent t steps → WasSent t last
+  pub outs : (sent : List ℕ) (context : Context) → HasOut sent context entries → Carried setup.secret sent context last
+
+module _ (setup : Setup) (now : ℕ) (call : Call) (start : List Fact) (base : List Step) (is_call : IsCall call) (carried : WasCarried setup start base call) where
+  abbrev own : List ℕ
+  own = own_of setup
+
+  -- what an entry leaves
+  record Next (fact : Fact) (past : List Stamped) (so_far steps : List Step) : Type 0 where
+    next : List Step
+    far : Far setup call start base (stamped now (FactEntry fact) ∷ past) (step own (Did fact 0) ∷ so_far) next
+    more : (t : Tell) → WasSent t steps → WasSent t next
+
+  -- a fact that has heard in these steps what it asks for
+  fact_grows : (fact : Fact) (past : List Stamped) (so_far steps : List Step) → Far setup call start base past so_far steps → Stands own (count (facts_of past)) (facts_of past) fact → IsCounted fact → FactSizes fact →
+      IsHeardBy own (view own steps) fact → AllDifferent (with_nonce (Did fact 0) (nonces so_far)) → Grown own fact steps
+  fact_grows fact past so_far steps far stands fits sizes heard new =
+      let same : facts_of past ≡ facts (view own steps) = sym far.stated in
+      let few : count (facts_of past) < 2 ^ 64 = subst (λ (fs : List Fact). count fs < 2 ^ 64) far.stated (far.telling.few own) in
+      grown own fact steps far.telling
+      (record {
+        fits = record { stands = subst (λ (fs : List Fact). Stands own (count fs) fs fact) same stands; heard = heard.0 };
+        fresh = is_new fact steps (nonces so_far) (sym (nonces_alone steps) ∙ ap nonces far.is) new;
+        called = heard.1;
+      })
+      sizes (subst (λ (fs : List Fact). count (fact ∷ fs) < 2 ^ 64) same (count_more own (facts_of past) fact few stands fits))
+
+  after_fact : (fact : Fact) (past : List Stamped) (rest : List Entry) (so_far steps older : List Step) → Far setup call start base past so_far steps → FactLine setup now call past rest fact →
+      ((t : Tell) → WasSent t older → WasSent t steps) → Grown own fact steps → Next fact past so_far older
+  after_fact fact past rest so_far steps older far line more g = record {
+    next = g.next;
+    far = record {
+      telling = g.telling;
+      is = g.is ∙ ap (λ (r : List Step). step own (Did fact 0) ∷ r) far.is;
+      stated =
+          sym (facts_alone own g.next) ∙ ap (λ (r : List Step). facts (view own r)) g.is ∙ ap facts (view_same own (Did fact 0) (alone steps))
+          ∙ ap (λ (fs : List Fact). fact ∷ fs) (facts_alone own steps ∙ far.stated);
+      came = came_more setup now call start past rest fact line far.came;
+      grows = λ t w. g.grows t (far.grows t w);
+    };
+    more = λ t w. g.grows t (more t w);
+  }
+
+  fact_next : (fact : Fact) (past : List Stamped) (rest : List Entry) (so_far steps : List Step) → Far setup call start base past so_far steps → Stands own (count (facts_of past)) (facts_of past) fact →
+      FactLine setup now call past rest fact → IsCounted fact → AllDifferent (with_nonce (Did fact 0) (nonces so_far)) → Hears own steps fact → Next fact past so_far steps
+  fact_next fact past rest so_far steps far stands line fits new (inl heard) =
+      let few : count (facts_of past) < 2 ^ 64 = subst (λ (fs : List Fact). count fs < 2 ^ 64) far.stated (far.telling.few own) in
+      let sizes = sizes_of setup now call past rest fact is_call few stands line fits in
+      after_fact fact past rest so_far steps steps far line (λ t w. w) (fact_grows fact past so_far steps far stands fits sizes heard new)
+  fact_next fact past rest so_far steps far stands line fits new (inr told) =
+      let t : Tell = told.0 in
+      let more : List Step = step own (Told t) ∷ steps in
+      let few : count (facts_of past) < 2 ^ 64 = subst (λ (fs : List Fact). count fs < 2 ^ 64) far.stated (far.telling.few own) in
+      let sizes = sizes_of setup now call past rest fact is_call few stands line fits in
+      let far' : Far setup call start base past so_far more = record {
+        telling = telling_told own t steps far.telling told.1;
+        is = far.is;
+        stated = stated_no_fact own own (Told t) steps tt ∙ far.stated;
+        came = far.came;
+        grows = λ u w. sent_stays (step own (Told t)) steps u (far.grows u w);
+      } in
+      after_fact fact past rest so_far more steps far' line (λ u w. sent_stays (step own (Told t)) steps u w)
+      (fact_grows fact past so_far more far' stands fits sizes (subst (λ (log : List Item). IsHeardBy own log fact) (sym (view_same own (Told t) steps)) told.2) new)
+
+  -- what is held at a moment was told, and has its sizes
+  was_told : (past : List Stamped) (so_far steps last : List Step) → Far setup call start base past so_far steps → ((t : Tell) → WasSent t steps → WasSent t last) → (peer : List ℕ) (h : Held) →
+      held peer (facts_of past) ≡ Some h → WasTold own peer h last
+  was_told past so_far steps last far more peer h e =
+      let is : holding own peer steps ≡ Some h = ap (held peer) far.stated ∙ e in
+      let holds = subst (λ (o : Option Held). Holds (view own steps) peer o) is (far.telling.holds own peer) in
+      let sent = subst (λ (o : Option Held). SentFor own peer steps o) is (far.telling.sent own peer) in
+      record { sent = more (tell_of own peer h) sent; sizes = holds.1 }
+
+  beside : (entry : Entry) (past : List Stamped) (so_far steps : List Step) → facts_of (stamped now entry ∷ past) ≡ facts_of past → Far setup call start base past so_far steps →
+      Far setup call start base (stamped now entry ∷ past) so_far steps
+  beside entry past so_far steps same far = record {
+    telling = far.telling;
+    is = far.is;
+    stated = far.stated ∙ sym same;
+    came = subst (λ (fs : List Fact). CameSince call start fs) (sym same) far.came;
+    grows = far.grows;
+  }
+
+  pub reached : (entries : List Entry) (past : List Stamped) (so_far steps : List Step) → Far setup call start base past so_far steps → EntriesLawful setup now call past entries →
+      AllDifferent (nonces (stated_onto own entries so_far)) → Reached setup entries so_far steps
+  reached [] past so_far steps far lawful new = record { last = steps; telling = far.telling; is = far.is; grows = λ t w. w; outs = λ sent context none. absurd none }
+  reached (FactEntry fact ∷ rest) past so_far steps far lawful new =
+      let line = lawful.0 in
+      let heard = hears setup now start past base steps far.telling far.stated far.grows call fact rest is_call carried far.came line.0 line.1 lawful.1 in
+      let one = fact_next fact past rest so_far steps far line.0 line.1 line.2 (different_before own rest (step own (Did fact 0) ∷ so_far) new) heard in
+      let r = reached rest (stamped now (FactEntry fact) ∷ past) (step own (Did fact 0) ∷ so_far) one.next one.far lawful.1 new in
+      record {
+        last = r.last;
+        telling = r.telling;
+        is = r.is;
+        grows = λ t w. r.grows t (one.more t w);
+        outs = λ sent context out. elim out [ inl none ↦ absurd none | inr later ↦ r.outs sent context later ];
+      }
+  reached (Discard place cause ∷ rest) past so_far steps far lawful new =
+      let r = reached rest (stamped now (Discard place cause) ∷ past) so_far steps (beside (Discard place cause) past so_far steps refl far) lawful.1 new in
+      record {
+        last = r.last;
+        telling = r.telling;
+        is = r.is;
+        grows = r.grows;
+        outs = λ sent context out. elim out [ inl none ↦ absurd none | inr later ↦ r.outs sent context later ];
+      }
+  reached (Out to datagram context ∷ rest) past so_far steps far lawful new =
+      let r = reached rest (stamped now (Out to datagram context) ∷ past) so_far steps (beside (Out to datagram context) past so_far steps refl far) lawful.1 new in
+      let here : Carried setup.secret datagram context r.last = record { setup = setup; group = refl; past = past; line = lawful.0; told = was_told past so_far steps r.last far r.grows } in
+      record {
+        last = r.last;
+        telling = r.telling;
+        is = r.is;
+        grows = r.grows;
+        outs = λ sent sealed_for out. elim out [
+          | inl it ↦ subst (λ (b : List ℕ). Carried setup.secret b sealed_for r.last) it.0 (subst (λ (k : Context). Carried setup.secret datagram k r.last) it.1 here)
+          | inr later ↦ r.outs sent sealed_for later
+        ];
+      }

@@ -1,0 +1,300 @@
+-- An end never sealed more startup packets than datagrams went out by its log.
+use Rattle.std.proofs.Common.{◌≡◌, ℕ, zero, suc, ◌+◌, ◌≤◌, List, [], ◌∷◌, ◌++◌, take, drop, Bool, true, false, ◌==◌, if◌then◌else◌, Option, Some, None, Result, Ok, Err, refl, ap, ◌∙◌, arith}
+use Rattle.std.specs.FinMap.{get}
+use Rattle.rtmfp_forms.specs.Address.{AddressParts}
+use Rattle.rtmfp_packet.specs.declared.head.PacketHead.{PacketHead}
+use Rattle.rtmfp_packet.specs.declared.head.PacketFault.{PacketFault}
+use Rattle.rtmfp_packet.specs.Walk.{Placed}
+use Rattle.rtmfp_packet.specs.Whole.{Whole}
+use Rattle.rtmfp_chunks.specs.declared.reading.ChunkFault.{ChunkFault}
+use Rattle.rtmfp_chunks.specs.Chunk.{Chunk, IHello, FIHello, RHello, Redirect, CookieChange, IIKeying, RIKeying, Ping, PingReply, Close, CloseAck, Fragment}
+use Rattle.rtmfp_chunks.specs.FieldReading.{chunk_reading}
+use Rattle.glare_core.specs.declared.facts.Fact.{Fact}
+use Rattle.glare_core.specs.declared.facts.Fact.TheVariants.{Started, Born, Opened, Confirmed, Ended}
+use Rattle.startup.specs.declared.cause.Cause.{Cause}
+use Rattle.startup.specs.declared.cause.Cause.TheVariants.{WrongPlace}
+use Rattle.startup.specs.declared.answer.Answer.{Answer}
+use Rattle.startup.specs.declared.answer.Keyed.{Keyed}
+use Rattle.startup.specs.declared.answer.Keyed.TheVariants.{Change, Again, Birth}
+use Rattle.startup.specs.declared.answer.Due.{Due}
+use Rattle.startup.specs.declared.answer.Due.TheVariants.{Ended as EndDue, Hello as HelloDue, Keying as KeyingDue}
+use Rattle.startup.specs.State.{SpreadParts}
+use Rattle.startup.specs.Attempts.{begin_spread, after_begin, after_rhello, rhello_keying, after_cookie_change, cookie_change_keying, after_confirm, confirm_fact}
+use Rattle.startup.specs.Due.{due, after_due}
+use Rattle.startup.specs.Keyings.{initiator_hello_answer, keyed, after_keying, opened, after_opening}
+use Rattle.glare_core.specs.Calls.{started_fact}
+use Rattle.crypto_profile.specs.declared.keys.Context.{Context}
+use Rattle.crypto_profile.specs.declared.keys.Context.TheVariants.{Startup as StartupContext}
+use Rattle.session_core.specs.Session.{SessionState, is_opening, confirmed, context_of}
+use Rattle.session_core.specs.Sealed.{after_seal}
+use Rattle.endpoint_model.specs.declared.config.Draws.{Draws}
+use Rattle.endpoint_model.specs.declared.place.Place.{Place}
+use Rattle.endpoint_model.specs.declared.place.Place.TheVariants.{Startup, Attempt, Session}
+use Rattle.endpoint_model.specs.declared.answers.Stopped.{Stopped as Stop}
+use Rattle.endpoint_model.specs.declared.entry.Entry.{Entry}
+use Rattle.endpoint_model.specs.declared.entry.Entry.TheVariants.{Fact as FactEntry, Out}
+use Rattle.endpoint_model.specs.Event.{Setup, Call, Open, Cancel, Receive, Tick, Answer as CallAnswer, Began, Done, NotOpened, Refused, Stopped, OutOfMemory, Event, moment_at}
+use Rattle.endpoint_laws.specs.Past.{Stamped, stamped, onto, past_of}
+use Rattle.endpoint_model.specs.Keying.{chunks_of}
+use Rattle.endpoint_model.specs.State.{State, Did, Does, nothing, after_entries, then_do, fact_entries, with_startup, with_session, with_sealed, free_from, fresh, at_moment}
+use Rattle.endpoint_model.specs.Sending.{last_count, startup_datagram, session_datagram, sent_startup, sent_answer, sent_if, sent_each, sent_spread, sent_by, sent_in_session}
+use Rattle.endpoint_model.specs.Admission.{Admission, Rejected, Admitted, admission, admitted, admitted_packet, opened_datagram, sid_at, counted_by, counted_at, timed_by, timed_at, confirming_by, confirming, packet_in, has_mode, mode_at}
+use Rattle.endpoint_model.specs.Causes.{chunk_cause}
+use Rattle.endpoint_model.specs.Due.{opening, cancelling, due_done, tick_once, ticks, with_born, keying_done, initiator_keyed, with_opened, opening_done, responder_keyed, read_done, effect, discarded_or, chunk_did, keyed_after, chunks_did, received, part_received}
+use Rattle.endpoint_laws.specs.Complete.{outs_in, outs_of}
+use Rattle.endpoint_model.specs.Log.{Answers, Leads, StandsFor, stopped}
+
+-- how many datagrams went out, of two lists one after the other
+pub outs_append : (xs ys : List Entry) → outs_in (xs ++ ys) ≡ outs_in xs + outs_in ys
+outs_append [] ys = omega arith
+outs_append (x ∷ xs) ys = omega (arith, outs_append xs ys)
+
+-- no more were sealed than datagrams went out
+abbrev pub Few : State → Did → Type 0
+Few s d = d.state.sealed ≤ s.sealed + outs_in d.entries
+
+pub few_nothing : (s : State) → Few s (nothing s)
+few_nothing s = omega arith
+
+-- nothing was sealed
+few_same : (s : State) (d : Did) → d.state.sealed ≡ s.sealed → Few s d
+few_same s d e = omega (arith, e)
+
+pub few_then : (s : State) (d : Did) (next : State → Did) → Few s d → Few d.state (next d.state) → Few s (then_do d next)
+few_then s d next p q = omega (arith, p, q, outs_append d.entries (next d.state).entries)
+
+few_after : (s t : State) (entries : List Entry) (d : Did) → t.sealed ≡ s.sealed → Few t d → Few s (after_entries entries d)
+few_after s t entries d e p = omega (arith, e, p, outs_append entries d.entries)
+
+few_from : (s t : State) (d : Did) → t.sealed ≡ s.sealed → Few t d → Few s d
+few_from s t d e p = omega (arith, e, p)
+
+-- ---- datagrams that go out
+
+few_one : (b : Bool) (s : State) (to : AddressParts) (sent : List ℕ) (context : Context) → Few s (if b then nothing s else record { state = with_sealed s (s.sealed + 1); entries = Out to sent context ∷ [] })
+few_one true s to sent context = omega arith
+few_one false s to sent context = omega arith
+
+few_startup : (s : State) (to : AddressParts) (sid : ℕ) (plain : List ℕ) → Few s (sent_startup s to sid plain)
+few_startup s to sid plain = few_one (s.sealed == last_count) s to (startup_datagram s sid plain) StartupContext
+
+few_answer : (s : State) (answer : Answer) → Few s (sent_answer s answer)
+few_answer s answer = few_startup s answer.to answer.sid answer.plain
+
+few_if : (s : State) (answer : Option Answer) → Few s (sent_if s answer)
+few_if s None = few_nothing s
+few_if s (Some answer) = few_startup s answer.to answer.sid answer.plain
+
+few_each : (plain : List ℕ) (to : List AddressParts) (s : State) → Few s (sent_each s plain to)
+few_each plain [] s = few_nothing s
+few_each plain (first ∷ rest) s =
+    let d : Did = sent_startup s first 0 plain in
+    few_then s d (λ t. sent_each t plain rest) (few_startup s first 0 plain) (few_each plain rest d.state)
+
+few_in : (b : Bool) (s : State) (near : ℕ) (session : SessionState) (entry : Entry) → Few s (if b then nothing s else record { state = with_session s near (after_seal session); entries = entry ∷ [] })
+few_in true s near session entry = omega arith
+few_in false s near session entry = omega arith
+
+few_by : (s : State) (near : ℕ) (to : AddressParts) (chunk : Chunk) (o : Option SessionState) → Few s (sent_by s near to chunk o)
+few_by s near to chunk None = few_nothing s
+few_by s near to chunk (Some session) =
+    few_in (session.sealed == last_count) s near session (Out to (session_datagram session s.moment chunk) (context_of session true))
+
+few_session : (s : State) (near : ℕ) (to : AddressParts) (chunk : Chunk) → Few s (sent_in_session s near to chunk)
+few_session s near to chunk = few_by s near to chunk (get s.sessions near)
+
+-- ---- chunks
+
+born_sealed : (s : State) (ended : Option Fact) (born : Fact) (from : AddressParts) → (with_born s ended born from).sealed ≡ s.sealed
+born_sealed s ended (Started peer n near ni) from = refl
+born_sealed s ended (Born j) from = refl
+born_sealed s ended (Opened j) from = refl
+born_sealed s ended (Confirmed peer near) from = refl
+born_sealed s ended (Ended peer near why) from = refl
+
+few_keying : (s : State) (from : AddressParts) (o : Option Keyed) → Few s (keying_done s from o)
+few_keying s from None = few_nothing s
+few_keying s from (Some (Change answer)) = few_startup s answer.to answer.sid answer.plain
+few_keying s from (Some (Again answer)) = few_startup s answer.to answer.sid answer.plain
+few_keying s from (Some (Birth ended born answer)) =
+    let t : State = with_born s ended born from in
+    few_after s t (fact_entries ended ++ FactEntry born ∷ []) (sent_answer t answer) (born_sealed s ended born from) (few_startup t answer.to answer.sid answer.plain)
+
+opened_sealed : (s : State) (near : ℕ) (fact : Fact) (from : AddressParts) → (with_opened s near fact from).sealed ≡ s.sealed
+opened_sealed s near (Started peer n n2 ni) from = refl
+opened_sealed s near (Born j) from = refl
+opened_sealed s near (Opened j) from = refl
+opened_sealed s near (Confirmed peer n2) from = refl
+opened_sealed s near (Ended peer n2 why) from = refl
+
+few_opened : (s t : State) (near : ℕ) (from : AddressParts) (fact : Fact) → t.sealed ≡ s.sealed → Few s (after_entries (FactEntry fact ∷ []) (sent_in_session (with_opened t near fact from) near from (Ping [])))
+few_opened s t near from fact e =
+    few_after s (with_opened t near fact from) (FactEntry fact ∷ []) (sent_in_session (with_opened t near fact from) near from (Ping []))
+    (opened_sealed t near fact from ∙ e) (few_session (with_opened t near fact from) near from (Ping []))
+
+few_opening_done : (s : State) (near : ℕ) (from : AddressParts) (o : Option Fact) → Few s (opening_done s near from o)
+few_opening_done s near from None = few_nothing s
+few_opening_done s near from (Some fact) = few_opened s (with_startup s (after_opening s.startup near fact)) near from fact refl
+
+few_read : (s : State) (place : Place) (from : AddressParts) (r : Result Chunk ChunkFault) → Few s (read_done s place from r)
+few_read s place from (Ok (IHello epd tag)) = few_answer s (initiator_hello_answer s.startup tag from s.moment)
+few_read s place from (Ok (FIHello epd reply tag)) = few_answer s (initiator_hello_answer s.startup tag reply s.moment)
+few_read s place from (Ok (RHello tag cookie cert)) = few_if (with_startup s (after_rhello s.startup tag cookie from s.moment)) (rhello_keying s.startup tag cookie from)
+few_read s place from (Ok (CookieChange old new)) =
+    few_if (with_startup s (after_cookie_change s.startup (sid_at place) old new s.moment)) (cookie_change_keying s.startup (sid_at place) old new)
+few_read s place from (Ok (Ping bytes)) = few_session s (sid_at place) from (PingReply bytes)
+few_read s place from (Ok (Redirect tag list)) = few_nothing s
+few_read s place from (Ok (IIKeying near cookie cert part sign)) = few_nothing s
+few_read s place from (Ok (RIKeying near part sign)) = few_nothing s
+few_read s place from (Ok (PingReply bytes)) = few_nothing s
+few_read s place from (Ok Close) = few_nothing s
+few_read s place from (Ok CloseAck) = few_nothing s
+few_read s place from (Ok (Fragment more id number bytes)) = few_nothing s
+few_read s place from (Err fault) = few_nothing s
+
+either : (s : State) (b : Bool) (d e : Did) → Few s d → Few s e → Few s (if b then d else e)
+either s true d e p q = p
+either s false d e p q = q
+
+few_effect : (s : State) (place : Place) (from : AddressParts) (draws : Draws) (c : Placed) → Few s (effect s place from draws c)
+few_effect s place from draws c =
+    let last : Did = if c.kind == 0x78 then responder_keyed s (sid_at place) from c.payload else read_done s place from (chunk_reading c.kind c.payload) in
+    let t : State = with_startup s (after_keying s.startup c.payload from s.moment (free_from s draws.word) draws.nonce) in
+    either s (c.kind == 0x38) (initiator_keyed s from draws c.payload) last
+    (few_keying t from (keyed s.startup c.payload from s.moment (free_from s draws.word) draws.nonce))
+    (either s (c.kind == 0x78) (responder_keyed s (sid_at place) from c.payload) (read_done s place from (chunk_reading c.kind c.payload))
+    (few_opening_done s (sid_at place) from (opened s.startup (sid_at place) c.payload)) (few_read s place from (chunk_reading c.kind c.payload)))
+
+few_discarded_or : (s : State) (at : ℕ) (o : Option Cause) (d : Did) → Few s d → Few s (discarded_or s at o d)
+few_discarded_or s at None d p = p
+few_discarded_or s at (Some cause) d p = omega arith
+
+few_chunk : (place : Place) (from : AddressParts) (draws : Draws) (keyed_before : Bool) (s : State) (c : Placed) → Few s (chunk_did place from draws keyed_before s c)
+few_chunk place from draws keyed_before s c = few_discarded_or s c.at (chunk_cause s place keyed_before from c) (effect s place from draws c) (few_effect s place from draws c)
+
+pub few_chunks : (place : Place) (from : AddressParts) (draws : Draws) (keyed_before : Bool) (cs : List Placed) (s : State) → Few s (chunks_did place from draws keyed_before s cs)
+few_chunks place from draws keyed_before [] s = few_nothing s
+few_chunks place from draws keyed_before (c ∷ cs) s =
+    let d : Did = chunk_did place from draws keyed_before s c in
+    few_then s d (λ t. chunks_did place from draws (keyed_after keyed_before c) t cs) (few_chunk place from draws keyed_before s c) (few_chunks place from draws (keyed_after keyed_before c) cs d.state)
+
+-- ---- datagrams that come in
+
+few_confirming_by : (s : State) (near : ℕ) (o : Option SessionState) → Few s (confirming_by s near o)
+few_confirming_by s near None = few_nothing s
+few_confirming_by s near (Some session) =
+    let d : Did = record {
+      state = with_session (with_startup s (after_confirm s.startup session.joined.peer)) near (confirmed session);
+      entries = fact_entries (confirm_fact s.startup session.joined.peer);
+    } in
+    either s (is_opening session.stage) d (nothing s) (few_same s d refl) (few_nothing s)
+
+few_confirming : (s : State) (place : Place) → Few s (confirming s place)
+few_confirming s Startup = few_nothing s
+few_confirming s (Attempt near) = few_nothing s
+few_confirming s (Session near) = few_confirming_by s near (get s.sessions near)
+
+counted_sealed_by : (s : State) (near : ℕ) (part : List ℕ) (o : Option SessionState) → (counted_by s near part o).sealed ≡ s.sealed
+counted_sealed_by s near part None = refl
+counted_sealed_by s near part (Some session) = refl
+
+counted_sealed : (s : State) (place : Place) (part : List ℕ) → (counted_at s place part).sealed ≡ s.sealed
+counted_sealed s Startup part = refl
+counted_sealed s (Attempt near) part = refl
+counted_sealed s (Session near) part = counted_sealed_by s near part (get s.sessions near)
+
+timed_sealed_by : (s : State) (near : ℕ) (head : PacketHead) (o : Option SessionState) → (timed_by s near head o).sealed ≡ s.sealed
+timed_sealed_by s near head None = refl
+timed_sealed_by s near head (Some session) = refl
+
+timed_sealed : (s : State) (place : Place) (head : PacketHead) → (timed_at s place head).sealed ≡ s.sealed
+timed_sealed s Startup head = refl
+timed_sealed s (Attempt near) head = refl
+timed_sealed s (Session near) head = timed_sealed_by s near head (get s.sessions near)
+
+left_by : Admission → State
+left_by (Rejected s cause) = s
+left_by (Admitted s place packet) = s
+
+packet_sealed : (s : State) (place : Place) (r : Result Whole PacketFault) → (left_by (admitted_packet s place r)).sealed ≡ s.sealed
+unfolding left_by
+packet_sealed s place (Err fault) = refl
+packet_sealed s place (Ok packet) = by (has_mode packet.head (mode_at s place))
+  where
+    by : (b : Bool) → (left_by (if b then Admitted (timed_at s place packet.head) place packet else Rejected s WrongPlace)).sealed ≡ s.sealed
+    by true = timed_sealed s place packet.head
+    by false = refl
+
+admitted_sealed : (s : State) (datagram : List ℕ) (r : Result (Place × List ℕ) Cause) → (left_by (admitted s datagram r)).sealed ≡ s.sealed
+unfolding left_by
+admitted_sealed s datagram (Err cause) = refl
+admitted_sealed s datagram (Ok found) = packet_sealed (counted_at s found.0 (drop 4 datagram)) found.0 (packet_in found.1) ∙ counted_sealed s found.0 (drop 4 datagram)
+
+few_received : (from : AddressParts) (draws : Draws) (s : State) (a : Admission) → (left_by a).sealed ≡ s.sealed → Few s (received from draws a)
+unfolding left_by
+few_received from draws s (Rejected t cause) e = omega (arith, e)
+few_received from draws s (Admitted t place packet) e =
+    few_from s t (received from draws (Admitted t place packet)) e (few_then t (confirming t place) (λ u. chunks_did place from draws false u (chunks_of packet)) (few_confirming t place) (few_chunks place from draws false (chunks_of packet) (confirming t place).state))
+
+few_part : (from : AddressParts) (draws : Draws) (s : State) (a : Admission) (count : ℕ) → (left_by a).sealed ≡ s.sealed → Few s (part_received from draws a count)
+unfolding left_by
+few_part from draws s (Rejected t cause) count e = omega (arith, e)
+few_part from draws s (Admitted t place packet) count e =
+    few_from s t (part_received from draws (Admitted t place packet) count) e (few_then t (confirming t place) (λ u. chunks_did place from draws false u (take count (chunks_of packet))) (few_confirming t place)
+    (few_chunks place from draws false (take count (chunks_of packet)) (confirming t place).state))
+
+few_stopped : (from : AddressParts) (draws : Draws) (s : State) (a : Admission) (stop : Stop) → (left_by a).sealed ≡ s.sealed → Few s (stopped s from draws a stop)
+few_stopped from draws s a stop e = either s stop.taken (part_received from draws a stop.chunks) (nothing s) (few_part from draws s a stop.chunks e) (few_nothing s)
+
+-- ---- the other calls
+
+few_opening : (s : State) (peer : List ℕ) (candidates : List AddressParts) (draws : Draws) → Few s (opening s peer candidates draws)
+few_opening s peer candidates draws =
+    let t : State = with_startup s (after_begin s.startup peer candidates (free_from s draws.word) draws.nonce draws.tag s.moment) in
+    let spread : SpreadParts = begin_spread s.startup peer candidates draws.nonce draws.tag s.moment in
+    few_after s t (FactEntry (started_fact s.startup.ledger peer (free_from s draws.word) draws.nonce) ∷ []) (sent_spread t spread) refl (few_each spread.plain spread.to t)
+
+few_due : (s : State) (o : Option Due) → Few s (due_done s o)
+few_due s None = few_nothing s
+few_due s (Some (EndDue fact)) = omega arith
+few_due s (Some (HelloDue spread)) = few_each spread.plain spread.to s
+few_due s (Some (KeyingDue answer)) = few_startup s answer.to answer.sid answer.plain
+
+few_ticks : (count : ℕ) (s : State) → Few s (ticks count s)
+few_ticks zero s = few_nothing s
+few_ticks (suc count) s =
+    few_then s (tick_once s) (ticks count) (few_due (with_startup s (after_due s.startup s.moment)) (due s.startup s.moment))
+    (few_ticks count (tick_once s).state)
+
+few_does : (s t : State) (entries : List Entry) (d : Did) → Few s d → Does d t [] entries → t.sealed ≤ s.sealed + outs_in entries
+few_does s t entries d p does = omega (arith, p, ap (λ (u : State). u.sealed) does.state, ap outs_in does.entries)
+
+few_answers : (s t : State) (call : Call) (answer : CallAnswer) (entries : List Entry) → Answers s call answer entries t → t.sealed ≤ s.sealed + outs_in entries
+few_answers s t (Open peer candidates draws) (Began n) entries h = few_does s t entries (opening s peer candidates draws) (few_opening s peer candidates draws) h.2
+few_answers s t (Open peer candidates draws) (NotOpened refusal) entries h = few_does s t entries (nothing s) (few_nothing s) h.1
+few_answers s t (Cancel n) Done entries h = few_does s t entries (cancelling s n) (few_same s (cancelling s n) refl) h.1
+few_answers s t (Cancel n) (Refused refusal) entries h = few_does s t entries (nothing s) (few_nothing s) h.2
+few_answers s t (Receive from datagram draws) Done entries h =
+    few_does s t entries (received from draws (admission s datagram)) (few_received from draws s (admission s datagram) (admitted_sealed s datagram (opened_datagram s datagram))) h
+few_answers s t (Receive from datagram draws) (Stopped stop) entries h =
+    few_does s t entries (stopped s from draws (admission s datagram) stop) (few_stopped from draws s (admission s datagram) stop (admitted_sealed s datagram (opened_datagram s datagram))) h.1
+few_answers s t (Tick draws) Done entries h = few_does s t entries (ticks h.0.0 s) (few_ticks h.0.0 s) h.0.1
+few_answers s t (Tick draws) OutOfMemory entries h = few_does s t entries (ticks h.0 s) (few_ticks h.0 s) h.1
+few_answers s t _ _ entries h = absurd h
+
+-- ---- logs
+
+onto_outs : (now : ℕ) (entries : List Entry) (past : List Stamped) → outs_of (onto now entries past) ≡ outs_in entries + outs_of past
+onto_outs now [] past = omega arith
+onto_outs now (x ∷ xs) past = omega (arith, onto_outs now xs (stamped now x ∷ past))
+
+few_leads : (log : List Event) (last : ℕ) (past : List Stamped) (s t : State) → Leads s log t → t.sealed + outs_of past ≤ s.sealed + outs_of (past_of last past log)
+few_leads [] last past s t leads = omega (arith, ap (λ (u : State). u.sealed) leads)
+few_leads (e ∷ log) last past s t leads =
+    let now : ℕ = moment_at last e in
+    let one = few_answers (at_moment s e.moment) leads.0 e.call e.answer e.entries leads.1 in
+    let rest = few_leads log now (onto now e.entries past) leads.0 t leads.2 in
+    omega (arith, one, rest, onto_outs now e.entries past)
+
+pub few_of_log : (setup : Setup) (log : List Event) (s : State) → StandsFor setup log s → s.sealed ≤ outs_of (past_of 0 [] log)
+few_of_log setup log s stands = omega (arith, few_leads log 0 [] (fresh setup) s stands)

@@ -1,0 +1,144 @@
+-- A thing that an end does keeps the agreement, and its facts meet their lines.
+use Rattle.std.proofs.Common.{◌≡◌, ℕ, ◌+◌, List, [], ◌∷◌, ◌++◌, Bool, true, false, if◌then◌else◌, Option, Some, None, refl, sym, subst, ◌∙◌}
+use Rattle.std.specs.Prelude.{◌==◌}
+use Rattle.std.specs.FinMap.{get}
+use Rattle.rtmfp_forms.specs.Address.{AddressParts}
+use Rattle.rtmfp_chunks.specs.Chunk.{Chunk}
+use Rattle.glare_core.specs.declared.facts.Why.{Why}
+use Rattle.glare_core.specs.declared.facts.Why.TheVariants.{Cancelled, Expired, Glare, Override, Unconfirmed, Near, Far, Idle}
+use Rattle.glare_core.specs.declared.facts.Fact.{Fact}
+use Rattle.glare_core.specs.declared.facts.Fact.TheVariants.{Started, Born, Opened, Confirmed, Ended}
+use Rattle.startup.specs.declared.answer.Answer.{Answer}
+use Rattle.startup.specs.declared.cause.Cause.{Cause}
+use Rattle.startup.specs.State.{SpreadParts}
+use Rattle.session_core.specs.Session.{SessionState}
+use Rattle.session_core.specs.Sealed.{after_seal, is_spent}
+use Rattle.endpoint_model.specs.declared.entry.Entry.{Entry}
+use Rattle.endpoint_model.specs.declared.entry.Entry.TheVariants.{Fact as FactEntry, Discard, Out}
+use Rattle.endpoint_model.specs.Event.{Setup, Call}
+use Rattle.endpoint_laws.specs.Past.{Stamped, stamped, onto}
+use Rattle.endpoint_laws.specs.Lawful.{FactLine, EndedLine, BornFollows}
+use Rattle.endpoint_model.specs.State.{State, Did, nothing, then_do}
+use Rattle.endpoint_model.specs.Sending.{last_count, sent_startup, sent_answer, sent_if, sent_each, sent_spread, sent_by, sent_in_session}
+use Rattle.endpoint_model.specs.Due.{discarded}
+use Rattle.endpoint_laws.proofs.Lines.{FactPart, EntriesMeet}
+use Rattle.endpoint_laws.proofs.Tied.{Tied}
+use Rattle.endpoint_laws.proofs.Agrees.{IsOurs, combined}
+use Rattle.endpoint_laws.proofs.Moving.{tied_session, tied_more, tied_alike}
+
+-- ---- entries one after another
+
+pub onto_append : (now : ℕ) (xs ys : List Entry) (past : List Stamped) → onto now (xs ++ ys) past ≡ onto now ys (onto now xs past)
+onto_append now [] ys past = refl
+onto_append now (x ∷ xs) ys past = onto_append now xs ys (stamped now x ∷ past)
+
+follows_more : (peer : List ℕ) (xs ys : List Entry) → BornFollows peer xs → BornFollows peer (xs ++ ys)
+follows_more peer [] ys f = absurd f
+follows_more peer (FactEntry fact ∷ xs) ys f = f
+follows_more peer (Discard at cause ∷ xs) ys f = absurd f
+follows_more peer (Out to sent context ∷ xs) ys f = absurd f
+
+ended_more : (now : ℕ) (call : Call) (past : List Stamped) (xs ys : List Entry) (peer : List ℕ) (near : ℕ) (why : Why) → EndedLine now call past xs peer near why → EndedLine now call past (xs ++ ys) peer near why
+ended_more now call past xs ys peer near Cancelled f = f
+ended_more now call past xs ys peer near Expired f = f
+ended_more now call past xs ys peer near Glare f = follows_more peer xs ys f
+ended_more now call past xs ys peer near Override f = follows_more peer xs ys f
+ended_more now call past xs ys peer near Unconfirmed f = f
+ended_more now call past xs ys peer near Near f = f
+ended_more now call past xs ys peer near Far f = f
+ended_more now call past xs ys peer near Idle f = f
+
+line_more : (setup : Setup) (now : ℕ) (call : Call) (past : List Stamped) (xs ys : List Entry) (fact : Fact) → FactLine setup now call past xs fact → FactLine setup now call past (xs ++ ys) fact
+line_more setup now call past xs ys (Started peer n near ni) f = f
+line_more setup now call past xs ys (Born j) f = f
+line_more setup now call past xs ys (Opened j) f = f
+line_more setup now call past xs ys (Confirmed peer near) f = f
+line_more setup now call past xs ys (Ended peer near why) f = ended_more now call past xs ys peer near why f
+
+part_more : (setup : Setup) (now : ℕ) (call : Call) (past : List Stamped) (xs ys : List Entry) (entry : Entry) → FactPart setup now call past xs entry → FactPart setup now call past (xs ++ ys) entry
+part_more setup now call past xs ys (FactEntry fact) f = (f.0, line_more setup now call past xs ys fact f.1)
+part_more setup now call past xs ys (Discard at cause) f = tt
+part_more setup now call past xs ys (Out to sent context) f = tt
+
+pub meet_append : (setup : Setup) (now : ℕ) (call : Call) (past : List Stamped) (xs ys : List Entry) → EntriesMeet FactPart setup now call past xs →
+    EntriesMeet FactPart setup now call (onto now xs past) ys → EntriesMeet FactPart setup now call past (xs ++ ys)
+meet_append setup now call past [] ys f g = g
+meet_append setup now call past (x ∷ xs) ys f g = (part_more setup now call past xs ys x f.0, meet_append setup now call (stamped now x ∷ past) xs ys f.1 g)
+
+-- ---- what a thing keeps
+
+pub record Goes (setup : Setup) (call : Call) (past : List Stamped) (s : State) (d : Did) : Type 0 where
+  pub meets : EntriesMeet FactPart setup s.moment call past d.entries
+  pub tied : Tied setup (onto s.moment d.entries past) d.state
+  pub moment : d.state.moment ≡ s.moment
+
+-- what holds whatever the call is, and whatever was done
+abbrev pub Keeps : Setup → Call → State → Did → Type 0
+Keeps setup call s d = (past : List Stamped) → Tied setup past s → Goes setup call past s d
+
+pub goes_nothing : (setup : Setup) (call : Call) (s : State) → Keeps setup call s (nothing s)
+goes_nothing setup call s past t = record { meets = tt; tied = t; moment = refl }
+
+pub goes_then : (setup : Setup) (call : Call) (past : List Stamped) (s : State) (d : Did) (next : State → Did) → Goes setup call past s d →
+    Goes setup call (onto s.moment d.entries past) d.state (next d.state) → Goes setup call past s (then_do d next)
+goes_then setup call past s d next f g =
+    let e : Did = next d.state in
+    let P : ℕ → Type 0 = λ m. EntriesMeet FactPart setup m call (onto s.moment d.entries past) e.entries in
+    let Q : ℕ → Type 0 = λ m. Tied setup (onto m e.entries (onto s.moment d.entries past)) e.state in
+    let R : List Stamped → Type 0 = λ p. Tied setup p e.state in
+    record {
+      meets = meet_append setup s.moment call past d.entries e.entries f.meets (subst P f.moment g.meets);
+      tied = subst R (sym (onto_append s.moment d.entries e.entries past)) (subst Q f.moment g.tied);
+      moment = g.moment ∙ f.moment;
+    }
+
+pub keeps_if : (setup : Setup) (call : Call) (s : State) (b : Bool) (d e : Did) → (b ≡ true → Keeps setup call s d) → (b ≡ false → Keeps setup call s e) → Keeps setup call s (if b then d else e)
+keeps_if setup call s true d e f g = f refl
+keeps_if setup call s false d e f g = g refl
+
+-- ---- discards and sendings
+
+pub goes_discarded : (setup : Setup) (call : Call) (s : State) (at : ℕ) (cause : Cause) → Keeps setup call s (discarded s at cause)
+goes_discarded setup call s at cause past t = record { meets = (tt, tt); tied = tied_more setup past s (stamped s.moment (Discard at cause)) refl t; moment = refl }
+
+pub goes_startup : (setup : Setup) (call : Call) (s : State) (to : AddressParts) (sid : ℕ) (plain : List ℕ) → Keeps setup call s (sent_startup s to sid plain)
+goes_startup setup call s to sid plain = keeps_if setup call s (s.sealed == last_count) (nothing s) _ (λ e. goes_nothing setup call s) (λ e past t. record {
+  meets = (tt, tt);
+  tied = tied_alike setup _ s s.moment (s.sealed + 1) (tied_more setup past s _ refl t);
+  moment = refl;
+})
+
+pub goes_answer : (setup : Setup) (call : Call) (s : State) (answer : Answer) → Keeps setup call s (sent_answer s answer)
+goes_answer setup call s answer = goes_startup setup call s answer.to answer.sid answer.plain
+
+pub goes_if : (setup : Setup) (call : Call) (s : State) (answer : Option Answer) → Keeps setup call s (sent_if s answer)
+goes_if setup call s None = goes_nothing setup call s
+goes_if setup call s (Some answer) = goes_answer setup call s answer
+
+pub goes_each : (setup : Setup) (call : Call) (plain : List ℕ) (to : List AddressParts) (s : State) → Keeps setup call s (sent_each s plain to)
+goes_each setup call plain [] s = goes_nothing setup call s
+goes_each setup call plain (to ∷ rest) s = λ past t.
+    let first = goes_startup setup call s to 0 plain past t in
+    goes_then setup call past s (sent_startup s to 0 plain) (λ u. sent_each u plain rest) first (goes_each setup call plain rest (sent_startup s to 0 plain).state (onto s.moment (sent_startup s to 0 plain).entries past) first.tied)
+
+pub goes_spread : (setup : Setup) (call : Call) (s : State) (spread : SpreadParts) → Keeps setup call s (sent_spread s spread)
+goes_spread setup call s spread = goes_each setup call spread.plain spread.to s
+
+seal_alike : (b : Bool) (near : ℕ) (session : SessionState) → combined near None (Some (if b then session else record session { sealed = session.sealed + 1 })) ≡ combined near None (Some session)
+seal_alike true near session = refl
+seal_alike false near session = refl
+
+seal_ours : (setup : Setup) (b : Bool) (session : SessionState) → IsOurs setup session → IsOurs setup (if b then session else record session { sealed = session.sealed + 1 })
+seal_ours setup true session ours = ours
+seal_ours setup false session ours = record { own = ours.own; secret = ours.secret; stage = ours.stage }
+
+pub goes_by : (setup : Setup) (call : Call) (s : State) (near : ℕ) (to : AddressParts) (chunk : Chunk) (o : Option SessionState) → get s.sessions near ≡ o → Keeps setup call s (sent_by s near to chunk o)
+goes_by setup call s near to chunk None is = goes_nothing setup call s
+goes_by setup call s near to chunk (Some session) is = keeps_if setup call s (session.sealed == last_count) (nothing s) _ (λ e. goes_nothing setup call s) (λ e past t. record {
+  meets = (tt, tt);
+  tied = tied_session setup _ s near session (after_seal session) (tied_more setup past s _ refl t) is (seal_alike (is_spent session) near session) (seal_ours setup (is_spent session) session);
+  moment = refl;
+})
+
+pub goes_in_session : (setup : Setup) (call : Call) (s : State) (near : ℕ) (to : AddressParts) (chunk : Chunk) → Keeps setup call s (sent_in_session s near to chunk)
+goes_in_session setup call s near to chunk = goes_by setup call s near to chunk (get s.sessions near) refl

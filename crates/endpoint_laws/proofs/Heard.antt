@@ -1,0 +1,220 @@
+-- What a lawful fact of an honest event has heard: the tell that it asks for was sent.
+use Rattle.std.proofs.Common.{ℕ, ◌<◌, ◌^◌, List, [], ◌∷◌, length, Option, Some, ◌≡◌, ◌⊎◌, inl, inr, refl, sym, ap, subst, ◌∙◌, true, arith}
+use Rattle.packet_scramble.specs.Datagram.{sid_of}
+use Rattle.rtmfp_forms.specs.Address.{AddressParts}
+use Rattle.rtmfp_packet.specs.Walk.{Placed}
+use Rattle.crypto_profile.specs.declared.keys.Context.{Context}
+use Rattle.crypto_profile.specs.declared.keys.Context.TheVariants.{Startup}
+use Rattle.glare_core.specs.declared.facts.Why.{Why}
+use Rattle.glare_core.specs.declared.facts.Why.TheVariants.{Cancelled, Expired, Glare, Override, Unconfirmed, Near, Far, Idle}
+use Rattle.glare_core.specs.declared.facts.Fact.{Fact}
+use Rattle.glare_core.specs.declared.facts.Fact.TheVariants.{Started, Born, Opened, Confirmed, Ended}
+use Rattle.glare_core.specs.declared.facts.Held.{Held}
+use Rattle.glare_core.specs.declared.facts.Held.TheVariants.{Opening, HalfOpen}
+use Rattle.glare_core.specs.declared.facts.Joined.{Joined}
+use Rattle.glare_core.specs.Standing.{held, seen, count}
+use Rattle.glare_core.specs.Stands.{Stands}
+use Rattle.glare_core.specs.Tells.{Tell, Keying, Answer, Under, as_responder}
+use Rattle.glare_core.specs.Steps.{Item, Told, Did, Step, view, facts, holding}
+use Rattle.glare_core.specs.Table.{HasHeard}
+use Rattle.glare_core.specs.Told.{WasSent}
+use Rattle.glare_core.proofs.Views.{seen_item}
+use Rattle.glare_core.proofs.Sound.{IsCalledFor}
+use Rattle.endpoint_model.specs.declared.config.Draws.{Draws}
+use Rattle.endpoint_model.specs.declared.entry.Entry.{Entry}
+use Rattle.endpoint_model.specs.declared.entry.Entry.TheVariants.{Fact as FactEntry, Discard, Out}
+use Rattle.endpoint_model.specs.Event.{Setup, own_of, Call, Open, Cancel, Receive, Tick}
+use Rattle.endpoint_laws.specs.Past.{Stamped, stamped, facts_of}
+use Rattle.endpoint_laws.specs.Contexts.{session_context, inward, ContextOf, OpensUnder}
+use Rattle.endpoint_model.specs.Keying.{IsFirst, IsAmong, chunks_of}
+use Rattle.endpoint_laws.specs.Admissible.{Admissible, Offer}
+use Rattle.endpoint_laws.specs.Lawful.{Opens, Bears, FactLine, BornLine, EndedLine, AnswersAttempt, BornFollows, IsCounted, EntriesLawful}
+use Rattle.endpoint_laws.specs.Laws.{IsCall}
+use Rattle.endpoint_laws.proofs.HeldTold.{Holds, BornSizes, FactSizes}
+use Rattle.endpoint_laws.proofs.Telling.{Telling}
+use Rattle.endpoint_laws.proofs.Carried.{Carried, keying_carried, answer_carried, under_carried}
+use Rattle.endpoint_laws.proofs.Since.{Comes, CameSince}
+
+-- The datagram of a call was sent in the context of its session ID, if it opens in it.
+abbrev pub WasCarried : Setup → List Fact → List Step → Call → Type 0
+WasCarried setup start steps (Open peer candidates draws) = Unit {0}
+WasCarried setup start steps (Cancel n) = Unit {0}
+WasCarried setup start steps (Receive from datagram draws) =
+    (context : Context) (plain : List ℕ) → ContextOf (own_of setup) start (sid_of datagram) context → OpensUnder setup.secret context (sid_of datagram) datagram plain → Carried setup.secret datagram context steps
+WasCarried setup start steps (Tick draws) = Unit {0}
+
+-- what the table and the cause Override ask to have been told
+abbrev pub IsHeardBy : List ℕ → List Item → Fact → Type 0
+IsHeardBy own log fact = HasHeard own log fact 0 × IsCalledFor own log fact
+
+-- It was told before, or a tell that was sent is all that it asks for more.
+abbrev pub Hears : List ℕ → List Step → Fact → Type 0
+Hears own steps fact = IsHeardBy own (view own steps) fact ⊎ ((t : Tell) × WasSent t steps × IsHeardBy own (Told t ∷ view own steps) fact)
+
+first_among : (c : Placed) (cs : List Placed) → IsFirst c cs → IsAmong c cs
+first_among c [] first = absurd first
+first_among c (x ∷ cs) (inl e) = inl e
+first_among c (x ∷ cs) (inr r) = inr (first_among c cs r.1)
+
+one_half_open : (o : Option Held) (j k : Joined) → o ≡ Some (HalfOpen j) → o ≡ Some (HalfOpen k) → k ≡ j
+one_half_open o j k p q = let same : HalfOpen k ≡ HalfOpen j = cc in cc
+
+-- ---- the three tells
+
+pub keying_told : (setup : Setup) (start facts : List Fact) (now : ℕ) (base : List Step) (from : AddressParts) (datagram : List ℕ) (draws : Draws) (offer : Offer) →
+    WasCarried setup start base (Receive from datagram draws) → Admissible setup facts now from datagram offer → WasSent (Keying offer.peer (own_of setup) offer.n offer.ni offer.far 0) base
+keying_told setup start facts now base from datagram draws offer carried a =
+    let plain : List ℕ = a.reads.plain in
+    let id : sid_of datagram ≡ 0 = a.reads.opens.id in
+    let opens : OpensUnder setup.secret Startup (sid_of datagram) datagram plain = subst (λ (s : ℕ). OpensUnder setup.secret Startup s datagram plain) (sym id) a.reads.opens in
+    let there = carried Startup plain (inl (id, refl)) opens in
+    subst (λ (p : List ℕ). WasSent (Keying p (own_of setup) offer.n offer.ni offer.far 0) base) (sym a.peer)
+    (keying_carried setup.secret datagram base there (sid_of datagram) plain opens a.packet a.reads.reads a.chunk offer.far a.cookie a.cert offer.ni offer.n (own_of setup) a.sign
+    (first_among a.chunk (chunks_of a.packet) a.first) a.spells a.nonce_size a.number)
+
+pub answer_told : (setup : Setup) (start facts : List Fact) (base : List Step) (from : AddressParts) (datagram : List ℕ) (draws : Draws) (j : Joined) →
+    WasCarried setup start base (Receive from datagram draws) → IsCall (Receive from datagram draws) → held j.peer start ≡ Some (Opening j.n j.near j.ni) → length j.peer ≡ 32 → length j.ni ≡ 16 →
+    AnswersAttempt setup.secret j datagram → WasSent (Answer j.near j.peer j.far j.nr j.k j.ni 0) base
+answer_told setup start facts base from datagram draws j carried is_call is_held peer_size ni_size a =
+    let plain : List ℕ = a.reads.plain in
+    let id : sid_of datagram ≡ j.near = a.reads.opens.id in
+    let opens : OpensUnder setup.secret Startup (sid_of datagram) datagram plain = subst (λ (s : ℕ). OpensUnder setup.secret Startup s datagram plain) (sym id) a.reads.opens in
+    let there = carried Startup plain (inr (Opening j.n j.near j.ni, record { peer = j.peer; is_held = is_held; id = sym id }, refl)) opens in
+    answer_carried setup.secret datagram base there j.near plain a.reads.opens a.packet a.reads.reads a.chunk j.far j.nr j.k j.peer j.ni a.sign a.among a.spells is_call.0 peer_size ni_size a.number
+
+pub under_told : (setup : Setup) (start : List Fact) (base : List Step) (from : AddressParts) (datagram : List ℕ) (draws : Draws) (peer : List ℕ) (near : ℕ) (j : Joined) →
+    WasCarried setup start base (Receive from datagram draws) → Comes (sid_of datagram) start peer (Some (HalfOpen j)) → near ≡ j.near →
+    ((plain : List ℕ) × OpensUnder setup.secret (inward (own_of setup) (HalfOpen j)) near datagram plain) → WasSent (Under (as_responder (own_of setup) j) true 0) base
+under_told setup start base from datagram draws peer near j carried (inl is_held) near_is by =
+    let plain : List ℕ = by.0 in
+    let context : Context = session_context (as_responder (own_of setup) j) true in
+    let id : sid_of datagram ≡ near = by.1.id in
+    let opens : OpensUnder setup.secret context (sid_of datagram) datagram plain = subst (λ (s : ℕ). OpensUnder setup.secret context s datagram plain) (sym id) by.1 in
+    under_carried setup.secret datagram (as_responder (own_of setup) j) base
+    (carried context plain (inr (HalfOpen j, record { peer = peer; is_held = is_held; id = sym near_is ∙ sym id }, refl)) opens)
+under_told setup start base from datagram draws peer near j carried (inr born) near_is by = absurd (born.1 (sym near_is ∙ sym by.1.id ∙ born.0))
+
+-- ---- a fact
+
+module _ (setup : Setup) (now : ℕ) (start : List Fact) (past : List Stamped) (base steps : List Step) (is : Telling steps) (stated : facts (view (own_of setup) steps) ≡ facts_of past)
+    (grows : (t : Tell) → WasSent t base → WasSent t steps) where
+  abbrev own : List ℕ
+  own = own_of setup
+
+  holding_is : (peer : List ℕ) (h : Held) → held peer (facts_of past) ≡ Some h → holding own peer steps ≡ Some h
+  holding_is peer h e = ap (held peer) stated ∙ e
+
+  holds_it : (peer : List ℕ) (h : Held) → held peer (facts_of past) ≡ Some h → Holds (view own steps) peer (Some h)
+  holds_it peer h e = subst (λ (o : Option Held). Holds (view own steps) peer o) (holding_is peer h e) (is.holds own peer)
+
+  called_by : (peer : List ℕ) (near : ℕ) (why : Why) (j : Joined) → j.peer ≡ peer → seen j.peer (Ended peer near why ∷ facts_of past) < j.n →
+      IsCalledFor own (Told (Keying j.peer own j.n j.ni j.far 0) ∷ view own steps) (Ended peer near why)
+  called_by peer near why j same above e =
+      let more = seen_item peer (Did (Ended peer near why) 0) (view own steps) in
+      let here : seen peer (Ended peer near why ∷ facts (view own steps)) < j.n =
+      subst (λ (fs : List Fact). seen peer (Ended peer near why ∷ fs) < j.n) (sym stated) (subst (λ (p : List ℕ). seen p (Ended peer near why ∷ facts_of past) < j.n) same above) in
+      record {
+        n = j.n;
+        ni = j.ni;
+        near_i = j.far;
+        generation = 0;
+        told = inl (ap (λ (p : List ℕ). Told (Keying p own j.n j.ni j.far 0)) (sym same));
+        above = omega (arith, more, here);
+      }
+
+  -- the keying of which a session is born
+  bears : (call : Call) (before : List Fact) (offer : Offer) (nr : List ℕ) → WasCarried setup start base call → Bears setup before now call offer nr →
+      WasSent (Keying offer.peer own offer.n offer.ni offer.far 0) steps
+  bears (Open peer candidates draws) before offer nr carried by = absurd by
+  bears (Cancel n) before offer nr carried by = absurd by
+  bears (Receive from datagram draws) before offer nr carried by =
+      grows (Keying offer.peer own offer.n offer.ni offer.far 0) (keying_told setup start before now base from datagram draws offer carried by.0)
+  bears (Tick draws) before offer nr carried by = absurd by
+
+  offer_of : Joined → Offer
+  offer_of j = record { peer = j.peer; n = j.n; ni = j.ni; far = j.far }
+
+  hears_born : (call : Call) (facts : List Fact) (j : Joined) → WasCarried setup start base call → BornLine setup now call facts j → Hears own steps (Born j)
+  unfolding offer_of
+  hears_born call facts j carried line = inr (Keying j.peer own j.n j.ni j.far 0, bears call line.before (offer_of j) j.nr carried line.by, (inl refl, tt))
+
+  hears_opened : (call : Call) (j : Joined) → IsCall call → WasCarried setup start base call → CameSince call start (facts_of past) → held j.peer (facts_of past) ≡ Some (Opening j.n j.near j.ni) →
+      FactLine setup now call past [] (Opened j) → Hears own steps (Opened j)
+  hears_opened (Open peer candidates draws) j is_call carried came stands line = absurd line
+  hears_opened (Cancel n) j is_call carried came stands line = absurd line
+  hears_opened (Receive from datagram draws) j is_call carried came stands line =
+      let t : Tell = Answer j.near j.peer j.far j.nr j.k j.ni 0 in
+      let sizes = (holds_it j.peer (Opening j.n j.near j.ni) stands).1 in
+      let was = subst (λ (o : Option Held). Comes (sid_of datagram) start j.peer o) stands (came j.peer) in
+      inr (t, grows t (answer_told setup start (facts_of past) base from datagram draws j carried is_call was sizes.0 sizes.1 line), (inl refl, tt))
+  hears_opened (Tick draws) j is_call carried came stands line = absurd line
+
+  hears_confirmed : (call : Call) (peer : List ℕ) (near : ℕ) → WasCarried setup start base call → CameSince call start (facts_of past) → Stands own (count (facts_of past)) (facts_of past) (Confirmed peer near) →
+      FactLine setup now call past [] (Confirmed peer near) → Hears own steps (Confirmed peer near)
+  hears_confirmed (Open towards candidates draws) peer near carried came stands line = absurd line.by
+  hears_confirmed (Cancel n) peer near carried came stands line = absurd line.by
+  hears_confirmed (Receive from datagram draws) peer near carried came stands line =
+      let j : Joined = line.j in
+      let t : Tell = Under (as_responder own j) true 0 in
+      let same : stands.j ≡ j = one_half_open (held peer (facts_of past)) j stands.j line.session stands.session in
+      let was = subst (λ (o : Option Held). Comes (sid_of datagram) start peer o) line.session (came peer) in
+      let sent = under_told setup start base from datagram draws peer near j carried was (stands.id ∙ ap (λ (k : Joined). k.near) same) line.by in
+      inr (t, grows t sent, (record { j = j; session = holding_is peer (HalfOpen j) line.session; generation = 0; born = inr (holds_it peer (HalfOpen j) line.session).0.1; told = inl refl }, tt))
+  hears_confirmed (Tick draws) peer near carried came stands line = absurd line.by
+
+  -- an Ended for Override has heard the keying of the Born that follows
+  hears_way : (call : Call) (peer : List ℕ) (near : ℕ) (why : Why) (rest : List Entry) → WasCarried setup start base call → BornFollows peer rest →
+      EntriesLawful setup now call (stamped now (FactEntry (Ended peer near why)) ∷ past) rest → Hears own steps (Ended peer near why)
+  unfolding offer_of
+  hears_way call peer near why (FactEntry (Born j) ∷ rest) carried follows lawful =
+      let line = lawful.0 in
+      inr (Keying j.peer own j.n j.ni j.far 0, bears call line.1.before (offer_of j) j.nr carried line.1.by, (tt, called_by peer near why j follows line.0.above))
+  hears_way call peer near why (FactEntry (Started p n m ni) ∷ rest) carried follows lawful = absurd follows
+  hears_way call peer near why (FactEntry (Opened j) ∷ rest) carried follows lawful = absurd follows
+  hears_way call peer near why (FactEntry (Confirmed p m) ∷ rest) carried follows lawful = absurd follows
+  hears_way call peer near why (FactEntry (Ended p m w) ∷ rest) carried follows lawful = absurd follows
+  hears_way call peer near why (Discard place cause ∷ rest) carried follows lawful = absurd follows
+  hears_way call peer near why (Out to sent context ∷ rest) carried follows lawful = absurd follows
+  hears_way call peer near why [] carried follows lawful = absurd follows
+
+  hears_ended : (call : Call) (peer : List ℕ) (near : ℕ) (why : Why) (rest : List Entry) → WasCarried setup start base call → EndedLine now call past rest peer near why →
+      EntriesLawful setup now call (stamped now (FactEntry (Ended peer near why)) ∷ past) rest → Hears own steps (Ended peer near why)
+  hears_ended call peer near Cancelled rest carried line lawful = inl (tt, λ e. absurd (cc))
+  hears_ended call peer near Expired rest carried line lawful = inl (tt, λ e. absurd (cc))
+  hears_ended call peer near Glare rest carried line lawful = inl (tt, λ e. absurd (cc))
+  hears_ended call peer near Override rest carried line lawful = hears_way call peer near Override rest carried line lawful
+  hears_ended call peer near Unconfirmed rest carried line lawful = absurd line
+  hears_ended call peer near Near rest carried line lawful = absurd line
+  hears_ended call peer near Far rest carried line lawful = absurd line
+  hears_ended call peer near Idle rest carried line lawful = absurd line
+
+  -- each fact has heard what it asks for
+  pub hears : (call : Call) (fact : Fact) (rest : List Entry) → IsCall call → WasCarried setup start base call → CameSince call start (facts_of past) →
+      Stands own (count (facts_of past)) (facts_of past) fact → FactLine setup now call past rest fact → EntriesLawful setup now call (stamped now (FactEntry fact) ∷ past) rest → Hears own steps fact
+  hears call (Started peer n near ni) rest is_call carried came stands line lawful = inl (tt, tt)
+  hears call (Born j) rest is_call carried came stands line lawful = hears_born call (facts_of past) j carried line
+  hears call (Opened j) rest is_call carried came stands line lawful = hears_opened call j is_call carried came stands line
+  hears call (Confirmed peer near) rest is_call carried came stands line lawful = hears_confirmed call peer near carried came stands line
+  hears call (Ended peer near why) rest is_call carried came stands line lawful = hears_ended call peer near why rest carried line lawful
+
+-- ---- the sizes of a fact
+
+born_sizes : (setup : Setup) (now : ℕ) (call : Call) (before : List Fact) (j : Joined) → IsCall call → j.k < 2 ^ 64 → Bears setup before now call (record { peer = j.peer; n = j.n; ni = j.ni; far = j.far }) j.nr → BornSizes j
+born_sizes setup now (Open peer candidates draws) before j is_call few by = absurd by
+born_sizes setup now (Cancel n) before j is_call few by = absurd by
+born_sizes setup now (Receive from datagram draws) before j is_call few by = record { nr = ap length by.1 ∙ is_call.1; ni = by.0.nonce_size; k = few; far = by.0.spells.1.3.0 }
+born_sizes setup now (Tick draws) before j is_call few by = absurd by
+
+started_sizes : (call : Call) (peer : List ℕ) (n : ℕ) (ni : List ℕ) → IsCall call → n < 2 ^ 64 → Opens call peer ni → (length peer ≡ 32) × (length ni ≡ 16) × (n < 2 ^ 64)
+started_sizes (Open towards candidates draws) peer n ni is_call fits by = (sym (ap length by.0) ∙ is_call.0, ap length by.1 ∙ is_call.1, fits)
+started_sizes (Cancel m) peer n ni is_call fits by = absurd by
+started_sizes (Receive from datagram draws) peer n ni is_call fits by = absurd by
+started_sizes (Tick draws) peer n ni is_call fits by = absurd by
+
+pub sizes_of : (setup : Setup) (now : ℕ) (call : Call) (past : List Stamped) (rest : List Entry) (fact : Fact) → IsCall call → count (facts_of past) < 2 ^ 64 →
+    Stands (own_of setup) (count (facts_of past)) (facts_of past) fact → FactLine setup now call past rest fact → IsCounted fact → FactSizes fact
+sizes_of setup now call past rest (Started peer n near ni) is_call few stands line fits = started_sizes call peer n ni is_call fits line.by
+sizes_of setup now call past rest (Born j) is_call few stands line fits = born_sizes setup now call line.before j is_call (subst (λ (k : ℕ). k < 2 ^ 64) (sym stands.counted) few) line.by
+sizes_of setup now call past rest (Opened j) is_call few stands line fits = tt
+sizes_of setup now call past rest (Confirmed peer near) is_call few stands line fits = tt
+sizes_of setup now call past rest (Ended peer near why) is_call few stands line fits = tt

@@ -1,0 +1,117 @@
+-- A history that is lawful, honest and fresh is told in steps that are sound.
+use Rattle.std.proofs.Common.{ℕ, ◌==◌, List, [], ◌∷◌, ◌++◌, ◌≡◌, inl, inr, refl, sym, ap, subst, ◌∙◌, if◌then◌else◌, Bool, true, false}
+use Rattle.crypto_profile.specs.declared.keys.Context.{Context}
+use Rattle.glare_core.specs.declared.facts.Fact.{Fact}
+use Rattle.glare_core.specs.Tells.{Tell}
+use Rattle.glare_core.specs.Steps.{Step, view, facts}
+use Rattle.glare_core.specs.Told.{WasSent, nonces, AllDifferent}
+use Rattle.endpoint_model.specs.Event.{Setup, own_of, Call, Open, Cancel, Receive, Tick, Event, moment_at}
+use Rattle.endpoint_laws.specs.Past.{Stamped, facts_of, last_moment, past_of}
+use Rattle.endpoint_laws.specs.Lawful.{IsLawful}
+use Rattle.endpoint_laws.specs.Laws.{AreCalls}
+use Rattle.endpoint_laws.specs.History.{Happened, History, log_of, AreLawful, WasSent as WentOut, IsHonestCall, IsHonest, TakesPart}
+use Rattle.endpoint_laws.specs.Agreed.{stated}
+use Rattle.endpoint_model.proofs.Members.{tested}
+use Rattle.endpoint_laws.proofs.FactsAlone.{alone, facts_alone}
+use Rattle.endpoint_laws.proofs.Fresh.{different_before}
+use Rattle.endpoint_laws.proofs.HeldTold.{tell_of}
+use Rattle.endpoint_laws.proofs.Telling.{Telling, telling_new}
+use Rattle.endpoint_laws.proofs.Carried.{Carried}
+use Rattle.endpoint_laws.proofs.Since.{came_first}
+use Rattle.endpoint_laws.proofs.Heard.{WasCarried}
+use Rattle.endpoint_laws.proofs.EventTold.{Far, reached}
+use Rattle.endpoint_laws.proofs.StatedFacts.{lawful_more, calls_more, view_stated}
+
+-- ---- what is said of the ends
+
+-- They have this secret, and each has its fingerprint alone.
+pub record Ends (ends : ℕ → Setup) (secret : List ℕ) (history : History) : Type 0 where
+  pub group : (who : ℕ) → TakesPart who history → (ends who).secret ≡ secret
+  pub prints : (a b : ℕ) → TakesPart a history → TakesPart b history → own_of (ends a) ≡ own_of (ends b) → a ≡ b
+  pub calls : (who : ℕ) → AreCalls (log_of who history)
+  pub lawful : AreLawful ends history
+
+calls_before : (who : ℕ) (h : Happened) (earlier : History) → AreCalls (log_of who (h ∷ earlier)) → AreCalls (log_of who earlier)
+calls_before who h earlier are = go (h.who == who) are
+  where
+    go : (b : Bool) → AreCalls (if b then log_of who earlier ++ h.event ∷ [] else log_of who earlier) → AreCalls (log_of who earlier)
+    go true l = (calls_more (log_of who earlier) h.event l).before
+    go false l = l
+
+lawful_before : (setup : Setup) (who : ℕ) (h : Happened) (earlier : History) → IsLawful setup (log_of who (h ∷ earlier)) → IsLawful setup (log_of who earlier)
+lawful_before setup who h earlier is = go (h.who == who) is
+  where
+    go : (b : Bool) → IsLawful setup (if b then log_of who earlier ++ h.event ∷ [] else log_of who earlier) → IsLawful setup (log_of who earlier)
+    go true l = (lawful_more setup 0 [] (log_of who earlier) h.event l).before
+    go false l = l
+
+ends_before : (ends : ℕ → Setup) (secret : List ℕ) (h : Happened) (earlier : History) → Ends ends secret (h ∷ earlier) → Ends ends secret earlier
+ends_before ends secret h earlier e = record {
+  group = λ who part. e.group who (inr part);
+  prints = λ a b pa pb same. e.prints a b (inr pa) (inr pb) same;
+  calls = λ who. calls_before who h earlier (e.calls who);
+  lawful = λ who. lawful_before (ends who) who h earlier (e.lawful who);
+}
+
+-- the log of the end of the newest event
+log_here : (h : Happened) (earlier : History) → log_of h.who (h ∷ earlier) ≡ log_of h.who earlier ++ h.event ∷ []
+log_here h earlier = elim (tested h.who h.who) [
+  | inl d ↦ ap (λ (b : Bool). if b then log_of h.who earlier ++ h.event ∷ [] else log_of h.who earlier) d.1
+  | inr d ↦ absurd (d.0 refl)
+]
+
+-- ---- datagrams
+
+carried_grows : (secret sent : List ℕ) (context : Context) (steps more : List Step) → Carried secret sent context steps → ((t : Tell) → WasSent t steps → WasSent t more) → Carried secret sent context more
+carried_grows secret sent context steps more c grows = record {
+  setup = c.setup;
+  group = c.group;
+  past = c.past;
+  line = c.line;
+  told = λ peer h e. (let was = c.told peer h e in record { sent = grows (tell_of (own_of c.setup) peer h) was.sent; sizes = was.sizes });
+}
+
+was_carried : (setup : Setup) (start : List Fact) (earlier : History) (steps : List Step) (call : Call) → IsHonestCall setup start earlier call →
+    ((sent : List ℕ) (context : Context) → WentOut sent context earlier → Carried setup.secret sent context steps) → WasCarried setup start steps call
+was_carried setup start earlier steps (Open peer candidates draws) honest outs = tt
+was_carried setup start earlier steps (Cancel n) honest outs = tt
+was_carried setup start earlier steps (Receive from datagram draws) honest outs = λ context plain of opens. outs datagram context (honest context plain of opens)
+was_carried setup start earlier steps (Tick draws) honest outs = tt
+
+-- ---- all of it
+
+-- Steps whose facts are those of all ends, in which each datagram that went out carries what its end told.
+pub record HistoryTold (ends : ℕ → Setup) (secret : List ℕ) (history : History) : Type 0 where
+  pub steps : List Step
+  pub telling : Telling steps
+  pub is : alone steps ≡ stated ends history
+  pub outs : (sent : List ℕ) (context : Context) → WentOut sent context history → Carried secret sent context steps
+
+pub history_told : (ends : ℕ → Setup) (secret : List ℕ) (history : History) → Ends ends secret history → IsHonest ends history → AllDifferent (nonces (stated ends history)) → HistoryTold ends secret history
+history_told ends secret [] e honest new = record { steps = []; telling = telling_new; is = refl; outs = λ sent context none. absurd none }
+history_told ends secret (h ∷ earlier) e honest new =
+    let setup : Setup = ends h.who in
+    let own : List ℕ = own_of setup in
+    let log : List Event = log_of h.who earlier in
+    let past : List Stamped = past_of 0 [] log in
+    let before = history_told ends secret earlier (ends_before ends secret h earlier e) honest.1 (different_before own h.event.entries (stated ends earlier) new) in
+    let group : setup.secret ≡ secret = e.group h.who (inl refl) in
+    let is_call = (calls_more log h.event (subst AreCalls (log_here h earlier) (e.calls h.who))).here in
+    let lawful = (lawful_more setup 0 [] log h.event (subst (IsLawful setup) (log_here h earlier) (e.lawful h.who))).here in
+    let carried : WasCarried setup (facts_of past) before.steps h.event.call =
+    was_carried setup (facts_of past) earlier before.steps h.event.call honest.0
+    (λ sent context out. subst (λ (s : List ℕ). Carried s sent context before.steps) (sym group) (before.outs sent context out)) in
+    let view_is : facts (view own before.steps) ≡ facts_of past =
+    sym (facts_alone own before.steps) ∙ ap (λ (r : List Step). facts (view own r)) before.is ∙ view_stated ends h.who earlier (λ a part same. e.prints a h.who (inr part) (inl refl) same) in
+    let far : Far setup h.event.call (facts_of past) before.steps past (stated ends earlier) before.steps =
+    record { telling = before.telling; is = before.is; stated = view_is; came = came_first h.event.call (facts_of past); grows = λ t w. w } in
+    let r = reached setup (moment_at (last_moment 0 log) h.event) h.event.call (facts_of past) before.steps is_call carried h.event.entries past (stated ends earlier) before.steps far lawful new in
+    record {
+      steps = r.last;
+      telling = r.telling;
+      is = r.is;
+      outs = λ sent context out. elim out [
+        | inl here ↦ subst (λ (s : List ℕ). Carried s sent context r.last) group (r.outs sent context here)
+        | inr old ↦ carried_grows secret sent context before.steps r.last (before.outs sent context old) r.grows
+      ];
+    }

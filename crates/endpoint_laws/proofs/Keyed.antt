@@ -1,0 +1,273 @@
+-- An initiator's keying that isn't discarded: what is stated is lawful, and the state agrees with it.
+use Rattle.std.proofs.Common.{◌≡◌, ◌≢◌, ℕ, ◌+◌, ◌<◌, ◌≤◌, ◌^◌, List, [], ◌∷◌, Bool, true, false, cond, Option, Some, None, inl, inr, refl, sym, ap, subst, ◌∙◌, arith}
+use Rattle.std.specs.Prelude.{is_none}
+use Rattle.std.specs.FinMap.{insert, remove}
+use Rattle.sha2.specs.Sha256.{sha256}
+use Rattle.rtmfp_base.proofs.Maps.{get_inserted, get_beside, len_new}
+use Rattle.rtmfp_forms.specs.Address.{AddressParts}
+use Rattle.rtmfp_packet.specs.declared.head.Mode.TheVariants.{Startup as StartupMode}
+use Rattle.rtmfp_packet.specs.Walk.{Placed}
+use Rattle.rtmfp_packet.specs.Whole.{Whole}
+use Rattle.cookies.specs.declared.CookieTest.{CookieTest}
+use Rattle.cookies.specs.declared.CookieTest.TheVariants.{Bad, Moved, Expired, Current}
+use Rattle.cookies.specs.Cookie.{cookie_test}
+use Rattle.glare_core.specs.declared.facts.Why.{Why}
+use Rattle.glare_core.specs.declared.facts.Why.TheVariants.{Glare as ForGlare, Override as ForOverride}
+use Rattle.glare_core.specs.declared.facts.Fact.{Fact}
+use Rattle.glare_core.specs.declared.facts.Fact.TheVariants.{Born, Ended}
+use Rattle.glare_core.specs.declared.facts.Joined.{Joined}
+use Rattle.glare_core.specs.declared.facts.Held.{Held}
+use Rattle.glare_core.specs.declared.facts.Held.TheVariants.{Opening, HalfOpen, KeptAsResponder, KeptAsInitiator}
+use Rattle.glare_core.specs.declared.answers.Keying.{Keying}
+use Rattle.glare_core.specs.declared.answers.Heard.{Heard}
+use Rattle.glare_core.specs.declared.answers.Heard.TheVariants.{Birth}
+use Rattle.glare_core.specs.Standing.{count}
+use Rattle.glare_core.specs.Stands.{Stands, IsForBorn}
+use Rattle.glare_core.specs.Things.{near_of}
+use Rattle.glare_core.specs.Ledger.{Ledger, row_in, row_after, held_with, knows, noted}
+use Rattle.glare_core.specs.Calls.{again_of, again_or, way_made, heard, heard_facts, heard_noted}
+use Rattle.glare_core.specs.Account.{StandsFor, Gave}
+use Rattle.glare_core.proofs.Maps.{known_inserted}
+use Rattle.glare_core.proofs.Giving.{gave_heard}
+use Rattle.std.specs.Str.{bytes_eq}
+use Rattle.startup.specs.declared.answer.Answer.{Answer}
+use Rattle.startup.specs.declared.answer.Keyed.TheVariants.{Birth as BirthKeyed}
+use Rattle.startup.specs.Keyings.{InitiatorKeying, keying_of, change_answer, session_answer, born_session, repeated_session, again_or_birth, keyed_with, keyed_reading, opening_id, without, after_again_or_birth, after_keyed_with, after_keyed_reading}
+use Rattle.session_core.specs.declared.stage.Role.TheVariants.{Responder}
+use Rattle.session_core.specs.Session.{SessionState, new_session}
+use Rattle.endpoint_model.specs.declared.config.Draws.{Draws}
+use Rattle.endpoint_model.specs.declared.entry.Entry.TheVariants.{Fact as FactEntry}
+use Rattle.endpoint_model.specs.Event.{Setup, Call, Receive, own_of}
+use Rattle.endpoint_laws.specs.Past.{Stamped, stamped, onto, facts_of}
+use Rattle.endpoint_model.specs.Keying.{IsAmong, IsFirst, chunks_of}
+use Rattle.endpoint_laws.specs.Admissible.{Admissible}
+use Rattle.endpoint_laws.specs.Lawful.{EndedLine}
+use Rattle.endpoint_model.specs.State.{State, Did, is_used, then_do, with_startup, free_from, full}
+use Rattle.endpoint_model.specs.Sending.{sent_answer}
+use Rattle.endpoint_model.specs.Due.{keying_done, initiator_keyed}
+use Rattle.endpoint_laws.proofs.Tied.{Tied}
+use Rattle.endpoint_laws.proofs.Agrees.{Agrees, IsGiven, agrees_of, tied_of, used_elsewhere}
+use Rattle.endpoint_laws.proofs.Moving.{held_after_own, rows_after_known, knows_held}
+use Rattle.endpoint_laws.proofs.Facts.{stands_of}
+use Rattle.endpoint_laws.proofs.Starting.{IsNew, new_id, is_free_of, room_left, row_left, rows_after_either}
+use Rattle.endpoint_laws.proofs.Going.{Goes, goes_then, goes_answer}
+use Rattle.endpoint_laws.proofs.Admitting.{IsRead}
+use Rattle.endpoint_laws.proofs.Bearing.{IsHeard, IsNamed, named_of, not_again, MayBear, may_bear, offer_of, admissible}
+use Rattle.endpoint_laws.proofs.Birth.{held_used, agrees_end, agrees_born, attempt_id, without_id, without_thing, without_thing_is}
+
+-- the cause for which a thing makes way
+abbrev why_of : Held → Why
+why_of (Opening n near ni) = ForGlare
+why_of (HalfOpen j) = ForOverride
+why_of (KeptAsResponder j) = ForOverride
+why_of (KeptAsInitiator j) = ForOverride
+
+for_born : (thing : Held) → IsForBorn (why_of thing)
+for_born (Opening n near ni) = inl refl
+for_born (HalfOpen j) = inr refl
+for_born (KeptAsResponder j) = inr refl
+for_born (KeptAsInitiator j) = inr refl
+
+end_line : (now : ℕ) (call : Call) (past : List Stamped) (peer : List ℕ) (thing : Held) (j : Joined) → j.peer ≡ peer → EndedLine now call past (FactEntry (Born j) ∷ []) peer (near_of thing) (why_of thing)
+end_line now call past peer (Opening n near ni) j is = is
+end_line now call past peer (HalfOpen h) j is = is
+end_line now call past peer (KeptAsResponder h) j is = is
+end_line now call past peer (KeptAsInitiator h) j is = is
+
+stands_before : (own : List ℕ) (l : Ledger) (last fact : Fact) (facts : List Fact) → l.own ≡ own → StandsFor 0 l (last ∷ fact ∷ facts) → Stands own (count facts) facts fact
+stands_before own l last fact facts is s =
+    let zero : 0 + count facts ≡ count facts = omega arith in
+    subst (λ n. Stands own n facts fact) zero (subst (λ o. Stands o (0 + count facts) facts fact) is s.lawful.2.0)
+
+either_true : (a b : Bool) → b ≡ true → cond a true b ≡ true
+either_true true b e = refl
+either_true false b e = e
+
+module _ (setup : Setup) (from : AddressParts) (datagram : List ℕ) (draws : Draws) (most : setup.config.max_sessions ≤ 65536) (small : draws.word < 2 ^ 32) (past : List Stamped) (s : State) (tied : Tied setup past s) (keying : InitiatorKeying) where
+  abbrev call : Call
+  call = Receive from datagram draws
+
+  abbrev l : Ledger
+  l = s.startup.ledger
+
+  abbrev k : Keying
+  k = keying_of keying
+
+  abbrev j : Joined
+  j = born_session l k (free_from s draws.word) draws.nonce
+
+  abbrev answer : Answer
+  answer = session_answer s.startup j from
+
+  abbrev new : SessionState
+  new = new_session j l.own Responder from s.startup.secret s.moment
+
+  fresh_id : IsNew s j.near
+  fresh_id = new_id setup past s draws.word tied most small
+
+  -- ---- where nothing is held
+
+  abbrev alone : Did
+  alone = record {
+    state = record {
+      config = s.config;
+      moment = s.moment;
+      sealed = s.sealed;
+      startup = record { cert = s.startup.cert; secret = s.startup.secret; cookie_secret = s.startup.cookie_secret; ledger = noted l (Born j); attempts = s.startup.attempts };
+      sessions = insert s.sessions j.near new;
+    };
+    entries = FactEntry (Born j) ∷ [];
+  }
+
+  alone_goes : Admissible setup (facts_of past) s.moment from datagram (offer_of keying) → MayBear s k → held_with l k.peer ≡ None → Gave l (Born j ∷ []) (noted l (Born j)) → Goes setup call past s alone
+  alone_goes admitted may unheld gave =
+      let t : State = alone.state in
+      let g = agrees_of setup past s tied in
+      let after = agrees_born setup past s t s.moment j new g unheld fresh_id
+      (record { config = g.given.config; cert = g.given.cert; secret = g.given.secret; cookie_secret = g.given.cookie_secret; own = g.given.own; max_peers = g.given.max_peers })
+      (record {
+        attempt = fresh_id.attempt;
+        session = get_inserted s.sessions j.near new;
+        attempts = λ q other. refl;
+        sessions = λ q other. get_beside s.sessions j.near new q other;
+      }) refl (omega (arith, len_new s.sessions j.near new fresh_id.session)) (room_left setup past s tied (may.place unheld))
+      (rows_after_either l (Born j) setup.config.max_peers k.peer refl tied.rows (row_left setup past s k.peer tied may.row)) refl
+      (record { own = tied.own; secret = tied.secret; stage = tt }) in
+      let account = gave 0 (facts_of past) tied.account in
+      record {
+        meets = (
+          (
+            stands_of (own_of setup) (noted l (Born j)) (Born j) (facts_of past) tied.own account,
+            record { before = facts_of past; way = inl refl; by = (admitted, refl); id = is_free_of setup past s j.near tied fresh_id },
+          ),
+          tt,
+        );
+        tied = tied_of setup (stamped s.moment (FactEntry (Born j)) ∷ past) t after account;
+        moment = refl;
+      }
+
+  -- ---- where a thing makes way
+
+  module _ (thing : Held) where
+    abbrev ended : Fact
+    ended = Ended k.peer (near_of thing) (why_of thing)
+
+    abbrev after_way : Did
+    after_way = record {
+      state = record {
+        config = s.config;
+        moment = s.moment;
+        sealed = s.sealed;
+        startup = record { cert = s.startup.cert; secret = s.startup.secret; cookie_secret = s.startup.cookie_secret; ledger = noted (noted l ended) (Born j); attempts = without_id s.startup.attempts (attempt_id thing) };
+        sessions = insert (remove s.sessions (near_of thing)) j.near new;
+      };
+      entries = FactEntry ended ∷ FactEntry (Born j) ∷ [];
+    }
+
+    way_goes : Admissible setup (facts_of past) s.moment from datagram (offer_of keying) → held_with l k.peer ≡ Some thing → Gave l (Born j ∷ ended ∷ []) (noted (noted l ended) (Born j)) → Goes setup call past s after_way
+    way_goes admitted is gave =
+        let t : State = after_way.state in
+        let m : State = without_thing s ended thing in
+        let middle : List Stamped = stamped s.moment (FactEntry ended) ∷ past in
+        let g = agrees_of setup past s tied in
+        let way = without_thing_is setup past s ended k.peer thing g is in
+        let given : IsGiven setup m = record { config = g.given.config; cert = g.given.cert; secret = g.given.secret; cookie_secret = g.given.cookie_secret; own = g.given.own; max_peers = g.given.max_peers } in
+        let first : Agrees setup middle m = agrees_end setup past s m s.moment k.peer thing (why_of thing) g is given way.at refl way.count in
+        let apart : j.near ≡ near_of thing → ⊥ = λ e. let clash : true ≡ false = sym (held_used setup past s k.peer thing g is) ∙ ap (is_used s) (sym e) ∙ fresh_id.unused in cc in
+        let free : IsNew m j.near = record {
+          some = fresh_id.some;
+          unused = used_elsewhere (near_of thing) None None s m way.at j.near apart ∙ fresh_id.unused;
+          attempt = way.at.attempts j.near apart ∙ fresh_id.attempt;
+          session = way.at.sessions j.near apart ∙ fresh_id.session;
+        } in
+        let unheld : held_with m.startup.ledger k.peer ≡ None = held_after_own l ended in
+        let known = rows_after_known m.startup.ledger (Born j) setup.config.max_peers (still_known k.peer (knows_held l k.peer thing is)) first.rows in
+        let after = agrees_born setup middle m t s.moment j new first unheld free
+        (record { config = g.given.config; cert = g.given.cert; secret = g.given.secret; cookie_secret = g.given.cookie_secret; own = g.given.own; max_peers = g.given.max_peers })
+        (record {
+          attempt = free.attempt;
+          session = get_inserted (remove s.sessions (near_of thing)) j.near new;
+          attempts = λ q other. refl;
+          sessions = λ q other. get_beside (remove s.sessions (near_of thing)) j.near new q other;
+        }) refl (omega (arith, len_new (remove s.sessions (near_of thing)) j.near new free.session)) (omega (arith, way.count, tied.within)) known refl
+        (record { own = tied.own; secret = tied.secret; stage = tt }) in
+        let account = gave 0 (facts_of past) tied.account in
+        record {
+          meets = (
+            (stands_before (own_of setup) (noted (noted l ended) (Born j)) (Born j) ended (facts_of past) tied.own account, end_line s.moment call past k.peer thing j refl),
+            (
+              (
+                stands_of (own_of setup) (noted (noted l ended) (Born j)) (Born j) (ended ∷ facts_of past) tied.own account,
+                record {
+                  before = facts_of past;
+                  way = inr (near_of thing, why_of thing, for_born thing, refl);
+                  by = (admitted, refl);
+                  id = record { some = fresh_id.some; unused = sym (first.ids.used j.near) ∙ free.unused };
+                },
+              ),
+              tt,
+            ),
+          );
+          tied = tied_of setup (stamped s.moment (FactEntry (Born j)) ∷ middle) t after account;
+          moment = refl;
+        }
+      where
+        still_known : (peer : List ℕ) → knows l peer ≡ true → knows (noted l ended) peer ≡ true
+        still_known peer e = known_inserted l.rows k.peer (row_after ended (row_in l.rows k.peer)) peer ∙ either_true (bytes_eq k.peer peer) (knows l peer) e
+
+  -- ---- by what is held
+
+  -- what a birth does, by what was held
+  abbrev born_by : Option Held → Did
+  born_by o = keying_done
+      (with_startup s (record { cert = s.startup.cert; secret = s.startup.secret; cookie_secret = s.startup.cookie_secret; ledger = heard_noted l (Birth (way_made k.peer o) (Born j)); attempts = without s.startup.attempts (opening_id o) }))
+      from (Some (BirthKeyed (way_made k.peer o) (Born j) answer))
+
+  abbrev gave_by : Option Held → Type 0
+  gave_by o = Gave l (heard_facts (Birth (way_made k.peer o) (Born j))) (heard_noted l (Birth (way_made k.peer o) (Born j)))
+
+  then_answer : (d : Did) → Goes setup call past s d → Goes setup call past s (then_do d (λ t. sent_answer t answer))
+  then_answer d goes = goes_then setup call past s d (λ t. sent_answer t answer) goes (goes_answer setup call d.state answer (onto s.moment d.entries past) goes.tied)
+
+  born_goes : Admissible setup (facts_of past) s.moment from datagram (offer_of keying) → MayBear s k → (o : Option Held) → held_with l k.peer ≡ o → gave_by o → Goes setup call past s (born_by o)
+  born_goes admitted may None is gave = then_answer alone (alone_goes admitted may is gave)
+  born_goes admitted may (Some (Opening n near ni)) is gave = then_answer (after_way (Opening n near ni)) (way_goes (Opening n near ni) admitted is gave)
+  born_goes admitted may (Some (HalfOpen h)) is gave = then_answer (after_way (HalfOpen h)) (way_goes (HalfOpen h) admitted is gave)
+  born_goes admitted may (Some (KeptAsResponder h)) is gave = then_answer (after_way (KeptAsResponder h)) (way_goes (KeptAsResponder h) admitted is gave)
+  born_goes admitted may (Some (KeptAsInitiator h)) is gave = then_answer (after_way (KeptAsInitiator h)) (way_goes (KeptAsInitiator h) admitted is gave)
+
+  -- ---- by the cookie, and by the session that is held
+
+  abbrev repeated_by : Option Joined → Did
+  repeated_by o = keying_done (with_startup s (after_again_or_birth s.startup k j.near draws.nonce o)) from (Some (again_or_birth s.startup k from j.near draws.nonce o))
+
+  abbrev tested_by : CookieTest → Did
+  tested_by test = keying_done (with_startup s (after_keyed_with s.startup j.near draws.nonce keying test)) from (Some (keyed_with s.startup from s.moment j.near draws.nonce keying test))
+
+  module _ (packet : Whole) (c : Placed) (read : IsRead setup.secret 0 datagram packet) (mode : packet.head.mode ≡ StartupMode) (among : IsAmong c (chunks_of packet)) (first : IsFirst c (chunks_of packet)) (kind : c.kind ≡ 0x38) (is_heard : IsHeard s from c.payload keying) where
+    repeated_goes : cookie_test s.startup.cookie_secret keying.cookie from s.moment ≡ Current → IsNamed s keying → (o : Option Joined) → repeated_session (held_with l k.peer) k ≡ o → Goes setup call past s (repeated_by o)
+    repeated_goes current named (Some h) is = goes_answer setup call s (session_answer s.startup h from) past tied
+    repeated_goes current named None is =
+        let again : again_of (held_with l k.peer) k ≡ None = not_again (held_with l k.peer) k is in
+        let may = may_bear s k again named.refusal in
+        let birth : Heard = Birth (way_made k.peer (held_with l k.peer)) (Born j) in
+        let same : heard l k j.near draws.nonce ≡ birth = ap (λ a. again_or a birth) again in
+        let other : l.own ≢ k.peer = λ e. named.other_print (sym e ∙ tied.own ∙ sym (ap sha256 tied.cert)) in
+        let gave = gave_heard l k j.near draws.nonce (is_none (full s)) other named.refusal in
+        subst (λ h. Goes setup call past s (keying_done
+        (with_startup s (record { cert = s.startup.cert; secret = s.startup.secret; cookie_secret = s.startup.cookie_secret; ledger = heard_noted l h; attempts = without s.startup.attempts (opening_id (held_with l k.peer)) }))
+        from (Some (BirthKeyed (way_made k.peer (held_with l k.peer)) (Born j) answer)))) (sym same)
+        (born_goes (admissible setup past s from datagram packet c keying tied read mode among first kind is_heard current named may) may (held_with l k.peer) refl
+        (subst (λ h. Gave l (heard_facts h) (heard_noted l h)) same gave))
+
+    tested_goes : (test : CookieTest) → cookie_test s.startup.cookie_secret keying.cookie from s.moment ≡ test → Goes setup call past s (tested_by test)
+    tested_goes Bad is = goes_answer setup call s (change_answer s.startup keying from s.moment) past tied
+    tested_goes Moved is = goes_answer setup call s (change_answer s.startup keying from s.moment) past tied
+    tested_goes Expired is = goes_answer setup call s (change_answer s.startup keying from s.moment) past tied
+    tested_goes Current is =
+        repeated_goes is (named_of s keying (cookie_test s.startup.cookie_secret keying.cookie from s.moment) is is_heard.cause) (repeated_session (held_with l k.peer) k) refl
+
+    pub goes_initiator : Goes setup call past s (initiator_keyed s from draws c.payload)
+    goes_initiator =
+        subst (λ r. Goes setup call past s (keying_done (with_startup s (after_keyed_reading s.startup from s.moment j.near draws.nonce r)) from (keyed_reading s.startup from s.moment j.near draws.nonce r))) (sym is_heard.reads)
+        (tested_goes (cookie_test s.startup.cookie_secret keying.cookie from s.moment) refl)

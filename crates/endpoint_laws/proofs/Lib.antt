@@ -1,0 +1,54 @@
+mod Lines
+mod OutFacts
+mod OutNumbers
+mod Tied
+mod Matching
+mod Agrees
+mod OutPackets
+mod OutHeld
+mod OutSends
+mod OutLowest
+mod OutKeyings
+mod OutItems
+mod Moving
+mod Going
+mod Facts
+mod Starting
+mod Ending
+mod OutBirths
+mod OutChunks
+mod OutLog
+mod Bytes
+mod Spelled
+mod Confirming
+mod Admitting
+mod Says
+mod Answering
+mod Birth
+pub mod OutLaw
+mod Bearing
+mod Keyed
+mod Chunked
+mod Logged
+pub mod Opened
+pub mod Drawn
+mod FactsAlone
+mod HeldTold
+mod Telling
+mod Components
+mod Carried
+mod Since
+mod Heard
+mod Fresh
+mod EventTold
+mod StatedFacts
+mod HistoryTold
+pub mod AgreedLaw
+mod Counts
+mod Counted
+mod AgreedLogs
+mod Few
+mod ReadsBack
+mod Complete
+pub mod AnswerCarried
+mod OfTheLog

@@ -1,0 +1,96 @@
+-- What an end keeps is what its log says.
+use Rattle.std.proofs.Common.{ℕ, ◌≡◌, List, [], Option, Some, None, refl, sym, ap, subst, ◌∙◌, arith}
+use Rattle.std.specs.FinMap.{get}
+use Rattle.glare_core.specs.declared.facts.Held.{Held}
+use Rattle.glare_core.specs.declared.facts.Held.TheVariants.{Opening as AttemptHeld}
+use Rattle.glare_core.specs.declared.facts.Joined.{Joined}
+use Rattle.glare_core.specs.Standing.{held}
+use Rattle.glare_core.specs.Things.{near_of}
+use Rattle.glare_core.specs.Ledger.{held_with}
+use Rattle.glare_core.proofs.Accounts.{reads_held, reads_floor, reads_started, reads_knows, reads_rows}
+use Rattle.startup.specs.State.{AttemptState, peer_of_attempt}
+use Rattle.session_core.specs.declared.stage.Role.{Role}
+use Rattle.session_core.specs.declared.stage.Role.TheVariants.{Initiator, Responder}
+use Rattle.session_core.specs.declared.stage.Stage.{Stage}
+use Rattle.session_core.specs.declared.stage.Stage.TheVariants.{Opening, Open, NearClose, FarLinger, Closed}
+use Rattle.session_core.specs.Session.{SessionState}
+use Rattle.endpoint_model.specs.Event.{Setup}
+use Rattle.endpoint_laws.specs.Past.{Stamped, facts_of, past_of, last_moment}
+use Rattle.endpoint_model.specs.State.{State, fresh}
+use Rattle.endpoint_laws.specs.OfTheLog.{IsThing, AttemptIsThere, SessionIsThere, IsOfTheLog, TheStateIsOfTheLog}
+use Rattle.endpoint_laws.proofs.Tied.{Tied, StageFits, thing_of, peer_at, fresh_tied}
+use Rattle.endpoint_laws.proofs.Logged.{tied_to_log}
+use Rattle.endpoint_laws.proofs.Complete.{moment_goes}
+
+is_thing : (role : Role) (stage : Stage) (j : Joined) → StageFits role stage → IsThing role stage j (thing_of role stage j)
+is_thing Initiator Opening j fits = fits
+is_thing Initiator Open j fits = refl
+is_thing Initiator NearClose j fits = fits
+is_thing Initiator FarLinger j fits = fits
+is_thing Initiator Closed j fits = fits
+is_thing Responder Opening j fits = refl
+is_thing Responder Open j fits = refl
+is_thing Responder NearClose j fits = fits
+is_thing Responder FarLinger j fits = fits
+is_thing Responder Closed j fits = fits
+
+same_thing : (x y : Held) → Some x ≡ Some y → x ≡ y
+same_thing x y e = cc
+
+n_in : ℕ → Option Held → ℕ
+n_in other (Some (AttemptHeld n near ni)) = n
+n_in other held = other
+
+ni_in : List ℕ → Option Held → List ℕ
+ni_in other (Some (AttemptHeld n near ni)) = ni
+ni_in other held = other
+
+same_n : (n n' near near' : ℕ) (ni ni' : List ℕ) → Some (AttemptHeld n near ni) ≡ Some (AttemptHeld n' near' ni') → n ≡ n'
+unfolding n_in
+same_n n n' near near' ni ni' e = ap (n_in n) e
+
+same_ni : (n n' near near' : ℕ) (ni ni' : List ℕ) → Some (AttemptHeld n near ni) ≡ Some (AttemptHeld n' near' ni') → ni ≡ ni'
+unfolding ni_in
+same_ni n n' near near' ni ni' e = ap (ni_in ni) e
+
+module _ (setup : Setup) (past : List Stamped) (s : State) (tied : Tied setup past s) where
+  holds : (q : List ℕ) → held_with s.startup.ledger q ≡ held q (facts_of past)
+  holds = reads_held 0 s.startup.ledger (facts_of past) tied.account
+
+  attempt_there : (peer : List ℕ) (n near : ℕ) (ni : List ℕ) (o : Option AttemptState) → get s.startup.attempts near ≡ o → peer_of_attempt o ≡ Some peer → held_with s.startup.ledger peer ≡ Some (AttemptHeld n near ni) →
+      AttemptIsThere s peer n near ni
+  attempt_there peer n near ni None e is thing = absurd (cc)
+  attempt_there peer n near ni (Some a) e is thing =
+      let same : a.peer ≡ peer = cc in
+      let both : Some (AttemptHeld a.n near a.ni) ≡ Some (AttemptHeld n near ni) = sym (tied.sound.held near a e) ∙ ap (held_with s.startup.ledger) same ∙ thing in
+      record { attempt = a; there = e; peer_is = same; n_is = same_n a.n n near near a.ni ni both; ni_is = same_ni a.n n near near a.ni ni both }
+
+  session_there : (peer : List ℕ) (thing : Held) (o : Option SessionState) → get s.sessions (near_of thing) ≡ o → peer_at o ≡ Some peer → held_with s.startup.ledger peer ≡ Some thing → SessionIsThere s thing
+  session_there peer thing None e is holding = absurd (cc)
+  session_there peer thing (Some x) e is holding =
+      let same : x.joined.peer ≡ peer = cc in
+      let ties = tied.sessions (near_of thing) x e in
+      let one : thing_of x.role x.stage x.joined ≡ thing = same_thing (thing_of x.role x.stage x.joined) thing (sym ties.thing ∙ ap (held_with s.startup.ledger) same ∙ holding) in
+      record { session = x; there = e; is = subst (IsThing x.role x.stage x.joined) one (is_thing x.role x.stage x.joined ties.stage) }
+
+  of_the_log : (now : ℕ) → s.moment ≡ now → IsOfTheLog setup s now past
+  of_the_log now at = record {
+    moment = at;
+    ids = tied.used;
+    uses_are = tied.count;
+    attempts = λ near a e. record { is_held = sym (holds a.peer) ∙ tied.sound.held near a e; started = tied.started near a e };
+    attempts_there = λ peer n near ni e. let thing = holds peer ∙ e in attempt_there peer n near ni (get s.startup.attempts near) refl (tied.sound.there peer n near ni thing) thing;
+    sessions = λ near x e.
+        let ties = tied.sessions near x e in
+        record { thing = thing_of x.role x.stage x.joined; is = is_thing x.role x.stage x.joined ties.stage; is_held = sym (holds x.joined.peer) ∙ ties.thing; id = ties.id; own = ties.own };
+    sessions_there = λ peer thing e is. let holding = holds peer ∙ e in session_there peer thing (get s.sessions (near_of thing)) refl (tied.there peer thing holding is) holding;
+    held_is = holds;
+    floor_is = reads_floor 0 s.startup.ledger (facts_of past) tied.account;
+    row_is = reads_knows 0 s.startup.ledger (facts_of past) tied.account;
+    rows_are = reads_rows 0 s.startup.ledger (facts_of past) tied.account;
+    count_is = omega (arith, reads_started 0 s.startup.ledger (facts_of past) tied.account);
+  }
+
+pub state_of_log : TheStateIsOfTheLog
+state_of_log setup log s is calls stands =
+    of_the_log setup (past_of 0 [] log) s (tied_to_log setup log s is calls stands) (last_moment 0 log) (moment_goes setup [] log (fresh setup) s is calls (fresh_tied setup) stands)

@@ -1,0 +1,257 @@
+-- The context in which a datagram opens: by what is kept it is the same as by what the end has stated.
+use Rattle.std.proofs.Common.{◌≡◌, ◌≢◌, ℕ, ◌≤◌, ◌==◌, List, [], length, drop, length-drop, nat_lt, Bool, true, false, ◌||◌, if◌then◌else◌, Option, Some, None, is_some, inl, inr, refl, sym, ap, subst, ◌∙◌, arith}
+use Rattle.std.proofs.lemmas.Bool.Decides.{nat_tests}
+use Rattle.std.specs.FinMap.{get, contains_key}
+use Rattle.crypto_profile.specs.declared.keys.Context.{Context}
+use Rattle.crypto_profile.specs.declared.keys.Context.TheVariants.{Startup as StartupContext}
+use Rattle.crypto_profile.specs.declared.sealing.SealFault.{SealFault}
+use Rattle.crypto_profile.specs.Keys.{keys_of}
+use Rattle.crypto_profile.specs.Sealing.{Opens}
+use Rattle.crypto_profile.specs.Opening.{open_refusal, plain_of}
+use Rattle.crypto_profile.proofs.Opened.{opens_by_its_tag}
+use Rattle.packet_scramble.specs.Datagram.{sid_of}
+use Rattle.glare_core.specs.declared.facts.Fact.{Fact}
+use Rattle.glare_core.specs.declared.facts.Joined.{Joined}
+use Rattle.glare_core.specs.declared.facts.Held.{Held}
+use Rattle.glare_core.specs.declared.facts.Held.TheVariants.{Opening as OpeningHeld}
+use Rattle.glare_core.proofs.Accounts.{reads_held}
+use Rattle.startup.specs.State.{AttemptState}
+use Rattle.session_core.specs.declared.stage.Role.{Role}
+use Rattle.session_core.specs.declared.stage.Role.TheVariants.{Initiator, Responder}
+use Rattle.session_core.specs.declared.stage.Stage.{Stage}
+use Rattle.session_core.specs.declared.stage.Stage.TheVariants.{Opening, Open, NearClose, FarLinger, Closed}
+use Rattle.session_core.specs.Session.{SessionState, context_between, context_of}
+use Rattle.session_core.specs.Hearing.{opens_in as opens_in_session}
+use Rattle.session_core.proofs.Hears.{opens_some_plain}
+use Rattle.endpoint_model.specs.declared.place.Place.{Place}
+use Rattle.endpoint_model.specs.declared.place.Place.TheVariants.{Startup, Attempt, Session}
+use Rattle.endpoint_model.specs.Event.{Setup, Event, own_of}
+use Rattle.endpoint_laws.specs.Past.{Stamped, facts_of, past_of}
+use Rattle.endpoint_laws.specs.Contexts.{ContextOf, HeldUnder, OpensUnder, inward}
+use Rattle.endpoint_model.specs.State.{State, is_used}
+use Rattle.endpoint_model.specs.Admission.{place_of, startup_keys}
+use Rattle.endpoint_model.specs.Log.{StandsFor}
+use Rattle.endpoint_laws.specs.Laws.{IsSetup, AreCalls}
+use Rattle.endpoint_laws.specs.OpensIn.{startup_unless, context_in_startup, context_in_session, context_found, opens_in, OpensAt, IsContextAt, OpensByTheLog}
+use Rattle.endpoint.proofs.Keeping.{place_by}
+use Rattle.endpoint_model.proofs.Members.{tested}
+use Rattle.endpoint_laws.proofs.Tied.{Tied, thing_of}
+use Rattle.endpoint_laws.proofs.Agrees.{agrees_of, combined, thing_at, found_of_attempt, found_of_session}
+use Rattle.endpoint_laws.proofs.Logged.{tied_to_log}
+
+-- ---- contexts
+
+-- the context of a session towards this end is that of what is held for it
+inward_is : (own : List ℕ) (role : Role) (stage : Stage) (j : Joined) → context_between j own role false ≡ inward own (thing_of role stage j)
+inward_is own Initiator stage j = refl
+inward_is own Responder Opening j = refl
+inward_is own Responder Open j = refl
+inward_is own Responder NearClose j = refl
+inward_is own Responder FarLinger j = refl
+inward_is own Responder Closed j = refl
+
+unrefused : (o : Option SealFault) (c : Context) → startup_unless o ≡ Some c → (o ≡ None) × (StartupContext ≡ c)
+unrefused None c e = (refl, let same : StartupContext ≡ c = cc in same)
+unrefused (Some fault) c e = absurd (cc)
+
+chosen : (b : Bool) (own c : Context) → ◌≡◌ {A = Option Context} (if b then Some own else None) (Some c) → (b ≡ true) × (own ≡ c)
+chosen true own c e = (refl, let same : own ≡ c = cc in same)
+chosen false own c e = absurd (cc)
+
+-- ---- what a session ID names
+
+used_if_found : (near : ℕ) (oa : Option AttemptState) (os : Option SessionState) (peer : List ℕ) (thing : Held) → combined near oa os ≡ Some (peer, thing) → (is_some oa || is_some os) ≡ true
+used_if_found near (Some a) os peer thing e = refl
+used_if_found near None (Some session) peer thing e = refl
+used_if_found near None None peer thing e = absurd (cc)
+
+place_zero : (s : State) (sid : ℕ) → (sid == 0) ≡ true → place_of s sid ≡ Some Startup
+place_zero s sid zero =
+    ap (λ (b : Bool). if b then Some Startup else if contains_key s.startup.attempts sid then Some (Attempt sid) else if contains_key s.sessions sid then Some (Session sid) else None) zero
+
+module _ (setup : Setup) (past : List Stamped) (s : State) (tied : Tied setup past s) (part : List ℕ) where
+  abbrev facts : List Fact
+  facts = facts_of past
+
+  abbrev own : List ℕ
+  own = own_of setup
+
+  -- what is held is what stands under its session ID
+  stands_there : (sid : ℕ) (thing : Held) (under : HeldUnder facts sid thing) → thing_at s sid ≡ Some (under.peer, thing)
+  stands_there sid thing under =
+      ap (thing_at s) (sym under.id)
+      ∙ (agrees_of setup past s tied).matches.there under.peer thing (reads_held 0 s.startup.ledger facts tied.account under.peer ∙ under.is_held)
+
+  is_held : (sid : ℕ) (peer : List ℕ) (thing : Held) → thing_at s sid ≡ Some (peer, thing) → HeldUnder facts sid thing
+  is_held sid peer thing at =
+      let found = (agrees_of setup past s tied).matches.found sid peer thing at in
+      record { peer = peer; is_held = sym (reads_held 0 s.startup.ledger facts tied.account peer) ∙ found.0; id = found.1 }
+
+  -- ---- what opens in the context of its session ID is found
+
+  startup_found : (sid : ℕ) (plain : List ℕ) → Opens setup.secret StartupContext sid part plain → context_in_startup s sid part ≡ Some StartupContext
+  startup_found sid plain opens =
+      let none : open_refusal (keys_of setup.secret StartupContext) sid part ≡ None = ((opens_by_its_tag setup.secret StartupContext sid part plain).0 opens).0 in
+      ap (λ (secret : List ℕ). startup_unless (open_refusal (keys_of secret StartupContext) sid part)) tied.secret ∙ ap startup_unless none
+
+  session_found : (sid : ℕ) (session : SessionState) (plain : List ℕ) → get s.sessions sid ≡ Some session →
+      Opens setup.secret (inward own (thing_of session.role session.stage session.joined)) sid part plain →
+      context_in_session (get s.sessions sid) part ≡ Some (inward own (thing_of session.role session.stage session.joined))
+  session_found sid session plain at opens =
+      let ours = tied.sessions sid session at in
+      let context : context_of session false ≡ inward own (thing_of session.role session.stage session.joined) =
+      ap (λ (o : List ℕ). context_between session.joined o session.role false) ours.own ∙ inward_is own session.role session.stage session.joined in
+      let of_session : Opens session.secret (context_of session false) session.joined.near part plain =
+      subst (λ (secret : List ℕ). Opens secret (context_of session false) session.joined.near part plain) (sym ours.secret)
+      (subst (λ (c : Context). Opens setup.secret c session.joined.near part plain) (sym context)
+      (subst (λ (near : ℕ). Opens setup.secret (inward own (thing_of session.role session.stage session.joined)) near part plain) (sym ours.id) opens)) in
+      let is : opens_in_session session part ≡ true = (opens_some_plain session part).1 (plain, of_session) in
+      ap (λ (o : Option SessionState). context_in_session o part) at
+      ∙ ap (λ (b : Bool). if b then Some (context_of session false) else None) is
+      ∙ ap (λ (c : Context). Some c) context
+
+  thing_found : (sid : ℕ) (oa : Option AttemptState) (os : Option SessionState) (peer : List ℕ) (thing : Held) (plain : List ℕ) → sid ≢ 0 →
+      get s.startup.attempts sid ≡ oa → get s.sessions sid ≡ os → combined sid oa os ≡ Some (peer, thing) → Opens setup.secret (inward own thing) sid part plain →
+      context_found s (place_of s sid) part ≡ Some (inward own thing)
+  thing_found sid (Some a) os peer thing plain other ea es is opens =
+      let same : (a.peer, OpeningHeld a.n sid a.ni) ≡ (peer, thing) = cc in
+      let context : StartupContext ≡ inward own thing = ap (λ (x : List ℕ × Held). inward own x.1) same in
+      let place : place_of s sid ≡ Some (Attempt sid) = place_by s sid true (contains_key s.sessions sid) other (ap is_some ea) refl in
+      ap (λ (p : Option Place). context_found s p part) place
+      ∙ startup_found sid plain (subst (λ (c : Context). Opens setup.secret c sid part plain) (sym context) opens)
+      ∙ ap (λ (c : Context). Some c) context
+  thing_found sid None (Some session) peer thing plain other ea es is opens =
+      let same : (session.joined.peer, thing_of session.role session.stage session.joined) ≡ (peer, thing) = cc in
+      let context : inward own (thing_of session.role session.stage session.joined) ≡ inward own thing = ap (λ (x : List ℕ × Held). inward own x.1) same in
+      let place : place_of s sid ≡ Some (Session sid) = place_by s sid false true other (ap is_some ea) (ap is_some es) in
+      ap (λ (p : Option Place). context_found s p part) place
+      ∙ session_found sid session plain es (subst (λ (c : Context). Opens setup.secret c sid part plain) (sym context) opens)
+      ∙ ap (λ (c : Context). Some c) context
+  thing_found sid None None peer thing plain other ea es is opens = absurd (cc)
+
+  -- nothing stands under session ID 0
+  none_at_zero : (sid : ℕ) (thing : Held) → sid ≡ 0 → HeldUnder facts sid thing → ⊥
+  none_at_zero sid thing zero under =
+      let used : is_used s sid ≡ true = used_if_found sid (get s.startup.attempts sid) (get s.sessions sid) under.peer thing (stands_there sid thing under) in
+      let clash : true ≡ false = sym used ∙ ap (is_used s) zero ∙ tied.used 0 ∙ tied.not_zero in
+      cc
+
+  found_at_zero : (sid : ℕ) (c : Context) (plain : List ℕ) → sid ≡ 0 → (sid == 0) ≡ true → ContextOf own facts sid c → Opens setup.secret c sid part plain →
+      context_found s (place_of s sid) part ≡ Some c
+  found_at_zero sid c plain zero is (inl named) opens =
+      ap (λ (p : Option Place). context_found s p part) (place_zero s sid is)
+      ∙ startup_found 0 plain (subst (λ (id : ℕ). Opens setup.secret StartupContext id part plain) zero (subst (λ (x : Context). Opens setup.secret x sid part plain) named.1 opens))
+      ∙ ap (λ (x : Context). Some x) (sym named.1)
+  found_at_zero sid c plain zero is (inr named) opens = absurd (none_at_zero sid named.0 zero named.1)
+
+  found_elsewhere : (sid : ℕ) (c : Context) (plain : List ℕ) → sid ≢ 0 → ContextOf own facts sid c → Opens setup.secret c sid part plain → context_found s (place_of s sid) part ≡ Some c
+  found_elsewhere sid c plain other (inl named) opens = absurd (other named.0)
+  found_elsewhere sid c plain other (inr named) opens =
+      thing_found sid (get s.startup.attempts sid) (get s.sessions sid) named.1.peer named.0 plain other refl refl (stands_there sid named.0 named.1)
+      (subst (λ (x : Context). Opens setup.secret x sid part plain) named.2 opens)
+      ∙ ap (λ (x : Context). Some x) (sym named.2)
+
+  context_is_found : (sid : ℕ) (c : Context) (plain : List ℕ) → ContextOf own facts sid c → Opens setup.secret c sid part plain → context_found s (place_of s sid) part ≡ Some c
+  context_is_found sid c plain named opens = elim (tested sid 0) [
+    | inl is ↦ found_at_zero sid c plain is.0 is.1 named opens
+    | inr is ↦ found_elsewhere sid c plain is.0 named opens
+  ]
+
+  -- ---- and what is found is such a context
+
+  pub record Named (sid : ℕ) (c : Context) : Type 0 where
+    pub context : ContextOf own facts sid c
+    pub plain : List ℕ
+    pub opens : Opens setup.secret c sid part plain
+
+  opens_in_startup : (sid : ℕ) (c : Context) → context_in_startup s sid part ≡ Some c → (StartupContext ≡ c) × ((plain : List ℕ) × Opens setup.secret c sid part plain)
+  opens_in_startup sid c e =
+      let both = unrefused (open_refusal (startup_keys s) sid part) c e in
+      let plain : List ℕ = plain_of (startup_keys s) part in
+      let opens : Opens s.startup.secret StartupContext sid part plain = (opens_by_its_tag s.startup.secret StartupContext sid part plain).1 (both.0, tt, refl) in
+      (both.1, (plain, subst (λ (x : Context). Opens setup.secret x sid part plain) both.1 (subst (λ (secret : List ℕ). Opens secret StartupContext sid part plain) tied.secret opens)))
+
+  told_at_zero : (sid : ℕ) (c : Context) → sid ≡ 0 → context_in_startup s 0 part ≡ Some c → Named sid c
+  told_at_zero sid c zero e =
+      let found = opens_in_startup 0 c e in
+      record {
+        context = inl (zero, sym found.0);
+        plain = found.1.0;
+        opens = subst (λ (id : ℕ). Opens setup.secret c id part found.1.0) (sym zero) found.1.1;
+      }
+
+  told_in_session : (sid : ℕ) (session : SessionState) (c : Context) → get s.startup.attempts sid ≡ None → get s.sessions sid ≡ Some session → context_in_session (Some session) part ≡ Some c → Named sid c
+  told_in_session sid session c none at e =
+      let ours = tied.sessions sid session at in
+      let both = chosen (opens_in_session session part) (context_of session false) c e in
+      let found = (opens_some_plain session part).0 both.0 in
+      let thing : Held = thing_of session.role session.stage session.joined in
+      let context : context_of session false ≡ inward own thing =
+      ap (λ (o : List ℕ). context_between session.joined o session.role false) ours.own ∙ inward_is own session.role session.stage session.joined in
+      record {
+        context = inr (thing, is_held sid session.joined.peer thing (found_of_session s sid session none at), sym both.1 ∙ context);
+        plain = found.0;
+        opens =
+            subst (λ (near : ℕ). Opens setup.secret c near part found.0) ours.id
+            (subst (λ (x : Context). Opens setup.secret x session.joined.near part found.0) both.1
+            (subst (λ (secret : List ℕ). Opens secret (context_of session false) session.joined.near part found.0) ours.secret found.1));
+      }
+
+  told_elsewhere : (sid : ℕ) (oa : Option AttemptState) (os : Option SessionState) (c : Context) → sid ≢ 0 → get s.startup.attempts sid ≡ oa → get s.sessions sid ≡ os →
+      context_found s (place_of s sid) part ≡ Some c → Named sid c
+  told_elsewhere sid (Some a) os c other ea es e =
+      let place : place_of s sid ≡ Some (Attempt sid) = place_by s sid true (contains_key s.sessions sid) other (ap is_some ea) refl in
+      let found = opens_in_startup sid c (sym (ap (λ (p : Option Place). context_found s p part) place) ∙ e) in
+      record {
+        context = inr (OpeningHeld a.n sid a.ni, is_held sid a.peer (OpeningHeld a.n sid a.ni) (found_of_attempt s sid a ea), sym found.0);
+        plain = found.1.0;
+        opens = found.1.1;
+      }
+  told_elsewhere sid None (Some session) c other ea es e =
+      let place : place_of s sid ≡ Some (Session sid) = place_by s sid false true other (ap is_some ea) (ap is_some es) in
+      told_in_session sid session c ea es (sym (ap (λ (p : Option Place). context_found s p part) place ∙ ap (λ (o : Option SessionState). context_in_session o part) es) ∙ e)
+  told_elsewhere sid None None c other ea es e =
+      let place : place_of s sid ≡ None = place_by s sid false false other (ap is_some ea) (ap is_some es) in
+      let clash : None ≡ Some c = sym (ap (λ (p : Option Place). context_found s p part) place) ∙ e in
+      absurd (cc)
+
+  context_is_told : (sid : ℕ) (c : Context) → context_found s (place_of s sid) part ≡ Some c → Named sid c
+  context_is_told sid c e = elim (tested sid 0) [
+    | inl is ↦ told_at_zero sid c is.0 (sym (ap (λ (p : Option Place). context_found s p part) (place_zero s sid is.1)) ∙ e)
+    | inr is ↦ told_elsewhere sid (get s.startup.attempts sid) (get s.sessions sid) c is.0 refl refl e
+  ]
+
+-- ---- whole datagrams
+
+long_if : (b : Bool) (o : Option Context) (c : Context) → (if b then None else o) ≡ Some c → o ≡ Some c
+long_if true o c e = absurd (cc)
+long_if false o c e = e
+
+whole : (secret : List ℕ) (datagram plain : List ℕ) (c : Context) (sid : ℕ) → Opens secret c sid (drop 4 datagram) plain → nat_lt (length datagram) 36 ≡ false
+whole secret datagram plain c sid opens =
+    let long : 36 ≤ length datagram = omega (arith, opens.0, length-drop 4 datagram) in
+    grind (arith, nat_tests, long)
+
+module _ (setup : Setup) (log : List Event) (s : State) (datagram : List ℕ) (is : IsSetup setup) (calls : AreCalls log) (stands : StandsFor setup log s) where
+  -- The context of the datagram's session ID in which it opens is what the end finds.
+  pub opens_in_found : (c : Context) (plain : List ℕ) → ContextOf (own_of setup) (facts_of (past_of 0 [] log)) (sid_of datagram) c →
+      OpensUnder setup.secret c (sid_of datagram) datagram plain → opens_in s datagram ≡ Some c
+  opens_in_found c plain named under =
+      ap (λ (b : Bool). if b then None else context_found s (place_of s (sid_of datagram)) (drop 4 datagram)) (whole setup.secret datagram plain c (sid_of datagram) under.opens)
+      ∙ context_is_found setup (past_of 0 [] log) s (tied_to_log setup log s is calls stands) (drop 4 datagram) (sid_of datagram) c plain named under.opens
+
+  -- And what it finds is such a context.
+  pub opens_in_told : (c : Context) → opens_in s datagram ≡ Some c → OpensAt setup (facts_of (past_of 0 [] log)) datagram c
+  opens_in_told c e =
+      let told = context_is_told setup (past_of 0 [] log) s (tied_to_log setup log s is calls stands) (drop 4 datagram) (sid_of datagram) c
+      (long_if (nat_lt (length datagram) 36) (context_found s (place_of s (sid_of datagram)) (drop 4 datagram)) c e) in
+      record { named = told.context; plain = told.plain; opens = record { id = refl; opens = told.opens } }
+
+  pub is_context_at : IsContextAt setup log datagram (opens_in s datagram)
+  is_context_at = record { opens = opens_in_told; all = λ c at. opens_in_found c at.plain at.named at.opens }
+
+-- whatever log the end stands for
+pub opens_by_the_log : (s : State) (datagram : List ℕ) (answer : Option Context) → answer ≡ opens_in s datagram → OpensByTheLog s datagram answer
+opens_by_the_log s datagram answer e = λ setup log is calls stands.
+    let P : Option Context → Type 0 = λ a. IsContextAt setup log datagram a in
+    subst P (sym e) (is_context_at setup log s datagram is calls stands)

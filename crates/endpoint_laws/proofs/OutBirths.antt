@@ -1,0 +1,289 @@
+-- What goes out where a session is born or opened.
+use Rattle.std.proofs.Common.{◌≡◌, ℕ, zero, suc, ◌^◌, ◌<◌, ◌≤◌, List, [], ◌∷◌, ◌++◌, length, take, drop, Option, Some, None, Ok, Err, Result, inl, inr, ◌⊎◌, refl, sym, ap, subst, ◌∙◌, Bool, true, false, if◌then◌else◌, nat_lt, arith}
+use Rattle.std.specs.Prelude.{◌==◌, is_some, not}
+use Rattle.std.specs.Int.{w64, from_be_bytes}
+use Rattle.std.specs.FinMap.{get, insert}
+use Rattle.std.proofs.lemmas.Bool.{ltb-false}
+use Rattle.std.proofs.lemmas.List.{length-take}
+use Rattle.rtmfp_base.proofs.Maps.{get_inserted}
+use Rattle.sha2.specs.Sha256.{sha256}
+use Rattle.rtmfp_forms.specs.Address.{AddressParts}
+use Rattle.rtmfp_chunks.specs.declared.reading.ChunkFault.{ChunkFault}
+use Rattle.rtmfp_chunks.specs.FieldReading.{chunk_reading}
+use Rattle.rtmfp_chunks.specs.Chunk.{Chunk, IHello, FIHello, RHello, Redirect, CookieChange, IIKeying, RIKeying, Ping, PingReply, Close, CloseAck, Fragment}
+use Rattle.cookies.specs.declared.CookieTest.{CookieTest}
+use Rattle.cookies.specs.declared.CookieTest.TheVariants.{Bad, Moved, Expired, Current}
+use Rattle.cookies.specs.Cookie.{cookie_of, cookie_test}
+use Rattle.identity.specs.Certificates.{certificate_fault}
+use Rattle.glare_core.specs.declared.facts.Fact.{Fact}
+use Rattle.glare_core.specs.declared.facts.Fact.TheVariants.{Started, Born, Opened, Confirmed, Ended}
+use Rattle.glare_core.specs.declared.facts.Held.{Held}
+use Rattle.glare_core.specs.declared.facts.Held.TheVariants.{Opening as OpeningHeld, HalfOpen, KeptAsResponder, KeptAsInitiator}
+use Rattle.glare_core.specs.declared.facts.Joined.{Joined}
+use Rattle.glare_core.specs.declared.answers.Keying.{Keying}
+use Rattle.glare_core.specs.declared.answers.Heard.{Heard}
+use Rattle.glare_core.specs.declared.answers.Heard.TheVariants.{Again as AgainHeard, Birth as BirthHeard}
+use Rattle.glare_core.specs.Standing.{held, opened as opened_thing}
+use Rattle.glare_core.specs.Account.{AreLawful}
+use Rattle.glare_core.specs.Ledger.{Ledger, held_with}
+use Rattle.glare_core.specs.Calls.{where_true, first_that_stands, is_born_of, heard, heard_noted, way_made}
+use Rattle.glare_core.proofs.Accounts.{reads_held}
+use Rattle.glare_core.proofs.Tails.{same_end}
+use Rattle.startup.specs.declared.answer.Keyed.TheVariants.{Change, Birth}
+use Rattle.startup.specs.declared.cause.Cause.{Cause}
+use Rattle.startup.specs.declared.cause.Cause.TheVariants.{SecondKeying, BadSignature, Wide}
+use Rattle.startup.specs.Packets.{initiator_part_in, is_signed}
+use Rattle.startup.specs.State.{AttemptState, Attempts, StartupState}
+use Rattle.startup.specs.Attempts.{wide}
+use Rattle.startup.specs.Keyings.{InitiatorKeying, ResponderKeying, initiator_keying_in, initiator_fields, with_initiator_part, cause_by, cookie_cause, named_cause, initiator_cause, keying_of, session_answer, change_answer, repeated_session, born_session, again_or_birth, keyed_with, keyed_reading, opening_id, without, after_again_or_birth, after_keyed_with, after_keyed_reading, opened_reading, after_opening, responder_keying_in}
+use Rattle.session_core.specs.declared.stage.Role.TheVariants.{Initiator, Responder}
+use Rattle.session_core.specs.Session.{SessionState, new_session}
+use Rattle.endpoint_model.specs.declared.config.Draws.{Draws}
+use Rattle.endpoint_model.specs.declared.entry.Entry.TheVariants.{Fact as FactEntry}
+use Rattle.endpoint_model.specs.Event.{Setup, own_of, Call}
+use Rattle.endpoint_laws.specs.Past.{Stamped, stamped, onto, facts_of}
+use Rattle.endpoint_model.specs.State.{State, Sessions, fact_entries, with_startup, with_session, free_among, free_from, next_id, is_free, full}
+use Rattle.endpoint_model.specs.Sending.{sent_answer, sent_by, sent_in_session}
+use Rattle.endpoint_model.specs.Due.{without_ended, with_born, keying_done, initiator_keyed, opening_done, responder_keyed}
+use Rattle.endpoint_model.specs.Causes.{initiator_keying_cause}
+use Rattle.endpoint_laws.specs.Lawful.{IsBornHere}
+use Rattle.endpoint_laws.proofs.Lines.{EntriesMeet, OutPart}
+use Rattle.endpoint_laws.proofs.Tied.{Tied}
+use Rattle.endpoint_laws.proofs.Facts.{test_fails}
+use Rattle.endpoint_laws.proofs.OutNumbers.{Numbered, numbered_removed, numbered_born, numbered_opened}
+use Rattle.endpoint_laws.proofs.OutHeld.{held_sized}
+use Rattle.endpoint_laws.proofs.OutSends.{AreShort, Sent, Meets, MayGo, meets_nothing, meets_after, meets_session}
+use Rattle.endpoint_laws.proofs.OutKeyings.{cookiechange_may, rikeying_may, length-cookie_of}
+use Rattle.endpoint_laws.proofs.OutItems.{IsLight, sent_facts, sent_startup_changed, short_left, meets_answer, attempt_held}
+
+-- ---- the session ID that is chosen
+
+small_either : (b : Bool) (x y : ℕ) → x < 2 ^ 32 → y < 2 ^ 32 → (if b then x else y) < 2 ^ 32
+small_either true x y p q = p
+small_either false x y p q = q
+
+small_next : (id : ℕ) → next_id id < 2 ^ 32
+small_next id = omega arith
+
+small_among : (tries : ℕ) (s : State) (id : ℕ) → id < 2 ^ 32 → free_among tries s id < 2 ^ 32
+small_among zero s id small = small
+small_among (suc tries) s id small = small_either (is_free s id) id (free_among tries s (next_id id)) small (small_among tries s (next_id id) (small_next id))
+
+pub small_free : (s : State) (word : ℕ) → word < 2 ^ 32 → free_from s word < 2 ^ 32
+unfolding free_from
+small_free s word small = small_among _ s word small
+
+-- ---- the nonce that is read
+
+abbrev IsFine : Result InitiatorKeying Cause → Type 0
+IsFine (Ok keying) = length keying.part.ni ≤ 16
+IsFine (Err cause) = Unit {0}
+
+fine_either : (b : Bool) (x y : Result InitiatorKeying Cause) → IsFine x → IsFine y → IsFine (if b then x else y)
+fine_either true x y p q = p
+fine_either false x y p q = q
+
+fine_part : (at near : ℕ) (cookie cert sign bytes : List ℕ) → IsFine (with_initiator_part at near cookie cert sign (initiator_part_in bytes))
+unfolding initiator_part_in
+fine_part at near cookie cert sign bytes = by_length (length bytes == 56)
+  where
+    by_length : (b : Bool) → IsFine (with_initiator_part at near cookie cert sign (if b then Some (record { ni = take 16 bytes; n = from_be_bytes w64 (take 8 (drop 16 bytes)); responder = drop 24 bytes }) else None))
+    by_length true = omega (arith, length-take 16 bytes)
+    by_length false = tt
+
+fine_fields : (payload : List ℕ) (read : Result Chunk ChunkFault) → IsFine (initiator_fields payload read)
+fine_fields payload (Ok (IIKeying near cookie cert part sign)) =
+    fine_either (near == 0) _ _ tt (fine_either (is_some (certificate_fault cert)) _ _ tt (fine_part _ near cookie cert sign part))
+fine_fields payload (Ok (IHello epd tag)) = tt
+fine_fields payload (Ok (FIHello epd reply tag)) = tt
+fine_fields payload (Ok (RHello tag cookie cert)) = tt
+fine_fields payload (Ok (Redirect tag list)) = tt
+fine_fields payload (Ok (CookieChange old new)) = tt
+fine_fields payload (Ok (RIKeying near part sign)) = tt
+fine_fields payload (Ok (Ping bytes)) = tt
+fine_fields payload (Ok (PingReply bytes)) = tt
+fine_fields payload (Ok Close) = tt
+fine_fields payload (Ok CloseAck) = tt
+fine_fields payload (Ok (Fragment more id number bytes)) = tt
+fine_fields payload (Err fault) = tt
+
+fine_keying : (payload : List ℕ) → IsFine (initiator_keying_in payload)
+unfolding initiator_keying_in
+fine_keying payload = fine_fields payload (chunk_reading 0x38 payload)
+
+-- ---- the session is held again
+
+such : {A : Type 0} (b : Bool) (x y : A) → where_true b x ≡ Some y → x ≡ y
+such true x y e = cc
+such false x y e = absurd (cc)
+
+held_again : (h : Option Held) (keying : Keying) (j : Joined) → repeated_session h keying ≡ Some j → (h ≡ Some (HalfOpen j)) ⊎ (h ≡ Some (KeptAsResponder j))
+held_again None keying j e = absurd (cc)
+held_again (Some (OpeningHeld n near ni)) keying j e = absurd (cc)
+held_again (Some (HalfOpen k)) keying j e = inl (ap (λ (x : Joined). Some (HalfOpen x)) (such (is_born_of k keying) k j e))
+held_again (Some (KeptAsResponder k)) keying j e = inr (ap (λ (x : Joined). Some (KeptAsResponder x)) (such (is_born_of k keying) k j e))
+held_again (Some (KeptAsInitiator k)) keying j e = absurd (cc)
+
+-- a session that was born here, with its peer and its sizes
+record BornHere (facts : List Fact) (j : Joined) : Type 0 where
+  is_held : IsBornHere (held j.peer facts) j
+  near : j.near < 2 ^ 32
+  ni : length j.ni ≤ 16
+  nr : length j.nr ≤ 16
+
+born_here : (setup : Setup) (past : List Stamped) (s : State) → Sent setup past s → Tied setup past s → (p : List ℕ) (keying : Keying) (j : Joined) →
+    repeated_session (held_with s.startup.ledger p) keying ≡ Some j → BornHere (facts_of past) j
+born_here setup past s sent tied p keying j e =
+    let is : held_with s.startup.ledger p ≡ held p (facts_of past) = reads_held 0 s.startup.ledger (facts_of past) tied.account p in
+    elim (held_again (held_with s.startup.ledger p) keying j e) [
+      | inl half ↦
+          (let at : held p (facts_of past) ≡ Some (HalfOpen j) = sym is ∙ half in
+          let sizes = held_sized p (facts_of past) (HalfOpen j) sent.sized at in
+          record { is_held = inl (ap (λ (q : List ℕ). held q (facts_of past)) sizes.3 ∙ at); near = sizes.0; ni = sizes.1; nr = sizes.2 })
+      | inr kept ↦
+          (let at : held p (facts_of past) ≡ Some (KeptAsResponder j) = sym is ∙ kept in
+          let sizes = held_sized p (facts_of past) (KeptAsResponder j) sent.sized at in
+          record { is_held = inr (ap (λ (q : List ℕ). held q (facts_of past)) sizes.3 ∙ at); near = sizes.0; ni = sizes.1; nr = sizes.2 })
+    ]
+
+-- ---- a session is born
+
+second_none : (a b c : Option Cause) → first_that_stands (a ∷ b ∷ c ∷ []) ≡ None → b ≡ None
+second_none None None c e = refl
+second_none None (Some x) c e = absurd (cc)
+second_none (Some x) b c e = absurd (cc)
+
+heard_own : (l : Ledger) (h : Heard) → (heard_noted l h).own ≡ l.own
+heard_own l (AgainHeard near) = refl
+heard_own l (BirthHeard None born) = refl
+heard_own l (BirthHeard (Some ended) born) = refl
+
+short_without : (attempts : Attempts) (o : Option ℕ) → AreShort attempts → AreShort (without attempts o)
+short_without attempts None all = all
+short_without attempts (Some near) all = short_left attempts near all
+
+way_light : (peer : List ℕ) (o : Option Held) → IsLight (way_made peer o)
+way_light peer None = tt
+way_light peer (Some (OpeningHeld n near ni)) = tt
+way_light peer (Some (HalfOpen j)) = tt
+way_light peer (Some (KeptAsResponder j)) = tt
+way_light peer (Some (KeptAsInitiator j)) = tt
+
+numbered_without : (own : List ℕ) (past : List Stamped) (sealed : ℕ) (sessions : Sessions) (o : Option Fact) → Numbered own past sealed sessions → Numbered own past sealed (without_ended sessions o)
+numbered_without own past sealed sessions None n = n
+numbered_without own past sealed sessions (Some (Started peer k near ni)) n = n
+numbered_without own past sealed sessions (Some (Born j)) n = n
+numbered_without own past sealed sessions (Some (Opened j)) n = n
+numbered_without own past sealed sessions (Some (Confirmed peer near)) n = n
+numbered_without own past sealed sessions (Some (Ended peer near why)) n = numbered_removed own past sealed sessions n near
+
+held_born : (j : Joined) (earlier : List Fact) → held j.peer (Born j ∷ earlier) ≡ Some (HalfOpen j)
+held_born j earlier = elim (same_end j.peer j.peer) [ inl d ↦ rw d.1 refl | inr d ↦ absurd (d.0 refl) ]
+
+entries_either : (now : ℕ) (ended : Option Fact) (fact : Fact) (past : List Stamped) → onto now (fact_entries ended ++ FactEntry fact ∷ []) past ≡ stamped now (FactEntry fact) ∷ onto now (fact_entries ended) past
+entries_either now None fact past = refl
+entries_either now (Some f) fact past = refl
+
+lines_either : (setup : Setup) (now : ℕ) (call : Call) (past : List Stamped) (ended : Option Fact) (fact : Fact) → EntriesMeet OutPart setup now call past (fact_entries ended ++ FactEntry fact ∷ [])
+lines_either setup now call past None fact = (tt, tt)
+lines_either setup now call past (Some f) fact = (tt, (tt, tt))
+
+module _ (setup : Setup) (now : ℕ) (call : Call) (past : List Stamped) (s : State) (sent : Sent setup past s) (tied : Tied setup past s) (from : AddressParts) where
+  -- the state t keeps what is kept of s but for the attempts and the ledger
+  meets_birth : (t : StartupState) (ended : Option Fact) (j : Joined) → AreShort t.attempts → t.secret ≡ setup.secret → t.cert ≡ setup.cert → t.ledger.own ≡ own_of setup → IsLight ended →
+      j.near < 2 ^ 32 → length j.ni ≤ 16 → length j.nr ≤ 16 → (old : StartupState) → old.secret ≡ t.secret → old.cert ≡ setup.cert →
+      Meets setup now call past (keying_done (with_startup s t) from (Some (Birth ended (Born j) (session_answer old j from))))
+  meets_birth t ended j short secret cert own light near ni nr old old_secret old_cert =
+      let before : List Stamped = onto now (fact_entries ended) past in
+      let after : List Stamped = stamped now (FactEntry (Born j)) ∷ before in
+      let told : Sent setup before s = sent_facts setup past s now ended sent light in
+      let new : SessionState = new_session j t.ledger.own Responder from t.secret s.moment in
+      let state : State = with_born (with_startup s t) ended (Born j) from in
+      let kept : Sent setup after state = record {
+        numbered = numbered_born (own_of setup) before s.sealed (without_ended s.sessions ended) (numbered_without (own_of setup) before s.sealed s.sessions ended told.numbered) now j new refl refl refl;
+        sized = ((near, ni, nr), told.sized);
+        short = short;
+      } in
+      let may : MayGo setup after j.far (session_answer old j from).plain =
+      rikeying_may setup after j.far old.secret j (sha256 old.cert) (ap sha256 old_cert) refl (inl (held_born j (facts_of before))) near ni nr in
+      let last : Meets setup now call after (sent_answer state (session_answer old j from)) = meets_answer setup now call after state kept secret own (session_answer old j from) may in
+      meets_after setup now call past (fact_entries ended ++ FactEntry (Born j) ∷ []) (sent_answer state (session_answer old j from)) (lines_either setup now call past ended (Born j))
+      (subst (λ (p : List Stamped). Meets setup now call p (sent_answer state (session_answer old j from))) (sym (entries_either now ended (Born j) past)) last)
+
+  module _ (near : ℕ) (nr : List ℕ) (near_small : near < 2 ^ 32) (nr_small : length nr ≤ 16) where
+    by_repeat : (keying : Keying) (o : Option Joined) → length keying.ni ≤ 16 → repeated_session (held_with s.startup.ledger keying.peer) keying ≡ o →
+        Meets setup now call past (keying_done (with_startup s (after_again_or_birth s.startup keying near nr o)) from (Some (again_or_birth s.startup keying from near nr o)))
+    by_repeat keying (Some j) fine is =
+        let here : BornHere (facts_of past) j = born_here setup past s sent tied keying.peer keying j is in
+        meets_answer setup now call past (with_startup s s.startup) (sent_startup_changed setup past s s.startup sent sent.short) tied.secret tied.own (session_answer s.startup j from)
+        (rikeying_may setup past j.far s.startup.secret j (sha256 s.startup.cert) (ap sha256 tied.cert) refl here.is_held here.near here.ni here.nr)
+    by_repeat keying None fine is =
+        meets_birth (after_again_or_birth s.startup keying near nr None) (way_made keying.peer (held_with s.startup.ledger keying.peer)) (born_session s.startup.ledger keying near nr)
+        (short_without s.startup.attempts (opening_id (held_with s.startup.ledger keying.peer)) sent.short) tied.secret tied.cert
+        (heard_own s.startup.ledger (heard s.startup.ledger keying near nr) ∙ tied.own) (way_light keying.peer (held_with s.startup.ledger keying.peer))
+        near_small fine nr_small s.startup refl tied.cert
+
+    meets_change : (keying : InitiatorKeying) → length keying.cookie ≤ 128 → Meets setup now call past (keying_done (with_startup s s.startup) from (Some (Change (change_answer s.startup keying from s.moment))))
+    meets_change keying narrow =
+        meets_answer setup now call past (with_startup s s.startup) (sent_startup_changed setup past s s.startup sent sent.short) tied.secret tied.own (change_answer s.startup keying from s.moment)
+        (cookiechange_may setup past keying.near keying.cookie (cookie_of s.startup.cookie_secret from s.moment) narrow (length-cookie_of s.startup.cookie_secret from s.moment))
+
+    by_test : (keying : InitiatorKeying) (test : CookieTest) → length keying.part.ni ≤ 16 → length keying.cookie ≤ 128 →
+        Meets setup now call past (keying_done (with_startup s (after_keyed_with s.startup near nr keying test)) from (Some (keyed_with s.startup from s.moment near nr keying test)))
+    by_test keying Current fine narrow = by_repeat (keying_of keying) (repeated_session (held_with s.startup.ledger (sha256 keying.cert)) (keying_of keying)) fine refl
+    by_test keying Bad fine narrow = meets_change keying narrow
+    by_test keying Moved fine narrow = meets_change keying narrow
+    by_test keying Expired fine narrow = meets_change keying narrow
+
+    by_reading : (payload : List ℕ) (read : Result InitiatorKeying Cause) → IsFine read → cause_by (initiator_cause s.startup payload from s.moment (full s)) read ≡ None →
+        Meets setup now call past (keying_done (with_startup s (after_keyed_reading s.startup from s.moment near nr read)) from (keyed_reading s.startup from s.moment near nr read))
+    by_reading payload (Ok keying) fine none =
+        let small : wide keying.cookie ≡ None =
+        second_none (where_true (not (is_signed s.startup.secret payload keying.sign)) BadSignature) (wide keying.cookie)
+        (cookie_cause (cookie_test s.startup.cookie_secret keying.cookie from s.moment) (named_cause s.startup keying (full s))) none in
+        let narrow : length keying.cookie ≤ 128 = ltb-false 128 (length keying.cookie) (test_fails (nat_lt 128 (length keying.cookie)) (Wide (length keying.cookie)) small) in
+        by_test keying (cookie_test s.startup.cookie_secret keying.cookie from s.moment) fine narrow
+    by_reading payload (Err cause) fine none = absurd (cc)
+
+  not_second : (b : Bool) (o : Option Cause) → (if b then Some SecondKeying else o) ≡ None → o ≡ None
+  not_second true o e = absurd (cc)
+  not_second false o e = e
+
+  -- a keying of an initiator
+  pub meets_initiator : (draws : Draws) (keyed_before : Bool) (payload : List ℕ) → draws.word < 2 ^ 32 → length draws.nonce ≡ 16 → initiator_keying_cause s keyed_before from payload ≡ None →
+      Meets setup now call past (initiator_keyed s from draws payload)
+  meets_initiator draws keyed_before payload small nonce none =
+      by_reading (free_from s draws.word) draws.nonce (small_free s draws.word small) (omega (arith, nonce)) payload (initiator_keying_in payload) (fine_keying payload) (not_second keyed_before _ none)
+
+-- ---- a session is opened
+
+held_opened : (j : Joined) (earlier : List Fact) → held j.peer earlier ≡ Some (OpeningHeld j.n j.near j.ni) → held j.peer (Opened j ∷ earlier) ≡ Some (KeptAsInitiator j)
+held_opened j earlier was = elim (same_end j.peer j.peer) [ inl d ↦ rw d.1 (ap (opened_thing j) was) | inr d ↦ absurd (d.0 refl) ]
+
+module _ (setup : Setup) (now : ℕ) (call : Call) (past : List Stamped) (s : State) (sent : Sent setup past s) (tied : Tied setup past s) (from : AddressParts) (near : ℕ) where
+  meets_opened : (j : Joined) → j.near ≡ near → held j.peer (facts_of past) ≡ Some (OpeningHeld j.n j.near j.ni) → Meets setup now call past (opening_done s near from (Some (Opened j)))
+  meets_opened j is was =
+      let after : List Stamped = stamped now (FactEntry (Opened j)) ∷ past in
+      let new : SessionState = new_session j s.startup.ledger.own Initiator from s.startup.secret s.moment in
+      let state : State = with_session (with_startup s (after_opening s.startup near (Opened j))) near new in
+      let lawful : AreLawful (own_of setup) 0 (facts_of past) = subst (λ (o : List ℕ). AreLawful o 0 (facts_of past)) tied.own tied.account.lawful in
+      let kept : Sent setup after state = record {
+        numbered = subst (λ (n : ℕ). Numbered (own_of setup) after s.sealed (insert s.sessions n new)) is
+            (numbered_opened (own_of setup) past s.sealed s.sessions sent.numbered now j new refl refl refl lawful was);
+        sized = (tt, sent.sized);
+        short = short_left s.startup.attempts near sent.short;
+      } in
+      let there : get state.sessions near ≡ Some new = get_inserted s.sessions near new in
+      let ping : Meets setup now call after (sent_by state near from (Ping []) (Some new)) =
+      meets_session setup now call after state kept near new there tied.secret tied.own (held_opened j (facts_of past) was) from (Ping []) (omega arith) (omega arith) (omega arith) in
+      meets_after setup now call past (FactEntry (Opened j) ∷ []) (sent_in_session state near from (Ping [])) (tt, tt)
+      (subst (λ (o : Option SessionState). Meets setup now call after (sent_by state near from (Ping []) o)) (sym there) ping)
+
+  by_attempt : (o : Option AttemptState) → get s.startup.attempts near ≡ o → (read : Result ResponderKeying Cause) → Meets setup now call past (opening_done s near from (opened_reading near o read))
+  by_attempt None is read = meets_nothing setup now call past s sent
+  by_attempt (Some a) is (Ok keying) = meets_opened _ refl (attempt_held setup past s sent tied near a is)
+  by_attempt (Some a) is (Err cause) = meets_nothing setup now call past s sent
+
+  -- a keying of a responder
+  pub meets_responder : (payload : List ℕ) → Meets setup now call past (responder_keyed s near from payload)
+  meets_responder payload = by_attempt (get s.startup.attempts near) refl (responder_keying_in payload)

@@ -1,0 +1,297 @@
+-- What calls do but for the chunks of datagrams: each datagram that goes out meets its line.
+use Rattle.std.proofs.Common.{◌≡◌, ◌==◌, ℕ, zero, suc, ◌+◌, ◌^◌, ◌<◌, ◌≤◌, List, [], ◌∷◌, length, drop, Option, Some, None, Ok, Err, Result, inl, inr, refl, sym, ap, subst, ◌∙◌, Bool, true, false, if◌then◌else◌, arith}
+use Rattle.std.specs.FinMap.{get, insert, remove}
+use Rattle.rtmfp_base.proofs.Maps.{found_inserted, found_left}
+use Rattle.rtmfp_forms.specs.Address.{AddressParts}
+use Rattle.rtmfp_packet.specs.declared.head.PacketHead.{PacketHead}
+use Rattle.rtmfp_packet.specs.declared.head.PacketFault.{PacketFault}
+use Rattle.rtmfp_packet.specs.Whole.{Whole}
+use Rattle.glare_core.specs.declared.facts.Fact.{Fact}
+use Rattle.glare_core.specs.declared.facts.Why.TheVariants.{Cancelled, Expired}
+use Rattle.glare_core.specs.declared.facts.Held.{Held}
+use Rattle.glare_core.specs.declared.facts.Held.TheVariants.{Opening as OpeningHeld, HalfOpen, KeptAsResponder, KeptAsInitiator}
+use Rattle.glare_core.specs.Standing.{held}
+use Rattle.glare_core.specs.Ledger.{held_with}
+use Rattle.glare_core.specs.Calls.{confirmed_fact, started_fact}
+use Rattle.glare_core.proofs.Accounts.{reads_held}
+use Rattle.startup.specs.declared.answer.Answer.{Answer}
+use Rattle.startup.specs.declared.answer.Due.TheVariants.{Ended as EndDue}
+use Rattle.startup.specs.declared.cause.Cause.{Cause}
+use Rattle.startup.specs.declared.cause.Cause.TheVariants.{WrongPlace}
+use Rattle.startup.specs.declared.attempt.Stage.{Stage}
+use Rattle.startup.specs.declared.attempt.Stage.TheVariants.{Hello, Keying}
+use Rattle.startup.specs.Packets.{ihello_packet}
+use Rattle.startup.specs.State.{AttemptState, Attempts, StartupState}
+use Rattle.startup.specs.Attempts.{lowest, has_number, with_attempt, without_attempt, ended_attempt, end_of, after_end_of, keying_answer, begun_attempt, places_of, confirm_fact, after_confirm}
+use Rattle.crypto_profile.specs.Keys.{sign_key_of}
+use Rattle.startup.specs.Due.{repeat_signed, is_due, is_over, repeated, repeat_of, due_of, after_due_of}
+use Rattle.session_core.specs.Session.{SessionState, is_opening, confirmed, with_stamps}
+use Rattle.endpoint_model.specs.declared.config.Draws.{Draws}
+use Rattle.endpoint_model.specs.declared.place.Place.{Place}
+use Rattle.endpoint_model.specs.declared.place.Place.TheVariants.{Startup as StartupPlace, Attempt, Session}
+use Rattle.endpoint_model.specs.declared.entry.Entry.{Entry}
+use Rattle.endpoint_model.specs.declared.entry.Entry.TheVariants.{Fact as FactEntry}
+use Rattle.endpoint_model.specs.Event.{Setup, own_of, Call}
+use Rattle.endpoint_laws.specs.Past.{Stamped, stamped, onto, facts_of}
+use Rattle.endpoint_model.specs.State.{State, Did, nothing, fact_entries, with_startup, with_session, with_sealed, free_from}
+use Rattle.endpoint_model.specs.Sending.{last_count, sent_startup, sent_answer, sent_if, sent_each}
+use Rattle.session_core.specs.Hearing.{counted}
+use Rattle.endpoint_model.specs.Admission.{Admission, Rejected, Admitted, admission, admitted, admitted_packet, opened_datagram, counted_by, counted_at, timed_by, timed_at, confirming, confirming_by, has_mode, mode_at, packet_in}
+use Rattle.endpoint_model.specs.Due.{opening, cancelling, due_done, tick_once, ticks, discarded}
+use Rattle.endpoint_laws.proofs.Lines.{EntriesMeet, OutPart}
+use Rattle.endpoint_laws.proofs.Tied.{Tied}
+use Rattle.endpoint_laws.proofs.OutNumbers.{numbered_fact, numbered_discard, numbered_changed}
+use Rattle.endpoint_laws.proofs.OutHeld.{IsSized, HasSizes, held_sized}
+use Rattle.endpoint_laws.proofs.Going.{onto_append}
+use Rattle.endpoint_laws.proofs.OutSends.{IsNarrow, IsShort, AreShort, Sent, Meets, MayGo, meets_nothing, meets_after, meets_then, meets_startup}
+use Rattle.endpoint_laws.proofs.OutKeyings.{ihello_may, iikeying_may}
+use Rattle.endpoint_laws.proofs.OutLowest.{lowest_found}
+
+-- ---- what is kept when something changes
+
+pub short_put : (attempts : Attempts) (near : ℕ) (a : AttemptState) → AreShort attempts → IsShort a → AreShort (insert attempts near a)
+short_put attempts near a all one q b e = elim (found_inserted attempts near a q b e) [
+  | inl d ↦ subst IsShort d.1 one
+  | inr d ↦ all q b d.1
+]
+
+pub short_left : (attempts : Attempts) (near : ℕ) → AreShort attempts → AreShort (remove attempts near)
+short_left attempts near all q b e = all q b (found_left attempts near q b e).1
+
+pub sent_startup_changed : (setup : Setup) (past : List Stamped) (s : State) (t : StartupState) → Sent setup past s → AreShort t.attempts → Sent setup past (with_startup s t)
+sent_startup_changed setup past s t sent short = record { numbered = sent.numbered; sized = sent.sized; short = short }
+
+pub sent_fact : (setup : Setup) (past : List Stamped) (s : State) (now : ℕ) (fact : Fact) → Sent setup past s → IsSized fact → Sent setup (stamped now (FactEntry fact) ∷ past) s
+sent_fact setup past s now fact sent sized = record {
+  numbered = numbered_fact (own_of setup) past s.sealed s.sessions sent.numbered now fact;
+  sized = (sized, sent.sized);
+  short = sent.short;
+}
+
+-- a fact, where there is one
+abbrev pub IsLight : Option Fact → Type 0
+IsLight None = Unit {0}
+IsLight (Some fact) = IsSized fact
+
+pub sent_facts : (setup : Setup) (past : List Stamped) (s : State) (now : ℕ) (o : Option Fact) → Sent setup past s → IsLight o → Sent setup (onto now (fact_entries o) past) s
+sent_facts setup past s now None sent light = sent
+sent_facts setup past s now (Some fact) sent light = sent_fact setup past s now fact sent light
+
+pub lines_facts : (setup : Setup) (now : ℕ) (call : Call) (past : List Stamped) (o : Option Fact) → EntriesMeet OutPart setup now call past (fact_entries o)
+lines_facts setup now call past None = tt
+lines_facts setup now call past (Some fact) = (tt, tt)
+
+pub sent_session_changed : (setup : Setup) (past : List Stamped) (s : State) (near : ℕ) (old new : SessionState) → Sent setup past s → get s.sessions near ≡ Some old →
+    new.joined ≡ old.joined → new.own ≡ old.own → new.role ≡ old.role → new.sealed ≡ old.sealed → Sent setup past (with_session s near new)
+sent_session_changed setup past s near old new sent there joined mine role count = record {
+  numbered = numbered_changed (own_of setup) past s.sealed s.sessions sent.numbered near old new there joined mine role count;
+  sized = sent.sized;
+  short = sent.short;
+}
+
+pub meets_discarded : (setup : Setup) (now : ℕ) (call : Call) (past : List Stamped) (s : State) (at : ℕ) (cause : Cause) → Sent setup past s → Meets setup now call past (discarded s at cause)
+meets_discarded setup now call past s at cause sent = record {
+  lines = (tt, tt);
+  sent = record {
+    numbered = numbered_discard (own_of setup) past s.sealed s.sessions sent.numbered now at cause;
+    sized = sent.sized;
+    short = sent.short;
+  };
+}
+
+-- ---- answers, and one packet to several addresses
+
+pub meets_answer : (setup : Setup) (now : ℕ) (call : Call) (past : List Stamped) (s : State) → Sent setup past s → s.startup.secret ≡ setup.secret → s.startup.ledger.own ≡ own_of setup →
+    (answer : Answer) → MayGo setup past answer.sid answer.plain → Meets setup now call past (sent_answer s answer)
+meets_answer setup now call past s sent secret own answer may = meets_startup setup now call past s sent secret own answer.to answer.sid answer.plain may
+
+abbrev MayGoIf : Setup → List Stamped → Option Answer → Type 0
+MayGoIf setup past None = Unit {0}
+MayGoIf setup past (Some answer) = MayGo setup past answer.sid answer.plain
+
+pub meets_if : (setup : Setup) (now : ℕ) (call : Call) (past : List Stamped) (s : State) → Sent setup past s → s.startup.secret ≡ setup.secret → s.startup.ledger.own ≡ own_of setup →
+    (o : Option Answer) → MayGoIf setup past o → Meets setup now call past (sent_if s o)
+meets_if setup now call past s sent secret own None may = meets_nothing setup now call past s sent
+meets_if setup now call past s sent secret own (Some answer) may = meets_answer setup now call past s sent secret own answer may
+
+startup_stays : (b : Bool) (s : State) (entries : List Entry) → ◌≡◌ {A = StartupState} ((if b then nothing s else record { state = with_sealed s (s.sealed + 1); entries = entries }).state.startup) s.startup
+startup_stays true s entries = refl
+startup_stays false s entries = refl
+
+pub meets_each : (setup : Setup) (now : ℕ) (call : Call) (plain : List ℕ) → ((past : List Stamped) → MayGo setup past 0 plain) → (to : List AddressParts) (past : List Stamped) (s : State) → Sent setup past s →
+    s.startup.secret ≡ setup.secret → s.startup.ledger.own ≡ own_of setup → Meets setup now call past (sent_each s plain to)
+meets_each setup now call plain may [] past s sent secret own = meets_nothing setup now call past s sent
+meets_each setup now call plain may (to ∷ rest) past s sent secret own =
+    let d : Did = sent_startup s to 0 plain in
+    let first : Meets setup now call past d = meets_startup setup now call past s sent secret own to 0 plain (may past) in
+    let same : d.state.startup ≡ s.startup = startup_stays (s.sealed == last_count) s _ in
+    meets_then setup now call past d (λ t. sent_each t plain rest) first
+    (meets_each setup now call plain may rest (onto now d.entries past) d.state first.sent (ap (λ (t : StartupState). t.secret) same ∙ secret) (ap (λ (t : StartupState). t.ledger.own) same ∙ own))
+
+-- ---- an attempt begins
+
+pub meets_opening : (setup : Setup) (now : ℕ) (call : Call) (past : List Stamped) (s : State) → Sent setup past s → Tied setup past s → (peer : List ℕ) (candidates : List AddressParts) (draws : Draws) →
+    length peer ≡ 32 → length draws.nonce ≡ 16 → length draws.tag ≡ 16 → free_from s draws.word < 2 ^ 32 → Meets setup now call past (opening s peer candidates draws)
+meets_opening setup now call past s sent tied peer candidates draws peer_len nonce_len tag_len small =
+    let near : ℕ = free_from s draws.word in
+    let a : AttemptState = begun_attempt s.startup peer candidates draws.nonce draws.tag s.moment in
+    let fact : Fact = started_fact s.startup.ledger peer near draws.nonce in
+    let begun : Sent setup (stamped now (FactEntry fact) ∷ past) s = sent_fact setup past s now fact sent (peer_len, small, omega arith) in
+    meets_after setup now call past (FactEntry fact ∷ []) _ (tt, tt)
+    (meets_each setup now call (ihello_packet (0x01 ∷ peer) draws.tag) (λ p. ihello_may setup p 0 (0x01 ∷ peer) draws.tag (omega arith) (omega arith)) (places_of candidates)
+    (stamped now (FactEntry fact) ∷ past) _
+    record { numbered = begun.numbered; sized = begun.sized; short = short_put s.startup.attempts near a sent.short (record { tag = omega arith; cookie = tt }) }
+    tied.secret tied.own)
+
+-- ---- an attempt ends
+
+ended_short : (s : StartupState) (o : Option (ℕ × AttemptState)) → AreShort s.attempts → AreShort (after_end_of s o Cancelled).attempts
+ended_short s None all = all
+ended_short s (Some e) all = short_left s.attempts e.0 all
+
+ended_light : (o : Option (ℕ × AttemptState)) → IsLight (end_of o Cancelled)
+ended_light None = tt
+ended_light (Some e) = tt
+
+pub meets_cancelling : (setup : Setup) (now : ℕ) (call : Call) (past : List Stamped) (s : State) (n : ℕ) → Sent setup past s → Meets setup now call past (cancelling s n)
+meets_cancelling setup now call past s n sent =
+    let o : Option (ℕ × AttemptState) = lowest (has_number n) s.startup.attempts in
+    let after = sent_facts setup past s now (end_of o Cancelled) sent (ended_light o) in
+    record {
+      lines = lines_facts setup now call past (end_of o Cancelled);
+      sent = record { numbered = after.numbered; sized = after.sized; short = ended_short s.startup o sent.short };
+    }
+
+-- ---- keyings of attempts
+
+module _ (setup : Setup) (past : List Stamped) (s : State) (sent : Sent setup past s) (tied : Tied setup past s) where
+  pub attempt_held : (near : ℕ) (a : AttemptState) → get s.startup.attempts near ≡ Some a → held a.peer (facts_of past) ≡ Some (OpeningHeld a.n near a.ni)
+  attempt_held near a there = sym (reads_held 0 s.startup.ledger (facts_of past) tied.account a.peer) ∙ tied.sound.held near a there
+
+  attempt_sized : (near : ℕ) (a : AttemptState) → get s.startup.attempts near ≡ Some a → HasSizes a.peer (Some (OpeningHeld a.n near a.ni))
+  attempt_sized near a there = held_sized a.peer (facts_of past) (OpeningHeld a.n near a.ni) sent.sized (attempt_held near a there)
+
+  pub attempt_may : (near : ℕ) (a : AttemptState) (to : AddressParts) (cookie : List ℕ) → get s.startup.attempts near ≡ Some a → length cookie ≤ 128 → length setup.cert ≤ 80 →
+      MayGo setup past 0 (keying_answer s.startup near a to cookie).plain
+  attempt_may near a to cookie there narrow short =
+      let cert : length s.startup.cert ≤ 80 = subst (λ (c : List ℕ). length c ≤ 80) (sym tied.cert) short in
+      iikeying_may setup past 0 s.startup.secret near cookie s.startup.cert a.ni a.n a.peer narrow cert tied.cert (attempt_held near a there) (attempt_sized near a there)
+
+  hello_may : (near : ℕ) (a : AttemptState) → get s.startup.attempts near ≡ Some a → (p : List Stamped) → MayGo setup p 0 (ihello_packet (0x01 ∷ a.peer) a.tag)
+  hello_may near a there p = ihello_may setup p 0 (0x01 ∷ a.peer) a.tag (omega (arith, (attempt_sized near a there).0)) (sent.short near a there).tag
+
+  -- ---- what is due
+
+  module _ (now : ℕ) (call : Call) (short : length setup.cert ≤ 80) where
+    by_stage : (e : ℕ × AttemptState) (stage : Stage) → get s.startup.attempts e.0 ≡ Some e.1 → e.1.stage ≡ stage → (t : StartupState) → AreShort t.attempts → t.secret ≡ s.startup.secret → t.ledger.own ≡ s.startup.ledger.own →
+        Meets setup now call past (due_done (with_startup s t) (Some (repeat_signed (sign_key_of s.startup.secret) s.startup.cert e.0 e.1 stage)))
+    by_stage e Hello there is t after secret own =
+        meets_each setup now call (ihello_packet (0x01 ∷ e.1.peer) e.1.tag) (hello_may e.0 e.1 there) e.1.candidates past (with_startup s t) (sent_startup_changed setup past s t sent after) (secret ∙ tied.secret) (own ∙ tied.own)
+    by_stage e (Keying at cookie) there is t after secret own =
+        let narrow : length cookie ≤ 128 = subst IsNarrow is (sent.short e.0 e.1 there).cookie in
+        meets_answer setup now call past (with_startup s t) (sent_startup_changed setup past s t sent after) (secret ∙ tied.secret) (own ∙ tied.own) (keying_answer s.startup e.0 e.1 at cookie)
+        (attempt_may e.0 e.1 at cookie there narrow short)
+
+    by_over : (b : Bool) (e : ℕ × AttemptState) → get s.startup.attempts e.0 ≡ Some e.1 →
+        Meets setup now call past (due_done (with_startup s (if b then without_attempt s.startup e.0 (ended_attempt e Expired) else with_attempt s.startup e.0 (repeated e.1 s.moment)))
+        (Some (if b then EndDue (ended_attempt e Expired) else repeat_of s.startup e.0 e.1)))
+    by_over true e there =
+        let after = sent_fact setup past s now (ended_attempt e Expired) sent tt in
+        record { lines = (tt, tt); sent = record { numbered = after.numbered; sized = after.sized; short = short_left s.startup.attempts e.0 sent.short } }
+    by_over false e there =
+        let kept : IsShort e.1 = sent.short e.0 e.1 there in
+        by_stage e e.1.stage there refl (with_attempt s.startup e.0 (repeated e.1 s.moment))
+        (short_put s.startup.attempts e.0 (repeated e.1 s.moment) sent.short (record { tag = kept.tag; cookie = kept.cookie })) refl refl
+
+    by_found : (o : Option (ℕ × AttemptState)) → lowest (is_due s.moment) s.startup.attempts ≡ o →
+        Meets setup now call past (due_done (with_startup s (after_due_of s.startup s.moment o)) (due_of s.startup s.moment o))
+    by_found None is = record { lines = tt; sent = sent_startup_changed setup past s s.startup sent sent.short }
+    by_found (Some e) is = by_over (is_over s.moment e.1) e (lowest_found (is_due s.moment) s.startup.attempts e is)
+
+    pub meets_tick_once : Meets setup now call past (tick_once s)
+    meets_tick_once = by_found (lowest (is_due s.moment) s.startup.attempts) refl
+
+-- the things of a tick, where the state agrees with what was done after each
+pub meets_ticks : (setup : Setup) (now : ℕ) (call : Call) → length setup.cert ≤ 80 → (count : ℕ) (past : List Stamped) (s : State) → Sent setup past s →
+    ((k : ℕ) → Tied setup (onto now (ticks k s).entries past) (ticks k s).state) → Meets setup now call past (ticks count s)
+meets_ticks setup now call short zero past s sent ties = meets_nothing setup now call past s sent
+meets_ticks setup now call short (suc count) past s sent ties =
+    let d : Did = tick_once s in
+    let first : Meets setup now call past d = meets_tick_once setup past s sent (ties zero) now call short in
+    meets_then setup now call past d (ticks count) first
+    (meets_ticks setup now call short count (onto now d.entries past) d.state first.sent
+    (λ k. subst (λ (p : List Stamped). Tied setup p (ticks k d.state).state) (onto_append now d.entries (ticks k d.state).entries past) (ties (suc k))))
+
+-- ---- a session is confirmed
+
+confirmed_light : (o : Option Held) (peer : List ℕ) → IsLight (confirmed_fact o peer)
+confirmed_light None peer = tt
+confirmed_light (Some (OpeningHeld n near ni)) peer = tt
+confirmed_light (Some (HalfOpen j)) peer = tt
+confirmed_light (Some (KeptAsResponder j)) peer = tt
+confirmed_light (Some (KeptAsInitiator j)) peer = tt
+
+confirming_test : (setup : Setup) (now : ℕ) (call : Call) (past : List Stamped) (s : State) (near : ℕ) (session : SessionState) → Sent setup past s → get s.sessions near ≡ Some session → (b : Bool) →
+    Meets setup now call past (if b then record {
+      state = with_session (with_startup s (after_confirm s.startup session.joined.peer)) near (confirmed session);
+      entries = fact_entries (confirm_fact s.startup session.joined.peer);
+    } else nothing s)
+confirming_test setup now call past s near session sent there false = meets_nothing setup now call past s sent
+confirming_test setup now call past s near session sent there true =
+    let o : Option Fact = confirm_fact s.startup session.joined.peer in
+    let after : Sent setup (onto now (fact_entries o) past) s = sent_facts setup past s now o sent (confirmed_light (held_with s.startup.ledger session.joined.peer) session.joined.peer) in
+    let changed : Sent setup (onto now (fact_entries o) past) (with_session s near (confirmed session)) =
+    sent_session_changed setup (onto now (fact_entries o) past) s near session (confirmed session) after there refl refl refl refl in
+    record {
+      lines = lines_facts setup now call past o;
+      sent = record { numbered = changed.numbered; sized = changed.sized; short = sent.short };
+    }
+
+confirming_found : (setup : Setup) (now : ℕ) (call : Call) (past : List Stamped) (s : State) (near : ℕ) (o : Option SessionState) → Sent setup past s → get s.sessions near ≡ o → Meets setup now call past (confirming_by s near o)
+confirming_found setup now call past s near None sent is = meets_nothing setup now call past s sent
+confirming_found setup now call past s near (Some session) sent is = confirming_test setup now call past s near session sent is (is_opening session.stage)
+
+pub meets_confirming : (setup : Setup) (now : ℕ) (call : Call) (past : List Stamped) (s : State) (place : Place) → Sent setup past s → Meets setup now call past (confirming s place)
+meets_confirming setup now call past s StartupPlace sent = meets_nothing setup now call past s sent
+meets_confirming setup now call past s (Attempt near) sent = meets_nothing setup now call past s sent
+meets_confirming setup now call past s (Session near) sent = confirming_found setup now call past s near (get s.sessions near) sent refl
+
+-- ---- what a datagram leaves before its chunks
+
+abbrev pub SentIn : Setup → List Stamped → Admission → Type 0
+SentIn setup past (Rejected s cause) = Sent setup past s
+SentIn setup past (Admitted s place packet) = Sent setup past s
+
+counted_found : (setup : Setup) (past : List Stamped) (s : State) (near : ℕ) (part : List ℕ) (o : Option SessionState) → Sent setup past s → get s.sessions near ≡ o → Sent setup past (counted_by s near part o)
+counted_found setup past s near part None sent is = sent
+counted_found setup past s near part (Some session) sent is = sent_session_changed setup past s near session (counted session part) sent is refl refl refl refl
+
+sent_counted : (setup : Setup) (past : List Stamped) (s : State) (place : Place) (part : List ℕ) → Sent setup past s → Sent setup past (counted_at s place part)
+sent_counted setup past s StartupPlace part sent = sent
+sent_counted setup past s (Attempt near) part sent = sent
+sent_counted setup past s (Session near) part sent = counted_found setup past s near part (get s.sessions near) sent refl
+
+timed_found : (setup : Setup) (past : List Stamped) (s : State) (near : ℕ) (head : PacketHead) (o : Option SessionState) → Sent setup past s → get s.sessions near ≡ o → Sent setup past (timed_by s near head o)
+timed_found setup past s near head None sent is = sent
+timed_found setup past s near head (Some session) sent is = sent_session_changed setup past s near session (with_stamps head s.moment session) sent is refl refl refl refl
+
+sent_timed : (setup : Setup) (past : List Stamped) (s : State) (place : Place) (head : PacketHead) → Sent setup past s → Sent setup past (timed_at s place head)
+sent_timed setup past s StartupPlace head sent = sent
+sent_timed setup past s (Attempt near) head sent = sent
+sent_timed setup past s (Session near) head sent = timed_found setup past s near head (get s.sessions near) sent refl
+
+by_mode : (setup : Setup) (past : List Stamped) (s : State) (place : Place) (packet : Whole) (b : Bool) → Sent setup past s →
+    SentIn setup past (if b then Admitted (timed_at s place packet.head) place packet else Rejected s WrongPlace)
+by_mode setup past s place packet true sent = sent_timed setup past s place packet.head sent
+by_mode setup past s place packet false sent = sent
+
+by_packet : (setup : Setup) (past : List Stamped) (s : State) (place : Place) (read : Result Whole PacketFault) → Sent setup past s → SentIn setup past (admitted_packet s place read)
+by_packet setup past s place (Err fault) sent = sent
+by_packet setup past s place (Ok packet) sent = by_mode setup past s place packet (has_mode packet.head (mode_at s place)) sent
+
+by_opened : (setup : Setup) (past : List Stamped) (s : State) (datagram : List ℕ) (found : Result (Place × List ℕ) Cause) → Sent setup past s → SentIn setup past (admitted s datagram found)
+by_opened setup past s datagram (Err cause) sent = sent
+by_opened setup past s datagram (Ok found) sent = by_packet setup past (counted_at s found.0 (drop 4 datagram)) found.0 (packet_in found.1) (sent_counted setup past s found.0 (drop 4 datagram) sent)
+
+pub sent_admission : (setup : Setup) (past : List Stamped) (s : State) (datagram : List ℕ) → Sent setup past s → SentIn setup past (admission s datagram)
+sent_admission setup past s datagram sent = by_opened setup past s datagram (opened_datagram s datagram) sent

@@ -1,0 +1,183 @@
+-- One datagram meets its line, and leaves the numbers counted.
+use Rattle.std.proofs.Common.{◌≡◌, ◌≢◌, ◌==◌, ℕ, ◌+◌, ◌^◌, ◌<◌, ◌≤◌, List, [], ◌∷◌, ◌++◌, length, take, drop, Some, Ok, refl, sym, ap, subst, ◌∙◌, Bool, true, false, if◌then◌else◌, arith, length-append}
+use Rattle.std.specs.Int.{w64, to_be_bytes}
+use Rattle.std.specs.FinMap.{get}
+use Rattle.std.proofs.lemmas.List.{length-take-le}
+use Rattle.std.proofs.lemmas.Bool.Decides.{nat_tests}
+use Rattle.sha2.specs.Sha256.{sha256}
+use Rattle.sha2.proofs.Facts256.{length-sha256}
+use Rattle.rtmfp_forms.specs.Address.{AddressParts}
+use Rattle.rtmfp_packet.specs.Whole.{Whole}
+use Rattle.rtmfp_packet.specs.Reading.{PacketReading}
+use Rattle.rtmfp_chunks.specs.Chunk.{Chunk, kind_of}
+use Rattle.rtmfp_chunks.specs.Writing.{payload_bytes}
+use Rattle.crypto_profile.specs.declared.keys.Context.TheVariants.{Startup}
+use Rattle.crypto_profile.specs.Keys.{keys_of}
+use Rattle.crypto_profile.specs.Sealing.{number_of, sealed_in}
+use Rattle.crypto_profile.proofs.Opened.{sealed_carries}
+use Rattle.packet_scramble.specs.Datagram.{datagram}
+use Rattle.glare_core.specs.Standing.{held}
+use Rattle.startup.specs.State.{AttemptState, Attempts}
+use Rattle.startup.specs.declared.attempt.Stage.{Stage}
+use Rattle.startup.specs.declared.attempt.Stage.TheVariants.{Hello, Keying}
+use Rattle.session_core.specs.Session.{SessionState, context_of}
+use Rattle.session_core.specs.Sealed.{number_bytes, after_seal}
+use Rattle.endpoint_model.specs.declared.entry.Entry.{Entry}
+use Rattle.endpoint_model.specs.declared.entry.Entry.TheVariants.{Fact as FactEntry, Discard, Out}
+use Rattle.endpoint_model.specs.Event.{Setup, own_of, Call}
+use Rattle.endpoint_laws.specs.Past.{Stamped, stamped, onto, facts_of}
+use Rattle.endpoint_model.specs.State.{State, Did, nothing, after_entries, then_do, with_sealed, with_session}
+use Rattle.endpoint_model.specs.Sending.{last_count, startup_number, startup_datagram, sent_startup, session_packet, session_datagram, sent_by}
+use Rattle.endpoint_model.specs.Keying.{KeyingsAre}
+use Rattle.endpoint_laws.specs.Lawful.{OutLine, KeyingOfAttempt, KeyingOfBorn}
+use Rattle.endpoint_laws.proofs.Lines.{EntriesMeet, OutPart}
+use Rattle.endpoint_laws.proofs.Tied.{thing_of}
+use Rattle.endpoint_laws.proofs.Going.{onto_append}
+use Rattle.endpoint_laws.proofs.OutNumbers.{Numbered, numbered_startup, once_startup, once_session, numbered_session}
+use Rattle.endpoint_laws.proofs.OutPackets.{session_alone, no_keyings}
+use Rattle.endpoint_laws.proofs.OutHeld.{AreSized, held_known, held_session}
+
+-- a cookie that an attempt keeps has 128 bytes or fewer
+abbrev pub IsNarrow : Stage → Type 0
+IsNarrow Hello = Unit {0}
+IsNarrow (Keying at cookie) = length cookie ≤ 128
+
+pub record IsShort (a : AttemptState) : Type 0 where
+  pub tag : length a.tag ≤ 128
+  pub cookie : IsNarrow a.stage
+
+abbrev pub AreShort : Attempts → Type 0
+AreShort attempts = (near : ℕ) (a : AttemptState) → get attempts near ≡ Some a → IsShort a
+
+-- what is kept of what went out, and the sizes of what goes out
+pub record Sent (setup : Setup) (past : List Stamped) (s : State) : Type 0 where
+  pub numbered : Numbered (own_of setup) past s.sealed s.sessions
+  pub sized : AreSized (facts_of past)
+  pub short : AreShort s.startup.attempts
+
+-- what a thing adds meets its lines, and it leaves this
+pub record Meets (setup : Setup) (now : ℕ) (call : Call) (past : List Stamped) (d : Did) : Type 0 where
+  pub lines : EntriesMeet OutPart setup now call past d.entries
+  pub sent : Sent setup (onto now d.entries past) d.state
+
+pub meets_nothing : (setup : Setup) (now : ℕ) (call : Call) (past : List Stamped) (s : State) → Sent setup past s → Meets setup now call past (nothing s)
+meets_nothing setup now call past s sent = record { lines = tt; sent = sent }
+
+pub lines_append : (setup : Setup) (now : ℕ) (call : Call) (past : List Stamped) (xs ys : List Entry) → EntriesMeet OutPart setup now call past xs →
+    EntriesMeet OutPart setup now call (onto now xs past) ys → EntriesMeet OutPart setup now call past (xs ++ ys)
+lines_append setup now call past [] ys p q = q
+lines_append setup now call past (FactEntry fact ∷ xs) ys p q = (tt, lines_append setup now call (stamped now (FactEntry fact) ∷ past) xs ys p.1 q)
+lines_append setup now call past (Discard at cause ∷ xs) ys p q = (tt, lines_append setup now call (stamped now (Discard at cause) ∷ past) xs ys p.1 q)
+lines_append setup now call past (Out to sent context ∷ xs) ys p q = (p.0, lines_append setup now call (stamped now (Out to sent context) ∷ past) xs ys p.1 q)
+
+-- these entries first, and then what a thing adds
+pub meets_after : (setup : Setup) (now : ℕ) (call : Call) (past : List Stamped) (entries : List Entry) (d : Did) → EntriesMeet OutPart setup now call past entries →
+    Meets setup now call (onto now entries past) d → Meets setup now call past (after_entries entries d)
+meets_after setup now call past entries d first later = record {
+  lines = lines_append setup now call past entries d.entries first later.lines;
+  sent = subst (λ (p : List Stamped). Sent setup p d.state) (sym (onto_append now entries d.entries past)) later.sent;
+}
+
+pub meets_then : (setup : Setup) (now : ℕ) (call : Call) (past : List Stamped) (d : Did) (next : State → Did) → Meets setup now call past d →
+    Meets setup now call (onto now d.entries past) (next d.state) → Meets setup now call past (then_do d next)
+meets_then setup now call past d next first later = meets_after setup now call past d.entries (next d.state) first.lines later
+
+unequal : (a b : ℕ) → (a == b) ≡ false → a ≢ b
+unequal a b h e = grind (arith, nat_tests)
+
+-- ---- a packet in the startup context
+
+-- each keying of the packet is one that may go out under this session ID
+abbrev pub MayGo : Setup → List Stamped → ℕ → List ℕ → Type 0
+MayGo setup past sid plain =
+    (packet : Whole) → PacketReading plain (Ok packet) →
+    KeyingsAre (λ near cookie cert part sign. KeyingOfAttempt setup Startup (facts_of past) near cert part) (λ near part sign. KeyingOfBorn setup Startup (facts_of past) sid near part) packet
+
+startup_sized : (setup : Setup) (count : ℕ) → length (startup_number (own_of setup) count) ≡ 16
+startup_sized setup count =
+    omega (arith, length-append (take 8 (sha256 setup.cert)) (to_be_bytes w64 count), length-take-le 8 (sha256 setup.cert) (omega (arith, length-sha256 setup.cert)))
+
+module _ (setup : Setup) (now : ℕ) (call : Call) (past : List Stamped) (s : State) (sent : Sent setup past s) (secret : s.startup.secret ≡ setup.secret) (own : s.startup.ledger.own ≡ own_of setup) where
+  pub meets_startup : (to : AddressParts) (sid : ℕ) (plain : List ℕ) → MayGo setup past sid plain → Meets setup now call past (sent_startup s to sid plain)
+  meets_startup to sid plain may = by_test (s.sealed == last_count) refl
+    where
+      is : startup_datagram s sid plain ≡ datagram sid (sealed_in setup.secret Startup sid (startup_number (own_of setup) (s.sealed + 1)) plain)
+      is = ap (λ (o : List ℕ). datagram sid (sealed_in s.startup.secret Startup sid (startup_number o (s.sealed + 1)) plain)) own
+          ∙ ap (λ (k : List ℕ). datagram sid (sealed_in k Startup sid (startup_number (own_of setup) (s.sealed + 1)) plain)) secret
+
+      carries : number_of (drop 4 (startup_datagram s sid plain)) ≡ startup_number (own_of setup) (s.sealed + 1)
+      carries = ap (λ (d : List ℕ). number_of (drop 4 d)) is
+          ∙ (sealed_carries (keys_of setup.secret Startup) sid (startup_number (own_of setup) (s.sealed + 1)) plain (startup_sized setup (s.sealed + 1))).0
+
+      line : s.sealed ≢ last_count → OutLine setup past (startup_datagram s sid plain) Startup
+      line some = record {
+        sid = sid;
+        number = startup_number (own_of setup) (s.sealed + 1);
+        plain = plain;
+        numbered = startup_sized setup (s.sealed + 1);
+        is = is;
+        once = λ far was. once_startup (own_of setup) past s.sealed s.sessions sent.numbered some was;
+        keyings = may;
+        session = tt;
+      }
+
+      by_test : (b : Bool) → (s.sealed == last_count) ≡ b →
+          Meets setup now call past (if b then nothing s else record { state = with_sealed s (s.sealed + 1); entries = Out to (startup_datagram s sid plain) Startup ∷ [] })
+      by_test true e = meets_nothing setup now call past s sent
+      by_test false e = record {
+        lines = (line (unequal s.sealed last_count e), tt);
+        sent = record {
+          numbered = numbered_startup (own_of setup) past s.sealed s.sessions sent.numbered now to (startup_datagram s sid plain) (unequal s.sealed last_count e) carries;
+          sized = sent.sized;
+          short = sent.short;
+        };
+      }
+
+-- ---- a packet in a session
+
+module _ (setup : Setup) (now : ℕ) (call : Call) (past : List Stamped) (s : State) (sent : Sent setup past s) (near : ℕ) (session : SessionState) (there : get s.sessions near ≡ Some session)
+    (secret : session.secret ≡ setup.secret) (own : session.own ≡ own_of setup) (is_held : held session.joined.peer (facts_of past) ≡ Some (thing_of session.role session.stage session.joined)) where
+  pub meets_session : (to : AddressParts) (chunk : Chunk) → length (payload_bytes chunk) < 2 ^ 16 → kind_of chunk ≢ 0x38 → kind_of chunk ≢ 0x78 →
+      Meets setup now call past (sent_by s near to chunk (Some session))
+  meets_session to chunk short other other' = by_test (session.sealed == last_count) refl
+    where
+      plain : List ℕ
+      plain = session_packet session s.moment chunk
+
+      sized : (count : ℕ) → length (number_bytes count) ≡ 16
+      sized count = refl
+
+      is : session_datagram session s.moment chunk ≡
+          datagram session.joined.far (sealed_in setup.secret (context_of session true) session.joined.far (number_bytes (session.sealed + 1)) (session_packet session s.moment chunk))
+      is = ap (λ (k : List ℕ). datagram session.joined.far (sealed_in k (context_of session true) session.joined.far (number_bytes (session.sealed + 1)) (session_packet session s.moment chunk))) secret
+
+      carries : number_of (drop 4 (session_datagram session s.moment chunk)) ≡ number_bytes (session.sealed + 1)
+      carries = (sealed_carries (keys_of session.secret (context_of session true)) session.joined.far (number_bytes (session.sealed + 1)) (session_packet session s.moment chunk) refl).0
+
+      line : session.sealed ≢ last_count → OutLine setup past (session_datagram session s.moment chunk) (context_of session true)
+      line some = record {
+        sid = session.joined.far;
+        number = number_bytes (session.sealed + 1);
+        plain = session_packet session s.moment chunk;
+        numbered = refl;
+        is = is;
+        once = λ far was. once_session (own_of setup) past s.sealed s.sessions sent.numbered near session there some far was;
+        keyings = λ packet reads. no_keyings _ _ packet (kind_of chunk) (payload_bytes chunk) (session_alone session s.moment chunk packet short reads) other other';
+        session = held_session setup (facts_of past) session.role session.stage session.joined session.own own is_held;
+      }
+
+      sealed_more : (b : Bool) → b ≡ false → (if b then session else record session { sealed = session.sealed + 1 }) ≡ record session { sealed = session.sealed + 1 }
+      sealed_more b e = ap (λ (t : Bool). if t then session else record session { sealed = session.sealed + 1 }) e
+
+      by_test : (b : Bool) → (session.sealed == last_count) ≡ b →
+          Meets setup now call past (if b then nothing s else record { state = with_session s near (after_seal session); entries = Out to (session_datagram session s.moment chunk) (context_of session true) ∷ [] })
+      by_test true e = meets_nothing setup now call past s sent
+      by_test false e = record {
+        lines = (line (unequal session.sealed last_count e), tt);
+        sent = record {
+          numbered = numbered_session (own_of setup) past s.sealed s.sessions sent.numbered near session there (unequal session.sealed last_count e) now to (session_datagram session s.moment chunk)
+              (after_seal session) (sealed_more (session.sealed == last_count) e) carries (held_known (facts_of past) session.own session.role session.stage session.joined is_held);
+          sized = sent.sized;
+          short = sent.short;
+        };
+      }

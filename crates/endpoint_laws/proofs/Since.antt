@@ -1,0 +1,86 @@
+-- What is held inside of an event was held when it began, as far as the context of its datagram's session ID goes.
+use Rattle.std.proofs.Common.{ℕ, List, ◌∷◌, Option, Some, None, ◌≡◌, ◌⊎◌, inl, inr, refl}
+use Rattle.packet_scramble.specs.Datagram.{sid_of}
+use Rattle.glare_core.specs.declared.facts.Fact.{Fact}
+use Rattle.glare_core.specs.declared.facts.Fact.TheVariants.{Started, Born, Opened, Confirmed, Ended}
+use Rattle.glare_core.specs.declared.facts.Held.{Held}
+use Rattle.glare_core.specs.declared.facts.Held.TheVariants.{Opening, HalfOpen, KeptAsResponder, KeptAsInitiator}
+use Rattle.glare_core.specs.Standing.{peer_of, after, held}
+use Rattle.glare_core.proofs.Tails.{same_end}
+use Rattle.endpoint_model.specs.declared.entry.Entry.{Entry}
+use Rattle.endpoint_model.specs.Event.{Setup, Call, Open, Cancel, Receive, Tick}
+use Rattle.endpoint_laws.specs.Past.{Stamped, facts_of}
+use Rattle.endpoint_laws.specs.Lawful.{FactLine}
+
+-- An attempt was held at the start, and so was a half-open session, or it was born of this datagram, which then goes under session ID 0.
+abbrev pub Comes : ℕ → List Fact → List ℕ → Option Held → Type 0
+Comes sid start peer None = Unit {0}
+Comes sid start peer (Some (Opening n near ni)) = held peer start ≡ Some (Opening n near ni)
+Comes sid start peer (Some (HalfOpen j)) = (held peer start ≡ Some (HalfOpen j)) ⊎ ((sid ≡ 0) × (j.near ≡ 0 → ⊥))
+Comes sid start peer (Some (KeptAsResponder j)) = Unit {0}
+Comes sid start peer (Some (KeptAsInitiator j)) = Unit {0}
+
+comes_first : (sid : ℕ) (start : List Fact) (peer : List ℕ) (o : Option Held) → held peer start ≡ o → Comes sid start peer o
+comes_first sid start peer None e = tt
+comes_first sid start peer (Some (Opening n near ni)) e = e
+comes_first sid start peer (Some (HalfOpen j)) e = inl e
+comes_first sid start peer (Some (KeptAsResponder j)) e = tt
+comes_first sid start peer (Some (KeptAsInitiator j)) e = tt
+
+-- the facts that a datagram under this session ID can bring
+abbrev FactComes : ℕ → Fact → Type 0
+FactComes sid (Started peer n near ni) = ⊥
+FactComes sid (Born j) = (sid ≡ 0) × (j.near ≡ 0 → ⊥)
+FactComes sid (Opened j) = Unit {0}
+FactComes sid (Confirmed peer near) = Unit {0}
+FactComes sid (Ended peer near why) = Unit {0}
+
+comes_after : (sid : ℕ) (start : List Fact) (peer : List ℕ) (fact : Fact) (o : Option Held) → FactComes sid fact → Comes sid start peer o → Comes sid start peer (after fact o)
+comes_after sid start peer (Started p n near ni) o f c = absurd f
+comes_after sid start peer (Born j) o f c = inr f
+comes_after sid start peer (Opened j) None f c = tt
+comes_after sid start peer (Opened j) (Some (Opening n near ni)) f c = tt
+comes_after sid start peer (Opened j) (Some (HalfOpen t)) f c = c
+comes_after sid start peer (Opened j) (Some (KeptAsResponder t)) f c = tt
+comes_after sid start peer (Opened j) (Some (KeptAsInitiator t)) f c = tt
+comes_after sid start peer (Confirmed p near) None f c = tt
+comes_after sid start peer (Confirmed p near) (Some (Opening n near' ni)) f c = c
+comes_after sid start peer (Confirmed p near) (Some (HalfOpen t)) f c = tt
+comes_after sid start peer (Confirmed p near) (Some (KeptAsResponder t)) f c = tt
+comes_after sid start peer (Confirmed p near) (Some (KeptAsInitiator t)) f c = tt
+comes_after sid start peer (Ended p near why) o f c = tt
+
+comes_did : (sid : ℕ) (start : List Fact) (peer : List ℕ) (fact : Fact) (facts : List Fact) → FactComes sid fact → Comes sid start peer (held peer facts) → Comes sid start peer (held peer (fact ∷ facts))
+comes_did sid start peer fact facts f c = elim (same_end (peer_of fact) peer) [
+  | inl d ↦ rw d.1 (comes_after sid start peer fact (held peer facts) f c)
+  | inr d ↦ rw d.1 c
+]
+
+-- ---- over the facts of an event
+
+abbrev pub CameSince : Call → List Fact → List Fact → Type 0
+CameSince (Open peer candidates draws) start facts = Unit {0}
+CameSince (Cancel n) start facts = Unit {0}
+CameSince (Receive from datagram draws) start facts = (peer : List ℕ) → Comes (sid_of datagram) start peer (held peer facts)
+CameSince (Tick draws) start facts = Unit {0}
+
+pub came_first : (call : Call) (start : List Fact) → CameSince call start start
+came_first (Open peer candidates draws) start = tt
+came_first (Cancel n) start = tt
+came_first (Receive from datagram draws) start = λ peer. comes_first (sid_of datagram) start peer (held peer start) refl
+came_first (Tick draws) start = tt
+
+pub came_more : (setup : Setup) (now : ℕ) (call : Call) (start : List Fact) (past : List Stamped) (rest : List Entry) (fact : Fact) → FactLine setup now call past rest fact →
+    CameSince call start (facts_of past) → CameSince call start (fact ∷ facts_of past)
+came_more setup now (Open peer candidates draws) start past rest fact line came = tt
+came_more setup now (Cancel n) start past rest fact line came = tt
+came_more setup now (Receive from datagram draws) start past rest fact line came =
+    λ peer. comes_did (sid_of datagram) start peer fact (facts_of past) (brings fact line) (came peer)
+  where
+    brings : (f : Fact) → FactLine setup now (Receive from datagram draws) past rest f → FactComes (sid_of datagram) f
+    brings (Started p n near ni) l = absurd l.by
+    brings (Born j) l = (l.by.0.reads.opens.id, l.id.some)
+    brings (Opened j) l = tt
+    brings (Confirmed p near) l = tt
+    brings (Ended p near why) l = tt
+came_more setup now (Tick draws) start past rest fact line came = tt

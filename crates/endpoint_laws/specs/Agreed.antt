@@ -1,0 +1,116 @@
+-- What it is for a history of many ends to be agreed: what their facts say of each other at each
+-- moment.
+use Rattle.std.specs.Prelude.{ℕ, ◌≡◌, ◌⊎◌, Bool, List, [], ◌∷◌, ◌++◌, Some}
+use Rattle.crypto_profile.specs.Keys.{keys_of}
+use Rattle.glare_core.specs.declared.facts.Fact.TheVariants.{Born, Opened}
+use Rattle.glare_core.specs.declared.facts.Held.TheVariants.{KeptAsResponder, KeptAsInitiator}
+use Rattle.glare_core.specs.declared.facts.Joined.{Joined}
+use Rattle.glare_core.specs.Standing.{held}
+use Rattle.glare_core.specs.Tells.{as_initiator, as_responder}
+use Rattle.glare_core.specs.Steps.{Did, Step, step, view, facts, IsTail, Happened}
+use Rattle.glare_core.specs.Agreed.{AreOne, KeepTheSame, EachOpenedHasOneBirth,
+    NoStartedHasTwoBirths, CrossedIsOver, OneOpens, PrevailingIsSpared, OverrideIsLate}
+use Rattle.endpoint_model.specs.declared.entry.Entry.{Entry}
+use Rattle.endpoint_model.specs.declared.entry.Entry.TheVariants.{Fact as FactEntry, Discard, Out}
+use Rattle.endpoint_model.specs.Event.{Setup, own_of}
+use Rattle.endpoint_laws.specs.Contexts.{session_context}
+use Rattle.endpoint_laws.specs.Laws.{AreCalls}
+use Rattle.endpoint_laws.specs.History.{History, log_of, facts_at, TakesPart, AreLawful, IsHonest,
+    IsFresh}
+
+-- ---- the facts of all ends
+
+-- a fact of an end as one step, on top of those before; what is no fact is none
+abbrev pub stated_on : List ℕ → Entry → List Step → List Step
+stated_on own (FactEntry fact) before = step own (Did fact 0) ∷ before
+stated_on own (Discard place cause) before = before
+stated_on own (Out to datagram context) before = before
+
+-- the facts among the entries of an event, in their order
+abbrev pub stated_onto : List ℕ → List Entry → List Step → List Step
+stated_onto own [] before = before
+stated_onto own (entry ∷ rest) before = stated_onto own rest (stated_on own entry before)
+
+-- The facts of all ends as one list of steps, the newest first. An end is named by its fingerprint,
+-- and there are no generations yet.
+abbrev pub stated : (ℕ → Setup) → History → List Step
+stated ends [] = []
+stated ends (h ∷ earlier) = stated_onto (own_of (ends h.who)) h.event.entries (stated ends earlier)
+
+-- ---- agreed
+
+-- The two ends of a session that was opened have the same keys for it, in both directions.
+abbrev pub HaveTheSameKeys : (ℕ → Setup) → History → List Step → Type 0
+HaveTheSameKeys ends history now =
+    (a b : ℕ) (s t : Joined) (g h : ℕ) (before early : List Step) → TakesPart a history →
+      TakesPart b history →
+    Happened (own_of (ends a)) (Did (Opened s) g) before now →
+      Happened (own_of (ends b)) (Did (Born t) h) early now →
+    s.peer ≡ own_of (ends b) → t.n ≡ s.n → t.ni ≡ s.ni → (to_responder : Bool) →
+    keys_of (ends a).secret (session_context (as_initiator (own_of (ends a)) s) to_responder)
+      ≡ keys_of (ends b).secret (session_context (as_responder (own_of (ends b)) t) to_responder)
+
+-- what stands at one moment
+pub record AreAgreed (ends : ℕ → Setup) (history : History) (now : List Step) : Type 0 where
+  -- two ends that keep sessions with each other keep the same one
+  pub same : KeepTheSame now
+  -- each attempt that opened has one birth, with the same values, and its session has the same keys
+  -- at both ends
+  pub opened : EachOpenedHasOneBirth now
+  pub keys : HaveTheSameKeys ends history now
+  -- no attempt has two births
+  pub started : NoStartedHasTwoBirths now
+  -- of two attempts that were crossed at most one opens, and then the other is over
+  pub over : CrossedIsOver now
+  pub one : OneOpens now
+  -- no attempt of the end that prevails is ended for the cause Glare
+  pub spared : PrevailingIsSpared now
+  -- a kept session is ended for the cause Override only after its peer ended it
+  pub late : OverrideIsLate now
+
+-- A history is agreed where this stands at each of its moments. There is one after each fact, so
+-- also one after each event.
+abbrev pub IsAgreed : (ℕ → Setup) → History → Type 0
+IsAgreed ends history = (now : List Step) → IsTail now (stated ends history) →
+    AreAgreed ends history now
+
+-- ---- the law
+
+-- The ends have one secret.
+abbrev pub IsOneGroup : (ℕ → Setup) → History → Type 0
+IsOneGroup ends history = (a b : ℕ) → TakesPart a history → TakesPart b history →
+    (ends a).secret ≡ (ends b).secret
+
+-- Each history of ends of one group that is lawful, honest and fresh is agreed.
+abbrev pub EveryLawfulHistoryIsAgreed : Type 0
+EveryLawfulHistoryIsAgreed =
+    (ends : ℕ → Setup) (history : History) → ((who : ℕ) → AreCalls (log_of who history)) →
+      IsOneGroup ends history →
+    AreLawful ends history → IsHonest ends history → IsFresh ends history → IsAgreed ends history
+
+-- ---- what this says of logs
+
+-- Each end states in the list of all facts what its own log says.
+abbrev pub EachEndStatesItsLog : Type 0
+EachEndStatesItsLog = (ends : ℕ → Setup) (history : History) → IsFresh ends history → (who : ℕ) →
+    TakesPart who history
+    → facts (view (own_of (ends who)) (stated ends history)) ≡ facts_at who history
+
+-- Each history that went before is a moment: there is one after each event.
+abbrev pub EachPrefixIsAMoment : Type 0
+EachPrefixIsAMoment = (ends : ℕ → Setup) (later early : History) →
+    IsTail (stated ends early) (stated ends (later ++ early))
+
+-- By its log the end keeps this session with the peer.
+abbrev pub Keeps : ℕ → List ℕ → Joined → History → Type 0
+Keeps who peer s history = (held peer (facts_at who history) ≡ Some (KeptAsInitiator s)) ⊎
+    (held peer (facts_at who history) ≡ Some (KeptAsResponder s))
+
+-- In an agreed history, after each event, two ends that keep sessions with each other by their logs
+-- keep the same one.
+abbrev pub LogsKeepTheSame : Type 0
+LogsKeepTheSame =
+    (ends : ℕ → Setup) (later early : History) → IsFresh ends (later ++ early) →
+      IsAgreed ends (later ++ early) → (a b : ℕ) (s t : Joined) → TakesPart a early →
+      TakesPart b early →
+    Keeps a (own_of (ends b)) s early → Keeps b (own_of (ends a)) t early → AreOne s t

@@ -1,0 +1,86 @@
+-- Histories of many ends, and when one is honest and fresh.
+use Rattle.std.specs.Prelude.{ℕ, ◌≡◌, ◌==◌, ◌⊎◌, List, [], ◌∷◌, ◌++◌, if◌then◌else◌}
+use Rattle.crypto_profile.specs.declared.keys.Context.{Context}
+use Rattle.packet_scramble.specs.Datagram.{sid_of}
+use Rattle.glare_core.specs.declared.facts.Fact.{Fact}
+use Rattle.glare_core.specs.Told.{AllDifferent}
+use Rattle.endpoint_model.specs.declared.entry.Entry.{Entry}
+use Rattle.endpoint_model.specs.declared.entry.Entry.TheVariants.{Fact as FactEntry, Discard, Out}
+use Rattle.endpoint_model.specs.Event.{Setup, own_of, Call, Open, Cancel, Receive, Tick, Event}
+use Rattle.endpoint_laws.specs.Past.{facts_of, past_of}
+use Rattle.endpoint_laws.specs.Contexts.{ContextOf, OpensUnder}
+use Rattle.endpoint_laws.specs.Lawful.{IsLawful, nonces_of}
+
+-- an event, and the number of its end
+pub record Happened : Type 0 where
+  pub who : ℕ
+  pub event : Event
+
+-- the newest is the first
+abbrev pub History : Type 0
+History = List Happened
+
+-- the events of an end, the oldest first
+abbrev pub log_of : ℕ → History → List Event
+log_of who [] = []
+log_of who (h ∷ earlier) = if h.who == who then log_of who earlier ++ h.event ∷ []
+    else log_of who earlier
+
+-- the facts that an end stated, the newest first
+abbrev pub facts_at : ℕ → History → List Fact
+facts_at who history = facts_of (past_of 0 [] (log_of who history))
+
+-- Each end's log is lawful.
+abbrev pub AreLawful : (ℕ → Setup) → History → Type 0
+AreLawful ends history = (who : ℕ) → IsLawful (ends who) (log_of who history)
+
+-- ---- honest
+
+abbrev pub IsOut : List ℕ → Context → Entry → Type 0
+IsOut sent context (FactEntry fact) = ⊥
+IsOut sent context (Discard place cause) = ⊥
+IsOut sent context (Out to datagram sealed_for) = (datagram ≡ sent) × (sealed_for ≡ context)
+
+abbrev pub HasOut : List ℕ → Context → List Entry → Type 0
+HasOut sent context [] = ⊥
+HasOut sent context (entry ∷ rest) = IsOut sent context entry ⊎ HasOut sent context rest
+
+-- An end sent these bytes in this context.
+abbrev pub WasSent : List ℕ → Context → History → Type 0
+WasSent sent context [] = ⊥
+WasSent sent context (h ∷ earlier) = HasOut sent context h.event.entries ⊎
+    WasSent sent context earlier
+
+-- A datagram that opens in the context of its session ID, at the end that takes it, was sent in
+-- that context.
+abbrev pub IsHonestCall : Setup → List Fact → History → Call → Type 0
+IsHonestCall setup facts earlier (Open peer candidates draws) = Unit {0}
+IsHonestCall setup facts earlier (Cancel n) = Unit {0}
+IsHonestCall setup facts earlier (Receive from datagram draws) =
+    (context : Context) (plain : List ℕ) → ContextOf (own_of setup) facts (sid_of datagram) context
+    → OpensUnder setup.secret context (sid_of datagram) datagram plain →
+      WasSent datagram context earlier
+IsHonestCall setup facts earlier (Tick draws) = Unit {0}
+
+abbrev pub IsHonest : (ℕ → Setup) → History → Type 0
+IsHonest ends [] = Unit {0}
+IsHonest ends (h ∷ earlier) = IsHonestCall (ends h.who) (facts_at h.who earlier) earlier
+    h.event.call × IsHonest ends earlier
+
+-- ---- fresh
+
+-- the nonces of all attempts and of all sessions that were born, at whatever end
+abbrev pub nonces_in : History → List (List ℕ)
+nonces_in [] = []
+nonces_in (h ∷ earlier) = nonces_of (facts_of (past_of 0 [] (h.event ∷ []))) ++ nonces_in earlier
+
+-- An event of this end is in the history.
+abbrev pub TakesPart : ℕ → History → Type 0
+TakesPart who [] = ⊥
+TakesPart who (h ∷ earlier) = (who ≡ h.who) ⊎ TakesPart who earlier
+
+-- No nonce was drawn twice, and different ends have different fingerprints.
+pub record IsFresh (ends : ℕ → Setup) (history : History) : Type 0 where
+  pub nonces : AllDifferent (nonces_in history)
+  pub prints : (a b : ℕ) → TakesPart a history → TakesPart b history →
+    own_of (ends a) ≡ own_of (ends b) → a ≡ b

@@ -1,0 +1,290 @@
+-- Lawful logs. Each entry meets its line of this table, judged by its event and by the entries
+-- before it.
+use Rattle.std.specs.Prelude.{ℕ, false, ◌≡◌, ◌≢◌, ◌+◌, ◌^◌, ◌<◌, ◌≤◌, ◌⊎◌, List, [], ◌∷◌, length,
+    drop, Option, Some, Ok}
+use Rattle.crypto_profile.specs.declared.keys.Context.{Context}
+use Rattle.crypto_profile.specs.declared.keys.Context.TheVariants.{Startup, Session}
+use Rattle.crypto_profile.specs.Sealing.{sealed_in, number_of}
+use Rattle.packet_scramble.specs.Datagram.{datagram}
+use Rattle.rtmfp_packet.specs.Whole.{Whole}
+use Rattle.rtmfp_packet.specs.Walk.{Placed}
+use Rattle.rtmfp_packet.specs.Reading.{PacketReading}
+use Rattle.rtmfp_chunks.specs.Chunk.{RIKeying, Spells}
+use Rattle.glare_core.specs.declared.facts.Why.{Why}
+use Rattle.glare_core.specs.declared.facts.Why.TheVariants.{Cancelled, Expired, Glare, Override,
+    Unconfirmed, Near, Far, Idle}
+use Rattle.glare_core.specs.declared.facts.Fact.{Fact}
+use Rattle.glare_core.specs.declared.facts.Fact.TheVariants.{Started, Born, Opened, Confirmed,
+    Ended}
+use Rattle.glare_core.specs.declared.facts.Held.{Held}
+use Rattle.glare_core.specs.declared.facts.Held.TheVariants.{Opening, HalfOpen, KeptAsResponder,
+    KeptAsInitiator}
+use Rattle.glare_core.specs.declared.facts.Joined.{Joined}
+use Rattle.glare_core.specs.Standing.{held, count}
+use Rattle.glare_core.specs.Stands.{Stands, IsBornOf, IsForBorn}
+use Rattle.glare_core.specs.Told.{AllDifferent}
+use Rattle.endpoint_model.specs.declared.entry.Entry.{Entry}
+use Rattle.endpoint_model.specs.declared.entry.Entry.TheVariants.{Fact as FactEntry, Discard, Out}
+use Rattle.endpoint_model.specs.Event.{Setup, own_of, Call, Open, Cancel, Receive, Tick, Event, moment_at}
+use Rattle.endpoint_laws.specs.Past.{Stamped, stamped, onto, facts_of, is_in_use, WasDone}
+use Rattle.endpoint_laws.specs.Contexts.{ReadsUnder, HeldUnder, inward, outward, OpensUnder}
+use Rattle.endpoint_model.specs.Keying.{IsSigned, IsAmong, KeyingsAre, chunks_of, initiator_part,
+    responder_part}
+use Rattle.endpoint_laws.specs.Admissible.{Admissible, Offer}
+
+-- The session ID isn't 0, and none that is in use.
+pub record IsFree (near : ℕ) (facts : List Fact) : Type 0 where
+  pub some : near ≢ 0
+  pub unused : is_in_use near facts ≡ false
+
+-- ---- the call that an entry comes of
+
+-- The call opens an attempt towards this peer, with this nonce.
+abbrev pub Opens : Call → List ℕ → List ℕ → Type 0
+Opens (Open towards candidates draws) peer ni = (towards ≡ peer) × (ni ≡ draws.nonce)
+Opens (Cancel n) peer ni = ⊥
+Opens (Receive from datagram draws) peer ni = ⊥
+Opens (Tick draws) peer ni = ⊥
+
+abbrev pub Cancels : Call → ℕ → Type 0
+Cancels (Open towards candidates draws) n = ⊥
+Cancels (Cancel m) n = m ≡ n
+Cancels (Receive from datagram draws) n = ⊥
+Cancels (Tick draws) n = ⊥
+
+abbrev pub IsTick : Call → Type 0
+IsTick (Open towards candidates draws) = ⊥
+IsTick (Cancel n) = ⊥
+IsTick (Receive from datagram draws) = ⊥
+IsTick (Tick draws) = Unit {0}
+
+-- The call takes a datagram with an admissible keying that makes this offer, and the nonce is of
+-- its draws.
+abbrev pub Bears : Setup → List Fact → ℕ → Call → Offer → List ℕ → Type 0
+Bears setup facts now (Open towards candidates draws) offer nr = ⊥
+Bears setup facts now (Cancel n) offer nr = ⊥
+Bears setup facts now (Receive from datagram draws) offer nr =
+    Admissible setup facts now from datagram offer × (nr ≡ draws.nonce)
+Bears setup facts now (Tick draws) offer nr = ⊥
+
+-- The datagram opens in the startup context under the attempt's session ID, and a responder's
+-- keying in it answers the attempt.
+pub record AnswersAttempt (secret : List ℕ) (j : Joined) (datagram : List ℕ) : Type 0 where
+  pub packet : Whole
+  pub reads : ReadsUnder secret Startup j.near datagram packet
+  pub chunk : Placed
+  pub among : IsAmong chunk (chunks_of packet)
+  pub sign : List ℕ
+  pub spells : Spells (RIKeying j.far (responder_part j.nr j.k j.peer j.ni) sign) chunk.kind
+    chunk.payload
+  -- the count is what these 8 bytes say
+  pub number : j.k < 2 ^ 64
+  pub signed : IsSigned secret chunk.payload sign
+
+abbrev pub TakesAnswer : Setup → Call → Joined → Type 0
+TakesAnswer setup (Open towards candidates draws) j = ⊥
+TakesAnswer setup (Cancel n) j = ⊥
+TakesAnswer setup (Receive from datagram draws) j = AnswersAttempt setup.secret j datagram
+TakesAnswer setup (Tick draws) j = ⊥
+
+-- The call takes a datagram that opens under this session ID, in the context of this thing.
+abbrev pub TakesUnder : Setup → Call → ℕ → Held → Type 0
+TakesUnder setup (Open towards candidates draws) near thing = ⊥
+TakesUnder setup (Cancel n) near thing = ⊥
+TakesUnder setup (Receive from datagram draws) near thing = (plain : List ℕ) ×
+    OpensUnder setup.secret (inward (own_of setup) thing) near datagram plain
+TakesUnder setup (Tick draws) near thing = ⊥
+
+-- ---- the lines of facts
+
+pub record StartedLine (call : Call) (facts : List Fact) (peer : List ℕ) (near : ℕ) (ni : List ℕ)
+    : Type 0 where
+  pub by : Opens call peer ni
+  pub id : IsFree near facts
+
+-- The facts before a Born, and before the Ended directly before it that makes way for it, if there
+-- is one.
+abbrev pub WayMade : List Fact → List Fact → List ℕ → Type 0
+WayMade facts before peer = (facts ≡ before) ⊎
+    ((near : ℕ) × (why : Why) × IsForBorn why × (facts ≡ Ended peer near why ∷ before))
+
+pub record BornLine (setup : Setup) (now : ℕ) (call : Call) (facts : List Fact) (j : Joined)
+    : Type 0 where
+  pub before : List Fact
+  pub way : WayMade facts before j.peer
+  pub by : Bears setup before now call (record { peer = j.peer; n = j.n; ni = j.ni; far = j.far })
+    j.nr
+  pub id : IsFree j.near facts
+
+pub record ConfirmedLine (setup : Setup) (call : Call) (facts : List Fact) (peer : List ℕ)
+    (near : ℕ) : Type 0 where
+  pub j : Joined
+  pub session : held peer facts ≡ Some (HalfOpen j)
+  pub by : TakesUnder setup call near (HalfOpen j)
+
+-- so many milliseconds after its start, an attempt expires
+abbrev pub lifetime : ℕ
+lifetime = 95000
+
+-- The attempt with this session ID was started at least so long ago.
+pub record IsOverdue (now : ℕ) (past : List Stamped) (peer : List ℕ) (near : ℕ) : Type 0 where
+  pub n : ℕ
+  pub ni : List ℕ
+  pub is_held : held peer (facts_of past) ≡ Some (Opening n near ni)
+  pub start : ℕ
+  pub started : WasDone (stamped start (FactEntry (Started peer n near ni))) past
+  pub over : start + lifetime ≤ now
+
+pub record CancelledLine (call : Call) (facts : List Fact) (peer : List ℕ) : Type 0 where
+  pub n : ℕ
+  pub near : ℕ
+  pub ni : List ℕ
+  pub is_held : held peer facts ≡ Some (Opening n near ni)
+  pub by : Cancels call n
+
+-- The next entry of the event is a Born of this peer.
+abbrev pub BornFollows : List ℕ → List Entry → Type 0
+BornFollows peer [] = ⊥
+BornFollows peer (FactEntry fact ∷ rest) = IsBornOf peer fact
+BornFollows peer (Discard place cause ∷ rest) = ⊥
+BornFollows peer (Out to datagram context ∷ rest) = ⊥
+
+-- An end doesn't end sessions yet but for Override.
+abbrev pub EndedLine : ℕ → Call → List Stamped → List Entry → List ℕ → ℕ → Why → Type 0
+EndedLine now call past rest peer near Cancelled = CancelledLine call (facts_of past) peer
+EndedLine now call past rest peer near Expired = IsTick call × IsOverdue now past peer near
+EndedLine now call past rest peer near Glare = BornFollows peer rest
+EndedLine now call past rest peer near Override = BornFollows peer rest
+EndedLine now call past rest peer near Unconfirmed = ⊥
+EndedLine now call past rest peer near Near = ⊥
+EndedLine now call past rest peer near Far = ⊥
+EndedLine now call past rest peer near Idle = ⊥
+
+-- What a fact asks of its event, beside what the facts before it ask.
+abbrev pub FactLine : Setup → ℕ → Call → List Stamped → List Entry → Fact → Type 0
+FactLine setup now call past rest (Started peer n near ni) =
+    StartedLine call (facts_of past) peer near ni
+FactLine setup now call past rest (Born j) = BornLine setup now call (facts_of past) j
+FactLine setup now call past rest (Opened j) = TakesAnswer setup call j
+FactLine setup now call past rest (Confirmed peer near) =
+    ConfirmedLine setup call (facts_of past) peer near
+FactLine setup now call past rest (Ended peer near why) = EndedLine now call past rest peer near why
+
+-- The number of an attempt is one of 64 bits, as its keying has 8 bytes for it.
+abbrev pub IsCounted : Fact → Type 0
+IsCounted (Started peer n near ni) = n < 2 ^ 64
+IsCounted (Born j) = Unit {0}
+IsCounted (Opened j) = Unit {0}
+IsCounted (Confirmed peer near) = Unit {0}
+IsCounted (Ended peer near why) = Unit {0}
+
+-- ---- the line of a datagram that goes out
+
+-- The entry is a datagram that went out in this context with this number.
+abbrev pub IsNumbered : Context → List ℕ → Entry → Type 0
+IsNumbered context number (FactEntry fact) = ⊥
+IsNumbered context number (Discard place cause) = ⊥
+IsNumbered context number (Out to sent sealed_for) = (sealed_for ≡ context) ×
+    (number_of (drop 4 sent) ≡ number)
+
+-- An earlier datagram went out in this context with this number.
+abbrev pub WasNumbered : Context → List ℕ → List Stamped → Type 0
+WasNumbered context number [] = ⊥
+WasNumbered context number (s ∷ earlier) = IsNumbered context number s.entry ⊎
+    WasNumbered context number earlier
+
+-- the nonces of the attempts that were started, and of the sessions that were born
+abbrev pub nonces_of : List Fact → List (List ℕ)
+nonces_of [] = []
+nonces_of (Started peer n near ni ∷ earlier) = ni ∷ nonces_of earlier
+nonces_of (Born j ∷ earlier) = j.nr ∷ nonces_of earlier
+nonces_of (Opened j ∷ earlier) = nonces_of earlier
+nonces_of (Confirmed peer near ∷ earlier) = nonces_of earlier
+nonces_of (Ended peer near why ∷ earlier) = nonces_of earlier
+
+-- In a session's context this is asked only where the nonces are all different.
+abbrev pub AsFarAs : Context → List Fact → Type 0
+AsFarAs Startup facts = Unit {0}
+AsFarAs (Session ni nr fp_i fp_r sid_i sid_r to_responder) facts = AllDifferent (nonces_of facts)
+
+-- An initiator's keying goes out in the startup context alone, with the certificate of this end,
+-- and the session ID and the component of an attempt that is held.
+pub record KeyingOfAttempt (setup : Setup) (context : Context) (facts : List Fact) (near : ℕ)
+    (cert part : List ℕ) : Type 0 where
+  pub startup : context ≡ Startup
+  pub own : cert ≡ setup.cert
+  pub peer : List ℕ
+  pub n : ℕ
+  pub ni : List ℕ
+  pub is_held : held peer facts ≡ Some (Opening n near ni)
+  pub values : part ≡ initiator_part ni n peer
+
+-- The session is held, and was born here.
+abbrev pub IsBornHere : Option Held → Joined → Type 0
+IsBornHere thing j = (thing ≡ Some (HalfOpen j)) ⊎ (thing ≡ Some (KeptAsResponder j))
+
+-- A responder's keying goes out in the startup context alone, under the far session ID of a session
+-- that was born here and is held, with its values.
+pub record KeyingOfBorn (setup : Setup) (context : Context) (facts : List Fact) (sid near : ℕ)
+    (part : List ℕ) : Type 0 where
+  pub startup : context ≡ Startup
+  pub j : Joined
+  pub is_held : IsBornHere (held j.peer facts) j
+  pub sid_is : sid ≡ j.far
+  pub near_is : near ≡ j.near
+  pub values : part ≡ responder_part j.nr j.k (own_of setup) j.ni
+
+-- the far session ID of a session
+abbrev pub IsFarOf : Held → ℕ → Type 0
+IsFarOf (Opening n near ni) sid = ⊥
+IsFarOf (HalfOpen j) sid = sid ≡ j.far
+IsFarOf (KeptAsResponder j) sid = sid ≡ j.far
+IsFarOf (KeptAsInitiator j) sid = sid ≡ j.far
+
+-- A datagram in a session's context goes under the far ID of a session that is held, in the
+-- direction away from this end.
+abbrev pub InSession : Setup → List Fact → ℕ → Context → Type 0
+InSession setup facts sid Startup = Unit {0}
+InSession setup facts sid (Session ni nr fp_i fp_r sid_i sid_r to_responder) =
+    (thing : Held) × (near : ℕ) × HeldUnder facts near thing ×
+      (Session ni nr fp_i fp_r sid_i sid_r to_responder ≡ outward (own_of setup) thing) ×
+      IsFarOf thing sid
+
+pub record OutLine (setup : Setup) (past : List Stamped) (sent : List ℕ) (context : Context)
+    : Type 0 where
+  pub sid : ℕ
+  pub number : List ℕ
+  pub plain : List ℕ
+  pub numbered : length number ≡ 16
+  pub is : sent ≡ datagram sid (sealed_in setup.secret context sid number plain)
+  pub once : AsFarAs context (facts_of past) → WasNumbered context number past → ⊥
+  pub keyings : (packet : Whole) → PacketReading plain (Ok packet) →
+      KeyingsAre (λ near cookie cert part sign. KeyingOfAttempt setup context (facts_of past) near
+        cert part) (λ near part sign. KeyingOfBorn setup context (facts_of past) sid near part)
+        packet
+  pub session : InSession setup (facts_of past) sid context
+
+-- ---- the table
+
+abbrev pub Line : Setup → ℕ → Call → List Stamped → List Entry → Entry → Type 0
+Line setup now call past rest (FactEntry fact) =
+    Stands (own_of setup) (count (facts_of past)) (facts_of past) fact ×
+    FactLine setup now call past rest fact × IsCounted fact
+Line setup now call past rest (Discard place cause) = Unit {0}
+Line setup now call past rest (Out to sent context) = OutLine setup past sent context
+
+-- the entries of an event, in order
+abbrev pub EntriesLawful : Setup → ℕ → Call → List Stamped → List Entry → Type 0
+EntriesLawful setup now call past [] = Unit {0}
+EntriesLawful setup now call past (entry ∷ rest) = Line setup now call past rest entry ×
+    EntriesLawful setup now call (stamped now entry ∷ past) rest
+
+-- the events of a log, the oldest first, after what was done before
+abbrev pub LawfulFrom : Setup → ℕ → List Stamped → List Event → Type 0
+LawfulFrom setup last past [] = Unit {0}
+LawfulFrom setup last past (e ∷ events) =
+    EntriesLawful setup (moment_at last e) e.call past e.entries ×
+      LawfulFrom setup (moment_at last e) (onto (moment_at last e) e.entries past) events
+
+abbrev pub IsLawful : Setup → List Event → Type 0
+IsLawful setup log = LawfulFrom setup 0 [] log

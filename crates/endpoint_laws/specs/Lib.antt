@@ -1,0 +1,10 @@
+pub mod Past
+pub mod Contexts
+pub mod Admissible
+pub mod Lawful
+pub mod History
+pub mod Laws
+pub mod OfTheLog
+pub mod Agreed
+pub mod OpensIn
+pub mod Complete

@@ -1,0 +1,102 @@
+-- What an end keeps is what its log says.
+use Rattle.std.specs.Prelude.{ℕ, ◌≡◌, List, [], length, Some}
+use Rattle.std.specs.List.{list_any}
+use Rattle.std.specs.Str.{bytes_eq}
+use Rattle.std.specs.FinMap.{get}
+use Rattle.glare_core.specs.declared.facts.Fact.{Fact}
+use Rattle.glare_core.specs.declared.facts.Fact.TheVariants.{Started}
+use Rattle.glare_core.specs.declared.facts.Held.{Held}
+use Rattle.glare_core.specs.declared.facts.Held.TheVariants.{Opening as AttemptHeld, HalfOpen,
+    KeptAsResponder, KeptAsInitiator}
+use Rattle.glare_core.specs.declared.facts.Joined.{Joined}
+use Rattle.glare_core.specs.Standing.{held, seen, count, peers_in}
+use Rattle.glare_core.specs.Things.{IsSession, near_of}
+use Rattle.glare_core.specs.Ledger.{held_with, floor_of, knows, row_count}
+use Rattle.startup.specs.State.{AttemptState}
+use Rattle.session_core.specs.declared.stage.Role.{Role}
+use Rattle.session_core.specs.declared.stage.Role.TheVariants.{Initiator, Responder}
+use Rattle.session_core.specs.declared.stage.Stage.{Stage}
+use Rattle.session_core.specs.declared.stage.Stage.TheVariants.{Opening, Open, NearClose, FarLinger,
+    Closed}
+use Rattle.session_core.specs.Session.{SessionState}
+use Rattle.endpoint_model.specs.declared.entry.Entry.TheVariants.{Fact as FactEntry}
+use Rattle.endpoint_model.specs.Event.{Setup, own_of, Event}
+use Rattle.endpoint_laws.specs.Past.{Stamped, stamped, facts_of, ids_in_use, is_in_use, WasDone, past_of,
+    last_moment}
+use Rattle.endpoint_model.specs.State.{State, uses, is_used}
+use Rattle.endpoint_model.specs.Log.{StandsFor}
+use Rattle.endpoint_laws.specs.Laws.{IsSetup, AreCalls}
+
+-- The session with this role and stage is that thing: a session that was opened here is open, and
+-- one that was born here is half-open until it is confirmed, and open then. No end closes sessions
+-- yet.
+abbrev pub IsThing : Role → Stage → Joined → Held → Type 0
+IsThing Initiator Opening j thing = ⊥
+IsThing Initiator Open j thing = thing ≡ KeptAsInitiator j
+IsThing Initiator NearClose j thing = ⊥
+IsThing Initiator FarLinger j thing = ⊥
+IsThing Initiator Closed j thing = ⊥
+IsThing Responder Opening j thing = thing ≡ HalfOpen j
+IsThing Responder Open j thing = thing ≡ KeptAsResponder j
+IsThing Responder NearClose j thing = ⊥
+IsThing Responder FarLinger j thing = ⊥
+IsThing Responder Closed j thing = ⊥
+
+-- The attempt under this session ID is held with its peer, and was started at its moment.
+pub record AttemptIsHeld (past : List Stamped) (near : ℕ) (a : AttemptState) : Type 0 where
+  pub is_held : held a.peer (facts_of past) ≡ Some (AttemptHeld a.n near a.ni)
+  pub started : WasDone (stamped a.start (FactEntry (Started a.peer a.n near a.ni))) past
+
+-- An attempt that is held is there under its session ID.
+pub record AttemptIsThere (s : State) (peer : List ℕ) (n near : ℕ) (ni : List ℕ) : Type 0 where
+  pub attempt : AttemptState
+  pub there : get s.startup.attempts near ≡ Some attempt
+  pub peer_is : attempt.peer ≡ peer
+  pub n_is : attempt.n ≡ n
+  pub ni_is : attempt.ni ≡ ni
+
+-- The session under this session ID is held with its peer, in its stage.
+pub record SessionIsHeld (setup : Setup) (facts : List Fact) (near : ℕ) (session : SessionState)
+    : Type 0 where
+  pub thing : Held
+  pub is : IsThing session.role session.stage session.joined thing
+  pub is_held : held session.joined.peer facts ≡ Some thing
+  pub id : session.joined.near ≡ near
+  pub own : session.own ≡ own_of setup
+
+-- A session that is held is there under its session ID, in its stage.
+pub record SessionIsThere (s : State) (thing : Held) : Type 0 where
+  pub session : SessionState
+  pub there : get s.sessions (near_of thing) ≡ Some session
+  pub is : IsThing session.role session.stage session.joined thing
+
+pub record IsOfTheLog (setup : Setup) (s : State) (now : ℕ) (past : List Stamped) : Type 0 where
+  pub moment : s.moment ≡ now
+  -- the session IDs in use, and how many there are
+  pub ids : (near : ℕ) → is_used s near ≡ is_in_use near (facts_of past)
+  pub uses_are : uses s ≡ length (ids_in_use (facts_of past))
+  -- the attempts
+  pub attempts : (near : ℕ) (a : AttemptState) → get s.startup.attempts near ≡ Some a →
+    AttemptIsHeld past near a
+  pub attempts_there : (peer : List ℕ) (n near : ℕ) (ni : List ℕ) →
+    held peer (facts_of past) ≡ Some (AttemptHeld n near ni) → AttemptIsThere s peer n near ni
+  -- the sessions, with their stages
+  pub sessions : (near : ℕ) (session : SessionState) → get s.sessions near ≡ Some session →
+    SessionIsHeld setup (facts_of past) near session
+  pub sessions_there : (peer : List ℕ) (thing : Held) → held peer (facts_of past) ≡ Some thing →
+    IsSession thing → SessionIsThere s thing
+  -- what is held with each peer, the greatest number seen of it, and whether it has a row
+  pub held_is : (peer : List ℕ) → held_with s.startup.ledger peer ≡ held peer (facts_of past)
+  pub floor_is : (peer : List ℕ) → floor_of s.startup.ledger peer ≡ seen peer (facts_of past)
+  pub row_is : (peer : List ℕ) → knows s.startup.ledger peer
+    ≡ list_any (bytes_eq peer) (peers_in (facts_of past))
+  -- how many rows there are, and how many attempts were started
+  pub rows_are : row_count s.startup.ledger ≡ length (peers_in (facts_of past))
+  pub count_is : s.startup.ledger.started ≡ count (facts_of past)
+
+-- The session IDs in use, the stages and the rows of an end are those of whatever log it stands
+-- for.
+abbrev pub TheStateIsOfTheLog : Type 0
+TheStateIsOfTheLog = (setup : Setup) (log : List Event) (s : State) → IsSetup setup → AreCalls log →
+    StandsFor setup log s
+    → IsOfTheLog setup s (last_moment 0 log) (past_of 0 [] log)

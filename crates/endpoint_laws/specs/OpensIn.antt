@@ -1,0 +1,78 @@
+-- The context in which a datagram opens at an end.
+use Rattle.std.specs.Prelude.{ℕ, ◌≡◌, nat_lt, false, if◌then◌else◌, List, [], length, drop, Option,
+    Some, None}
+use Rattle.std.specs.FinMap.{get}
+use Rattle.crypto_profile.specs.declared.keys.Context.{Context}
+use Rattle.crypto_profile.specs.declared.keys.Context.TheVariants.{Startup as StartupContext}
+use Rattle.crypto_profile.specs.declared.sealing.SealFault.{SealFault}
+use Rattle.crypto_profile.specs.Opening.{open_refusal}
+use Rattle.packet_scramble.specs.Datagram.{sid_of}
+use Rattle.session_core.specs.Session.{SessionState, context_of}
+use Rattle.session_core.specs.Hearing.{opens_in as opens_in_session}
+use Rattle.glare_core.specs.declared.facts.Fact.{Fact}
+use Rattle.endpoint_model.specs.declared.place.Place.{Place}
+use Rattle.endpoint_model.specs.declared.place.Place.TheVariants.{Startup, Attempt, Session}
+use Rattle.endpoint_model.specs.Event.{Setup, Event, own_of}
+use Rattle.endpoint_laws.specs.Past.{facts_of, past_of}
+use Rattle.endpoint_laws.specs.Contexts.{ContextOf, OpensUnder}
+use Rattle.endpoint_model.specs.State.{State}
+use Rattle.endpoint_model.specs.Admission.{place_of, startup_keys}
+use Rattle.endpoint_model.specs.Log.{StandsFor}
+use Rattle.endpoint_laws.specs.Laws.{IsSetup, AreCalls}
+
+-- ---- by what is kept
+
+abbrev pub startup_unless : Option SealFault → Option Context
+startup_unless None = Some StartupContext
+startup_unless (Some fault) = None
+
+-- the startup context, where a sealed part opens in it under this session ID
+abbrev pub context_in_startup : State → ℕ → List ℕ → Option Context
+context_in_startup s sid part = startup_unless (open_refusal (startup_keys s) sid part)
+
+-- The context of a session towards this end, where a sealed part opens in it. The numbers taken
+-- before don't count.
+abbrev pub context_in_session : Option SessionState → List ℕ → Option Context
+context_in_session None part = None
+context_in_session (Some session) part = if opens_in_session session part then
+    Some (context_of session false) else None
+
+abbrev pub context_at : State → Place → List ℕ → Option Context
+context_at s Startup part = context_in_startup s 0 part
+context_at s (Attempt near) part = context_in_startup s near part
+context_at s (Session near) part = context_in_session (get s.sessions near) part
+
+abbrev pub context_found : State → Option Place → List ℕ → Option Context
+context_found s None part = None
+context_found s (Some place) part = context_at s place part
+
+-- The context of the datagram's session ID, where the datagram opens in it. A datagram of fewer
+-- than 36 bytes opens in none.
+abbrev pub opens_in : State → List ℕ → Option Context
+opens_in s datagram = if nat_lt (length datagram) 36 then None
+    else context_found s (place_of s (sid_of datagram)) (drop 4 datagram)
+
+-- ---- by what was stated
+
+-- At an end that stated these facts the context is that of the datagram's session ID, and the
+-- datagram opens in it.
+pub record OpensAt (setup : Setup) (facts : List Fact) (datagram : List ℕ) (context : Context)
+    : Type 0 where
+  pub named : ContextOf (own_of setup) facts (sid_of datagram) context
+  pub plain : List ℕ
+  pub opens : OpensUnder setup.secret context (sid_of datagram) datagram plain
+
+-- The answer is the context in which the datagram opens at an end with this log, and None where it
+-- opens in none.
+pub record IsContextAt (setup : Setup) (log : List Event) (datagram : List ℕ)
+    (answer : Option Context) : Type 0 where
+  pub opens : (context : Context) → answer ≡ Some context →
+    OpensAt setup (facts_of (past_of 0 [] log)) datagram context
+  pub all : (context : Context) → OpensAt setup (facts_of (past_of 0 [] log)) datagram context →
+    answer ≡ Some context
+
+-- It is so for every log that the end stands for.
+abbrev pub OpensByTheLog : State → List ℕ → Option Context → Type 0
+OpensByTheLog s datagram answer =
+    (setup : Setup) (log : List Event) → IsSetup setup → AreCalls log → StandsFor setup log s →
+      IsContextAt setup log datagram answer

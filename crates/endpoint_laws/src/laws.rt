@@ -1,0 +1,57 @@
+//! What holds of every log that an end can stand for, and of every history of many ends. The
+//! functions do nothing: the contract of each is its law.
+
+ghost use Rattle.endpoint_laws.specs.Agreed.{EveryLawfulHistoryIsAgreed, EachEndStatesItsLog,
+    EachPrefixIsAMoment, LogsKeepTheSame};
+ghost use Rattle.endpoint_laws.specs.Complete.{AdmissibleKeyingsBear, KeyingsWithoutCauseOpen};
+ghost use Rattle.endpoint_laws.specs.Laws.{EveryLogIsLawful, TheLedgerIsOfTheLog, UsesAreWithin};
+ghost use Rattle.endpoint_laws.specs.OfTheLog.{TheStateIsOfTheLog};
+
+/// Each log that an end stands for is lawful: each of its entries meets its line of the table.
+pub fn every_log_is_lawful()
+    ensures { EveryLogIsLawful }
+{}
+
+/// What an end holds and counts is what the facts of its log say, and each of these facts is
+/// lawful.
+pub fn ledger_of_the_log()
+    ensures { TheLedgerIsOfTheLog }
+{}
+
+/// What an end keeps is what its log says: the session IDs in use, the attempts, the sessions with
+/// their stages, the rows of its peers, and its moment.
+pub fn state_of_the_log()
+    ensures { TheStateIsOfTheLog }
+{}
+
+/// There are never more attempts and sessions than may be.
+pub fn uses_are_within()
+    ensures { UsesAreWithin }
+{}
+
+/// Each history of ends of one group that is lawful, honest and fresh is agreed: at each moment,
+/// what its ends stated of their sessions with each other fits together.
+pub fn agreed()
+    ensures { EveryLawfulHistoryIsAgreed }
+{}
+
+/// What a history's list of facts, of which agreement speaks, has to do with the logs of its ends.
+pub fn agreed_logs()
+    ensures stated { EachEndStatesItsLog }
+    ensures moments { EachPrefixIsAMoment }
+    ensures kept { LogsKeepTheSame }
+{}
+
+/// Where an end takes a datagram whose first initiator's keying is admissible by its log, and goes
+/// through that keying before memory is wanting, the session is born in that call, and its keying
+/// goes out directly after the Born.
+pub fn admissible_keyings_bear()
+    ensures { AdmissibleKeyingsBear }
+{}
+
+/// Where an end takes a datagram under the session ID of an attempt, and goes through a responder's
+/// keying that nothing discards, the attempt's session is opened in that call, and a ping without
+/// bytes goes out in it directly after the Opened.
+pub fn keyings_without_cause_open()
+    ensures { KeyingsWithoutCauseOpen }
+{}

@@ -1,0 +1,5 @@
+pub mod Parts
+pub mod Steps
+pub mod Members
+pub mod Ids
+pub mod Reading

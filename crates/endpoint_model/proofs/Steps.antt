@@ -1,0 +1,149 @@
+-- One thing after another.
+use Rattle.std.proofs.Common.{ℕ, ◌≡◌, ◌≤◌, ◌+◌, ◌==◌, List, [], ◌∷◌, ◌++◌, Bool, true, false, length, if◌then◌else◌, sym, ap, refl, ◌∙◌, subst, arith, append_assoc, length-append, zero, suc, take, drop, add-one}
+use Rattle.std.proofs.lemmas.List.{append-nil, take-append-drop}
+use Rattle.rtmfp_forms.specs.Address.{AddressParts}
+use Rattle.endpoint_model.specs.declared.entry.Entry.{Entry}
+use Rattle.endpoint_model.specs.declared.entry.Entry.TheVariants.{Out}
+use Rattle.crypto_profile.specs.declared.keys.Context.TheVariants.{Startup}
+use Rattle.rtmfp_packet.specs.Walk.{Placed}
+use Rattle.endpoint_model.specs.declared.config.Draws.{Draws}
+use Rattle.endpoint_model.specs.declared.place.Place.{Place}
+use Rattle.endpoint_model.specs.Added.{Added}
+use Rattle.endpoint_model.specs.Due.{chunk_did, chunks_did, keyed_after}
+use Rattle.endpoint_model.specs.State.{State, Did, Done, nothing, after_entries, then_do, with_sealed}
+use Rattle.endpoint_model.specs.Sending.{last_count, sent_each, sent_startup, startup_datagram}
+
+-- ---- what is done
+
+-- the same thing with its entries written in another way
+same_entries : (state : State) (xs ys : List Entry) → xs ≡ ys → ◌≡◌ {A = Did} (record { state = state; entries = xs }) (record { state = state; entries = ys })
+same_entries state xs ys e = let with : List Entry → Did = λ entries. record { state = state; entries = entries } in ap with e
+
+pub then_nothing : (d : Did) → then_do d nothing ≡ d
+then_nothing d = same_entries d.state (d.entries ++ []) d.entries (append-nil d.entries)
+
+pub then_then : (d : Did) (next last : State → Did) → then_do (then_do d next) last ≡ then_do d (λ t. then_do (next t) last)
+then_then d next last =
+    same_entries (last (next d.state).state).state _ _ (append_assoc d.entries (next d.state).entries (last (next d.state).state).entries)
+
+-- ---- added to an outbox
+
+-- nothing was done
+pub done_nothing : (s : State) (out : Added) → Done (nothing s) s out out
+done_nothing s out = record {
+  state = refl;
+  entries = sym (append-nil out.entries);
+  free = omega arith;
+  room = refl;
+}
+
+-- a thing, and then another in the state that it left
+pub joined : (d : Did) (next : State → Did) (middle new : State) (before between after : Added) →
+    Done d middle before between → Done (next middle) new between after → Done (then_do d next) new before after
+joined d next middle new before between after first second =
+    let same : next middle ≡ next d.state = ap next first.state in
+    record {
+      state = second.state ∙ ap (λ (e : Did). e.state) same;
+      entries =
+          second.entries ∙ ap (λ (e : Did). between.entries ++ e.entries) same ∙ ap (λ xs. xs ++ (next d.state).entries) first.entries
+          ∙ append_assoc before.entries d.entries (next d.state).entries;
+      free = omega (arith, first.free, second.free, ap (λ (e : Did). length e.entries) same, length-append d.entries (next d.state).entries);
+      room = second.room ∙ first.room;
+    }
+
+-- ---- sending to several addresses
+
+pub each_more : (s : State) (plain : List ℕ) (places : List AddressParts) (to : AddressParts) →
+    sent_each s plain (places ++ to ∷ []) ≡ then_do (sent_each s plain places) (λ t. sent_startup t to 0 plain)
+each_more s plain [] to = then_nothing (sent_startup s to 0 plain)
+each_more s plain (first ∷ rest) to =
+    let d : Did = sent_startup s first 0 plain in
+    ap (after_entries d.entries) (each_more d.state plain rest to) ∙ sym (then_then d (λ t. sent_each t plain rest) (λ t. sent_startup t to 0 plain))
+
+one_at_most : (b : Bool) (s : State) (entry : Entry) → length (if b then nothing s else record { state = with_sealed s (s.sealed + 1); entries = entry ∷ [] }).entries ≤ 1
+one_at_most true s entry = omega arith
+one_at_most false s entry = omega arith
+
+-- a startup packet is one entry, or none
+pub startup_entry : (s : State) (to : AddressParts) (sid : ℕ) (plain : List ℕ) → length (sent_startup s to sid plain).entries ≤ 1
+startup_entry s to sid plain = one_at_most (s.sealed == last_count) s (Out to (startup_datagram s sid plain) Startup)
+
+-- ---- the chunks of a datagram, one more
+
+-- whether a keying was among these chunks, or before them
+abbrev pub keyed_through : Bool → List Placed → Bool
+keyed_through keyed_before [] = keyed_before
+keyed_through keyed_before (c ∷ cs) = keyed_through (keyed_after keyed_before c) cs
+
+pub keyed_more : (keyed_before : Bool) (cs : List Placed) (c : Placed) → keyed_through keyed_before (cs ++ c ∷ []) ≡ keyed_after (keyed_through keyed_before cs) c
+keyed_more keyed_before [] c = refl
+keyed_more keyed_before (d ∷ cs) c = keyed_more (keyed_after keyed_before d) cs c
+
+pub chunks_more : (place : Place) (from : AddressParts) (draws : Draws) (keyed_before : Bool) (s : State) (cs : List Placed) (c : Placed) →
+    chunks_did place from draws keyed_before s (cs ++ c ∷ [])
+    ≡ then_do (chunks_did place from draws keyed_before s cs) (λ t. chunk_did place from draws (keyed_through keyed_before cs) t c)
+chunks_more place from draws keyed_before s [] c = then_nothing (chunk_did place from draws keyed_before s c)
+chunks_more place from draws keyed_before s (d ∷ cs) c =
+    let first : Did = chunk_did place from draws keyed_before s d in
+    ap (after_entries first.entries) (chunks_more place from draws (keyed_after keyed_before d) first.state cs c)
+    ∙ sym (then_then first (λ t. chunks_did place from draws (keyed_after keyed_before d) t cs) (λ t. chunk_did place from draws (keyed_through (keyed_after keyed_before d) cs) t c))
+
+-- ---- how far a list was gone through
+
+take_suc : {A : Type 0} (k : ℕ) (xs : List A) (x : A) (rest : List A) → drop k xs ≡ x ∷ rest → take (suc k) xs ≡ take k xs ++ x ∷ []
+take_suc zero [] x rest h = absurd (cc)
+take_suc zero (y ∷ ys) x rest h = let e : y ≡ x = cc in ap (λ z. z ∷ []) e
+take_suc (suc k) [] x rest h = absurd (cc)
+take_suc (suc k) (y ∷ ys) x rest h = ap (λ zs. y ∷ zs) (take_suc k ys x rest h)
+
+drop_suc : {A : Type 0} (k : ℕ) (xs : List A) (x : A) (rest : List A) → drop k xs ≡ x ∷ rest → drop (suc k) xs ≡ rest
+drop_suc zero [] x rest h = absurd (cc)
+drop_suc zero (y ∷ ys) x rest h = cc
+drop_suc (suc k) [] x rest h = absurd (cc)
+drop_suc (suc k) (y ∷ ys) x rest h = drop_suc k ys x rest h
+
+pub take_one : {A : Type 0} (k : ℕ) (xs : List A) (x : A) (rest : List A) → drop k xs ≡ x ∷ rest → take (k + 1) xs ≡ take k xs ++ x ∷ []
+take_one k xs x rest h = rw add-one (take_suc k xs x rest h)
+
+pub drop_one : {A : Type 0} (k : ℕ) (xs : List A) (x : A) (rest : List A) → drop k xs ≡ x ∷ rest → drop (k + 1) xs ≡ rest
+drop_one k xs x rest h = rw add-one (drop_suc k xs x rest h)
+
+pub take_whole : {A : Type 0} (k : ℕ) (xs : List A) → drop k xs ≡ [] → take k xs ≡ xs
+take_whole k xs h = sym (append-nil (take k xs)) ∙ ap (λ ys. take k xs ++ ys) (sym h) ∙ take-append-drop k xs
+
+-- ---- how far the chunks of a datagram were gone through
+
+-- So many of these chunks were gone through, which brought the end from s to t, and the rest are left.
+pub record IsGone (place : Place) (from : AddressParts) (draws : Draws) (s : State) (all : List Placed) (before : Added) (count : ℕ) (keyed : Bool) (rest : List Placed) (t : State) (after : Added) : Type 0 where
+  pub left_are : drop count all ≡ rest
+  pub keyed_is : keyed ≡ keyed_through false (take count all)
+  pub done : Done (chunks_did place from draws false s (take count all)) t before after
+
+pub none_gone : (place : Place) (from : AddressParts) (draws : Draws) (s : State) (all : List Placed) (out : Added) → IsGone place from draws s all out 0 false all s out
+none_gone place from draws s all out = record { left_are = refl; keyed_is = refl; done = done_nothing s out }
+
+pub one_gone : (place : Place) (from : AddressParts) (draws : Draws) (s t new : State) (all : List Placed) (before between after : Added) (count : ℕ) (keyed : Bool) (c : Placed) (rest : List Placed) →
+    IsGone place from draws s all before count keyed (c ∷ rest) t between → Done (chunk_did place from draws keyed t c) new between after →
+    IsGone place from draws s all before (count + 1) (keyed_after keyed c) rest new after
+one_gone place from draws s t new all before between after count keyed c rest gone done =
+    let taken : take (count + 1) all ≡ take count all ++ c ∷ [] = take_one count all c rest gone.left_are in
+    let first : Did = chunks_did place from draws false s (take count all) in
+    let next : State → Did = λ u. chunk_did place from draws (keyed_through false (take count all)) u c in
+    let same : then_do first next ≡ chunks_did place from draws false s (take (count + 1) all) =
+    sym (chunks_more place from draws false s (take count all) c) ∙ ap (chunks_did place from draws false s) (sym taken) in
+    let did : Done (next t) new between after = subst (λ k. Done (chunk_did place from draws k t c) new between after) gone.keyed_is done in
+    record {
+      left_are = drop_one count all c rest gone.left_are;
+      keyed_is = ap (λ k. keyed_after k c) gone.keyed_is ∙ sym (keyed_more false (take count all) c) ∙ ap (keyed_through false) (sym taken);
+      done = subst (λ d. Done d new before after) same (joined first next t new before between after gone.done did);
+    }
+
+pub all_gone : (place : Place) (from : AddressParts) (draws : Draws) (s t : State) (all : List Placed) (before after : Added) (count : ℕ) (keyed : Bool) →
+    IsGone place from draws s all before count keyed [] t after → Done (chunks_did place from draws false s all) t before after
+all_gone place from draws s t all before after count keyed gone =
+    subst (λ cs. Done (chunks_did place from draws false s cs) t before after) (take_whole count all gone.left_are) gone.done
+
+-- a thing, and then nothing
+pub done_still : (d : Did) (middle new : State) (before between after : Added) → Done d middle before between → Done (nothing middle) new between after → Done d new before after
+done_still d middle new before between after first second =
+    subst (λ e. Done e new before after) (then_nothing d) (joined d nothing middle new before between after first second)

@@ -1,0 +1,230 @@
+-- How a datagram is taken, or refused as a whole.
+use Rattle.std.specs.Prelude.{ℕ, ◌+◌, ◌-◌, ◌*◌, ◌%◌, ◌==◌, nat_lt, Bool, true, false, if◌then◌else◌,
+    List, [], ◌∷◌, length, drop, Option, Some, None, Result, Ok, Err}
+use Rattle.std.specs.FinMap.{get, contains_key}
+use Rattle.crypto_profile.specs.declared.keys.Context.TheVariants.{Startup as StartupContext}
+use Rattle.crypto_profile.specs.declared.sealing.SealFault.{SealFault}
+use Rattle.crypto_profile.specs.Keys.{Keys, keys_of}
+use Rattle.crypto_profile.specs.Opening.{open_refusal, plain_of}
+use Rattle.packet_scramble.specs.Datagram.{sid_of}
+use Rattle.rtmfp_packet.specs.declared.head.PacketHead.{PacketHead}
+use Rattle.rtmfp_packet.specs.declared.head.PacketFault.{PacketFault}
+use Rattle.rtmfp_packet.specs.declared.head.PacketFault.TheVariants.{Empty, ModeZero, ShortStamp}
+use Rattle.rtmfp_packet.specs.declared.head.Mode.{Mode}
+use Rattle.rtmfp_packet.specs.declared.head.Mode.TheVariants.{Initiator as FromInitiator,
+    Responder as FromResponder, Startup as FromStartup}
+use Rattle.rtmfp_packet.specs.Head.{flag, mode_number}
+use Rattle.rtmfp_packet.specs.Walk.{body_of}
+use Rattle.rtmfp_packet.specs.Whole.{Whole}
+use Rattle.startup.specs.declared.cause.Cause.{Cause}
+use Rattle.startup.specs.declared.cause.Cause.TheVariants.{Short, UnknownSession, BadTag, Repeated,
+    BadPacket, WrongPlace}
+use Rattle.session_core.specs.declared.stage.Role.{Role}
+use Rattle.session_core.specs.declared.stage.Role.TheVariants.{Initiator, Responder}
+use Rattle.session_core.specs.declared.hearing.Unheard.{Unheard}
+use Rattle.session_core.specs.declared.hearing.Unheard.TheVariants.{Short as ShortPart,
+    BadTag as WrongTag, Repeated as OldNumber}
+use Rattle.session_core.specs.Session.{SessionState, with_stamps, is_opening, confirmed}
+use Rattle.session_core.specs.Hearing.{unheard, inward_keys, counted}
+use Rattle.startup.specs.Attempts.{confirm_fact, after_confirm}
+use Rattle.endpoint_model.specs.declared.place.Place.{Place}
+use Rattle.endpoint_model.specs.declared.place.Place.TheVariants.{Startup, Attempt, Session}
+use Rattle.endpoint_model.specs.State.{State, Did, nothing, fact_entries, with_session, with_startup}
+
+-- ---- how a plain packet reads, as one function
+
+-- the mode that the flags name
+abbrev pub mode_in : ℕ → Option Mode
+mode_in flags =
+    if flags % 4 == 1 then Some FromInitiator
+    else if flags % 4 == 2 then Some FromResponder
+    else if flags % 4 == 3 then Some FromStartup
+    else None
+
+-- a timestamp or an echo of two bytes where it is flagged, and what follows it; none where it isn't
+-- there whole
+abbrev pub stamp_in : Bool → List ℕ → Option (Option ℕ × List ℕ)
+stamp_in false bytes = Some (None, bytes)
+stamp_in true [] = None
+stamp_in true (high ∷ []) = None
+stamp_in true (high ∷ low ∷ rest) = Some (Some (high * 256 + low), rest)
+
+-- the packet of a head and of what follows it
+abbrev pub whole_from : List ℕ → PacketHead → List ℕ → Whole
+whole_from bytes head body = record { head = head; start = length bytes - length body;
+    chunks = (body_of body).chunks; padding = (body_of body).padding }
+
+abbrev pub with_echo : List ℕ → ℕ → Mode → Option ℕ → Option (Option ℕ × List ℕ) →
+    Result Whole PacketFault
+with_echo bytes flags mode stamp None = Err ShortStamp
+with_echo bytes flags mode stamp (Some echo) =
+    Ok (whole_from bytes (record { critical = flag flags 7; reverse = flag flags 6; stamp = stamp;
+      echo = echo.0; mode = mode }) echo.1)
+
+abbrev pub with_stamp : List ℕ → ℕ → Mode → Option (Option ℕ × List ℕ) → Result Whole PacketFault
+with_stamp bytes flags mode None = Err ShortStamp
+with_stamp bytes flags mode (Some stamp) = with_echo bytes flags mode stamp.0
+    (stamp_in (flag flags 2) stamp.1)
+
+abbrev pub with_mode : List ℕ → ℕ → List ℕ → Option Mode → Result Whole PacketFault
+with_mode bytes flags rest None = Err ModeZero
+with_mode bytes flags rest (Some mode) = with_stamp bytes flags mode (stamp_in (flag flags 3) rest)
+
+unfoldable pub packet_in : List ℕ → Result Whole PacketFault
+packet_in [] = Err Empty
+packet_in (flags ∷ rest) = with_mode (flags ∷ rest) flags rest (mode_in flags)
+
+-- ---- where a datagram belongs
+
+abbrev pub place_of : State → ℕ → Option Place
+place_of s sid =
+    if sid == 0 then Some Startup
+    else if contains_key s.startup.attempts sid then Some (Attempt sid)
+    else if contains_key s.sessions sid then Some (Session sid)
+    else None
+
+-- the session ID of a place
+abbrev pub sid_at : Place → ℕ
+sid_at Startup = 0
+sid_at (Attempt near) = near
+sid_at (Session near) = near
+
+-- ---- how it opens
+
+-- the keys of startup packets
+abbrev pub startup_keys : State → Keys
+startup_keys s = keys_of s.startup.secret StartupContext
+
+abbrev pub opened_by : Keys → List ℕ → Option SealFault → Result (List ℕ) Cause
+opened_by keys part None = Ok (plain_of keys part)
+opened_by keys part (Some fault) = Err BadTag
+
+abbrev pub opened_in_startup : State → ℕ → List ℕ → Result (List ℕ) Cause
+opened_in_startup s sid part = opened_by (startup_keys s) part
+    (open_refusal (startup_keys s) sid part)
+
+abbrev pub heard_by : SessionState → List ℕ → Option Unheard → Result (List ℕ) Cause
+heard_by session part None = Ok (plain_of (inward_keys session) part)
+heard_by session part (Some ShortPart) = Err Short
+heard_by session part (Some WrongTag) = Err BadTag
+heard_by session part (Some OldNumber) = Err Repeated
+
+abbrev pub heard_in : Option SessionState → List ℕ → Result (List ℕ) Cause
+heard_in None part = Err UnknownSession
+heard_in (Some session) part = heard_by session part (unheard session part)
+
+-- the plain packet of a sealed part at a place, or why it has none
+abbrev pub opened_at : State → Place → List ℕ → Result (List ℕ) Cause
+opened_at s Startup part = opened_in_startup s 0 part
+opened_at s (Attempt near) part = opened_in_startup s near part
+opened_at s (Session near) part = heard_in (get s.sessions near) part
+
+abbrev pub placed : Place → Result (List ℕ) Cause → Result (Place × List ℕ) Cause
+placed place (Ok plain) = Ok (place, plain)
+placed place (Err cause) = Err cause
+
+abbrev pub opened_found : State → Option Place → List ℕ → Result (Place × List ℕ) Cause
+opened_found s None part = Err UnknownSession
+opened_found s (Some place) part = placed place (opened_at s place part)
+
+-- The place and the plain packet of a datagram. It has 4 bytes of its session ID, and 32 before the
+-- ciphertext.
+abbrev pub opened_datagram : State → List ℕ → Result (Place × List ℕ) Cause
+opened_datagram s datagram = if nat_lt (length datagram) 36 then Err Short
+    else opened_found s (place_of s (sid_of datagram)) (drop 4 datagram)
+
+-- ---- what it leaves before its chunks
+
+abbrev pub counted_by : State → ℕ → List ℕ → Option SessionState → State
+counted_by s near part None = s
+counted_by s near part (Some session) = with_session s near (counted session part)
+
+abbrev pub counted_at : State → Place → List ℕ → State
+counted_at s Startup part = s
+counted_at s (Attempt near) part = s
+counted_at s (Session near) part = counted_by s near part (get s.sessions near)
+
+abbrev pub timed_by : State → ℕ → PacketHead → Option SessionState → State
+timed_by s near head None = s
+timed_by s near head (Some session) = with_session s near (with_stamps head s.moment session)
+
+abbrev pub timed_at : State → Place → PacketHead → State
+timed_at s Startup head = s
+timed_at s (Attempt near) head = s
+timed_at s (Session near) head = timed_by s near head (get s.sessions near)
+
+-- a half-open session is confirmed
+abbrev pub confirming_by : State → ℕ → Option SessionState → Did
+confirming_by s near None = nothing s
+confirming_by s near (Some session) =
+    if is_opening session.stage
+    then record {
+      state = with_session (with_startup s (after_confirm s.startup session.joined.peer)) near
+        (confirmed session);
+      entries = fact_entries (confirm_fact s.startup session.joined.peer);
+    }
+    else nothing s
+
+abbrev pub confirming : State → Place → Did
+confirming s Startup = nothing s
+confirming s (Attempt near) = nothing s
+confirming s (Session near) = confirming_by s near (get s.sessions near)
+
+-- whether that session is half-open
+abbrev pub confirms_by : Option SessionState → Bool
+confirms_by None = false
+confirms_by (Some session) = is_opening session.stage
+
+abbrev pub confirms : State → Place → Bool
+confirms s Startup = false
+confirms s (Attempt near) = false
+confirms s (Session near) = confirms_by (get s.sessions near)
+
+-- ---- all of it
+
+-- the mode that packets have at a place: startup, and in a session that of the peer
+abbrev pub peers_mode : Role → Mode
+peers_mode Initiator = FromResponder
+peers_mode Responder = FromInitiator
+
+abbrev pub mode_by : Option SessionState → Mode
+mode_by None = FromStartup
+mode_by (Some session) = peers_mode session.role
+
+abbrev pub mode_at : State → Place → Mode
+mode_at s Startup = FromStartup
+mode_at s (Attempt near) = FromStartup
+mode_at s (Session near) = mode_by (get s.sessions near)
+
+abbrev pub has_mode : PacketHead → Mode → Bool
+has_mode head mode = mode_number head.mode == mode_number mode
+
+-- A datagram is refused, with what that leaves, or taken at a place, with its packet and with what
+-- that leaves before its chunks.
+pub data Admission : Type 0 where
+  Rejected : (state : State) → (cause : Cause) → Admission
+  Admitted : (state : State) → (place : Place) → (packet : Whole) → Admission
+
+-- a packet that is taken at a place, from a sealed part
+abbrev pub taken_packet : State → Place → List ℕ → Whole → Admission
+taken_packet s place part packet = Admitted (timed_at (counted_at s place part) place packet.head)
+    place packet
+
+abbrev pub fault_number : PacketFault → ℕ
+fault_number Empty = 1
+fault_number ModeZero = 2
+fault_number ShortStamp = 3
+
+abbrev pub admitted_packet : State → Place → Result Whole PacketFault → Admission
+admitted_packet s place (Err fault) = Rejected s (BadPacket (fault_number fault))
+admitted_packet s place (Ok packet) =
+    if has_mode packet.head (mode_at s place) then
+      Admitted (timed_at s place packet.head) place packet else Rejected s WrongPlace
+
+abbrev pub admitted : State → List ℕ → Result (Place × List ℕ) Cause → Admission
+admitted s datagram (Err cause) = Rejected s cause
+admitted s datagram (Ok found) = admitted_packet (counted_at s found.0 (drop 4 datagram)) found.0
+    (packet_in found.1)
+
+abbrev pub admission : State → List ℕ → Admission
+admission s datagram = admitted s datagram (opened_datagram s datagram)

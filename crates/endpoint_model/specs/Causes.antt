@@ -1,0 +1,94 @@
+-- Why a chunk is discarded, in the order of the causes.
+use Rattle.std.specs.Prelude.{ℕ, ◌-◌, ◌==◌, ◌||◌, nat_lt, not, Bool, is_some, if◌then◌else◌, List,
+    [], ◌∷◌, length, Option, Some, None, Result, Ok, Err}
+use Rattle.std.specs.FinMap.{contains_key}
+use Rattle.rtmfp_forms.specs.Address.{AddressParts}
+use Rattle.rtmfp_chunks.specs.declared.reading.ChunkFault.{ChunkFault}
+use Rattle.rtmfp_chunks.specs.declared.reading.ChunkFault.TheVariants.{Unknown,
+    Malformed as BadField}
+use Rattle.rtmfp_chunks.specs.Chunk.{Chunk, IHello, FIHello, RHello, CookieChange, Ping}
+use Rattle.rtmfp_chunks.specs.FieldReading.{chunk_reading}
+use Rattle.rtmfp_packet.specs.Walk.{Placed}
+use Rattle.identity.specs.Certificates.{certificate_fault}
+use Rattle.glare_core.specs.Calls.{where_true, first_that_stands}
+use Rattle.startup.specs.declared.cause.Cause.{Cause}
+use Rattle.startup.specs.declared.cause.Cause.TheVariants.{UnknownChunk, Malformed, WrongPlace,
+    NoAttempt, SecondKeying, Fragment as FragmentCause, Wide}
+use Rattle.startup.specs.Attempts.{rhello_cause, cookie_change_cause}
+use Rattle.startup.specs.Keyings.{keying_fault, initiator_hello_cause, iikeying_cause,
+    rikeying_cause}
+use Rattle.endpoint_model.specs.declared.place.Place.{Place}
+use Rattle.endpoint_model.specs.declared.place.Place.TheVariants.{Startup, Attempt, Session}
+use Rattle.endpoint_model.specs.State.{State, full}
+use Rattle.endpoint_model.specs.Admission.{sid_at}
+
+abbrev pub is_hello : ℕ → Bool
+is_hello kind = (kind == 0x30) || (kind == 0x0f)
+
+-- the chunks that an end reads today
+abbrev pub is_known : ℕ → Bool
+is_known kind =
+    is_hello kind || (kind == 0x70) || (kind == 0x79) || (kind == 0x38) || (kind == 0x78)
+      || (kind == 0x01) || (kind == 0x41) || (kind == 0x7f)
+
+-- The certificate of a responder's hello, which ends a payload of this length, isn't one.
+abbrev pub view_fault : ℕ → Chunk → Option Cause
+view_fault len (RHello tag cookie cert) = where_true (is_some (certificate_fault cert))
+    (Malformed (len - length cert))
+view_fault len chunk = None
+
+-- or a field can't be read
+abbrev pub read_fault : ℕ → Result Chunk ChunkFault → Option Cause
+read_fault len (Ok chunk) = view_fault len chunk
+read_fault len (Err (BadField at)) = Some (Malformed at)
+read_fault len (Err (Unknown kind)) = Some (UnknownChunk kind)
+
+-- the fields and the forms of a chunk
+abbrev pub form_cause : ℕ → List ℕ → Option Cause
+form_cause kind payload =
+    if (kind == 0x38) || (kind == 0x78) then keying_fault kind payload
+      else read_fault (length payload) (chunk_reading kind payload)
+
+-- which chunks a place takes
+abbrev pub takes : Place → ℕ → Bool
+takes Startup kind = (kind == 0x30) || (kind == 0x70) || (kind == 0x79) || (kind == 0x38)
+takes (Attempt near) kind = (kind == 0x79) || (kind == 0x78)
+takes (Session near) kind = (kind == 0x0f) || (kind == 0x01) || (kind == 0x41)
+
+-- the causes of hellos, of changes of cookies and of keyings
+abbrev pub read_cause : State → Place → Result Chunk ChunkFault → Option Cause
+read_cause s place (Ok (IHello epd tag)) = initiator_hello_cause s.startup epd tag
+read_cause s place (Ok (FIHello epd reply tag)) = initiator_hello_cause s.startup epd tag
+read_cause s place (Ok (RHello tag cookie cert)) = rhello_cause s.startup tag cookie cert
+read_cause s place (Ok (CookieChange old new)) =
+    cookie_change_cause s.startup (sid_at place) old new
+read_cause s place (Ok (Ping bytes)) = where_true (nat_lt 1024 (length bytes)) (Wide (length bytes))
+read_cause s place (Ok chunk) = None
+read_cause s place (Err fault) = None
+
+-- A keying after another one of the same datagram.
+abbrev pub initiator_keying_cause : State → Bool → AddressParts → List ℕ → Option Cause
+initiator_keying_cause s keyed_before from payload =
+    if keyed_before then Some SecondKeying else
+      iikeying_cause s.startup payload from s.moment (full s)
+
+-- Once its session is open the attempt isn't there any more.
+abbrev pub responder_keying_cause : State → ℕ → List ℕ → Option Cause
+responder_keying_cause s near payload = if contains_key s.startup.attempts near then
+    rikeying_cause s.startup near payload else Some NoAttempt
+
+abbrev pub last_cause : State → Place → Bool → AddressParts → Placed → Option Cause
+last_cause s place keyed_before from c =
+    if c.kind == 0x38 then initiator_keying_cause s keyed_before from c.payload
+    else if c.kind == 0x78 then responder_keying_cause s (sid_at place) c.payload
+    else read_cause s place (chunk_reading c.kind c.payload)
+
+abbrev pub chunk_cause : State → Place → Bool → AddressParts → Placed → Option Cause
+chunk_cause s place keyed_before from c =
+    first_that_stands (
+    where_true (not (is_known c.kind)) (UnknownChunk c.kind)
+    ∷ form_cause c.kind c.payload
+    ∷ where_true (c.kind == 0x7f) FragmentCause
+    ∷ where_true (not (takes place c.kind)) WrongPlace
+    ∷ last_cause s place keyed_before from c
+    ∷ [])

@@ -1,0 +1,255 @@
+-- What each call of an end does, item by item.
+use Rattle.std.specs.Prelude.{IsSome, ℕ, zero, suc, ◌+◌, ◌⊎◌, ◌==◌, ◌||◌, ◌≡◌, nat_lt, Bool, false,
+    if◌then◌else◌, List, [], ◌∷◌, ◌++◌, length, take, Option, Some, None, Result, Ok, Err}
+use Rattle.std.specs.FinMap.{remove, insert}
+use Rattle.rtmfp_forms.specs.Address.{AddressParts}
+use Rattle.rtmfp_chunks.specs.declared.reading.ChunkFault.{ChunkFault}
+use Rattle.rtmfp_chunks.specs.Chunk.{Chunk, IHello, FIHello, RHello, CookieChange, Ping, PingReply}
+use Rattle.rtmfp_chunks.specs.FieldReading.{chunk_reading}
+use Rattle.rtmfp_packet.specs.Walk.{Placed}
+use Rattle.glare_core.specs.declared.facts.Fact.{Fact}
+use Rattle.glare_core.specs.declared.facts.Fact.TheVariants.{Started, Born, Opened, Confirmed,
+    Ended}
+use Rattle.glare_core.specs.declared.answers.StartRefusal.{StartRefusal}
+use Rattle.glare_core.specs.Calls.{where_true, first_that_stands, start_refusal, started_fact}
+use Rattle.startup.specs.declared.cause.Cause.{Cause}
+use Rattle.startup.specs.declared.answer.Keyed.{Keyed}
+use Rattle.startup.specs.declared.answer.Keyed.TheVariants.{Change, Again, Birth}
+use Rattle.startup.specs.declared.answer.Due.{Due}
+use Rattle.startup.specs.declared.answer.Due.TheVariants.{Ended as EndDue, Hello as HelloDue,
+    Keying as KeyingDue}
+use Rattle.startup.specs.Attempts.{begin_spread, after_begin, cancel_fact, after_cancel,
+    after_rhello, rhello_keying, after_cookie_change, cookie_change_keying}
+use Rattle.startup.specs.Due.{due, after_due}
+use Rattle.startup.specs.Keyings.{initiator_hello_answer, keyed, after_keying, opened,
+    after_opening}
+use Rattle.session_core.specs.declared.stage.Role.TheVariants.{Initiator, Responder}
+use Rattle.session_core.specs.Session.{new_session}
+use Rattle.endpoint_model.specs.declared.config.Draws.{Draws}
+use Rattle.endpoint_model.specs.declared.place.Place.{Place}
+use Rattle.endpoint_model.specs.declared.entry.Entry.TheVariants.{Fact as FactEntry, Discard}
+use Rattle.endpoint_model.specs.declared.answers.OpenRefusal.{OpenRefusal}
+use Rattle.endpoint_model.specs.declared.answers.OpenRefusal.TheVariants.{Candidates, Start, SessionsFull}
+use Rattle.endpoint_model.specs.State.{State, Sessions, Did, nothing, after_entries, then_do,
+    fact_entries, with_startup, with_session, with_sessions, free_from, full}
+use Rattle.endpoint_model.specs.Sending.{sent_answer, sent_if, sent_spread, sent_in_session}
+use Rattle.endpoint_model.specs.Admission.{Admission, Rejected, Admitted, sid_at, confirming, confirms}
+use Rattle.endpoint_model.specs.Causes.{chunk_cause}
+use Rattle.endpoint_model.specs.Keying.{chunks_of}
+
+-- ---- opening an attempt
+
+-- there are none or more than 16 candidates
+abbrev pub candidates_refusal : ℕ → Option OpenRefusal
+candidates_refusal count = where_true ((count == 0) || nat_lt 16 count) (Candidates count)
+
+abbrev pub start_refused : Option StartRefusal → Option OpenRefusal
+start_refused None = None
+start_refused (Some refusal) = Some (Start refusal)
+
+abbrev pub full_refused : Option ℕ → Option OpenRefusal
+full_refused None = None
+full_refused (Some limit) = Some (SessionsFull limit)
+
+-- why no attempt is opened, but for want of memory
+abbrev pub open_refusal : State → List ℕ → List AddressParts → Option OpenRefusal
+open_refusal s peer candidates =
+    first_that_stands (candidates_refusal (length candidates)
+      ∷ start_refused (start_refusal s.startup.ledger peer) ∷ full_refused (full s) ∷ [])
+
+-- a Started, then a hello to each candidate place
+abbrev pub opening : State → List ℕ → List AddressParts → Draws → Did
+opening s peer candidates draws =
+    after_entries
+      (FactEntry (started_fact s.startup.ledger peer (free_from s draws.word) draws.nonce) ∷ [])
+    (sent_spread
+      (with_startup s (after_begin s.startup peer candidates (free_from s draws.word) draws.nonce
+      draws.tag s.moment))
+    (begin_spread s.startup peer candidates draws.nonce draws.tag s.moment))
+
+-- ---- giving one up
+
+abbrev pub cancelling : State → ℕ → Did
+cancelling s n = record { state = with_startup s (after_cancel s.startup n);
+    entries = fact_entries (cancel_fact s.startup n) }
+
+-- ---- time
+
+-- what one thing that is due adds: the end of an attempt, or its hellos or its keying again
+abbrev pub due_done : State → Option Due → Did
+due_done s None = nothing s
+due_done s (Some (EndDue fact)) = record { state = s; entries = FactEntry fact ∷ [] }
+due_done s (Some (HelloDue spread)) = sent_spread s spread
+due_done s (Some (KeyingDue answer)) = sent_answer s answer
+
+-- the first thing that is due, by rising session IDs of the attempts
+abbrev pub tick_once : State → Did
+tick_once s = due_done (with_startup s (after_due s.startup s.moment)) (due s.startup s.moment)
+
+-- so many things of a tick, one after another
+abbrev pub ticks : ℕ → State → Did
+ticks zero s = nothing s
+ticks (suc count) s = then_do (tick_once s) (ticks count)
+
+-- ---- what a chunk does that isn't discarded
+
+-- what a thing that was ended leaves of the sessions
+abbrev pub without_ended : Sessions → Option Fact → Sessions
+without_ended sessions None = sessions
+without_ended sessions (Some (Ended peer near why)) = remove sessions near
+without_ended sessions (Some fact) = sessions
+
+-- the sessions with one that was born, without what ended
+abbrev pub sessions_born : Sessions → Option Fact → Fact → List ℕ → AddressParts → List ℕ → ℕ →
+    Sessions
+sessions_born sessions ended (Started peer n near ni) own from secret moment = sessions
+sessions_born sessions ended (Born j) own from secret moment =
+    insert (without_ended sessions ended) j.near (new_session j own Responder from secret moment)
+sessions_born sessions ended (Opened j) own from secret moment = sessions
+sessions_born sessions ended (Confirmed peer near) own from secret moment = sessions
+sessions_born sessions ended (Ended peer near why) own from secret moment = sessions
+
+-- the session that was born is kept, half-open, at the address that its keying came from
+abbrev pub with_born : State → Option Fact → Fact → AddressParts → State
+with_born s ended (Born j) from =
+    with_sessions s (insert (without_ended s.sessions ended) j.near
+      (new_session j s.startup.ledger.own Responder from s.startup.secret s.moment))
+with_born s ended fact from = s
+
+-- a new cookie; the keying of the held session again; or the facts of a birth, and the session's
+-- keying
+abbrev pub keying_done : State → AddressParts → Option Keyed → Did
+keying_done s from None = nothing s
+keying_done s from (Some (Change answer)) = sent_answer s answer
+keying_done s from (Some (Again answer)) = sent_answer s answer
+keying_done s from (Some (Birth ended born answer)) =
+    after_entries (fact_entries ended ++ FactEntry born ∷ [])
+      (sent_answer (with_born s ended born from) answer)
+
+abbrev pub initiator_keyed : State → AddressParts → Draws → List ℕ → Did
+initiator_keyed s from draws payload =
+    keying_done
+      (with_startup s (after_keying s.startup payload from s.moment (free_from s draws.word)
+      draws.nonce)) from
+    (keyed s.startup payload from s.moment (free_from s draws.word) draws.nonce)
+
+-- the sessions with one that was opened
+abbrev pub sessions_opened : Sessions → Fact → List ℕ → AddressParts → List ℕ → ℕ → Sessions
+sessions_opened sessions (Started peer n near ni) own from secret moment = sessions
+sessions_opened sessions (Born j) own from secret moment = sessions
+sessions_opened sessions (Opened j) own from secret moment =
+    insert sessions j.near (new_session j own Initiator from secret moment)
+sessions_opened sessions (Confirmed peer near) own from secret moment = sessions
+sessions_opened sessions (Ended peer near why) own from secret moment = sessions
+
+-- the session that was opened is kept, at the address that its keying came from
+abbrev pub with_opened : State → ℕ → Fact → AddressParts → State
+with_opened s near (Opened j) from = with_session s near
+    (new_session j s.startup.ledger.own Initiator from s.startup.secret s.moment)
+with_opened s near fact from = s
+
+-- an Opened, then a ping without bytes
+abbrev pub opening_done : State → ℕ → AddressParts → Option Fact → Did
+opening_done s near from None = nothing s
+opening_done s near from (Some fact) =
+    after_entries (FactEntry fact ∷ [])
+    (sent_in_session (with_opened (with_startup s (after_opening s.startup near fact)) near fact
+      from) near from (Ping []))
+
+abbrev pub responder_keyed : State → ℕ → AddressParts → List ℕ → Did
+responder_keyed s near from payload = opening_done s near from (opened s.startup near payload)
+
+-- hellos, changes of cookies, and pings; the answer to a ping has no effect
+abbrev pub read_done : State → Place → AddressParts → Result Chunk ChunkFault → Did
+read_done s place from (Ok (IHello epd tag)) =
+    sent_answer s (initiator_hello_answer s.startup tag from s.moment)
+read_done s place from (Ok (FIHello epd reply tag)) =
+    sent_answer s (initiator_hello_answer s.startup tag reply s.moment)
+read_done s place from (Ok (RHello tag cookie cert)) =
+    sent_if (with_startup s (after_rhello s.startup tag cookie from s.moment))
+      (rhello_keying s.startup tag cookie from)
+read_done s place from (Ok (CookieChange old new)) =
+    sent_if (with_startup s (after_cookie_change s.startup (sid_at place) old new s.moment))
+      (cookie_change_keying s.startup (sid_at place) old new)
+read_done s place from (Ok (Ping bytes)) = sent_in_session s (sid_at place) from (PingReply bytes)
+read_done s place from (Ok chunk) = nothing s
+read_done s place from (Err fault) = nothing s
+
+abbrev pub effect : State → Place → AddressParts → Draws → Placed → Did
+effect s place from draws c =
+    if c.kind == 0x38 then initiator_keyed s from draws c.payload
+    else if c.kind == 0x78 then responder_keyed s (sid_at place) from c.payload
+    else read_done s place from (chunk_reading c.kind c.payload)
+
+-- ---- the chunks of a datagram
+
+abbrev pub discarded : State → ℕ → Cause → Did
+discarded s at cause = record { state = s; entries = Discard at cause ∷ [] }
+
+-- a chunk with a cause is discarded, and does nothing else
+abbrev pub discarded_or : State → ℕ → Option Cause → Did → Did
+discarded_or s at None d = d
+discarded_or s at (Some cause) d = discarded s at cause
+
+abbrev pub chunk_did : Place → AddressParts → Draws → Bool → State → Placed → Did
+chunk_did place from draws keyed_before s c =
+    discarded_or s c.at (chunk_cause s place keyed_before from c) (effect s place from draws c)
+
+abbrev pub keyed_after : Bool → Placed → Bool
+keyed_after keyed_before c = keyed_before || (c.kind == 0x38)
+
+abbrev pub chunks_did : Place → AddressParts → Draws → Bool → State → List Placed → Did
+chunks_did place from draws keyed_before s [] = nothing s
+chunks_did place from draws keyed_before s (c ∷ cs) =
+    then_do (chunk_did place from draws keyed_before s c)
+      (λ t. chunks_did place from draws (keyed_after keyed_before c) t cs)
+
+-- ---- a datagram
+
+abbrev pub received : AddressParts → Draws → Admission → Did
+received from draws (Rejected s cause) = discarded s 0 cause
+received from draws (Admitted s place packet) =
+    then_do (confirming s place) (λ t. chunks_did place from draws false t (chunks_of packet))
+
+-- what was done of a datagram of which so many chunks were gone through
+abbrev pub part_received : AddressParts → Draws → Admission → ℕ → Did
+part_received from draws (Rejected s cause) count = nothing s
+part_received from draws (Admitted s place packet) count =
+    then_do (confirming s place) (λ t. chunks_did place from draws false t
+    (take count (chunks_of packet)))
+
+-- ---- datagrams that add nothing but discards
+
+-- The chunk is discarded, or it is an answer to a ping, which does nothing.
+abbrev pub IsQuiet : State → Place → Bool → AddressParts → Placed → Type 0
+IsQuiet s place keyed_before from c = IsSome (chunk_cause s place keyed_before from c) ⊎
+    (c.kind ≡ 0x41)
+
+abbrev pub AreQuiet : State → Place → AddressParts → Bool → List Placed → Type 0
+AreQuiet s place from keyed_before [] = Unit {0}
+AreQuiet s place from keyed_before (c ∷ cs) = IsQuiet s place keyed_before from c ×
+    AreQuiet s place from (keyed_after keyed_before c) cs
+
+-- one for a cause
+abbrev pub discards_for : Option Cause → ℕ
+discards_for None = 0
+discards_for (Some cause) = 1
+
+-- how many of these chunks are discarded
+abbrev pub discards_among : State → Place → AddressParts → Bool → List Placed → ℕ
+discards_among s place from keyed_before [] = 0
+discards_among s place from keyed_before (c ∷ cs) =
+    discards_for (chunk_cause s place keyed_before from c)
+      + discards_among s place from (keyed_after keyed_before c) cs
+
+-- The datagram adds discards alone, or nothing: it is refused, or it confirms nothing and each of
+-- its chunks is discarded or does nothing.
+abbrev pub AddsDiscards : AddressParts → Admission → Type 0
+AddsDiscards from (Rejected s cause) = Unit {0}
+AddsDiscards from (Admitted s place packet) = (confirms s place ≡ false) ×
+    AreQuiet s place from false (chunks_of packet)
+
+-- how many discards these are
+abbrev pub discards : AddressParts → Admission → ℕ
+discards from (Rejected s cause) = 1
+discards from (Admitted s place packet) = discards_among s place from false (chunks_of packet)

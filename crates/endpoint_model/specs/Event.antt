@@ -1,0 +1,51 @@
+-- What an end is given at its beginning, its calls with their arguments and answers, and what they
+-- added.
+use Rattle.std.specs.Prelude.{ℕ, List, max}
+use Rattle.sha2.specs.Sha256.{sha256}
+use Rattle.rtmfp_forms.specs.Address.{AddressParts}
+use Rattle.endpoint_model.specs.declared.config.Config.{Config}
+use Rattle.endpoint_model.specs.declared.config.Draws.{Draws}
+use Rattle.endpoint_model.specs.declared.answers.OpenRefusal.{OpenRefusal}
+use Rattle.endpoint_model.specs.declared.answers.CallRefusal.{CallRefusal}
+use Rattle.endpoint_model.specs.declared.answers.Stopped.{Stopped as Stop}
+use Rattle.endpoint_model.specs.declared.entry.Entry.{Entry}
+
+-- what an end is given: its limits, its certificate, the secret of its group, and the secret of its
+-- cookies
+pub record Setup : Type 0 where
+  pub config : Config
+  pub cert : List ℕ
+  pub secret : List ℕ
+  pub cookie_secret : List ℕ
+
+-- the own fingerprint
+abbrev pub own_of : Setup → List ℕ
+own_of setup = sha256 setup.cert
+
+-- a call; an open names its peer by the fingerprint
+pub data Call : Type 0 where
+  Open : (peer : List ℕ) → (candidates : List AddressParts) → (draws : Draws) → Call
+  Cancel : (n : ℕ) → Call
+  Receive : (from : AddressParts) → (datagram : List ℕ) → (draws : Draws) → Call
+  Tick : (draws : Draws) → Call
+
+-- what a call answered
+pub data Answer : Type 0 where
+  Began : (n : ℕ) → Answer
+  Done : Answer
+  NotOpened : (refusal : OpenRefusal) → Answer
+  Refused : (refusal : CallRefusal) → Answer
+  Stopped : (stop : Stop) → Answer
+  OutOfMemory : Answer
+
+-- A call of an end, at the moment that it was given (0 for a call that is given none), with its
+-- answer and the entries that it added.
+pub record Event : Type 0 where
+  pub moment : ℕ
+  pub call : Call
+  pub answer : Answer
+  pub entries : List Entry
+
+-- The moment of an event is the largest that the end was given so far.
+abbrev pub moment_at : ℕ → Event → ℕ
+moment_at last e = max last e.moment

@@ -1,0 +1,9 @@
+pub mod Added
+pub mod Event
+pub mod Keying
+pub mod State
+pub mod Sending
+pub mod Admission
+pub mod Causes
+pub mod Due
+pub mod Log

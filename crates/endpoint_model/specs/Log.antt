@@ -1,0 +1,152 @@
+-- The log of an end: its calls, their answers and what they added, and the states that it leads to.
+use Rattle.std.specs.Prelude.{ℕ, ◌+◌, ◌<◌, ◌≡◌, Bool, true, false, if◌then◌else◌, List, [], ◌∷◌,
+    ◌++◌, drop, length, Option, Some, None, IsSome, IfSome, IfNone, OnOk, IfErr, IsOk, ◌≤◌, Result,
+    Ok, Err}
+use Rattle.rtmfp_base.specs.declared.memory.Memory.{Memory}
+use Rattle.rtmfp_forms.specs.Address.{AddressParts}
+use Rattle.startup.specs.Attempts.{cancel_fact}
+use Rattle.startup.specs.Due.{due}
+use Rattle.endpoint_model.specs.declared.config.Draws.{Draws}
+use Rattle.endpoint_model.specs.declared.entry.Entry.{Entry}
+use Rattle.endpoint_model.specs.declared.answers.OpenRefusal.{OpenRefusal}
+use Rattle.endpoint_model.specs.declared.answers.OpenRefusal.TheVariants.{Memory as NoMemoryToOpen}
+use Rattle.endpoint_model.specs.declared.answers.CallRefusal.{CallRefusal}
+use Rattle.endpoint_model.specs.declared.answers.CallRefusal.TheVariants.{NoAttempt, Memory as NoMemory}
+use Rattle.endpoint_model.specs.declared.answers.Stopped.{Stopped as Stop}
+use Rattle.endpoint_model.specs.Event.{Setup, Call, Open, Cancel, Receive, Tick, Answer, Began, Done,
+    NotOpened, Refused, Stopped, OutOfMemory, Event}
+use Rattle.endpoint_model.specs.Added.{Added}
+use Rattle.endpoint_model.specs.State.{State, Did, Does, nothing, fresh, at_moment, Done as DoneIn}
+use Rattle.endpoint_model.specs.Admission.{Admission, Rejected, Admitted, admission, confirms}
+use Rattle.endpoint_model.specs.Keying.{chunks_of}
+use Rattle.endpoint_model.specs.Due.{open_refusal, opening, cancelling, ticks, received, part_received,
+    AddsDiscards, discards}
+
+-- ---- what a call may answer, add and leave, from a state in which its moment is noted
+
+-- the answer to an open that found no memory, or is refused
+abbrev pub not_opened : Option OpenRefusal → OpenRefusal
+not_opened None = NoMemoryToOpen
+not_opened (Some refusal) = refusal
+
+-- a number that no held attempt has, or no memory
+abbrev pub not_cancelled : Bool → CallRefusal
+not_cancelled held = if held then NoMemory else NoAttempt
+
+-- No memory was found before the datagram was taken: for the discard of one that is refused, or for
+-- the Confirmed of one that confirms a session.
+abbrev pub IsStopBefore : Admission → Type 0
+IsStopBefore (Rejected s cause) = Unit {0}
+IsStopBefore (Admitted s place packet) = confirms s place ≡ true
+
+-- No memory was found at a chunk, which isn't gone through.
+abbrev pub IsStopAt : Admission → ℕ → Type 0
+IsStopAt (Rejected s cause) count = ⊥
+IsStopAt (Admitted s place packet) count = count < length (chunks_of packet)
+
+-- the answer where the datagram wasn't taken
+abbrev pub not_taken : Stop
+not_taken = record { taken = false; chunks = 0 }
+
+-- where a datagram can be stopped
+pub record IsStop (a : Admission) (stop : Stop) : Type 0 where
+  pub taken : stop.taken ≡ true → IsStopAt a stop.chunks
+  pub not_taken : stop.taken ≡ false → IsStopBefore a × (stop.chunks ≡ 0)
+
+-- what was done of a datagram that found no memory: nothing, or the chunks before the one that
+-- found none
+abbrev pub stopped : State → AddressParts → Draws → Admission → Stop → Did
+stopped s from draws a stop = if stop.taken then part_received from draws a stop.chunks
+    else nothing s
+
+-- Some things of a tick were done.
+abbrev pub SomeTicks : State → State → List Entry → Type 0
+SomeTicks s t entries = (count : ℕ) × Does (ticks count s) t [] entries
+
+abbrev pub Answers : State → Call → Answer → List Entry → State → Type 0
+Answers s (Open peer candidates draws) (Began n) entries t =
+    (open_refusal s peer candidates ≡ None) × (n ≡ s.startup.ledger.started + 1) ×
+      Does (opening s peer candidates draws) t [] entries
+Answers s (Open peer candidates draws) (NotOpened refusal) entries t =
+    (refusal ≡ not_opened (open_refusal s peer candidates)) × Does (nothing s) t [] entries
+Answers s (Cancel n) Done entries t = IsSome (cancel_fact s.startup n) ×
+    Does (cancelling s n) t [] entries
+Answers s (Cancel n) (Refused refusal) entries t =
+    IfNone (cancel_fact s.startup n) (refusal ≡ NoAttempt) ×
+      IfSome (cancel_fact s.startup n) (λ fact. refusal ≡ NoMemory) × Does (nothing s) t [] entries
+Answers s (Receive from datagram draws) Done entries t =
+    Does (received from draws (admission s datagram)) t [] entries
+Answers s (Receive from datagram draws) (Stopped stop) entries t =
+    IsStop (admission s datagram) stop ×
+      Does (stopped s from draws (admission s datagram) stop) t [] entries
+Answers s (Tick draws) Done entries t = SomeTicks s t entries × (due t.startup t.moment ≡ None)
+Answers s (Tick draws) OutOfMemory entries t = SomeTicks s t entries
+Answers s call answer entries t = ⊥
+
+-- ---- logs
+
+-- The event brings the end from s to t.
+abbrev pub Step : State → Event → State → Type 0
+Step s e t = Answers (at_moment s e.moment) e.call e.answer e.entries t
+
+-- These events lead from s to t.
+abbrev pub Leads : State → List Event → State → Type 0
+Leads s [] t = s ≡ t
+Leads s (e ∷ events) t = (middle : State) × Step s e middle × Leads middle events t
+
+-- An end that was begun so stands for this log, whose oldest event is the first, in this state.
+abbrev pub StandsFor : Setup → List Event → State → Type 0
+StandsFor setup log s = Leads (fresh setup) log s
+
+-- Whatever log an end stood for, it stands for that log with this event.
+abbrev pub Extends : State → State → Event → Type 0
+Extends old new e = (setup : Setup) (log : List Event) → StandsFor setup log old →
+    StandsFor setup (log ++ e ∷ []) new
+
+-- ---- the events of calls, by what they returned and by an outbox before and after them
+
+abbrev pub event : ℕ → Call → Answer → List Entry → List Entry → Event
+event moment call answer before after = record { moment = moment; call = call; answer = answer;
+    entries = drop (length before) after }
+
+abbrev pub answer_of_open : Result ℕ OpenRefusal → Answer
+answer_of_open (Ok n) = Began n
+answer_of_open (Err refusal) = NotOpened refusal
+
+abbrev pub open_event : ℕ → List ℕ → List AddressParts → Draws → Result ℕ OpenRefusal → List Entry →
+    List Entry → Event
+open_event moment peer candidates draws result before after =
+    event moment (Open peer candidates draws) (answer_of_open result) before after
+
+abbrev pub answer_of_cancel : Result (Unit {0}) CallRefusal → Answer
+answer_of_cancel (Ok done) = Done
+answer_of_cancel (Err refusal) = Refused refusal
+
+abbrev pub cancel_event : ℕ → Result (Unit {0}) CallRefusal → List Entry → List Entry → Event
+cancel_event n result before after = event 0 (Cancel n) (answer_of_cancel result) before after
+
+abbrev pub answer_of_receive : Result (Unit {0}) Stop → Answer
+answer_of_receive (Ok done) = Done
+answer_of_receive (Err stop) = Stopped stop
+
+abbrev pub receive_event : AddressParts → ℕ → List ℕ → Draws → Result (Unit {0}) Stop → List Entry →
+    List Entry → Event
+receive_event from moment datagram draws result before after =
+    event moment (Receive from datagram draws) (answer_of_receive result) before after
+
+abbrev pub answer_of_tick : Result (Unit {0}) Memory → Answer
+answer_of_tick (Ok done) = Done
+answer_of_tick (Err memory) = OutOfMemory
+
+abbrev pub tick_event : ℕ → Draws → Result (Unit {0}) Memory → List Entry → List Entry → Event
+tick_event moment draws result before after =
+    event moment (Tick draws) (answer_of_tick result) before after
+
+-- ---- what taking a datagram gives
+
+pub record IsTaken (s : State) (from : AddressParts) (draws : Draws) (a : Admission)
+    (result : Result (Unit {0}) Stop) (new : State) (before after : Added) : Type 0 where
+  pub ok : OnOk result (DoneIn (received from draws a) new before after)
+  pub stop : IfErr result (λ stop. IsStop a stop)
+  pub stopped : IfErr result (λ stop. DoneIn (stopped s from draws a stop) new before after)
+  pub enough : AddsDiscards from a → discards from a ≤ before.free → IsOk result

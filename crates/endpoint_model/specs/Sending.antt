@@ -1,0 +1,76 @@
+-- Datagrams that go out.
+use Rattle.std.specs.Prelude.{ℕ, ◌+◌, ◌-◌, ◌^◌, ◌==◌, true, if◌then◌else◌, List, [], ◌∷◌, ◌++◌,
+    take, Option, Some, None}
+use Rattle.std.specs.Int.{w64, to_be_bytes}
+use Rattle.rtmfp_forms.specs.Address.{AddressParts}
+use Rattle.rtmfp_packet.specs.Head.{head_bytes}
+use Rattle.rtmfp_chunks.specs.Chunk.{Chunk}
+use Rattle.rtmfp_chunks.specs.Writing.{chunk_bytes}
+use Rattle.crypto_profile.specs.declared.keys.Context.TheVariants.{Startup}
+use Rattle.crypto_profile.specs.Sealing.{sealed_in}
+use Rattle.packet_scramble.specs.Datagram.{datagram}
+use Rattle.startup.specs.declared.answer.Answer.{Answer}
+use Rattle.startup.specs.State.{SpreadParts}
+use Rattle.session_core.specs.Session.{SessionState, context_of, head_at}
+use Rattle.session_core.specs.Sealed.{sealed_part, after_seal}
+use Rattle.endpoint_model.specs.declared.entry.Entry.TheVariants.{Out}
+use Rattle.std.specs.FinMap.{get}
+use Rattle.endpoint_model.specs.State.{State, Did, nothing, then_do, with_sealed, with_session}
+
+-- a counter that stands at its end counts nothing more, and nothing more is sealed then
+abbrev pub last_count : ℕ
+last_count = 2 ^ 64 - 1
+
+-- ---- in the startup context
+
+-- the number of a startup packet: the first 8 bytes of the own fingerprint, and its count
+abbrev pub startup_number : List ℕ → ℕ → List ℕ
+startup_number own count = take 8 own ++ to_be_bytes w64 count
+
+-- the datagram of a startup packet that goes out next
+abbrev pub startup_datagram : State → ℕ → List ℕ → List ℕ
+startup_datagram s sid plain = datagram sid
+    (sealed_in s.startup.secret Startup sid (startup_number s.startup.ledger.own (s.sealed + 1))
+    plain)
+
+abbrev pub sent_startup : State → AddressParts → ℕ → List ℕ → Did
+sent_startup s to sid plain =
+    if s.sealed == last_count then nothing s
+    else record { state = with_sealed s (s.sealed + 1);
+      entries = Out to (startup_datagram s sid plain) Startup ∷ [] }
+
+abbrev pub sent_answer : State → Answer → Did
+sent_answer s answer = sent_startup s answer.to answer.sid answer.plain
+
+abbrev pub sent_if : State → Option Answer → Did
+sent_if s None = nothing s
+sent_if s (Some answer) = sent_answer s answer
+
+-- one packet to several addresses, in their order, under session ID 0
+abbrev pub sent_each : State → List ℕ → List AddressParts → Did
+sent_each s plain [] = nothing s
+sent_each s plain (to ∷ rest) = then_do (sent_startup s to 0 plain) (λ t. sent_each t plain rest)
+
+abbrev pub sent_spread : State → SpreadParts → Did
+sent_spread s spread = sent_each s spread.plain spread.to
+
+-- ---- in a session
+
+-- the packet of one chunk that goes out in a session
+abbrev pub session_packet : SessionState → ℕ → Chunk → List ℕ
+session_packet session moment chunk = head_bytes (head_at session moment) ++ chunk_bytes chunk
+
+abbrev pub session_datagram : SessionState → ℕ → Chunk → List ℕ
+session_datagram session moment chunk = datagram session.joined.far
+    (sealed_part session (session_packet session moment chunk))
+
+abbrev pub sent_by : State → ℕ → AddressParts → Chunk → Option SessionState → Did
+sent_by s near to chunk None = nothing s
+sent_by s near to chunk (Some session) =
+    if session.sealed == last_count then nothing s
+    else record { state = with_session s near (after_seal session);
+      entries = Out to (session_datagram session s.moment chunk) (context_of session true) ∷ [] }
+
+-- one chunk in the session with this near id
+abbrev pub sent_in_session : State → ℕ → AddressParts → Chunk → Did
+sent_in_session s near to chunk = sent_by s near to chunk (get s.sessions near)

@@ -1,0 +1,136 @@
+-- What an end keeps, and what one thing that it does leaves and adds.
+use Rattle.std.specs.Prelude.{ℕ, zero, suc, ◌+◌, ◌%◌, ◌^◌, ◌==◌, ◌≤◌, ◌&&◌, ◌||◌, not, Bool, max,
+    nat_le, if◌then◌else◌, List, [], ◌∷◌, ◌++◌, length, Option, Some, None, ◌≡◌, refl}
+use Rattle.std.specs.Ordering.{nat_cmp}
+use Rattle.std.specs.FinMap.{FinMap, insert, empty, contains_key, len, code}
+use Rattle.std.specs.Coded.{Coded, code_by, coded×, coded_ℕ}
+use Rattle.glare_core.specs.declared.facts.Fact.{Fact}
+use Rattle.startup.specs.State.{StartupState, new_startup}
+use Rattle.session_core.specs.Session.{SessionState}
+use Rattle.endpoint_model.specs.declared.config.Config.{Config}
+use Rattle.endpoint_model.specs.declared.entry.Entry.{Entry}
+use Rattle.endpoint_model.specs.declared.entry.Entry.TheVariants.{Fact as FactEntry}
+use Rattle.endpoint_model.specs.Event.{Setup}
+use Rattle.endpoint_model.specs.Added.{Added}
+
+-- the sessions, by their near ids
+abbrev pub Sessions : Type 0
+Sessions = FinMap nat_cmp SessionState
+
+pub record State : Type 0 where
+  pub config : Config
+  -- the largest moment that was given
+  pub moment : ℕ
+  -- how many startup packets were sealed
+  pub sealed : ℕ
+  -- the certificate, the secrets, what is held with the peers, and the attempts
+  pub startup : StartupState
+  pub sessions : Sessions
+
+-- a new end
+abbrev pub fresh : Setup → State
+fresh setup = record {
+  config = setup.config;
+  moment = 0;
+  sealed = 0;
+  startup = new_startup setup.cert setup.secret setup.cookie_secret setup.config.max_peers;
+  sessions = empty;
+}
+
+-- an end keeps the largest moment that it was given
+abbrev pub at_moment : State → ℕ → State
+at_moment s moment = record { config = s.config; moment = max s.moment moment; sealed = s.sealed;
+    startup = s.startup; sessions = s.sessions }
+
+abbrev pub with_startup : State → StartupState → State
+with_startup s startup = record { config = s.config; moment = s.moment; sealed = s.sealed;
+    startup = startup; sessions = s.sessions }
+
+abbrev pub with_sessions : State → Sessions → State
+with_sessions s sessions = record { config = s.config; moment = s.moment; sealed = s.sealed;
+    startup = s.startup; sessions = sessions }
+
+abbrev pub with_session : State → ℕ → SessionState → State
+with_session s near session = with_sessions s (insert s.sessions near session)
+
+abbrev pub with_sealed : State → ℕ → State
+with_sealed s sealed = record { config = s.config; moment = s.moment; sealed = sealed;
+    startup = s.startup; sessions = s.sessions }
+
+-- ---- session IDs
+
+-- how many attempts and sessions there are
+abbrev pub uses : State → ℕ
+uses s = len s.startup.attempts + len s.sessions
+
+-- an attempt or a session has the session ID
+abbrev pub is_used : State → ℕ → Bool
+is_used s near = contains_key s.startup.attempts near || contains_key s.sessions near
+
+-- it may be given to a new one: it isn't 0, and none has it
+abbrev pub is_free : State → ℕ → Bool
+is_free s near = not (near == 0) && not (is_used s near)
+
+-- the session ID after one, modulo 2^32
+abbrev pub next_id : ℕ → ℕ
+next_id id = (id + 1) % 2 ^ 32
+
+-- the first of so many session IDs from one on that is free, or the one after them
+abbrev pub free_among : ℕ → State → ℕ → ℕ
+free_among zero s id = id
+free_among (suc tries) s id = if is_free s id then id else free_among tries s (next_id id)
+
+-- The first free session ID from a word on: 0 and those in use are so many, so the one after them
+-- is free where none of them is.
+unfoldable pub free_from : State → ℕ → ℕ
+free_from s word = free_among (uses s + 1) s word
+
+-- the limit on attempts and sessions, where there is no place for one more
+abbrev pub full : State → Option ℕ
+full s = if nat_le s.config.max_sessions (uses s) then Some s.config.max_sessions else None
+
+-- ---- what is done
+
+-- the state after a thing, and the entries that it added
+pub record Did : Type 0 where
+  pub state : State
+  pub entries : List Entry
+
+abbrev pub nothing : State → Did
+nothing s = record { state = s; entries = [] }
+
+-- a thing after these entries
+abbrev pub after_entries : List Entry → Did → Did
+after_entries entries d = record { state = d.state; entries = entries ++ d.entries }
+
+-- one thing, and then what another does in the state that the first left
+abbrev pub then_do : Did → (State → Did) → Did
+then_do d next = after_entries d.entries (next d.state)
+
+-- a fact, where there is one
+abbrev pub fact_entries : Option Fact → List Entry
+fact_entries None = []
+fact_entries (Some fact) = FactEntry fact ∷ []
+
+-- The state is what the thing left, and its entries were added to these.
+pub record Does (d : Did) (new : State) (before after : List Entry) : Type 0 where
+  pub state : new ≡ d.state
+  pub entries : after ≡ before ++ d.entries
+
+-- The same of an outbox, whose free room fell by a place for each entry at most.
+pub record Done (d : Did) (new : State) (before after : Added) : Type 0 where
+  pub state : new ≡ d.state
+  pub entries : after.entries ≡ before.entries ++ d.entries
+  pub free : before.free ≤ after.free + length d.entries
+  pub room : after.room ≡ before.room
+
+-- ---- how a state is stored: as the tuple of its fields
+
+abbrev pub state_code : Coded Config → Coded StartupState → Coded SessionState → Coded State
+state_code config startup session =
+    code_by (Config × (ℕ × (ℕ × (StartupState × Sessions))))
+      (coded× config (coded× coded_ℕ (coded× coded_ℕ (coded× startup (code coded_ℕ session)))))
+    (λ s. (s.config, (s.moment, (s.sealed, (s.startup, s.sessions)))))
+    (λ p. record { config = p.0; moment = p.1.0; sealed = p.1.1.0; startup = p.1.1.1.0;
+      sessions = p.1.1.1.1 })
+    (λ _. refl)

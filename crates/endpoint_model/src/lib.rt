@@ -1,0 +1,13 @@
+//! What an end is made of, as contracts see it: the values that its calls are given, what they answer
+//! and add, and, in `specs/`, what it keeps and what each call does, item by item.
+#![tactic(auto)]
+
+mod answers;
+mod config;
+mod entry;
+mod place;
+
+pub use answers::{CallRefusal, OpenRefusal, Stopped};
+pub use config::{Config, Draws};
+pub use entry::Entry;
+pub use place::Place;
