@@ -7,6 +7,7 @@ use Rattle.cookies.specs.Cookie.{is_same_place}
 use Rattle.glare_core.specs.Calls.{first_that_stands, start_refusal}
 use Rattle.startup.specs.Attempts.{joined, lowest, places_of}
 use Rattle.startup.specs.Due.{due, due_of, due_sends, due_sends_of, is_due}
+use Rattle.rtmfp_chunks.specs.Writing.{chunk_bytes}
 use Rattle.endpoint_model.specs.declared.answers.OpenRefusal.{OpenRefusal}
 use Rattle.crypto_profile.specs.Keys.{Keys}
 use Rattle.rtmfp_forms.specs.Address.{AddressParts}
@@ -128,10 +129,10 @@ opened_state config moment sealed startup before rows new near fact from payload
 
 pub opened_so : (s t : State) (near : ℕ) (from : AddressParts) (payload : List ℕ) (fact : Fact) (new : State) (before after : Added) →
     opened s.startup near payload ≡ Some fact → t ≡ with_opened (with_startup s (after_opening s.startup near fact)) near fact from →
-    Done (after_entries (FactEntry fact ∷ []) (sent_in_session t near from (Ping []))) new before after → Done (responder_keyed s near from payload) new before after
+    Done (after_entries (FactEntry fact ∷ []) (sent_in_session t near from (chunk_bytes (Ping [])))) new before after → Done (responder_keyed s near from payload) new before after
 opened_so s t near from payload fact new before after is t_is done =
     let here : Done (opening_done s near from (Some fact)) new before after =
-    subst (λ u. Done (after_entries (FactEntry fact ∷ []) (sent_in_session u near from (Ping []))) new before after) t_is done in
+    subst (λ u. Done (after_entries (FactEntry fact ∷ []) (sent_in_session u near from (chunk_bytes (Ping [])))) new before after) t_is done in
     subst (λ o. Done (opening_done s near from o) new before after) (sym is) here
 
 -- ---- what an end keeps beside its state stays as it should be

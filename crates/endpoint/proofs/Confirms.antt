@@ -17,7 +17,7 @@ use Rattle.endpoint_model.proofs.Steps.{done_nothing}
 use Rattle.rtmfp_forms.specs.Address.{AddressParts}
 use Rattle.rtmfp_packet.specs.Whole.{Whole}
 use Rattle.endpoint_model.specs.Keying.{chunks_of}
-use Rattle.endpoint_model.specs.Due.{AreQuiet, AddsDiscards, discards, discards_among}
+use Rattle.endpoint_model.specs.Due.{AreQuiet, AddsDiscards, discards, discards_among, outset}
 use Rattle.endpoint_model.specs.Log.{IsStop, not_taken}
 use Rattle.endpoint_model.specs.Admission.{confirms, confirms_by, confirming, confirming_by, taken_packet, counted_at, counted_by, timed_at, timed_by}
 
@@ -117,14 +117,14 @@ not_refused A s place part from packet confirming refused =
 -- what the chunks of a refused datagram meet, after it was taken
 pub refused_chunks : (s entered : State) (place : Place) (part : List ℕ) (from : AddressParts) (packet : Whole) (before after : Added) →
     Done (confirming (timed_at (counted_at s place part) place packet.head) place) entered before after → AddsDiscards from (taken_packet s place part packet) →
-    discards from (taken_packet s place part packet) ≤ before.free → AreQuiet entered place from false (chunks_of packet) × (discards_among entered place from false (chunks_of packet) ≤ after.free)
+    discards from (taken_packet s place part packet) ≤ before.free → AreQuiet entered place from outset (chunks_of packet) × (discards_among entered place from outset (chunks_of packet) ≤ after.free)
 refused_chunks s entered place part from packet before after done refused room =
     let t = timed_at (counted_at s place part) place packet.head in
     let quiet : confirming t place ≡ nothing t = unconfirmed t place refused.0 in
     let same : entered ≡ t = done.state ∙ ap (λ (d : Did). d.state) quiet in
     let free : before.free ≤ after.free + length (confirming t place).entries = done.free in
     let none : length (confirming t place).entries ≡ 0 = ap (λ (d : Did). length d.entries) quiet in
-    let P : State → Type 0 = λ u. AreQuiet u place from false (chunks_of packet) in
-    let Q : State → Type 0 = λ u. discards_among u place from false (chunks_of packet) ≤ after.free in
-    let enough : discards_among t place from false (chunks_of packet) ≤ after.free = omega (arith, free, none, room) in
+    let P : State → Type 0 = λ u. AreQuiet u place from outset (chunks_of packet) in
+    let Q : State → Type 0 = λ u. discards_among u place from outset (chunks_of packet) ≤ after.free in
+    let enough : discards_among t place from outset (chunks_of packet) ≤ after.free = omega (arith, free, none, room) in
     (subst P (sym same) refused.1, subst Q (sym same) enough)

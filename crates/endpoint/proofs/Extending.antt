@@ -4,7 +4,6 @@ use Rattle.glare_core.specs.declared.facts.Fact.{Fact}
 use Rattle.rtmfp_base.specs.declared.memory.Memory.{Memory}
 use Rattle.rtmfp_forms.specs.Address.{AddressParts}
 use Rattle.startup.specs.Attempts.{cancel_fact}
-use Rattle.startup.specs.Due.{due}
 use Rattle.endpoint_model.specs.declared.config.Draws.{Draws}
 use Rattle.endpoint_model.specs.declared.entry.Entry.{Entry}
 use Rattle.endpoint_model.specs.declared.answers.OpenRefusal.{OpenRefusal}
@@ -16,7 +15,7 @@ use Rattle.endpoint_model.specs.Added.{Added}
 use Rattle.endpoint_model.specs.Event.{Event, Cancel, Refused, Done as Finished}
 use Rattle.endpoint_model.specs.State.{State, Did, Does, Done, nothing, fresh, at_moment}
 use Rattle.endpoint_model.specs.Admission.{admission}
-use Rattle.endpoint_model.specs.Due.{open_refusal, opening, cancelling, ticks, received}
+use Rattle.endpoint_model.specs.Due.{open_refusal, opening, cancelling, ticks, received, first_due}
 use Rattle.endpoint_model.specs.Log.{Step, Answers, Leads, Extends, IsTaken, IsStop, stopped, not_opened, open_event, cancel_event, receive_event, tick_event}
 
 leads_more : (s t u : State) (es : List Event) (e : Event) → Leads s es t → Step t e u → Leads s (es ++ e ∷ []) u
@@ -96,13 +95,13 @@ cancel_extends s t n r before after ok refused memory err =
     extends s t (cancel_event n r before.entries after.entries) (cancel_steps s t n r before after ok refused memory err)
 
 pub tick_steps : (s t : State) (moment : ℕ) (draws : Draws) (r : Result (Unit {0}) Memory) (before after : Added) →
-    (count : ℕ) × Done (ticks count (at_moment s moment)) t before after → OnOk r (due t.startup t.moment ≡ None) →
+    (count : ℕ) × Done (ticks count (at_moment s moment)) t before after → OnOk r (first_due t ≡ None) →
     Step s (tick_event moment draws r before.entries after.entries) t
 tick_steps s t moment draws (Ok done) before after some all = ((some.0, alone (ticks some.0 (at_moment s moment)) t before after some.1), all)
 tick_steps s t moment draws (Err memory) before after some all = (some.0, alone (ticks some.0 (at_moment s moment)) t before after some.1)
 
 pub tick_extends : (s t : State) (moment : ℕ) (draws : Draws) (r : Result (Unit {0}) Memory) (before after : Added) →
-    (count : ℕ) × Done (ticks count (at_moment s moment)) t before after → OnOk r (due t.startup t.moment ≡ None) →
+    (count : ℕ) × Done (ticks count (at_moment s moment)) t before after → OnOk r (first_due t ≡ None) →
     Extends s t (tick_event moment draws r before.entries after.entries)
 tick_extends s t moment draws r before after some all =
     extends s t (tick_event moment draws r before.entries after.entries) (tick_steps s t moment draws r before after some all)

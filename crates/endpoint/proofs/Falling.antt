@@ -10,7 +10,7 @@ use Rattle.startup.specs.Due.{due, due_of, after_due, due_count, due_sends, due_
 use Rattle.startup.proofs.Falling.{due_falls}
 use Rattle.endpoint_model.specs.State.{State, Did, with_startup}
 use Rattle.endpoint_model.specs.Sending.{sent_startup, sent_each, last_count}
-use Rattle.endpoint_model.specs.Due.{due_done, tick_once}
+use Rattle.endpoint_model.specs.Due.{due_done, tick_once, item_done, attempt_item}
 
 -- what sending startup packets leaves as it is
 pub record IsSame (s t : State) : Type 0 where
@@ -31,11 +31,14 @@ each_same plain (first ∷ rest) s =
     let more = each_same plain rest (sent_startup s first 0 plain).state in
     record { startup = more.startup ∙ one.startup; moment = more.moment ∙ one.moment }
 
-done_same : (s : State) (o : Option Due) → IsSame s (due_done s o).state
-done_same s None = record { startup = refl; moment = refl }
-done_same s (Some (EndDue fact)) = record { startup = refl; moment = refl }
-done_same s (Some (HelloDue spread)) = each_same spread.plain spread.to s
-done_same s (Some (KeyingDue answer)) = startup_same s answer.to answer.sid answer.plain
+done_same : (s : State) (due : Due) → IsSame s (due_done s due).state
+done_same s (EndDue fact) = record { startup = refl; moment = refl }
+done_same s (HelloDue spread) = each_same spread.plain spread.to s
+done_same s (KeyingDue answer) = startup_same s answer.to answer.sid answer.plain
+
+item_same : (s left : State) (o : Option Due) → IsSome o → IsSame left (item_done s left (attempt_item o)).state
+item_same s left None some = absurd (cc)
+item_same s left (Some due) some = done_same left due
 
 -- something is due exactly where it is known how many datagrams it sends
 due_if_sends : (s : StartupState) (moment count : ℕ) → due_sends s moment ≡ Some count → IsSome (due s moment)
@@ -49,13 +52,10 @@ of_some : (o : Option Due) (P : Type 0) → IsSome o → IfSome o (λ _. P) → 
 of_some None P some falls = absurd (cc)
 of_some (Some d) P some falls = falls
 
-pub still_due : (s new : State) (count : ℕ) → due_sends s.startup s.moment ≡ Some count → new ≡ s → IsSome (due new.startup new.moment)
-still_due s new count e same = subst (λ (t : State). IsSome (due t.startup t.moment)) (sym same) (due_if_sends s.startup s.moment count e)
-
 pub tick_falls : (s new : State) (count : ℕ) → due_sends s.startup s.moment ≡ Some count → new ≡ (tick_once s).state → due_count new.moment new.startup < due_count s.moment s.startup
 tick_falls s new count e is =
     let t : State = with_startup s (after_due s.startup s.moment) in
-    let same = done_same t (due s.startup s.moment) in
+    let same = item_same s t (due s.startup s.moment) (due_if_sends s.startup s.moment count e) in
     let falls = of_some (due s.startup s.moment) (due_count s.moment (after_due s.startup s.moment) < due_count s.moment s.startup) (due_if_sends s.startup s.moment count e) (due_falls s.startup s.moment) in
     let startup : new.startup ≡ after_due s.startup s.moment = ap (λ (x : State). x.startup) is ∙ same.startup in
     let moment : new.moment ≡ s.moment = ap (λ (x : State). x.moment) is ∙ same.moment in

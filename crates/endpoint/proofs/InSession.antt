@@ -3,7 +3,6 @@ use Rattle.std.proofs.Common.{ℕ, List, [], ◌∷◌, ◌++◌, ◌≡◌, ◌
 use Rattle.std.specs.FinMap.{get, insert, len}
 use Rattle.rtmfp_base.proofs.Rows.{place_found}
 use Rattle.rtmfp_forms.specs.Address.{AddressParts}
-use Rattle.rtmfp_chunks.specs.Chunk.{Chunk}
 use Rattle.crypto_profile.specs.declared.keys.Context.{Context}
 use Rattle.session_core.specs.Session.{SessionState, context_of}
 use Rattle.session_core.specs.Sealed.{after_seal, is_spent}
@@ -20,22 +19,22 @@ use Rattle.endpoint_model.proofs.Steps.{done_nothing}
 
 -- ---- nothing goes out
 
-pub unsent_unknown : (s : State) (near : ℕ) (to : AddressParts) (chunk : Chunk) (out : Added) → get s.sessions near ≡ None → Done (sent_in_session s near to chunk) s out out
-unsent_unknown s near to chunk out none = subst (λ (d : Did). Done d s out out) (sym (ap (sent_by s near to chunk) none)) (done_nothing s out)
+pub unsent_unknown : (s : State) (near : ℕ) (to : AddressParts) (body : List ℕ) (out : Added) → get s.sessions near ≡ None → Done (sent_in_session s near to body) s out out
+unsent_unknown s near to body out none = subst (λ (d : Did). Done d s out out) (sym (ap (sent_by s near to body) none)) (done_nothing s out)
 
-one_out : State → ℕ → AddressParts → Chunk → SessionState → Did
-one_out s near to chunk session =
-    record { state = with_session s near (after_seal session); entries = Out to (session_datagram session s.moment chunk) (context_of session true) ∷ [] }
+one_out : State → ℕ → AddressParts → List ℕ → SessionState → Did
+one_out s near to body session =
+    record { state = with_session s near (after_seal session); entries = Out to (session_datagram session s.moment body) (context_of session true) ∷ [] }
 
 -- by whether all counts of the session are used
-sent_as : (s : State) (near : ℕ) (to : AddressParts) (chunk : Chunk) (session : SessionState) (spent : Bool) → get s.sessions near ≡ Some session → is_spent session ≡ spent →
-    sent_in_session s near to chunk ≡ (if spent then nothing s else one_out s near to chunk session)
+sent_as : (s : State) (near : ℕ) (to : AddressParts) (body : List ℕ) (session : SessionState) (spent : Bool) → get s.sessions near ≡ Some session → is_spent session ≡ spent →
+    sent_in_session s near to body ≡ (if spent then nothing s else one_out s near to body session)
 unfolding one_out
-sent_as s near to chunk session spent found is = ap (sent_by s near to chunk) found ∙ ap (λ b. if b then nothing s else one_out s near to chunk session) is
+sent_as s near to body session spent found is = ap (sent_by s near to body) found ∙ ap (λ b. if b then nothing s else one_out s near to body session) is
 
-pub unsent_spent : (s : State) (near : ℕ) (to : AddressParts) (chunk : Chunk) (session : SessionState) (out : Added) → get s.sessions near ≡ Some session → is_spent session ≡ true →
-    Done (sent_in_session s near to chunk) s out out
-unsent_spent s near to chunk session out found is = subst (λ (d : Did). Done d s out out) (sym (sent_as s near to chunk session true found is)) (done_nothing s out)
+pub unsent_spent : (s : State) (near : ℕ) (to : AddressParts) (body : List ℕ) (session : SessionState) (out : Added) → get s.sessions near ≡ Some session → is_spent session ≡ true →
+    Done (sent_in_session s near to body) s out out
+unsent_spent s near to body session out found is = subst (λ (d : Did). Done d s out out) (sym (sent_as s near to body session true found is)) (done_nothing s out)
 
 -- ---- a session that sealed is put back at its place
 
@@ -65,32 +64,32 @@ some_same a b None e f = absurd (cc)
 some_same a b (Some x) e f = cc
 
 -- of a session that was looked at three times: whether it is spent, for its context, and to seal
-pub sent_one : (config : Config) (moment sealed : ℕ) (startup : StartupState) (rows : List SessionState) (t : State) (near place : ℕ) (to : AddressParts) (chunk : Chunk)
+pub sent_one : (config : Config) (moment sealed : ℕ) (startup : StartupState) (rows : List SessionState) (t : State) (near place : ℕ) (to : AddressParts) (body : List ℕ)
     (tested shown old new : SessionState) (datagram : List ℕ) (context : Context) (before after : Added) →
     state_of config moment sealed startup rows ≡ t → len (table_of rows) ≡ length rows → place_in rows near ≡ Some place →
     tested ≡ get_or rows place tested → shown ≡ get_or rows place shown → old ≡ get_or rows place old → is_spent tested ≡ false →
-    datagram ≡ session_datagram old moment chunk → context ≡ context_of shown true → new ≡ after_seal old →
+    datagram ≡ session_datagram old moment body → context ≡ context_of shown true → new ≡ after_seal old →
     after.entries ≡ before.entries ++ Out to datagram context ∷ [] → before.free ≤ after.free + 1 → after.room ≡ before.room →
-    Done (sent_in_session t near to chunk) (state_of config moment sealed startup (set rows place new)) before after
+    Done (sent_in_session t near to body) (state_of config moment sealed startup (set rows place new)) before after
 unfolding one_out
-sent_one config moment sealed startup rows t near place to chunk tested shown old new datagram context before after
+sent_one config moment sealed startup rows t near place to body tested shown old new datagram context before after
     view distinct found tested_is shown_is old_is spent datagram_is context_is new_is entries free room =
     let s : State = state_of config moment sealed startup rows in
     let at_tested : get (table_of rows) near ≡ Some tested = found_at rows near place tested distinct found tested_is in
     let at_shown : get (table_of rows) near ≡ Some shown = found_at rows near place shown distinct found shown_is in
     let at_old : get (table_of rows) near ≡ Some old = found_at rows near place old distinct found old_is in
     let back = put_back rows near place old new distinct found old_is new_is in
-    let did : sent_in_session s near to chunk ≡ one_out s near to chunk old =
-    sent_as s near to chunk old false at_old (ap is_spent (some_same old tested (get (table_of rows) near) at_old at_tested) ∙ spent) in
-    let entry : Out to datagram context ≡ Out to (session_datagram old moment chunk) (context_of old true) =
+    let did : sent_in_session s near to body ≡ one_out s near to body old =
+    sent_as s near to body old false at_old (ap is_spent (some_same old tested (get (table_of rows) near) at_old at_tested) ∙ spent) in
+    let entry : Out to datagram context ≡ Out to (session_datagram old moment body) (context_of old true) =
     ap (λ (d : List ℕ). Out to d context) datagram_is
-    ∙ ap (Out to (session_datagram old moment chunk)) (context_is ∙ ap (λ (x : SessionState). context_of x true) (some_same shown old (get (table_of rows) near) at_shown at_old)) in
-    let done : Done (one_out s near to chunk old) (state_of config moment sealed startup (set rows place new)) before after =
+    ∙ ap (Out to (session_datagram old moment body)) (context_is ∙ ap (λ (x : SessionState). context_of x true) (some_same shown old (get (table_of rows) near) at_shown at_old)) in
+    let done : Done (one_out s near to body old) (state_of config moment sealed startup (set rows place new)) before after =
     record {
       state = ap (λ (sessions : Sessions). with_sessions s sessions) (back.table ∙ ap (insert (table_of rows) near) new_is);
       entries = entries ∙ ap (λ (e : Entry). before.entries ++ e ∷ []) entry;
       free = free;
       room = room;
     } in
-    subst (λ (u : State). Done (sent_in_session u near to chunk) (state_of config moment sealed startup (set rows place new)) before after) view
+    subst (λ (u : State). Done (sent_in_session u near to body) (state_of config moment sealed startup (set rows place new)) before after) view
     (subst (λ (d : Did). Done d (state_of config moment sealed startup (set rows place new)) before after) (sym did) done)

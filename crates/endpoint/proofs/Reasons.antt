@@ -10,6 +10,7 @@ use Rattle.startup.specs.declared.cause.Cause.{Cause}
 use Rattle.startup.specs.declared.cause.Cause.TheVariants.{UnknownChunk, Malformed, WrongPlace, Fragment}
 use Rattle.startup.specs.Attempts.{rhello_cause}
 use Rattle.startup.specs.Refusals.{rhello_refusal_reading, rhello_refusal, cookie_change_refusal_reading, cookie_change_refusal}
+use Rattle.endpoint_model.specs.declared.walk.Walk.{Walk}
 use Rattle.endpoint_model.specs.declared.place.Place.{Place}
 use Rattle.endpoint_model.specs.State.{State}
 use Rattle.endpoint_model.specs.Admission.{sid_at}
@@ -33,16 +34,16 @@ fifth_none a b c d e h =
     head_none e [] (rest_none d (e ∷ []) (rest_none c (d ∷ e ∷ []) (rest_none b (c ∷ d ∷ e ∷ []) (rest_none a (b ∷ c ∷ d ∷ e ∷ []) h))))
 
 -- a chunk that nothing discards has its form
-pub is_formed : (s : State) (place : Place) (keyed_before : Bool) (from : AddressParts) (c : Placed) → chunk_cause s place keyed_before from c ≡ None → form_cause c.kind c.payload ≡ None
-is_formed s place keyed_before from c h =
+pub is_formed : (s : State) (place : Place) (walk : Walk) (from : AddressParts) (c : Placed) → chunk_cause s place walk from c ≡ None → form_cause c.kind c.payload ≡ None
+is_formed s place walk from c h =
     second_none (where_true (not (is_known c.kind)) (UnknownChunk c.kind)) (form_cause c.kind c.payload)
-    (where_true (c.kind == 0x7f) Fragment ∷ where_true (not (takes place c.kind)) WrongPlace ∷ last_cause s place keyed_before from c ∷ []) h
+    (where_true (c.kind == 0x7f) Fragment ∷ where_true (not (takes place c.kind)) WrongPlace ∷ last_cause s place walk from c ∷ []) h
 
 -- and no last cause
-pub no_last : (s : State) (place : Place) (keyed_before : Bool) (from : AddressParts) (c : Placed) → chunk_cause s place keyed_before from c ≡ None → last_cause s place keyed_before from c ≡ None
-no_last s place keyed_before from c h =
+pub no_last : (s : State) (place : Place) (walk : Walk) (from : AddressParts) (c : Placed) → chunk_cause s place walk from c ≡ None → last_cause s place walk from c ≡ None
+no_last s place walk from c h =
     fifth_none (where_true (not (is_known c.kind)) (UnknownChunk c.kind)) (form_cause c.kind c.payload) (where_true (c.kind == 0x7f) Fragment) (where_true (not (takes place c.kind)) WrongPlace)
-    (last_cause s place keyed_before from c) h
+    (last_cause s place walk from c) h
 
 -- ---- what startup says of chunks that were read
 

@@ -8,9 +8,9 @@ ghost use Rattle.endpoint_model.specs.Admission.{fault_number, has_mode, heard_i
     opened_datagram, opened_in_startup, peers_mode, place_of, placed};
 
 use crate::endpoint::Endpoint;
-use endpoint_model::Place;
 use crate::sessions;
 use crypto_profile::open_in_place;
+use endpoint_model::Place;
 use packet_scramble::unscramble;
 use rtmfp_packet::{Mode, PacketFault, PacketHead};
 use session_core::{Role, Unheard};

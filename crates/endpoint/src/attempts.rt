@@ -7,12 +7,10 @@ ghost use Rattle.endpoint_model.specs.Due.{cancelling, open_refusal, opening};
 ghost use Rattle.endpoint_model.specs.Log.{Extends, cancel_event, open_event};
 ghost use Rattle.endpoint_model.specs.State.{Done, at_moment, nothing};
 
-use endpoint_model::{CallRefusal, OpenRefusal};
-use endpoint_model::Draws;
 use crate::endpoint::Endpoint;
-use endpoint_model::Entry;
 use crate::outbox::Outbox;
 use crate::sending::blanks;
+use endpoint_model::{CallRefusal, Draws, Entry, OpenRefusal};
 use identity::Epd;
 use rtmfp_forms::Address;
 use std::alloc::AllocError;

@@ -6,6 +6,7 @@ ghost use Rattle.glare_core.specs.Calls.{where_true};
 ghost use Rattle.identity.specs.Certificates.{certificate_fault};
 ghost use Rattle.rtmfp_chunks.specs.Chunk.{PingReply, chunk_of, kind_of};
 ghost use Rattle.rtmfp_chunks.specs.FieldReading.{chunk_reading};
+ghost use Rattle.rtmfp_chunks.specs.Writing.{chunk_bytes};
 ghost use Rattle.rtmfp_packet.specs.Chunks.{shown};
 ghost use Rattle.startup.specs.Attempts.{after_cookie_change, after_rhello, cookie_change_cause,
     cookie_change_keying, rhello_cause, rhello_keying};
@@ -18,12 +19,10 @@ ghost use Rattle.endpoint_model.specs.Causes.{chunk_cause, form_cause, initiator
 ghost use Rattle.endpoint_model.specs.Sending.{sent_answer, sent_if, sent_in_session};
 ghost use Rattle.endpoint_model.specs.State.{Done, nothing, with_startup};
 
-use endpoint_model::Draws;
 use crate::endpoint::Endpoint;
-use endpoint_model::Entry;
 use crate::outbox::Outbox;
-use endpoint_model::Place;
 use crate::sealing::blank;
+use endpoint_model::{Draws, Entry, Place, Walk};
 use identity::Certificate;
 use rtmfp_chunks::{ChunkFault, ChunkView, read_chunk};
 use rtmfp_forms::Address;
@@ -120,16 +119,15 @@ fn view_fault(len: usize, view: &ChunkView<'_>) -> Option<Cause>
 }
 
 impl Endpoint {
-    /// Why a chunk is discarded, which came from an address, where an initiator's keying came
-    /// before it in its datagram or not.
+    /// Why a chunk is discarded, which came from an address, after the walk over those before it.
     fn chunk_cause(
         &self,
         place: Place,
-        keyed_before: bool,
+        walk: Walk,
         from: &Address,
         chunk: &RawChunk<'_>,
     ) -> Option<Cause>
-        ensures { result ≡ chunk_cause self.now place keyed_before from.now (shown chunk.now) }
+        ensures { result ≡ chunk_cause self.now place walk from.now (shown chunk.now) }
     {
         if !is_known(chunk.kind) {
             return Some(Cause::UnknownChunk(chunk.kind));
@@ -143,22 +141,22 @@ impl Endpoint {
         if !takes(place, chunk.kind) {
             return Some(Cause::WrongPlace);
         }
-        self.last_cause(place, keyed_before, from, chunk)
+        self.last_cause(place, walk, from, chunk)
     }
 
     /// Why a chunk is discarded that reads, and that its place takes.
     fn last_cause(
         &self,
         place: Place,
-        keyed_before: bool,
+        walk: Walk,
         from: &Address,
         chunk: &RawChunk<'_>,
     ) -> Option<Cause>
         requires { form_cause chunk.now.kind chunk.now.payload.now ≡ None }
-        ensures { result ≡ last_cause self.now place keyed_before from.now (shown chunk.now) }
+        ensures { result ≡ last_cause self.now place walk from.now (shown chunk.now) }
     {
         if chunk.kind == IIKEYING {
-            return self.initiator_keying_cause(keyed_before, from, chunk.payload);
+            return self.initiator_keying_cause(walk, from, chunk.payload);
         }
         if chunk.kind == RIKEYING {
             return self.responder_keying_cause(sid_at(place), from, chunk.payload);
@@ -172,13 +170,13 @@ impl Endpoint {
     /// Why an initiator's keying is discarded.
     fn initiator_keying_cause(
         &self,
-        keyed_before: bool,
+        walk: Walk,
         from: &Address,
         payload: &[u8],
     ) -> Option<Cause>
-        ensures { result ≡ initiator_keying_cause self.now keyed_before from.now payload.now }
+        ensures { result ≡ initiator_keying_cause self.now walk from.now payload.now }
     {
-        if keyed_before {
+        if walk.keyed {
             return Some(Cause::SecondKeying);
         }
         self.startup
@@ -236,8 +234,8 @@ impl Endpoint {
         out: &mut Outbox,
     ) -> Result<(), AllocError>
         requires form { form_cause chunk.now.kind chunk.now.payload.now ≡ None }
-        requires last { (keyed_before : Bool) ×
-            (last_cause self.old place keyed_before from.now (shown chunk.now) ≡ None) }
+        requires last { (walk : Walk) ×
+            (last_cause self.old place walk from.now (shown chunk.now) ≡ None) }
         ensures ok
             { OnOk result (Done (effect self.old place from.now draws.now (shown chunk.now))
             self.new out.old out.new) }
@@ -373,7 +371,8 @@ impl Endpoint {
     ) -> Result<(), AllocError>
         requires { length bytes.now ≤ 1024 }
         ensures ok
-            { OnOk result (Done (sent_in_session self.old near to.now (PingReply bytes.now))
+            { OnOk result
+            (Done (sent_in_session self.old near to.now (chunk_bytes (PingReply bytes.now)))
             self.new out.old out.new) }
         ensures err { OnErr result (Done (nothing self.old) self.new out.old out.new) }
     {
@@ -410,22 +409,22 @@ impl Endpoint {
         place: Place,
         from: &Address,
         draws: &Draws,
-        keyed_before: bool,
+        walk: Walk,
         chunk: &RawChunk<'_>,
         out: &mut Outbox,
     ) -> Result<(), AllocError>
         requires { chunk.now.at < 2 ^ 32 }
         ensures ok
             { OnOk result
-            (Done (chunk_did place from.now draws.now keyed_before self.old (shown chunk.now))
+            (Done (chunk_did place from.now draws.now walk self.old (shown chunk.now))
             self.new out.old out.new) }
         ensures err { OnErr result (Done (nothing self.old) self.new out.old out.new) }
         // A chunk that adds nothing but its discard asks for no memory where there is room.
-        ensures enough { IsQuiet self.old place keyed_before from.now (shown chunk.now) →
-            discards_for (chunk_cause self.old place keyed_before from.now (shown chunk.now))
+        ensures enough { IsQuiet self.old place walk from.now (shown chunk.now) →
+            discards_for (chunk_cause self.old place walk from.now (shown chunk.now))
             ≤ out.old.free → IsOk result }
     {
-        match self.chunk_cause(place, keyed_before, from, chunk) {
+        match self.chunk_cause(place, walk, from, chunk) {
             Some(cause) => self.discard(chunk.at, cause, out),
             None => self.effect(place, from, draws, chunk, out),
         }

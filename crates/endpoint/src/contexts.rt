@@ -8,9 +8,9 @@ ghost use Rattle.endpoint_laws.specs.OpensIn.{OpensByTheLog, context_in_session,
 
 use crate::admission::{PLAIN_AT, SEALED_AT, word_of};
 use crate::endpoint::Endpoint;
-use endpoint_model::Place;
 use crate::sessions;
 use crypto_profile::{Context, open_refusal};
+use endpoint_model::Place;
 use packet_scramble::unscramble;
 
 impl Endpoint {

@@ -1,7 +1,7 @@
 //! One end.
 
-use endpoint_model::Config;
 use crypto_profile::{Context, Keys};
+use endpoint_model::Config;
 use identity::Certificate;
 use session_core::Session;
 use startup::Startup;

@@ -10,12 +10,11 @@ ghost use Rattle.endpoint_model.specs.Causes.{responder_keying_cause};
 ghost use Rattle.endpoint.specs.Kept.{table_of};
 ghost use Rattle.endpoint_model.specs.State.{Done, fact_entries, full, nothing};
 
-use endpoint_model::Draws;
 use crate::endpoint::Endpoint;
-use endpoint_model::Entry;
 use crate::outbox::Outbox;
 use crate::sealing::blank;
 use crate::sessions::{forget, keep};
+use endpoint_model::{Draws, Entry};
 use glare_core::Fact;
 use rtmfp_chunks::ChunkView;
 use rtmfp_forms::Address;

@@ -8,25 +8,25 @@ ghost use Rattle.rtmfp_packet.specs.Chunks.{left, shown};
 ghost use Rattle.endpoint_model.specs.Admission.{admission, admitted_packet, confirming, confirming_by,
     confirms, confirms_by, counted_at, counted_by, packet_in, taken_packet, timed_at, timed_by};
 ghost use Rattle.endpoint_model.specs.Due.{AddsDiscards, AreQuiet, chunks_did, discarded, discards,
-    discards_among, keyed_after, received};
+    discards_among, outset, walked, received};
 ghost use Rattle.endpoint_model.specs.Keying.{AreNear};
 ghost use Rattle.endpoint_model.specs.Log.{Extends, IsStop, IsTaken, not_taken, receive_event, stopped};
 ghost use Rattle.endpoint_model.specs.State.{Done, at_moment, nothing};
 
 use crate::admission::{PLAIN_AT, SEALED_AT, fault_number, has_mode};
-use endpoint_model::Stopped;
 use crate::chunks::IIKEYING;
-use endpoint_model::Draws;
 use crate::endpoint::Endpoint;
-use endpoint_model::Entry;
 use crate::keyings::add_fact;
 use crate::outbox::Outbox;
-use endpoint_model::Place;
 use crate::sessions::place_of;
+use endpoint_model::{Draws, Entry, Place, Stopped, Walk};
 use rtmfp_forms::Address;
 use rtmfp_packet::{Chunks, Packet, PacketHead, RawChunk, read_packet};
 use startup::Cause;
 use std::alloc::AllocError;
+
+/// Before the first chunk.
+const OUTSET: Walk = Walk { keyed: false };
 
 /// No memory was found before the datagram was taken.
 const NOT_TAKEN: Stopped = Stopped {
@@ -360,22 +360,22 @@ impl Endpoint {
         requires few { length (left chunks) < 2 ^ 32 }
         ensures ok
             { OnOk result
-            (Done (chunks_did place from.now draws.now false self.old (left chunks.entry)) self.new
+            (Done (chunks_did place from.now draws.now outset self.old (left chunks.entry)) self.new
             out.old out.new) }
         ensures stop { IfErr result (λ stop. (stop.taken ≡ true) ×
             (stop.chunks < length (left chunks.entry))) }
         ensures stopped
             { IfErr result
-            (λ stop. Done (chunks_did place from.now draws.now false self.old
+            (λ stop. Done (chunks_did place from.now draws.now outset self.old
             (take stop.chunks (left chunks.entry))) self.new out.old out.new) }
-        ensures enough { AreQuiet self.old place from.now false (left chunks.entry) →
-            discards_among self.old place from.now false (left chunks.entry) ≤ out.old.free →
+        ensures enough { AreQuiet self.old place from.now outset (left chunks.entry) →
+            discards_among self.old place from.now outset (left chunks.entry) ≤ out.old.free →
             IsOk result }
     {
         let mut gone = 0u32;
-        let mut keyed = false;
+        let mut walk = OUTSET;
         while let Some(chunk) = chunks.next() {
-            match self.chunk(place, from, draws, keyed, &chunk, out) {
+            match self.chunk(place, from, draws, walk, &chunk, out) {
                 Ok(()) => {}
                 Err(_) => {
                     return Err(Stopped {
@@ -384,7 +384,7 @@ impl Endpoint {
                     });
                 }
             }
-            keyed = keyed_after(keyed, &chunk);
+            walk = walked(walk, &chunk);
             gone += 1;
         }
         Ok(())
@@ -401,9 +401,11 @@ fn behind(bytes: &[u8], at: usize) -> &[u8]
     rest
 }
 
-/// Whether a keying was among the chunks so far, once this one was gone through.
-fn keyed_after(keyed_before: bool, chunk: &RawChunk<'_>) -> bool
-    ensures { result ≡ keyed_after keyed_before (shown chunk.now) }
+/// What the chunks so far were, once this one was gone through.
+fn walked(walk: Walk, chunk: &RawChunk<'_>) -> Walk
+    ensures { result ≡ walked walk (shown chunk.now) }
 {
-    keyed_before || chunk.kind == IIKEYING
+    Walk {
+        keyed: walk.keyed || chunk.kind == IIKEYING,
+    }
 }

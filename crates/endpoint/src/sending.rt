@@ -12,10 +12,10 @@ ghost use Rattle.endpoint_model.specs.Sending.{last_count, sent_answer, sent_eac
     session_datagram, startup_number};
 
 use crate::endpoint::Endpoint;
-use endpoint_model::Entry;
 use crate::outbox::Outbox;
 use crate::sealing::{DATAGRAM_LIMIT, SEALED_AT, blank, seal};
 use crypto_profile::Context;
+use endpoint_model::Entry;
 use packet_scramble::scramble;
 use rtmfp_base::Message;
 use rtmfp_chunks::{ChunkView, write_chunk};
@@ -120,7 +120,7 @@ pub(crate) fn session_datagram(
     requires spent { is_spent session.old ≡ false }
     requires writable { IsWritable (chunk_of chunk.now) }
     requires fits { length (chunk_bytes (chunk_of chunk.now)) ≤ 1159 }
-    ensures datagram { result ≡ session_datagram session.old moment (chunk_of chunk.now) }
+    ensures datagram { result ≡ session_datagram session.old moment (chunk_bytes (chunk_of chunk.now)) }
     ensures short { length result ≤ 1200 }
     ensures session { session.new ≡ after_seal session.old }
 {

@@ -7,10 +7,10 @@ ghost use Rattle.endpoint_model.specs.State.{Done};
 ghost use Rattle.endpoint_model.specs.Sending.{sent_in_session};
 
 use crate::endpoint::Endpoint;
-use endpoint_model::Entry;
 use crate::outbox::Outbox;
 use crate::sending::session_datagram;
 use crate::sessions::place_of;
+use endpoint_model::Entry;
 use rtmfp_chunks::ChunkView;
 use rtmfp_forms::Address;
 
@@ -30,8 +30,8 @@ impl Endpoint {
         requires room { 0 < out.old.free }
         requires writable { IsWritable (chunk_of chunk.now) }
         requires short { length (chunk_bytes (chunk_of chunk.now)) ≤ 1159 }
-        ensures { Done (sent_in_session self.old near to.now (chunk_of chunk.now)) self.new out.old
-            out.new }
+        ensures { Done (sent_in_session self.old near to.now (chunk_bytes (chunk_of chunk.now)))
+            self.new out.old out.new }
     {
         let Some(place) = place_of(&self.sessions, near) else {
             return;

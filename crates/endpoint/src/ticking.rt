@@ -1,16 +1,15 @@
 //! What time makes due.
 
 ghost use Rattle.std.specs.Prelude.{◌≡◌, ◌≤◌, ℕ, IsSome, None, OnErr, OnOk, Some};
-ghost use Rattle.startup.specs.Due.{due, due_sends};
-ghost use Rattle.endpoint_model.specs.Due.{tick_once, ticks};
+ghost use Rattle.startup.specs.Due.{due_sends};
+ghost use Rattle.endpoint_model.specs.Due.{first_due, tick_once, ticks};
 ghost use Rattle.endpoint_model.specs.Log.{Extends, tick_event};
 ghost use Rattle.endpoint_model.specs.State.{Done, at_moment, nothing};
 
-use endpoint_model::Draws;
 use crate::endpoint::Endpoint;
-use endpoint_model::Entry;
 use crate::outbox::Outbox;
 use crate::sending::blanks;
+use endpoint_model::{Draws, Entry};
 use rtmfp_base::Memory;
 use startup::Due;
 use std::alloc::AllocError;
@@ -24,8 +23,8 @@ impl Endpoint {
     pub fn tick(&mut self, moment: u64, draws: &Draws, out: &mut Outbox) -> Result<(), Memory>
         ensures some { (count : ℕ) ×
             Done (ticks count (at_moment self.old moment)) self.new out.old out.new }
-        ensures all { OnOk result (due self.new.startup self.new.moment ≡ None) }
-        ensures left { OnErr result (IsSome (due self.new.startup self.new.moment)) }
+        ensures all { OnOk result (first_due self.new ≡ None) }
+        ensures left { OnErr result (IsSome (first_due self.new)) }
 
         // The end stands for its log with this call.
         ensures stands { Extends self.old self.new
@@ -38,8 +37,8 @@ impl Endpoint {
     fn do_due(&mut self, moment: u64, out: &mut Outbox) -> Result<(), Memory>
         ensures some { (count : ℕ) ×
             Done (ticks count (at_moment self.old moment)) self.new out.old out.new }
-        ensures all { OnOk result (due self.new.startup self.new.moment ≡ None) }
-        ensures left { OnErr result (IsSome (due self.new.startup self.new.moment)) }
+        ensures all { OnOk result (first_due self.new ≡ None) }
+        ensures left { OnErr result (IsSome (first_due self.new)) }
     {
         self.advance(moment);
         // Each attempt is due once at a moment, so this ends.

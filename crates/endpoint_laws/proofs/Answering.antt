@@ -21,6 +21,7 @@ use Rattle.startup.specs.State.{AttemptState}
 use Rattle.startup.specs.Keyings.{ResponderKeying, responder_keying_in, opened_reading, opened, after_opening}
 use Rattle.session_core.specs.declared.stage.Role.TheVariants.{Initiator}
 use Rattle.session_core.specs.Session.{SessionState, new_session}
+use Rattle.rtmfp_chunks.specs.Writing.{chunk_bytes}
 use Rattle.endpoint_model.specs.declared.config.Draws.{Draws}
 use Rattle.endpoint_model.specs.declared.entry.Entry.TheVariants.{Fact as FactEntry}
 use Rattle.endpoint_model.specs.Event.{Setup, Receive, own_of}
@@ -142,4 +143,4 @@ module _ (setup : Setup) (from : AddressParts) (datagram : List ℕ) (draws : Dr
         moment = refl;
       } in
       subst (λ o. Goes setup (Receive from datagram draws) past s (opening_done s near from o)) (sym told)
-      (goes_then setup (Receive from datagram draws) past s first (λ u. sent_in_session u near from (Ping [])) one (goes_in_session setup (Receive from datagram draws) t near from (Ping []) now opened_tied))
+      (goes_then setup (Receive from datagram draws) past s first (λ u. sent_in_session u near from (chunk_bytes (Ping []))) one (goes_in_session setup (Receive from datagram draws) t near from (chunk_bytes (Ping [])) now opened_tied))

@@ -12,7 +12,7 @@ use Rattle.rtmfp_chunks.specs.declared.reading.ChunkFault.{ChunkFault}
 use Rattle.rtmfp_chunks.specs.Chunk.{Chunk, IHello, FIHello, RHello, Redirect, CookieChange, IIKeying, RIKeying, Ping, PingReply, Close, CloseAck, Fragment}
 use Rattle.rtmfp_chunks.specs.FieldReading.{chunk_reading}
 use Rattle.startup.specs.declared.cause.Cause.{Cause}
-use Rattle.startup.specs.declared.cause.Cause.TheVariants.{UnknownChunk, WrongPlace, NoAttempt, WrongState, WrongPeer, BadSignature, Wide, Fragment as FragmentCause}
+use Rattle.startup.specs.declared.cause.Cause.TheVariants.{UnknownChunk, WrongPlace, NoAttempt, SecondKeying, WrongState, WrongPeer, BadSignature, Wide, Fragment as FragmentCause}
 use Rattle.startup.specs.declared.answer.Answer.{Answer}
 use Rattle.startup.specs.State.{AttemptState, Attempts}
 use Rattle.startup.specs.Packets.{is_signed}
@@ -20,6 +20,8 @@ use Rattle.startup.specs.Attempts.{lowest, has_tag, has_cookie, with_attempt, an
 use Rattle.startup.specs.Keyings.{InitiatorKeying, ResponderKeying, initiator_keying_in, responder_keying_in, initiator_hello_answer, fault_in, cause_by, named_cause, cookie_cause, initiator_cause, iikeying_cause, is_in_hello, attempt_cause, responder_cause, rikeying_cause}
 use Rattle.cookies.specs.Cookie.{cookie_test}
 use Rattle.glare_core.specs.Calls.{where_true}
+use Rattle.rtmfp_chunks.specs.Writing.{chunk_bytes}
+use Rattle.endpoint_model.specs.declared.walk.Walk.{Walk}
 use Rattle.endpoint_model.specs.declared.config.Draws.{Draws}
 use Rattle.endpoint_model.specs.declared.place.Place.{Place}
 use Rattle.endpoint_model.specs.declared.place.Place.TheVariants.{Startup, Attempt, Session}
@@ -29,7 +31,7 @@ use Rattle.endpoint_model.specs.Keying.{IsAmong, IsFirst, chunks_of}
 use Rattle.endpoint_model.specs.State.{State, Did, with_startup, full}
 use Rattle.endpoint_model.specs.Sending.{sent_if}
 use Rattle.endpoint_model.specs.Admission.{sid_at}
-use Rattle.endpoint_model.specs.Due.{initiator_keyed, responder_keyed, read_done, effect, discarded_or, chunk_did, keyed_after, chunks_did}
+use Rattle.endpoint_model.specs.Due.{initiator_keyed, responder_keyed, read_done, effect, discarded_or, chunk_did, walked, chunks_did}
 use Rattle.endpoint_model.specs.Causes.{is_known, form_cause, read_fault, takes, initiator_keying_cause, responder_keying_cause, last_cause, chunk_cause}
 use Rattle.endpoint_model.proofs.Members.{tested}
 use Rattle.endpoint_laws.proofs.Tied.{Tied}
@@ -87,7 +89,7 @@ module _ (setup : Setup) (call : Call) where
       rhello_keeps s (lowest (has_tag tag) s.startup.attempts) from cookie (λ found is. (first_is_there (has_tag tag) s.startup.attempts found is).0)
   goes_read s place from (Ok (CookieChange old new)) =
       change_keeps s (changed s.startup.attempts (sid_at place) old) new (λ found is. changed_there s.startup.attempts (sid_at place) old found is)
-  goes_read s place from (Ok (Ping bytes)) = goes_in_session setup call s (sid_at place) from (PingReply bytes)
+  goes_read s place from (Ok (Ping bytes)) = goes_in_session setup call s (sid_at place) from (chunk_bytes (PingReply bytes))
   goes_read s place from (Ok (Redirect tag list)) = goes_nothing setup call s
   goes_read s place from (Ok (IIKeying near cookie cert part sign)) = goes_nothing setup call s
   goes_read s place from (Ok (RIKeying near part sign)) = goes_nothing setup call s
@@ -128,11 +130,14 @@ not_false false e = absurd (cc)
 same_bytes : (x y : List ℕ) → not (bytes_eq x y) ≡ false → x ≡ y
 same_bytes x y e = (bytes_eq-Decides x y).0 (not_false (bytes_eq x y) e)
 
+unkeyed : (b : Bool) (o : Option Cause) → (if b then Some SecondKeying else o) ≡ None → (b ≡ false) × (o ≡ None)
+unkeyed true o e = absurd (cc)
+unkeyed false o e = (refl, e)
+
 -- no keying came before this one
-keyed_none : (s : State) (keyed_before : Bool) (from : AddressParts) (payload : List ℕ) → initiator_keying_cause s keyed_before from payload ≡ None →
-    (keyed_before ≡ false) × (iikeying_cause s.startup payload from s.moment (full s) ≡ None)
-keyed_none s true from payload e = absurd (cc)
-keyed_none s false from payload e = (refl, e)
+keyed_none : (s : State) (walk : Walk) (from : AddressParts) (payload : List ℕ) → initiator_keying_cause s walk from payload ≡ None →
+    (walk.keyed ≡ false) × (iikeying_cause s.startup payload from s.moment (full s) ≡ None)
+keyed_none s walk from payload e = unkeyed walk.keyed (iikeying_cause s.startup payload from s.moment (full s)) e
 
 heard_of : (s : State) (from : AddressParts) (payload : List ℕ) (keying : InitiatorKeying) → initiator_keying_in payload ≡ Ok keying → iikeying_cause s.startup payload from s.moment (full s) ≡ None → IsHeard s from payload keying
 heard_of s from payload keying reads e =
@@ -189,23 +194,23 @@ module _ (setup : Setup) (from : AddressParts) (datagram : List ℕ) (draws : Dr
   call = Receive from datagram draws
 
   -- what the causes say, each of which is none
-  abbrev causes : State → Place → Bool → Placed → List (Option Cause)
-  causes s place keyed_before c =
+  abbrev causes : State → Place → Walk → Placed → List (Option Cause)
+  causes s place walk c =
       where_true (not (is_known c.kind)) (UnknownChunk c.kind)
       ∷ form_cause c.kind c.payload
       ∷ where_true (c.kind == 0x7f) FragmentCause
       ∷ where_true (not (takes place c.kind)) WrongPlace
-      ∷ last_cause s place keyed_before from c
+      ∷ last_cause s place walk from c
       ∷ []
 
-  initiator_goes : (s : State) (past : List Stamped) (place : Place) (keyed_before : Bool) (c : Placed) → Tied setup past s → Came setup datagram place packet → IsAmong c (chunks_of packet) → (keyed_before ≡ false → c.kind ≡ 0x38 → IsFirst c (chunks_of packet)) →
-      c.kind ≡ 0x38 → takes place 0x38 ≡ true → initiator_keying_cause s keyed_before from c.payload ≡ None → fault_in (initiator_keying_in c.payload) ≡ None → Goes setup call past s (initiator_keyed s from draws c.payload)
-  initiator_goes s past Startup keyed_before c tied came among first kind taken none formed =
+  initiator_goes : (s : State) (past : List Stamped) (place : Place) (walk : Walk) (c : Placed) → Tied setup past s → Came setup datagram place packet → IsAmong c (chunks_of packet) → (walk.keyed ≡ false → c.kind ≡ 0x38 → IsFirst c (chunks_of packet)) →
+      c.kind ≡ 0x38 → takes place 0x38 ≡ true → initiator_keying_cause s walk from c.payload ≡ None → fault_in (initiator_keying_in c.payload) ≡ None → Goes setup call past s (initiator_keyed s from draws c.payload)
+  initiator_goes s past Startup walk c tied came among first kind taken none formed =
       let reads = read_ok (initiator_keying_in c.payload) formed in
-      let both = keyed_none s keyed_before from c.payload none in
+      let both = keyed_none s walk from c.payload none in
       goes_initiator setup from datagram draws most small past s tied reads.0 packet c came.0 came.1 among (first both.0 kind) kind (heard_of s from c.payload reads.0 reads.1 both.1)
-  initiator_goes s past (Attempt near) keyed_before c tied came among first kind taken none formed = absurd (cc)
-  initiator_goes s past (Session near) keyed_before c tied came among first kind taken none formed = absurd (cc)
+  initiator_goes s past (Attempt near) walk c tied came among first kind taken none formed = absurd (cc)
+  initiator_goes s past (Session near) walk c tied came among first kind taken none formed = absurd (cc)
 
   responder_goes : (s : State) (past : List Stamped) (place : Place) (c : Placed) → Tied setup past s → Came setup datagram place packet → IsAmong c (chunks_of packet) →
       c.kind ≡ 0x78 → takes place 0x78 ≡ true → responder_keying_cause s (sid_at place) c.payload ≡ None → fault_in (responder_keying_in c.payload) ≡ None → Goes setup call past s (responder_keyed s (sid_at place) from c.payload)
@@ -215,23 +220,23 @@ module _ (setup : Setup) (from : AddressParts) (datagram : List ℕ) (draws : Dr
       goes_responder setup from datagram draws packet past s tied near c (opening_of s near c.payload reads.0 reads.1 none) came among kind
   responder_goes s past (Session near) c tied came among kind taken none formed = absurd (cc)
 
-  effect_goes : (s : State) (past : List Stamped) (place : Place) (keyed_before : Bool) (c : Placed) → Tied setup past s → Came setup datagram place packet → IsAmong c (chunks_of packet) → (keyed_before ≡ false → c.kind ≡ 0x38 → IsFirst c (chunks_of packet)) →
-      chunk_cause s place keyed_before from c ≡ None → Goes setup call past s (effect s place from draws c)
-  effect_goes s past place keyed_before c tied came among first none =
-      let all = all_none (causes s place keyed_before c) none in
+  effect_goes : (s : State) (past : List Stamped) (place : Place) (walk : Walk) (c : Placed) → Tied setup past s → Came setup datagram place packet → IsAmong c (chunks_of packet) → (walk.keyed ≡ false → c.kind ≡ 0x38 → IsFirst c (chunks_of packet)) →
+      chunk_cause s place walk from c ≡ None → Goes setup call past s (effect s place from draws c)
+  effect_goes s past place walk c tied came among first none =
+      let all = all_none (causes s place walk c) none in
       let taken : takes place c.kind ≡ true = not_false (takes place c.kind) (test_fails (not (takes place c.kind)) WrongPlace all.1.1.1.0) in
       elim (tested c.kind 0x38) [
         | inl is ↦
             subst (λ d. Goes setup call past s d) (sym (if_is (c.kind == 0x38) (initiator_keyed s from draws c.payload) _ is.1))
-            (initiator_goes s past place keyed_before c tied came among first is.0 (ap (takes place) (sym is.0) ∙ taken)
-            (sym (if_is (c.kind == 0x38) (initiator_keying_cause s keyed_before from c.payload) _ is.1) ∙ all.1.1.1.1.0)
+            (initiator_goes s past place walk c tied came among first is.0 (ap (takes place) (sym is.0) ∙ taken)
+            (sym (if_is (c.kind == 0x38) (initiator_keying_cause s walk from c.payload) _ is.1) ∙ all.1.1.1.1.0)
             (first_form (c.kind == 0x38) (c.kind == 0x78) (fault_in (initiator_keying_in c.payload)) (fault_in (responder_keying_in c.payload)) (read_fault (length c.payload) (chunk_reading c.kind c.payload)) is.1 all.1.0))
         | inr other ↦
             subst (λ d. Goes setup call past s d) (sym (if_not (c.kind == 0x38) (initiator_keyed s from draws c.payload) _ other.1)) (elim (tested c.kind 0x78) [
               | inl is ↦
                   subst (λ d. Goes setup call past s d) (sym (if_is (c.kind == 0x78) (responder_keyed s (sid_at place) from c.payload) _ is.1))
                   (responder_goes s past place c tied came among is.0 (ap (takes place) (sym is.0) ∙ taken)
-                  (sym (if_is (c.kind == 0x78) (responder_keying_cause s (sid_at place) c.payload) _ is.1) ∙ sym (if_not (c.kind == 0x38) (initiator_keying_cause s keyed_before from c.payload) _ other.1) ∙ all.1.1.1.1.0)
+                  (sym (if_is (c.kind == 0x78) (responder_keying_cause s (sid_at place) c.payload) _ is.1) ∙ sym (if_not (c.kind == 0x38) (initiator_keying_cause s walk from c.payload) _ other.1) ∙ all.1.1.1.1.0)
                   (second_form (c.kind == 0x38) (c.kind == 0x78) (fault_in (initiator_keying_in c.payload)) (fault_in (responder_keying_in c.payload)) (read_fault (length c.payload) (chunk_reading c.kind c.payload)) other.1 is.1 all.1.0))
               | inr neither ↦
                   subst (λ d. Goes setup call past s d) (sym (if_not (c.kind == 0x78) (responder_keyed s (sid_at place) from c.payload) _ neither.1))
@@ -239,20 +244,20 @@ module _ (setup : Setup) (from : AddressParts) (datagram : List ℕ) (draws : Dr
             ])
       ]
 
-  chunk_goes : (s : State) (past : List Stamped) (place : Place) (keyed_before : Bool) (c : Placed) → Tied setup past s → Came setup datagram place packet → IsAmong c (chunks_of packet) → (keyed_before ≡ false → c.kind ≡ 0x38 → IsFirst c (chunks_of packet)) →
-      Goes setup call past s (chunk_did place from draws keyed_before s c)
-  chunk_goes s past place keyed_before c tied came among first = by (chunk_cause s place keyed_before from c) refl
+  chunk_goes : (s : State) (past : List Stamped) (place : Place) (walk : Walk) (c : Placed) → Tied setup past s → Came setup datagram place packet → IsAmong c (chunks_of packet) → (walk.keyed ≡ false → c.kind ≡ 0x38 → IsFirst c (chunks_of packet)) →
+      Goes setup call past s (chunk_did place from draws walk s c)
+  chunk_goes s past place walk c tied came among first = by (chunk_cause s place walk from c) refl
     where
-      by : (o : Option Cause) → chunk_cause s place keyed_before from c ≡ o → Goes setup call past s (discarded_or s c.at o (effect s place from draws c))
-      by None is = effect_goes s past place keyed_before c tied came among first is
+      by : (o : Option Cause) → chunk_cause s place walk from c ≡ o → Goes setup call past s (discarded_or s c.at o (effect s place from draws c))
+      by None is = effect_goes s past place walk c tied came among first is
       by (Some cause) is = goes_discarded setup call s c.at cause past tied
 
   -- ---- all of them
 
   -- these chunks come after some, of which one is a keying where one was before
-  pub record IsNext (keyed_before : Bool) (before cs : List Placed) : Type 0 where
+  pub record IsNext (walk : Walk) (before cs : List Placed) : Type 0 where
     pub whole : chunks_of packet ≡ before ++ cs
-    pub keyed : keyed_before ≡ false → (c : Placed) → IsAmong c before → c.kind ≡ 0x38 → ⊥
+    pub keyed : walk.keyed ≡ false → (c : Placed) → IsAmong c before → c.kind ≡ 0x38 → ⊥
 
   among_back : (before : List Placed) (c : Placed) (cs : List Placed) → IsAmong c (before ++ c ∷ cs)
   among_back [] c cs = inl refl
@@ -272,21 +277,21 @@ module _ (setup : Setup) (from : AddressParts) (datagram : List ℕ) (draws : Dr
   neither true b e = absurd (cc)
   neither false b e = (refl, e)
 
-  pub chunks_go : (place : Place) → Came setup datagram place packet → (keyed_before : Bool) (before cs rest : List Placed) (s : State) (past : List Stamped) → IsNext keyed_before before (cs ++ rest) → Tied setup past s →
-      Goes setup call past s (chunks_did place from draws keyed_before s cs)
-  chunks_go place came keyed_before before [] rest s past next tied = goes_nothing setup call s past tied
-  chunks_go place came keyed_before before (c ∷ cs) rest s past next tied =
+  pub chunks_go : (place : Place) → Came setup datagram place packet → (walk : Walk) (before cs rest : List Placed) (s : State) (past : List Stamped) → IsNext walk before (cs ++ rest) → Tied setup past s →
+      Goes setup call past s (chunks_did place from draws walk s cs)
+  chunks_go place came walk before [] rest s past next tied = goes_nothing setup call s past tied
+  chunks_go place came walk before (c ∷ cs) rest s past next tied =
       let among : IsAmong c (chunks_of packet) = subst (IsAmong c) (sym next.whole) (among_back before c (cs ++ rest)) in
-      let one = chunk_goes s past place keyed_before c tied came among (λ e kind. subst (IsFirst c) (sym next.whole) (first_back before c (cs ++ rest) (next.keyed e) kind)) in
-      let later : IsNext (keyed_after keyed_before c) (before ++ c ∷ []) (cs ++ rest) = record {
+      let one = chunk_goes s past place walk c tied came among (λ e kind. subst (IsFirst c) (sym next.whole) (first_back before c (cs ++ rest) (next.keyed e) kind)) in
+      let later : IsNext (walked walk c) (before ++ c ∷ []) (cs ++ rest) = record {
         whole = next.whole ∙ sym (append_assoc before (c ∷ []) (cs ++ rest));
         keyed = λ e b in_all kind.
-            let both = neither keyed_before (c.kind == 0x38) e in
+            let both = neither walk.keyed (c.kind == 0x38) e in
             elim (among_end before c b in_all) [
               | inl there ↦ next.keyed both.0 b there kind
               | inr is ↦ elim (tested c.kind 0x38) [ inl same ↦ (let clash : true ≡ false = sym same.1 ∙ both.1 in cc) | inr other ↦ other.0 (ap (λ (p : Placed). p.kind) (sym is) ∙ kind) ]
             ];
       } in
-      let d : Did = chunk_did place from draws keyed_before s c in
-      goes_then setup call past s d (λ t. chunks_did place from draws (keyed_after keyed_before c) t cs) one
-      (chunks_go place came (keyed_after keyed_before c) (before ++ c ∷ []) cs rest d.state (onto s.moment d.entries past) later one.tied)
+      let d : Did = chunk_did place from draws walk s c in
+      goes_then setup call past s d (λ t. chunks_did place from draws (walked walk c) t cs) one
+      (chunks_go place came (walked walk c) (before ++ c ∷ []) cs rest d.state (onto s.moment d.entries past) later one.tied)

@@ -46,8 +46,10 @@ use Rattle.startup.specs.Keyings.{InitiatorKeying, keying_of, initiator_hello_an
 use Rattle.session_core.specs.Session.{SessionState, new_session, head_at}
 use Rattle.session_core.specs.Sealed.{number_bytes}
 use Rattle.glare_core.specs.Tells.{as_initiator}
+use Rattle.rtmfp_chunks.specs.Writing.{chunk_bytes}
 use Rattle.endpoint_laws.specs.Contexts.{session_context}
 use Rattle.session_core.specs.declared.stage.Role.TheVariants.{Initiator}
+use Rattle.endpoint_model.specs.declared.walk.Walk.{Walk}
 use Rattle.endpoint_model.specs.declared.config.Draws.{Draws}
 use Rattle.endpoint_model.specs.declared.place.Place.{Place}
 use Rattle.endpoint_model.specs.declared.place.Place.TheVariants.{Startup, Attempt}
@@ -62,7 +64,7 @@ use Rattle.endpoint_model.specs.State.{State, Did, nothing, after_entries, then_
 use Rattle.endpoint_model.specs.Sending.{last_count, startup_number, startup_datagram, session_packet, session_datagram, sent_answer, sent_if, sent_by}
 use Rattle.endpoint_model.specs.Admission.{Admission, Rejected, Admitted, place_of, sid_at, opened_by, placed, opened_found, opened_datagram, admission, admitted, admitted_packet, packet_in, has_mode, confirming}
 use Rattle.endpoint_model.specs.Causes.{is_known, form_cause, takes, last_cause, chunk_cause}
-use Rattle.endpoint_model.specs.Due.{with_born, keying_done, initiator_keyed, responder_keyed, with_opened, opening_done, read_done, effect, discarded_or, chunk_did, keyed_after, chunks_did, received, part_received}
+use Rattle.endpoint_model.specs.Due.{with_born, keying_done, initiator_keyed, responder_keyed, with_opened, opening_done, read_done, effect, discarded_or, chunk_did, walked, chunks_did, received, part_received, outset}
 use Rattle.endpoint_model.specs.Log.{Answers, Leads}
 use Rattle.endpoint_laws.specs.Laws.{IsSetup, IsCall, AreCalls}
 use Rattle.endpoint_laws.specs.Complete.{WentThrough, IsPing, outs_in, at_initiator, IsOfOffer, IsBornAndTold, AdmissibleKeyingsBear, OpensItsSession, KeyingsWithoutCauseOpen}
@@ -73,7 +75,7 @@ use Rattle.endpoint_model.proofs.Members.{tested}
 use Rattle.endpoint_laws.proofs.Tied.{Tied, fresh_tied}
 use Rattle.endpoint_laws.proofs.Moving.{tied_alike}
 use Rattle.endpoint_laws.proofs.Going.{Goes}
-use Rattle.endpoint_model.proofs.Steps.{then_then}
+use Rattle.endpoint_model.proofs.Steps.{then_then, walk_through}
 use Rattle.endpoint_laws.proofs.Admitting.{Came, AdmissionIs, admission_is}
 use Rattle.endpoint_laws.proofs.Answering.{OpensAttempt}
 use Rattle.endpoint_laws.proofs.Chunked.{chunks_go, read_ok, opening_of}
@@ -120,9 +122,9 @@ none_if : (s : State) (answer : Option Answer) → NoFacts (sent_if s answer).en
 none_if s None = tt
 none_if s (Some answer) = none_answer s answer
 
-none_by : (s : State) (near : ℕ) (to : AddressParts) (chunk : Chunk) (o : Option SessionState) → NoFacts (sent_by s near to chunk o).entries
-none_by s near to chunk None = tt
-none_by s near to chunk (Some session) = none_either (session.sealed == last_count) (nothing s) _ tt tt
+none_by : (s : State) (near : ℕ) (to : AddressParts) (body : List ℕ) (o : Option SessionState) → NoFacts (sent_by s near to body o).entries
+none_by s near to body None = tt
+none_by s near to body (Some session) = none_either (session.sealed == last_count) (nothing s) _ tt tt
 
 none_read : (s : State) (place : Place) (from : AddressParts) (r : Result Chunk ChunkFault) → NoFacts (read_done s place from r).entries
 none_read s place from (Ok (IHello epd tag)) = none_answer s (initiator_hello_answer s.startup tag from s.moment)
@@ -130,7 +132,7 @@ none_read s place from (Ok (FIHello epd reply tag)) = none_answer s (initiator_h
 none_read s place from (Ok (RHello tag cookie cert)) = none_if (with_startup s (after_rhello s.startup tag cookie from s.moment)) (rhello_keying s.startup tag cookie from)
 none_read s place from (Ok (CookieChange old new)) =
     none_if (with_startup s (after_cookie_change s.startup (sid_at place) old new s.moment)) (cookie_change_keying s.startup (sid_at place) old new)
-none_read s place from (Ok (Ping bytes)) = none_by s (sid_at place) from (PingReply bytes) (get s.sessions (sid_at place))
+none_read s place from (Ok (Ping bytes)) = none_by s (sid_at place) from (chunk_bytes (PingReply bytes)) (get s.sessions (sid_at place))
 none_read s place from (Ok (Redirect tag list)) = tt
 none_read s place from (Ok (IIKeying near cookie cert part sign)) = tt
 none_read s place from (Ok (RIKeying near part sign)) = tt
@@ -160,8 +162,10 @@ split c (x ∷ cs) kind (inr later) =
     let rest = split c cs kind later.1 in
     record { front = x ∷ rest.front; back = rest.back; whole = ap (λ (ys : List Placed). x ∷ ys) rest.whole; others = ((λ e. later.0 (e ∙ sym kind)), rest.others) }
 
-keyed_false : (c : Placed) → c.kind ≢ 0x38 → keyed_after false c ≡ false
-keyed_false c other = elim (tested c.kind 0x38) [ inl is ↦ absurd (other is.0) | inr is ↦ is.1 ]
+keyed_false : (c : Placed) → c.kind ≢ 0x38 → walked outset c ≡ outset
+keyed_false c other =
+    let to_walk : Bool → Walk = λ keyed. record { keyed = keyed } in
+    elim (tested c.kind 0x38) [ inl is ↦ absurd (other is.0) | inr is ↦ ap to_walk is.1 ]
 
 false_is : {A : Type 0} (b : Bool) (x y : A) → b ≡ false → (if b then x else y) ≡ y
 false_is true x y e = absurd (cc)
@@ -171,59 +175,59 @@ true_is : {A : Type 0} (b : Bool) (x y : A) → b ≡ true → (if b then x else
 true_is true x y e = refl
 true_is false x y e = absurd (cc)
 
-abbrev causes : State → Place → Bool → AddressParts → Placed → List (Option Cause)
-causes s place keyed_before from c =
+abbrev causes : State → Place → Walk → AddressParts → Placed → List (Option Cause)
+causes s place walk from c =
     where_true (not (is_known c.kind)) (UnknownChunk c.kind)
     ∷ form_cause c.kind c.payload
     ∷ where_true (c.kind == 0x7f) FragmentCause
     ∷ where_true (not (takes place c.kind)) WrongPlace
-    ∷ last_cause s place keyed_before from c
+    ∷ last_cause s place walk from c
     ∷ []
 
 module _ (from : AddressParts) (draws : Draws) where
   -- another chunk at the place of startup states nothing
-  none_other : (s : State) (c : Placed) → c.kind ≢ 0x38 → NoFacts (chunk_did Startup from draws false s c).entries
-  none_other s c other = by (chunk_cause s Startup false from c) refl
+  none_other : (s : State) (c : Placed) → c.kind ≢ 0x38 → NoFacts (chunk_did Startup from draws outset s c).entries
+  none_other s c other = by (chunk_cause s Startup outset from c) refl
     where
       first : (c.kind == 0x38) ≡ false
       first = elim (tested c.kind 0x38) [ inl is ↦ absurd (other is.0) | inr is ↦ is.1 ]
 
-      inner : (b : Bool) → (c.kind == 0x78) ≡ b → chunk_cause s Startup false from c ≡ None →
+      inner : (b : Bool) → (c.kind == 0x78) ≡ b → chunk_cause s Startup outset from c ≡ None →
           NoFacts (if b then responder_keyed s 0 from c.payload else read_done s Startup from (chunk_reading c.kind c.payload)).entries
       inner true is none =
-          let all = all_none (causes s Startup false from c) none in
+          let all = all_none (causes s Startup outset from c) none in
           let taken : not (takes Startup c.kind) ≡ false = test_fails (not (takes Startup c.kind)) WrongPlace all.1.1.1.0 in
           let kind : c.kind ≡ 0x78 = elim (tested c.kind 0x78) [ inl same ↦ same.0 | inr apart ↦ (let clash : true ≡ false = sym is ∙ apart.1 in absurd (cc)) ] in
           let clash : true ≡ false = ap (λ (k : ℕ). not (takes Startup k)) (sym kind) ∙ taken in
           absurd (cc)
       inner false is none = none_read s Startup from (chunk_reading c.kind c.payload)
 
-      by : (o : Option Cause) → chunk_cause s Startup false from c ≡ o → NoFacts (discarded_or s c.at o (effect s Startup from draws c)).entries
+      by : (o : Option Cause) → chunk_cause s Startup outset from c ≡ o → NoFacts (discarded_or s c.at o (effect s Startup from draws c)).entries
       by (Some cause) e = tt
       by None e =
           subst (λ (d : Did). NoFacts d.entries)
           (sym (false_is (c.kind == 0x38) (initiator_keyed s from draws c.payload) (if c.kind == 0x78 then responder_keyed s 0 from c.payload else read_done s Startup from (chunk_reading c.kind c.payload)) first))
           (inner (c.kind == 0x78) refl e)
 
-  none_front : (front : List Placed) → AreOthers front → (s : State) → NoFacts (chunks_did Startup from draws false s front).entries
+  none_front : (front : List Placed) → AreOthers front → (s : State) → NoFacts (chunks_did Startup from draws outset s front).entries
   none_front [] others s = tt
   none_front (c ∷ front) others s =
-      let d : Did = chunk_did Startup from draws false s c in
-      none_in_both d.entries (chunks_did Startup from draws (keyed_after false c) d.state front).entries (none_other s c others.0)
-      (subst (λ (k : Bool). NoFacts (chunks_did Startup from draws k d.state front).entries) (sym (keyed_false c others.0)) (none_front front others.1 d.state))
+      let d : Did = chunk_did Startup from draws outset s c in
+      none_in_both d.entries (chunks_did Startup from draws (walked outset c) d.state front).entries (none_other s c others.0)
+      (subst (λ (k : Walk). NoFacts (chunks_did Startup from draws k d.state front).entries) (sym (keyed_false c others.0)) (none_front front others.1 d.state))
 
   -- the chunks after them go on from what they left
   front_then : (front rest : List Placed) → AreOthers front → (s : State) →
-      chunks_did Startup from draws false s (front ++ rest) ≡ then_do (chunks_did Startup from draws false s front) (λ t. chunks_did Startup from draws false t rest)
+      chunks_did Startup from draws outset s (front ++ rest) ≡ then_do (chunks_did Startup from draws outset s front) (λ t. chunks_did Startup from draws outset t rest)
   front_then [] rest others s = refl
   front_then (c ∷ front) rest others s =
-      let d : Did = chunk_did Startup from draws false s c in
-      let last : State → Did = λ t. chunks_did Startup from draws false t rest in
+      let d : Did = chunk_did Startup from draws outset s c in
+      let last : State → Did = λ t. chunks_did Startup from draws outset t rest in
       let same = keyed_false c others.0 in
-      ap (λ (k : Bool). then_do d (λ t. chunks_did Startup from draws k t (front ++ rest))) same
+      ap (λ (k : Walk). then_do d (λ t. chunks_did Startup from draws k t (front ++ rest))) same
       ∙ ap (after_entries d.entries) (front_then front rest others.1 d.state)
-      ∙ sym (then_then d (λ t. chunks_did Startup from draws false t front) last)
-      ∙ ap (λ (k : Bool). then_do (then_do d (λ t. chunks_did Startup from draws k t front)) last) (sym same)
+      ∙ sym (then_then d (λ t. chunks_did Startup from draws outset t front) last)
+      ∙ ap (λ (k : Walk). then_do (then_do d (λ t. chunks_did Startup from draws k t front)) last) (sym same)
 
 -- ---- what the keying adds
 
@@ -355,13 +359,13 @@ module _ (setup : Setup) (past : List Stamped) (s : State) (tied : Tied setup pa
   in_all = goes ∙ ap (λ (cs : List Placed). cs ++ rest) cut.whole ∙ append_assoc cut.front (a.chunk ∷ cut.back) rest
 
   abbrev first : Did
-  first = chunks_did Startup from draws false s cut.front
+  first = chunks_did Startup from draws outset s cut.front
 
   abbrev u : State
   u = first.state
 
   after_front : Goes setup (Receive from datagram draws) past s first
-  after_front = chunks_go setup from datagram draws most fits.2 a.packet Startup came false [] cut.front (a.chunk ∷ (cut.back ++ rest)) s past (record { whole = in_all; keyed = λ e c none is. none }) tied
+  after_front = chunks_go setup from datagram draws most fits.2 a.packet Startup came outset [] cut.front (a.chunk ∷ (cut.back ++ rest)) s past (record { whole = in_all; keyed = λ e c none is. none }) tied
 
   abbrev told : List Stamped
   told = onto s.moment first.entries past
@@ -381,25 +385,25 @@ module _ (setup : Setup) (past : List Stamped) (s : State) (tied : Tied setup pa
   this_is : a.chunk ≡ this
   this_is = let as_kind : ℕ → Placed = λ x. record { kind = x; at = a.chunk.at; payload = a.chunk.payload } in ap as_kind kind
 
-  no_cause : chunk_cause u Startup false from this ≡ None
-  no_cause = none_all (causes u Startup false from this) (refl, (ap fault_in bearing.reads, (refl, (refl, (bearing.cause, tt)))))
+  no_cause : chunk_cause u Startup outset from this ≡ None
+  no_cause = none_all (causes u Startup outset from this) (refl, (ap fault_in bearing.reads, (refl, (refl, (bearing.cause, tt)))))
 
-  chunk_so : chunk_did Startup from draws false u a.chunk ≡ initiator_keyed u from draws a.chunk.payload
-  chunk_so = ap (chunk_did Startup from draws false u) this_is ∙ ap (λ (o : Option Cause). discarded_or u a.chunk.at o (initiator_keyed u from draws a.chunk.payload)) no_cause
+  chunk_so : chunk_did Startup from draws outset u a.chunk ≡ initiator_keyed u from draws a.chunk.payload
+  chunk_so = ap (chunk_did Startup from draws outset u) this_is ∙ ap (λ (o : Option Cause). discarded_or u a.chunk.at o (initiator_keyed u from draws a.chunk.payload)) no_cause
 
   abbrev later : List Entry
-  later = (chunks_did Startup from draws (keyed_after false a.chunk) (chunk_did Startup from draws false u a.chunk).state cut.back).entries
+  later = (chunks_did Startup from draws (walked outset a.chunk) (chunk_did Startup from draws outset u a.chunk).state cut.back).entries
 
-  in_two : (chunks_did Startup from draws false s gone).entries ≡ first.entries ++ ((chunk_did Startup from draws false u a.chunk).entries ++ later)
+  in_two : (chunks_did Startup from draws outset s gone).entries ≡ first.entries ++ ((chunk_did Startup from draws outset u a.chunk).entries ++ later)
   in_two =
-      ap (λ (cs : List Placed). (chunks_did Startup from draws false s cs).entries) cut.whole
+      ap (λ (cs : List Placed). (chunks_did Startup from draws outset s cs).entries) cut.whole
       ∙ ap (λ (d : Did). d.entries) (front_then from draws cut.front (a.chunk ∷ cut.back) cut.others s)
 
-  few_so : u.sealed ≤ s.sealed + outs_in (chunks_did Startup from draws false s gone).entries
+  few_so : u.sealed ≤ s.sealed + outs_in (chunks_did Startup from draws outset s gone).entries
   few_so =
-      omega (arith, few_chunks Startup from draws false cut.front s, ap outs_in in_two, outs_append first.entries ((chunk_did Startup from draws false u a.chunk).entries ++ later))
+      omega (arith, few_chunks Startup from draws outset cut.front s, ap outs_in in_two, outs_append first.entries ((chunk_did Startup from draws outset u a.chunk).entries ++ later))
 
-  bears : (u.sealed == last_count) ≡ false → count (facts_of past) < 2 ^ 64 → (x : Joined) × IsOfOffer offer draws.nonce (facts_of past) x × IsBornAndTold setup from x (chunks_did Startup from draws false s gone).entries
+  bears : (u.sealed == last_count) ≡ false → count (facts_of past) < 2 ^ 64 → (x : Joined) × IsOfOffer offer draws.nonce (facts_of past) x × IsBornAndTold setup from x (chunks_did Startup from draws outset s gone).entries
   bears some counted =
       let x : Joined = j setup told u after_front.tied from draws a.chunk.payload keying bearing some in
       let made : Option Fact = way setup told u after_front.tied from draws a.chunk.payload keying bearing some in
@@ -436,19 +440,19 @@ moment_goes setup past (e ∷ log) s t is calls tied leads =
 -- what a call adds that has gone through these chunks of a packet
 went_entries : (noted t u : State) (place : Place) (from : AddressParts) (datagram : List ℕ) (draws : Draws) (answer : CallAnswer) (entries : List Entry) (packet : Whole) (gone : List Placed) →
     Answers noted (Receive from datagram draws) answer entries t → admission noted datagram ≡ Admitted u place packet → confirming u place ≡ nothing u → WentThrough answer (chunks_of packet) gone →
-    entries ≡ (chunks_did place from draws false u gone).entries
+    entries ≡ (chunks_did place from draws outset u gone).entries
 went_entries noted t u place from datagram draws (Began n) entries packet gone step at quiet went = absurd went
 went_entries noted t u place from datagram draws Done entries packet gone step at quiet went =
-    step.entries ∙ ap (λ (x : Admission). (received from draws x).entries) at ∙ ap (λ (d : Did). (then_do d (λ v. chunks_did place from draws false v (chunks_of packet))).entries) quiet
-    ∙ ap (λ (cs : List Placed). (chunks_did place from draws false u cs).entries) (sym went)
+    step.entries ∙ ap (λ (x : Admission). (received from draws x).entries) at ∙ ap (λ (d : Did). (then_do d (λ v. chunks_did place from draws outset v (chunks_of packet))).entries) quiet
+    ∙ ap (λ (cs : List Placed). (chunks_did place from draws outset u cs).entries) (sym went)
 went_entries noted t u place from datagram draws (NotOpened refusal) entries packet gone step at quiet went = absurd went
 went_entries noted t u place from datagram draws (Refused refusal) entries packet gone step at quiet went = absurd went
 went_entries noted t u place from datagram draws (Stopped stop) entries packet gone step at quiet went =
     step.1.entries
     ∙ ap (λ (b : Bool). (if b then part_received from draws (admission noted datagram) stop.chunks else nothing noted).entries) went.0
     ∙ ap (λ (x : Admission). (part_received from draws x stop.chunks).entries) at
-    ∙ ap (λ (d : Did). (then_do d (λ v. chunks_did place from draws false v (take stop.chunks (chunks_of packet)))).entries) quiet
-    ∙ ap (λ (cs : List Placed). (chunks_did place from draws false u cs).entries) (sym went.1)
+    ∙ ap (λ (d : Did). (then_do d (λ v. chunks_did place from draws outset v (take stop.chunks (chunks_of packet)))).entries) quiet
+    ∙ ap (λ (cs : List Placed). (chunks_did place from draws outset u cs).entries) (sym went.1)
 went_entries noted t u place from datagram draws OutOfMemory entries packet gone step at quiet went = absurd went
 
 -- these are the first of the packet's chunks
@@ -471,9 +475,9 @@ admissible_keyings_bear setup log s t moment from datagram draws answer entries 
     let at : noted.moment ≡ now = ap (λ (m : ℕ). max m moment) last in
     let cut = went_first answer (chunks_of a.packet) gone went in
     let so = admission_so setup past noted tied from datagram draws offer now a at is.sessions fits other gone cut.0 cut.1 firstly in
-    let entries_are : entries ≡ (chunks_did Startup from draws false noted gone).entries = went_entries noted t noted Startup from datagram draws answer entries a.packet gone step so refl went in
+    let entries_are : entries ≡ (chunks_did Startup from draws outset noted gone).entries = went_entries noted t noted Startup from datagram draws answer entries a.packet gone step so refl went in
     let left : State = u setup past noted tied from datagram draws offer now a at is.sessions fits other gone cut.0 cut.1 firstly in
-    let sealed_few : left.sealed ≤ noted.sealed + outs_in (chunks_did Startup from draws false noted gone).entries =
+    let sealed_few : left.sealed ≤ noted.sealed + outs_in (chunks_did Startup from draws outset noted gone).entries =
     few_so setup past noted tied from datagram draws offer now a at is.sessions fits other gone cut.0 cut.1 firstly in
     let room : left.sealed < last_count = omega (arith, sealed_few, few_of_log setup log s stands, ap outs_in entries_are, few) in
     let born = bears setup past noted tied from datagram draws offer now a at is.sessions fits other gone cut.0 cut.1 firstly (less_is_other left.sealed last_count room) (count_of_log setup log s is calls stands) in
@@ -494,19 +498,19 @@ module _ (s : State) (near : ℕ) (from : AddressParts) (draws : Draws) (c : Pla
   abbrev after_it : State
   after_it = with_opened (with_startup s (after_opening s.startup near (Opened session))) near (Opened session) from
 
-  entries_are : (responder_keyed s near from c.payload).entries ≡ FactEntry (Opened session) ∷ (sent_by after_it near from (Ping []) (Some kept)).entries
+  entries_are : (responder_keyed s near from c.payload).entries ≡ FactEntry (Opened session) ∷ (sent_by after_it near from (chunk_bytes (Ping [])) (Some kept)).entries
   entries_are =
       ap (λ (o : Option Fact). (opening_done s near from o).entries) opened_as
-      ∙ ap (λ (o : Option SessionState). FactEntry (Opened session) ∷ (sent_by after_it near from (Ping []) o).entries) (get_inserted s.sessions near kept)
+      ∙ ap (λ (o : Option SessionState). FactEntry (Opened session) ∷ (sent_by after_it near from (chunk_bytes (Ping [])) o).entries) (get_inserted s.sessions near kept)
 
   -- what goes out is a ping
-  is_ping : IsPing s.startup.secret (session_context (as_initiator s.startup.ledger.own session) true) session.far (session_datagram kept s.moment (Ping []))
+  is_ping : IsPing s.startup.secret (session_context (as_initiator s.startup.ledger.own session) true) session.far (session_datagram kept s.moment (chunk_bytes (Ping [])))
   is_ping = record {
     number = number_bytes (kept.sealed + 1);
-    plain = session_packet kept s.moment (Ping []);
+    plain = session_packet kept s.moment (chunk_bytes (Ping []));
     is = refl;
     packet = one_whole (head_at kept s.moment) (head_bytes (head_at kept s.moment)) 0x01 [];
-    reads = session_reads kept s.moment (Ping []) (omega arith);
+    reads = session_reads kept s.moment (chunk_bytes (Ping [])) (omega arith);
     chunk = record { kind = 0x01; at = length (head_bytes (head_at kept s.moment)); payload = [] };
     only = refl;
     spells = (refl, parts_bytes-spell (parts_of (Ping [])) tt);
@@ -522,53 +526,48 @@ module _ (s : State) (near : ℕ) (from : AddressParts) (draws : Draws) (c : Pla
     ni = refl;
     id = refl;
     before = before;
-    sent = session_datagram kept s.moment (Ping []);
+    sent = session_datagram kept s.moment (chunk_bytes (Ping []));
     later = later;
     are = e ∙ ap (λ (es : List Entry). before ++ (es ++ later)) entries_are;
     ping = is_ping;
   }
 
 -- a keying that has no cause opens its session, whatever came before it
-one_opens : (s : State) (near : ℕ) (keyed_before keyed : Bool) (from : AddressParts) (draws : Draws) (c : Placed) → c.kind ≡ 0x78 → chunk_cause s (Attempt near) keyed_before from c ≡ None →
-    OpensAttempt s near c.payload × (chunk_did (Attempt near) from draws keyed s c ≡ responder_keyed s near from c.payload)
-one_opens s near keyed_before keyed from draws c kind none =
-    let all = all_none (causes s (Attempt near) keyed_before from c) none in
+one_opens : (s : State) (near : ℕ) (walk other : Walk) (from : AddressParts) (draws : Draws) (c : Placed) → c.kind ≡ 0x78 → chunk_cause s (Attempt near) walk from c ≡ None →
+    OpensAttempt s near c.payload × (chunk_did (Attempt near) from draws other s c ≡ responder_keyed s near from c.payload)
+one_opens s near walk other from draws c kind none =
+    let all = all_none (causes s (Attempt near) walk from c) none in
     let that : Placed = record { kind = 0x78; at = c.at; payload = c.payload } in
     let as_kind : ℕ → Placed = λ x. record { kind = x; at = c.at; payload = c.payload } in
     let is : c ≡ that = ap as_kind kind in
     let formed : fault_in (responder_keying_in c.payload) ≡ None = ap (λ (x : ℕ). form_cause x c.payload) (sym kind) ∙ all.1.0 in
     let read = read_ok (responder_keying_in c.payload) formed in
-    let last = ap (last_cause s (Attempt near) keyed_before from) (sym is) ∙ all.1.1.1.1.0 in
+    let last = ap (last_cause s (Attempt near) walk from) (sym is) ∙ all.1.1.1.1.0 in
     let opens : OpensAttempt s near c.payload = opening_of s near c.payload read.0 read.1 last in
-    let no_cause : chunk_cause s (Attempt near) keyed from that ≡ None = ap (chunk_cause s (Attempt near) keyed_before from) (sym is) ∙ none in
-    let did : chunk_did (Attempt near) from draws keyed s c ≡ responder_keyed s near from c.payload =
-    ap (chunk_did (Attempt near) from draws keyed s) is ∙ ap (λ (o : Option Cause). discarded_or s c.at o (responder_keyed s near from c.payload)) no_cause in
+    let no_cause : chunk_cause s (Attempt near) other from that ≡ None = ap (chunk_cause s (Attempt near) walk from) (sym is) ∙ none in
+    let did : chunk_did (Attempt near) from draws other s c ≡ responder_keyed s near from c.payload =
+    ap (chunk_did (Attempt near) from draws other s) is ∙ ap (λ (o : Option Cause). discarded_or s c.at o (responder_keyed s near from c.payload)) no_cause in
     (opens, did)
 
--- whether a keying was among chunks
-keyed_among : Bool → List Placed → Bool
-keyed_among keyed [] = keyed
-keyed_among keyed (c ∷ cs) = keyed_among (keyed_after keyed c) cs
 
 -- chunks one after another add what each of them adds
-gone_in_two : (place : Place) (from : AddressParts) (draws : Draws) (keyed : Bool) (front : List Placed) (c : Placed) (back : List Placed) (s : State) →
-    (chunks_did place from draws keyed s (front ++ c ∷ back)).entries ≡ (chunks_did place from draws keyed s front).entries
-    ++ ((chunk_did place from draws (keyed_among keyed front) (chunks_did place from draws keyed s front).state c).entries
-    ++ (chunks_did place from draws (keyed_after (keyed_among keyed front) c) (chunk_did place from draws (keyed_among keyed front) (chunks_did place from draws keyed s front).state c).state back).entries)
-unfolding keyed_among
-gone_in_two place from draws keyed [] c back s = refl
-gone_in_two place from draws keyed (x ∷ front) c back s =
-    let one : Did = chunk_did place from draws keyed s x in
-    ap (λ (es : List Entry). one.entries ++ es) (gone_in_two place from draws (keyed_after keyed x) front c back one.state)
-    ∙ sym (append_assoc one.entries (chunks_did place from draws (keyed_after keyed x) one.state front).entries _)
+gone_in_two : (place : Place) (from : AddressParts) (draws : Draws) (walk : Walk) (front : List Placed) (c : Placed) (back : List Placed) (s : State) →
+    (chunks_did place from draws walk s (front ++ c ∷ back)).entries ≡ (chunks_did place from draws walk s front).entries
+    ++ ((chunk_did place from draws (walk_through walk front) (chunks_did place from draws walk s front).state c).entries
+    ++ (chunks_did place from draws (walked (walk_through walk front) c) (chunk_did place from draws (walk_through walk front) (chunks_did place from draws walk s front).state c).state back).entries)
+gone_in_two place from draws walk [] c back s = refl
+gone_in_two place from draws walk (x ∷ front) c back s =
+    let one : Did = chunk_did place from draws walk s x in
+    ap (λ (es : List Entry). one.entries ++ es) (gone_in_two place from draws (walked walk x) front c back one.state)
+    ∙ sym (append_assoc one.entries (chunks_did place from draws (walked walk x) one.state front).entries _)
 
 pub keyings_without_cause_open : KeyingsWithoutCauseOpen
-keyings_without_cause_open s t u moment near from datagram draws answer entries packet front back c keyed_before step at went kind none =
-    let v : State = (chunks_did (Attempt near) from draws false u front).state in
-    let one = one_opens v near keyed_before (keyed_among false front) from draws c kind none in
-    let later : List Entry = (chunks_did (Attempt near) from draws (keyed_after (keyed_among false front) c) (chunk_did (Attempt near) from draws (keyed_among false front) v c).state back).entries in
-    let are : entries ≡ (chunks_did (Attempt near) from draws false u front).entries ++ ((responder_keyed v near from c.payload).entries ++ later) =
+keyings_without_cause_open s t u moment near from datagram draws answer entries packet front back c walk step at went kind none =
+    let v : State = (chunks_did (Attempt near) from draws outset u front).state in
+    let one = one_opens v near walk (walk_through outset front) from draws c kind none in
+    let later : List Entry = (chunks_did (Attempt near) from draws (walked (walk_through outset front) c) (chunk_did (Attempt near) from draws (walk_through outset front) v c).state back).entries in
+    let are : entries ≡ (chunks_did (Attempt near) from draws outset u front).entries ++ ((responder_keyed v near from c.payload).entries ++ later) =
     went_entries (at_moment s moment) t u (Attempt near) from datagram draws answer entries packet (front ++ c ∷ back) step at refl went
-    ∙ gone_in_two (Attempt near) from draws false front c back u
-    ∙ ap (λ (d : Did). (chunks_did (Attempt near) from draws false u front).entries ++ (d.entries ++ later)) one.1 in
-    opens_its_session v near from draws c one.0 entries (chunks_did (Attempt near) from draws false u front).entries later are
+    ∙ gone_in_two (Attempt near) from draws outset front c back u
+    ∙ ap (λ (d : Did). (chunks_did (Attempt near) from draws outset u front).entries ++ (d.entries ++ later)) one.1 in
+    opens_its_session v near from draws c one.0 entries (chunks_did (Attempt near) from draws outset u front).entries later are

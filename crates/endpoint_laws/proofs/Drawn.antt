@@ -30,6 +30,8 @@ use Rattle.startup.specs.Attempts.{begin_spread, after_begin, hello_spread, keyi
 use Rattle.startup.specs.Due.{due_of, after_due, is_due, is_over, repeat_of, repeat_signed}
 use Rattle.startup.specs.Keyings.{InitiatorKeying, ResponderKeying, initiator_keying_in, responder_keying_in, keying_of, repeated_session, again_or_birth, keyed_with, keyed_reading, after_keying, change_answer, session_answer, born_session, opened_reading, initiator_hello_answer}
 use Rattle.session_core.specs.Session.{SessionState, is_opening, confirmed}
+use Rattle.rtmfp_chunks.specs.Writing.{chunk_bytes}
+use Rattle.endpoint_model.specs.declared.walk.Walk.{Walk}
 use Rattle.endpoint_model.specs.declared.config.Draws.{Draws}
 use Rattle.endpoint_model.specs.declared.place.Place.{Place}
 use Rattle.endpoint_model.specs.declared.place.Place.TheVariants.{Startup, Attempt, Session}
@@ -42,7 +44,7 @@ use Rattle.endpoint_model.specs.State.{State, Did, Does, nothing, fact_entries, 
 use Rattle.endpoint_model.specs.Sending.{sent_startup, sent_answer, sent_if, sent_each, sent_by, sent_in_session, last_count}
 use Rattle.endpoint_model.specs.Admission.{Admission, Rejected, Admitted, admission, sid_at, confirming, confirming_by}
 use Rattle.endpoint_model.specs.Keying.{chunks_of}
-use Rattle.endpoint_model.specs.Due.{opening, cancelling, due_done, tick_once, ticks, keying_done, initiator_keyed, opening_done, responder_keyed, with_born, read_done, effect, discarded_or, chunk_did, keyed_after, chunks_did, received, part_received}
+use Rattle.endpoint_model.specs.Due.{opening, cancelling, due_done, tick_once, ticks, keying_done, initiator_keyed, opening_done, responder_keyed, with_born, read_done, effect, discarded_or, chunk_did, walked, chunks_did, received, part_received, outset, item_done, attempt_item}
 use Rattle.endpoint_model.specs.Causes.{is_known, form_cause, takes, initiator_keying_cause, responder_keying_cause, read_cause, last_cause, chunk_cause}
 use Rattle.endpoint_laws.specs.Lawful.{nonces_of}
 use Rattle.endpoint_model.specs.Log.{stopped, Answers}
@@ -108,12 +110,12 @@ none_each s plain [] = refl
 none_each s plain (to ∷ rest) =
     none_after (sent_startup s to 0 plain).entries (sent_each (sent_startup s to 0 plain).state plain rest).entries [] (none_startup s to 0 plain) (none_each (sent_startup s to 0 plain).state plain rest)
 
-none_by : (s : State) (near : ℕ) (to : AddressParts) (chunk : Chunk) (o : Option SessionState) → drawn (sent_by s near to chunk o).entries ≡ []
-none_by s near to chunk None = refl
-none_by s near to chunk (Some session) = none_either (session.sealed == last_count) _ _ refl refl
+none_by : (s : State) (near : ℕ) (to : AddressParts) (body : List ℕ) (o : Option SessionState) → drawn (sent_by s near to body o).entries ≡ []
+none_by s near to body None = refl
+none_by s near to body (Some session) = none_either (session.sealed == last_count) _ _ refl refl
 
-none_in_session : (s : State) (near : ℕ) (to : AddressParts) (chunk : Chunk) → drawn (sent_in_session s near to chunk).entries ≡ []
-none_in_session s near to chunk = none_by s near to chunk (get s.sessions near)
+none_in_session : (s : State) (near : ℕ) (to : AddressParts) (body : List ℕ) → drawn (sent_in_session s near to body).entries ≡ []
+none_in_session s near to body = none_by s near to body (get s.sessions near)
 
 -- ---- ends and confirmations draw none
 
@@ -151,20 +153,20 @@ none_way peer (Some (KeptAsInitiator j)) = refl
 
 -- ---- time draws none
 
-none_repeat : (t : State) (key cert : List ℕ) (near : ℕ) (a : AttemptState) (stage : Stage) → drawn (due_done t (Some (repeat_signed key cert near a stage))).entries ≡ []
+none_repeat : (t : State) (key cert : List ℕ) (near : ℕ) (a : AttemptState) (stage : Stage) → drawn (due_done t (repeat_signed key cert near a stage)).entries ≡ []
 none_repeat t key cert near a Hello = none_each t (hello_spread a a.candidates).plain (hello_spread a a.candidates).to
 none_repeat t key cert near a (KeyingStage at cookie) = none_answer t (keying_signed key cert near a at cookie)
 
-none_due : (t : State) (s : StartupState) (moment : ℕ) (o : Option (ℕ × AttemptState)) → drawn (due_done t (due_of s moment o)).entries ≡ []
-none_due t s moment None = refl
-none_due t s moment (Some e) = by (is_over moment e.1)
+none_due : (t left : State) (s : StartupState) (moment : ℕ) (o : Option (ℕ × AttemptState)) → drawn (item_done t left (attempt_item (due_of s moment o))).entries ≡ []
+none_due t left s moment None = refl
+none_due t left s moment (Some e) = by (is_over moment e.1)
   where
-    by : (b : Bool) → drawn (due_done t (Some (if b then EndDue (ended_attempt e Expired) else repeat_of s e.0 e.1))).entries ≡ []
+    by : (b : Bool) → drawn (due_done left (if b then EndDue (ended_attempt e Expired) else repeat_of s e.0 e.1)).entries ≡ []
     by true = refl
-    by false = none_repeat t _ _ e.0 e.1 e.1.stage
+    by false = none_repeat left _ _ e.0 e.1 e.1.stage
 
 none_tick : (s : State) → drawn (tick_once s).entries ≡ []
-none_tick s = none_due (with_startup s (after_due s.startup s.moment)) s.startup s.moment (lowest (is_due s.moment) s.startup.attempts)
+none_tick s = none_due s (with_startup s (after_due s.startup s.moment)) s.startup s.moment (lowest (is_due s.moment) s.startup.attempts)
 
 none_ticks : (count : ℕ) (s : State) → drawn (ticks count s).entries ≡ []
 none_ticks zero s = refl
@@ -204,7 +206,7 @@ once_keyed s from draws payload =
 none_opening : (s : State) (near : ℕ) (from : AddressParts) (o : Option AttemptState) (r : Result ResponderKeying Cause) → drawn (opening_done s near from (opened_reading near o r)).entries ≡ []
 none_opening s near from None r = refl
 none_opening s near from (Some a) (Err cause) = refl
-none_opening s near from (Some a) (Ok keying) = none_in_session _ near from (Ping [])
+none_opening s near from (Some a) (Ok keying) = none_in_session _ near from (chunk_bytes (Ping []))
 
 none_responder : (s : State) (near : ℕ) (from : AddressParts) (payload : List ℕ) → drawn (responder_keyed s near from payload).entries ≡ []
 none_responder s near from payload = none_opening s near from (get s.startup.attempts near) (responder_keying_in payload)
@@ -215,7 +217,7 @@ none_read s place from (Ok (FIHello epd reply tag)) = none_answer s (initiator_h
 none_read s place from (Ok (RHello tag cookie cert)) = none_if (with_startup s (after_rhello s.startup tag cookie from s.moment)) (rhello_keying s.startup tag cookie from)
 none_read s place from (Ok (CookieChange old new)) =
     none_if (with_startup s (after_cookie_change s.startup (sid_at place) old new s.moment)) (cookie_change_keying s.startup (sid_at place) old new)
-none_read s place from (Ok (Ping bytes)) = none_in_session s (sid_at place) from (PingReply bytes)
+none_read s place from (Ok (Ping bytes)) = none_in_session s (sid_at place) from (chunk_bytes (PingReply bytes))
 none_read s place from (Ok (Redirect tag list)) = refl
 none_read s place from (Ok (IIKeying near cookie cert part sign)) = refl
 none_read s place from (Ok (RIKeying near part sign)) = refl
@@ -252,42 +254,46 @@ last_none : {A : Type 0} (a b c d e : Option A) → first_that_stands (a ∷ b �
 last_none a b c d e h =
     head_none e (rest_none d (e ∷ []) (rest_none c (d ∷ e ∷ []) (rest_none b (c ∷ d ∷ e ∷ []) (rest_none a (b ∷ c ∷ d ∷ e ∷ []) h))))
 
+-- a keying came before
+abbrev second : Walk
+second = record { keyed = true }
+
 -- a keying after another one isn't without a cause
-not_second : (s : State) (place : Place) (from : AddressParts) (c : Placed) → (c.kind == 0x38) ≡ true → chunk_cause s place true from c ≡ None → ⊥
+not_second : (s : State) (place : Place) (from : AddressParts) (c : Placed) → (c.kind == 0x38) ≡ true → chunk_cause s place second from c ≡ None → ⊥
 not_second s place from c is none =
-    let last : last_cause s place true from c ≡ None =
+    let last : last_cause s place second from c ≡ None =
     last_none (where_true (not (is_known c.kind)) (UnknownChunk c.kind)) (form_cause c.kind c.payload) (where_true (c.kind == 0x7f) FragmentCause)
-    (where_true (not (takes place c.kind)) WrongPlace) (last_cause s place true from c) none in
+    (where_true (not (takes place c.kind)) WrongPlace) (last_cause s place second from c) none in
     let clash : Some SecondKeying ≡ None =
-    sym (ap (λ (b : Bool). if b then initiator_keying_cause s true from c.payload
+    sym (ap (λ (b : Bool). if b then initiator_keying_cause s second from c.payload
     else if c.kind == 0x78 then responder_keying_cause s (sid_at place) c.payload
     else read_cause s place (chunk_reading c.kind c.payload)) is) ∙ last in
     cc
 
 module _ (place : Place) (from : AddressParts) (draws : Draws) where
-  none_chunk : (s : State) (keyed_before : Bool) (c : Placed) → (c.kind == 0x38) ≡ false → drawn (chunk_did place from draws keyed_before s c).entries ≡ []
-  none_chunk s keyed_before c is = by (chunk_cause s place keyed_before from c)
+  none_chunk : (s : State) (walk : Walk) (c : Placed) → (c.kind == 0x38) ≡ false → drawn (chunk_did place from draws walk s c).entries ≡ []
+  none_chunk s walk c is = by (chunk_cause s place walk from c)
     where
       by : (o : Option Cause) → drawn (discarded_or s c.at o (effect s place from draws c)).entries ≡ []
       by None = none_other s place from draws c (c.kind == 0x38) (c.kind == 0x78) is
       by (Some cause) = refl
 
-  none_second : (s : State) (c : Placed) → (c.kind == 0x38) ≡ true → drawn (chunk_did place from draws true s c).entries ≡ []
-  none_second s c is = by (chunk_cause s place true from c) refl
+  none_second : (s : State) (c : Placed) → (c.kind == 0x38) ≡ true → drawn (chunk_did place from draws second s c).entries ≡ []
+  none_second s c is = by (chunk_cause s place second from c) refl
     where
-      by : (o : Option Cause) → chunk_cause s place true from c ≡ o → drawn (discarded_or s c.at o (effect s place from draws c)).entries ≡ []
+      by : (o : Option Cause) → chunk_cause s place second from c ≡ o → drawn (discarded_or s c.at o (effect s place from draws c)).entries ≡ []
       by None e = absurd (not_second s place from c is e)
       by (Some cause) e = refl
 
-  none_later : (s : State) (c : Placed) → drawn (chunk_did place from draws true s c).entries ≡ []
+  none_later : (s : State) (c : Placed) → drawn (chunk_did place from draws second s c).entries ≡ []
   none_later s c = by (c.kind == 0x38) refl
     where
-      by : (b : Bool) → (c.kind == 0x38) ≡ b → drawn (chunk_did place from draws true s c).entries ≡ []
+      by : (b : Bool) → (c.kind == 0x38) ≡ b → drawn (chunk_did place from draws second s c).entries ≡ []
       by true e = none_second s c e
-      by false e = none_chunk s true c e
+      by false e = none_chunk s second c e
 
-  once_chunk : (s : State) (keyed_before : Bool) (c : Placed) → Once draws.nonce (chunk_did place from draws keyed_before s c).entries
-  once_chunk s keyed_before c = by (chunk_cause s place keyed_before from c)
+  once_chunk : (s : State) (walk : Walk) (c : Placed) → Once draws.nonce (chunk_did place from draws walk s c).entries
+  once_chunk s walk c = by (chunk_cause s place walk from c)
     where
       by : (o : Option Cause) → Once draws.nonce (discarded_or s c.at o (effect s place from draws c)).entries
       by None = once_effect s place from draws c (c.kind == 0x38) (c.kind == 0x78)
@@ -295,30 +301,28 @@ module _ (place : Place) (from : AddressParts) (draws : Draws) where
 
   -- ---- the chunks of a datagram
 
-  none_chunks : (cs : List Placed) (s : State) (keyed_before : Bool) → keyed_before ≡ true → drawn (chunks_did place from draws keyed_before s cs).entries ≡ []
-  none_chunks [] s keyed_before is = refl
-  none_chunks (c ∷ cs) s true is =
-      let d : Did = chunk_did place from draws true s c in
-      none_after d.entries (chunks_did place from draws (keyed_after true c) d.state cs).entries [] (none_later s c) (none_chunks cs d.state (keyed_after true c) refl)
-  none_chunks (c ∷ cs) s false is = absurd (cc)
+  none_chunks : (cs : List Placed) (s : State) → drawn (chunks_did place from draws second s cs).entries ≡ []
+  none_chunks [] s = refl
+  none_chunks (c ∷ cs) s =
+      let d : Did = chunk_did place from draws second s c in
+      none_after d.entries (chunks_did place from draws second d.state cs).entries [] (none_later s c) (none_chunks cs d.state)
 
-  once_chunks : (cs : List Placed) (s : State) (keyed_before : Bool) → keyed_before ≡ false → Once draws.nonce (chunks_did place from draws keyed_before s cs).entries
-  once_chunks [] s keyed_before is = inl refl
-  once_chunks (c ∷ cs) s true is = absurd (cc)
-  once_chunks (c ∷ cs) s false is = by (c.kind == 0x38) refl (λ e. once_chunks cs (chunk_did place from draws false s c).state (keyed_after false c) e)
+  once_chunks : (cs : List Placed) (s : State) → Once draws.nonce (chunks_did place from draws outset s cs).entries
+  once_chunks [] s = inl refl
+  once_chunks (c ∷ cs) s = by (c.kind == 0x38) refl (once_chunks cs (chunk_did place from draws outset s c).state)
     where
-      by : (b : Bool) → (c.kind == 0x38) ≡ b → (keyed_after false c ≡ false → Once draws.nonce (chunks_did place from draws (keyed_after false c) (chunk_did place from draws false s c).state cs).entries) →
-          Once draws.nonce (chunks_did place from draws false s (c ∷ cs)).entries
+      by : (b : Bool) → (c.kind == 0x38) ≡ b → Once draws.nonce (chunks_did place from draws outset (chunk_did place from draws outset s c).state cs).entries →
+          Once draws.nonce ((chunk_did place from draws outset s c).entries ++ (chunks_did place from draws (record { keyed = b }) (chunk_did place from draws outset s c).state cs).entries)
       by true e rest =
-          let d : Did = chunk_did place from draws false s c in
-          once_before draws.nonce d.entries (chunks_did place from draws (keyed_after false c) d.state cs).entries (once_chunk s false c) (none_chunks cs d.state (keyed_after false c) e)
+          let d : Did = chunk_did place from draws outset s c in
+          once_before draws.nonce d.entries (chunks_did place from draws second d.state cs).entries (once_chunk s outset c) (none_chunks cs d.state)
       by false e rest =
-          let d : Did = chunk_did place from draws false s c in
-          once_after draws.nonce d.entries (chunks_did place from draws (keyed_after false c) d.state cs).entries (none_chunk s false c e) (rest e)
+          let d : Did = chunk_did place from draws outset s c in
+          once_after draws.nonce d.entries (chunks_did place from draws outset d.state cs).entries (none_chunk s outset c e) rest
 
-once_some : (from : AddressParts) (draws : Draws) (s : State) (place : Place) (cs : List Placed) → Once draws.nonce ((confirming s place).entries ++ (chunks_did place from draws false (confirming s place).state cs).entries)
+once_some : (from : AddressParts) (draws : Draws) (s : State) (place : Place) (cs : List Placed) → Once draws.nonce ((confirming s place).entries ++ (chunks_did place from draws outset (confirming s place).state cs).entries)
 once_some from draws s place cs =
-    once_after draws.nonce (confirming s place).entries (chunks_did place from draws false (confirming s place).state cs).entries (none_confirming s place) (once_chunks place from draws cs (confirming s place).state false refl)
+    once_after draws.nonce (confirming s place).entries (chunks_did place from draws outset (confirming s place).state cs).entries (none_confirming s place) (once_chunks place from draws cs (confirming s place).state)
 
 once_received : (from : AddressParts) (draws : Draws) (a : Admission) → Once draws.nonce (received from draws a).entries
 once_received from draws (Rejected s cause) = inl refl

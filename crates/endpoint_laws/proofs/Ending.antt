@@ -31,7 +31,7 @@ use Rattle.endpoint_model.specs.Event.{Setup, Call, Cancel, own_of}
 use Rattle.endpoint_laws.specs.Past.{Stamped, stamped, onto, facts_of, ids_in_use}
 use Rattle.endpoint_laws.specs.Lawful.{IsTick}
 use Rattle.endpoint_model.specs.State.{State, Did, fact_entries, with_startup}
-use Rattle.endpoint_model.specs.Due.{cancelling, due_done, tick_once, ticks}
+use Rattle.endpoint_model.specs.Due.{cancelling, due_done, tick_once, ticks, item_done, attempt_item}
 use Rattle.endpoint_model.proofs.Members.{has}
 use Rattle.endpoint_model.proofs.Ids.{has_keys, count_keys}
 use Rattle.endpoint_laws.proofs.Matching.{of_peer, ids_less}
@@ -163,7 +163,7 @@ module _ (setup : Setup) (call : Call) (is_tick : IsTick call) (s : State) where
   from d t moment more keeps past tied =
       goes_then setup call past s (record { state = t; entries = [] }) d (record { meets = tt; tied = more past tied; moment = moment }) (keeps past (more past tied))
 
-  repeat_keeps : (due : Due) (t : State) → IsSending due → Keeps setup call t (due_done t (Some due))
+  repeat_keeps : (due : Due) (t : State) → IsSending due → Keeps setup call t (due_done t due)
   repeat_keeps (EndDue fact) t sends = absurd sends
   repeat_keeps (HelloDue spread) t sends = goes_spread setup call t spread
   repeat_keeps (KeyingDue answer) t sends = goes_answer setup call t answer
@@ -173,20 +173,20 @@ module _ (setup : Setup) (call : Call) (is_tick : IsTick call) (s : State) where
   repeat_sends key near a (Keying at cookie) = tt
 
   tick_repeat : (e : ℕ × AttemptState) → get s.startup.attempts e.0 ≡ Some e.1 →
-      Keeps setup call s (due_done (with_startup s (with_attempt s.startup e.0 (repeated e.1 s.moment))) (Some (repeat_of s.startup e.0 e.1)))
+      Keeps setup call s (due_done (with_startup s (with_attempt s.startup e.0 (repeated e.1 s.moment))) (repeat_of s.startup e.0 e.1))
   tick_repeat e there =
       let due : Due = repeat_of s.startup e.0 e.1 in
       let t : State = with_startup s (with_attempt s.startup e.0 (repeated e.1 s.moment)) in
-      from (λ u. due_done u (Some due)) t refl (λ past tied. tied_attempt setup past s e.0 e.1 (repeated e.1 s.moment) tied there refl (λ w. w)) (repeat_keeps due t (repeat_sends (sign_key_of s.startup.secret) e.0 e.1 e.1.stage))
+      from (λ u. due_done u due) t refl (λ past tied. tied_attempt setup past s e.0 e.1 (repeated e.1 s.moment) tied there refl (λ w. w)) (repeat_keeps due t (repeat_sends (sign_key_of s.startup.secret) e.0 e.1 e.1.stage))
 
   tick_over : (e : ℕ × AttemptState) (b : Bool) → get s.startup.attempts e.0 ≡ Some e.1 → is_over s.moment e.1 ≡ b →
       Keeps setup call s (due_done (with_startup s (if b then without_attempt s.startup e.0 (ended_attempt e Expired) else with_attempt s.startup e.0 (repeated e.1 s.moment)))
-      (Some (if b then EndDue (ended_attempt e Expired) else repeat_of s.startup e.0 e.1)))
+      (if b then EndDue (ended_attempt e Expired) else repeat_of s.startup e.0 e.1))
   tick_over e true there is = tick_end e there is
   tick_over e false there is = tick_repeat e there
 
   tick_by : (e : Option (ℕ × AttemptState)) → lowest (is_due s.moment) s.startup.attempts ≡ e →
-      Keeps setup call s (due_done (with_startup s (after_due_of s.startup s.moment e)) (due_of s.startup s.moment e))
+      Keeps setup call s (item_done s (with_startup s (after_due_of s.startup s.moment e)) (attempt_item (due_of s.startup s.moment e)))
   tick_by None is = goes_nothing setup call s
   tick_by (Some e) is = tick_over e (is_over s.moment e.1) (first_is_there (is_due s.moment) s.startup.attempts e is).0 refl
 

@@ -18,15 +18,17 @@ use Rattle.startup.specs.declared.answer.Keyed.{Keyed}
 use Rattle.startup.specs.declared.answer.Keyed.TheVariants.{Change, Again, Birth}
 use Rattle.startup.specs.declared.answer.Due.{Due}
 use Rattle.startup.specs.declared.answer.Due.TheVariants.{Ended as EndDue, Hello as HelloDue, Keying as KeyingDue}
-use Rattle.startup.specs.State.{SpreadParts}
+use Rattle.startup.specs.State.{SpreadParts, StartupState}
 use Rattle.startup.specs.Attempts.{begin_spread, after_begin, after_rhello, rhello_keying, after_cookie_change, cookie_change_keying, after_confirm, confirm_fact}
-use Rattle.startup.specs.Due.{due, after_due}
+use Rattle.startup.specs.Due.{after_due}
 use Rattle.startup.specs.Keyings.{initiator_hello_answer, keyed, after_keying, opened, after_opening}
 use Rattle.glare_core.specs.Calls.{started_fact}
 use Rattle.crypto_profile.specs.declared.keys.Context.{Context}
 use Rattle.crypto_profile.specs.declared.keys.Context.TheVariants.{Startup as StartupContext}
 use Rattle.session_core.specs.Session.{SessionState, is_opening, confirmed, context_of}
 use Rattle.session_core.specs.Sealed.{after_seal}
+use Rattle.rtmfp_chunks.specs.Writing.{chunk_bytes}
+use Rattle.endpoint_model.specs.declared.walk.Walk.{Walk}
 use Rattle.endpoint_model.specs.declared.config.Draws.{Draws}
 use Rattle.endpoint_model.specs.declared.place.Place.{Place}
 use Rattle.endpoint_model.specs.declared.place.Place.TheVariants.{Startup, Attempt, Session}
@@ -40,7 +42,7 @@ use Rattle.endpoint_model.specs.State.{State, Did, Does, nothing, after_entries,
 use Rattle.endpoint_model.specs.Sending.{last_count, startup_datagram, session_datagram, sent_startup, sent_answer, sent_if, sent_each, sent_spread, sent_by, sent_in_session}
 use Rattle.endpoint_model.specs.Admission.{Admission, Rejected, Admitted, admission, admitted, admitted_packet, opened_datagram, sid_at, counted_by, counted_at, timed_by, timed_at, confirming_by, confirming, packet_in, has_mode, mode_at}
 use Rattle.endpoint_model.specs.Causes.{chunk_cause}
-use Rattle.endpoint_model.specs.Due.{opening, cancelling, due_done, tick_once, ticks, with_born, keying_done, initiator_keyed, with_opened, opening_done, responder_keyed, read_done, effect, discarded_or, chunk_did, keyed_after, chunks_did, received, part_received}
+use Rattle.endpoint_model.specs.Due.{opening, cancelling, due_done, tick_once, ticks, with_born, keying_done, initiator_keyed, with_opened, opening_done, responder_keyed, read_done, effect, discarded_or, chunk_did, walked, chunks_did, received, part_received, outset, item_done, Item, OfAttempt, first_due}
 use Rattle.endpoint_laws.specs.Complete.{outs_in, outs_of}
 use Rattle.endpoint_model.specs.Log.{Answers, Leads, StandsFor, stopped}
 
@@ -95,13 +97,13 @@ few_in : (b : Bool) (s : State) (near : ℕ) (session : SessionState) (entry : E
 few_in true s near session entry = omega arith
 few_in false s near session entry = omega arith
 
-few_by : (s : State) (near : ℕ) (to : AddressParts) (chunk : Chunk) (o : Option SessionState) → Few s (sent_by s near to chunk o)
-few_by s near to chunk None = few_nothing s
-few_by s near to chunk (Some session) =
-    few_in (session.sealed == last_count) s near session (Out to (session_datagram session s.moment chunk) (context_of session true))
+few_by : (s : State) (near : ℕ) (to : AddressParts) (body : List ℕ) (o : Option SessionState) → Few s (sent_by s near to body o)
+few_by s near to body None = few_nothing s
+few_by s near to body (Some session) =
+    few_in (session.sealed == last_count) s near session (Out to (session_datagram session s.moment body) (context_of session true))
 
-few_session : (s : State) (near : ℕ) (to : AddressParts) (chunk : Chunk) → Few s (sent_in_session s near to chunk)
-few_session s near to chunk = few_by s near to chunk (get s.sessions near)
+few_session : (s : State) (near : ℕ) (to : AddressParts) (body : List ℕ) → Few s (sent_in_session s near to body)
+few_session s near to body = few_by s near to body (get s.sessions near)
 
 -- ---- chunks
 
@@ -127,10 +129,10 @@ opened_sealed s near (Opened j) from = refl
 opened_sealed s near (Confirmed peer n2) from = refl
 opened_sealed s near (Ended peer n2 why) from = refl
 
-few_opened : (s t : State) (near : ℕ) (from : AddressParts) (fact : Fact) → t.sealed ≡ s.sealed → Few s (after_entries (FactEntry fact ∷ []) (sent_in_session (with_opened t near fact from) near from (Ping [])))
+few_opened : (s t : State) (near : ℕ) (from : AddressParts) (fact : Fact) → t.sealed ≡ s.sealed → Few s (after_entries (FactEntry fact ∷ []) (sent_in_session (with_opened t near fact from) near from (chunk_bytes (Ping []))))
 few_opened s t near from fact e =
-    few_after s (with_opened t near fact from) (FactEntry fact ∷ []) (sent_in_session (with_opened t near fact from) near from (Ping []))
-    (opened_sealed t near fact from ∙ e) (few_session (with_opened t near fact from) near from (Ping []))
+    few_after s (with_opened t near fact from) (FactEntry fact ∷ []) (sent_in_session (with_opened t near fact from) near from (chunk_bytes (Ping [])))
+    (opened_sealed t near fact from ∙ e) (few_session (with_opened t near fact from) near from (chunk_bytes (Ping [])))
 
 few_opening_done : (s : State) (near : ℕ) (from : AddressParts) (o : Option Fact) → Few s (opening_done s near from o)
 few_opening_done s near from None = few_nothing s
@@ -142,7 +144,7 @@ few_read s place from (Ok (FIHello epd reply tag)) = few_answer s (initiator_hel
 few_read s place from (Ok (RHello tag cookie cert)) = few_if (with_startup s (after_rhello s.startup tag cookie from s.moment)) (rhello_keying s.startup tag cookie from)
 few_read s place from (Ok (CookieChange old new)) =
     few_if (with_startup s (after_cookie_change s.startup (sid_at place) old new s.moment)) (cookie_change_keying s.startup (sid_at place) old new)
-few_read s place from (Ok (Ping bytes)) = few_session s (sid_at place) from (PingReply bytes)
+few_read s place from (Ok (Ping bytes)) = few_session s (sid_at place) from (chunk_bytes (PingReply bytes))
 few_read s place from (Ok (Redirect tag list)) = few_nothing s
 few_read s place from (Ok (IIKeying near cookie cert part sign)) = few_nothing s
 few_read s place from (Ok (RIKeying near part sign)) = few_nothing s
@@ -169,14 +171,14 @@ few_discarded_or : (s : State) (at : ℕ) (o : Option Cause) (d : Did) → Few s
 few_discarded_or s at None d p = p
 few_discarded_or s at (Some cause) d p = omega arith
 
-few_chunk : (place : Place) (from : AddressParts) (draws : Draws) (keyed_before : Bool) (s : State) (c : Placed) → Few s (chunk_did place from draws keyed_before s c)
-few_chunk place from draws keyed_before s c = few_discarded_or s c.at (chunk_cause s place keyed_before from c) (effect s place from draws c) (few_effect s place from draws c)
+few_chunk : (place : Place) (from : AddressParts) (draws : Draws) (walk : Walk) (s : State) (c : Placed) → Few s (chunk_did place from draws walk s c)
+few_chunk place from draws walk s c = few_discarded_or s c.at (chunk_cause s place walk from c) (effect s place from draws c) (few_effect s place from draws c)
 
-pub few_chunks : (place : Place) (from : AddressParts) (draws : Draws) (keyed_before : Bool) (cs : List Placed) (s : State) → Few s (chunks_did place from draws keyed_before s cs)
-few_chunks place from draws keyed_before [] s = few_nothing s
-few_chunks place from draws keyed_before (c ∷ cs) s =
-    let d : Did = chunk_did place from draws keyed_before s c in
-    few_then s d (λ t. chunks_did place from draws (keyed_after keyed_before c) t cs) (few_chunk place from draws keyed_before s c) (few_chunks place from draws (keyed_after keyed_before c) cs d.state)
+pub few_chunks : (place : Place) (from : AddressParts) (draws : Draws) (walk : Walk) (cs : List Placed) (s : State) → Few s (chunks_did place from draws walk s cs)
+few_chunks place from draws walk [] s = few_nothing s
+few_chunks place from draws walk (c ∷ cs) s =
+    let d : Did = chunk_did place from draws walk s c in
+    few_then s d (λ t. chunks_did place from draws (walked walk c) t cs) (few_chunk place from draws walk s c) (few_chunks place from draws (walked walk c) cs d.state)
 
 -- ---- datagrams that come in
 
@@ -234,14 +236,14 @@ few_received : (from : AddressParts) (draws : Draws) (s : State) (a : Admission)
 unfolding left_by
 few_received from draws s (Rejected t cause) e = omega (arith, e)
 few_received from draws s (Admitted t place packet) e =
-    few_from s t (received from draws (Admitted t place packet)) e (few_then t (confirming t place) (λ u. chunks_did place from draws false u (chunks_of packet)) (few_confirming t place) (few_chunks place from draws false (chunks_of packet) (confirming t place).state))
+    few_from s t (received from draws (Admitted t place packet)) e (few_then t (confirming t place) (λ u. chunks_did place from draws outset u (chunks_of packet)) (few_confirming t place) (few_chunks place from draws outset (chunks_of packet) (confirming t place).state))
 
 few_part : (from : AddressParts) (draws : Draws) (s : State) (a : Admission) (count : ℕ) → (left_by a).sealed ≡ s.sealed → Few s (part_received from draws a count)
 unfolding left_by
 few_part from draws s (Rejected t cause) count e = omega (arith, e)
 few_part from draws s (Admitted t place packet) count e =
-    few_from s t (part_received from draws (Admitted t place packet) count) e (few_then t (confirming t place) (λ u. chunks_did place from draws false u (take count (chunks_of packet))) (few_confirming t place)
-    (few_chunks place from draws false (take count (chunks_of packet)) (confirming t place).state))
+    few_from s t (part_received from draws (Admitted t place packet) count) e (few_then t (confirming t place) (λ u. chunks_did place from draws outset u (take count (chunks_of packet))) (few_confirming t place)
+    (few_chunks place from draws outset (take count (chunks_of packet)) (confirming t place).state))
 
 few_stopped : (from : AddressParts) (draws : Draws) (s : State) (a : Admission) (stop : Stop) → (left_by a).sealed ≡ s.sealed → Few s (stopped s from draws a stop)
 few_stopped from draws s a stop e = either s stop.taken (part_received from draws a stop.chunks) (nothing s) (few_part from draws s a stop.chunks e) (few_nothing s)
@@ -254,16 +256,19 @@ few_opening s peer candidates draws =
     let spread : SpreadParts = begin_spread s.startup peer candidates draws.nonce draws.tag s.moment in
     few_after s t (FactEntry (started_fact s.startup.ledger peer (free_from s draws.word) draws.nonce) ∷ []) (sent_spread t spread) refl (few_each spread.plain spread.to t)
 
-few_due : (s : State) (o : Option Due) → Few s (due_done s o)
-few_due s None = few_nothing s
-few_due s (Some (EndDue fact)) = omega arith
-few_due s (Some (HelloDue spread)) = few_each spread.plain spread.to s
-few_due s (Some (KeyingDue answer)) = few_startup s answer.to answer.sid answer.plain
+few_due : (s : State) (due : Due) → Few s (due_done s due)
+few_due s (EndDue fact) = omega arith
+few_due s (HelloDue spread) = few_each spread.plain spread.to s
+few_due s (KeyingDue answer) = few_startup s answer.to answer.sid answer.plain
+
+few_item : (s : State) (left : StartupState) (o : Option Item) → Few s (item_done s (with_startup s left) o)
+few_item s left None = few_nothing s
+few_item s left (Some (OfAttempt due)) = few_due (with_startup s left) due
 
 few_ticks : (count : ℕ) (s : State) → Few s (ticks count s)
 few_ticks zero s = few_nothing s
 few_ticks (suc count) s =
-    few_then s (tick_once s) (ticks count) (few_due (with_startup s (after_due s.startup s.moment)) (due s.startup s.moment))
+    few_then s (tick_once s) (ticks count) (few_item s (after_due s.startup s.moment) (first_due s))
     (few_ticks count (tick_once s).state)
 
 few_does : (s t : State) (entries : List Entry) (d : Did) → Few s d → Does d t [] entries → t.sealed ≤ s.sealed + outs_in entries

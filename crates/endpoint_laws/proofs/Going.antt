@@ -132,13 +132,13 @@ seal_ours : (setup : Setup) (b : Bool) (session : SessionState) → IsOurs setup
 seal_ours setup true session ours = ours
 seal_ours setup false session ours = record { own = ours.own; secret = ours.secret; stage = ours.stage }
 
-pub goes_by : (setup : Setup) (call : Call) (s : State) (near : ℕ) (to : AddressParts) (chunk : Chunk) (o : Option SessionState) → get s.sessions near ≡ o → Keeps setup call s (sent_by s near to chunk o)
-goes_by setup call s near to chunk None is = goes_nothing setup call s
-goes_by setup call s near to chunk (Some session) is = keeps_if setup call s (session.sealed == last_count) (nothing s) _ (λ e. goes_nothing setup call s) (λ e past t. record {
+pub goes_by : (setup : Setup) (call : Call) (s : State) (near : ℕ) (to : AddressParts) (body : List ℕ) (o : Option SessionState) → get s.sessions near ≡ o → Keeps setup call s (sent_by s near to body o)
+goes_by setup call s near to body None is = goes_nothing setup call s
+goes_by setup call s near to body (Some session) is = keeps_if setup call s (session.sealed == last_count) (nothing s) _ (λ e. goes_nothing setup call s) (λ e past t. record {
   meets = (tt, tt);
   tied = tied_session setup _ s near session (after_seal session) (tied_more setup past s _ refl t) is (seal_alike (is_spent session) near session) (seal_ours setup (is_spent session) session);
   moment = refl;
 })
 
-pub goes_in_session : (setup : Setup) (call : Call) (s : State) (near : ℕ) (to : AddressParts) (chunk : Chunk) → Keeps setup call s (sent_in_session s near to chunk)
-goes_in_session setup call s near to chunk = goes_by setup call s near to chunk (get s.sessions near) refl
+pub goes_in_session : (setup : Setup) (call : Call) (s : State) (near : ℕ) (to : AddressParts) (body : List ℕ) → Keeps setup call s (sent_in_session s near to body)
+goes_in_session setup call s near to body = goes_by setup call s near to body (get s.sessions near) refl

@@ -10,7 +10,7 @@ use Rattle.endpoint_laws.specs.Past.{Stamped, onto, past_of}
 use Rattle.endpoint_model.specs.Keying.{chunks_of}
 use Rattle.endpoint_model.specs.State.{State, Did, Does, nothing, then_do, fresh, at_moment}
 use Rattle.endpoint_model.specs.Admission.{Admission, Rejected, Admitted, admission, confirming}
-use Rattle.endpoint_model.specs.Due.{opening, cancelling, ticks, received, part_received, chunks_did}
+use Rattle.endpoint_model.specs.Due.{opening, cancelling, ticks, received, part_received, chunks_did, outset}
 use Rattle.endpoint_model.specs.Log.{Answers, Leads, StandsFor, stopped}
 use Rattle.endpoint_laws.specs.Laws.{IsSetup, IsCall, AreCalls, TheLedgerIsOfTheLog, UsesAreWithin}
 use Rattle.endpoint_laws.proofs.Lines.{FactPart, EntriesMeet, EventsMeet}
@@ -41,9 +41,9 @@ module _ (setup : Setup) (from : AddressParts) (datagram : List ℕ) (draws : Dr
   received_goes (Admitted t place packet) is =
       let one = goes_confirming setup from datagram draws t place is.leaves.heard past is.leaves.tied in
       let d : Did = confirming t place in
-      goes_at setup call past s t (then_do d (λ u. chunks_did place from draws false u (chunks_of packet))) is.leaves.moment
-      (goes_then setup call past t d (λ u. chunks_did place from draws false u (chunks_of packet)) one
-      (chunks_go setup from datagram draws most small packet place is.came false [] (chunks_of packet) [] d.state (onto t.moment d.entries past)
+      goes_at setup call past s t (then_do d (λ u. chunks_did place from draws outset u (chunks_of packet))) is.leaves.moment
+      (goes_then setup call past t d (λ u. chunks_did place from draws outset u (chunks_of packet)) one
+      (chunks_go setup from datagram draws most small packet place is.came outset [] (chunks_of packet) [] d.state (onto t.moment d.entries past)
       (record { whole = sym (append-nil (chunks_of packet)); keyed = λ e c none kind. none }) one.tied))
 
   pub part_goes : (count : ℕ) (a : Admission) → AdmissionIs setup past s datagram a → Goes setup call past s (part_received from draws a count)
@@ -51,9 +51,9 @@ module _ (setup : Setup) (from : AddressParts) (datagram : List ℕ) (draws : Dr
   part_goes count (Admitted t place packet) is =
       let one = goes_confirming setup from datagram draws t place is.leaves.heard past is.leaves.tied in
       let d : Did = confirming t place in
-      goes_at setup call past s t (then_do d (λ u. chunks_did place from draws false u (take count (chunks_of packet)))) is.leaves.moment
-      (goes_then setup call past t d (λ u. chunks_did place from draws false u (take count (chunks_of packet))) one
-      (chunks_go setup from datagram draws most small packet place is.came false [] (take count (chunks_of packet)) (drop count (chunks_of packet)) d.state (onto t.moment d.entries past)
+      goes_at setup call past s t (then_do d (λ u. chunks_did place from draws outset u (take count (chunks_of packet)))) is.leaves.moment
+      (goes_then setup call past t d (λ u. chunks_did place from draws outset u (take count (chunks_of packet))) one
+      (chunks_go setup from datagram draws most small packet place is.came outset [] (take count (chunks_of packet)) (drop count (chunks_of packet)) d.state (onto t.moment d.entries past)
       (record { whole = sym (take-append-drop count (chunks_of packet)); keyed = λ e c none kind. none }) one.tied))
 
   stopped_goes : (stop : Stop) (a : Admission) → AdmissionIs setup past s datagram a → Goes setup call past s (stopped s from draws a stop)

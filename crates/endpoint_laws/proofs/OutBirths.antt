@@ -38,6 +38,8 @@ use Rattle.startup.specs.Attempts.{wide}
 use Rattle.startup.specs.Keyings.{InitiatorKeying, ResponderKeying, initiator_keying_in, initiator_fields, with_initiator_part, cause_by, cookie_cause, named_cause, initiator_cause, keying_of, session_answer, change_answer, repeated_session, born_session, again_or_birth, keyed_with, keyed_reading, opening_id, without, after_again_or_birth, after_keyed_with, after_keyed_reading, opened_reading, after_opening, responder_keying_in}
 use Rattle.session_core.specs.declared.stage.Role.TheVariants.{Initiator, Responder}
 use Rattle.session_core.specs.Session.{SessionState, new_session}
+use Rattle.rtmfp_chunks.specs.Writing.{chunk_bytes}
+use Rattle.endpoint_model.specs.declared.walk.Walk.{Walk}
 use Rattle.endpoint_model.specs.declared.config.Draws.{Draws}
 use Rattle.endpoint_model.specs.declared.entry.Entry.TheVariants.{Fact as FactEntry}
 use Rattle.endpoint_model.specs.Event.{Setup, own_of, Call}
@@ -250,10 +252,10 @@ module _ (setup : Setup) (now : ℕ) (call : Call) (past : List Stamped) (s : St
   not_second false o e = e
 
   -- a keying of an initiator
-  pub meets_initiator : (draws : Draws) (keyed_before : Bool) (payload : List ℕ) → draws.word < 2 ^ 32 → length draws.nonce ≡ 16 → initiator_keying_cause s keyed_before from payload ≡ None →
+  pub meets_initiator : (draws : Draws) (walk : Walk) (payload : List ℕ) → draws.word < 2 ^ 32 → length draws.nonce ≡ 16 → initiator_keying_cause s walk from payload ≡ None →
       Meets setup now call past (initiator_keyed s from draws payload)
-  meets_initiator draws keyed_before payload small nonce none =
-      by_reading (free_from s draws.word) draws.nonce (small_free s draws.word small) (omega (arith, nonce)) payload (initiator_keying_in payload) (fine_keying payload) (not_second keyed_before _ none)
+  meets_initiator draws walk payload small nonce none =
+      by_reading (free_from s draws.word) draws.nonce (small_free s draws.word small) (omega (arith, nonce)) payload (initiator_keying_in payload) (fine_keying payload) (not_second walk.keyed _ none)
 
 -- ---- a session is opened
 
@@ -274,10 +276,10 @@ module _ (setup : Setup) (now : ℕ) (call : Call) (past : List Stamped) (s : St
         short = short_left s.startup.attempts near sent.short;
       } in
       let there : get state.sessions near ≡ Some new = get_inserted s.sessions near new in
-      let ping : Meets setup now call after (sent_by state near from (Ping []) (Some new)) =
+      let ping : Meets setup now call after (sent_by state near from (chunk_bytes (Ping [])) (Some new)) =
       meets_session setup now call after state kept near new there tied.secret tied.own (held_opened j (facts_of past) was) from (Ping []) (omega arith) (omega arith) (omega arith) in
-      meets_after setup now call past (FactEntry (Opened j) ∷ []) (sent_in_session state near from (Ping [])) (tt, tt)
-      (subst (λ (o : Option SessionState). Meets setup now call after (sent_by state near from (Ping []) o)) (sym there) ping)
+      meets_after setup now call past (FactEntry (Opened j) ∷ []) (sent_in_session state near from (chunk_bytes (Ping []))) (tt, tt)
+      (subst (λ (o : Option SessionState). Meets setup now call after (sent_by state near from (chunk_bytes (Ping [])) o)) (sym there) ping)
 
   by_attempt : (o : Option AttemptState) → get s.startup.attempts near ≡ o → (read : Result ResponderKeying Cause) → Meets setup now call past (opening_done s near from (opened_reading near o read))
   by_attempt None is read = meets_nothing setup now call past s sent

@@ -22,6 +22,8 @@ use Rattle.startup.specs.Attempts.{lowest, has_tag, has_cookie, if_cookie, chang
 use Rattle.crypto_profile.specs.Keys.{sign_key_of}
 use Rattle.startup.specs.Keyings.{selects, initiator_hello_answer}
 use Rattle.session_core.specs.Session.{SessionState}
+use Rattle.rtmfp_chunks.specs.Writing.{chunk_bytes}
+use Rattle.endpoint_model.specs.declared.walk.Walk.{Walk}
 use Rattle.endpoint_model.specs.declared.config.Draws.{Draws}
 use Rattle.endpoint_model.specs.declared.place.Place.{Place}
 use Rattle.endpoint_model.specs.Event.{Setup, Call}
@@ -29,7 +31,7 @@ use Rattle.endpoint_laws.specs.Past.{Stamped, onto, facts_of}
 use Rattle.endpoint_model.specs.State.{State, Did, with_startup}
 use Rattle.endpoint_model.specs.Sending.{sent_answer, sent_if, sent_by}
 use Rattle.endpoint_model.specs.Admission.{sid_at}
-use Rattle.endpoint_model.specs.Due.{initiator_keyed, responder_keyed, read_done, effect, discarded_or, chunk_did, keyed_after, chunks_did}
+use Rattle.endpoint_model.specs.Due.{initiator_keyed, responder_keyed, read_done, effect, discarded_or, chunk_did, walked, chunks_did}
 use Rattle.endpoint_model.specs.Causes.{is_known, form_cause, takes, read_cause, initiator_keying_cause, responder_keying_cause, last_cause, chunk_cause}
 use Rattle.endpoint_laws.proofs.Tied.{Tied}
 use Rattle.endpoint_laws.proofs.Facts.{test_fails}
@@ -126,7 +128,7 @@ module _ (setup : Setup) (now : ℕ) (call : Call) (past : List Stamped) (s : St
   changed_by sid old cookie None is short = meets_nothing setup now call past (with_startup s s.startup) (sent_startup_changed setup past s s.startup sent sent.short)
   changed_by sid old cookie (Some e) is short = again_by e cookie e.1.stage (changed_found s.startup.attempts sid old e is) short
 
-  pinged : (near : ℕ) (from : AddressParts) (bytes : List ℕ) (o : Option SessionState) → get s.sessions near ≡ o → length bytes ≤ 1024 → Meets setup now call past (sent_by s near from (PingReply bytes) o)
+  pinged : (near : ℕ) (from : AddressParts) (bytes : List ℕ) (o : Option SessionState) → get s.sessions near ≡ o → length bytes ≤ 1024 → Meets setup now call past (sent_by s near from (chunk_bytes (PingReply bytes)) o)
   pinged near from bytes None is short = meets_nothing setup now call past s sent
   pinged near from bytes (Some session) is short =
       let t = tied.sessions near session is in
@@ -154,36 +156,36 @@ module _ (setup : Setup) (now : ℕ) (call : Call) (past : List Stamped) (s : St
 
   -- ---- a chunk
 
-  module _ (place : Place) (from : AddressParts) (draws : Draws) (small : draws.word < 2 ^ 32) (nonce : length draws.nonce ≡ 16) (keyed_before : Bool) where
+  module _ (place : Place) (from : AddressParts) (draws : Draws) (small : draws.word < 2 ^ 32) (nonce : length draws.nonce ≡ 16) (walk : Walk) where
     by_kind : (a b : Bool) (payload : List ℕ) (read : Result Chunk ChunkFault) →
-        (if a then initiator_keying_cause s keyed_before from payload else (if b then responder_keying_cause s (sid_at place) payload else read_cause s place read)) ≡ None →
+        (if a then initiator_keying_cause s walk from payload else (if b then responder_keying_cause s (sid_at place) payload else read_cause s place read)) ≡ None →
         Meets setup now call past (if a then initiator_keyed s from draws payload else (if b then responder_keyed s (sid_at place) from payload else read_done s place from read))
-    by_kind true b payload read none = meets_initiator setup now call past s sent tied from draws keyed_before payload small nonce none
+    by_kind true b payload read none = meets_initiator setup now call past s sent tied from draws walk payload small nonce none
     by_kind false true payload read none = meets_responder setup now call past s sent tied from (sid_at place) payload
     by_kind false false payload read none = meets_read place from read none
 
-    meets_effect : (c : Placed) → last_cause s place keyed_before from c ≡ None → Meets setup now call past (effect s place from draws c)
+    meets_effect : (c : Placed) → last_cause s place walk from c ≡ None → Meets setup now call past (effect s place from draws c)
     meets_effect c none = by_kind (c.kind == 0x38) (c.kind == 0x78) c.payload (chunk_reading c.kind c.payload) none
 
-    by_cause : (c : Placed) (o : Option Cause) → (o ≡ None → last_cause s place keyed_before from c ≡ None) → Meets setup now call past (discarded_or s c.at o (effect s place from draws c))
+    by_cause : (c : Placed) (o : Option Cause) → (o ≡ None → last_cause s place walk from c ≡ None) → Meets setup now call past (discarded_or s c.at o (effect s place from draws c))
     by_cause c None last = meets_effect c (last refl)
     by_cause c (Some cause) last = meets_discarded setup now call past s c.at cause sent
 
-    pub meets_chunk : (c : Placed) → Meets setup now call past (chunk_did place from draws keyed_before s c)
-    meets_chunk c = by_cause c (chunk_cause s place keyed_before from c)
+    pub meets_chunk : (c : Placed) → Meets setup now call past (chunk_did place from draws walk s c)
+    meets_chunk c = by_cause c (chunk_cause s place walk from c)
         (λ none. fifth_none (where_true (not (is_known c.kind)) (UnknownChunk c.kind)) (form_cause c.kind c.payload) (where_true (c.kind == 0x7f) FragmentCause)
-        (where_true (not (takes place c.kind)) WrongPlace) (last_cause s place keyed_before from c) none)
+        (where_true (not (takes place c.kind)) WrongPlace) (last_cause s place walk from c) none)
 
 -- the chunks of a datagram, where the state agrees with what was done after each
 pub meets_chunks : (setup : Setup) (now : ℕ) (call : Call) → length setup.cert ≤ 80 → (place : Place) (from : AddressParts) (draws : Draws) → draws.word < 2 ^ 32 → length draws.nonce ≡ 16 →
-    (cs : List Placed) (keyed_before : Bool) (past : List Stamped) (s : State) → Sent setup past s →
-    ((k : ℕ) → Tied setup (onto now (chunks_did place from draws keyed_before s (take k cs)).entries past) (chunks_did place from draws keyed_before s (take k cs)).state) →
-    Meets setup now call past (chunks_did place from draws keyed_before s cs)
-meets_chunks setup now call cert place from draws small nonce [] keyed_before past s sent ties = meets_nothing setup now call past s sent
-meets_chunks setup now call cert place from draws small nonce (c ∷ cs) keyed_before past s sent ties =
-    let d : Did = chunk_did place from draws keyed_before s c in
-    let first : Meets setup now call past d = meets_chunk setup now call past s sent (ties zero) cert place from draws small nonce keyed_before c in
-    meets_then setup now call past d (λ t. chunks_did place from draws (keyed_after keyed_before c) t cs) first
-    (meets_chunks setup now call cert place from draws small nonce cs (keyed_after keyed_before c) (onto now d.entries past) d.state first.sent
-    (λ k. subst (λ (p : List Stamped). Tied setup p (chunks_did place from draws (keyed_after keyed_before c) d.state (take k cs)).state)
-    (onto_append now d.entries (chunks_did place from draws (keyed_after keyed_before c) d.state (take k cs)).entries past) (ties (suc k))))
+    (cs : List Placed) (walk : Walk) (past : List Stamped) (s : State) → Sent setup past s →
+    ((k : ℕ) → Tied setup (onto now (chunks_did place from draws walk s (take k cs)).entries past) (chunks_did place from draws walk s (take k cs)).state) →
+    Meets setup now call past (chunks_did place from draws walk s cs)
+meets_chunks setup now call cert place from draws small nonce [] walk past s sent ties = meets_nothing setup now call past s sent
+meets_chunks setup now call cert place from draws small nonce (c ∷ cs) walk past s sent ties =
+    let d : Did = chunk_did place from draws walk s c in
+    let first : Meets setup now call past d = meets_chunk setup now call past s sent (ties zero) cert place from draws small nonce walk c in
+    meets_then setup now call past d (λ t. chunks_did place from draws (walked walk c) t cs) first
+    (meets_chunks setup now call cert place from draws small nonce cs (walked walk c) (onto now d.entries past) d.state first.sent
+    (λ k. subst (λ (p : List Stamped). Tied setup p (chunks_did place from draws (walked walk c) d.state (take k cs)).state)
+    (onto_append now d.entries (chunks_did place from draws (walked walk c) d.state (take k cs)).entries past) (ties (suc k))))

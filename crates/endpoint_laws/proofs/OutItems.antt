@@ -37,7 +37,7 @@ use Rattle.endpoint_model.specs.State.{State, Did, nothing, fact_entries, with_s
 use Rattle.endpoint_model.specs.Sending.{last_count, sent_startup, sent_answer, sent_if, sent_each}
 use Rattle.session_core.specs.Hearing.{counted}
 use Rattle.endpoint_model.specs.Admission.{Admission, Rejected, Admitted, admission, admitted, admitted_packet, opened_datagram, counted_by, counted_at, timed_by, timed_at, confirming, confirming_by, has_mode, mode_at, packet_in}
-use Rattle.endpoint_model.specs.Due.{opening, cancelling, due_done, tick_once, ticks, discarded}
+use Rattle.endpoint_model.specs.Due.{opening, cancelling, due_done, tick_once, ticks, discarded, item_done, attempt_item}
 use Rattle.endpoint_laws.proofs.Lines.{EntriesMeet, OutPart}
 use Rattle.endpoint_laws.proofs.Tied.{Tied}
 use Rattle.endpoint_laws.proofs.OutNumbers.{numbered_fact, numbered_discard, numbered_changed}
@@ -184,7 +184,7 @@ module _ (setup : Setup) (past : List Stamped) (s : State) (sent : Sent setup pa
 
   module _ (now : ℕ) (call : Call) (short : length setup.cert ≤ 80) where
     by_stage : (e : ℕ × AttemptState) (stage : Stage) → get s.startup.attempts e.0 ≡ Some e.1 → e.1.stage ≡ stage → (t : StartupState) → AreShort t.attempts → t.secret ≡ s.startup.secret → t.ledger.own ≡ s.startup.ledger.own →
-        Meets setup now call past (due_done (with_startup s t) (Some (repeat_signed (sign_key_of s.startup.secret) s.startup.cert e.0 e.1 stage)))
+        Meets setup now call past (due_done (with_startup s t) (repeat_signed (sign_key_of s.startup.secret) s.startup.cert e.0 e.1 stage))
     by_stage e Hello there is t after secret own =
         meets_each setup now call (ihello_packet (0x01 ∷ e.1.peer) e.1.tag) (hello_may e.0 e.1 there) e.1.candidates past (with_startup s t) (sent_startup_changed setup past s t sent after) (secret ∙ tied.secret) (own ∙ tied.own)
     by_stage e (Keying at cookie) there is t after secret own =
@@ -194,7 +194,7 @@ module _ (setup : Setup) (past : List Stamped) (s : State) (sent : Sent setup pa
 
     by_over : (b : Bool) (e : ℕ × AttemptState) → get s.startup.attempts e.0 ≡ Some e.1 →
         Meets setup now call past (due_done (with_startup s (if b then without_attempt s.startup e.0 (ended_attempt e Expired) else with_attempt s.startup e.0 (repeated e.1 s.moment)))
-        (Some (if b then EndDue (ended_attempt e Expired) else repeat_of s.startup e.0 e.1)))
+        (if b then EndDue (ended_attempt e Expired) else repeat_of s.startup e.0 e.1))
     by_over true e there =
         let after = sent_fact setup past s now (ended_attempt e Expired) sent tt in
         record { lines = (tt, tt); sent = record { numbered = after.numbered; sized = after.sized; short = short_left s.startup.attempts e.0 sent.short } }
@@ -204,8 +204,8 @@ module _ (setup : Setup) (past : List Stamped) (s : State) (sent : Sent setup pa
         (short_put s.startup.attempts e.0 (repeated e.1 s.moment) sent.short (record { tag = kept.tag; cookie = kept.cookie })) refl refl
 
     by_found : (o : Option (ℕ × AttemptState)) → lowest (is_due s.moment) s.startup.attempts ≡ o →
-        Meets setup now call past (due_done (with_startup s (after_due_of s.startup s.moment o)) (due_of s.startup s.moment o))
-    by_found None is = record { lines = tt; sent = sent_startup_changed setup past s s.startup sent sent.short }
+        Meets setup now call past (item_done s (with_startup s (after_due_of s.startup s.moment o)) (attempt_item (due_of s.startup s.moment o)))
+    by_found None is = meets_nothing setup now call past s sent
     by_found (Some e) is = by_over (is_over s.moment e.1) e (lowest_found (is_due s.moment) s.startup.attempts e is)
 
     pub meets_tick_once : Meets setup now call past (tick_once s)

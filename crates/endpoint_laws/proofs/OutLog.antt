@@ -14,7 +14,7 @@ use Rattle.endpoint_laws.specs.Past.{Stamped, onto}
 use Rattle.endpoint_model.specs.State.{State, Did, Does, nothing, then_do, fresh, at_moment}
 use Rattle.endpoint_model.specs.Admission.{Admission, Rejected, Admitted, admission, confirming}
 use Rattle.endpoint_model.specs.Keying.{chunks_of}
-use Rattle.endpoint_model.specs.Due.{opening, cancelling, ticks, chunks_did, received, part_received}
+use Rattle.endpoint_model.specs.Due.{opening, cancelling, ticks, chunks_did, received, part_received, outset}
 use Rattle.endpoint_model.specs.Log.{stopped, Answers, Step, Leads, StandsFor}
 use Rattle.endpoint_laws.specs.Laws.{IsSetup, IsCall, AreCalls}
 use Rattle.endpoint_laws.proofs.Lines.{EntriesMeet, EventsMeet, OutPart}
@@ -60,15 +60,15 @@ taken_twice (suc k) (suc n) (x ∷ xs) = let rest = taken_twice k n xs in (suc r
 module _ (setup : Setup) (now : ℕ) (call : Call) (past : List Stamped) (cert : length setup.cert ≤ 80) (from : AddressParts) (draws : Draws) (small : draws.word < 2 ^ 32) (nonce : length draws.nonce ≡ 16) where
   -- so many of the chunks
   meets_some : (s : State) (place : Place) (cs : List Placed) → Sent setup past s →
-      ((k : ℕ) → Tied setup (onto now ((confirming s place).entries ++ (chunks_did place from draws false (confirming s place).state (take k cs)).entries) past) (chunks_did place from draws false (confirming s place).state (take k cs)).state) →
-      Meets setup now call past (then_do (confirming s place) (λ t. chunks_did place from draws false t cs))
+      ((k : ℕ) → Tied setup (onto now ((confirming s place).entries ++ (chunks_did place from draws outset (confirming s place).state (take k cs)).entries) past) (chunks_did place from draws outset (confirming s place).state (take k cs)).state) →
+      Meets setup now call past (then_do (confirming s place) (λ t. chunks_did place from draws outset t cs))
   meets_some s place cs sent ties =
       let d : Did = confirming s place in
       let first : Meets setup now call past d = meets_confirming setup now call past s place sent in
-      meets_then setup now call past d (λ t. chunks_did place from draws false t cs) first
-      (meets_chunks setup now call cert place from draws small nonce cs false (onto now d.entries past) d.state first.sent
-      (λ k. subst (λ (p : List Stamped). Tied setup p (chunks_did place from draws false d.state (take k cs)).state)
-      (onto_append now d.entries (chunks_did place from draws false d.state (take k cs)).entries past) (ties k)))
+      meets_then setup now call past d (λ t. chunks_did place from draws outset t cs) first
+      (meets_chunks setup now call cert place from draws small nonce cs outset (onto now d.entries past) d.state first.sent
+      (λ k. subst (λ (p : List Stamped). Tied setup p (chunks_did place from draws outset d.state (take k cs)).state)
+      (onto_append now d.entries (chunks_did place from draws outset d.state (take k cs)).entries past) (ties k)))
 
   meets_received : (a : Admission) → SentIn setup past a → ((count : ℕ) → Tied setup (onto now (part_received from draws a count).entries past) (part_received from draws a count).state) →
       Meets setup now call past (received from draws a)
@@ -79,7 +79,7 @@ module _ (setup : Setup) (now : ℕ) (call : Call) (past : List Stamped) (cert :
       Meets setup now call past (part_received from draws a count)
   meets_part (Rejected s cause) count sent ties = meets_nothing setup now call past s sent
   meets_part (Admitted s place packet) count sent ties =
-      let after : List Placed → Did = λ cs. then_do (confirming s place) (λ t. chunks_did place from draws false t cs) in
+      let after : List Placed → Did = λ cs. then_do (confirming s place) (λ t. chunks_did place from draws outset t cs) in
       meets_some s place (take count (chunks_of packet)) sent
       (λ k. (let front = taken_twice k count (chunks_of packet) in subst (λ (cs : List Placed). Tied setup (onto now (after cs).entries past) (after cs).state) front.1 (ties front.0)))
 

@@ -11,7 +11,7 @@ use Rattle.rtmfp_packet.specs.Reading.{PacketReading, Reads}
 use Rattle.rtmfp_packet.proofs.Flags.{head_bytes-spells}
 use Rattle.rtmfp_packet.proofs.Readings.{packet_reading_same}
 use Rattle.rtmfp_chunks.specs.Chunk.{Chunk, IHello, FIHello, RHello, Redirect, CookieChange, IIKeying, RIKeying, Ping, PingReply, Close, CloseAck, Fragment, kind_of, parts_of, Spells}
-use Rattle.rtmfp_chunks.specs.Writing.{payload_bytes, PartsFit}
+use Rattle.rtmfp_chunks.specs.Writing.{payload_bytes, PartsFit, chunk_bytes}
 use Rattle.rtmfp_chunks.proofs.ReadingLaws.{reading_same}
 use Rattle.rtmfp_chunks.proofs.WritingLaws.{parts_bytes-spell}
 use Rattle.startup.specs.Packets.{startup_packet}
@@ -107,12 +107,12 @@ echo_fits (Some s) moment = if_fits (nat_lt (moment - s.at) 128000) ((s.value + 
 
 -- a packet of a session is read so
 pub session_reads : (session : SessionState) (moment : ℕ) (chunk : Chunk) → length (payload_bytes chunk) < 2 ^ 16 →
-    PacketReading (session_packet session moment chunk) (Ok (one_whole (head_at session moment) (head_bytes (head_at session moment)) (kind_of chunk) (payload_bytes chunk)))
+    PacketReading (session_packet session moment (chunk_bytes chunk)) (Ok (one_whole (head_at session moment) (head_bytes (head_at session moment)) (kind_of chunk) (payload_bytes chunk)))
 session_reads session moment chunk short =
     one_reads (head_at session moment) (head_bytes (head_at session moment)) (kind_of chunk) (payload_bytes chunk)
     (head_bytes-spells (head_at session moment) (tick_fits moment) (echo_fits session.stamp moment)) (kind_small chunk) short
 
-pub session_alone : (session : SessionState) (moment : ℕ) (chunk : Chunk) (packet : Whole) → length (payload_bytes chunk) < 2 ^ 16 → PacketReading (session_packet session moment chunk) (Ok packet) →
+pub session_alone : (session : SessionState) (moment : ℕ) (chunk : Chunk) (packet : Whole) → length (payload_bytes chunk) < 2 ^ 16 → PacketReading (session_packet session moment (chunk_bytes chunk)) (Ok packet) →
     Alone (kind_of chunk) (payload_bytes chunk) packet
 session_alone session moment chunk packet short reads =
     one_chunk (head_at session moment) (head_bytes (head_at session moment)) (kind_of chunk) (payload_bytes chunk) packet

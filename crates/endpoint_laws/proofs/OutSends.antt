@@ -10,7 +10,7 @@ use Rattle.rtmfp_forms.specs.Address.{AddressParts}
 use Rattle.rtmfp_packet.specs.Whole.{Whole}
 use Rattle.rtmfp_packet.specs.Reading.{PacketReading}
 use Rattle.rtmfp_chunks.specs.Chunk.{Chunk, kind_of}
-use Rattle.rtmfp_chunks.specs.Writing.{payload_bytes}
+use Rattle.rtmfp_chunks.specs.Writing.{payload_bytes, chunk_bytes}
 use Rattle.crypto_profile.specs.declared.keys.Context.TheVariants.{Startup}
 use Rattle.crypto_profile.specs.Keys.{keys_of}
 use Rattle.crypto_profile.specs.Sealing.{number_of, sealed_in}
@@ -138,27 +138,27 @@ module _ (setup : Setup) (now : ℕ) (call : Call) (past : List Stamped) (s : St
 module _ (setup : Setup) (now : ℕ) (call : Call) (past : List Stamped) (s : State) (sent : Sent setup past s) (near : ℕ) (session : SessionState) (there : get s.sessions near ≡ Some session)
     (secret : session.secret ≡ setup.secret) (own : session.own ≡ own_of setup) (is_held : held session.joined.peer (facts_of past) ≡ Some (thing_of session.role session.stage session.joined)) where
   pub meets_session : (to : AddressParts) (chunk : Chunk) → length (payload_bytes chunk) < 2 ^ 16 → kind_of chunk ≢ 0x38 → kind_of chunk ≢ 0x78 →
-      Meets setup now call past (sent_by s near to chunk (Some session))
+      Meets setup now call past (sent_by s near to (chunk_bytes chunk) (Some session))
   meets_session to chunk short other other' = by_test (session.sealed == last_count) refl
     where
       plain : List ℕ
-      plain = session_packet session s.moment chunk
+      plain = session_packet session s.moment (chunk_bytes chunk)
 
       sized : (count : ℕ) → length (number_bytes count) ≡ 16
       sized count = refl
 
-      is : session_datagram session s.moment chunk ≡
-          datagram session.joined.far (sealed_in setup.secret (context_of session true) session.joined.far (number_bytes (session.sealed + 1)) (session_packet session s.moment chunk))
-      is = ap (λ (k : List ℕ). datagram session.joined.far (sealed_in k (context_of session true) session.joined.far (number_bytes (session.sealed + 1)) (session_packet session s.moment chunk))) secret
+      is : session_datagram session s.moment (chunk_bytes chunk) ≡
+          datagram session.joined.far (sealed_in setup.secret (context_of session true) session.joined.far (number_bytes (session.sealed + 1)) (session_packet session s.moment (chunk_bytes chunk)))
+      is = ap (λ (k : List ℕ). datagram session.joined.far (sealed_in k (context_of session true) session.joined.far (number_bytes (session.sealed + 1)) (session_packet session s.moment (chunk_bytes chunk)))) secret
 
-      carries : number_of (drop 4 (session_datagram session s.moment chunk)) ≡ number_bytes (session.sealed + 1)
-      carries = (sealed_carries (keys_of session.secret (context_of session true)) session.joined.far (number_bytes (session.sealed + 1)) (session_packet session s.moment chunk) refl).0
+      carries : number_of (drop 4 (session_datagram session s.moment (chunk_bytes chunk))) ≡ number_bytes (session.sealed + 1)
+      carries = (sealed_carries (keys_of session.secret (context_of session true)) session.joined.far (number_bytes (session.sealed + 1)) (session_packet session s.moment (chunk_bytes chunk)) refl).0
 
-      line : session.sealed ≢ last_count → OutLine setup past (session_datagram session s.moment chunk) (context_of session true)
+      line : session.sealed ≢ last_count → OutLine setup past (session_datagram session s.moment (chunk_bytes chunk)) (context_of session true)
       line some = record {
         sid = session.joined.far;
         number = number_bytes (session.sealed + 1);
-        plain = session_packet session s.moment chunk;
+        plain = session_packet session s.moment (chunk_bytes chunk);
         numbered = refl;
         is = is;
         once = λ far was. once_session (own_of setup) past s.sealed s.sessions sent.numbered near session there some far was;
@@ -170,12 +170,12 @@ module _ (setup : Setup) (now : ℕ) (call : Call) (past : List Stamped) (s : St
       sealed_more b e = ap (λ (t : Bool). if t then session else record session { sealed = session.sealed + 1 }) e
 
       by_test : (b : Bool) → (session.sealed == last_count) ≡ b →
-          Meets setup now call past (if b then nothing s else record { state = with_session s near (after_seal session); entries = Out to (session_datagram session s.moment chunk) (context_of session true) ∷ [] })
+          Meets setup now call past (if b then nothing s else record { state = with_session s near (after_seal session); entries = Out to (session_datagram session s.moment (chunk_bytes chunk)) (context_of session true) ∷ [] })
       by_test true e = meets_nothing setup now call past s sent
       by_test false e = record {
         lines = (line (unequal session.sealed last_count e), tt);
         sent = record {
-          numbered = numbered_session (own_of setup) past s.sealed s.sessions sent.numbered near session there (unequal session.sealed last_count e) now to (session_datagram session s.moment chunk)
+          numbered = numbered_session (own_of setup) past s.sealed s.sessions sent.numbered near session there (unequal session.sealed last_count e) now to (session_datagram session s.moment (chunk_bytes chunk))
               (after_seal session) (sealed_more (session.sealed == last_count) e) carries (held_known (facts_of past) session.own session.role session.stage session.joined is_held);
           sized = sent.sized;
           short = sent.short;

@@ -17,6 +17,7 @@ use Rattle.glare_core.specs.declared.facts.Joined.{Joined}
 use Rattle.glare_core.specs.Standing.{count}
 use Rattle.glare_core.specs.Tells.{as_initiator}
 use Rattle.startup.specs.State.{AttemptState}
+use Rattle.endpoint_model.specs.declared.walk.Walk.{Walk}
 use Rattle.endpoint_model.specs.declared.config.Draws.{Draws}
 use Rattle.endpoint_model.specs.declared.place.Place.TheVariants.{Attempt}
 use Rattle.endpoint_model.specs.declared.entry.Entry.{Entry}
@@ -31,7 +32,7 @@ use Rattle.endpoint_laws.specs.Lawful.{AnswersAttempt}
 use Rattle.endpoint_model.specs.State.{State, at_moment}
 use Rattle.endpoint_model.specs.Admission.{Admitted, admission}
 use Rattle.endpoint_model.specs.Causes.{chunk_cause}
-use Rattle.endpoint_model.specs.Due.{chunks_did}
+use Rattle.endpoint_model.specs.Due.{chunks_did, outset}
 use Rattle.endpoint_model.specs.Log.{StandsFor, Step}
 use Rattle.endpoint_laws.specs.Laws.{IsSetup, IsCall, AreCalls}
 
@@ -150,11 +151,11 @@ pub record OpensItsSession (s : State) (near : ℕ) (to : AddressParts) (entries
 abbrev pub KeyingsWithoutCauseOpen : Type 0
 KeyingsWithoutCauseOpen = (s t u : State) (moment near : ℕ) (from : AddressParts)
     (datagram : List ℕ) (draws : Draws) (answer : Answer) (entries : List Entry) (packet : Whole)
-    (front back : List Placed) (c : Placed) (keyed_before : Bool)
+    (front back : List Placed) (c : Placed) (walk : Walk)
     → Step s (taken_event moment from datagram draws answer entries) t
     → admission (at_moment s moment) datagram ≡ Admitted u (Attempt near) packet
     → WentThrough answer (chunks_of packet) (front ++ c ∷ back)
     → c.kind ≡ 0x78 →
-      chunk_cause (chunks_did (Attempt near) from draws false u front).state (Attempt near)
-      keyed_before from c ≡ None
-    → OpensItsSession (chunks_did (Attempt near) from draws false u front).state near from entries
+      chunk_cause (chunks_did (Attempt near) from draws outset u front).state (Attempt near)
+      walk from c ≡ None
+    → OpensItsSession (chunks_did (Attempt near) from draws outset u front).state near from entries

@@ -8,8 +8,9 @@ use Rattle.crypto_profile.specs.declared.keys.Context.TheVariants.{Startup}
 use Rattle.rtmfp_packet.specs.Walk.{Placed}
 use Rattle.endpoint_model.specs.declared.config.Draws.{Draws}
 use Rattle.endpoint_model.specs.declared.place.Place.{Place}
+use Rattle.endpoint_model.specs.declared.walk.Walk.{Walk}
 use Rattle.endpoint_model.specs.Added.{Added}
-use Rattle.endpoint_model.specs.Due.{chunk_did, chunks_did, keyed_after}
+use Rattle.endpoint_model.specs.Due.{chunk_did, chunks_did, outset, walked}
 use Rattle.endpoint_model.specs.State.{State, Did, Done, nothing, after_entries, then_do, with_sealed}
 use Rattle.endpoint_model.specs.Sending.{last_count, sent_each, sent_startup, startup_datagram}
 
@@ -70,23 +71,23 @@ startup_entry s to sid plain = one_at_most (s.sealed == last_count) s (Out to (s
 
 -- ---- the chunks of a datagram, one more
 
--- whether a keying was among these chunks, or before them
-abbrev pub keyed_through : Bool → List Placed → Bool
-keyed_through keyed_before [] = keyed_before
-keyed_through keyed_before (c ∷ cs) = keyed_through (keyed_after keyed_before c) cs
+-- what the walk is once these chunks were gone through
+abbrev pub walk_through : Walk → List Placed → Walk
+walk_through walk [] = walk
+walk_through walk (c ∷ cs) = walk_through (walked walk c) cs
 
-pub keyed_more : (keyed_before : Bool) (cs : List Placed) (c : Placed) → keyed_through keyed_before (cs ++ c ∷ []) ≡ keyed_after (keyed_through keyed_before cs) c
-keyed_more keyed_before [] c = refl
-keyed_more keyed_before (d ∷ cs) c = keyed_more (keyed_after keyed_before d) cs c
+pub walk_more : (walk : Walk) (cs : List Placed) (c : Placed) → walk_through walk (cs ++ c ∷ []) ≡ walked (walk_through walk cs) c
+walk_more walk [] c = refl
+walk_more walk (d ∷ cs) c = walk_more (walked walk d) cs c
 
-pub chunks_more : (place : Place) (from : AddressParts) (draws : Draws) (keyed_before : Bool) (s : State) (cs : List Placed) (c : Placed) →
-    chunks_did place from draws keyed_before s (cs ++ c ∷ [])
-    ≡ then_do (chunks_did place from draws keyed_before s cs) (λ t. chunk_did place from draws (keyed_through keyed_before cs) t c)
-chunks_more place from draws keyed_before s [] c = then_nothing (chunk_did place from draws keyed_before s c)
-chunks_more place from draws keyed_before s (d ∷ cs) c =
-    let first : Did = chunk_did place from draws keyed_before s d in
-    ap (after_entries first.entries) (chunks_more place from draws (keyed_after keyed_before d) first.state cs c)
-    ∙ sym (then_then first (λ t. chunks_did place from draws (keyed_after keyed_before d) t cs) (λ t. chunk_did place from draws (keyed_through (keyed_after keyed_before d) cs) t c))
+pub chunks_more : (place : Place) (from : AddressParts) (draws : Draws) (walk : Walk) (s : State) (cs : List Placed) (c : Placed) →
+    chunks_did place from draws walk s (cs ++ c ∷ [])
+    ≡ then_do (chunks_did place from draws walk s cs) (λ t. chunk_did place from draws (walk_through walk cs) t c)
+chunks_more place from draws walk s [] c = then_nothing (chunk_did place from draws walk s c)
+chunks_more place from draws walk s (d ∷ cs) c =
+    let first : Did = chunk_did place from draws walk s d in
+    ap (after_entries first.entries) (chunks_more place from draws (walked walk d) first.state cs c)
+    ∙ sym (then_then first (λ t. chunks_did place from draws (walked walk d) t cs) (λ t. chunk_did place from draws (walk_through (walked walk d) cs) t c))
 
 -- ---- how far a list was gone through
 
@@ -114,34 +115,34 @@ take_whole k xs h = sym (append-nil (take k xs)) ∙ ap (λ ys. take k xs ++ ys)
 -- ---- how far the chunks of a datagram were gone through
 
 -- So many of these chunks were gone through, which brought the end from s to t, and the rest are left.
-pub record IsGone (place : Place) (from : AddressParts) (draws : Draws) (s : State) (all : List Placed) (before : Added) (count : ℕ) (keyed : Bool) (rest : List Placed) (t : State) (after : Added) : Type 0 where
+pub record IsGone (place : Place) (from : AddressParts) (draws : Draws) (s : State) (all : List Placed) (before : Added) (count : ℕ) (walk : Walk) (rest : List Placed) (t : State) (after : Added) : Type 0 where
   pub left_are : drop count all ≡ rest
-  pub keyed_is : keyed ≡ keyed_through false (take count all)
-  pub done : Done (chunks_did place from draws false s (take count all)) t before after
+  pub walk_is : walk ≡ walk_through outset (take count all)
+  pub done : Done (chunks_did place from draws outset s (take count all)) t before after
 
-pub none_gone : (place : Place) (from : AddressParts) (draws : Draws) (s : State) (all : List Placed) (out : Added) → IsGone place from draws s all out 0 false all s out
-none_gone place from draws s all out = record { left_are = refl; keyed_is = refl; done = done_nothing s out }
+pub none_gone : (place : Place) (from : AddressParts) (draws : Draws) (s : State) (all : List Placed) (out : Added) → IsGone place from draws s all out 0 outset all s out
+none_gone place from draws s all out = record { left_are = refl; walk_is = refl; done = done_nothing s out }
 
-pub one_gone : (place : Place) (from : AddressParts) (draws : Draws) (s t new : State) (all : List Placed) (before between after : Added) (count : ℕ) (keyed : Bool) (c : Placed) (rest : List Placed) →
-    IsGone place from draws s all before count keyed (c ∷ rest) t between → Done (chunk_did place from draws keyed t c) new between after →
-    IsGone place from draws s all before (count + 1) (keyed_after keyed c) rest new after
-one_gone place from draws s t new all before between after count keyed c rest gone done =
+pub one_gone : (place : Place) (from : AddressParts) (draws : Draws) (s t new : State) (all : List Placed) (before between after : Added) (count : ℕ) (walk : Walk) (c : Placed) (rest : List Placed) →
+    IsGone place from draws s all before count walk (c ∷ rest) t between → Done (chunk_did place from draws walk t c) new between after →
+    IsGone place from draws s all before (count + 1) (walked walk c) rest new after
+one_gone place from draws s t new all before between after count walk c rest gone done =
     let taken : take (count + 1) all ≡ take count all ++ c ∷ [] = take_one count all c rest gone.left_are in
-    let first : Did = chunks_did place from draws false s (take count all) in
-    let next : State → Did = λ u. chunk_did place from draws (keyed_through false (take count all)) u c in
-    let same : then_do first next ≡ chunks_did place from draws false s (take (count + 1) all) =
-    sym (chunks_more place from draws false s (take count all) c) ∙ ap (chunks_did place from draws false s) (sym taken) in
-    let did : Done (next t) new between after = subst (λ k. Done (chunk_did place from draws k t c) new between after) gone.keyed_is done in
+    let first : Did = chunks_did place from draws outset s (take count all) in
+    let next : State → Did = λ u. chunk_did place from draws (walk_through outset (take count all)) u c in
+    let same : then_do first next ≡ chunks_did place from draws outset s (take (count + 1) all) =
+    sym (chunks_more place from draws outset s (take count all) c) ∙ ap (chunks_did place from draws outset s) (sym taken) in
+    let did : Done (next t) new between after = subst (λ k. Done (chunk_did place from draws k t c) new between after) gone.walk_is done in
     record {
       left_are = drop_one count all c rest gone.left_are;
-      keyed_is = ap (λ k. keyed_after k c) gone.keyed_is ∙ sym (keyed_more false (take count all) c) ∙ ap (keyed_through false) (sym taken);
+      walk_is = ap (λ k. walked k c) gone.walk_is ∙ sym (walk_more outset (take count all) c) ∙ ap (walk_through outset) (sym taken);
       done = subst (λ d. Done d new before after) same (joined first next t new before between after gone.done did);
     }
 
-pub all_gone : (place : Place) (from : AddressParts) (draws : Draws) (s t : State) (all : List Placed) (before after : Added) (count : ℕ) (keyed : Bool) →
-    IsGone place from draws s all before count keyed [] t after → Done (chunks_did place from draws false s all) t before after
-all_gone place from draws s t all before after count keyed gone =
-    subst (λ cs. Done (chunks_did place from draws false s cs) t before after) (take_whole count all gone.left_are) gone.done
+pub all_gone : (place : Place) (from : AddressParts) (draws : Draws) (s t : State) (all : List Placed) (before after : Added) (count : ℕ) (walk : Walk) →
+    IsGone place from draws s all before count walk [] t after → Done (chunks_did place from draws outset s all) t before after
+all_gone place from draws s t all before after count walk gone =
+    subst (λ cs. Done (chunks_did place from draws outset s cs) t before after) (take_whole count all gone.left_are) gone.done
 
 -- a thing, and then nothing
 pub done_still : (d : Did) (middle new : State) (before between after : Added) → Done d middle before between → Done (nothing middle) new between after → Done d new before after

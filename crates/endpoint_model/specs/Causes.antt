@@ -18,6 +18,7 @@ use Rattle.startup.specs.Attempts.{rhello_cause, cookie_change_cause}
 use Rattle.startup.specs.Keyings.{keying_fault, initiator_hello_cause, iikeying_cause,
     rikeying_cause}
 use Rattle.endpoint_model.specs.declared.place.Place.{Place}
+use Rattle.endpoint_model.specs.declared.walk.Walk.{Walk}
 use Rattle.endpoint_model.specs.declared.place.Place.TheVariants.{Startup, Attempt, Session}
 use Rattle.endpoint_model.specs.State.{State, full}
 use Rattle.endpoint_model.specs.Admission.{sid_at}
@@ -67,9 +68,9 @@ read_cause s place (Ok chunk) = None
 read_cause s place (Err fault) = None
 
 -- A keying after another one of the same datagram.
-abbrev pub initiator_keying_cause : State → Bool → AddressParts → List ℕ → Option Cause
-initiator_keying_cause s keyed_before from payload =
-    if keyed_before then Some SecondKeying else
+abbrev pub initiator_keying_cause : State → Walk → AddressParts → List ℕ → Option Cause
+initiator_keying_cause s walk from payload =
+    if walk.keyed then Some SecondKeying else
       iikeying_cause s.startup payload from s.moment (full s)
 
 -- Once its session is open the attempt isn't there any more.
@@ -77,18 +78,18 @@ abbrev pub responder_keying_cause : State → ℕ → List ℕ → Option Cause
 responder_keying_cause s near payload = if contains_key s.startup.attempts near then
     rikeying_cause s.startup near payload else Some NoAttempt
 
-abbrev pub last_cause : State → Place → Bool → AddressParts → Placed → Option Cause
-last_cause s place keyed_before from c =
-    if c.kind == 0x38 then initiator_keying_cause s keyed_before from c.payload
+abbrev pub last_cause : State → Place → Walk → AddressParts → Placed → Option Cause
+last_cause s place walk from c =
+    if c.kind == 0x38 then initiator_keying_cause s walk from c.payload
     else if c.kind == 0x78 then responder_keying_cause s (sid_at place) c.payload
     else read_cause s place (chunk_reading c.kind c.payload)
 
-abbrev pub chunk_cause : State → Place → Bool → AddressParts → Placed → Option Cause
-chunk_cause s place keyed_before from c =
+abbrev pub chunk_cause : State → Place → Walk → AddressParts → Placed → Option Cause
+chunk_cause s place walk from c =
     first_that_stands (
     where_true (not (is_known c.kind)) (UnknownChunk c.kind)
     ∷ form_cause c.kind c.payload
     ∷ where_true (c.kind == 0x7f) FragmentCause
     ∷ where_true (not (takes place c.kind)) WrongPlace
-    ∷ last_cause s place keyed_before from c
+    ∷ last_cause s place walk from c
     ∷ [])

@@ -6,6 +6,7 @@ use Rattle.rtmfp_forms.specs.Address.{AddressParts}
 use Rattle.rtmfp_chunks.specs.declared.reading.ChunkFault.{ChunkFault}
 use Rattle.rtmfp_chunks.specs.Chunk.{Chunk, IHello, FIHello, RHello, CookieChange, Ping, PingReply}
 use Rattle.rtmfp_chunks.specs.FieldReading.{chunk_reading}
+use Rattle.rtmfp_chunks.specs.Writing.{chunk_bytes}
 use Rattle.rtmfp_packet.specs.Walk.{Placed}
 use Rattle.glare_core.specs.declared.facts.Fact.{Fact}
 use Rattle.glare_core.specs.declared.facts.Fact.TheVariants.{Started, Born, Opened, Confirmed,
@@ -27,6 +28,7 @@ use Rattle.session_core.specs.declared.stage.Role.TheVariants.{Initiator, Respon
 use Rattle.session_core.specs.Session.{new_session}
 use Rattle.endpoint_model.specs.declared.config.Draws.{Draws}
 use Rattle.endpoint_model.specs.declared.place.Place.{Place}
+use Rattle.endpoint_model.specs.declared.walk.Walk.{Walk}
 use Rattle.endpoint_model.specs.declared.entry.Entry.TheVariants.{Fact as FactEntry, Discard}
 use Rattle.endpoint_model.specs.declared.answers.OpenRefusal.{OpenRefusal}
 use Rattle.endpoint_model.specs.declared.answers.OpenRefusal.TheVariants.{Candidates, Start, SessionsFull}
@@ -75,16 +77,34 @@ cancelling s n = record { state = with_startup s (after_cancel s.startup n);
 
 -- ---- time
 
--- what one thing that is due adds: the end of an attempt, or its hellos or its keying again
-abbrev pub due_done : State → Option Due → Did
-due_done s None = nothing s
-due_done s (Some (EndDue fact)) = record { state = s; entries = FactEntry fact ∷ [] }
-due_done s (Some (HelloDue spread)) = sent_spread s spread
-due_done s (Some (KeyingDue answer)) = sent_answer s answer
+-- one thing that time makes due
+pub data Item : Type 0 where
+  -- the end of an attempt, or its hellos or its keying again
+  OfAttempt : (due : Due) → Item
 
--- the first thing that is due, by rising session IDs of the attempts
+abbrev pub attempt_item : Option Due → Option Item
+attempt_item None = None
+attempt_item (Some due) = Some (OfAttempt due)
+
+-- The first thing that is due, over all kinds of things. There are those of attempts alone, by rising
+-- session IDs.
+abbrev pub first_due : State → Option Item
+first_due s = attempt_item (due s.startup s.moment)
+
+-- what a thing of an attempt adds
+abbrev pub due_done : State → Due → Did
+due_done s (EndDue fact) = record { state = s; entries = FactEntry fact ∷ [] }
+due_done s (HelloDue spread) = sent_spread s spread
+due_done s (KeyingDue answer) = sent_answer s answer
+
+-- what a thing leaves and adds in a state, where it leaves the attempts of another
+abbrev pub item_done : State → State → Option Item → Did
+item_done s left None = nothing s
+item_done s left (Some (OfAttempt due)) = due_done left due
+
+-- the first thing that is due
 abbrev pub tick_once : State → Did
-tick_once s = due_done (with_startup s (after_due s.startup s.moment)) (due s.startup s.moment)
+tick_once s = item_done s (with_startup s (after_due s.startup s.moment)) (first_due s)
 
 -- so many things of a tick, one after another
 abbrev pub ticks : ℕ → State → Did
@@ -154,7 +174,7 @@ opening_done s near from None = nothing s
 opening_done s near from (Some fact) =
     after_entries (FactEntry fact ∷ [])
     (sent_in_session (with_opened (with_startup s (after_opening s.startup near fact)) near fact
-      from) near from (Ping []))
+      from) near from (chunk_bytes (Ping [])))
 
 abbrev pub responder_keyed : State → ℕ → AddressParts → List ℕ → Did
 responder_keyed s near from payload = opening_done s near from (opened s.startup near payload)
@@ -171,7 +191,8 @@ read_done s place from (Ok (RHello tag cookie cert)) =
 read_done s place from (Ok (CookieChange old new)) =
     sent_if (with_startup s (after_cookie_change s.startup (sid_at place) old new s.moment))
       (cookie_change_keying s.startup (sid_at place) old new)
-read_done s place from (Ok (Ping bytes)) = sent_in_session s (sid_at place) from (PingReply bytes)
+read_done s place from (Ok (Ping bytes)) =
+    sent_in_session s (sid_at place) from (chunk_bytes (PingReply bytes))
 read_done s place from (Ok chunk) = nothing s
 read_done s place from (Err fault) = nothing s
 
@@ -191,44 +212,49 @@ abbrev pub discarded_or : State → ℕ → Option Cause → Did → Did
 discarded_or s at None d = d
 discarded_or s at (Some cause) d = discarded s at cause
 
-abbrev pub chunk_did : Place → AddressParts → Draws → Bool → State → Placed → Did
-chunk_did place from draws keyed_before s c =
-    discarded_or s c.at (chunk_cause s place keyed_before from c) (effect s place from draws c)
+abbrev pub chunk_did : Place → AddressParts → Draws → Walk → State → Placed → Did
+chunk_did place from draws walk s c =
+    discarded_or s c.at (chunk_cause s place walk from c) (effect s place from draws c)
 
-abbrev pub keyed_after : Bool → Placed → Bool
-keyed_after keyed_before c = keyed_before || (c.kind == 0x38)
+-- before the first chunk
+abbrev pub outset : Walk
+outset = record { keyed = false }
 
-abbrev pub chunks_did : Place → AddressParts → Draws → Bool → State → List Placed → Did
-chunks_did place from draws keyed_before s [] = nothing s
-chunks_did place from draws keyed_before s (c ∷ cs) =
-    then_do (chunk_did place from draws keyed_before s c)
-      (λ t. chunks_did place from draws (keyed_after keyed_before c) t cs)
+-- once this one was gone through
+abbrev pub walked : Walk → Placed → Walk
+walked walk c = record { keyed = walk.keyed || (c.kind == 0x38) }
+
+abbrev pub chunks_did : Place → AddressParts → Draws → Walk → State → List Placed → Did
+chunks_did place from draws walk s [] = nothing s
+chunks_did place from draws walk s (c ∷ cs) =
+    then_do (chunk_did place from draws walk s c)
+      (λ t. chunks_did place from draws (walked walk c) t cs)
 
 -- ---- a datagram
 
 abbrev pub received : AddressParts → Draws → Admission → Did
 received from draws (Rejected s cause) = discarded s 0 cause
 received from draws (Admitted s place packet) =
-    then_do (confirming s place) (λ t. chunks_did place from draws false t (chunks_of packet))
+    then_do (confirming s place) (λ t. chunks_did place from draws outset t (chunks_of packet))
 
 -- what was done of a datagram of which so many chunks were gone through
 abbrev pub part_received : AddressParts → Draws → Admission → ℕ → Did
 part_received from draws (Rejected s cause) count = nothing s
 part_received from draws (Admitted s place packet) count =
-    then_do (confirming s place) (λ t. chunks_did place from draws false t
+    then_do (confirming s place) (λ t. chunks_did place from draws outset t
     (take count (chunks_of packet)))
 
 -- ---- datagrams that add nothing but discards
 
 -- The chunk is discarded, or it is an answer to a ping, which does nothing.
-abbrev pub IsQuiet : State → Place → Bool → AddressParts → Placed → Type 0
-IsQuiet s place keyed_before from c = IsSome (chunk_cause s place keyed_before from c) ⊎
+abbrev pub IsQuiet : State → Place → Walk → AddressParts → Placed → Type 0
+IsQuiet s place walk from c = IsSome (chunk_cause s place walk from c) ⊎
     (c.kind ≡ 0x41)
 
-abbrev pub AreQuiet : State → Place → AddressParts → Bool → List Placed → Type 0
-AreQuiet s place from keyed_before [] = Unit {0}
-AreQuiet s place from keyed_before (c ∷ cs) = IsQuiet s place keyed_before from c ×
-    AreQuiet s place from (keyed_after keyed_before c) cs
+abbrev pub AreQuiet : State → Place → AddressParts → Walk → List Placed → Type 0
+AreQuiet s place from walk [] = Unit {0}
+AreQuiet s place from walk (c ∷ cs) = IsQuiet s place walk from c ×
+    AreQuiet s place from (walked walk c) cs
 
 -- one for a cause
 abbrev pub discards_for : Option Cause → ℕ
@@ -236,20 +262,20 @@ discards_for None = 0
 discards_for (Some cause) = 1
 
 -- how many of these chunks are discarded
-abbrev pub discards_among : State → Place → AddressParts → Bool → List Placed → ℕ
-discards_among s place from keyed_before [] = 0
-discards_among s place from keyed_before (c ∷ cs) =
-    discards_for (chunk_cause s place keyed_before from c)
-      + discards_among s place from (keyed_after keyed_before c) cs
+abbrev pub discards_among : State → Place → AddressParts → Walk → List Placed → ℕ
+discards_among s place from walk [] = 0
+discards_among s place from walk (c ∷ cs) =
+    discards_for (chunk_cause s place walk from c)
+      + discards_among s place from (walked walk c) cs
 
 -- The datagram adds discards alone, or nothing: it is refused, or it confirms nothing and each of
 -- its chunks is discarded or does nothing.
 abbrev pub AddsDiscards : AddressParts → Admission → Type 0
 AddsDiscards from (Rejected s cause) = Unit {0}
 AddsDiscards from (Admitted s place packet) = (confirms s place ≡ false) ×
-    AreQuiet s place from false (chunks_of packet)
+    AreQuiet s place from outset (chunks_of packet)
 
 -- how many discards these are
 abbrev pub discards : AddressParts → Admission → ℕ
 discards from (Rejected s cause) = 1
-discards from (Admitted s place packet) = discards_among s place from false (chunks_of packet)
+discards from (Admitted s place packet) = discards_among s place from outset (chunks_of packet)

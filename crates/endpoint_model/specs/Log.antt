@@ -5,7 +5,6 @@ use Rattle.std.specs.Prelude.{ℕ, ◌+◌, ◌<◌, ◌≡◌, Bool, true, fals
 use Rattle.rtmfp_base.specs.declared.memory.Memory.{Memory}
 use Rattle.rtmfp_forms.specs.Address.{AddressParts}
 use Rattle.startup.specs.Attempts.{cancel_fact}
-use Rattle.startup.specs.Due.{due}
 use Rattle.endpoint_model.specs.declared.config.Draws.{Draws}
 use Rattle.endpoint_model.specs.declared.entry.Entry.{Entry}
 use Rattle.endpoint_model.specs.declared.answers.OpenRefusal.{OpenRefusal}
@@ -20,7 +19,7 @@ use Rattle.endpoint_model.specs.State.{State, Did, Does, nothing, fresh, at_mome
 use Rattle.endpoint_model.specs.Admission.{Admission, Rejected, Admitted, admission, confirms}
 use Rattle.endpoint_model.specs.Keying.{chunks_of}
 use Rattle.endpoint_model.specs.Due.{open_refusal, opening, cancelling, ticks, received, part_received,
-    AddsDiscards, discards}
+    AddsDiscards, discards, first_due}
 
 -- ---- what a call may answer, add and leave, from a state in which its moment is noted
 
@@ -79,7 +78,7 @@ Answers s (Receive from datagram draws) Done entries t =
 Answers s (Receive from datagram draws) (Stopped stop) entries t =
     IsStop (admission s datagram) stop ×
       Does (stopped s from draws (admission s datagram) stop) t [] entries
-Answers s (Tick draws) Done entries t = SomeTicks s t entries × (due t.startup t.moment ≡ None)
+Answers s (Tick draws) Done entries t = SomeTicks s t entries × (first_due t ≡ None)
 Answers s (Tick draws) OutOfMemory entries t = SomeTicks s t entries
 Answers s call answer entries t = ⊥
 

@@ -4,8 +4,6 @@ use Rattle.std.specs.Prelude.{ℕ, ◌+◌, ◌-◌, ◌^◌, ◌==◌, true, if
 use Rattle.std.specs.Int.{w64, to_be_bytes}
 use Rattle.rtmfp_forms.specs.Address.{AddressParts}
 use Rattle.rtmfp_packet.specs.Head.{head_bytes}
-use Rattle.rtmfp_chunks.specs.Chunk.{Chunk}
-use Rattle.rtmfp_chunks.specs.Writing.{chunk_bytes}
 use Rattle.crypto_profile.specs.declared.keys.Context.TheVariants.{Startup}
 use Rattle.crypto_profile.specs.Sealing.{sealed_in}
 use Rattle.packet_scramble.specs.Datagram.{datagram}
@@ -56,21 +54,21 @@ sent_spread s spread = sent_each s spread.plain spread.to
 
 -- ---- in a session
 
--- the packet of one chunk that goes out in a session
-abbrev pub session_packet : SessionState → ℕ → Chunk → List ℕ
-session_packet session moment chunk = head_bytes (head_at session moment) ++ chunk_bytes chunk
+-- the packet of a body, which is the bytes of its chunks, that goes out in a session
+abbrev pub session_packet : SessionState → ℕ → List ℕ → List ℕ
+session_packet session moment body = head_bytes (head_at session moment) ++ body
 
-abbrev pub session_datagram : SessionState → ℕ → Chunk → List ℕ
-session_datagram session moment chunk = datagram session.joined.far
-    (sealed_part session (session_packet session moment chunk))
+abbrev pub session_datagram : SessionState → ℕ → List ℕ → List ℕ
+session_datagram session moment body = datagram session.joined.far
+    (sealed_part session (session_packet session moment body))
 
-abbrev pub sent_by : State → ℕ → AddressParts → Chunk → Option SessionState → Did
-sent_by s near to chunk None = nothing s
-sent_by s near to chunk (Some session) =
+abbrev pub sent_by : State → ℕ → AddressParts → List ℕ → Option SessionState → Did
+sent_by s near to body None = nothing s
+sent_by s near to body (Some session) =
     if session.sealed == last_count then nothing s
     else record { state = with_session s near (after_seal session);
-      entries = Out to (session_datagram session s.moment chunk) (context_of session true) ∷ [] }
+      entries = Out to (session_datagram session s.moment body) (context_of session true) ∷ [] }
 
--- one chunk in the session with this near id
-abbrev pub sent_in_session : State → ℕ → AddressParts → Chunk → Did
-sent_in_session s near to chunk = sent_by s near to chunk (get s.sessions near)
+-- a body in the session with this near id
+abbrev pub sent_in_session : State → ℕ → AddressParts → List ℕ → Did
+sent_in_session s near to body = sent_by s near to body (get s.sessions near)

@@ -6,8 +6,10 @@ mod answers;
 mod config;
 mod entry;
 mod place;
+mod walk;
 
 pub use answers::{CallRefusal, OpenRefusal, Stopped};
 pub use config::{Config, Draws};
 pub use entry::Entry;
 pub use place::Place;
+pub use walk::Walk;

@@ -3,7 +3,6 @@ use Rattle.std.proofs.Common.{◌≡◌, ◌+◌, ℕ, List, [], ◌++◌, drop,
 use Rattle.rtmfp_base.specs.declared.memory.Memory.{Memory}
 use Rattle.rtmfp_forms.specs.Address.{AddressParts}
 use Rattle.startup.specs.Attempts.{cancel_fact}
-use Rattle.startup.specs.Due.{due}
 use Rattle.endpoint_model.specs.declared.config.Draws.{Draws}
 use Rattle.endpoint_model.specs.declared.entry.Entry.{Entry}
 use Rattle.endpoint_model.specs.declared.answers.OpenRefusal.{OpenRefusal}
@@ -15,7 +14,7 @@ use Rattle.endpoint_model.specs.Added.{Added}
 use Rattle.endpoint_model.specs.Event.{Call, Open, Cancel, Receive, Tick, Answer, Began, Event}
 use Rattle.endpoint_model.specs.State.{State, Done, nothing, at_moment}
 use Rattle.endpoint_model.specs.Admission.{admission}
-use Rattle.endpoint_model.specs.Due.{open_refusal, opening, cancelling, ticks, received}
+use Rattle.endpoint_model.specs.Due.{open_refusal, opening, cancelling, ticks, received, first_due}
 use Rattle.endpoint_model.specs.Log.{Step as StepOf, Answers, IsStop, stopped, answer_of_open, answer_of_cancel, answer_of_receive, answer_of_tick, event}
 use Rattle.endpoint.proofs.Extending.{open_steps, cancel_steps, tick_steps, receive_steps}
 use Rattle.rendezvous_world.specs.declared.journal.Refused.{Refused}
@@ -63,7 +62,7 @@ cancel_event_of s t n r before after empty ok refused memory err =
     all_added s t 0 (Cancel n) (answer_of_cancel r) before.entries after.entries empty (cancel_steps s t n r before after ok refused memory err)
 
 pub tick_event_of : (s t : State) (moment : ℕ) (draws : Draws) (r : Result (Unit {0}) Memory) (before after : Added) → before.entries ≡ [] →
-    (count : ℕ) × Done (ticks count (at_moment s moment)) t before after → OnOk r (due t.startup t.moment ≡ None) →
+    (count : ℕ) × Done (ticks count (at_moment s moment)) t before after → OnOk r (first_due t ≡ None) →
     StepOf s (record { moment = moment; call = Tick draws; answer = answer_of_tick r; entries = after.entries }) t
 tick_event_of s t moment draws r before after empty some all =
     all_added s t moment (Tick draws) (answer_of_tick r) before.entries after.entries empty (tick_steps s t moment draws r before after some all)

@@ -4,9 +4,8 @@ use Rattle.std.specs.Prelude.{IsSome, IfSome, IfNone, is_some}
 use Rattle.std.proofs.lemmas.List.{length-map, map-append}
 use Rattle.rtmfp_forms.specs.Address.{AddressParts}
 use Rattle.glare_core.specs.declared.facts.Fact.{Fact}
-use Rattle.startup.specs.State.{AttemptState}
-use Rattle.startup.specs.Attempts.{cancel_fact, lowest}
-use Rattle.startup.specs.Due.{after_due_of, due, due_of, is_due}
+use Rattle.startup.specs.Attempts.{cancel_fact}
+use Rattle.startup.specs.Due.{after_due}
 use Rattle.endpoint_model.specs.declared.config.Draws.{Draws}
 use Rattle.endpoint_model.specs.declared.entry.Entry.{Entry}
 use Rattle.endpoint_model.specs.declared.answers.OpenRefusal.{OpenRefusal}
@@ -17,7 +16,7 @@ use Rattle.endpoint_model.specs.declared.answers.Stopped.{Stopped as Stop}
 use Rattle.endpoint_model.specs.Event.{Call, Open as OpenCall, Cancel as CancelCall, Receive, Tick as TickCall, Answer, Began, Done, NotOpened, Refused as RefusedCall, Stopped, OutOfMemory, Event}
 use Rattle.endpoint_model.specs.State.{State, Did, Does, after_entries, at_moment, nothing, then_do, with_startup}
 use Rattle.endpoint_model.specs.Admission.{admission}
-use Rattle.endpoint_model.specs.Due.{cancelling, due_done, opening, received, tick_once, ticks}
+use Rattle.endpoint_model.specs.Due.{cancelling, opening, received, tick_once, ticks, first_due, item_done}
 use Rattle.endpoint_model.specs.Log.{Answers, Step as StepOf, not_opened}
 use Rattle.rendezvous_world.specs.declared.journal.JournalLine.{JournalLine}
 use Rattle.rendezvous_world.specs.declared.journal.Refused.{Refused}
@@ -34,19 +33,15 @@ use Rattle.rendezvous_world.specs.Stepping.{Called, HasItsAnswer, Stepped, new_e
 -- ---- ticks
 
 -- where nothing is due nothing more is done
-none_due : (s : State) (found : Option (ℕ × AttemptState)) → due_of s.startup s.moment found ≡ None → due_done (with_startup s (after_due_of s.startup s.moment found)) (due_of s.startup s.moment found) ≡ nothing s
-none_due s None e = refl
-none_due s (Some found) e = absurd (cc)
+idle : (s : State) → first_due s ≡ None → tick_once s ≡ nothing s
+idle s e = ap (item_done s (with_startup s (after_due s.startup s.moment))) e
 
-idle : (s : State) → due s.startup s.moment ≡ None → tick_once s ≡ nothing s
-idle s e = none_due s (lowest (is_due s.moment) s.startup.attempts) e
-
-ticks_idle : (count : ℕ) (s : State) → due s.startup s.moment ≡ None → ticks count s ≡ nothing s
+ticks_idle : (count : ℕ) (s : State) → first_due s ≡ None → ticks count s ≡ nothing s
 ticks_idle zero s e = refl
 ticks_idle (suc count) s e = ap (λ (d : Did). then_do d (ticks count)) (idle s e) ∙ ap (λ (d : Did). after_entries [] d) (ticks_idle count s e)
 
 -- so all that is due is done in one way
-ticks_same : (count other : ℕ) (s : State) → due (ticks count s).state.startup (ticks count s).state.moment ≡ None → due (ticks other s).state.startup (ticks other s).state.moment ≡ None → ticks count s ≡ ticks other s
+ticks_same : (count other : ℕ) (s : State) → first_due (ticks count s).state ≡ None → first_due (ticks other s).state ≡ None → ticks count s ≡ ticks other s
 ticks_same zero other s e f = sym (ticks_idle other s e)
 ticks_same (suc count) zero s e f = ticks_idle (suc count) s f
 ticks_same (suc count) (suc other) s e f = ap (λ (d : Did). after_entries (tick_once s).entries d) (ticks_same count other (tick_once s).state e f)

@@ -2,6 +2,7 @@ use Rattle.std.proofs.Common.{◌≡◌, ◌++◌, ◌∷◌, [], Some, None, ap
 use Rattle.std.specs.FinMap.{contains_key}
 use Rattle.rtmfp_chunks.specs.Chunk.{Ping}
 use Rattle.startup.specs.Keyings.{rikeying_cause, opened, after_opening}
+use Rattle.rtmfp_chunks.specs.Writing.{chunk_bytes}
 use Rattle.endpoint_model.specs.declared.entry.Entry.TheVariants.{Fact as FactEntry}
 use Rattle.endpoint_model.specs.Due.{responder_keyed, with_opened}
 use Rattle.endpoint_model.specs.Causes.{responder_keying_cause}
@@ -35,4 +36,4 @@ returns-clause-ok c =
     subst (λ (s : State). Done (responder_keyed s c.args.near c.args.from.now c.args.payload.now) c.send_in_session.new.self c.args.out.now c.send_in_session.new.out) c.self.view_is
     (opened_so v t c.args.near c.args.from.now c.args.payload.now c.in-Ok.fact c.send_in_session.new.self c.args.out.now c.send_in_session.new.out h.0
     (opens ∙ ap (λ (s : State). with_opened s c.args.near c.in-Ok.fact c.args.from.now) put)
-    (added_first (FactEntry c.in-Ok.fact ∷ []) (sent_in_session t c.args.near c.args.from.now (Ping [])) c.send_in_session.new.self c.args.out.now c.add.new.self c.send_in_session.new.out added c.send_in_session.ensures))
+    (added_first (FactEntry c.in-Ok.fact ∷ []) (sent_in_session t c.args.near c.args.from.now (chunk_bytes (Ping []))) c.send_in_session.new.self c.args.out.now c.add.new.self c.send_in_session.new.out added c.send_in_session.ensures))

@@ -3,7 +3,7 @@ use Rattle.rtmfp_packet.specs.Walk.{Placed}
 use Rattle.rtmfp_packet.specs.declared.head.PacketHead.{PacketHead}
 use Rattle.endpoint_model.specs.State.{Done}
 use Rattle.endpoint_model.specs.Admission.{confirming, counted_at, timed_at}
-use Rattle.endpoint_model.specs.Due.{AreQuiet, discards_among}
+use Rattle.endpoint_model.specs.Due.{AreQuiet, discards_among, outset}
 use Rattle.endpoint.proofs.Confirms.{stopped_before, not_refused, refused_chunks}
 use Rattle.endpoint.proofs.endpoint.Endpoint.take_packet.Goals as goal
 
@@ -12,8 +12,8 @@ returns-in-Ok-clause-enough c refused room =
     let P : PacketHead → Type 0 = λ h. Done (confirming (timed_at (counted_at c.args.self.now c.args.place c.args.part.now) c.args.place h) c.args.place) c.enter.new.self c.args.out.now c.enter.new.out in
     let entered = subst P c.head.ensures c.in-Ok.ensures.ok in
     let both = refused_chunks c.args.self.now c.enter.new.self c.args.place c.args.part.now c.args.from.now c.args.packet.now c.args.out.now c.enter.new.out entered refused room in
-    c.walk.ensures.enough (subst (λ (cs : List Placed). AreQuiet c.enter.new.self c.args.place c.args.from.now false cs) (sym c.chunks.ensures) both.0)
-    (subst (λ (cs : List Placed). discards_among c.enter.new.self c.args.place c.args.from.now false cs ≤ c.enter.new.out.free) (sym c.chunks.ensures) both.1)
+    c.walk.ensures.enough (subst (λ (cs : List Placed). AreQuiet c.enter.new.self c.args.place c.args.from.now outset cs) (sym c.chunks.ensures) both.0)
+    (subst (λ (cs : List Placed). discards_among c.enter.new.self c.args.place c.args.from.now outset cs ≤ c.enter.new.out.free) (sym c.chunks.ensures) both.1)
 
 pub returns-in-Err-clause-stop : goal.returns-in-Err-clause-stop
 returns-in-Err-clause-stop c = stopped_before c.args.self.now c.args.place c.args.part.now c.args.packet.now c.in-Err.ensures.confirms

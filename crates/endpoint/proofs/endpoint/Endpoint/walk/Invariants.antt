@@ -1,17 +1,17 @@
-use Rattle.std.proofs.Common.{◌≡◌, ◌+◌, ◌<◌, ◌≤◌, ◌^◌, false, length}
+use Rattle.std.proofs.Common.{◌≡◌, ◌+◌, ◌<◌, ◌≤◌, ◌^◌, length}
 use Rattle.std.specs.List.{AllByRecursion}
 use Rattle.rtmfp_packet.specs.Chunks.{left}
-use Rattle.endpoint_model.specs.Due.{AreQuiet, discards_among}
+use Rattle.endpoint_model.specs.Due.{AreQuiet, discards_among, outset}
 use Rattle.endpoint_model.proofs.Steps.{IsGone}
 use Rattle.endpoint.proofs.Refusals.{IsRoomy}
 use Rattle.endpoint.proofs.endpoint.Endpoint.walk.Given as goal
 
 abbrev pub invariant-loop-chunk : goal.invariant-loop-chunk
 invariant-loop-chunk l = record {
-  so_far : IsGone l.place l.from l.draws l.fn.self (left l.fn.chunks) l.fn.out l.gone l.keyed (left l.chunks) l.self l.out;
+  so_far : IsGone l.place l.from l.draws l.fn.self (left l.fn.chunks) l.fn.out l.gone l.walk (left l.chunks) l.self l.out;
   near : AllByRecursion (λ c. c.at < 2 ^ 32) (left l.chunks);
   fits : l.gone + length (left l.chunks) ≡ length (left l.fn.chunks);
-  roomy : AreQuiet l.fn.self l.place l.from false (left l.fn.chunks) → discards_among l.fn.self l.place l.from false (left l.fn.chunks) ≤ l.fn.out.free → IsRoomy l.self l.place l.from l.keyed (left l.chunks) l.out.free;
+  roomy : AreQuiet l.fn.self l.place l.from outset (left l.fn.chunks) → discards_among l.fn.self l.place l.from outset (left l.fn.chunks) ≤ l.fn.out.free → IsRoomy l.self l.place l.from l.walk (left l.chunks) l.out.free;
 }
 
 abbrev pub decreases-loop-chunk : goal.decreases-loop-chunk
