@@ -11,7 +11,7 @@ use Rattle.glare_core.specs.Steps.{Item, Did, Step, step, holding, Happened}
 use Rattle.glare_core.specs.Agreed.{AreOne, Attempt, AreCrossed}
 use Rattle.endpoint_model.specs.Event.{Setup, own_of}
 use Rattle.endpoint_laws.specs.History.{History}
-use Rattle.endpoint_laws.specs.Agreed.{AreAgreed}
+use Rattle.endpoint_laws.specs.Agreed.{AreAgreed, no_generation}
 use Rattle.endpoint_checks.specs.Histories.{HistoriesRefuseDisagreed}
 use Rattle.endpoint_checks.proofs.Logs.{same, other}
 
@@ -66,7 +66,7 @@ no_end who peer near why g early (s ∷ earlier) none (inl e) = clash (ap is_end
 no_end who peer near why g early (s ∷ earlier) none (inr h) = no_end who peer near why g early earlier none.1 h
 
 -- where the last step is the only birth, it is that which happened
-one_birth : (who x : List ℕ) (b t : Joined) (g : ℕ) (early earlier : List Step) → NoBirths earlier → Happened who (Did (Born b) g) early (step x (Did (Born t) 0) ∷ earlier) → b ≡ t
+one_birth : (who x : List ℕ) (b t : Joined) (g : ℕ) (early earlier : List Step) → NoBirths earlier → Happened who (Did (Born b) g) early (step x (Did (Born t) no_generation) ∷ earlier) → b ≡ t
 unfolding born_first born_item
 one_birth who x b t g early earlier none (inl e) = ap (born_first b) e
 one_birth who x b t g early earlier none (inr h) = absurd (no_birth who b g early earlier none h)
@@ -81,22 +81,22 @@ module _ (ends : ℕ → Setup) (s t : Joined) (differ : own_of (ends 0) ≢ own
   y = own_of (ends 1)
 
   abbrev start : Step
-  start = step x (Did (Started s.peer s.n s.near s.ni) 0)
+  start = step x (Did (Started s.peer s.n s.near s.ni) no_generation)
 
   abbrev start_back : Step
-  start_back = step y (Did (Started t.peer t.n t.near t.ni) 0)
+  start_back = step y (Did (Started t.peer t.n t.near t.ni) no_generation)
 
   abbrev birth : Step
-  birth = step y (Did (Born t) 0)
+  birth = step y (Did (Born t) no_generation)
 
   abbrev opening : Step
-  opening = step x (Did (Opened s) 0)
+  opening = step x (Did (Opened s) no_generation)
 
   abbrev opening_back : Step
-  opening_back = step y (Did (Opened t) 0)
+  opening_back = step y (Did (Opened t) no_generation)
 
   abbrev confirm : Step
-  confirm = step y (Did (Confirmed t.peer t.near) 0)
+  confirm = step y (Did (Confirmed t.peer t.near) no_generation)
 
   xx : bytes_eq x x ≡ true
   xx = same x x refl

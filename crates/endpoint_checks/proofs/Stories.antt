@@ -11,6 +11,7 @@ use Rattle.glare_core.specs.declared.facts.Fact.TheVariants.{Started, Born}
 use Rattle.glare_core.specs.declared.facts.Held.{Held}
 use Rattle.glare_core.specs.declared.facts.Held.TheVariants.{Opening, HalfOpen}
 use Rattle.glare_core.specs.Tells.{as_responder}
+use Rattle.endpoint_model.specs.Views.{out_in}
 use Rattle.endpoint_model.specs.declared.entry.Entry.TheVariants.{Out}
 use Rattle.endpoint_model.specs.Event.{Setup, own_of}
 use Rattle.endpoint_laws.specs.Contexts.{session_context, inward, OpensUnder, ContextOf}
@@ -49,8 +50,8 @@ out_then P (inr later) = absurd (one_out ⊥ later)
 pub forged_refused : HistoriesRefuseForged
 forged_refused ends from to draws number plain other_bytes peer ni context n size = record {
   unsent = λ h. let sent = sent_so (ends 0) [] [] number plain size h.0 in sent;
-  others_sent = λ differ h. differ (one_out (IsOut (datagram 0 (sealed_in (ends 0).secret Startup 0 number plain)) Startup (Out to other_bytes Startup)) (sent_so (ends 0) [] (did 1 (Out to other_bytes Startup ∷ []) ∷ []) number plain size h.0)).0;
-  other_context = λ differ h. differ (one_out (IsOut (datagram 0 (sealed_in (ends 0).secret Startup 0 number plain)) Startup (Out to (datagram 0 (sealed_in (ends 0).secret Startup 0 number plain)) context)) (sent_so (ends 0) [] (did 1 (Out to (datagram 0 (sealed_in (ends 0).secret Startup 0 number plain)) context ∷ []) ∷ []) number plain size h.0)).1;
+  others_sent = λ differ h. differ (one_out (IsOut (datagram 0 (sealed_in (ends 0).secret Startup 0 number plain)) Startup (out_in (Out to other_bytes Startup))) (sent_so (ends 0) [] (did 1 (Out to other_bytes Startup ∷ []) ∷ []) number plain size h.0)).0;
+  other_context = λ differ h. differ (one_out (IsOut (datagram 0 (sealed_in (ends 0).secret Startup 0 number plain)) Startup (out_in (Out to (datagram 0 (sealed_in (ends 0).secret Startup 0 number plain)) context))) (sent_so (ends 0) [] (did 1 (Out to (datagram 0 (sealed_in (ends 0).secret Startup 0 number plain)) context ∷ []) ∷ []) number plain size h.0)).1;
   sent_later = λ h. let sent = sent_so (ends 0) [] [] number plain size h.1.0 in sent;
   sent_itself = λ h. let sent = sent_so (ends 0) [] [] number plain size h.0 in sent;
   under_attempt = λ h.
@@ -64,7 +65,7 @@ forged_refused ends from to draws number plain other_bytes peer ni context n siz
 pub forged_in_sessions_refused : HistoriesRefuseForgedInSessions
 forged_in_sessions_refused ends from to draws sent plain context j opens = record {
   unsent = λ h. one_out ⊥ (h.0 (session_context (as_responder (own_of (ends 0)) j) true) plain there again);
-  other_context = λ differ h. differ (out_then (IsOut sent (session_context (as_responder (own_of (ends 0)) j) true) (Out to sent context)) (h.0 (session_context (as_responder (own_of (ends 0)) j) true) plain there again)).1;
+  other_context = λ differ h. differ (out_then (IsOut sent (session_context (as_responder (own_of (ends 0)) j) true) (out_in (Out to sent context))) (h.0 (session_context (as_responder (own_of (ends 0)) j) true) plain there again)).1;
 }
   where
     there : ContextOf (own_of (ends 0)) (Born j ∷ []) (sid_of sent) (session_context (as_responder (own_of (ends 0)) j) true)

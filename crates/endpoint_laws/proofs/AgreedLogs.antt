@@ -1,15 +1,16 @@
 -- What agreement says of the logs of the ends.
-use Rattle.std.proofs.Common.{ℕ, List, [], ◌∷◌, ◌++◌, ◌≡◌, inl, inr, ap, ◌∙◌}
+use Rattle.std.proofs.Common.{ℕ, List, [], ◌∷◌, ◌++◌, ◌≡◌, inl, inr, ap, ◌∙◌, Option, Some, None}
 use Rattle.glare_core.specs.declared.facts.Joined.{Joined}
 use Rattle.glare_core.specs.Standing.{held}
 use Rattle.glare_core.specs.Steps.{Did, Step, step, view, facts, IsTail}
 use Rattle.glare_core.specs.Agreed.{Keeps as KeepsAt}
 use Rattle.glare_core.proofs.Tails.{tail_self, tail_trans}
+use Rattle.glare_core.specs.declared.facts.Fact.{Fact}
+use Rattle.endpoint_model.specs.Views.{fact_in}
 use Rattle.endpoint_model.specs.declared.entry.Entry.{Entry}
-use Rattle.endpoint_model.specs.declared.entry.Entry.TheVariants.{Fact as FactEntry, Discard, Out}
 use Rattle.endpoint_model.specs.Event.{Setup, own_of}
 use Rattle.endpoint_laws.specs.History.{History, facts_at, TakesPart}
-use Rattle.endpoint_laws.specs.Agreed.{stated_onto, stated, Keeps, EachEndStatesItsLog, EachPrefixIsAMoment, LogsKeepTheSame}
+use Rattle.endpoint_laws.specs.Agreed.{stated_onto, stated, Keeps, EachEndStatesItsLog, EachPrefixIsAMoment, LogsKeepTheSame, stated_on}
 use Rattle.endpoint_laws.proofs.StatedFacts.{view_stated}
 
 pub each_end_states_its_log : EachEndStatesItsLog
@@ -17,12 +18,15 @@ each_end_states_its_log ends history fresh who part = view_stated ends who histo
 
 -- ---- moments
 
+tail_on : (own : List ℕ) (o : Option Fact) (before : List Step) → IsTail before (stated_on own o before)
+tail_on own None before = tail_self before
+tail_on own (Some fact) before = inr (tail_self before)
+
 tail_onto : (own : List ℕ) (entries : List Entry) (before : List Step) → IsTail before (stated_onto own entries before)
 tail_onto own [] before = tail_self before
-tail_onto own (FactEntry fact ∷ rest) before =
-    tail_trans before (step own (Did fact 0) ∷ before) (stated_onto own rest (step own (Did fact 0) ∷ before)) (inr (tail_self before)) (tail_onto own rest (step own (Did fact 0) ∷ before))
-tail_onto own (Discard place cause ∷ rest) before = tail_onto own rest before
-tail_onto own (Out to datagram context ∷ rest) before = tail_onto own rest before
+tail_onto own (entry ∷ rest) before =
+    let next : List Step = stated_on own (fact_in entry) before in
+    tail_trans before next (stated_onto own rest next) (tail_on own (fact_in entry) before) (tail_onto own rest next)
 
 pub each_prefix_is_a_moment : EachPrefixIsAMoment
 each_prefix_is_a_moment ends [] early = tail_self (stated ends early)

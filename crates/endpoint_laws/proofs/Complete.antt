@@ -47,6 +47,7 @@ use Rattle.session_core.specs.Session.{SessionState, new_session, head_at}
 use Rattle.session_core.specs.Sealed.{number_bytes}
 use Rattle.glare_core.specs.Tells.{as_initiator}
 use Rattle.rtmfp_chunks.specs.Writing.{chunk_bytes}
+use Rattle.endpoint_laws.proofs.NoFacts.{NoFacts, facts_stay, none_in_both}
 use Rattle.endpoint_laws.specs.Contexts.{session_context}
 use Rattle.session_core.specs.declared.stage.Role.TheVariants.{Initiator}
 use Rattle.endpoint_model.specs.declared.walk.Walk.{Walk}
@@ -54,7 +55,7 @@ use Rattle.endpoint_model.specs.declared.config.Draws.{Draws}
 use Rattle.endpoint_model.specs.declared.place.Place.{Place}
 use Rattle.endpoint_model.specs.declared.place.Place.TheVariants.{Startup, Attempt}
 use Rattle.endpoint_model.specs.declared.entry.Entry.{Entry}
-use Rattle.endpoint_model.specs.declared.entry.Entry.TheVariants.{Fact as FactEntry, Discard, Out}
+use Rattle.endpoint_model.specs.declared.entry.Entry.TheVariants.{Fact as FactEntry, Out}
 use Rattle.endpoint_model.specs.Event.{Setup, own_of, Receive, Answer as CallAnswer, Began, Done, NotOpened, Refused, Stopped, OutOfMemory, Event}
 use Rattle.endpoint_laws.specs.Past.{Stamped, stamped, onto, facts_of, past_of, last_moment}
 use Rattle.endpoint_model.specs.Keying.{IsFirst, chunks_of}
@@ -88,24 +89,6 @@ use Rattle.endpoint_laws.proofs.ReadsBack.{none_all, less_is_other, IsBearing, r
 use Rattle.endpoint_laws.proofs.AnswerCarried.{keying_answers}
 
 -- ---- entries that state nothing
-
-abbrev NoFacts : List Entry → Type 0
-NoFacts [] = Unit {0}
-NoFacts (FactEntry fact ∷ rest) = ⊥
-NoFacts (Discard at cause ∷ rest) = NoFacts rest
-NoFacts (Out to sent context ∷ rest) = NoFacts rest
-
-facts_stay : (now : ℕ) (entries : List Entry) (past : List Stamped) → NoFacts entries → facts_of (onto now entries past) ≡ facts_of past
-facts_stay now [] past none = refl
-facts_stay now (FactEntry fact ∷ rest) past none = absurd none
-facts_stay now (Discard at cause ∷ rest) past none = facts_stay now rest (stamped now (Discard at cause) ∷ past) none
-facts_stay now (Out to sent context ∷ rest) past none = facts_stay now rest (stamped now (Out to sent context) ∷ past) none
-
-none_in_both : (xs ys : List Entry) → NoFacts xs → NoFacts ys → NoFacts (xs ++ ys)
-none_in_both [] ys p q = q
-none_in_both (FactEntry fact ∷ xs) ys p q = absurd p
-none_in_both (Discard at cause ∷ xs) ys p q = none_in_both xs ys p q
-none_in_both (Out to sent context ∷ xs) ys p q = none_in_both xs ys p q
 
 none_either : (b : Bool) (d e : Did) → NoFacts d.entries → NoFacts e.entries → NoFacts (if b then d else e).entries
 none_either true d e p q = p

@@ -1,5 +1,5 @@
 -- The number of each attempt is one of 64 bits: the last one that is given is the greatest of them.
-use Rattle.std.proofs.Common.{◌≡◌, ℕ, ◌+◌, ◌-◌, ◌^◌, ◌<◌, ◌==◌, max, List, [], ◌∷◌, ◌++◌, Bool, true, false, if◌then◌else◌, None, sym, ap, subst, ◌∙◌, arith}
+use Rattle.std.proofs.Common.{◌≡◌, ℕ, ◌+◌, ◌-◌, ◌^◌, ◌<◌, ◌==◌, max, List, [], ◌∷◌, ◌++◌, Bool, true, false, if◌then◌else◌, None, sym, ap, subst, ◌∙◌, arith, Option, Some}
 use Rattle.std.proofs.lemmas.Bool.Decides.{nat_tests}
 use Rattle.std.specs.Str.{bytes_eq}
 use Rattle.rtmfp_forms.specs.Address.{AddressParts}
@@ -12,11 +12,13 @@ use Rattle.glare_core.specs.Calls.{where_true, start_held, peers_full}
 use Rattle.glare_core.proofs.Accounts.{reads_started}
 use Rattle.startup.specs.Attempts.{begin_spread, after_begin}
 use Rattle.crypto_profile.specs.declared.keys.Context.TheVariants.{Startup}
+use Rattle.endpoint_model.specs.Views.{fact_in}
+use Rattle.endpoint_laws.proofs.NoFacts.{NoFactAnd, NoFacts, the_rest, none_in_both}
 use Rattle.endpoint_model.specs.declared.config.Draws.{Draws}
 use Rattle.endpoint_model.specs.declared.entry.Entry.{Entry}
-use Rattle.endpoint_model.specs.declared.entry.Entry.TheVariants.{Fact as FactEntry, Discard, Out}
+use Rattle.endpoint_model.specs.declared.entry.Entry.TheVariants.{Fact as FactEntry, Out}
 use Rattle.endpoint_model.specs.Event.{Setup, own_of, Call, Open, Cancel, Receive, Tick, Answer, Began, Done, NotOpened, Refused, Stopped, OutOfMemory, Event, moment_at}
-use Rattle.endpoint_laws.specs.Past.{Stamped, stamped, onto, facts_of, past_of}
+use Rattle.endpoint_laws.specs.Past.{Stamped, stamped, onto, facts_of, past_of, fact_and}
 use Rattle.endpoint_laws.specs.Lawful.{Opens, FactLine, IsCounted}
 use Rattle.endpoint_model.specs.State.{State, Did, nothing, at_moment, with_startup, with_sealed, free_from}
 use Rattle.endpoint_model.specs.Sending.{last_count, startup_datagram, sent_startup, sent_each}
@@ -25,24 +27,12 @@ use Rattle.endpoint_model.specs.Log.{Answers, Leads}
 use Rattle.endpoint_laws.specs.Laws.{AreCalls}
 use Rattle.endpoint_laws.proofs.Counted.{count_more}
 use Rattle.endpoint_laws.proofs.Facts.{all_none, test_fails}
-use Rattle.endpoint_laws.proofs.Lines.{EntriesMeet, EventsMeet, FactPart, CountPart}
+use Rattle.endpoint_laws.proofs.Lines.{EntriesMeet, EventsMeet, FactPart, CountPart, FactMeets, CountMeets}
 use Rattle.endpoint_laws.proofs.Tied.{Tied}
 use Rattle.endpoint_laws.proofs.Starting.{may_start}
 use Rattle.endpoint_laws.proofs.OutLog.{TiesGoOn}
 
 -- ---- entries that are no facts
-
-abbrev NoFacts : List Entry → Type 0
-NoFacts [] = Unit {0}
-NoFacts (FactEntry fact ∷ rest) = ⊥
-NoFacts (Discard place cause ∷ rest) = NoFacts rest
-NoFacts (Out to sent context ∷ rest) = NoFacts rest
-
-no_facts_both : (xs ys : List Entry) → NoFacts xs → NoFacts ys → NoFacts (xs ++ ys)
-no_facts_both [] ys p q = q
-no_facts_both (FactEntry fact ∷ rest) ys p q = absurd p
-no_facts_both (Discard place cause ∷ rest) ys p q = no_facts_both rest ys p q
-no_facts_both (Out to sent context ∷ rest) ys p q = no_facts_both rest ys p q
 
 startup_no_facts : (s : State) (to : AddressParts) (sid : ℕ) (plain : List ℕ) → NoFacts (sent_startup s to sid plain).entries
 startup_no_facts s to sid plain = by (s.sealed == last_count)
@@ -55,13 +45,16 @@ each_no_facts : (s : State) (plain : List ℕ) (to : List AddressParts) → NoFa
 each_no_facts s plain [] = tt
 each_no_facts s plain (to ∷ rest) =
     let first = sent_startup s to 0 plain in
-    no_facts_both first.entries (sent_each first.state plain rest).entries (startup_no_facts s to 0 plain) (each_no_facts first.state plain rest)
+    none_in_both first.entries (sent_each first.state plain rest).entries (startup_no_facts s to 0 plain) (each_no_facts first.state plain rest)
+
+none_counted : (o : Option Fact) (P : Type 0) → NoFactAnd o P → CountMeets o
+none_counted None P none = tt
+none_counted (Some fact) P none = absurd none
 
 no_facts_counted : (setup : Setup) (now : ℕ) (call : Call) (past : List Stamped) (entries : List Entry) → NoFacts entries → EntriesMeet CountPart setup now call past entries
 no_facts_counted setup now call past [] none = tt
-no_facts_counted setup now call past (FactEntry fact ∷ rest) none = absurd none
-no_facts_counted setup now call past (Discard place cause ∷ rest) none = (tt, no_facts_counted setup now call (stamped now (Discard place cause) ∷ past) rest none)
-no_facts_counted setup now call past (Out to sent context ∷ rest) none = (tt, no_facts_counted setup now call (stamped now (Out to sent context) ∷ past) rest none)
+no_facts_counted setup now call past (entry ∷ rest) none =
+    (none_counted (fact_in entry) (NoFacts rest) none, no_facts_counted setup now call (stamped now entry ∷ past) rest (the_rest (fact_in entry) (NoFacts rest) none))
 
 -- ---- a call that opens no attempt
 
@@ -84,22 +77,27 @@ fact_counted setup now call past rest (Opened j) other line = tt
 fact_counted setup now call past rest (Confirmed peer near) other line = tt
 fact_counted setup now call past rest (Ended peer near why) other line = tt
 
+by_counted : (setup : Setup) (now : ℕ) (call : Call) (past : List Stamped) (rest : List Entry) (o : Option Fact) → IsNotOpen call → FactMeets setup now call past rest o → CountMeets o
+by_counted setup now call past rest None other meets = tt
+by_counted setup now call past rest (Some fact) other meets = fact_counted setup now call past rest fact other meets.1
+
 other_counted : (setup : Setup) (now : ℕ) (call : Call) (past : List Stamped) (entries : List Entry) → IsNotOpen call → EntriesMeet FactPart setup now call past entries → EntriesMeet CountPart setup now call past entries
 other_counted setup now call past [] other meets = tt
-other_counted setup now call past (FactEntry fact ∷ rest) other meets =
-    (fact_counted setup now call past rest fact other meets.0.1, other_counted setup now call (stamped now (FactEntry fact) ∷ past) rest other meets.1)
-other_counted setup now call past (Discard place cause ∷ rest) other meets = (tt, other_counted setup now call (stamped now (Discard place cause) ∷ past) rest other meets.1)
-other_counted setup now call past (Out to sent context ∷ rest) other meets = (tt, other_counted setup now call (stamped now (Out to sent context) ∷ past) rest other meets.1)
+other_counted setup now call past (entry ∷ rest) other meets =
+    (by_counted setup now call past rest (fact_in entry) other meets.0, other_counted setup now call (stamped now entry ∷ past) rest other meets.1)
 
 -- ---- the count after an event
+
+few_with : (setup : Setup) (now : ℕ) (call : Call) (past : List Stamped) (rest : List Entry) (o : Option Fact) → FactMeets setup now call past rest o → CountMeets o →
+    count (facts_of past) < 2 ^ 64 → count (fact_and o (facts_of past)) < 2 ^ 64
+few_with setup now call past rest None f n few = few
+few_with setup now call past rest (Some fact) f n few = count_more (own_of setup) (facts_of past) fact few f.0 n
 
 few_after : (setup : Setup) (now : ℕ) (call : Call) (past : List Stamped) (entries : List Entry) → EntriesMeet FactPart setup now call past entries → EntriesMeet CountPart setup now call past entries →
     count (facts_of past) < 2 ^ 64 → count (facts_of (onto now entries past)) < 2 ^ 64
 few_after setup now call past [] f n few = few
-few_after setup now call past (FactEntry fact ∷ rest) f n few =
-    few_after setup now call (stamped now (FactEntry fact) ∷ past) rest f.1 n.1 (count_more (own_of setup) (facts_of past) fact few f.0.0 n.0)
-few_after setup now call past (Discard place cause ∷ rest) f n few = few_after setup now call (stamped now (Discard place cause) ∷ past) rest f.1 n.1 few
-few_after setup now call past (Out to sent context ∷ rest) f n few = few_after setup now call (stamped now (Out to sent context) ∷ past) rest f.1 n.1 few
+few_after setup now call past (entry ∷ rest) f n few =
+    few_after setup now call (stamped now entry ∷ past) rest f.1 n.1 (few_with setup now call past rest (fact_in entry) f.0 n.0 few)
 
 -- the count after the events of a log
 

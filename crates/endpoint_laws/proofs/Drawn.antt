@@ -31,15 +31,17 @@ use Rattle.startup.specs.Due.{due_of, after_due, is_due, is_over, repeat_of, rep
 use Rattle.startup.specs.Keyings.{InitiatorKeying, ResponderKeying, initiator_keying_in, responder_keying_in, keying_of, repeated_session, again_or_birth, keyed_with, keyed_reading, after_keying, change_answer, session_answer, born_session, opened_reading, initiator_hello_answer}
 use Rattle.session_core.specs.Session.{SessionState, is_opening, confirmed}
 use Rattle.rtmfp_chunks.specs.Writing.{chunk_bytes}
+use Rattle.glare_core.specs.declared.facts.Fact.{Fact}
+use Rattle.endpoint_model.specs.Views.{fact_in}
 use Rattle.endpoint_model.specs.declared.walk.Walk.{Walk}
 use Rattle.endpoint_model.specs.declared.config.Draws.{Draws}
 use Rattle.endpoint_model.specs.declared.place.Place.{Place}
 use Rattle.endpoint_model.specs.declared.place.Place.TheVariants.{Startup, Attempt, Session}
 use Rattle.endpoint_model.specs.declared.entry.Entry.{Entry}
-use Rattle.endpoint_model.specs.declared.entry.Entry.TheVariants.{Fact as FactEntry, Discard, Out}
+use Rattle.endpoint_model.specs.declared.entry.Entry.TheVariants.{Fact as FactEntry, Out}
 use Rattle.endpoint_model.specs.declared.answers.Stopped.{Stopped as Stop}
 use Rattle.endpoint_model.specs.Event.{Call, Open, Cancel, Receive, Tick, Answer as CallAnswer, Began, Done, NotOpened, Refused, Stopped, OutOfMemory}
-use Rattle.endpoint_laws.specs.Past.{Stamped, stamped, onto, facts_of}
+use Rattle.endpoint_laws.specs.Past.{Stamped, stamped, onto, facts_of, fact_and}
 use Rattle.endpoint_model.specs.State.{State, Did, Does, nothing, fact_entries, with_startup, with_session, free_from}
 use Rattle.endpoint_model.specs.Sending.{sent_startup, sent_answer, sent_if, sent_each, sent_by, sent_in_session, last_count}
 use Rattle.endpoint_model.specs.Admission.{Admission, Rejected, Admitted, admission, sid_at, confirming, confirming_by}
@@ -51,32 +53,33 @@ use Rattle.endpoint_model.specs.Log.{stopped, Answers}
 
 -- ---- the nonces among entries, in their order
 
-abbrev pub drawn_and : Entry → List (List ℕ) → List (List ℕ)
-drawn_and (FactEntry (Started peer n near ni)) rest = ni ∷ rest
-drawn_and (FactEntry (Born j)) rest = j.nr ∷ rest
-drawn_and (FactEntry (Opened j)) rest = rest
-drawn_and (FactEntry (Confirmed peer near)) rest = rest
-drawn_and (FactEntry (Ended peer near why)) rest = rest
-drawn_and (Discard place cause) rest = rest
-drawn_and (Out to datagram context) rest = rest
+abbrev pub drawn_and : Option Fact → List (List ℕ) → List (List ℕ)
+drawn_and None rest = rest
+drawn_and (Some (Started peer n near ni)) rest = ni ∷ rest
+drawn_and (Some (Born j)) rest = j.nr ∷ rest
+drawn_and (Some (Opened j)) rest = rest
+drawn_and (Some (Confirmed peer near)) rest = rest
+drawn_and (Some (Ended peer near why)) rest = rest
 
 abbrev pub drawn : List Entry → List (List ℕ)
 drawn [] = []
-drawn (entry ∷ rest) = drawn_and entry (drawn rest)
+drawn (entry ∷ rest) = drawn_and (fact_in entry) (drawn rest)
 
 -- none, or this one once
 abbrev pub Once : List ℕ → List Entry → Type 0
 Once nonce entries = (drawn entries ≡ []) ⊎ (drawn entries ≡ nonce ∷ [])
 
+drawn_more : (o : Option Fact) (l k : List (List ℕ)) → drawn_and o (l ++ k) ≡ drawn_and o l ++ k
+drawn_more None l k = refl
+drawn_more (Some (Started peer n near ni)) l k = refl
+drawn_more (Some (Born j)) l k = refl
+drawn_more (Some (Opened j)) l k = refl
+drawn_more (Some (Confirmed peer near)) l k = refl
+drawn_more (Some (Ended peer near why)) l k = refl
+
 drawn_both : (xs ys : List Entry) → drawn (xs ++ ys) ≡ drawn xs ++ drawn ys
 drawn_both [] ys = refl
-drawn_both (FactEntry (Started peer n near ni) ∷ xs) ys = ap (λ (l : List (List ℕ)). ni ∷ l) (drawn_both xs ys)
-drawn_both (FactEntry (Born j) ∷ xs) ys = ap (λ (l : List (List ℕ)). j.nr ∷ l) (drawn_both xs ys)
-drawn_both (FactEntry (Opened j) ∷ xs) ys = drawn_both xs ys
-drawn_both (FactEntry (Confirmed peer near) ∷ xs) ys = drawn_both xs ys
-drawn_both (FactEntry (Ended peer near why) ∷ xs) ys = drawn_both xs ys
-drawn_both (Discard place cause ∷ xs) ys = drawn_both xs ys
-drawn_both (Out to datagram context ∷ xs) ys = drawn_both xs ys
+drawn_both (x ∷ xs) ys = ap (drawn_and (fact_in x)) (drawn_both xs ys) ∙ drawn_more (fact_in x) (drawn xs) (drawn ys)
 
 none_after : (xs ys : List Entry) (l : List (List ℕ)) → drawn xs ≡ [] → drawn ys ≡ l → drawn (xs ++ ys) ≡ l
 none_after xs ys l p q = drawn_both xs ys ∙ ap (λ (a : List (List ℕ)). a ++ drawn ys) p ∙ q
@@ -371,30 +374,39 @@ answers_draw s t call answer entries h = absurd h
 
 -- ---- the nonces of the facts of an event
 
+-- a fact that draws none leaves the nonces as they are
+draws_none : (o : Option Fact) (l : List (List ℕ)) (facts : List Fact) → drawn_and o l ≡ [] → (l ≡ []) × (nonces_of (fact_and o facts) ≡ nonces_of facts)
+draws_none None l facts e = (e, refl)
+draws_none (Some (Started peer n near ni)) l facts e = absurd (cc)
+draws_none (Some (Born j)) l facts e = absurd (cc)
+draws_none (Some (Opened j)) l facts e = (e, refl)
+draws_none (Some (Confirmed peer near)) l facts e = (e, refl)
+draws_none (Some (Ended peer near why)) l facts e = (e, refl)
+
 pub nonces_none : (moment : ℕ) (entries : List Entry) (past : List Stamped) → drawn entries ≡ [] → nonces_of (facts_of (onto moment entries past)) ≡ nonces_of (facts_of past)
 nonces_none moment [] past e = refl
-nonces_none moment (FactEntry (Started peer n near ni) ∷ rest) past e = absurd (cc)
-nonces_none moment (FactEntry (Born j) ∷ rest) past e = absurd (cc)
-nonces_none moment (FactEntry (Opened j) ∷ rest) past e = nonces_none moment rest (stamped moment (FactEntry (Opened j)) ∷ past) e
-nonces_none moment (FactEntry (Confirmed peer near) ∷ rest) past e = nonces_none moment rest (stamped moment (FactEntry (Confirmed peer near)) ∷ past) e
-nonces_none moment (FactEntry (Ended peer near why) ∷ rest) past e = nonces_none moment rest (stamped moment (FactEntry (Ended peer near why)) ∷ past) e
-nonces_none moment (Discard place cause ∷ rest) past e = nonces_none moment rest (stamped moment (Discard place cause) ∷ past) e
-nonces_none moment (Out to datagram context ∷ rest) past e = nonces_none moment rest (stamped moment (Out to datagram context) ∷ past) e
+nonces_none moment (entry ∷ rest) past e =
+    let both = draws_none (fact_in entry) (drawn rest) (facts_of past) e in
+    nonces_none moment rest (stamped moment entry ∷ past) both.0 ∙ both.1
 
 one_front : (x y : List ℕ) (l : List (List ℕ)) → x ∷ l ≡ y ∷ [] → (x ≡ y) × (l ≡ [])
 one_front x y l e = (let same : x ≡ y = cc in same, let rest : l ≡ [] = cc in rest)
 
-nonces_first : (moment : ℕ) (rest : List Entry) (past : List Stamped) (x y : List ℕ) → x ∷ drawn rest ≡ y ∷ [] → nonces_of (facts_of past) ≡ x ∷ [] → nonces_of (facts_of (onto moment rest past)) ≡ y ∷ []
-nonces_first moment rest past x y e is = let front = one_front x y (drawn rest) e in nonces_none moment rest past front.1 ∙ is ∙ ap (λ (z : List ℕ). z ∷ []) front.0
+-- one nonce among what a fact and those after it draw is that of the fact, or of those after it
+draws_one : (o : Option Fact) (l : List (List ℕ)) (facts : List Fact) (nonce : List ℕ) → nonces_of facts ≡ [] → drawn_and o l ≡ nonce ∷ [] →
+    ((l ≡ []) × (nonces_of (fact_and o facts) ≡ nonce ∷ [])) ⊎ ((l ≡ nonce ∷ []) × (nonces_of (fact_and o facts) ≡ []))
+draws_one None l facts nonce none e = inr (e, none)
+draws_one (Some (Started peer n near ni)) l facts nonce none e =
+    let front = one_front ni nonce l e in inl (front.1, ap (λ (ns : List (List ℕ)). ni ∷ ns) none ∙ ap (λ (z : List ℕ). z ∷ []) front.0)
+draws_one (Some (Born j)) l facts nonce none e =
+    let front = one_front j.nr nonce l e in inl (front.1, ap (λ (ns : List (List ℕ)). j.nr ∷ ns) none ∙ ap (λ (z : List ℕ). z ∷ []) front.0)
+draws_one (Some (Opened j)) l facts nonce none e = inr (e, none)
+draws_one (Some (Confirmed peer near)) l facts nonce none e = inr (e, none)
+draws_one (Some (Ended peer near why)) l facts nonce none e = inr (e, none)
 
 pub nonces_once : (moment : ℕ) (entries : List Entry) (past : List Stamped) (nonce : List ℕ) → nonces_of (facts_of past) ≡ [] → drawn entries ≡ nonce ∷ [] → nonces_of (facts_of (onto moment entries past)) ≡ nonce ∷ []
 nonces_once moment [] past nonce none e = absurd (cc)
-nonces_once moment (FactEntry (Started peer n near ni) ∷ rest) past nonce none e =
-    nonces_first moment rest (stamped moment (FactEntry (Started peer n near ni)) ∷ past) ni nonce e (ap (λ (l : List (List ℕ)). ni ∷ l) none)
-nonces_once moment (FactEntry (Born j) ∷ rest) past nonce none e =
-    nonces_first moment rest (stamped moment (FactEntry (Born j)) ∷ past) j.nr nonce e (ap (λ (l : List (List ℕ)). j.nr ∷ l) none)
-nonces_once moment (FactEntry (Opened j) ∷ rest) past nonce none e = nonces_once moment rest (stamped moment (FactEntry (Opened j)) ∷ past) nonce none e
-nonces_once moment (FactEntry (Confirmed peer near) ∷ rest) past nonce none e = nonces_once moment rest (stamped moment (FactEntry (Confirmed peer near)) ∷ past) nonce none e
-nonces_once moment (FactEntry (Ended peer near why) ∷ rest) past nonce none e = nonces_once moment rest (stamped moment (FactEntry (Ended peer near why)) ∷ past) nonce none e
-nonces_once moment (Discard place cause ∷ rest) past nonce none e = nonces_once moment rest (stamped moment (Discard place cause) ∷ past) nonce none e
-nonces_once moment (Out to datagram context ∷ rest) past nonce none e = nonces_once moment rest (stamped moment (Out to datagram context) ∷ past) nonce none e
+nonces_once moment (entry ∷ rest) past nonce none e = elim (draws_one (fact_in entry) (drawn rest) (facts_of past) nonce none e) [
+  | inl own ↦ nonces_none moment rest (stamped moment entry ∷ past) own.0 ∙ own.1
+  | inr later ↦ nonces_once moment rest (stamped moment entry ∷ past) nonce later.1 later.0
+]

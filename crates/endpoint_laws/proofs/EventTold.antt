@@ -9,14 +9,17 @@ use Rattle.glare_core.specs.Tells.{Tell}
 use Rattle.glare_core.specs.Steps.{Item, Told, Did, Step, step, view, facts, holding}
 use Rattle.glare_core.specs.Told.{WasSent, nonces, with_nonce, AllDifferent}
 use Rattle.glare_core.proofs.Views.{view_same}
+use Rattle.rtmfp_forms.specs.Address.{AddressParts}
+use Rattle.endpoint_model.proofs.Kinds.{IsOther, kind_of}
+use Rattle.endpoint_model.specs.Views.{fact_in}
 use Rattle.endpoint_model.specs.declared.entry.Entry.{Entry}
-use Rattle.endpoint_model.specs.declared.entry.Entry.TheVariants.{Fact as FactEntry, Discard, Out}
+use Rattle.endpoint_model.specs.declared.entry.Entry.TheVariants.{Fact as FactEntry, Out}
 use Rattle.endpoint_model.specs.Event.{Setup, own_of, Call}
-use Rattle.endpoint_laws.specs.Past.{Stamped, stamped, facts_of}
+use Rattle.endpoint_laws.specs.Past.{Stamped, stamped, facts_of, fact_and}
 use Rattle.endpoint_laws.specs.Lawful.{FactLine, IsCounted, EntriesLawful}
-use Rattle.endpoint_laws.specs.History.{HasOut}
+use Rattle.endpoint_laws.specs.History.{HasOut, IsOut}
 use Rattle.endpoint_laws.specs.Laws.{IsCall}
-use Rattle.endpoint_laws.specs.Agreed.{stated_onto}
+use Rattle.endpoint_laws.specs.Agreed.{stated_onto, stated_on, no_generation}
 use Rattle.endpoint_laws.proofs.FactsAlone.{alone, facts_alone}
 use Rattle.endpoint_laws.proofs.Fresh.{nonces_alone, different_before, is_new}
 use Rattle.endpoint_laws.proofs.HeldTold.{Holds, FactSizes, tell_of}
@@ -49,12 +52,12 @@ module _ (setup : Setup) (now : ℕ) (call : Call) (start : List Fact) (base : L
   -- what an entry leaves
   record Next (fact : Fact) (past : List Stamped) (so_far steps : List Step) : Type 0 where
     next : List Step
-    far : Far setup call start base (stamped now (FactEntry fact) ∷ past) (step own (Did fact 0) ∷ so_far) next
+    far : Far setup call start base (stamped now (FactEntry fact) ∷ past) (step own (Did fact no_generation) ∷ so_far) next
     more : (t : Tell) → WasSent t steps → WasSent t next
 
   -- a fact that has heard in these steps what it asks for
   fact_grows : (fact : Fact) (past : List Stamped) (so_far steps : List Step) → Far setup call start base past so_far steps → Stands own (count (facts_of past)) (facts_of past) fact → IsCounted fact → FactSizes fact →
-      IsHeardBy own (view own steps) fact → AllDifferent (with_nonce (Did fact 0) (nonces so_far)) → Grown own fact steps
+      IsHeardBy own (view own steps) fact → AllDifferent (with_nonce (Did fact no_generation) (nonces so_far)) → Grown own fact steps
   fact_grows fact past so_far steps far stands fits sizes heard new =
       let same : facts_of past ≡ facts (view own steps) = sym far.stated in
       let few : count (facts_of past) < 2 ^ 64 = subst (λ (fs : List Fact). count fs < 2 ^ 64) far.stated (far.telling.few own) in
@@ -72,9 +75,9 @@ module _ (setup : Setup) (now : ℕ) (call : Call) (start : List Fact) (base : L
     next = g.next;
     far = record {
       telling = g.telling;
-      is = g.is ∙ ap (λ (r : List Step). step own (Did fact 0) ∷ r) far.is;
+      is = g.is ∙ ap (λ (r : List Step). step own (Did fact no_generation) ∷ r) far.is;
       stated =
-          sym (facts_alone own g.next) ∙ ap (λ (r : List Step). facts (view own r)) g.is ∙ ap facts (view_same own (Did fact 0) (alone steps))
+          sym (facts_alone own g.next) ∙ ap (λ (r : List Step). facts (view own r)) g.is ∙ ap facts (view_same own (Did fact no_generation) (alone steps))
           ∙ ap (λ (fs : List Fact). fact ∷ fs) (facts_alone own steps ∙ far.stated);
       came = came_more setup now call start past rest fact line far.came;
       grows = λ t w. g.grows t (far.grows t w);
@@ -83,7 +86,7 @@ module _ (setup : Setup) (now : ℕ) (call : Call) (start : List Fact) (base : L
   }
 
   fact_next : (fact : Fact) (past : List Stamped) (rest : List Entry) (so_far steps : List Step) → Far setup call start base past so_far steps → Stands own (count (facts_of past)) (facts_of past) fact →
-      FactLine setup now call past rest fact → IsCounted fact → AllDifferent (with_nonce (Did fact 0) (nonces so_far)) → Hears own steps fact → Next fact past so_far steps
+      FactLine setup now call past rest fact → IsCounted fact → AllDifferent (with_nonce (Did fact no_generation) (nonces so_far)) → Hears own steps fact → Next fact past so_far steps
   fact_next fact past rest so_far steps far stands line fits new (inl heard) =
       let few : count (facts_of past) < 2 ^ 64 = subst (λ (fs : List Fact). count fs < 2 ^ 64) far.stated (far.telling.few own) in
       let sizes = sizes_of setup now call past rest fact is_call few stands line fits in
@@ -122,32 +125,34 @@ module _ (setup : Setup) (now : ℕ) (call : Call) (start : List Fact) (base : L
     grows = far.grows;
   }
 
-  pub reached : (entries : List Entry) (past : List Stamped) (so_far steps : List Step) → Far setup call start base past so_far steps → EntriesLawful setup now call past entries →
-      AllDifferent (nonces (stated_onto own entries so_far)) → Reached setup entries so_far steps
-  reached [] past so_far steps far lawful new = record { last = steps; telling = far.telling; is = far.is; grows = λ t w. w; outs = λ sent context none. absurd none }
-  reached (FactEntry fact ∷ rest) past so_far steps far lawful new =
+  -- ---- what the rest of the entries reach, after one entry
+
+  abbrev ReachedBy : List Entry → List Stamped → List Step → List Step → Type 0
+  ReachedBy entries past so_far steps = Far setup call start base past so_far steps → EntriesLawful setup now call past entries → AllDifferent (nonces (stated_onto own entries so_far)) →
+      Reached setup entries so_far steps
+
+  -- whatever the past, the facts and the steps so far
+  abbrev ReachesOn : List Entry → Type 0
+  ReachesOn entries = (past : List Stamped) (so_far steps : List Step) → ReachedBy entries past so_far steps
+
+  reached_fact : (fact : Fact) (rest : List Entry) → ReachesOn rest → (past : List Stamped) (so_far steps : List Step) → ReachedBy (FactEntry fact ∷ rest) past so_far steps
+  reached_fact fact rest later past so_far steps far lawful new =
       let line = lawful.0 in
       let heard = hears setup now start past base steps far.telling far.stated far.grows call fact rest is_call carried far.came line.0 line.1 lawful.1 in
-      let one = fact_next fact past rest so_far steps far line.0 line.1 line.2 (different_before own rest (step own (Did fact 0) ∷ so_far) new) heard in
-      let r = reached rest (stamped now (FactEntry fact) ∷ past) (step own (Did fact 0) ∷ so_far) one.next one.far lawful.1 new in
+      let one = fact_next fact past rest so_far steps far line.0 line.1 line.2 (different_before own rest (step own (Did fact no_generation) ∷ so_far) new) heard in
+      let r = later (stamped now (FactEntry fact) ∷ past) (step own (Did fact no_generation) ∷ so_far) one.next one.far lawful.1 new in
       record {
         last = r.last;
         telling = r.telling;
         is = r.is;
         grows = λ t w. r.grows t (one.more t w);
-        outs = λ sent context out. elim out [ inl none ↦ absurd none | inr later ↦ r.outs sent context later ];
+        outs = λ sent context out. elim out [ inl none ↦ absurd none | inr more ↦ r.outs sent context more ];
       }
-  reached (Discard place cause ∷ rest) past so_far steps far lawful new =
-      let r = reached rest (stamped now (Discard place cause) ∷ past) so_far steps (beside (Discard place cause) past so_far steps refl far) lawful.1 new in
-      record {
-        last = r.last;
-        telling = r.telling;
-        is = r.is;
-        grows = r.grows;
-        outs = λ sent context out. elim out [ inl none ↦ absurd none | inr later ↦ r.outs sent context later ];
-      }
-  reached (Out to datagram context ∷ rest) past so_far steps far lawful new =
-      let r = reached rest (stamped now (Out to datagram context) ∷ past) so_far steps (beside (Out to datagram context) past so_far steps refl far) lawful.1 new in
+
+  reached_out : (to : AddressParts) (datagram : List ℕ) (context : Context) (rest : List Entry) → ReachesOn rest → (past : List Stamped) (so_far steps : List Step) →
+      ReachedBy (Out to datagram context ∷ rest) past so_far steps
+  reached_out to datagram context rest later past so_far steps far lawful new =
+      let r = later (stamped now (Out to datagram context) ∷ past) so_far steps (beside (Out to datagram context) past so_far steps refl far) lawful.1 new in
       let here : Carried setup.secret datagram context r.last = record { setup = setup; group = refl; past = past; line = lawful.0; told = was_told past so_far steps r.last far r.grows } in
       record {
         last = r.last;
@@ -156,6 +161,29 @@ module _ (setup : Setup) (now : ℕ) (call : Call) (start : List Fact) (base : L
         grows = r.grows;
         outs = λ sent sealed_for out. elim out [
           | inl it ↦ subst (λ (b : List ℕ). Carried setup.secret b sealed_for r.last) it.0 (subst (λ (k : Context). Carried setup.secret datagram k r.last) it.1 here)
-          | inr later ↦ r.outs sent sealed_for later
+          | inr more ↦ r.outs sent sealed_for more
         ];
       }
+
+  reached_other : (entry : Entry) → IsOther entry → (rest : List Entry) → ReachesOn rest → (past : List Stamped) (so_far steps : List Step) → ReachedBy (entry ∷ rest) past so_far steps
+  reached_other entry other rest later past so_far steps far lawful new =
+      let as_none : stated_on own (fact_in entry) so_far ≡ so_far = ap (λ (o : Option Fact). stated_on own o so_far) other.no_fact in
+      let r = later (stamped now entry ∷ past) so_far steps (beside entry past so_far steps (ap (λ (o : Option Fact). fact_and o (facts_of past)) other.no_fact) far) lawful.1
+      (subst (λ (before : List Step). AllDifferent (nonces (stated_onto own rest before))) as_none new) in
+      record {
+        last = r.last;
+        telling = r.telling;
+        is = r.is ∙ ap (stated_onto own rest) (sym as_none);
+        grows = r.grows;
+        outs = λ sent context out. elim out [ inl it ↦ absurd (subst (IsOut sent context) other.no_out it) | inr more ↦ r.outs sent context more ];
+      }
+
+  pub reached : (entries : List Entry) → ReachesOn entries
+  reached [] past so_far steps far lawful new = record { last = steps; telling = far.telling; is = far.is; grows = λ t w. w; outs = λ sent context none. absurd none }
+  reached (entry ∷ rest) past so_far steps = elim (kind_of entry) [
+    | inl fact ↦ subst (λ (e : Entry). ReachedBy (e ∷ rest) past so_far steps) (sym fact.1) (reached_fact fact.0 rest (reached rest) past so_far steps)
+    | inr not ↦ elim not [
+      | inl out ↦ subst (λ (e : Entry). ReachedBy (e ∷ rest) past so_far steps) (sym out.1) (reached_out out.0.to out.0.datagram out.0.context rest (reached rest) past so_far steps)
+      | inr other ↦ reached_other entry other rest (reached rest) past so_far steps
+    ]
+  ]

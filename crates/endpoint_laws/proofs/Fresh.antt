@@ -1,13 +1,13 @@
 -- Where no nonce was drawn twice, each fact brings a new one.
-use Rattle.std.proofs.Common.{ℕ, List, [], ◌∷◌, ◌≡◌, refl, ap, subst, ◌∙◌}
+use Rattle.std.proofs.Common.{ℕ, List, [], ◌∷◌, ◌≡◌, refl, ap, subst, ◌∙◌, Option, Some, None}
 use Rattle.glare_core.specs.declared.facts.Fact.{Fact}
 use Rattle.glare_core.specs.declared.facts.Fact.TheVariants.{Started, Born, Opened, Confirmed, Ended}
 use Rattle.glare_core.specs.Steps.{Item, Told, Did, Sends, Step, step, Among}
 use Rattle.glare_core.specs.Told.{with_nonce, nonces, AllDifferent}
 use Rattle.glare_core.proofs.Sound.{IsNew}
+use Rattle.endpoint_model.specs.Views.{fact_in}
 use Rattle.endpoint_model.specs.declared.entry.Entry.{Entry}
-use Rattle.endpoint_model.specs.declared.entry.Entry.TheVariants.{Fact as FactEntry, Discard, Out}
-use Rattle.endpoint_laws.specs.Agreed.{stated_onto}
+use Rattle.endpoint_laws.specs.Agreed.{stated_on, stated_onto, no_generation}
 use Rattle.endpoint_laws.proofs.FactsAlone.{alone_on, alone}
 
 nonces_on : (who : List ℕ) (item : Item) (before : List Step) → nonces (alone_on who item before) ≡ with_nonce item (nonces before)
@@ -19,21 +19,23 @@ pub nonces_alone : (now : List Step) → nonces (alone now) ≡ nonces now
 nonces_alone [] = refl
 nonces_alone (s ∷ earlier) = nonces_on s.who s.item (alone earlier) ∙ ap (with_nonce s.item) (nonces_alone earlier)
 
-different_below : (fact : Fact) (drawn : List (List ℕ)) → AllDifferent (with_nonce (Did fact 0) drawn) → AllDifferent drawn
+different_below : (fact : Fact) (drawn : List (List ℕ)) → AllDifferent (with_nonce (Did fact no_generation) drawn) → AllDifferent drawn
 different_below (Started peer n near ni) drawn d = d.1
 different_below (Born j) drawn d = d.1
 different_below (Opened j) drawn d = d
 different_below (Confirmed peer near) drawn d = d
 different_below (Ended peer near why) drawn d = d
 
+different_under : (own : List ℕ) (o : Option Fact) (before : List Step) → AllDifferent (nonces (stated_on own o before)) → AllDifferent (nonces before)
+different_under own None before d = d
+different_under own (Some fact) before d = different_below fact (nonces before) d
+
 -- they are different at each moment of an event
 pub different_before : (own : List ℕ) (entries : List Entry) (before : List Step) → AllDifferent (nonces (stated_onto own entries before)) → AllDifferent (nonces before)
 different_before own [] before d = d
-different_before own (FactEntry fact ∷ rest) before d = different_below fact (nonces before) (different_before own rest (step own (Did fact 0) ∷ before) d)
-different_before own (Discard place cause ∷ rest) before d = different_before own rest before d
-different_before own (Out to datagram context ∷ rest) before d = different_before own rest before d
+different_before own (entry ∷ rest) before d = different_under own (fact_in entry) before (different_before own rest (stated_on own (fact_in entry) before) d)
 
-pub is_new : (fact : Fact) (steps : List Step) (drawn : List (List ℕ)) → nonces steps ≡ drawn → AllDifferent (with_nonce (Did fact 0) drawn) → IsNew steps fact
+pub is_new : (fact : Fact) (steps : List Step) (drawn : List (List ℕ)) → nonces steps ≡ drawn → AllDifferent (with_nonce (Did fact no_generation) drawn) → IsNew steps fact
 is_new (Started peer n near ni) steps drawn e d = λ among. d.0 (subst (λ (ns : List (List ℕ)). Among ni ns) e among)
 is_new (Born j) steps drawn e d = λ among. d.0 (subst (λ (ns : List (List ℕ)). Among j.nr ns) e among)
 is_new (Opened j) steps drawn e d = tt

@@ -13,15 +13,16 @@ use Rattle.startup.specs.declared.cause.Cause.{Cause}
 use Rattle.startup.specs.State.{SpreadParts}
 use Rattle.session_core.specs.Session.{SessionState}
 use Rattle.session_core.specs.Sealed.{after_seal, is_spent}
+use Rattle.endpoint_model.specs.Views.{fact_in}
 use Rattle.endpoint_model.specs.declared.entry.Entry.{Entry}
-use Rattle.endpoint_model.specs.declared.entry.Entry.TheVariants.{Fact as FactEntry, Discard, Out}
+use Rattle.endpoint_model.specs.declared.entry.Entry.TheVariants.{Discard, Out}
 use Rattle.endpoint_model.specs.Event.{Setup, Call}
 use Rattle.endpoint_laws.specs.Past.{Stamped, stamped, onto}
 use Rattle.endpoint_laws.specs.Lawful.{FactLine, EndedLine, BornFollows}
 use Rattle.endpoint_model.specs.State.{State, Did, nothing, then_do}
 use Rattle.endpoint_model.specs.Sending.{last_count, sent_startup, sent_answer, sent_if, sent_each, sent_spread, sent_by, sent_in_session}
 use Rattle.endpoint_model.specs.Due.{discarded}
-use Rattle.endpoint_laws.proofs.Lines.{FactPart, EntriesMeet}
+use Rattle.endpoint_laws.proofs.Lines.{FactPart, FactMeets, EntriesMeet}
 use Rattle.endpoint_laws.proofs.Tied.{Tied}
 use Rattle.endpoint_laws.proofs.Agrees.{IsOurs, combined}
 use Rattle.endpoint_laws.proofs.Moving.{tied_session, tied_more, tied_alike}
@@ -34,9 +35,7 @@ onto_append now (x ∷ xs) ys past = onto_append now xs ys (stamped now x ∷ pa
 
 follows_more : (peer : List ℕ) (xs ys : List Entry) → BornFollows peer xs → BornFollows peer (xs ++ ys)
 follows_more peer [] ys f = absurd f
-follows_more peer (FactEntry fact ∷ xs) ys f = f
-follows_more peer (Discard at cause ∷ xs) ys f = absurd f
-follows_more peer (Out to sent context ∷ xs) ys f = absurd f
+follows_more peer (entry ∷ xs) ys f = f
 
 ended_more : (now : ℕ) (call : Call) (past : List Stamped) (xs ys : List Entry) (peer : List ℕ) (near : ℕ) (why : Why) → EndedLine now call past xs peer near why → EndedLine now call past (xs ++ ys) peer near why
 ended_more now call past xs ys peer near Cancelled f = f
@@ -55,10 +54,12 @@ line_more setup now call past xs ys (Opened j) f = f
 line_more setup now call past xs ys (Confirmed peer near) f = f
 line_more setup now call past xs ys (Ended peer near why) f = ended_more now call past xs ys peer near why f
 
+fact_more : (setup : Setup) (now : ℕ) (call : Call) (past : List Stamped) (xs ys : List Entry) (o : Option Fact) → FactMeets setup now call past xs o → FactMeets setup now call past (xs ++ ys) o
+fact_more setup now call past xs ys None f = tt
+fact_more setup now call past xs ys (Some fact) f = (f.0, line_more setup now call past xs ys fact f.1)
+
 part_more : (setup : Setup) (now : ℕ) (call : Call) (past : List Stamped) (xs ys : List Entry) (entry : Entry) → FactPart setup now call past xs entry → FactPart setup now call past (xs ++ ys) entry
-part_more setup now call past xs ys (FactEntry fact) f = (f.0, line_more setup now call past xs ys fact f.1)
-part_more setup now call past xs ys (Discard at cause) f = tt
-part_more setup now call past xs ys (Out to sent context) f = tt
+part_more setup now call past xs ys entry f = fact_more setup now call past xs ys (fact_in entry) f
 
 pub meet_append : (setup : Setup) (now : ℕ) (call : Call) (past : List Stamped) (xs ys : List Entry) → EntriesMeet FactPart setup now call past xs →
     EntriesMeet FactPart setup now call (onto now xs past) ys → EntriesMeet FactPart setup now call past (xs ++ ys)

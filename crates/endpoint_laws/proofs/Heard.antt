@@ -1,5 +1,5 @@
 -- What a lawful fact of an honest event has heard: the tell that it asks for was sent.
-use Rattle.std.proofs.Common.{ℕ, ◌<◌, ◌^◌, List, [], ◌∷◌, length, Option, Some, ◌≡◌, ◌⊎◌, inl, inr, refl, sym, ap, subst, ◌∙◌, true, arith}
+use Rattle.std.proofs.Common.{ℕ, ◌<◌, ◌^◌, List, [], ◌∷◌, length, Option, Some, ◌≡◌, ◌⊎◌, inl, inr, refl, sym, ap, subst, ◌∙◌, true, arith, None}
 use Rattle.packet_scramble.specs.Datagram.{sid_of}
 use Rattle.rtmfp_forms.specs.Address.{AddressParts}
 use Rattle.rtmfp_packet.specs.Walk.{Placed}
@@ -20,15 +20,17 @@ use Rattle.glare_core.specs.Table.{HasHeard}
 use Rattle.glare_core.specs.Told.{WasSent}
 use Rattle.glare_core.proofs.Views.{seen_item}
 use Rattle.glare_core.proofs.Sound.{IsCalledFor}
+use Rattle.endpoint_laws.specs.Agreed.{no_generation}
+use Rattle.endpoint_model.specs.Views.{Sending, fact_in, out_in}
 use Rattle.endpoint_model.specs.declared.config.Draws.{Draws}
 use Rattle.endpoint_model.specs.declared.entry.Entry.{Entry}
-use Rattle.endpoint_model.specs.declared.entry.Entry.TheVariants.{Fact as FactEntry, Discard, Out}
+use Rattle.endpoint_model.specs.declared.entry.Entry.TheVariants.{Fact as FactEntry}
 use Rattle.endpoint_model.specs.Event.{Setup, own_of, Call, Open, Cancel, Receive, Tick}
 use Rattle.endpoint_laws.specs.Past.{Stamped, stamped, facts_of}
 use Rattle.endpoint_laws.specs.Contexts.{session_context, inward, ContextOf, OpensUnder}
 use Rattle.endpoint_model.specs.Keying.{IsFirst, IsAmong, chunks_of}
 use Rattle.endpoint_laws.specs.Admissible.{Admissible, Offer}
-use Rattle.endpoint_laws.specs.Lawful.{Opens, Bears, FactLine, BornLine, EndedLine, AnswersAttempt, BornFollows, IsCounted, EntriesLawful}
+use Rattle.endpoint_laws.specs.Lawful.{Opens, Bears, FactLine, BornLine, EndedLine, AnswersAttempt, BornFollows, IsCounted, EntriesLawful, IsBornIn, LineOf}
 use Rattle.endpoint_laws.specs.Laws.{IsCall}
 use Rattle.endpoint_laws.proofs.HeldTold.{Holds, BornSizes, FactSizes}
 use Rattle.endpoint_laws.proofs.Telling.{Telling}
@@ -110,7 +112,7 @@ module _ (setup : Setup) (now : ℕ) (start : List Fact) (past : List Stamped) (
   called_by : (peer : List ℕ) (near : ℕ) (why : Why) (j : Joined) → j.peer ≡ peer → seen j.peer (Ended peer near why ∷ facts_of past) < j.n →
       IsCalledFor own (Told (Keying j.peer own j.n j.ni j.far 0) ∷ view own steps) (Ended peer near why)
   called_by peer near why j same above e =
-      let more = seen_item peer (Did (Ended peer near why) 0) (view own steps) in
+      let more = seen_item peer (Did (Ended peer near why) no_generation) (view own steps) in
       let here : seen peer (Ended peer near why ∷ facts (view own steps)) < j.n =
       subst (λ (fs : List Fact). seen peer (Ended peer near why ∷ fs) < j.n) (sym stated) (subst (λ (p : List ℕ). seen p (Ended peer near why ∷ facts_of past) < j.n) same above) in
       record {
@@ -166,16 +168,17 @@ module _ (setup : Setup) (now : ℕ) (start : List Fact) (past : List Stamped) (
   hears_way : (call : Call) (peer : List ℕ) (near : ℕ) (why : Why) (rest : List Entry) → WasCarried setup start base call → BornFollows peer rest →
       EntriesLawful setup now call (stamped now (FactEntry (Ended peer near why)) ∷ past) rest → Hears own steps (Ended peer near why)
   unfolding offer_of
-  hears_way call peer near why (FactEntry (Born j) ∷ rest) carried follows lawful =
-      let line = lawful.0 in
-      inr (Keying j.peer own j.n j.ni j.far 0, bears call line.1.before (offer_of j) j.nr carried line.1.by, (tt, called_by peer near why j follows line.0.above))
-  hears_way call peer near why (FactEntry (Started p n m ni) ∷ rest) carried follows lawful = absurd follows
-  hears_way call peer near why (FactEntry (Opened j) ∷ rest) carried follows lawful = absurd follows
-  hears_way call peer near why (FactEntry (Confirmed p m) ∷ rest) carried follows lawful = absurd follows
-  hears_way call peer near why (FactEntry (Ended p m w) ∷ rest) carried follows lawful = absurd follows
-  hears_way call peer near why (Discard place cause ∷ rest) carried follows lawful = absurd follows
-  hears_way call peer near why (Out to sent context ∷ rest) carried follows lawful = absurd follows
   hears_way call peer near why [] carried follows lawful = absurd follows
+  hears_way call peer near why (entry ∷ rest) carried follows lawful = by (fact_in entry) (out_in entry) follows lawful.0
+    where
+      by : (o : Option Fact) (sent : Option Sending) → IsBornIn peer o → LineOf setup now call (stamped now (FactEntry (Ended peer near why)) ∷ past) rest o sent → Hears own steps (Ended peer near why)
+      by None sent born line = absurd born
+      by (Some (Born j)) sent born line =
+          inr (Keying j.peer own j.n j.ni j.far 0, bears call line.1.before (offer_of j) j.nr carried line.1.by, (tt, called_by peer near why j born line.0.above))
+      by (Some (Started p n m ni)) sent born line = absurd born
+      by (Some (Opened j)) sent born line = absurd born
+      by (Some (Confirmed p m)) sent born line = absurd born
+      by (Some (Ended p m w)) sent born line = absurd born
 
   hears_ended : (call : Call) (peer : List ℕ) (near : ℕ) (why : Why) (rest : List Entry) → WasCarried setup start base call → EndedLine now call past rest peer near why →
       EntriesLawful setup now call (stamped now (FactEntry (Ended peer near why)) ∷ past) rest → Hears own steps (Ended peer near why)

@@ -10,6 +10,7 @@ use Rattle.glare_core.specs.Tells.{Tell, Keying, Answer, Under, as_initiator}
 use Rattle.glare_core.specs.Steps.{Item, Did, Among, facts}
 use Rattle.glare_core.specs.Table.{SentFits}
 use Rattle.glare_core.proofs.Tails.{same_end}
+use Rattle.endpoint_laws.specs.Agreed.{no_generation}
 
 -- the keying of an attempt, the answer of a session that was born here, and that a datagram goes under a session to its responder
 abbrev pub tell_of : List ℕ → List ℕ → Held → Tell
@@ -22,9 +23,9 @@ tell_of own peer (KeptAsInitiator j) = Under (as_initiator own j) true 0
 
 abbrev pub HasFact : List Item → List ℕ → Held → Type 0
 HasFact log peer (Opening n near ni) = Unit {0}
-HasFact log peer (HalfOpen j) = (j.peer ≡ peer) × Among (Did (Born j) 0) log
-HasFact log peer (KeptAsResponder j) = (j.peer ≡ peer) × Among (Did (Born j) 0) log
-HasFact log peer (KeptAsInitiator j) = (j.peer ≡ peer) × Among (Did (Opened j) 0) log
+HasFact log peer (HalfOpen j) = (j.peer ≡ peer) × Among (Did (Born j) no_generation) log
+HasFact log peer (KeptAsResponder j) = (j.peer ≡ peer) × Among (Did (Born j) no_generation) log
+HasFact log peer (KeptAsInitiator j) = (j.peer ≡ peer) × Among (Did (Opened j) no_generation) log
 
 -- ---- the sizes of what is held
 
@@ -68,21 +69,21 @@ holds_after (Started p n near ni) log peer o is sizes h = (tt, (sym (ap length i
 holds_after (Born j) log peer o is sizes h = ((is, inl refl), sizes)
 holds_after (Opened j) log peer None is sizes h = tt
 holds_after (Opened j) log peer (Some (Opening n near ni)) is sizes h = ((is, inl refl), tt)
-holds_after (Opened j) log peer (Some (HalfOpen t)) is sizes h = holds_stays (Did (Opened j) 0) log peer (Some (HalfOpen t)) h
-holds_after (Opened j) log peer (Some (KeptAsResponder t)) is sizes h = holds_stays (Did (Opened j) 0) log peer (Some (KeptAsResponder t)) h
-holds_after (Opened j) log peer (Some (KeptAsInitiator t)) is sizes h = holds_stays (Did (Opened j) 0) log peer (Some (KeptAsInitiator t)) h
+holds_after (Opened j) log peer (Some (HalfOpen t)) is sizes h = holds_stays (Did (Opened j) no_generation) log peer (Some (HalfOpen t)) h
+holds_after (Opened j) log peer (Some (KeptAsResponder t)) is sizes h = holds_stays (Did (Opened j) no_generation) log peer (Some (KeptAsResponder t)) h
+holds_after (Opened j) log peer (Some (KeptAsInitiator t)) is sizes h = holds_stays (Did (Opened j) no_generation) log peer (Some (KeptAsInitiator t)) h
 holds_after (Confirmed p near) log peer None is sizes h = tt
-holds_after (Confirmed p near) log peer (Some (Opening n near' ni)) is sizes h = holds_stays (Did (Confirmed p near) 0) log peer (Some (Opening n near' ni)) h
+holds_after (Confirmed p near) log peer (Some (Opening n near' ni)) is sizes h = holds_stays (Did (Confirmed p near) no_generation) log peer (Some (Opening n near' ni)) h
 holds_after (Confirmed p near) log peer (Some (HalfOpen t)) is sizes h = ((h.0.0, inr h.0.1), h.1)
-holds_after (Confirmed p near) log peer (Some (KeptAsResponder t)) is sizes h = holds_stays (Did (Confirmed p near) 0) log peer (Some (KeptAsResponder t)) h
-holds_after (Confirmed p near) log peer (Some (KeptAsInitiator t)) is sizes h = holds_stays (Did (Confirmed p near) 0) log peer (Some (KeptAsInitiator t)) h
+holds_after (Confirmed p near) log peer (Some (KeptAsResponder t)) is sizes h = holds_stays (Did (Confirmed p near) no_generation) log peer (Some (KeptAsResponder t)) h
+holds_after (Confirmed p near) log peer (Some (KeptAsInitiator t)) is sizes h = holds_stays (Did (Confirmed p near) no_generation) log peer (Some (KeptAsInitiator t)) h
 holds_after (Ended p near why) log peer o is sizes h = tt
 
 -- after one fact more
 pub holds_did : (fact : Fact) (log : List Item) (peer : List ℕ) → FactSizes fact → Holds log peer (held peer (facts log)) → Holds (Did fact 0 ∷ log) peer (held peer (fact ∷ facts log))
 holds_did fact log peer sizes h = elim (same_end (peer_of fact) peer) [
   | inl d ↦ rw d.1 (holds_after fact log peer (held peer (facts log)) d.0 sizes h)
-  | inr d ↦ rw d.1 (holds_stays (Did fact 0) log peer (held peer (facts log)) h)
+  | inr d ↦ rw d.1 (holds_stays (Did fact no_generation) log peer (held peer (facts log)) h)
 ]
 
 -- ---- the tell of what is held meets its line

@@ -1,4 +1,5 @@
 mod Lines
+mod NoFacts
 mod OutFacts
 mod OutNumbers
 mod Tied

@@ -1,31 +1,39 @@
 -- The table of lawful logs in three parts: the lines of facts, their numbers, and the line of datagrams that go out.
-use Rattle.std.proofs.Common.{ℕ, List, [], ◌∷◌}
+use Rattle.std.proofs.Common.{ℕ, List, [], ◌∷◌, Option, Some, None}
+use Rattle.glare_core.specs.declared.facts.Fact.{Fact}
 use Rattle.glare_core.specs.Standing.{count}
 use Rattle.glare_core.specs.Stands.{Stands}
 use Rattle.endpoint_model.specs.declared.entry.Entry.{Entry}
-use Rattle.endpoint_model.specs.declared.entry.Entry.TheVariants.{Fact as FactEntry, Discard, Out}
+use Rattle.endpoint_model.specs.Views.{Sending, fact_in, out_in}
 use Rattle.endpoint_model.specs.Event.{Setup, own_of, Call, Event, moment_at}
 use Rattle.endpoint_laws.specs.Past.{Stamped, stamped, onto, facts_of}
-use Rattle.endpoint_laws.specs.Lawful.{FactLine, IsCounted, OutLine, EntriesLawful, LawfulFrom}
+use Rattle.endpoint_laws.specs.Lawful.{FactLine, IsCounted, OutLine, LineOf, EntriesLawful, LawfulFrom}
 
 -- what is asked of an entry, by its event, the entries before it, and those after it in its event
 abbrev pub Part : Type 1
 Part = Setup → ℕ → Call → List Stamped → List Entry → Entry → Type 0
 
+-- of a fact, where there is one
+abbrev pub FactMeets : Setup → ℕ → Call → List Stamped → List Entry → Option Fact → Type 0
+FactMeets setup now call past rest None = Unit {0}
+FactMeets setup now call past rest (Some fact) = Stands (own_of setup) (count (facts_of past)) (facts_of past) fact × FactLine setup now call past rest fact
+
+abbrev pub OutMeets : Setup → List Stamped → Option Sending → Type 0
+OutMeets setup past None = Unit {0}
+OutMeets setup past (Some sent) = OutLine setup past sent.datagram sent.context
+
+abbrev pub CountMeets : Option Fact → Type 0
+CountMeets None = Unit {0}
+CountMeets (Some fact) = IsCounted fact
+
 abbrev pub FactPart : Part
-FactPart setup now call past rest (FactEntry fact) = Stands (own_of setup) (count (facts_of past)) (facts_of past) fact × FactLine setup now call past rest fact
-FactPart setup now call past rest (Discard place cause) = Unit {0}
-FactPart setup now call past rest (Out to sent context) = Unit {0}
+FactPart setup now call past rest entry = FactMeets setup now call past rest (fact_in entry)
 
 abbrev pub OutPart : Part
-OutPart setup now call past rest (FactEntry fact) = Unit {0}
-OutPart setup now call past rest (Discard place cause) = Unit {0}
-OutPart setup now call past rest (Out to sent context) = OutLine setup past sent context
+OutPart setup now call past rest entry = OutMeets setup past (out_in entry)
 
 abbrev pub CountPart : Part
-CountPart setup now call past rest (FactEntry fact) = IsCounted fact
-CountPart setup now call past rest (Discard place cause) = Unit {0}
-CountPart setup now call past rest (Out to sent context) = Unit {0}
+CountPart setup now call past rest entry = CountMeets (fact_in entry)
 
 abbrev pub EntriesMeet : Part → Setup → ℕ → Call → List Stamped → List Entry → Type 0
 EntriesMeet P setup now call past [] = Unit {0}
@@ -38,12 +46,17 @@ EventsMeet P setup last past (e ∷ events) =
 
 -- these parts are the whole table
 
+line_of : (setup : Setup) (now : ℕ) (call : Call) (past : List Stamped) (rest : List Entry) (fact : Option Fact) (sent : Option Sending) → FactMeets setup now call past rest fact →
+    CountMeets fact → OutMeets setup past sent → LineOf setup now call past rest fact sent
+line_of setup now call past rest (Some fact) sent f n o = (f.0, f.1, n)
+line_of setup now call past rest None (Some sent) f n o = o
+line_of setup now call past rest None None f n o = tt
+
 entries_lawful : (setup : Setup) (now : ℕ) (call : Call) (past : List Stamped) (entries : List Entry) → EntriesMeet FactPart setup now call past entries →
     EntriesMeet CountPart setup now call past entries → EntriesMeet OutPart setup now call past entries → EntriesLawful setup now call past entries
 entries_lawful setup now call past [] f n o = tt
-entries_lawful setup now call past (FactEntry fact ∷ rest) f n o = ((f.0.0, f.0.1, n.0), entries_lawful setup now call (stamped now (FactEntry fact) ∷ past) rest f.1 n.1 o.1)
-entries_lawful setup now call past (Discard place cause ∷ rest) f n o = (tt, entries_lawful setup now call (stamped now (Discard place cause) ∷ past) rest f.1 n.1 o.1)
-entries_lawful setup now call past (Out to sent context ∷ rest) f n o = (o.0, entries_lawful setup now call (stamped now (Out to sent context) ∷ past) rest f.1 n.1 o.1)
+entries_lawful setup now call past (entry ∷ rest) f n o =
+    (line_of setup now call past rest (fact_in entry) (out_in entry) f.0 n.0 o.0, entries_lawful setup now call (stamped now entry ∷ past) rest f.1 n.1 o.1)
 
 pub events_lawful : (setup : Setup) (last : ℕ) (past : List Stamped) (events : List Event) → EventsMeet FactPart setup last past events →
     EventsMeet CountPart setup last past events → EventsMeet OutPart setup last past events → LawfulFrom setup last past events

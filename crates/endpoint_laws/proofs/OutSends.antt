@@ -23,7 +23,7 @@ use Rattle.startup.specs.declared.attempt.Stage.TheVariants.{Hello, Keying}
 use Rattle.session_core.specs.Session.{SessionState, context_of}
 use Rattle.session_core.specs.Sealed.{number_bytes, after_seal}
 use Rattle.endpoint_model.specs.declared.entry.Entry.{Entry}
-use Rattle.endpoint_model.specs.declared.entry.Entry.TheVariants.{Fact as FactEntry, Discard, Out}
+use Rattle.endpoint_model.specs.declared.entry.Entry.TheVariants.{Out}
 use Rattle.endpoint_model.specs.Event.{Setup, own_of, Call}
 use Rattle.endpoint_laws.specs.Past.{Stamped, stamped, onto, facts_of}
 use Rattle.endpoint_model.specs.State.{State, Did, nothing, after_entries, then_do, with_sealed, with_session}
@@ -66,9 +66,7 @@ meets_nothing setup now call past s sent = record { lines = tt; sent = sent }
 pub lines_append : (setup : Setup) (now : ℕ) (call : Call) (past : List Stamped) (xs ys : List Entry) → EntriesMeet OutPart setup now call past xs →
     EntriesMeet OutPart setup now call (onto now xs past) ys → EntriesMeet OutPart setup now call past (xs ++ ys)
 lines_append setup now call past [] ys p q = q
-lines_append setup now call past (FactEntry fact ∷ xs) ys p q = (tt, lines_append setup now call (stamped now (FactEntry fact) ∷ past) xs ys p.1 q)
-lines_append setup now call past (Discard at cause ∷ xs) ys p q = (tt, lines_append setup now call (stamped now (Discard at cause) ∷ past) xs ys p.1 q)
-lines_append setup now call past (Out to sent context ∷ xs) ys p q = (p.0, lines_append setup now call (stamped now (Out to sent context) ∷ past) xs ys p.1 q)
+lines_append setup now call past (x ∷ xs) ys p q = (p.0, lines_append setup now call (stamped now x ∷ past) xs ys p.1 q)
 
 -- these entries first, and then what a thing adds
 pub meets_after : (setup : Setup) (now : ℕ) (call : Call) (past : List Stamped) (entries : List Entry) (d : Did) → EntriesMeet OutPart setup now call past entries →

@@ -1,18 +1,18 @@
 -- The list of all facts holds those of each end, and all nonces; and a log by its last event.
-use Rattle.std.proofs.Common.{ℕ, List, [], ◌∷◌, ◌++◌, ◌≡◌, inl, inr, refl, sym, ap, ◌∙◌, if◌then◌else◌, Bool}
+use Rattle.std.proofs.Common.{ℕ, List, [], ◌∷◌, ◌++◌, ◌≡◌, inl, inr, refl, sym, ap, ◌∙◌, if◌then◌else◌, Bool, Option, Some, None}
 use Rattle.glare_core.specs.declared.facts.Fact.{Fact}
 use Rattle.glare_core.specs.declared.facts.Fact.TheVariants.{Started, Born, Opened, Confirmed, Ended}
 use Rattle.glare_core.specs.Steps.{Did, Step, step, view, facts}
 use Rattle.glare_core.specs.Told.{with_nonce, nonces}
 use Rattle.glare_core.proofs.Views.{view_same, view_other}
+use Rattle.endpoint_model.specs.Views.{fact_in}
 use Rattle.endpoint_model.specs.declared.entry.Entry.{Entry}
-use Rattle.endpoint_model.specs.declared.entry.Entry.TheVariants.{Fact as FactEntry, Discard, Out}
 use Rattle.endpoint_model.specs.Event.{Setup, own_of, Event, moment_at}
-use Rattle.endpoint_laws.specs.Past.{Stamped, stamped, onto, facts_of, last_moment, past_of}
+use Rattle.endpoint_laws.specs.Past.{Stamped, stamped, onto, facts_of, last_moment, past_of, fact_and}
 use Rattle.endpoint_laws.specs.Lawful.{EntriesLawful, LawfulFrom, nonces_of}
 use Rattle.endpoint_laws.specs.Laws.{IsCall, AreCalls}
 use Rattle.endpoint_laws.specs.History.{History, log_of, facts_at, TakesPart, nonces_in}
-use Rattle.endpoint_laws.specs.Agreed.{stated_onto, stated}
+use Rattle.endpoint_laws.specs.Agreed.{stated_onto, stated, stated_on, no_generation}
 use Rattle.endpoint_model.proofs.Members.{tested}
 
 -- ---- a log and one event more
@@ -42,19 +42,23 @@ calls_more (x ∷ log) e l = let rest = calls_more log e l.1 in record { before 
 
 -- ---- the facts of one end
 
+facts_on : (own : List ℕ) (o : Option Fact) (before : List Step) (past : List Fact) → facts (view own before) ≡ past → facts (view own (stated_on own o before)) ≡ fact_and o past
+facts_on own None before past e = e
+facts_on own (Some fact) before past e = ap facts (view_same own (Did fact no_generation) before) ∙ ap (λ (fs : List Fact). fact ∷ fs) e
+
 facts_onto : (own : List ℕ) (m : ℕ) (entries : List Entry) (before : List Step) (past : List Stamped) → facts (view own before) ≡ facts_of past →
     facts (view own (stated_onto own entries before)) ≡ facts_of (onto m entries past)
 facts_onto own m [] before past e = e
-facts_onto own m (FactEntry fact ∷ rest) before past e =
-    facts_onto own m rest (step own (Did fact 0) ∷ before) (stamped m (FactEntry fact) ∷ past) (ap facts (view_same own (Did fact 0) before) ∙ ap (λ (fs : List Fact). fact ∷ fs) e)
-facts_onto own m (Discard place cause ∷ rest) before past e = facts_onto own m rest before (stamped m (Discard place cause) ∷ past) e
-facts_onto own m (Out to datagram context ∷ rest) before past e = facts_onto own m rest before (stamped m (Out to datagram context) ∷ past) e
+facts_onto own m (entry ∷ rest) before past e =
+    facts_onto own m rest (stated_on own (fact_in entry) before) (stamped m entry ∷ past) (facts_on own (fact_in entry) before (facts_of past) e)
+
+beside_on : (own who : List ℕ) (o : Option Fact) (before : List Step) → (who ≡ own → ⊥) → facts (view own (stated_on who o before)) ≡ facts (view own before)
+beside_on own who None before ne = refl
+beside_on own who (Some fact) before ne = ap facts (view_other own who (Did fact no_generation) before ne)
 
 facts_beside : (own who : List ℕ) (entries : List Entry) (before : List Step) → (who ≡ own → ⊥) → facts (view own (stated_onto who entries before)) ≡ facts (view own before)
 facts_beside own who [] before ne = refl
-facts_beside own who (FactEntry fact ∷ rest) before ne = facts_beside own who rest (step who (Did fact 0) ∷ before) ne ∙ ap facts (view_other own who (Did fact 0) before ne)
-facts_beside own who (Discard place cause ∷ rest) before ne = facts_beside own who rest before ne
-facts_beside own who (Out to datagram context ∷ rest) before ne = facts_beside own who rest before ne
+facts_beside own who (entry ∷ rest) before ne = facts_beside own who rest (stated_on who (fact_in entry) before) ne ∙ beside_on own who (fact_in entry) before ne
 
 -- an end that has its fingerprint alone
 pub view_stated : (ends : ℕ → Setup) (who : ℕ) (history : History) → ((a : ℕ) → TakesPart a history → own_of (ends a) ≡ own_of (ends who) → a ≡ who) →
@@ -77,20 +81,23 @@ view_stated ends who (h ∷ earlier) alone =
 
 -- ---- all nonces
 
-nonce_more : (fact : Fact) (drawn : List (List ℕ)) (past : List Fact) (older : List (List ℕ)) → drawn ≡ nonces_of past ++ older → with_nonce (Did fact 0) drawn ≡ nonces_of (fact ∷ past) ++ older
+nonce_more : (fact : Fact) (drawn : List (List ℕ)) (past : List Fact) (older : List (List ℕ)) → drawn ≡ nonces_of past ++ older → with_nonce (Did fact no_generation) drawn ≡ nonces_of (fact ∷ past) ++ older
 nonce_more (Started peer n near ni) drawn past older e = ap (λ (ns : List (List ℕ)). ni ∷ ns) e
 nonce_more (Born j) drawn past older e = ap (λ (ns : List (List ℕ)). j.nr ∷ ns) e
 nonce_more (Opened j) drawn past older e = e
 nonce_more (Confirmed peer near) drawn past older e = e
 nonce_more (Ended peer near why) drawn past older e = e
 
+nonces_with : (own : List ℕ) (o : Option Fact) (before : List Step) (past : List Fact) (older : List (List ℕ)) → nonces before ≡ nonces_of past ++ older →
+    nonces (stated_on own o before) ≡ nonces_of (fact_and o past) ++ older
+nonces_with own None before past older e = e
+nonces_with own (Some fact) before past older e = nonce_more fact (nonces before) past older e
+
 nonces_onto : (own : List ℕ) (m : ℕ) (entries : List Entry) (before : List Step) (past : List Stamped) (older : List (List ℕ)) → nonces before ≡ nonces_of (facts_of past) ++ older →
     nonces (stated_onto own entries before) ≡ nonces_of (facts_of (onto m entries past)) ++ older
 nonces_onto own m [] before past older e = e
-nonces_onto own m (FactEntry fact ∷ rest) before past older e =
-    nonces_onto own m rest (step own (Did fact 0) ∷ before) (stamped m (FactEntry fact) ∷ past) older (nonce_more fact (nonces before) (facts_of past) older e)
-nonces_onto own m (Discard place cause ∷ rest) before past older e = nonces_onto own m rest before (stamped m (Discard place cause) ∷ past) older e
-nonces_onto own m (Out to datagram context ∷ rest) before past older e = nonces_onto own m rest before (stamped m (Out to datagram context) ∷ past) older e
+nonces_onto own m (entry ∷ rest) before past older e =
+    nonces_onto own m rest (stated_on own (fact_in entry) before) (stamped m entry ∷ past) older (nonces_with own (fact_in entry) before (facts_of past) older e)
 
 pub nonces_stated : (ends : ℕ → Setup) (history : History) → nonces (stated ends history) ≡ nonces_in history
 nonces_stated ends [] = refl

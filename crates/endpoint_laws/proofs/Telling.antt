@@ -9,6 +9,7 @@ use Rattle.glare_core.specs.Told.{WasSent}
 use Rattle.glare_core.proofs.Tails.{same_end}
 use Rattle.glare_core.proofs.Views.{view_same}
 use Rattle.glare_core.proofs.Sound.{IsSound, FactSound}
+use Rattle.endpoint_laws.specs.Agreed.{no_generation}
 use Rattle.endpoint_laws.proofs.FactsAlone.{alone}
 use Rattle.endpoint_laws.proofs.HeldTold.{tell_of, FactSizes, Holds, holds_stays, holds_did, may_tell}
 
@@ -78,12 +79,12 @@ telling_told own t steps is w = record {
 pub record Grown (own : List ℕ) (fact : Fact) (steps : List Step) : Type 0 where
   pub next : List Step
   pub telling : Telling next
-  pub is : alone next ≡ step own (Did fact 0) ∷ alone steps
+  pub is : alone next ≡ step own (Did fact no_generation) ∷ alone steps
   pub grows : (t : Tell) → WasSent t steps → WasSent t next
 
 module _ (own : List ℕ) (fact : Fact) (steps : List Step) (is : Telling steps) (sound : FactSound own steps fact 0) (sizes : FactSizes fact) (count_fits : count (fact ∷ facts (view own steps)) < 2 ^ 64) where
   abbrev did : List Step
-  did = step own (Did fact 0) ∷ steps
+  did = step own (Did fact no_generation) ∷ steps
 
   did_sound : IsSound did
   did_sound = (sound, is.sound)
@@ -104,13 +105,13 @@ module _ (own : List ℕ) (fact : Fact) (steps : List Step) (is : Telling steps)
   did_other : (who peer : List ℕ) → (own ≡ who → ⊥) → SentFor who peer did (holding who peer did)
   did_other who peer ne = elim (same_end own who) [
     | inl d ↦ absurd (ne d.0)
-    | inr d ↦ rw d.1 (sent_for_stays who peer (step own (Did fact 0)) steps (holding who peer steps) (is.sent who peer))
+    | inr d ↦ rw d.1 (sent_for_stays who peer (step own (Did fact no_generation)) steps (holding who peer steps) (is.sent who peer))
   ]
 
   did_beside : (peer : List ℕ) → (peer_of fact ≡ peer → ⊥) → SentFor own peer did (holding own peer did)
   did_beside peer ne = elim (same_end (peer_of fact) peer) [
     | inl d ↦ absurd (ne d.0)
-    | inr d ↦ rw (view_same own (Did fact 0) steps, d.1) (sent_for_stays own peer (step own (Did fact 0)) steps (holding own peer steps) (is.sent own peer))
+    | inr d ↦ rw (view_same own (Did fact no_generation) steps, d.1) (sent_for_stays own peer (step own (Did fact no_generation)) steps (holding own peer steps) (is.sent own peer))
   ]
 
   -- what an end tells of what it holds with the fact's peer, if that was sent
@@ -128,7 +129,7 @@ module _ (own : List ℕ) (fact : Fact) (steps : List Step) (is : Telling steps)
     next = did;
     telling = record { sound = did_sound; holds = did_holds; sent = did_sent (subst (λ (o : Option Held). SentFor own (peer_of fact) did o) (sym none) tt); few = did_few };
     is = refl;
-    grows = λ t w. sent_stays (step own (Did fact 0)) steps t w;
+    grows = λ t w. sent_stays (step own (Did fact no_generation)) steps t w;
   }
 
   something_held : (h : Held) → holding own (peer_of fact) did ≡ Some h → Grown own fact steps
@@ -156,7 +157,7 @@ module _ (own : List ℕ) (fact : Fact) (steps : List Step) (is : Telling steps)
           few = λ who. few_no_fact own who (Sends t) did tt (did_few who);
         };
         is = refl;
-        grows = λ u w. sent_stays (step own (Sends t)) did u (sent_stays (step own (Did fact 0)) steps u w);
+        grows = λ u w. sent_stays (step own (Sends t)) did u (sent_stays (step own (Did fact no_generation)) steps u w);
       }
 
   by_held : (o : Option Held) → holding own (peer_of fact) did ≡ o → Grown own fact steps

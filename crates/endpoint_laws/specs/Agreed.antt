@@ -1,7 +1,9 @@
 -- What it is for a history of many ends to be agreed: what their facts say of each other at each
 -- moment.
-use Rattle.std.specs.Prelude.{ℕ, ◌≡◌, ◌⊎◌, Bool, List, [], ◌∷◌, ◌++◌, Some}
+use Rattle.std.specs.Prelude.{ℕ, ◌≡◌, ◌⊎◌, Bool, List, [], ◌∷◌, ◌++◌, Option, Some,
+    None}
 use Rattle.crypto_profile.specs.Keys.{keys_of}
+use Rattle.glare_core.specs.declared.facts.Fact.{Fact}
 use Rattle.glare_core.specs.declared.facts.Fact.TheVariants.{Born, Opened}
 use Rattle.glare_core.specs.declared.facts.Held.TheVariants.{KeptAsResponder, KeptAsInitiator}
 use Rattle.glare_core.specs.declared.facts.Joined.{Joined}
@@ -11,7 +13,7 @@ use Rattle.glare_core.specs.Steps.{Did, Step, step, view, facts, IsTail, Happene
 use Rattle.glare_core.specs.Agreed.{AreOne, KeepTheSame, EachOpenedHasOneBirth,
     NoStartedHasTwoBirths, CrossedIsOver, OneOpens, PrevailingIsSpared, OverrideIsLate}
 use Rattle.endpoint_model.specs.declared.entry.Entry.{Entry}
-use Rattle.endpoint_model.specs.declared.entry.Entry.TheVariants.{Fact as FactEntry, Discard, Out}
+use Rattle.endpoint_model.specs.Views.{fact_in}
 use Rattle.endpoint_model.specs.Event.{Setup, own_of}
 use Rattle.endpoint_laws.specs.Contexts.{session_context}
 use Rattle.endpoint_laws.specs.Laws.{AreCalls}
@@ -20,19 +22,22 @@ use Rattle.endpoint_laws.specs.History.{History, log_of, facts_at, TakesPart, Ar
 
 -- ---- the facts of all ends
 
--- a fact of an end as one step, on top of those before; what is no fact is none
-abbrev pub stated_on : List ℕ → Entry → List Step → List Step
-stated_on own (FactEntry fact) before = step own (Did fact 0) ∷ before
-stated_on own (Discard place cause) before = before
-stated_on own (Out to datagram context) before = before
+-- There are no generations yet: each end is one from its beginning on.
+abbrev pub no_generation : ℕ
+no_generation = 0
+
+-- a fact of an end as one step, on top of those before, where there is one
+abbrev pub stated_on : List ℕ → Option Fact → List Step → List Step
+stated_on own None before = before
+stated_on own (Some fact) before = step own (Did fact no_generation) ∷ before
 
 -- the facts among the entries of an event, in their order
 abbrev pub stated_onto : List ℕ → List Entry → List Step → List Step
 stated_onto own [] before = before
-stated_onto own (entry ∷ rest) before = stated_onto own rest (stated_on own entry before)
+stated_onto own (entry ∷ rest) before = stated_onto own rest
+    (stated_on own (fact_in entry) before)
 
--- The facts of all ends as one list of steps, the newest first. An end is named by its fingerprint,
--- and there are no generations yet.
+-- The facts of all ends as one list of steps, the newest first. An end is named by its fingerprint.
 abbrev pub stated : (ℕ → Setup) → History → List Step
 stated ends [] = []
 stated ends (h ∷ earlier) = stated_onto (own_of (ends h.who)) h.event.entries (stated ends earlier)

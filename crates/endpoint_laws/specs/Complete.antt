@@ -1,6 +1,6 @@
 -- What keyings give that nothing refuses.
 use Rattle.std.specs.Prelude.{ℕ, ◌≡◌, ◌≢◌, ◌+◌, ◌-◌, ◌^◌, ◌<◌, Bool, true, false, List, [], ◌∷◌,
-    ◌++◌, take, Some, None, Ok}
+    ◌++◌, take, Option, Some, None, Ok}
 use Rattle.std.specs.FinMap.{get}
 use Rattle.crypto_profile.specs.declared.keys.Context.{Context}
 use Rattle.crypto_profile.specs.declared.keys.Context.TheVariants.{Startup}
@@ -21,7 +21,8 @@ use Rattle.endpoint_model.specs.declared.walk.Walk.{Walk}
 use Rattle.endpoint_model.specs.declared.config.Draws.{Draws}
 use Rattle.endpoint_model.specs.declared.place.Place.TheVariants.{Attempt}
 use Rattle.endpoint_model.specs.declared.entry.Entry.{Entry}
-use Rattle.endpoint_model.specs.declared.entry.Entry.TheVariants.{Fact as FactEntry, Discard, Out}
+use Rattle.endpoint_model.specs.declared.entry.Entry.TheVariants.{Fact as FactEntry, Out}
+use Rattle.endpoint_model.specs.Views.{Sending, out_in}
 use Rattle.endpoint_model.specs.Event.{Setup, own_of, Receive, Answer, Began, Done, NotOpened, Refused,
     Stopped, OutOfMemory, Event, moment_at}
 use Rattle.endpoint_laws.specs.Past.{Stamped, facts_of, past_of, last_moment}
@@ -80,19 +81,18 @@ WentThrough (Stopped stop) chunks gone = (stop.taken ≡ true) × (gone ≡ take
 WentThrough OutOfMemory chunks gone = ⊥
 
 -- one for a datagram that goes out
-abbrev pub out_count : Entry → ℕ
-out_count (FactEntry fact) = 0
-out_count (Discard place cause) = 0
-out_count (Out to datagram context) = 1
+abbrev pub out_count : Option Sending → ℕ
+out_count None = 0
+out_count (Some sent) = 1
 
 -- how many datagrams went out, among entries and in what was done
 abbrev pub outs_in : List Entry → ℕ
 outs_in [] = 0
-outs_in (entry ∷ rest) = out_count entry + outs_in rest
+outs_in (entry ∷ rest) = out_count (out_in entry) + outs_in rest
 
 abbrev pub outs_of : List Stamped → ℕ
 outs_of [] = 0
-outs_of (s ∷ earlier) = out_count s.entry + outs_of earlier
+outs_of (s ∷ earlier) = out_count (out_in s.entry) + outs_of earlier
 
 -- Where the end with this log takes a datagram whose first initiator's keying is admissible by what
 -- the log says, and goes through this keying, the session of its offer is born and told in that

@@ -1,11 +1,12 @@
 -- Histories of many ends, and when one is honest and fresh.
-use Rattle.std.specs.Prelude.{ℕ, ◌≡◌, ◌==◌, ◌⊎◌, List, [], ◌∷◌, ◌++◌, if◌then◌else◌}
+use Rattle.std.specs.Prelude.{ℕ, ◌≡◌, ◌==◌, ◌⊎◌, List, [], ◌∷◌, ◌++◌, if◌then◌else◌,
+    Option, Some, None}
 use Rattle.crypto_profile.specs.declared.keys.Context.{Context}
 use Rattle.packet_scramble.specs.Datagram.{sid_of}
 use Rattle.glare_core.specs.declared.facts.Fact.{Fact}
 use Rattle.glare_core.specs.Told.{AllDifferent}
 use Rattle.endpoint_model.specs.declared.entry.Entry.{Entry}
-use Rattle.endpoint_model.specs.declared.entry.Entry.TheVariants.{Fact as FactEntry, Discard, Out}
+use Rattle.endpoint_model.specs.Views.{Sending, out_in}
 use Rattle.endpoint_model.specs.Event.{Setup, own_of, Call, Open, Cancel, Receive, Tick, Event}
 use Rattle.endpoint_laws.specs.Past.{facts_of, past_of}
 use Rattle.endpoint_laws.specs.Contexts.{ContextOf, OpensUnder}
@@ -36,14 +37,13 @@ AreLawful ends history = (who : ℕ) → IsLawful (ends who) (log_of who history
 
 -- ---- honest
 
-abbrev pub IsOut : List ℕ → Context → Entry → Type 0
-IsOut sent context (FactEntry fact) = ⊥
-IsOut sent context (Discard place cause) = ⊥
-IsOut sent context (Out to datagram sealed_for) = (datagram ≡ sent) × (sealed_for ≡ context)
+abbrev pub IsOut : List ℕ → Context → Option Sending → Type 0
+IsOut sent context None = ⊥
+IsOut sent context (Some out) = (out.datagram ≡ sent) × (out.context ≡ context)
 
 abbrev pub HasOut : List ℕ → Context → List Entry → Type 0
 HasOut sent context [] = ⊥
-HasOut sent context (entry ∷ rest) = IsOut sent context entry ⊎ HasOut sent context rest
+HasOut sent context (entry ∷ rest) = IsOut sent context (out_in entry) ⊎ HasOut sent context rest
 
 -- An end sent these bytes in this context.
 abbrev pub WasSent : List ℕ → Context → History → Type 0

@@ -1,7 +1,7 @@
 -- Lawful logs. Each entry meets its line of this table, judged by its event and by the entries
 -- before it.
 use Rattle.std.specs.Prelude.{ℕ, false, ◌≡◌, ◌≢◌, ◌+◌, ◌^◌, ◌<◌, ◌≤◌, ◌⊎◌, List, [], ◌∷◌, length,
-    drop, Option, Some, Ok}
+    drop, Option, Some, None, Ok}
 use Rattle.crypto_profile.specs.declared.keys.Context.{Context}
 use Rattle.crypto_profile.specs.declared.keys.Context.TheVariants.{Startup, Session}
 use Rattle.crypto_profile.specs.Sealing.{sealed_in, number_of}
@@ -24,7 +24,8 @@ use Rattle.glare_core.specs.Standing.{held, count}
 use Rattle.glare_core.specs.Stands.{Stands, IsBornOf, IsForBorn}
 use Rattle.glare_core.specs.Told.{AllDifferent}
 use Rattle.endpoint_model.specs.declared.entry.Entry.{Entry}
-use Rattle.endpoint_model.specs.declared.entry.Entry.TheVariants.{Fact as FactEntry, Discard, Out}
+use Rattle.endpoint_model.specs.declared.entry.Entry.TheVariants.{Fact as FactEntry}
+use Rattle.endpoint_model.specs.Views.{Sending, fact_in, out_in}
 use Rattle.endpoint_model.specs.Event.{Setup, own_of, Call, Open, Cancel, Receive, Tick, Event, moment_at}
 use Rattle.endpoint_laws.specs.Past.{Stamped, stamped, onto, facts_of, is_in_use, WasDone}
 use Rattle.endpoint_laws.specs.Contexts.{ReadsUnder, HeldUnder, inward, outward, OpensUnder}
@@ -142,12 +143,15 @@ pub record CancelledLine (call : Call) (facts : List Fact) (peer : List ℕ) : T
   pub is_held : held peer facts ≡ Some (Opening n near ni)
   pub by : Cancels call n
 
+-- There is this fact, a Born of this peer.
+abbrev pub IsBornIn : List ℕ → Option Fact → Type 0
+IsBornIn peer None = ⊥
+IsBornIn peer (Some fact) = IsBornOf peer fact
+
 -- The next entry of the event is a Born of this peer.
 abbrev pub BornFollows : List ℕ → List Entry → Type 0
 BornFollows peer [] = ⊥
-BornFollows peer (FactEntry fact ∷ rest) = IsBornOf peer fact
-BornFollows peer (Discard place cause ∷ rest) = ⊥
-BornFollows peer (Out to datagram context ∷ rest) = ⊥
+BornFollows peer (entry ∷ rest) = IsBornIn peer (fact_in entry)
 
 -- An end doesn't end sessions yet but for Override.
 abbrev pub EndedLine : ℕ → Call → List Stamped → List Entry → List ℕ → ℕ → Why → Type 0
@@ -180,17 +184,16 @@ IsCounted (Ended peer near why) = Unit {0}
 
 -- ---- the line of a datagram that goes out
 
--- The entry is a datagram that went out in this context with this number.
-abbrev pub IsNumbered : Context → List ℕ → Entry → Type 0
-IsNumbered context number (FactEntry fact) = ⊥
-IsNumbered context number (Discard place cause) = ⊥
-IsNumbered context number (Out to sent sealed_for) = (sealed_for ≡ context) ×
-    (number_of (drop 4 sent) ≡ number)
+-- It is a datagram that went out in this context with this number.
+abbrev pub IsNumbered : Context → List ℕ → Option Sending → Type 0
+IsNumbered context number None = ⊥
+IsNumbered context number (Some sent) = (sent.context ≡ context) ×
+    (number_of (drop 4 sent.datagram) ≡ number)
 
 -- An earlier datagram went out in this context with this number.
 abbrev pub WasNumbered : Context → List ℕ → List Stamped → Type 0
 WasNumbered context number [] = ⊥
-WasNumbered context number (s ∷ earlier) = IsNumbered context number s.entry ⊎
+WasNumbered context number (s ∷ earlier) = IsNumbered context number (out_in s.entry) ⊎
     WasNumbered context number earlier
 
 -- the nonces of the attempts that were started, and of the sessions that were born
@@ -266,12 +269,18 @@ pub record OutLine (setup : Setup) (past : List Stamped) (sent : List ℕ) (cont
 
 -- ---- the table
 
-abbrev pub Line : Setup → ℕ → Call → List Stamped → List Entry → Entry → Type 0
-Line setup now call past rest (FactEntry fact) =
+-- the line of an entry, which is a fact, a datagram that goes out, or neither
+abbrev pub LineOf : Setup → ℕ → Call → List Stamped → List Entry → Option Fact → Option Sending →
+    Type 0
+LineOf setup now call past rest (Some fact) sent =
     Stands (own_of setup) (count (facts_of past)) (facts_of past) fact ×
     FactLine setup now call past rest fact × IsCounted fact
-Line setup now call past rest (Discard place cause) = Unit {0}
-Line setup now call past rest (Out to sent context) = OutLine setup past sent context
+LineOf setup now call past rest None (Some sent) = OutLine setup past sent.datagram sent.context
+LineOf setup now call past rest None None = Unit {0}
+
+abbrev pub Line : Setup → ℕ → Call → List Stamped → List Entry → Entry → Type 0
+Line setup now call past rest entry =
+    LineOf setup now call past rest (fact_in entry) (out_in entry)
 
 -- the entries of an event, in order
 abbrev pub EntriesLawful : Setup → ℕ → Call → List Stamped → List Entry → Type 0

@@ -1,12 +1,13 @@
 -- What an end did so far: its entries, the newest first, each with the moment of its event.
-use Rattle.std.specs.Prelude.{ℕ, List, [], ◌∷◌, ◌==◌, ◌≡◌, ◌⊎◌, not, filter, Bool}
+use Rattle.std.specs.Prelude.{ℕ, List, [], ◌∷◌, ◌==◌, ◌≡◌, ◌⊎◌, not, filter, Bool, Option,
+    Some, None}
 use Rattle.std.specs.List.{list_any}
 use Rattle.glare_core.specs.declared.facts.Fact.{Fact}
 use Rattle.glare_core.specs.declared.facts.Fact.TheVariants.{Started, Born, Opened, Confirmed,
     Ended}
 use Rattle.endpoint_model.specs.declared.entry.Entry.{Entry}
-use Rattle.endpoint_model.specs.declared.entry.Entry.TheVariants.{Fact as FactEntry, Discard, Out}
 use Rattle.endpoint_model.specs.Event.{Event, moment_at}
+use Rattle.endpoint_model.specs.Views.{fact_in}
 
 pub record Stamped : Type 0 where
   pub moment : ℕ
@@ -20,15 +21,15 @@ abbrev pub onto : ℕ → List Entry → List Stamped → List Stamped
 onto moment [] past = past
 onto moment (entry ∷ rest) past = onto moment rest (stamped moment entry ∷ past)
 
-abbrev pub fact_and : Entry → List Fact → List Fact
-fact_and (FactEntry fact) facts = fact ∷ facts
-fact_and (Discard place cause) facts = facts
-fact_and (Out to datagram context) facts = facts
+-- a fact on top of others, where there is one
+abbrev pub fact_and : Option Fact → List Fact → List Fact
+fact_and None facts = facts
+fact_and (Some fact) facts = fact ∷ facts
 
 -- the facts, the newest first
 abbrev pub facts_of : List Stamped → List Fact
 facts_of [] = []
-facts_of (s ∷ earlier) = fact_and s.entry (facts_of earlier)
+facts_of (s ∷ earlier) = fact_and (fact_in s.entry) (facts_of earlier)
 
 -- The session IDs that are in use: those of the things that are held, from their Started or Born
 -- until their Ended.

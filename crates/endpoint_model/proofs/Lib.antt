@@ -3,3 +3,4 @@ pub mod Steps
 pub mod Members
 pub mod Ids
 pub mod Reading
+pub mod Kinds

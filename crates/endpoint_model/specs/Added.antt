@@ -1,15 +1,13 @@
 -- An outbox, as contracts see it.
-use Rattle.std.specs.Prelude.{ℕ, ◌≤◌, List, length, refl}
+use Rattle.std.specs.Prelude.{ℕ, ◌≤◌, IfSome, List, length, refl}
 use Rattle.std.specs.List.{All}
 use Rattle.std.specs.Coded.{Coded, code_by, coded×, coded_ℕ, coded_list}
 use Rattle.endpoint_model.specs.declared.entry.Entry.{Entry}
-use Rattle.endpoint_model.specs.declared.entry.Entry.TheVariants.{Fact, Discard, Out}
+use Rattle.endpoint_model.specs.Views.{out_in}
 
--- An entry with a datagram has at most 1,200 bytes of it.
+-- A datagram that goes out has at most 1,200 bytes.
 abbrev pub IsShort : Entry → Type 0
-IsShort (Fact fact) = Unit {0}
-IsShort (Discard place cause) = Unit {0}
-IsShort (Out to datagram context) = length datagram ≤ 1200
+IsShort entry = IfSome (out_in entry) (λ sent. length sent.datagram ≤ 1200)
 
 -- No datagram among the entries passes 1,200 bytes.
 abbrev pub AreShort : List Entry → Type 0

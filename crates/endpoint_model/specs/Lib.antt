@@ -1,3 +1,4 @@
+pub mod Views
 pub mod Added
 pub mod Event
 pub mod Keying

@@ -1,0 +1,25 @@
+-- What an entry has for those who ask of one thing alone: a fact, or a datagram. Whoever asks by these
+-- isn't touched by entries of other kinds.
+use Rattle.std.specs.Prelude.{ℕ, List, Option, Some, None}
+use Rattle.rtmfp_forms.specs.Address.{AddressParts}
+use Rattle.crypto_profile.specs.declared.keys.Context.{Context}
+use Rattle.glare_core.specs.declared.facts.Fact.{Fact}
+use Rattle.endpoint_model.specs.declared.entry.Entry.{Entry}
+use Rattle.endpoint_model.specs.declared.entry.Entry.TheVariants.{Fact as FactEntry, Out}
+
+-- the fact that an entry is
+abbrev pub fact_in : Entry → Option Fact
+fact_in (FactEntry fact) = Some fact
+fact_in entry = None
+
+-- a datagram that went out: where to, its bytes, and what it was sealed for
+pub record Sending : Type 0 where
+  pub to : AddressParts
+  pub datagram : List ℕ
+  pub context : Context
+
+-- the datagram that an entry is
+abbrev pub out_in : Entry → Option Sending
+out_in (Out to datagram context) =
+    Some (record { to = to; datagram = datagram; context = context })
+out_in entry = None
