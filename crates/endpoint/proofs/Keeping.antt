@@ -1,15 +1,12 @@
 -- The list of sessions as the table of them.
-use Rattle.std.proofs.Common.{ℕ, List, ◌≡◌, ◌==◌, ◌++◌, [], ◌∷◌, length, get_or, set, Option, Some, None, position, is_some, Bool, false, if◌then◌else◌, ◌≢◌, arith, sym, ap, ◌∙◌, inl, inr}
+use Rattle.std.proofs.Common.{ℕ, List, ◌≡◌, ◌==◌, ◌++◌, [], ◌∷◌, length, get_or, set, Option, Some, None, position, is_some, sym, ap, ◌∙◌, inl, inr}
 use Rattle.std.specs.List.{swap_remove}
 use Rattle.std.specs.FinMap.{get, insert, remove, len, contains_key}
 use Rattle.rtmfp_base.proofs.Maps.{same_tables, same_or_not, get_removed, get_left}
 use Rattle.rtmfp_base.proofs.Rows.{place_found, place_none, table_set, set_are_distinct, table_push, pushed_are_distinct, table_swap_removed}
 use Rattle.rtmfp_base.proofs.Places.{place_tells}
 use Rattle.session_core.specs.Session.{SessionState}
-use Rattle.std.proofs.lemmas.Bool.Decides.{nat_tests}
-use Rattle.endpoint_model.specs.declared.place.Place.TheVariants.{Startup, Attempt, Session}
-use Rattle.endpoint_model.specs.State.{State, Sessions}
-use Rattle.endpoint_model.specs.Admission.{place_of}
+use Rattle.endpoint_model.specs.State.{Sessions}
 use Rattle.endpoint.specs.Kept.{near_of, table_of}
 
 abbrev itself : SessionState → SessionState
@@ -74,16 +71,3 @@ found_at rows near place session distinct found is =
 
 pub found_nowhere : (rows : List SessionState) (near : ℕ) → place_in rows near ≡ None → get (table_of rows) near ≡ None
 found_nowhere rows near none = place_none near_of itself rows near none
-
--- ---- what a session ID names
-
-not_zero : (n : ℕ) → n ≢ 0 → (n == 0) ≡ false
-not_zero n other = grind (arith, nat_tests)
-
--- What one that isn't 0 names, by whether an attempt or a session has it.
-pub place_by : (s : State) (sid : ℕ) (attempt session : Bool) → sid ≢ 0 → contains_key s.startup.attempts sid ≡ attempt → contains_key s.sessions sid ≡ session →
-    place_of s sid ≡ (if attempt then Some (Attempt sid) else if session then Some (Session sid) else None)
-place_by s sid attempt session other at_attempt at_session =
-    ap (λ b. if b then Some Startup else if contains_key s.startup.attempts sid then Some (Attempt sid) else if contains_key s.sessions sid then Some (Session sid) else None) (not_zero sid other)
-    ∙ ap (λ b. if b then Some (Attempt sid) else if contains_key s.sessions sid then Some (Session sid) else None) at_attempt
-    ∙ ap (λ b. if attempt then Some (Attempt sid) else if b then Some (Session sid) else None) at_session

@@ -1,5 +1,5 @@
 -- The number of each attempt is one of 64 bits: the last one that is given is the greatest of them.
-use Rattle.std.proofs.Common.{◌≡◌, ℕ, ◌+◌, ◌-◌, ◌^◌, ◌<◌, ◌==◌, max, List, [], ◌∷◌, ◌++◌, Bool, true, false, if◌then◌else◌, None, sym, ap, subst, ◌∙◌, arith, Option, Some}
+use Rattle.std.proofs.Common.{◌≡◌, ℕ, ◌+◌, ◌-◌, ◌^◌, ◌<◌, ◌==◌, max, List, [], ◌∷◌, ◌++◌, Bool, true, false, if◌then◌else◌, None, sym, ap, subst, ◌∙◌, arith, Option, Some, refl}
 use Rattle.std.proofs.lemmas.Bool.Decides.{nat_tests}
 use Rattle.std.specs.Str.{bytes_eq}
 use Rattle.rtmfp_forms.specs.Address.{AddressParts}
@@ -17,9 +17,9 @@ use Rattle.endpoint_laws.proofs.NoFacts.{NoFactAnd, NoFacts, the_rest, none_in_b
 use Rattle.endpoint_model.specs.declared.config.Draws.{Draws}
 use Rattle.endpoint_model.specs.declared.entry.Entry.{Entry}
 use Rattle.endpoint_model.specs.declared.entry.Entry.TheVariants.{Fact as FactEntry, Out}
-use Rattle.endpoint_model.specs.Event.{Setup, own_of, Call, Open, Cancel, Receive, Tick, Answer, Began, Done, NotOpened, Refused, Stopped, OutOfMemory, Event, moment_at}
+use Rattle.endpoint_model.specs.Event.{Setup, own_of, Call, Open, Cancel, Receive, Tick, Answer, Began, Done, NotOpened, Refused, Stopped, OutOfMemory, Event, moment_at, OpenCall, open_in}
 use Rattle.endpoint_laws.specs.Past.{Stamped, stamped, onto, facts_of, past_of, fact_and}
-use Rattle.endpoint_laws.specs.Lawful.{Opens, FactLine, IsCounted}
+use Rattle.endpoint_laws.specs.Lawful.{Opens, FactLine, IsCounted, OpensIn}
 use Rattle.endpoint_model.specs.State.{State, Did, nothing, at_moment, with_startup, with_sealed, free_from}
 use Rattle.endpoint_model.specs.Sending.{last_count, startup_datagram, sent_startup, sent_each}
 use Rattle.endpoint_model.specs.Due.{open_refusal, opening}
@@ -59,16 +59,10 @@ no_facts_counted setup now call past (entry ∷ rest) none =
 -- ---- a call that opens no attempt
 
 abbrev IsNotOpen : Call → Type 0
-IsNotOpen (Open peer candidates draws) = ⊥
-IsNotOpen (Cancel n) = Unit {0}
-IsNotOpen (Receive from datagram draws) = Unit {0}
-IsNotOpen (Tick draws) = Unit {0}
+IsNotOpen call = open_in call ≡ None
 
 opens_none : (call : Call) (peer ni : List ℕ) → IsNotOpen call → Opens call peer ni → ⊥
-opens_none (Open towards candidates draws) peer ni other by = other
-opens_none (Cancel n) peer ni other by = by
-opens_none (Receive from datagram draws) peer ni other by = by
-opens_none (Tick draws) peer ni other by = by
+opens_none call peer ni other by = subst (λ (o : Option OpenCall). OpensIn o peer ni) other by
 
 fact_counted : (setup : Setup) (now : ℕ) (call : Call) (past : List Stamped) (rest : List Entry) (fact : Fact) → IsNotOpen call → FactLine setup now call past rest fact → IsCounted fact
 fact_counted setup now call past rest (Started peer n near ni) other line = absurd (opens_none call peer ni other line.by)
@@ -142,9 +136,9 @@ answers_counted setup now past s t (Open peer candidates draws) Done entries tie
 answers_counted setup now past s t (Open peer candidates draws) (Refused refusal) entries tied few meets h = absurd h
 answers_counted setup now past s t (Open peer candidates draws) (Stopped stop) entries tied few meets h = absurd h
 answers_counted setup now past s t (Open peer candidates draws) OutOfMemory entries tied few meets h = absurd h
-answers_counted setup now past s t (Cancel n) answer entries tied few meets h = other_counted setup now (Cancel n) past entries tt meets
-answers_counted setup now past s t (Receive from datagram draws) answer entries tied few meets h = other_counted setup now (Receive from datagram draws) past entries tt meets
-answers_counted setup now past s t (Tick draws) answer entries tied few meets h = other_counted setup now (Tick draws) past entries tt meets
+answers_counted setup now past s t (Cancel n) answer entries tied few meets h = other_counted setup now (Cancel n) past entries refl meets
+answers_counted setup now past s t (Receive from datagram draws) answer entries tied few meets h = other_counted setup now (Receive from datagram draws) past entries refl meets
+answers_counted setup now past s t (Tick draws) answer entries tied few meets h = other_counted setup now (Tick draws) past entries refl meets
 
 pub counts_from : (setup : Setup) → TiesGoOn setup → (log : List Event) (last : ℕ) (past : List Stamped) (s t : State) → s.moment ≡ last → Tied setup past s → count (facts_of past) < 2 ^ 64 →
     AreCalls log → Leads s log t → EventsMeet FactPart setup last past log → EventsMeet CountPart setup last past log

@@ -20,30 +20,32 @@ use Rattle.glare_core.specs.Table.{HasHeard}
 use Rattle.glare_core.specs.Told.{WasSent}
 use Rattle.glare_core.proofs.Views.{seen_item}
 use Rattle.glare_core.proofs.Sound.{IsCalledFor}
+use Rattle.endpoint_model.proofs.Kinds.{opens_alone, receives_alone}
 use Rattle.endpoint_laws.specs.Agreed.{no_generation}
 use Rattle.endpoint_model.specs.Views.{Sending, fact_in, out_in}
 use Rattle.endpoint_model.specs.declared.config.Draws.{Draws}
 use Rattle.endpoint_model.specs.declared.entry.Entry.{Entry}
 use Rattle.endpoint_model.specs.declared.entry.Entry.TheVariants.{Fact as FactEntry}
-use Rattle.endpoint_model.specs.Event.{Setup, own_of, Call, Open, Cancel, Receive, Tick}
+use Rattle.endpoint_model.specs.Event.{Setup, own_of, Call, Open, Receive, OpenCall, ReceiveCall, open_in, receive_in}
 use Rattle.endpoint_laws.specs.Past.{Stamped, stamped, facts_of}
 use Rattle.endpoint_laws.specs.Contexts.{session_context, inward, ContextOf, OpensUnder}
 use Rattle.endpoint_model.specs.Keying.{IsFirst, IsAmong, chunks_of}
 use Rattle.endpoint_laws.specs.Admissible.{Admissible, Offer}
-use Rattle.endpoint_laws.specs.Lawful.{Opens, Bears, FactLine, BornLine, EndedLine, AnswersAttempt, BornFollows, IsCounted, EntriesLawful, IsBornIn, LineOf}
+use Rattle.endpoint_laws.specs.Lawful.{Opens, Bears, FactLine, BornLine, EndedLine, AnswersAttempt, BornFollows, IsCounted, EntriesLawful, IsBornIn, LineOf, OpensIn, BearsIn, TakesAnswerIn, TakesUnderIn}
 use Rattle.endpoint_laws.specs.Laws.{IsCall}
 use Rattle.endpoint_laws.proofs.HeldTold.{Holds, BornSizes, FactSizes}
 use Rattle.endpoint_laws.proofs.Telling.{Telling}
 use Rattle.endpoint_laws.proofs.Carried.{Carried, keying_carried, answer_carried, under_carried}
-use Rattle.endpoint_laws.proofs.Since.{Comes, CameSince}
+use Rattle.endpoint_laws.proofs.Since.{Comes, CameIn, CameSince}
 
 -- The datagram of a call was sent in the context of its session ID, if it opens in it.
+abbrev pub CarriedIn : Setup → List Fact → List Step → Option ReceiveCall → Type 0
+CarriedIn setup start steps None = Unit {0}
+CarriedIn setup start steps (Some r) = (context : Context) (plain : List ℕ) → ContextOf (own_of setup) start (sid_of r.datagram) context →
+    OpensUnder setup.secret context (sid_of r.datagram) r.datagram plain → Carried setup.secret r.datagram context steps
+
 abbrev pub WasCarried : Setup → List Fact → List Step → Call → Type 0
-WasCarried setup start steps (Open peer candidates draws) = Unit {0}
-WasCarried setup start steps (Cancel n) = Unit {0}
-WasCarried setup start steps (Receive from datagram draws) =
-    (context : Context) (plain : List ℕ) → ContextOf (own_of setup) start (sid_of datagram) context → OpensUnder setup.secret context (sid_of datagram) datagram plain → Carried setup.secret datagram context steps
-WasCarried setup start steps (Tick draws) = Unit {0}
+WasCarried setup start steps call = CarriedIn setup start steps (receive_in call)
 
 -- what the table and the cause Override ask to have been told
 abbrev pub IsHeardBy : List ℕ → List Item → Fact → Type 0
@@ -127,11 +129,12 @@ module _ (setup : Setup) (now : ℕ) (start : List Fact) (past : List Stamped) (
   -- the keying of which a session is born
   bears : (call : Call) (before : List Fact) (offer : Offer) (nr : List ℕ) → WasCarried setup start base call → Bears setup before now call offer nr →
       WasSent (Keying offer.peer own offer.n offer.ni offer.far 0) steps
-  bears (Open peer candidates draws) before offer nr carried by = absurd by
-  bears (Cancel n) before offer nr carried by = absurd by
-  bears (Receive from datagram draws) before offer nr carried by =
-      grows (Keying offer.peer own offer.n offer.ni offer.far 0) (keying_told setup start before now base from datagram draws offer carried by.0)
-  bears (Tick draws) before offer nr carried by = absurd by
+  bears call before offer nr carried by = in_receive (receive_in call) carried by
+    where
+      in_receive : (o : Option ReceiveCall) → CarriedIn setup start base o → BearsIn setup before now o offer nr → WasSent (Keying offer.peer own offer.n offer.ni offer.far 0) steps
+      in_receive None sent bearing = absurd bearing
+      in_receive (Some r) sent bearing =
+          grows (Keying offer.peer own offer.n offer.ni offer.far 0) (keying_told setup start before now base r.from r.datagram r.draws offer sent bearing.0)
 
   offer_of : Joined → Offer
   offer_of j = record { peer = j.peer; n = j.n; ni = j.ni; far = j.far }
@@ -142,27 +145,31 @@ module _ (setup : Setup) (now : ℕ) (start : List Fact) (past : List Stamped) (
 
   hears_opened : (call : Call) (j : Joined) → IsCall call → WasCarried setup start base call → CameSince call start (facts_of past) → held j.peer (facts_of past) ≡ Some (Opening j.n j.near j.ni) →
       FactLine setup now call past [] (Opened j) → Hears own steps (Opened j)
-  hears_opened (Open peer candidates draws) j is_call carried came stands line = absurd line
-  hears_opened (Cancel n) j is_call carried came stands line = absurd line
-  hears_opened (Receive from datagram draws) j is_call carried came stands line =
-      let t : Tell = Answer j.near j.peer j.far j.nr j.k j.ni 0 in
-      let sizes = (holds_it j.peer (Opening j.n j.near j.ni) stands).1 in
-      let was = subst (λ (o : Option Held). Comes (sid_of datagram) start j.peer o) stands (came j.peer) in
-      inr (t, grows t (answer_told setup start (facts_of past) base from datagram draws j carried is_call was sizes.0 sizes.1 line), (inl refl, tt))
-  hears_opened (Tick draws) j is_call carried came stands line = absurd line
+  hears_opened call j is_call carried came stands line = in_receive (receive_in call) refl carried came line
+    where
+      in_receive : (o : Option ReceiveCall) → receive_in call ≡ o → CarriedIn setup start base o → CameIn o start (facts_of past) → TakesAnswerIn setup o j → Hears own steps (Opened j)
+      in_receive None e sent since answer = absurd answer
+      in_receive (Some r) e sent since answer =
+          let t : Tell = Answer j.near j.peer j.far j.nr j.k j.ni 0 in
+          let sizes = (holds_it j.peer (Opening j.n j.near j.ni) stands).1 in
+          let was = subst (λ (h : Option Held). Comes (sid_of r.datagram) start j.peer h) stands (since j.peer) in
+          inr (t, grows t (answer_told setup start (facts_of past) base r.from r.datagram r.draws j sent (subst IsCall (receives_alone call r e) is_call) was sizes.0 sizes.1 answer), (inl refl, tt))
 
   hears_confirmed : (call : Call) (peer : List ℕ) (near : ℕ) → WasCarried setup start base call → CameSince call start (facts_of past) → Stands own (count (facts_of past)) (facts_of past) (Confirmed peer near) →
       FactLine setup now call past [] (Confirmed peer near) → Hears own steps (Confirmed peer near)
-  hears_confirmed (Open towards candidates draws) peer near carried came stands line = absurd line.by
-  hears_confirmed (Cancel n) peer near carried came stands line = absurd line.by
-  hears_confirmed (Receive from datagram draws) peer near carried came stands line =
-      let j : Joined = line.j in
-      let t : Tell = Under (as_responder own j) true 0 in
-      let same : stands.j ≡ j = one_half_open (held peer (facts_of past)) j stands.j line.session stands.session in
-      let was = subst (λ (o : Option Held). Comes (sid_of datagram) start peer o) line.session (came peer) in
-      let sent = under_told setup start base from datagram draws peer near j carried was (stands.id ∙ ap (λ (k : Joined). k.near) same) line.by in
-      inr (t, grows t sent, (record { j = j; session = holding_is peer (HalfOpen j) line.session; generation = 0; born = inr (holds_it peer (HalfOpen j) line.session).0.1; told = inl refl }, tt))
-  hears_confirmed (Tick draws) peer near carried came stands line = absurd line.by
+  hears_confirmed call peer near carried came stands line = in_receive (receive_in call) carried came line.by
+    where
+      j : Joined
+      j = line.j
+
+      in_receive : (o : Option ReceiveCall) → CarriedIn setup start base o → CameIn o start (facts_of past) → TakesUnderIn setup o near (HalfOpen j) → Hears own steps (Confirmed peer near)
+      in_receive None sent since by = absurd by
+      in_receive (Some r) sent since by =
+          let t : Tell = Under (as_responder own j) true 0 in
+          let same : stands.j ≡ j = one_half_open (held peer (facts_of past)) j stands.j line.session stands.session in
+          let was = subst (λ (h : Option Held). Comes (sid_of r.datagram) start peer h) line.session (since peer) in
+          let told = under_told setup start base r.from r.datagram r.draws peer near j sent was (stands.id ∙ ap (λ (k : Joined). k.near) same) by in
+          inr (t, grows t told, (record { j = j; session = holding_is peer (HalfOpen j) line.session; generation = 0; born = inr (holds_it peer (HalfOpen j) line.session).0.1; told = inl refl }, tt))
 
   -- an Ended for Override has heard the keying of the Born that follows
   hears_way : (call : Call) (peer : List ℕ) (near : ℕ) (why : Why) (rest : List Entry) → WasCarried setup start base call → BornFollows peer rest →
@@ -203,16 +210,22 @@ module _ (setup : Setup) (now : ℕ) (start : List Fact) (past : List Stamped) (
 -- ---- the sizes of a fact
 
 born_sizes : (setup : Setup) (now : ℕ) (call : Call) (before : List Fact) (j : Joined) → IsCall call → j.k < 2 ^ 64 → Bears setup before now call (record { peer = j.peer; n = j.n; ni = j.ni; far = j.far }) j.nr → BornSizes j
-born_sizes setup now (Open peer candidates draws) before j is_call few by = absurd by
-born_sizes setup now (Cancel n) before j is_call few by = absurd by
-born_sizes setup now (Receive from datagram draws) before j is_call few by = record { nr = ap length by.1 ∙ is_call.1; ni = by.0.nonce_size; k = few; far = by.0.spells.1.3.0 }
-born_sizes setup now (Tick draws) before j is_call few by = absurd by
+born_sizes setup now call before j is_call few by = in_receive (receive_in call) refl by
+  where
+    in_receive : (o : Option ReceiveCall) → receive_in call ≡ o → BearsIn setup before now o (record { peer = j.peer; n = j.n; ni = j.ni; far = j.far }) j.nr → BornSizes j
+    in_receive None e bears = absurd bears
+    in_receive (Some r) e bears =
+        let sizes : IsCall (Receive r.from r.datagram r.draws) = subst IsCall (receives_alone call r e) is_call in
+        record { nr = ap length bears.1 ∙ sizes.1; ni = bears.0.nonce_size; k = few; far = bears.0.spells.1.3.0 }
 
 started_sizes : (call : Call) (peer : List ℕ) (n : ℕ) (ni : List ℕ) → IsCall call → n < 2 ^ 64 → Opens call peer ni → (length peer ≡ 32) × (length ni ≡ 16) × (n < 2 ^ 64)
-started_sizes (Open towards candidates draws) peer n ni is_call fits by = (sym (ap length by.0) ∙ is_call.0, ap length by.1 ∙ is_call.1, fits)
-started_sizes (Cancel m) peer n ni is_call fits by = absurd by
-started_sizes (Receive from datagram draws) peer n ni is_call fits by = absurd by
-started_sizes (Tick draws) peer n ni is_call fits by = absurd by
+started_sizes call peer n ni is_call fits by = in_open (open_in call) refl by
+  where
+    in_open : (o : Option OpenCall) → open_in call ≡ o → OpensIn o peer ni → (length peer ≡ 32) × (length ni ≡ 16) × (n < 2 ^ 64)
+    in_open None e opens = absurd opens
+    in_open (Some o) e opens =
+        let sizes : IsCall (Open o.peer o.candidates o.draws) = subst IsCall (opens_alone call o e) is_call in
+        (sym (ap length opens.0) ∙ sizes.0, ap length opens.1 ∙ sizes.1, fits)
 
 pub sizes_of : (setup : Setup) (now : ℕ) (call : Call) (past : List Stamped) (rest : List Entry) (fact : Fact) → IsCall call → count (facts_of past) < 2 ^ 64 →
     Stands (own_of setup) (count (facts_of past)) (facts_of past) fact → FactLine setup now call past rest fact → IsCounted fact → FactSizes fact

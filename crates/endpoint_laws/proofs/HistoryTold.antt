@@ -1,15 +1,15 @@
 -- A history that is lawful, honest and fresh is told in steps that are sound.
-use Rattle.std.proofs.Common.{ℕ, ◌==◌, List, [], ◌∷◌, ◌++◌, ◌≡◌, inl, inr, refl, sym, ap, subst, ◌∙◌, if◌then◌else◌, Bool, true, false}
+use Rattle.std.proofs.Common.{ℕ, ◌==◌, List, [], ◌∷◌, ◌++◌, ◌≡◌, inl, inr, refl, sym, ap, subst, ◌∙◌, if◌then◌else◌, Bool, true, false, Option, Some, None}
 use Rattle.crypto_profile.specs.declared.keys.Context.{Context}
 use Rattle.glare_core.specs.declared.facts.Fact.{Fact}
 use Rattle.glare_core.specs.Tells.{Tell}
 use Rattle.glare_core.specs.Steps.{Step, view, facts}
 use Rattle.glare_core.specs.Told.{WasSent, nonces, AllDifferent}
-use Rattle.endpoint_model.specs.Event.{Setup, own_of, Call, Open, Cancel, Receive, Tick, Event, moment_at}
+use Rattle.endpoint_model.specs.Event.{Setup, own_of, Call, Open, Cancel, Receive, Tick, Event, moment_at, ReceiveCall, receive_in}
 use Rattle.endpoint_laws.specs.Past.{Stamped, facts_of, last_moment, past_of}
 use Rattle.endpoint_laws.specs.Lawful.{IsLawful}
 use Rattle.endpoint_laws.specs.Laws.{AreCalls}
-use Rattle.endpoint_laws.specs.History.{Happened, History, log_of, AreLawful, WasSent as WentOut, IsHonestCall, IsHonest, TakesPart}
+use Rattle.endpoint_laws.specs.History.{Happened, History, log_of, AreLawful, WasSent as WentOut, IsHonestCall, IsHonest, TakesPart, IsHonestReceive}
 use Rattle.endpoint_laws.specs.Agreed.{stated}
 use Rattle.endpoint_model.proofs.Members.{tested}
 use Rattle.endpoint_laws.proofs.FactsAlone.{alone, facts_alone}
@@ -18,7 +18,7 @@ use Rattle.endpoint_laws.proofs.HeldTold.{tell_of}
 use Rattle.endpoint_laws.proofs.Telling.{Telling, telling_new}
 use Rattle.endpoint_laws.proofs.Carried.{Carried}
 use Rattle.endpoint_laws.proofs.Since.{came_first}
-use Rattle.endpoint_laws.proofs.Heard.{WasCarried}
+use Rattle.endpoint_laws.proofs.Heard.{WasCarried, CarriedIn}
 use Rattle.endpoint_laws.proofs.EventTold.{Far, reached}
 use Rattle.endpoint_laws.proofs.StatedFacts.{lawful_more, calls_more, view_stated}
 
@@ -73,10 +73,11 @@ carried_grows secret sent context steps more c grows = record {
 
 was_carried : (setup : Setup) (start : List Fact) (earlier : History) (steps : List Step) (call : Call) → IsHonestCall setup start earlier call →
     ((sent : List ℕ) (context : Context) → WentOut sent context earlier → Carried setup.secret sent context steps) → WasCarried setup start steps call
-was_carried setup start earlier steps (Open peer candidates draws) honest outs = tt
-was_carried setup start earlier steps (Cancel n) honest outs = tt
-was_carried setup start earlier steps (Receive from datagram draws) honest outs = λ context plain of opens. outs datagram context (honest context plain of opens)
-was_carried setup start earlier steps (Tick draws) honest outs = tt
+was_carried setup start earlier steps call honest outs = in_receive (receive_in call) honest
+  where
+    in_receive : (o : Option ReceiveCall) → IsHonestReceive setup start earlier o → CarriedIn setup start steps o
+    in_receive None h = tt
+    in_receive (Some r) h = λ context plain of opens. outs r.datagram context (h context plain of opens)
 
 -- ---- all of it
 

@@ -33,7 +33,7 @@ use Rattle.endpoint_model.specs.Admission.{place_of, startup_keys}
 use Rattle.endpoint_model.specs.Log.{StandsFor}
 use Rattle.endpoint_laws.specs.Laws.{IsSetup, AreCalls}
 use Rattle.endpoint_laws.specs.OpensIn.{startup_unless, context_in_startup, context_in_session, context_found, opens_in, OpensAt, IsContextAt, OpensByTheLog}
-use Rattle.endpoint.proofs.Keeping.{place_by}
+use Rattle.endpoint_model.proofs.Naming.{place_by}
 use Rattle.endpoint_model.proofs.Members.{tested}
 use Rattle.endpoint_laws.proofs.Tied.{Tied, thing_of}
 use Rattle.endpoint_laws.proofs.Agrees.{agrees_of, combined, thing_at, found_of_attempt, found_of_session}

@@ -1,5 +1,5 @@
 -- What is held inside of an event was held when it began, as far as the context of its datagram's session ID goes.
-use Rattle.std.proofs.Common.{ℕ, List, ◌∷◌, Option, Some, None, ◌≡◌, ◌⊎◌, inl, inr, refl}
+use Rattle.std.proofs.Common.{ℕ, List, ◌∷◌, Option, Some, None, ◌≡◌, ◌⊎◌, inl, inr, refl, subst}
 use Rattle.packet_scramble.specs.Datagram.{sid_of}
 use Rattle.glare_core.specs.declared.facts.Fact.{Fact}
 use Rattle.glare_core.specs.declared.facts.Fact.TheVariants.{Started, Born, Opened, Confirmed, Ended}
@@ -7,8 +7,9 @@ use Rattle.glare_core.specs.declared.facts.Held.{Held}
 use Rattle.glare_core.specs.declared.facts.Held.TheVariants.{Opening, HalfOpen, KeptAsResponder, KeptAsInitiator}
 use Rattle.glare_core.specs.Standing.{peer_of, after, held}
 use Rattle.glare_core.proofs.Tails.{same_end}
+use Rattle.endpoint_model.proofs.Kinds.{receives_alone}
 use Rattle.endpoint_model.specs.declared.entry.Entry.{Entry}
-use Rattle.endpoint_model.specs.Event.{Setup, Call, Open, Cancel, Receive, Tick}
+use Rattle.endpoint_model.specs.Event.{Setup, Call, Receive, ReceiveCall, receive_in}
 use Rattle.endpoint_laws.specs.Past.{Stamped, facts_of}
 use Rattle.endpoint_laws.specs.Lawful.{FactLine}
 
@@ -58,29 +59,33 @@ comes_did sid start peer fact facts f c = elim (same_end (peer_of fact) peer) [
 
 -- ---- over the facts of an event
 
+abbrev pub CameIn : Option ReceiveCall → List Fact → List Fact → Type 0
+CameIn None start facts = Unit {0}
+CameIn (Some r) start facts = (peer : List ℕ) → Comes (sid_of r.datagram) start peer (held peer facts)
+
 abbrev pub CameSince : Call → List Fact → List Fact → Type 0
-CameSince (Open peer candidates draws) start facts = Unit {0}
-CameSince (Cancel n) start facts = Unit {0}
-CameSince (Receive from datagram draws) start facts = (peer : List ℕ) → Comes (sid_of datagram) start peer (held peer facts)
-CameSince (Tick draws) start facts = Unit {0}
+CameSince call start facts = CameIn (receive_in call) start facts
+
+came_at_first : (o : Option ReceiveCall) (start : List Fact) → CameIn o start start
+came_at_first None start = tt
+came_at_first (Some r) start = λ peer. comes_first (sid_of r.datagram) start peer (held peer start) refl
 
 pub came_first : (call : Call) (start : List Fact) → CameSince call start start
-came_first (Open peer candidates draws) start = tt
-came_first (Cancel n) start = tt
-came_first (Receive from datagram draws) start = λ peer. comes_first (sid_of datagram) start peer (held peer start) refl
-came_first (Tick draws) start = tt
+came_first call start = came_at_first (receive_in call) start
+
+brings : (setup : Setup) (now : ℕ) (past : List Stamped) (rest : List Entry) (r : ReceiveCall) (f : Fact) → FactLine setup now (Receive r.from r.datagram r.draws) past rest f → FactComes (sid_of r.datagram) f
+brings setup now past rest r (Started p n near ni) l = absurd l.by
+brings setup now past rest r (Born j) l = (l.by.0.reads.opens.id, l.id.some)
+brings setup now past rest r (Opened j) l = tt
+brings setup now past rest r (Confirmed p near) l = tt
+brings setup now past rest r (Ended p near why) l = tt
 
 pub came_more : (setup : Setup) (now : ℕ) (call : Call) (start : List Fact) (past : List Stamped) (rest : List Entry) (fact : Fact) → FactLine setup now call past rest fact →
     CameSince call start (facts_of past) → CameSince call start (fact ∷ facts_of past)
-came_more setup now (Open peer candidates draws) start past rest fact line came = tt
-came_more setup now (Cancel n) start past rest fact line came = tt
-came_more setup now (Receive from datagram draws) start past rest fact line came =
-    λ peer. comes_did (sid_of datagram) start peer fact (facts_of past) (brings fact line) (came peer)
+came_more setup now call start past rest fact line came = in_receive (receive_in call) refl came
   where
-    brings : (f : Fact) → FactLine setup now (Receive from datagram draws) past rest f → FactComes (sid_of datagram) f
-    brings (Started p n near ni) l = absurd l.by
-    brings (Born j) l = (l.by.0.reads.opens.id, l.id.some)
-    brings (Opened j) l = tt
-    brings (Confirmed p near) l = tt
-    brings (Ended p near why) l = tt
-came_more setup now (Tick draws) start past rest fact line came = tt
+    in_receive : (o : Option ReceiveCall) → receive_in call ≡ o → CameIn o start (facts_of past) → CameIn o start (fact ∷ facts_of past)
+    in_receive None e since = tt
+    in_receive (Some r) e since = λ peer.
+        comes_did (sid_of r.datagram) start peer fact (facts_of past)
+        (brings setup now past rest r fact (subst (λ (c : Call). FactLine setup now c past rest fact) (receives_alone call r e) line)) (since peer)

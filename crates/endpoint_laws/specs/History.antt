@@ -7,7 +7,8 @@ use Rattle.glare_core.specs.declared.facts.Fact.{Fact}
 use Rattle.glare_core.specs.Told.{AllDifferent}
 use Rattle.endpoint_model.specs.declared.entry.Entry.{Entry}
 use Rattle.endpoint_model.specs.Views.{Sending, out_in}
-use Rattle.endpoint_model.specs.Event.{Setup, own_of, Call, Open, Cancel, Receive, Tick, Event}
+use Rattle.endpoint_model.specs.Event.{Setup, own_of, Call, ReceiveCall, receive_in,
+    Event}
 use Rattle.endpoint_laws.specs.Past.{facts_of, past_of}
 use Rattle.endpoint_laws.specs.Contexts.{ContextOf, OpensUnder}
 use Rattle.endpoint_laws.specs.Lawful.{IsLawful, nonces_of}
@@ -53,14 +54,16 @@ WasSent sent context (h ∷ earlier) = HasOut sent context h.event.entries ⊎
 
 -- A datagram that opens in the context of its session ID, at the end that takes it, was sent in
 -- that context.
+abbrev pub IsHonestReceive : Setup → List Fact → History → Option ReceiveCall → Type 0
+IsHonestReceive setup facts earlier None = Unit {0}
+IsHonestReceive setup facts earlier (Some r) =
+    (context : Context) (plain : List ℕ) →
+      ContextOf (own_of setup) facts (sid_of r.datagram) context →
+      OpensUnder setup.secret context (sid_of r.datagram) r.datagram plain →
+      WasSent r.datagram context earlier
+
 abbrev pub IsHonestCall : Setup → List Fact → History → Call → Type 0
-IsHonestCall setup facts earlier (Open peer candidates draws) = Unit {0}
-IsHonestCall setup facts earlier (Cancel n) = Unit {0}
-IsHonestCall setup facts earlier (Receive from datagram draws) =
-    (context : Context) (plain : List ℕ) → ContextOf (own_of setup) facts (sid_of datagram) context
-    → OpensUnder setup.secret context (sid_of datagram) datagram plain →
-      WasSent datagram context earlier
-IsHonestCall setup facts earlier (Tick draws) = Unit {0}
+IsHonestCall setup facts earlier call = IsHonestReceive setup facts earlier (receive_in call)
 
 abbrev pub IsHonest : (ℕ → Setup) → History → Type 0
 IsHonest ends [] = Unit {0}

@@ -26,7 +26,9 @@ use Rattle.glare_core.specs.Told.{AllDifferent}
 use Rattle.endpoint_model.specs.declared.entry.Entry.{Entry}
 use Rattle.endpoint_model.specs.declared.entry.Entry.TheVariants.{Fact as FactEntry}
 use Rattle.endpoint_model.specs.Views.{Sending, fact_in, out_in}
-use Rattle.endpoint_model.specs.Event.{Setup, own_of, Call, Open, Cancel, Receive, Tick, Event, moment_at}
+use Rattle.endpoint_model.specs.declared.config.Draws.{Draws}
+use Rattle.endpoint_model.specs.Event.{Setup, own_of, Call, OpenCall, ReceiveCall, open_in,
+    cancel_in, receive_in, tick_in, Event, moment_at}
 use Rattle.endpoint_laws.specs.Past.{Stamped, stamped, onto, facts_of, is_in_use, WasDone}
 use Rattle.endpoint_laws.specs.Contexts.{ReadsUnder, HeldUnder, inward, outward, OpensUnder}
 use Rattle.endpoint_model.specs.Keying.{IsSigned, IsAmong, KeyingsAre, chunks_of, initiator_part,
@@ -41,32 +43,36 @@ pub record IsFree (near : ℕ) (facts : List Fact) : Type 0 where
 -- ---- the call that an entry comes of
 
 -- The call opens an attempt towards this peer, with this nonce.
+abbrev pub OpensIn : Option OpenCall → List ℕ → List ℕ → Type 0
+OpensIn None peer ni = ⊥
+OpensIn (Some o) peer ni = (o.peer ≡ peer) × (ni ≡ o.draws.nonce)
+
 abbrev pub Opens : Call → List ℕ → List ℕ → Type 0
-Opens (Open towards candidates draws) peer ni = (towards ≡ peer) × (ni ≡ draws.nonce)
-Opens (Cancel n) peer ni = ⊥
-Opens (Receive from datagram draws) peer ni = ⊥
-Opens (Tick draws) peer ni = ⊥
+Opens call peer ni = OpensIn (open_in call) peer ni
+
+abbrev pub CancelsIn : Option ℕ → ℕ → Type 0
+CancelsIn None n = ⊥
+CancelsIn (Some m) n = m ≡ n
 
 abbrev pub Cancels : Call → ℕ → Type 0
-Cancels (Open towards candidates draws) n = ⊥
-Cancels (Cancel m) n = m ≡ n
-Cancels (Receive from datagram draws) n = ⊥
-Cancels (Tick draws) n = ⊥
+Cancels call n = CancelsIn (cancel_in call) n
+
+abbrev pub TicksIn : Option Draws → Type 0
+TicksIn None = ⊥
+TicksIn (Some draws) = Unit {0}
 
 abbrev pub IsTick : Call → Type 0
-IsTick (Open towards candidates draws) = ⊥
-IsTick (Cancel n) = ⊥
-IsTick (Receive from datagram draws) = ⊥
-IsTick (Tick draws) = Unit {0}
+IsTick call = TicksIn (tick_in call)
 
 -- The call takes a datagram with an admissible keying that makes this offer, and the nonce is of
 -- its draws.
+abbrev pub BearsIn : Setup → List Fact → ℕ → Option ReceiveCall → Offer → List ℕ → Type 0
+BearsIn setup facts now None offer nr = ⊥
+BearsIn setup facts now (Some r) offer nr =
+    Admissible setup facts now r.from r.datagram offer × (nr ≡ r.draws.nonce)
+
 abbrev pub Bears : Setup → List Fact → ℕ → Call → Offer → List ℕ → Type 0
-Bears setup facts now (Open towards candidates draws) offer nr = ⊥
-Bears setup facts now (Cancel n) offer nr = ⊥
-Bears setup facts now (Receive from datagram draws) offer nr =
-    Admissible setup facts now from datagram offer × (nr ≡ draws.nonce)
-Bears setup facts now (Tick draws) offer nr = ⊥
+Bears setup facts now call offer nr = BearsIn setup facts now (receive_in call) offer nr
 
 -- The datagram opens in the startup context under the attempt's session ID, and a responder's
 -- keying in it answers the attempt.
@@ -82,19 +88,21 @@ pub record AnswersAttempt (secret : List ℕ) (j : Joined) (datagram : List ℕ)
   pub number : j.k < 2 ^ 64
   pub signed : IsSigned secret chunk.payload sign
 
+abbrev pub TakesAnswerIn : Setup → Option ReceiveCall → Joined → Type 0
+TakesAnswerIn setup None j = ⊥
+TakesAnswerIn setup (Some r) j = AnswersAttempt setup.secret j r.datagram
+
 abbrev pub TakesAnswer : Setup → Call → Joined → Type 0
-TakesAnswer setup (Open towards candidates draws) j = ⊥
-TakesAnswer setup (Cancel n) j = ⊥
-TakesAnswer setup (Receive from datagram draws) j = AnswersAttempt setup.secret j datagram
-TakesAnswer setup (Tick draws) j = ⊥
+TakesAnswer setup call j = TakesAnswerIn setup (receive_in call) j
 
 -- The call takes a datagram that opens under this session ID, in the context of this thing.
+abbrev pub TakesUnderIn : Setup → Option ReceiveCall → ℕ → Held → Type 0
+TakesUnderIn setup None near thing = ⊥
+TakesUnderIn setup (Some r) near thing = (plain : List ℕ) ×
+    OpensUnder setup.secret (inward (own_of setup) thing) near r.datagram plain
+
 abbrev pub TakesUnder : Setup → Call → ℕ → Held → Type 0
-TakesUnder setup (Open towards candidates draws) near thing = ⊥
-TakesUnder setup (Cancel n) near thing = ⊥
-TakesUnder setup (Receive from datagram draws) near thing = (plain : List ℕ) ×
-    OpensUnder setup.secret (inward (own_of setup) thing) near datagram plain
-TakesUnder setup (Tick draws) near thing = ⊥
+TakesUnder setup call near thing = TakesUnderIn setup (receive_in call) near thing
 
 -- ---- the lines of facts
 

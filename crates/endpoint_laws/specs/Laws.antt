@@ -2,7 +2,7 @@
 use Rattle.std.specs.Prelude.{ℕ, ◌≡◌, ◌≤◌, ◌<◌, ◌^◌, List, [], ◌∷◌, length, All}
 use Rattle.identity.specs.Certificates.{IsCertificate}
 use Rattle.glare_core.specs.Account.{StandsFor as AccountStandsFor}
-use Rattle.endpoint_model.specs.Event.{Setup, Call, Open, Cancel, Receive, Tick, Event}
+use Rattle.endpoint_model.specs.Event.{Setup, Call, Open, Receive, Event}
 use Rattle.endpoint_laws.specs.Past.{facts_of, past_of}
 use Rattle.endpoint_model.specs.State.{State, uses}
 use Rattle.endpoint_model.specs.Log.{StandsFor}
@@ -23,10 +23,9 @@ AreBytes bytes = All (λ byte. byte < 2 ^ 8) bytes
 abbrev pub IsCall : Call → Type 0
 IsCall (Open peer candidates draws) = (length peer ≡ 32) × (length draws.nonce ≡ 16) ×
     (draws.word < 2 ^ 32) × (length draws.tag ≡ 16)
-IsCall (Cancel n) = Unit {0}
 IsCall (Receive from datagram draws) = AreBytes datagram × (length draws.nonce ≡ 16) ×
     (draws.word < 2 ^ 32)
-IsCall (Tick draws) = Unit {0}
+IsCall call = Unit {0}
 
 abbrev pub AreCalls : List Event → Type 0
 AreCalls [] = Unit {0}

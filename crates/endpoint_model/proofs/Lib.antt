@@ -4,3 +4,4 @@ pub mod Members
 pub mod Ids
 pub mod Reading
 pub mod Kinds
+pub mod Naming

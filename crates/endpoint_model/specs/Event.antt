@@ -1,6 +1,6 @@
 -- What an end is given at its beginning, its calls with their arguments and answers, and what they
 -- added.
-use Rattle.std.specs.Prelude.{ℕ, List, max}
+use Rattle.std.specs.Prelude.{ℕ, List, Option, Some, None, max}
 use Rattle.sha2.specs.Sha256.{sha256}
 use Rattle.rtmfp_forms.specs.Address.{AddressParts}
 use Rattle.endpoint_model.specs.declared.config.Config.{Config}
@@ -28,6 +28,36 @@ pub data Call : Type 0 where
   Cancel : (n : ℕ) → Call
   Receive : (from : AddressParts) → (datagram : List ℕ) → (draws : Draws) → Call
   Tick : (draws : Draws) → Call
+
+-- what an open and a receive are given
+pub record OpenCall : Type 0 where
+  pub peer : List ℕ
+  pub candidates : List AddressParts
+  pub draws : Draws
+
+pub record ReceiveCall : Type 0 where
+  pub from : AddressParts
+  pub datagram : List ℕ
+  pub draws : Draws
+
+-- What a call has for those who ask of one kind of calls alone, so that no other kind touches them.
+abbrev pub open_in : Call → Option OpenCall
+open_in (Open peer candidates draws) =
+    Some (record { peer = peer; candidates = candidates; draws = draws })
+open_in call = None
+
+abbrev pub cancel_in : Call → Option ℕ
+cancel_in (Cancel n) = Some n
+cancel_in call = None
+
+abbrev pub receive_in : Call → Option ReceiveCall
+receive_in (Receive from datagram draws) =
+    Some (record { from = from; datagram = datagram; draws = draws })
+receive_in call = None
+
+abbrev pub tick_in : Call → Option Draws
+tick_in (Tick draws) = Some draws
+tick_in call = None
 
 -- what a call answered
 pub data Answer : Type 0 where

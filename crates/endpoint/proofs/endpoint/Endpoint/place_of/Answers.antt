@@ -3,7 +3,8 @@ use Rattle.std.specs.FinMap.{contains_key}
 use Rattle.endpoint_model.specs.State.{State}
 use Rattle.endpoint.specs.Kept.{state_of, table_of}
 use Rattle.endpoint_model.specs.Admission.{place_of}
-use Rattle.endpoint.proofs.Keeping.{place_in, has_place, place_by}
+use Rattle.endpoint_model.proofs.Naming.{place_by}
+use Rattle.endpoint.proofs.Keeping.{place_in, has_place}
 use Rattle.endpoint.proofs.endpoint.Endpoint.place_of.Goals as goal
 
 pub returns-then-is_some : goal.returns-then-is_some
