@@ -6,7 +6,6 @@ use Rattle.rtmfp_packet.specs.Spelling.{Chunk, chunk_bytes}
 use Rattle.rtmfp_packet.specs.Walk.{Placed, all_placed_from, is_ignored}
 use Rattle.rtmfp_packet.specs.Whole.{Whole}
 use Rattle.rtmfp_packet.specs.Reading.{Reads}
-use Rattle.rtmfp_chunks.specs.Writing.{chunk_bytes}
 use Rattle.endpoint_model.specs.Keying.{AreNear}
 
 -- of a list that passes a filter as many as before at most, and all with what all have

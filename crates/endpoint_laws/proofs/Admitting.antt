@@ -22,7 +22,6 @@ use Rattle.rtmfp_packet.specs.Reading.{PacketReading, Reads}
 use Rattle.startup.specs.declared.cause.Cause.{Cause}
 use Rattle.startup.specs.declared.cause.Cause.TheVariants.{Short, WrongPlace}
 use Rattle.crypto_profile.specs.Sealing.{Opens}
-use Rattle.rtmfp_chunks.specs.Writing.{chunk_bytes}
 use Rattle.endpoint_model.proofs.Members.{tested}
 use Rattle.session_core.specs.declared.hearing.Unheard.{Unheard}
 use Rattle.session_core.specs.declared.hearing.Unheard.TheVariants.{Short as ShortPart, BadTag as WrongTag, Repeated as OldNumber}

@@ -493,7 +493,7 @@ module _ (s : State) (near : ℕ) (from : AddressParts) (draws : Draws) (c : Pla
     plain = session_packet kept s.moment (chunk_bytes (Ping []));
     is = refl;
     packet = one_whole (head_at kept s.moment) (head_bytes (head_at kept s.moment)) 0x01 [];
-    reads = session_reads kept s.moment (chunk_bytes (Ping [])) (omega arith);
+    reads = session_reads kept s.moment (Ping []) (omega arith);
     chunk = record { kind = 0x01; at = length (head_bytes (head_at kept s.moment)); payload = [] };
     only = refl;
     spells = (refl, parts_bytes-spell (parts_of (Ping [])) tt);

@@ -10,7 +10,7 @@ use Rattle.glare_core.specs.Steps.{Item, Told, Did, Step, step, view, facts, hol
 use Rattle.glare_core.specs.Told.{WasSent, nonces, with_nonce, AllDifferent}
 use Rattle.glare_core.proofs.Views.{view_same}
 use Rattle.rtmfp_forms.specs.Address.{AddressParts}
-use Rattle.endpoint_model.proofs.Kinds.{IsOther, kind_of}
+use Rattle.endpoint_model.proofs.Apart.{IsOther, kind_of}
 use Rattle.endpoint_model.specs.Views.{fact_in}
 use Rattle.endpoint_model.specs.declared.entry.Entry.{Entry}
 use Rattle.endpoint_model.specs.declared.entry.Entry.TheVariants.{Fact as FactEntry, Out}
@@ -179,8 +179,8 @@ module _ (setup : Setup) (now : ℕ) (call : Call) (start : List Fact) (base : L
       }
 
   pub reached : (entries : List Entry) → ReachesOn entries
-  reached [] past so_far steps far lawful new = record { last = steps; telling = far.telling; is = far.is; grows = λ t w. w; outs = λ sent context none. absurd none }
-  reached (entry ∷ rest) past so_far steps = elim (kind_of entry) [
+  reached [] = λ past so_far steps far lawful new. record { last = steps; telling = far.telling; is = far.is; grows = λ t w. w; outs = λ sent context none. absurd none }
+  reached (entry ∷ rest) = λ past so_far steps. elim (kind_of entry) [
     | inl fact ↦ subst (λ (e : Entry). ReachedBy (e ∷ rest) past so_far steps) (sym fact.1) (reached_fact fact.0 rest (reached rest) past so_far steps)
     | inr not ↦ elim not [
       | inl out ↦ subst (λ (e : Entry). ReachedBy (e ∷ rest) past so_far steps) (sym out.1) (reached_out out.0.to out.0.datagram out.0.context rest (reached rest) past so_far steps)

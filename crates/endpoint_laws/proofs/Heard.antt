@@ -20,7 +20,7 @@ use Rattle.glare_core.specs.Table.{HasHeard}
 use Rattle.glare_core.specs.Told.{WasSent}
 use Rattle.glare_core.proofs.Views.{seen_item}
 use Rattle.glare_core.proofs.Sound.{IsCalledFor}
-use Rattle.endpoint_model.proofs.Kinds.{opens_alone, receives_alone}
+use Rattle.endpoint_model.proofs.Apart.{opens_alone, receives_alone}
 use Rattle.endpoint_laws.specs.Agreed.{no_generation}
 use Rattle.endpoint_model.specs.Views.{Sending, fact_in, out_in}
 use Rattle.endpoint_model.specs.declared.config.Draws.{Draws}

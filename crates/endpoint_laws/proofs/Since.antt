@@ -7,7 +7,7 @@ use Rattle.glare_core.specs.declared.facts.Held.{Held}
 use Rattle.glare_core.specs.declared.facts.Held.TheVariants.{Opening, HalfOpen, KeptAsResponder, KeptAsInitiator}
 use Rattle.glare_core.specs.Standing.{peer_of, after, held}
 use Rattle.glare_core.proofs.Tails.{same_end}
-use Rattle.endpoint_model.proofs.Kinds.{receives_alone}
+use Rattle.endpoint_model.proofs.Apart.{receives_alone}
 use Rattle.endpoint_model.specs.declared.entry.Entry.{Entry}
 use Rattle.endpoint_model.specs.Event.{Setup, Call, Receive, ReceiveCall, receive_in}
 use Rattle.endpoint_laws.specs.Past.{Stamped, facts_of}

@@ -3,5 +3,5 @@ pub mod Steps
 pub mod Members
 pub mod Ids
 pub mod Reading
-pub mod Kinds
+pub mod Apart
 pub mod Naming
