@@ -5,7 +5,9 @@ use Rattle.std.specs.Str.{bytes_eq}
 use Rattle.glare_core.specs.declared.facts.Held.{Held}
 use Rattle.glare_core.specs.declared.facts.Held.TheVariants.{Opening, HalfOpen, KeptAsResponder, KeptAsInitiator}
 use Rattle.glare_core.specs.Things.{IsAttempt, IsSession, near_of}
-use Rattle.endpoint_laws.specs.Past.{Stamped, WasDone}
+use Rattle.endpoint_model.specs.declared.entry.Entry.{Entry}
+use Rattle.endpoint_model.specs.Event.{Event}
+use Rattle.endpoint_laws.specs.Past.{Stamped, WasDone, stamped, begun, OfEntry, OfEvent}
 use Rattle.endpoint_checks.specs.Ends.{TheTableRefusesCancels, TheTableRefusesExpiries, TheTableRefusesWays, TheTableRefusesOtherEnds}
 use Rattle.endpoint_checks.proofs.Logs.{same, other}
 
@@ -32,9 +34,15 @@ one_number : (peer ni : List ℕ) (n near : ℕ) → Opening 1 5 peer ≡ Openin
 unfolding number_of_opening
 one_number peer ni n near e = sym (ap number_of_opening e)
 
-overdue_since : (moment start : ℕ) (x y : Stamped) → x.moment ≡ start → WasDone x (y ∷ []) → y.moment ≡ moment → start ≡ moment
-overdue_since moment start x y at (inl e) is = sym at ∙ ap (λ (s : Stamped). s.moment) e ∙ is
-overdue_since moment start x y at (inr none) is = absurd none
+not_begun : (moment now : ℕ) (entry : Entry) (e : Event) → stamped moment entry ≡ begun now e → ⊥
+not_begun moment now entry e is = let clash : OfEntry entry ≡ OfEvent e = ap (λ (s : Stamped). s.what) is in absurd (cc)
+
+-- of one entry of one event, before another one began
+overdue_since : (moment start : ℕ) (entry : Entry) (y : Stamped) (m n : ℕ) (d e : Event) → WasDone (stamped start entry) (begun n e ∷ y ∷ begun m d ∷ []) → y.moment ≡ moment → start ≡ moment
+overdue_since moment start entry y m n d e (inl is) at = absurd (not_begun start n entry e is)
+overdue_since moment start entry y m n d e (inr (inl is)) at = ap (λ (s : Stamped). s.moment) is ∙ at
+overdue_since moment start entry y m n d e (inr (inr (inl is))) at = absurd (not_begun start m entry d is)
+overdue_since moment start entry y m n d e (inr (inr (inr none))) at = absurd none
 
 holds : (b : Bool) (x : Held) → b ≡ true → cond b (Some x) None ≡ Some x
 holds true x e = refl
@@ -66,8 +74,8 @@ expiries_refused setup c draws peer = record {
   in_open = λ moment towards candidates h. h.1.0.0.1.0;
   in_receive = λ moment from datagram h. h.1.0.0.1.0;
   in_cancel = λ moment m h. h.1.0.0.1.0;
-  early = λ h. let late = h.1.0.0.1.1 in young 0 94999 late.start (overdue_since 0 late.start _ _ refl late.started refl) late.over (omega arith);
-  early_later = λ h. let late = h.1.0.0.1.1 in young 7 95006 late.start (overdue_since 7 late.start _ _ refl late.started refl) late.over (omega arith);
+  early = λ h. let late = h.1.0.0.1.1 in young 0 94999 late.start (overdue_since 0 late.start _ _ _ _ _ _ late.started refl) late.over (omega arith);
+  early_later = λ h. let late = h.1.0.0.1.1 in young 7 95006 late.start (overdue_since 7 late.start _ _ _ _ _ _ late.started refl) late.over (omega arith);
   other_id = λ moment near differ h.
       let ended = h.1.0.0.0 in
       differ (ended.id ∙ sym (ap near_of (held_here peer (Opening 1 5 peer) ended.h ended.thing)));

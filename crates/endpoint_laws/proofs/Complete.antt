@@ -57,7 +57,7 @@ use Rattle.endpoint_model.specs.declared.place.Place.TheVariants.{Startup, Attem
 use Rattle.endpoint_model.specs.declared.entry.Entry.{Entry}
 use Rattle.endpoint_model.specs.declared.entry.Entry.TheVariants.{Fact as FactEntry, Out}
 use Rattle.endpoint_model.specs.Event.{Setup, own_of, Receive, Answer as CallAnswer, Began, Done, NotOpened, Refused, Stopped, OutOfMemory, Event}
-use Rattle.endpoint_laws.specs.Past.{Stamped, stamped, onto, facts_of, past_of, last_moment}
+use Rattle.endpoint_laws.specs.Past.{Stamped, stamped, onto, facts_of, past_of, last_moment, begun}
 use Rattle.endpoint_model.specs.Keying.{IsFirst, chunks_of}
 use Rattle.endpoint_laws.specs.Admissible.{Admissible, Offer}
 use Rattle.endpoint_laws.specs.Lawful.{AnswersAttempt}
@@ -80,7 +80,7 @@ use Rattle.endpoint_model.proofs.Steps.{then_then, walk_through}
 use Rattle.endpoint_laws.proofs.Admitting.{Came, AdmissionIs, admission_is}
 use Rattle.endpoint_laws.proofs.Answering.{OpensAttempt}
 use Rattle.endpoint_laws.proofs.Chunked.{chunks_go, read_ok, opening_of}
-use Rattle.endpoint_laws.proofs.Logged.{answers_go, tied_to_log}
+use Rattle.endpoint_laws.proofs.Logged.{answers_go, tied_to_log, tied_begun}
 use Rattle.endpoint_laws.proofs.OutBirths.{small_free}
 use Rattle.endpoint_laws.proofs.OutLaw.{count_of_log}
 use Rattle.endpoint_laws.proofs.Few.{few_chunks, few_of_log, outs_append}
@@ -417,8 +417,9 @@ pub moment_goes : (setup : Setup) (past : List Stamped) (log : List Event) (s t 
 moment_goes setup past [] s t is calls tied leads = ap (λ (x : State). x.moment) (sym leads)
 moment_goes setup past (e ∷ log) s t is calls tied leads =
     let noted : State = at_moment s e.moment in
-    let one = answers_go setup past noted leads.0 e.call e.answer e.entries is (tied_alike setup past s (max s.moment e.moment) s.sealed tied) calls.0 leads.1 in
-    moment_goes setup (onto noted.moment e.entries past) log leads.0 t is calls.1 one.tied leads.2 ∙ ap (λ (m : ℕ). last_moment m log) one.moment
+    let start : List Stamped = begun noted.moment e ∷ past in
+    let one = answers_go setup start noted leads.0 e.call e.answer e.entries is (tied_begun setup past s e tied) calls.0 leads.1 in
+    moment_goes setup (onto noted.moment e.entries start) log leads.0 t is calls.1 one.tied leads.2 ∙ ap (λ (m : ℕ). last_moment m log) one.moment
 
 -- what a call adds that has gone through these chunks of a packet
 went_entries : (noted t u : State) (place : Place) (from : AddressParts) (datagram : List ℕ) (draws : Draws) (answer : CallAnswer) (entries : List Entry) (packet : Whole) (gone : List Placed) →

@@ -12,13 +12,14 @@ use Rattle.glare_core.specs.Calls.{where_true, start_held, peers_full}
 use Rattle.glare_core.proofs.Accounts.{reads_started}
 use Rattle.startup.specs.Attempts.{begin_spread, after_begin}
 use Rattle.crypto_profile.specs.declared.keys.Context.TheVariants.{Startup}
+use Rattle.endpoint_laws.proofs.Moving.{tied_more}
 use Rattle.endpoint_model.specs.Views.{fact_in}
 use Rattle.endpoint_laws.proofs.NoFacts.{NoFactAnd, NoFacts, the_rest, none_in_both}
 use Rattle.endpoint_model.specs.declared.config.Draws.{Draws}
 use Rattle.endpoint_model.specs.declared.entry.Entry.{Entry}
 use Rattle.endpoint_model.specs.declared.entry.Entry.TheVariants.{Fact as FactEntry, Out}
 use Rattle.endpoint_model.specs.Event.{Setup, own_of, Call, Open, Cancel, Receive, Tick, Answer, Began, Done, NotOpened, Refused, Stopped, OutOfMemory, Event, moment_at, OpenCall, open_in}
-use Rattle.endpoint_laws.specs.Past.{Stamped, stamped, onto, facts_of, past_of, fact_and}
+use Rattle.endpoint_laws.specs.Past.{Stamped, stamped, onto, facts_of, past_of, fact_and, begun, with_event}
 use Rattle.endpoint_laws.specs.Lawful.{Opens, FactLine, IsCounted, OpensIn}
 use Rattle.endpoint_model.specs.State.{State, Did, nothing, at_moment, with_startup, with_sealed, free_from}
 use Rattle.endpoint_model.specs.Sending.{last_count, startup_datagram, sent_startup, sent_each}
@@ -99,7 +100,7 @@ pub few_at_end : (setup : Setup) (last : ℕ) (past : List Stamped) (log : List 
     count (facts_of past) < 2 ^ 64 → count (facts_of (past_of last past log)) < 2 ^ 64
 few_at_end setup last past [] f n few = few
 few_at_end setup last past (e ∷ log) f n few =
-    few_at_end setup (moment_at last e) (onto (moment_at last e) e.entries past) log f.1 n.1 (few_after setup (moment_at last e) e.call past e.entries f.0 n.0 few)
+    few_at_end setup (moment_at last e) (with_event (moment_at last e) e past) log f.1 n.1 (few_after setup (moment_at last e) e.call (begun (moment_at last e) e ∷ past) e.entries f.0 n.0 few)
 
 -- ---- an attempt
 
@@ -146,11 +147,13 @@ counts_from setup go [] last past s t is tied few calls leads meets = tt
 counts_from setup go (e ∷ log) last past s t is tied few calls leads meets =
     let middle : State = leads.0 in
     let m : ℕ = moment_at last e in
-    let noted : Tied setup past (at_moment s e.moment) = go.noted past s e.moment tied in
+    let start : List Stamped = begun m e ∷ past in
+    let begins : Tied setup start s = tied_more setup past s (begun m e) refl tied in
+    let noted : Tied setup start (at_moment s e.moment) = go.noted start s e.moment begins in
     let now : max s.moment e.moment ≡ m = ap (λ (n : ℕ). max n e.moment) is in
-    let after = go.after past s middle e calls.0 tied leads.1 in
-    let counted = answers_counted setup m past (at_moment s e.moment) middle e.call e.answer e.entries noted few meets.0 leads.1 in (
+    let after = go.after start s middle e calls.0 begins leads.1 in
+    let counted = answers_counted setup m start (at_moment s e.moment) middle e.call e.answer e.entries noted few meets.0 leads.1 in (
       counted,
-      counts_from setup go log m (onto m e.entries past) middle t (after.1 ∙ now) (subst (λ (n : ℕ). Tied setup (onto n e.entries past) middle) now after.0)
-          (few_after setup m e.call past e.entries meets.0 counted few) calls.1 leads.2 meets.1,
+      counts_from setup go log m (with_event m e past) middle t (after.1 ∙ now) (subst (λ (n : ℕ). Tied setup (onto n e.entries start) middle) now after.0)
+          (few_after setup m e.call start e.entries meets.0 counted few) calls.1 leads.2 meets.1,
     )

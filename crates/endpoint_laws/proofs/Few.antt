@@ -36,7 +36,7 @@ use Rattle.endpoint_model.specs.declared.answers.Stopped.{Stopped as Stop}
 use Rattle.endpoint_model.specs.declared.entry.Entry.{Entry}
 use Rattle.endpoint_model.specs.declared.entry.Entry.TheVariants.{Fact as FactEntry, Out}
 use Rattle.endpoint_model.specs.Event.{Setup, Call, Open, Cancel, Receive, Tick, Answer as CallAnswer, Began, Done, NotOpened, Refused, Stopped, OutOfMemory, Event, moment_at}
-use Rattle.endpoint_laws.specs.Past.{Stamped, stamped, onto, past_of}
+use Rattle.endpoint_laws.specs.Past.{Stamped, stamped, onto, past_of, begun, with_event}
 use Rattle.endpoint_model.specs.Keying.{chunks_of}
 use Rattle.endpoint_model.specs.State.{State, Did, Does, nothing, after_entries, then_do, fact_entries, with_startup, with_session, with_sealed, free_from, fresh, at_moment}
 use Rattle.endpoint_model.specs.Sending.{last_count, startup_datagram, session_datagram, sent_startup, sent_answer, sent_if, sent_each, sent_spread, sent_by, sent_in_session}
@@ -298,8 +298,8 @@ few_leads [] last past s t leads = omega (arith, ap (λ (u : State). u.sealed) l
 few_leads (e ∷ log) last past s t leads =
     let now : ℕ = moment_at last e in
     let one = few_answers (at_moment s e.moment) leads.0 e.call e.answer e.entries leads.1 in
-    let rest = few_leads log now (onto now e.entries past) leads.0 t leads.2 in
-    omega (arith, one, rest, onto_outs now e.entries past)
+    let rest = few_leads log now (with_event now e past) leads.0 t leads.2 in
+    omega (arith, one, rest, onto_outs now e.entries (begun now e ∷ past))
 
 pub few_of_log : (setup : Setup) (log : List Event) (s : State) → StandsFor setup log s → s.sealed ≤ outs_of (past_of 0 [] log)
 few_of_log setup log s stands = omega (arith, few_leads log 0 [] (fresh setup) s stands)

@@ -6,7 +6,7 @@ use Rattle.glare_core.specs.Tells.{Tell}
 use Rattle.glare_core.specs.Steps.{Step, view, facts}
 use Rattle.glare_core.specs.Told.{WasSent, nonces, AllDifferent}
 use Rattle.endpoint_model.specs.Event.{Setup, own_of, Call, Open, Cancel, Receive, Tick, Event, moment_at, ReceiveCall, receive_in}
-use Rattle.endpoint_laws.specs.Past.{Stamped, facts_of, last_moment, past_of}
+use Rattle.endpoint_laws.specs.Past.{Stamped, facts_of, last_moment, past_of, begun}
 use Rattle.endpoint_laws.specs.Lawful.{IsLawful}
 use Rattle.endpoint_laws.specs.Laws.{AreCalls}
 use Rattle.endpoint_laws.specs.History.{Happened, History, log_of, AreLawful, WasSent as WentOut, IsHonestCall, IsHonest, TakesPart, IsHonestReceive}
@@ -104,9 +104,10 @@ history_told ends secret (h ∷ earlier) e honest new =
     (λ sent context out. subst (λ (s : List ℕ). Carried s sent context before.steps) (sym group) (before.outs sent context out)) in
     let view_is : facts (view own before.steps) ≡ facts_of past =
     sym (facts_alone own before.steps) ∙ ap (λ (r : List Step). facts (view own r)) before.is ∙ view_stated ends h.who earlier (λ a part same. e.prints a h.who (inr part) (inl refl) same) in
-    let far : Far setup h.event.call (facts_of past) before.steps past (stated ends earlier) before.steps =
+    let start : List Stamped = begun (moment_at (last_moment 0 log) h.event) h.event ∷ past in
+    let far : Far setup h.event.call (facts_of past) before.steps start (stated ends earlier) before.steps =
     record { telling = before.telling; is = before.is; stated = view_is; came = came_first h.event.call (facts_of past); grows = λ t w. w } in
-    let r = reached setup (moment_at (last_moment 0 log) h.event) h.event.call (facts_of past) before.steps is_call carried h.event.entries past (stated ends earlier) before.steps far lawful new in
+    let r = reached setup (moment_at (last_moment 0 log) h.event) h.event.call (facts_of past) before.steps is_call carried h.event.entries start (stated ends earlier) before.steps far lawful new in
     record {
       steps = r.last;
       telling = r.telling;

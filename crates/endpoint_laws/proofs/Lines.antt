@@ -6,7 +6,7 @@ use Rattle.glare_core.specs.Stands.{Stands}
 use Rattle.endpoint_model.specs.declared.entry.Entry.{Entry}
 use Rattle.endpoint_model.specs.Views.{Sending, fact_in, out_in}
 use Rattle.endpoint_model.specs.Event.{Setup, own_of, Call, Event, moment_at}
-use Rattle.endpoint_laws.specs.Past.{Stamped, stamped, onto, facts_of}
+use Rattle.endpoint_laws.specs.Past.{Stamped, begun, stamped, with_event, facts_of}
 use Rattle.endpoint_laws.specs.Lawful.{FactLine, IsCounted, OutLine, LineOf, EntriesLawful, LawfulFrom}
 
 -- what is asked of an entry, by its event, the entries before it, and those after it in its event
@@ -42,7 +42,7 @@ EntriesMeet P setup now call past (entry ∷ rest) = P setup now call past rest 
 abbrev pub EventsMeet : Part → Setup → ℕ → List Stamped → List Event → Type 0
 EventsMeet P setup last past [] = Unit {0}
 EventsMeet P setup last past (e ∷ events) =
-    EntriesMeet P setup (moment_at last e) e.call past e.entries × EventsMeet P setup (moment_at last e) (onto (moment_at last e) e.entries past) events
+    EntriesMeet P setup (moment_at last e) e.call (begun (moment_at last e) e ∷ past) e.entries × EventsMeet P setup (moment_at last e) (with_event (moment_at last e) e past) events
 
 -- these parts are the whole table
 
@@ -62,4 +62,4 @@ pub events_lawful : (setup : Setup) (last : ℕ) (past : List Stamped) (events :
     EventsMeet CountPart setup last past events → EventsMeet OutPart setup last past events → LawfulFrom setup last past events
 events_lawful setup last past [] f n o = tt
 events_lawful setup last past (e ∷ events) f n o =
-    (entries_lawful setup (moment_at last e) e.call past e.entries f.0 n.0 o.0, events_lawful setup (moment_at last e) (onto (moment_at last e) e.entries past) events f.1 n.1 o.1)
+    (entries_lawful setup (moment_at last e) e.call (begun (moment_at last e) e ∷ past) e.entries f.0 n.0 o.0, events_lawful setup (moment_at last e) (with_event (moment_at last e) e past) events f.1 n.1 o.1)

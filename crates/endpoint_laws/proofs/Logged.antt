@@ -1,12 +1,12 @@
 -- The facts of each log that an end stands for are lawful, and its state agrees with them.
-use Rattle.std.proofs.Common.{◌≡◌, ℕ, ◌≤◌, ◌<◌, ◌^◌, max, List, [], ◌∷◌, take, drop, Bool, true, false, if◌then◌else◌, sym, ap, subst, ◌∙◌}
+use Rattle.std.proofs.Common.{◌≡◌, ℕ, ◌≤◌, ◌<◌, ◌^◌, max, List, [], ◌∷◌, take, drop, Bool, true, false, if◌then◌else◌, sym, ap, subst, ◌∙◌, refl}
 use Rattle.std.proofs.lemmas.List.{take-append-drop, append-nil}
 use Rattle.rtmfp_forms.specs.Address.{AddressParts}
 use Rattle.endpoint_model.specs.declared.config.Draws.{Draws}
 use Rattle.endpoint_model.specs.declared.answers.Stopped.{Stopped as Stop}
 use Rattle.endpoint_model.specs.declared.entry.Entry.{Entry}
 use Rattle.endpoint_model.specs.Event.{Setup, Call, Open, Cancel, Receive, Tick, Answer, Began, Done, NotOpened, Refused, Stopped, OutOfMemory, Event}
-use Rattle.endpoint_laws.specs.Past.{Stamped, onto, past_of}
+use Rattle.endpoint_laws.specs.Past.{Stamped, onto, past_of, begun}
 use Rattle.endpoint_model.specs.Keying.{chunks_of}
 use Rattle.endpoint_model.specs.State.{State, Did, Does, nothing, then_do, fresh, at_moment}
 use Rattle.endpoint_model.specs.Admission.{Admission, Rejected, Admitted, admission, confirming}
@@ -16,7 +16,7 @@ use Rattle.endpoint_laws.specs.Laws.{IsSetup, IsCall, AreCalls, TheLedgerIsOfThe
 use Rattle.endpoint_laws.proofs.Lines.{FactPart, EntriesMeet, EventsMeet}
 use Rattle.endpoint_laws.proofs.Bytes.{of_bytes}
 use Rattle.endpoint_laws.proofs.Tied.{Tied, fresh_tied}
-use Rattle.endpoint_laws.proofs.Moving.{tied_alike}
+use Rattle.endpoint_laws.proofs.Moving.{tied_alike, tied_more}
 use Rattle.endpoint_laws.proofs.Going.{Goes, goes_nothing, goes_then, goes_discarded}
 use Rattle.endpoint_laws.proofs.Starting.{goes_opening}
 use Rattle.endpoint_laws.proofs.Ending.{goes_cancelling, goes_ticks}
@@ -119,15 +119,21 @@ pub record LogIs (setup : Setup) (past : List Stamped) (s : State) (log : List E
   pub meets : EventsMeet FactPart setup s.moment past log
   pub tied : Tied setup (past_of s.moment past log) t
 
+-- an event began, whose moment is noted
+pub tied_begun : (setup : Setup) (past : List Stamped) (s : State) (e : Event) → Tied setup past s → Tied setup (begun (max s.moment e.moment) e ∷ past) (at_moment s e.moment)
+tied_begun setup past s e tied =
+    tied_alike setup (begun (max s.moment e.moment) e ∷ past) s (max s.moment e.moment) s.sealed (tied_more setup past s (begun (max s.moment e.moment) e) refl tied)
+
 pub leads_go : (setup : Setup) (past : List Stamped) (log : List Event) (s t : State) → IsSetup setup → AreCalls log → Tied setup past s → Leads s log t → LogIs setup past s log t
 leads_go setup past [] s t is calls tied leads = record { meets = tt; tied = subst (Tied setup past) leads tied }
 leads_go setup past (e ∷ log) s t is calls tied leads =
     let noted : State = at_moment s e.moment in
     let middle : State = leads.0 in
-    let one = answers_go setup past noted middle e.call e.answer e.entries is (tied_alike setup past s (max s.moment e.moment) s.sealed tied) calls.0 leads.1 in
-    let rest = leads_go setup (onto noted.moment e.entries past) log middle t is calls.1 one.tied leads.2 in
-    let P : ℕ → Type 0 = λ m. EventsMeet FactPart setup m (onto noted.moment e.entries past) log in
-    let Q : ℕ → Type 0 = λ m. Tied setup (past_of m (onto noted.moment e.entries past) log) t in
+    let start : List Stamped = begun noted.moment e ∷ past in
+    let one = answers_go setup start noted middle e.call e.answer e.entries is (tied_begun setup past s e tied) calls.0 leads.1 in
+    let rest = leads_go setup (onto noted.moment e.entries start) log middle t is calls.1 one.tied leads.2 in
+    let P : ℕ → Type 0 = λ m. EventsMeet FactPart setup m (onto noted.moment e.entries start) log in
+    let Q : ℕ → Type 0 = λ m. Tied setup (past_of m (onto noted.moment e.entries start) log) t in
     record { meets = (one.meets, subst P one.moment rest.meets); tied = subst Q one.moment rest.tied }
 
 pub log_is : (setup : Setup) (log : List Event) (s : State) → IsSetup setup → AreCalls log → StandsFor setup log s → LogIs setup [] (fresh setup) log s

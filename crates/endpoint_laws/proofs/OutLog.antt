@@ -5,12 +5,13 @@ use Rattle.std.specs.Ordering.{nat_cmp}
 use Rattle.rtmfp_base.proofs.Maps.{none_is_some}
 use Rattle.rtmfp_forms.specs.Address.{AddressParts}
 use Rattle.rtmfp_packet.specs.Walk.{Placed}
+use Rattle.endpoint_laws.proofs.Moving.{tied_more}
 use Rattle.endpoint_model.specs.declared.config.Draws.{Draws}
 use Rattle.endpoint_model.specs.declared.place.Place.{Place}
 use Rattle.endpoint_model.specs.declared.entry.Entry.{Entry}
 use Rattle.endpoint_model.specs.declared.answers.Stopped.{Stopped as Stop}
 use Rattle.endpoint_model.specs.Event.{Setup, own_of, Call, Open, Cancel, Receive, Tick, Answer, Began, Done, NotOpened, Refused, Stopped, OutOfMemory, Event, moment_at}
-use Rattle.endpoint_laws.specs.Past.{Stamped, onto}
+use Rattle.endpoint_laws.specs.Past.{Stamped, onto, begun, with_event}
 use Rattle.endpoint_model.specs.State.{State, Did, Does, nothing, then_do, fresh, at_moment}
 use Rattle.endpoint_model.specs.Admission.{Admission, Rejected, Admitted, admission, confirming}
 use Rattle.endpoint_model.specs.Keying.{chunks_of}
@@ -19,7 +20,7 @@ use Rattle.endpoint_model.specs.Log.{stopped, Answers, Step, Leads, StandsFor}
 use Rattle.endpoint_laws.specs.Laws.{IsSetup, IsCall, AreCalls}
 use Rattle.endpoint_laws.proofs.Lines.{EntriesMeet, EventsMeet, OutPart}
 use Rattle.endpoint_laws.proofs.Tied.{Tied, fresh_tied}
-use Rattle.endpoint_laws.proofs.OutNumbers.{numbered_new}
+use Rattle.endpoint_laws.proofs.OutNumbers.{numbered_new, numbered_begun}
 use Rattle.endpoint_laws.proofs.Going.{onto_append}
 use Rattle.endpoint_laws.proofs.OutSends.{Sent, Meets, meets_nothing, meets_then}
 use Rattle.endpoint_laws.proofs.OutItems.{meets_opening, meets_cancelling, meets_ticks, meets_confirming, meets_discarded, SentIn, sent_admission}
@@ -133,20 +134,25 @@ sent_fresh setup = record {
 sent_noted : (setup : Setup) (past : List Stamped) (s : State) (moment : ℕ) → Sent setup past s → Sent setup past (at_moment s moment)
 sent_noted setup past s moment sent = record { numbered = sent.numbered; sized = sent.sized; short = sent.short }
 
+sent_begun : (setup : Setup) (past : List Stamped) (s : State) (now : ℕ) (e : Event) → Sent setup past s → Sent setup (begun now e ∷ past) s
+sent_begun setup past s now e sent = record { numbered = numbered_begun (own_of setup) past s.sealed s.sessions sent.numbered now e; sized = sent.sized; short = sent.short }
+
 pub outs_from : (setup : Setup) → length setup.cert ≤ 80 → TiesGoOn setup → (log : List Event) (last : ℕ) (past : List Stamped) (s t : State) → s.moment ≡ last → Tied setup past s → Sent setup past s →
     AreCalls log → Leads s log t → EventsMeet OutPart setup last past log
 outs_from setup cert go [] last past s t is tied sent calls leads = tt
 outs_from setup cert go (e ∷ log) last past s t is tied sent calls leads =
     let middle : State = leads.0 in
-    let noted : Tied setup past (at_moment s e.moment) = go.noted past s e.moment tied in
-    let left : Left setup (max s.moment e.moment) e.call past e.entries middle =
-    meets_answers setup (max s.moment e.moment) past (at_moment s e.moment) middle e.call e.answer e.entries cert calls.0 noted (sent_noted setup past s e.moment sent)
-    (go.within past s e calls.0 noted) leads.1 in
     let now : max s.moment e.moment ≡ moment_at last e = ap (λ (m : ℕ). max m e.moment) is in
-    let after = go.after past s middle e calls.0 tied leads.1 in (
-      subst (λ (m : ℕ). EntriesMeet OutPart setup m e.call past e.entries) now left.lines,
-      outs_from setup cert go log (moment_at last e) (onto (moment_at last e) e.entries past) middle t (after.1 ∙ now)
-          (subst (λ (m : ℕ). Tied setup (onto m e.entries past) middle) now after.0) (subst (λ (m : ℕ). Sent setup (onto m e.entries past) middle) now left.sent) calls.1 leads.2,
+    let start : List Stamped = begun (moment_at last e) e ∷ past in
+    let begins : Tied setup start s = tied_more setup past s (begun (moment_at last e) e) refl tied in
+    let noted : Tied setup start (at_moment s e.moment) = go.noted start s e.moment begins in
+    let left : Left setup (max s.moment e.moment) e.call start e.entries middle =
+    meets_answers setup (max s.moment e.moment) start (at_moment s e.moment) middle e.call e.answer e.entries cert calls.0 noted
+    (sent_noted setup start s e.moment (sent_begun setup past s (moment_at last e) e sent)) (go.within start s e calls.0 noted) leads.1 in
+    let after = go.after start s middle e calls.0 begins leads.1 in (
+      subst (λ (m : ℕ). EntriesMeet OutPart setup m e.call start e.entries) now left.lines,
+      outs_from setup cert go log (moment_at last e) (with_event (moment_at last e) e past) middle t (after.1 ∙ now)
+          (subst (λ (m : ℕ). Tied setup (onto m e.entries start) middle) now after.0) (subst (λ (m : ℕ). Sent setup (onto m e.entries start) middle) now left.sent) calls.1 leads.2,
     )
 
 -- each datagram of a log that an end stands for meets its line, where the agreement goes on

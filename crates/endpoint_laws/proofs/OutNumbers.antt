@@ -21,9 +21,10 @@ use Rattle.session_core.specs.declared.stage.Role.{Role}
 use Rattle.session_core.specs.declared.stage.Role.TheVariants.{Initiator, Responder}
 use Rattle.session_core.specs.Session.{SessionState, context_between, context_of}
 use Rattle.session_core.specs.Sealed.{number_bytes}
+use Rattle.endpoint_model.specs.Event.{Event}
 use Rattle.endpoint_model.specs.declared.entry.Entry.TheVariants.{Fact as FactEntry, Discard, Out}
 use Rattle.startup.specs.declared.cause.Cause.{Cause}
-use Rattle.endpoint_laws.specs.Past.{Stamped, stamped, facts_of}
+use Rattle.endpoint_laws.specs.Past.{Stamped, stamped, facts_of, begun}
 use Rattle.endpoint_model.specs.State.{Sessions}
 use Rattle.endpoint_model.specs.Sending.{last_count, startup_number}
 use Rattle.endpoint_laws.specs.Lawful.{WasNumbered, AsFarAs, nonces_of}
@@ -108,6 +109,16 @@ module _ (own : List ℕ) (past : List Stamped) (sealed : ℕ) (sessions : Sessi
 
   pub numbered_discard : (now at : ℕ) (cause : Cause) → Numbered own (stamped now (Discard at cause) ∷ past) sealed sessions
   numbered_discard now at cause = record {
+    few = n.few;
+    startup = λ number was. elim was [ inl b ↦ absurd b | inr w ↦ n.startup number w ];
+    known = λ context number was. elim was [ inl b ↦ absurd b | inr w ↦ n.known context number w ];
+    under = n.under;
+    few_in = n.few_in;
+    sent = λ near session e d number was. elim was [ inl b ↦ absurd b | inr w ↦ n.sent near session e d number w ];
+  }
+
+  pub numbered_begun : (now : ℕ) (e : Event) → Numbered own (begun now e ∷ past) sealed sessions
+  numbered_begun now e = record {
     few = n.few;
     startup = λ number was. elim was [ inl b ↦ absurd b | inr w ↦ n.startup number w ];
     known = λ context number was. elim was [ inl b ↦ absurd b | inr w ↦ n.known context number w ];

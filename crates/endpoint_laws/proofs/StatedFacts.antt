@@ -8,7 +8,7 @@ use Rattle.glare_core.proofs.Views.{view_same, view_other}
 use Rattle.endpoint_model.specs.Views.{fact_in}
 use Rattle.endpoint_model.specs.declared.entry.Entry.{Entry}
 use Rattle.endpoint_model.specs.Event.{Setup, own_of, Event, moment_at}
-use Rattle.endpoint_laws.specs.Past.{Stamped, stamped, onto, facts_of, last_moment, past_of, fact_and}
+use Rattle.endpoint_laws.specs.Past.{Stamped, stamped, onto, facts_of, last_moment, past_of, fact_and, begun, with_event}
 use Rattle.endpoint_laws.specs.Lawful.{EntriesLawful, LawfulFrom, nonces_of}
 use Rattle.endpoint_laws.specs.Laws.{IsCall, AreCalls}
 use Rattle.endpoint_laws.specs.History.{History, log_of, facts_at, TakesPart, nonces_in}
@@ -17,19 +17,19 @@ use Rattle.endpoint_model.proofs.Members.{tested}
 
 -- ---- a log and one event more
 
-pub past_more : (last : ℕ) (past : List Stamped) (log : List Event) (e : Event) → past_of last past (log ++ e ∷ []) ≡ onto (moment_at (last_moment last log) e) e.entries (past_of last past log)
+pub past_more : (last : ℕ) (past : List Stamped) (log : List Event) (e : Event) → past_of last past (log ++ e ∷ []) ≡ with_event (moment_at (last_moment last log) e) e (past_of last past log)
 past_more last past [] e = refl
-past_more last past (x ∷ log) e = past_more (moment_at last x) (onto (moment_at last x) x.entries past) log e
+past_more last past (x ∷ log) e = past_more (moment_at last x) (with_event (moment_at last x) x past) log e
 
 -- what is lawful before the last event, and that it is
 pub record LastLawful (setup : Setup) (last : ℕ) (past : List Stamped) (log : List Event) (e : Event) : Type 0 where
   pub before : LawfulFrom setup last past log
-  pub here : EntriesLawful setup (moment_at (last_moment last log) e) e.call (past_of last past log) e.entries
+  pub here : EntriesLawful setup (moment_at (last_moment last log) e) e.call (begun (moment_at (last_moment last log) e) e ∷ past_of last past log) e.entries
 
 pub lawful_more : (setup : Setup) (last : ℕ) (past : List Stamped) (log : List Event) (e : Event) → LawfulFrom setup last past (log ++ e ∷ []) → LastLawful setup last past log e
 lawful_more setup last past [] e l = record { before = tt; here = l.0 }
 lawful_more setup last past (x ∷ log) e l =
-    let rest = lawful_more setup (moment_at last x) (onto (moment_at last x) x.entries past) log e l.1 in
+    let rest = lawful_more setup (moment_at last x) (with_event (moment_at last x) x past) log e l.1 in
     record { before = (l.0, rest.before); here = rest.here }
 
 pub record LastCall (log : List Event) (e : Event) : Type 0 where
@@ -72,7 +72,7 @@ view_stated ends who (h ∷ earlier) alone =
       | inl d ↦
           let m : ℕ = moment_at (last_moment 0 log) h.event in
           ap (λ (w : ℕ). facts (view own (stated_onto (own_of (ends w)) h.event.entries (stated ends earlier)))) d.0
-          ∙ facts_onto own m h.event.entries (stated ends earlier) (past_of 0 [] log) ih ∙ ap facts_of (sym (past_more 0 [] log h.event))
+          ∙ facts_onto own m h.event.entries (stated ends earlier) (begun m h.event ∷ past_of 0 [] log) ih ∙ ap facts_of (sym (past_more 0 [] log h.event))
           ∙ ap (λ (b : Bool). facts_of (past_of 0 [] (if b then log ++ h.event ∷ [] else log))) (sym d.1)
       | inr d ↦
           facts_beside own (own_of (ends h.who)) h.event.entries (stated ends earlier) (λ e. d.0 (alone h.who (inl refl) e)) ∙ ih
@@ -102,4 +102,4 @@ nonces_onto own m (entry ∷ rest) before past older e =
 pub nonces_stated : (ends : ℕ → Setup) (history : History) → nonces (stated ends history) ≡ nonces_in history
 nonces_stated ends [] = refl
 nonces_stated ends (h ∷ earlier) =
-    nonces_onto (own_of (ends h.who)) (moment_at 0 h.event) h.event.entries (stated ends earlier) [] (nonces_in earlier) (nonces_stated ends earlier)
+    nonces_onto (own_of (ends h.who)) (moment_at 0 h.event) h.event.entries (stated ends earlier) (begun (moment_at 0 h.event) h.event ∷ []) (nonces_in earlier) (nonces_stated ends earlier)

@@ -25,7 +25,7 @@ use Rattle.endpoint_model.specs.declared.entry.Entry.TheVariants.{Fact as FactEn
 use Rattle.endpoint_model.specs.Views.{Sending, out_in}
 use Rattle.endpoint_model.specs.Event.{Setup, own_of, Receive, Answer, Began, Done, NotOpened, Refused,
     Stopped, OutOfMemory, Event, moment_at}
-use Rattle.endpoint_laws.specs.Past.{Stamped, facts_of, past_of, last_moment}
+use Rattle.endpoint_laws.specs.Past.{Stamped, facts_of, past_of, last_moment, out_done}
 use Rattle.endpoint_laws.specs.Contexts.{session_context}
 use Rattle.endpoint_model.specs.Keying.{IsFirst, chunks_of}
 use Rattle.endpoint_laws.specs.Admissible.{Admissible, Offer}
@@ -92,7 +92,7 @@ outs_in (entry ∷ rest) = out_count (out_in entry) + outs_in rest
 
 abbrev pub outs_of : List Stamped → ℕ
 outs_of [] = 0
-outs_of (s ∷ earlier) = out_count (out_in s.entry) + outs_of earlier
+outs_of (s ∷ earlier) = out_count (out_done s.what) + outs_of earlier
 
 -- Where the end with this log takes a datagram whose first initiator's keying is admissible by what
 -- the log says, and goes through this keying, the session of its offer is born and told in that

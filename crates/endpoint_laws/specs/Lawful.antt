@@ -29,7 +29,8 @@ use Rattle.endpoint_model.specs.Views.{Sending, fact_in, out_in}
 use Rattle.endpoint_model.specs.declared.config.Draws.{Draws}
 use Rattle.endpoint_model.specs.Event.{Setup, own_of, Call, OpenCall, ReceiveCall, open_in,
     cancel_in, receive_in, tick_in, Event, moment_at}
-use Rattle.endpoint_laws.specs.Past.{Stamped, stamped, onto, facts_of, is_in_use, WasDone}
+use Rattle.endpoint_laws.specs.Past.{Stamped, begun, stamped, with_event, out_done, facts_of,
+    is_in_use, WasDone}
 use Rattle.endpoint_laws.specs.Contexts.{ReadsUnder, HeldUnder, inward, outward, OpensUnder}
 use Rattle.endpoint_model.specs.Keying.{IsSigned, IsAmong, KeyingsAre, chunks_of, initiator_part,
     responder_part}
@@ -201,7 +202,7 @@ IsNumbered context number (Some sent) = (sent.context ≡ context) ×
 -- An earlier datagram went out in this context with this number.
 abbrev pub WasNumbered : Context → List ℕ → List Stamped → Type 0
 WasNumbered context number [] = ⊥
-WasNumbered context number (s ∷ earlier) = IsNumbered context number (out_in s.entry) ⊎
+WasNumbered context number (s ∷ earlier) = IsNumbered context number (out_done s.what) ⊎
     WasNumbered context number earlier
 
 -- the nonces of the attempts that were started, and of the sessions that were born
@@ -300,8 +301,8 @@ EntriesLawful setup now call past (entry ∷ rest) = Line setup now call past re
 abbrev pub LawfulFrom : Setup → ℕ → List Stamped → List Event → Type 0
 LawfulFrom setup last past [] = Unit {0}
 LawfulFrom setup last past (e ∷ events) =
-    EntriesLawful setup (moment_at last e) e.call past e.entries ×
-      LawfulFrom setup (moment_at last e) (onto (moment_at last e) e.entries past) events
+    EntriesLawful setup (moment_at last e) e.call (begun (moment_at last e) e ∷ past) e.entries ×
+      LawfulFrom setup (moment_at last e) (with_event (moment_at last e) e past) events
 
 abbrev pub IsLawful : Setup → List Event → Type 0
 IsLawful setup log = LawfulFrom setup 0 [] log

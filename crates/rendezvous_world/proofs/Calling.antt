@@ -13,7 +13,7 @@ use Rattle.glare_core.specs.Told.{AllDifferent}
 use Rattle.endpoint_model.specs.declared.config.Draws.{Draws}
 use Rattle.endpoint_model.specs.declared.entry.Entry.{Entry}
 use Rattle.endpoint_model.specs.Event.{Setup, own_of, Receive, Event, moment_at}
-use Rattle.endpoint_laws.specs.Past.{facts_of, onto}
+use Rattle.endpoint_laws.specs.Past.{facts_of, onto, begun, with_event}
 use Rattle.endpoint_model.specs.State.{State, at_moment}
 use Rattle.endpoint_laws.specs.OpensIn.{opens_in}
 use Rattle.endpoint_laws.specs.Lawful.{nonces_of}
@@ -142,9 +142,9 @@ draws_line ends number datagram (Tick end) entries h = inl h
 
 -- the nonces of an event
 nonces_of_event : (e : Event) (nonce : List ℕ) → Once nonce e.entries →
-    (nonces_of (facts_of (onto (moment_at 0 e) e.entries [])) ≡ []) ⊎ (nonces_of (facts_of (onto (moment_at 0 e) e.entries [])) ≡ nonce ∷ [])
-nonces_of_event e nonce (inl none) = inl (nonces_none (moment_at 0 e) e.entries [] none)
-nonces_of_event e nonce (inr one) = inr (nonces_once (moment_at 0 e) e.entries [] nonce refl one)
+    (nonces_of (facts_of (with_event (moment_at 0 e) e [])) ≡ []) ⊎ (nonces_of (facts_of (with_event (moment_at 0 e) e [])) ≡ nonce ∷ [])
+nonces_of_event e nonce (inl none) = inl (nonces_none (moment_at 0 e) e.entries (begun (moment_at 0 e) e ∷ []) none)
+nonces_of_event e nonce (inr one) = inr (nonces_once (moment_at 0 e) e.entries (begun (moment_at 0 e) e ∷ []) nonce refl one)
 
 -- ---- honest
 
@@ -292,7 +292,7 @@ module _ (w : Seen) (line : JournalLine) (end : EndSeen) (state : State) (is : I
 
   fresh_now : Fresh (nonces_in (h ∷ history_of w))
   fresh_now =
-      fresh_after (nonces_of (facts_of (onto (moment_at 0 h.event) h.event.entries [])))
+      fresh_after (nonces_of (facts_of (with_event (moment_at 0 h.event) h.event [])))
       (nonces_of_event h.event nonce
       (draws_line w.ends line.line line.datagram line.step line.out.entries (answers_draw (at_moment end.state h.event.moment) state h.event.call h.event.answer h.event.entries next.event)))
 
