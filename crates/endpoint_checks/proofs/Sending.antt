@@ -64,7 +64,7 @@ sends_refused setup moment c to sent context = record {
 pub numbers_refused : TheTableRefusesNumbers
 numbers_refused setup moment c d first second sent again e = record {
   in_startup = λ h. let line = h.0.1.0 in line.once tt (inl (refl, e ∙ number_is _ _ again Startup line));
-  in_two_calls = λ h. let line = h.1.0.0 in line.once tt (inl (refl, e ∙ number_is _ _ again Startup line));
+  in_two_calls = λ h. let line = h.1.0.0 in line.once tt (inr (inl (refl, e ∙ number_is _ _ again Startup line)));
   in_session = λ peer ni near x y fp_i fp_r sid_i sid_r to_responder h.
       let line = h.1.0.1.0 in line.once (λ none. none, tt) (inl (refl, e ∙ number_is _ _ again (Session x y fp_i fp_r sid_i sid_r to_responder) line));
 }
