@@ -41,16 +41,6 @@ pub record IsAdded (before after : Added) (entries : List Entry) : Type 0 where
   pub free : before.free ≤ after.free + length entries
   pub room : after.room ≡ before.room
 
--- room was found, and then a thing was done
-pub roomier : (d : Did) (new : State) (before between after : Added) → between.entries ≡ before.entries → before.free ≤ between.free → between.room ≡ before.room →
-    Done d new between after → Done d new before after
-roomier d new before between after same more room done = record {
-  state = done.state;
-  entries = done.entries ∙ ap (λ xs. xs ++ d.entries) same;
-  free = omega (arith, done.free, more);
-  room = done.room ∙ room;
-}
-
 -- one more entry
 pub one_added : (before between after : Added) (entries : List Entry) (entry : Entry) → between.entries ≡ before.entries ++ entries → before.free ≤ between.free + length entries → between.room ≡ before.room →
     after.entries ≡ between.entries ++ entry ∷ [] → between.free ≤ after.free + 1 → after.room ≡ between.room → IsAdded before after (entries ++ entry ∷ [])
@@ -252,6 +242,3 @@ none_done s t out is = (0, record { state = is; entries = (done_nothing s out).e
 pub one_done : (s t new : State) (before between after : Added) → SomeDone s t before between → Done (tick_once t) new between after → SomeDone s new before after
 one_done s t new before between after some done =
     (suc some.0, subst (λ d. Done d new before after) (sym (ticks_more some.0 s)) (steps_joined (ticks some.0 s) tick_once t new before between after some.1 done))
-
-pub still_done : (s t new : State) (before between after : Added) → SomeDone s t before between → Done (nothing t) new between after → SomeDone s new before after
-still_done s t new before between after some done = (some.0, done_still (ticks some.0 s) t new before between after some.1 done)

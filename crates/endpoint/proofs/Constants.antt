@@ -38,23 +38,13 @@ either false s t u p q = q
 
 -- ---- attempts
 
-pub begin_keeps : (s : StartupState) (peer : List ℕ) (candidates : List AddressParts) (near : ℕ) (ni tag : List ℕ) (moment : ℕ) →
-    IsSameEnd s (after_begin s peer candidates near ni tag moment)
-begin_keeps s peer candidates near ni tag moment = record { secret_is = refl; own_is = refl }
-
 ended : (s : StartupState) (found : Option (ℕ × AttemptState)) (why : Why) → IsSameEnd s (after_end_of s found why)
 ended s None why = same s
 ended s (Some e) why = record { secret_is = refl; own_is = refl }
 
-pub cancel_keeps : (s : StartupState) (n : ℕ) → IsSameEnd s (after_cancel s n)
-cancel_keeps s n = ended s (lowest (has_number n) s.attempts) Cancelled
-
 noted_keeps : (s : StartupState) (fact : Option Fact) → IsSameEnd s (with_ledger s (noted_if s.ledger fact))
 noted_keeps s None = record { secret_is = refl; own_is = refl }
 noted_keeps s (Some fact) = record { secret_is = refl; own_is = refl }
-
-pub confirm_keeps : (s : StartupState) (peer : List ℕ) → IsSameEnd s (after_confirm s peer)
-confirm_keeps s peer = noted_keeps s (confirm_fact s peer)
 
 answered_keeps : (s : StartupState) (found : Option (ℕ × AttemptState)) (from : AddressParts) (cookie : List ℕ) (moment : ℕ) → IsSameEnd s (after_answer s found from cookie moment)
 answered_keeps s None from cookie moment = same s
@@ -63,24 +53,7 @@ answered_keeps s (Some e) from cookie moment = record { secret_is = refl; own_is
 pub rhello_keeps : (s : StartupState) (tag cookie : List ℕ) (from : AddressParts) (moment : ℕ) → IsSameEnd s (after_rhello s tag cookie from moment)
 rhello_keeps s tag cookie from moment = answered_keeps s (lowest (has_tag tag) s.attempts) from cookie moment
 
-changed_keeps : (s : StartupState) (found : Option (ℕ × AttemptState)) (cookie : List ℕ) (moment : ℕ) → IsSameEnd s (after_change s found cookie moment)
-changed_keeps s None cookie moment = same s
-changed_keeps s (Some e) cookie moment = record { secret_is = refl; own_is = refl }
-
-pub cookie_change_keeps : (s : StartupState) (sid : ℕ) (old new : List ℕ) (moment : ℕ) → IsSameEnd s (after_cookie_change s sid old new moment)
-cookie_change_keeps s sid old new moment = changed_keeps s (changed s.attempts sid old) new moment
-
 -- ---- time
-
-due_of_keeps : (s : StartupState) (moment : ℕ) (found : Option (ℕ × AttemptState)) → IsSameEnd s (after_due_of s moment found)
-due_of_keeps s moment None = same s
-due_of_keeps s moment (Some e) =
-    either (is_over moment e.1) s (without_attempt s e.0 (ended_attempt e Expired)) (with_attempt s e.0 (repeated e.1 moment))
-    (record { secret_is = refl; own_is = refl })
-    (record { secret_is = refl; own_is = refl })
-
-pub due_keeps : (s : StartupState) (moment : ℕ) → IsSameEnd s (after_due s moment)
-due_keeps s moment = due_of_keeps s moment (lowest (is_due moment) s.attempts)
 
 -- ---- keyings
 

@@ -37,9 +37,6 @@ is_opened keys old new long is =
 
 -- ---- in the startup context
 
-refused_by : Bool → Bool → Option SealFault
-refused_by short right = if short then Some Short else if right then None else Some BadTag
-
 pub not_short : (keys : Keys) (sid : ℕ) (part : List ℕ) → open_refusal keys sid part ≡ None → 32 ≤ length part
 not_short keys sid part none = elim (cases_lt (length part) 32) [
   | inl lt ↦

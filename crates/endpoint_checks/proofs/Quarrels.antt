@@ -92,9 +92,6 @@ module _ (ends : ℕ → Setup) (s t : Joined) (differ : own_of (ends 0) ≢ own
   abbrev opening : Step
   opening = step x (Did (Opened s) no_generation)
 
-  abbrev opening_back : Step
-  opening_back = step y (Did (Opened t) no_generation)
-
   abbrev confirm : Step
   confirm = step y (Did (Confirmed t.peer t.near) no_generation)
 

@@ -193,9 +193,6 @@ pub record Leaves (setup : Setup) (past : List Stamped) (s : State) (datagram : 
   pub moment : t.moment ≡ s.moment
   pub heard : HeardAt t place datagram
 
-abbrev HeardStays : List ℕ → ℕ → Option SessionState → Option SessionState → Type 0
-HeardStays datagram near old new = HeardIn datagram near old → HeardIn datagram near new
-
 counted_leaves : (setup : Setup) (past : List Stamped) (s : State) (datagram part : List ℕ) (near : ℕ) (o : Option SessionState) → get s.sessions near ≡ o → Tied setup past s → HeardIn datagram near o →
     Leaves setup past s datagram (Session near) (counted_by s near part o)
 counted_leaves setup past s datagram part near None is tied heard = record { tied = tied; moment = refl; heard = subst (HeardIn datagram near) (sym is) heard }

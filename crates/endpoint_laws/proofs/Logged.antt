@@ -70,11 +70,6 @@ pub received_go : (setup : Setup) (past : List Stamped) (s : State) (from : Addr
 received_go setup past s from datagram draws is fits tied =
     received_goes setup from datagram draws is.sessions fits.2 past s tied (admission s datagram) (admission_is setup past s datagram tied (of_bytes datagram fits.0))
 
-pub part_go : (setup : Setup) (past : List Stamped) (s : State) (from : AddressParts) (datagram : List ℕ) (draws : Draws) → IsSetup setup → IsCall (Receive from datagram draws) → Tied setup past s → (count : ℕ) →
-    Goes setup (Receive from datagram draws) past s (part_received from draws (admission s datagram) count)
-part_go setup past s from datagram draws is fits tied count =
-    part_goes setup from datagram draws is.sessions fits.2 past s tied count (admission s datagram) (admission_is setup past s datagram tied (of_bytes datagram fits.0))
-
 -- ---- calls
 
 -- what an event leaves

@@ -105,15 +105,6 @@ pub meets_answer : (setup : Setup) (now : ℕ) (call : Call) (past : List Stampe
     (answer : Answer) → MayGo setup past answer.sid answer.plain → Meets setup now call past (sent_answer s answer)
 meets_answer setup now call past s sent secret own answer may = meets_startup setup now call past s sent secret own answer.to answer.sid answer.plain may
 
-abbrev MayGoIf : Setup → List Stamped → Option Answer → Type 0
-MayGoIf setup past None = Unit {0}
-MayGoIf setup past (Some answer) = MayGo setup past answer.sid answer.plain
-
-pub meets_if : (setup : Setup) (now : ℕ) (call : Call) (past : List Stamped) (s : State) → Sent setup past s → s.startup.secret ≡ setup.secret → s.startup.ledger.own ≡ own_of setup →
-    (o : Option Answer) → MayGoIf setup past o → Meets setup now call past (sent_if s o)
-meets_if setup now call past s sent secret own None may = meets_nothing setup now call past s sent
-meets_if setup now call past s sent secret own (Some answer) may = meets_answer setup now call past s sent secret own answer may
-
 startup_stays : (b : Bool) (s : State) (entries : List Entry) → ◌≡◌ {A = StartupState} ((if b then nothing s else record { state = with_sealed s (s.sealed + 1); entries = entries }).state.startup) s.startup
 startup_stays true s entries = refl
 startup_stays false s entries = refl

@@ -120,9 +120,6 @@ pub record IsGone (place : Place) (from : AddressParts) (draws : Draws) (s : Sta
   pub walk_is : walk ≡ walk_through outset (take count all)
   pub done : Done (chunks_did place from draws outset s (take count all)) t before after
 
-pub none_gone : (place : Place) (from : AddressParts) (draws : Draws) (s : State) (all : List Placed) (out : Added) → IsGone place from draws s all out 0 outset all s out
-none_gone place from draws s all out = record { left_are = refl; walk_is = refl; done = done_nothing s out }
-
 pub one_gone : (place : Place) (from : AddressParts) (draws : Draws) (s t new : State) (all : List Placed) (before between after : Added) (count : ℕ) (walk : Walk) (c : Placed) (rest : List Placed) →
     IsGone place from draws s all before count walk (c ∷ rest) t between → Done (chunk_did place from draws walk t c) new between after →
     IsGone place from draws s all before (count + 1) (walked walk c) rest new after
@@ -138,13 +135,3 @@ one_gone place from draws s t new all before between after count walk c rest gon
       walk_is = ap (λ k. walked k c) gone.walk_is ∙ sym (walk_more outset (take count all) c) ∙ ap (walk_through outset) (sym taken);
       done = subst (λ d. Done d new before after) same (joined first next t new before between after gone.done did);
     }
-
-pub all_gone : (place : Place) (from : AddressParts) (draws : Draws) (s t : State) (all : List Placed) (before after : Added) (count : ℕ) (walk : Walk) →
-    IsGone place from draws s all before count walk [] t after → Done (chunks_did place from draws outset s all) t before after
-all_gone place from draws s t all before after count walk gone =
-    subst (λ cs. Done (chunks_did place from draws outset s cs) t before after) (take_whole count all gone.left_are) gone.done
-
--- a thing, and then nothing
-pub done_still : (d : Did) (middle new : State) (before between after : Added) → Done d middle before between → Done (nothing middle) new between after → Done d new before after
-done_still d middle new before between after first second =
-    subst (λ e. Done e new before after) (then_nothing d) (joined d nothing middle new before between after first second)

@@ -1,7 +1,6 @@
 -- An outbox, as contracts see it.
-use Rattle.std.specs.Prelude.{ℕ, ◌≤◌, IfSome, List, length, refl}
+use Rattle.std.specs.Prelude.{ℕ, ◌≤◌, IfSome, List, length}
 use Rattle.std.specs.List.{All}
-use Rattle.std.specs.Coded.{Coded, code_by, coded×, coded_ℕ, coded_list}
 use Rattle.endpoint_model.specs.declared.entry.Entry.{Entry}
 use Rattle.endpoint_model.specs.Views.{out_in}
 
@@ -19,8 +18,3 @@ pub record Added : Type 0 where
   pub free : ℕ
   -- how many can be added after all are dropped, at least
   pub room : ℕ
-
-abbrev pub added_code : Coded Entry → Coded Added
-added_code entry = code_by (List Entry × (ℕ × ℕ))
-    (coded× (coded_list entry) (coded× coded_ℕ coded_ℕ)) (λ a. (a.entries, (a.free, a.room)))
-    (λ p. record { entries = p.0; free = p.1.0; room = p.1.1 }) (λ _. refl)

@@ -1,6 +1,5 @@
 -- What each call of an end does, item by item.
-use Rattle.std.specs.Prelude.{IsSome, ℕ, zero, suc, ◌+◌, ◌⊎◌, ◌==◌, ◌||◌, ◌≡◌, nat_lt, Bool, false,
-    if◌then◌else◌, List, [], ◌∷◌, ◌++◌, length, take, Option, Some, None, Result, Ok, Err}
+use Rattle.std.specs.Prelude.{IsSome, ℕ, zero, suc, ◌+◌, ◌⊎◌, ◌==◌, ◌||◌, ◌≡◌, nat_lt, false, if◌then◌else◌, List, [], ◌∷◌, ◌++◌, length, take, Option, Some, None, Result, Ok, Err}
 use Rattle.std.specs.FinMap.{remove, insert}
 use Rattle.rtmfp_forms.specs.Address.{AddressParts}
 use Rattle.rtmfp_chunks.specs.declared.reading.ChunkFault.{ChunkFault}

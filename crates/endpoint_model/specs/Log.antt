@@ -1,7 +1,5 @@
 -- The log of an end: its calls, their answers and what they added, and the states that it leads to.
-use Rattle.std.specs.Prelude.{ℕ, ◌+◌, ◌<◌, ◌≡◌, Bool, true, false, if◌then◌else◌, List, [], ◌∷◌,
-    ◌++◌, drop, length, Option, Some, None, IsSome, IfSome, IfNone, OnOk, IfErr, IsOk, ◌≤◌, Result,
-    Ok, Err}
+use Rattle.std.specs.Prelude.{ℕ, ◌+◌, ◌<◌, ◌≡◌, true, false, if◌then◌else◌, List, [], ◌∷◌, ◌++◌, drop, length, Option, Some, None, IsSome, IfSome, IfNone, OnOk, IfErr, IsOk, ◌≤◌, Result, Ok, Err}
 use Rattle.rtmfp_base.specs.declared.memory.Memory.{Memory}
 use Rattle.rtmfp_forms.specs.Address.{AddressParts}
 use Rattle.startup.specs.Attempts.{cancel_fact}
@@ -27,10 +25,6 @@ use Rattle.endpoint_model.specs.Due.{open_refusal, opening, cancelling, ticks, r
 abbrev pub not_opened : Option OpenRefusal → OpenRefusal
 not_opened None = NoMemoryToOpen
 not_opened (Some refusal) = refusal
-
--- a number that no held attempt has, or no memory
-abbrev pub not_cancelled : Bool → CallRefusal
-not_cancelled held = if held then NoMemory else NoAttempt
 
 -- No memory was found before the datagram was taken: for the discard of one that is refused, or for
 -- the Confirmed of one that confirms a session.
