@@ -9,8 +9,8 @@ use Rattle.rtmfp_data_chunks.specs.declared.view.DataFault.TheVariants.{Unknown,
 use Rattle.rtmfp_data_chunks.specs.Chunk.{DataChunk, AckBitmap, AckRanges, Probe, Exception}
 use Rattle.rtmfp_data_chunks.specs.Fields.{NumbersSpell, NumbersBreak}
 use Rattle.rtmfp_data_chunks.specs.Acks.{BitsPass, PairsBreak}
-use Rattle.rtmfp_data_chunks.specs.Spelling.{BitmapSpells, RangesSpell, AckBreaks, NumbersStand, DataReading}
-use Rattle.rtmfp_data_chunks.specs.Reader.{numbers_then, passing_byte, bits_checked, bitmap_then, pairs_then, ranges_then, probe_then, exception_then}
+use Rattle.rtmfp_data_chunks.specs.Spelling.{BitmapSpells, AckRangesSpell, AckBreaks, NumbersStand, DataReading}
+use Rattle.rtmfp_data_chunks.specs.Reader.{numbers_then, passing_byte, bits_checked, bitmap_then, pairs_then, ack_ranges_then, probe_then, exception_then}
 use Rattle.rtmfp_data_chunks.proofs.Numbers.{bytes_behind, NumbersAre, numbers_are, numbers_found, numbers_broken}
 use Rattle.rtmfp_data_chunks.proofs.Bits.{bits_fit, bits_pass, bits_fit_again, bits_pass_again}
 use Rattle.rtmfp_data_chunks.proofs.Pairs.{PairsAre, pairs_are, pairs_found, pairs_broken}
@@ -86,7 +86,7 @@ walk_behind b numbers = pairs_then (length b) (get_or numbers.0 2 0) numbers.1 >
 
 ranges_are : (last : Option Numbers) (flow blocks upto : ℕ) (b numbers pairs : List ℕ) (r : Result ℕ DataFault) → b ≡ numbers ++ pairs → NumbersSpell (flow ∷ blocks ∷ upto ∷ []) numbers
     → PairsAre upto (length b - length pairs) pairs r → DataReading last 0x51 b (r >>= after_walk (flow ∷ blocks ∷ upto ∷ [], pairs))
-ranges_are last flow blocks upto b numbers pairs (Ok end) e h p = (refl, record { numbers = numbers; stretches = p.0; spell = h; tell = p.1; whole = e })
+ranges_are last flow blocks upto b numbers pairs (Ok end) e h p = (refl, record { numbers = numbers; spans = p.0; spell = h; tell = p.1; whole = e })
 ranges_are last flow blocks upto b numbers pairs (Err (Unknown told)) e h p = absurd p
 ranges_are last flow blocks upto b numbers pairs (Err (Malformed place)) e h p = inr (inr (inr (inl (
   refl,
@@ -121,18 +121,18 @@ ranges_behind last b (Err (Unknown told)) fits n = absurd n
 ranges_behind last b (Err (Malformed place)) fits n = inr (inr (inr (inl (refl, inl (at_front 3 b n.0 place n.1 n.2)))))
 ranges_behind last b (Err (BadOffset place)) fits n = absurd n
 
-pub ranges_is : (last : Option Numbers) (b : List ℕ) → IsBytes b → DataReading last 0x51 b (ranges_then b)
-unfolding ranges_then
+pub ranges_is : (last : Option Numbers) (b : List ℕ) → IsBytes b → DataReading last 0x51 b (ack_ranges_then b)
+unfolding ack_ranges_then
 ranges_is last b fits = ranges_behind last b (numbers_then 3 (length b) b) fits (numbers_are 3 (length b) b fits (omega arith))
 
-pub ranges_found : (flow blocks upto : ℕ) (pairs b : List ℕ) → RangesSpell flow blocks upto pairs b → ranges_then b ≡ Ok (AckRanges flow blocks upto pairs)
-unfolding ranges_then pairs_then
+pub ranges_found : (flow blocks upto : ℕ) (pairs b : List ℕ) → AckRangesSpell flow blocks upto pairs b → ack_ranges_then b ≡ Ok (AckRanges flow blocks upto pairs)
+unfolding ack_ranges_then pairs_then
 ranges_found flow blocks upto pairs b h =
     let shorter : length pairs ≤ length b = omega (arith, ap length h.whole, length-append h.numbers pairs) in
-    rw (numbers_found (flow ∷ blocks ∷ upto ∷ []) (length b) b h.numbers pairs h.whole h.spell, pairs_found (suc (length pairs)) (length b) upto h.stretches pairs h.tell (omega arith) shorter) refl
+    rw (numbers_found (flow ∷ blocks ∷ upto ∷ []) (length b) b h.numbers pairs h.whole h.spell, pairs_found (suc (length pairs)) (length b) upto h.spans pairs h.tell (omega arith) shorter) refl
 
-pub ranges_broken : (b : List ℕ) (at : ℕ) → NumbersBreak 3 b at ⊎ AckBreaks PairsBreak b at → ranges_then b ≡ Err (Malformed at)
-unfolding ranges_then pairs_then
+pub ranges_broken : (b : List ℕ) (at : ℕ) → NumbersBreak 3 b at ⊎ AckBreaks PairsBreak b at → ack_ranges_then b ≡ Err (Malformed at)
+unfolding ack_ranges_then pairs_then
 ranges_broken b at (inl h) = rw (front_broken 3 b at h) refl
 ranges_broken b at (inr h) =
     let shorter : length h.rest ≤ length b = omega (arith, ap length h.whole, length-append h.numbers h.rest) in

@@ -31,7 +31,7 @@ one_turn steps size above (x ∷ xs) some = refl
 -- ---- what the walk gives is so
 
 abbrev pub PairsAre : ℕ → ℕ → List ℕ → Result ℕ DataFault → Type 0
-PairsAre above at b (Ok end) = (stretches : List (ℕ × ℕ)) × PairsTell above stretches b × (end ≡ last_told above stretches)
+PairsAre above at b (Ok end) = (spans : List (ℕ × ℕ)) × PairsTell above spans b × (end ≡ last_told above spans)
 PairsAre above at b (Err (Unknown told)) = ⊥
 PairsAre above at b (Err (Malformed place)) = (within : ℕ) × PairsBreak above b within × (place ≡ at + within)
 PairsAre above at b (Err (BadOffset place)) = ⊥
@@ -51,7 +51,7 @@ first_told above h r size b pair rest (Err (Malformed place)) e spells fits le m
     let told : NumbersSpell (((above + h + 2) - (above + 2)) ∷ ((above + h + 2 + r) - (above + h + 2)) ∷ []) pair = rw (holes, received) spells in (
       length pair + m.0,
       record {
-        stretches = (above + h + 2, above + h + 2 + r) ∷ m.1.stretches;
+        spans = (above + h + 2, above + h + 2 + r) ∷ m.1.spans;
         front = pair ++ m.1.front;
         rest = m.1.rest;
         within = m.1.within;
@@ -63,14 +63,6 @@ first_told above h r size b pair rest (Err (Malformed place)) e spells fits le m
       omega (arith, m.2, le, ap length e, length-append pair rest),
     )
 first_told above h r size b pair rest (Err (BadOffset place)) e spells fits le m = m
-
--- no pair is good
-none_told : (above at : ℕ) (b : List ℕ) (within : ℕ) → PairBreaks above b within → PairsAre above at b (Err (Malformed (at + within)))
-none_told above at b within breaks = (
-  within,
-  record { stretches = []; front = []; rest = b; within = within; whole = refl; told = refl; breaks = breaks; place = omega arith },
-  refl,
-)
 
 pair_read : (steps size above : ℕ) (b : List ℕ) (r : Result (List ℕ × List ℕ) DataFault) → IsBytes b → length b ≤ size → 0 < length b → length b < suc steps
     → ((up : ℕ) (t : List ℕ) → IsBytes t → length t ≤ size → length t < steps → PairsAre up (size - length t) t (walk_within steps size up t))
@@ -87,7 +79,7 @@ pair_read steps size above b (Ok (h ∷ r ∷ [], rest)) fits le some lt ih n =
       | inr past ↦ rw (le-ltb (above + h + 2 + r) (2 ^ 64) past) (
         0,
         record {
-          stretches = [];
+          spans = [];
           front = [];
           rest = b;
           within = 0;
@@ -103,7 +95,7 @@ pair_read steps size above b (Ok (h ∷ r ∷ q ∷ qs, rest)) fits le some lt i
 pair_read steps size above b (Err (Unknown told)) fits le some lt ih n = n
 pair_read steps size above b (Err (Malformed place)) fits le some lt ih n = (
   n.0,
-  record { stretches = []; front = []; rest = b; within = n.0; whole = refl; told = refl; breaks = (some, inl n.1); place = omega arith },
+  record { spans = []; front = []; rest = b; within = n.0; whole = refl; told = refl; breaks = (some, inl n.1); place = omega arith },
   n.2,
 )
 pair_read steps size above b (Err (BadOffset place)) fits le some lt ih n = n
@@ -117,10 +109,10 @@ pairs_are (suc steps) size above (x ∷ xs) fits le lt =
 
 -- ---- what is so is what the walk gives
 
-pub pairs_found : (steps size above : ℕ) (stretches : List (ℕ × ℕ)) (b : List ℕ) → PairsTell above stretches b → length b < steps → length b ≤ size
-    → walk_within steps size above b ≡ Ok (last_told above stretches)
+pub pairs_found : (steps size above : ℕ) (spans : List (ℕ × ℕ)) (b : List ℕ) → PairsTell above spans b → length b < steps → length b ≤ size
+    → walk_within steps size above b ≡ Ok (last_told above spans)
 unfolding walk_within
-pairs_found zero size above stretches b h lt le = absurd (omega (arith, lt))
+pairs_found zero size above spans b h lt le = absurd (omega (arith, lt))
 pairs_found (suc steps) size above [] b h lt le = rw h refl
 pairs_found (suc steps) size above (s ∷ ss) b (pair, rest, e, low, high, fits, spells, others) lt le =
     let sum : length b ≡ length pair + length rest = ap length e ∙ length-append pair rest in
@@ -138,9 +130,9 @@ broken_first steps size above b within (some, inr (p, place)) le =
     ∙ rw (numbers_found (p.holes ∷ p.received ∷ []) size b p.pair p.rest p.whole p.spell, le-ltb (above + p.holes + 2 + p.received) (2 ^ 64) p.passes)
     (ap (λ (n : ℕ). Err (Malformed n)) same)
 
-broken_behind : (steps size above : ℕ) (stretches : List (ℕ × ℕ)) (b front rest : List ℕ) (within : ℕ) → b ≡ front ++ rest → PairsTell above stretches front
-    → PairBreaks (last_told above stretches) rest within → length b < steps → length b ≤ size → walk_within steps size above b ≡ Err (Malformed (size - length b + (length front + within)))
-broken_behind zero size above stretches b front rest within e told breaks lt le = absurd (omega (arith, lt))
+broken_behind : (steps size above : ℕ) (spans : List (ℕ × ℕ)) (b front rest : List ℕ) (within : ℕ) → b ≡ front ++ rest → PairsTell above spans front
+    → PairBreaks (last_told above spans) rest within → length b < steps → length b ≤ size → walk_within steps size above b ≡ Err (Malformed (size - length b + (length front + within)))
+broken_behind zero size above spans b front rest within e told breaks lt le = absurd (omega (arith, lt))
 broken_behind (suc steps) size above [] b front rest within e told breaks lt le =
     let whole : b ≡ rest = e ∙ ap (λ (t : List ℕ). t ++ rest) told in
     let P : List ℕ → Type 0 = λ t. PairBreaks above t within in
@@ -158,7 +150,7 @@ broken_behind (suc steps) size above (s ∷ ss) b front rest within e (pair, oth
 
 pub pairs_broken : (steps size above : ℕ) (b : List ℕ) (within : ℕ) → PairsBreak above b within → length b < steps → length b ≤ size → walk_within steps size above b ≡ Err (Malformed (size - length b + within))
 pairs_broken steps size above b within h lt le =
-    broken_behind steps size above h.stretches b h.front h.rest h.within h.whole h.told h.breaks lt le ∙ ap (λ (n : ℕ). Err (Malformed (size - length b + n))) (sym h.place)
+    broken_behind steps size above h.spans b h.front h.rest h.within h.whole h.told h.breaks lt le ∙ ap (λ (n : ℕ). Err (Malformed (size - length b + n))) (sym h.place)
 
 -- so any number of steps that is enough gives the same
 

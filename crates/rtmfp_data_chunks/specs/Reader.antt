@@ -134,8 +134,8 @@ walk_within (suc steps) size above (b ∷ bs) = do
 unfoldable pub pairs_then : ℕ → ℕ → List ℕ → Result ℕ DataFault
 pairs_then size above b = walk_within (suc (length b)) size above b
 
-unfoldable pub ranges_then : List ℕ → Result DataChunk DataFault
-ranges_then b = do
+unfoldable pub ack_ranges_then : List ℕ → Result DataChunk DataFault
+ack_ranges_then b = do
   numbers ← numbers_then 3 (length b) b
   end ← pairs_then (length b) (get_or numbers.0 2 0) numbers.1
   Ok (AckRanges (get_or numbers.0 0 0) (get_or numbers.0 1 0) (get_or numbers.0 2 0) numbers.1)
@@ -157,7 +157,7 @@ data_at last kind b =
     if kind == 0x10 then data_then b >>= (λ user. Ok (Data user))
     else if kind == 0x11 then next_then last b >>= (λ user. Ok (Next user))
     else if kind == 0x50 then bitmap_then b
-    else if kind == 0x51 then ranges_then b
+    else if kind == 0x51 then ack_ranges_then b
     else if kind == 0x18 then probe_then b
     else if kind == 0x5e then exception_then b
     else Err (Unknown kind)

@@ -109,11 +109,11 @@ pub record BitmapSpells (flow blocks upto : ℕ) (bits b : List ℕ) : Type 0 wh
   pub fit : BitsFit upto bits
   pub whole : b ≡ numbers ++ bits
 
-pub record RangesSpell (flow blocks upto : ℕ) (pairs b : List ℕ) : Type 0 where
+pub record AckRangesSpell (flow blocks upto : ℕ) (pairs b : List ℕ) : Type 0 where
   pub numbers : List ℕ
-  pub stretches : List (ℕ × ℕ)
+  pub spans : List (ℕ × ℕ)
   pub spell : NumbersSpell (flow ∷ blocks ∷ upto ∷ []) numbers
-  pub tell : PairsTell upto stretches pairs
+  pub tell : PairsTell upto spans pairs
   pub whole : b ≡ numbers ++ pairs
 
 -- what follows the cumulative number breaks so, at an offset from there
@@ -151,7 +151,7 @@ abbrev pub PayloadSpells : DataChunk → Option Numbers → List ℕ → Type 0
 PayloadSpells (Data user) last b = UserSpells user b
 PayloadSpells (Next user) last b = NextSpells user last b
 PayloadSpells (AckBitmap flow blocks upto bits) last b = BitmapSpells flow blocks upto bits b
-PayloadSpells (AckRanges flow blocks upto pairs) last b = RangesSpell flow blocks upto pairs b
+PayloadSpells (AckRanges flow blocks upto pairs) last b = AckRangesSpell flow blocks upto pairs b
 PayloadSpells (Probe flow) last b = NumbersStand (flow ∷ []) b
 PayloadSpells (Exception flow code) last b = NumbersStand (flow ∷ code ∷ []) b
 

@@ -17,8 +17,8 @@ abbrev pub IsDataChunk : DataChunk → Type 0
 IsDataChunk (Data user) = IsBehind user.forward user.seq user.abandon
 IsDataChunk (Next user) = IsBehind user.forward user.seq user.abandon
 IsDataChunk (AckBitmap flow blocks upto bits) = BitsFit upto bits
-IsDataChunk (AckRanges flow blocks upto pairs) = (stretches : List (ℕ × ℕ)) ×
-    PairsTell upto stretches pairs
+IsDataChunk (AckRanges flow blocks upto pairs) = (spans : List (ℕ × ℕ)) ×
+    PairsTell upto spans pairs
 IsDataChunk (Probe flow) = Unit {0}
 IsDataChunk (Exception flow code) = Unit {0}
 

@@ -10,7 +10,7 @@ mod user_data;
 mod view;
 mod writing;
 
-pub use acked::AckedRanges;
+pub use acked::AckedSpans;
 pub use cursor::DataCursor;
 pub use user_data::{Part, UserData};
 pub use view::{DataFault, DataView};

@@ -1,6 +1,6 @@
 use Rattle.std.proofs.Common.{◌≡◌, ◌+◌, ◌-◌, ◌∙◌, ℕ, ap, arith}
-use Rattle.rtmfp_data_chunks.specs.Acked.{is_set, runs}
-use Rattle.rtmfp_data_chunks.proofs.RunLaws.{passes_over}
+use Rattle.rtmfp_data_chunks.specs.Acked.{is_set, spans_where}
+use Rattle.rtmfp_data_chunks.proofs.SpanLaws.{passes_over}
 use Rattle.rtmfp_data_chunks.proofs.acked.skip_unset.Goals as goal
 
 pub loop-rest-preserved : goal.loop-rest-preserved
@@ -11,6 +11,6 @@ loop-rest-preserved c =
     let place : r.upto + 2 + (r.at + k) ≡ r.upto + 2 + r.at + k = omega arith in
     record {
       there = omega (arith, c.loop-rest.invariant.there, c.min-unset.ensures);
-      same = ap (λ (n : ℕ). runs test n (r.left - k)) place
+      same = ap (λ (n : ℕ). spans_where test n (r.left - k)) place
           ∙ (passes_over test k (r.upto + 2 + r.at) r.left (omega (arith, c.min-unset.ensures)) (λ j lt. c.unset_ahead.ensures.unset j (omega (arith, lt, c.min-unset.ensures))) ∙ c.loop-rest.invariant.same);
     }

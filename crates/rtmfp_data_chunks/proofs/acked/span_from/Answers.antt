@@ -1,8 +1,8 @@
 use Rattle.std.proofs.Common.{◌≡◌, ◌+◌, ◌-◌, ◌<◌, ◌∙◌, ◌⊎◌, ℕ, true, false, inl, inr, sym, ap, arith}
-use Rattle.rtmfp_data_chunks.specs.Acked.{is_set, in_front, runs}
-use Rattle.rtmfp_data_chunks.proofs.RunLaws.{starts, goes_on, ends}
-use Rattle.rtmfp_data_chunks.proofs.acked.run_from.Goals as goal
-use Rattle.rtmfp_data_chunks.proofs.acked.run_from.Goals.{else-loop-after-test, then-loop-after-test+then-set-eq0}
+use Rattle.rtmfp_data_chunks.specs.Acked.{is_set, in_front, spans_where}
+use Rattle.rtmfp_data_chunks.proofs.SpanLaws.{starts, goes_on, ends}
+use Rattle.rtmfp_data_chunks.proofs.acked.span_from.Goals as goal
+use Rattle.rtmfp_data_chunks.proofs.acked.span_from.Goals.{else-loop-after-test, then-loop-after-test+then-set-eq0}
 
 pub loop-after-init : goal.loop-after-init
 loop-after-init c =
@@ -13,7 +13,7 @@ loop-after-init c =
     record {
       there = omega (arith, c.requires.there, c.requires.some);
       place = omega arith;
-      same = starts test n b.left c.requires.some c.requires.set ∙ ap (λ (m : ℕ). in_front n n (runs test m (b.left - 1))) place;
+      same = starts test n b.left c.requires.some c.requires.set ∙ ap (λ (m : ℕ). in_front n n (spans_where test m (b.left - 1))) place;
     }
 
 pub loop-after-preserved : goal.loop-after-preserved
@@ -33,8 +33,8 @@ loop-after-preserved c =
       there = omega (arith, c.loop-after.invariant.there, c.min-set.ensures);
       place = place;
       same = c.loop-after.invariant.same
-          ∙ (ap (λ (m : ℕ). in_front first last (runs test m a.left)) here
-          ∙ (goes_on test first k last a.left (omega (arith, c.min-set.ensures)) set ∙ ap (λ (m : ℕ). in_front first (last + k) (runs test m (a.left - k))) place));
+          ∙ (ap (λ (m : ℕ). in_front first last (spans_where test m a.left)) here
+          ∙ (goes_on test first k last a.left (omega (arith, c.min-set.ensures)) set ∙ ap (λ (m : ℕ). in_front first (last + k) (spans_where test m (a.left - k))) place));
     }
 
 pub returns-clause-first : goal.returns-clause-first
