@@ -26,7 +26,7 @@ walk n b = only_padding b
 abbrev pub body_of : List ℕ → Body
 body_of b = walk (length b) b
 
--- a chunk with the place of its type byte in the packet
+-- a chunk with the offset of its type byte in the packet
 pub record Placed : Type 0 where
   pub kind : ℕ
   pub at : ℕ
@@ -36,7 +36,7 @@ pub record Placed : Type 0 where
 abbrev pub is_ignored : ℕ → Bool
 is_ignored kind = (kind == 0) || (kind == 255)
 
--- the chunks with their places, where the first begins at `at`
+-- the chunks with their offsets, where the first begins at `at`
 abbrev pub all_placed_from : ℕ → List Chunk → List Placed
 all_placed_from at [] = []
 all_placed_from at (chunk ∷ chunks) =
