@@ -3,10 +3,10 @@ use Rattle.std.specs.Prelude.{◌≡◌, ℕ, ◌==◌, if◌then◌else◌, Boo
 use Rattle.rtmfp_forms.specs.Address.{AddressParts}
 use Rattle.rtmfp_chunks.specs.declared.view.ChunkView.{ChunkView}
 use Rattle.rtmfp_chunks.specs.declared.view.ChunkView.TheVariants as view
-use Rattle.rtmfp_chunks.specs.Fields.{Counted, Number, SessionId, More, Place, Parts, Then, Rest,
-    Places, Ignored, PartsSpell}
-use Rattle.rtmfp_chunks.specs.Fields.{Row, ThenRow, RestRow, PlacesRow, IgnoredRow, CountedForm,
-    NumberForm, SessionIdForm, MoreForm, PlaceForm, RowBreaks}
+use Rattle.rtmfp_chunks.specs.Fields.{Counted, Number, SessionId, More, OneAddress, Parts, Then,
+    Rest, AddressList, Ignored, PartsSpell}
+use Rattle.rtmfp_chunks.specs.Fields.{Row, ThenRow, RestRow, AddressesRow, IgnoredRow, CountedForm,
+    NumberForm, SessionIdForm, MoreForm, AddressForm, RowBreaks}
 
 -- a chunk as contracts see it; the list of a redirect is its addresses' bytes
 pub data Chunk : Type 0 where
@@ -57,9 +57,9 @@ kind_of (Fragment more id number bytes) = 0x7f
 -- the fields of each chunk
 abbrev pub parts_of : Chunk → Parts
 parts_of (IHello epd tag) = Then (Counted epd) (Rest tag)
-parts_of (FIHello epd reply tag) = Then (Counted epd) (Then (Place reply) (Rest tag))
+parts_of (FIHello epd reply tag) = Then (Counted epd) (Then (OneAddress reply) (Rest tag))
 parts_of (RHello tag cookie cert) = Then (Counted tag) (Then (Counted cookie) (Rest cert))
-parts_of (Redirect tag list) = Then (Counted tag) (Places list)
+parts_of (Redirect tag list) = Then (Counted tag) (AddressList list)
 parts_of (CookieChange old new) = Then (Counted old) (Rest new)
 parts_of (IIKeying near cookie cert part sign) =
     Then (SessionId near) (Then (Counted cookie)
@@ -80,9 +80,9 @@ Spells chunk kind b = (kind ≡ kind_of chunk) × PartsSpell (parts_of chunk) b
 unfoldable pub row_of : ℕ → Option Row
 row_of kind =
     if kind == 0x30 then Some (ThenRow CountedForm RestRow)
-    else if kind == 0x0f then Some (ThenRow CountedForm (ThenRow PlaceForm RestRow))
+    else if kind == 0x0f then Some (ThenRow CountedForm (ThenRow AddressForm RestRow))
     else if kind == 0x70 then Some (ThenRow CountedForm (ThenRow CountedForm RestRow))
-    else if kind == 0x71 then Some (ThenRow CountedForm PlacesRow)
+    else if kind == 0x71 then Some (ThenRow CountedForm AddressesRow)
     else if kind == 0x79 then Some (ThenRow CountedForm RestRow)
     else if kind == 0x38 then
       Some (ThenRow SessionIdForm (ThenRow CountedForm

@@ -15,7 +15,8 @@ ghost use Rattle.std.specs.Option.{option_map};
 ghost use Rattle.rtmfp_chunks.specs.FieldReading.{chunk_at, described};
 
 use crate::fields::{address, addresses, counted, more_flag, number, session_id};
-use crate::view::*;
+use crate::kinds::*;
+use crate::view::ChunkView;
 
 /// Reads a payload of this type; `None` where no chunk has it.
 pub(crate) fn read_payload(kind: u8, payload: &[u8]) -> Option<Result<ChunkView<'_>, usize>>

@@ -5,7 +5,7 @@ use Rattle.rtmfp_vlu.specs.declared.reading.VluFault.TheVariants.{Short}
 use Rattle.rtmfp_vlu.specs.Vlu.{VluSpells}
 use Rattle.rtmfp_vlu.specs.Reading.{number_at}
 use Rattle.rtmfp_vlu.proofs.Fields.{behind, stands}
-use Rattle.rtmfp_vlu.proofs.Places.{reads_number, reads_cut}
+use Rattle.rtmfp_vlu.proofs.Decoded.{reads_number, reads_cut}
 use Rattle.rtmfp_data_chunks.specs.Acks.{PairsTell}
 use Rattle.rtmfp_data_chunks.specs.Acked.{spans_of_pairs}
 use Rattle.rtmfp_data_chunks.proofs.Spanning.{none_holes, some_span}

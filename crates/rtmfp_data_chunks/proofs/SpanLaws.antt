@@ -184,11 +184,11 @@ passes_over test zero n count le unset =
     rw (here, all) refl
 passes_over test (suc k) n zero le unset = absurd (omega (arith, le))
 passes_over test (suc k) n (suc count) le unset =
-    let place : n + suc k ≡ suc n + k = omega arith in
+    let begins : n + suc k ≡ suc n + k = omega arith in
     let left : suc count - suc k ≡ count - k = omega arith in
     let first : n + 0 ≡ n = omega arith in
     let later : (j : ℕ) → j < k → test (suc n + j) ≡ false = λ j lt. let at : suc n + j ≡ n + suc j = omega arith in ap test at ∙ unset (suc j) (omega (arith, lt)) in
-    rw (place, left) (passes_over test k (suc n) count (omega (arith, le)) later) ∙ sym (spans_unset test n count (ap test (sym first) ∙ unset 0 (omega arith)))
+    rw (begins, left) (passes_over test k (suc n) count (omega (arith, le)) later) ∙ sym (spans_unset test n count (ap test (sym first) ∙ unset 0 (omega arith)))
 
 pub starts : (test : ℕ → Bool) (n count : ℕ) → 0 < count → test n ≡ true → spans_where test n count ≡ in_front n n (spans_where test (n + 1) (count - 1))
 starts test n zero some set = absurd (omega (arith, some))
@@ -205,13 +205,13 @@ goes_on test a zero b count le set =
     rw (here, all) refl
 goes_on test a (suc k) b zero le set = absurd (omega (arith, le))
 goes_on test a (suc k) b (suc count) le set =
-    let place : b + suc k ≡ (b + 1) + k = omega arith in
+    let begins : b + suc k ≡ (b + 1) + k = omega arith in
     let left : suc count - suc k ≡ count - k = omega arith in
     let first : b + 1 + 0 ≡ b + 1 = omega arith in
     let next : suc (b + 1) ≡ b + 1 + 1 = omega arith in
     let later : (j : ℕ) → j < k → test (b + 1 + 1 + j) ≡ true = λ j lt. let at : b + 1 + 1 + j ≡ b + 1 + suc j = omega arith in ap test at ∙ set (suc j) (omega (arith, lt)) in
     goes_further test a b count (ap test (sym first) ∙ set 0 (omega arith))
-    ∙ (ap (λ (m : ℕ). in_front a (b + 1) (spans_where test m count)) next ∙ rw (place, left) (goes_on test a k (b + 1) count (omega (arith, le)) later))
+    ∙ (ap (λ (m : ℕ). in_front a (b + 1) (spans_where test m count)) next ∙ rw (begins, left) (goes_on test a k (b + 1) count (omega (arith, le)) later))
 
 pub ends : (test : ℕ → Bool) (a b n count : ℕ) → b + 1 ≡ n → (count ≡ 0) ⊎ (test n ≡ false) → in_front a b (spans_where test n count) ≡ (a, b) ∷ spans_where test n count
 ends test a b n count p (inl none) = subst (λ (k : ℕ). in_front a b (spans_where test k count) ≡ (a, b) ∷ spans_where test k count) p (ends_here test a b count (inl none))

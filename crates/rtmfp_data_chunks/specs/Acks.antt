@@ -66,4 +66,4 @@ pub record PairsBreak (upto : ℕ) (b : List ℕ) (at : ℕ) : Type 0 where
   pub whole : b ≡ front ++ rest
   pub told : PairsTell upto spans front
   pub breaks : PairBreaks (last_told upto spans) rest within
-  pub place : at ≡ length front + within
+  pub begins : at ≡ length front + within

@@ -30,7 +30,7 @@ pub record NumbersBreak (count : ℕ) (b : List ℕ) (at : ℕ) : Type 0 where
   pub spell : NumbersSpell numbers front
   pub whole : b ≡ front ++ rest
   pub none : NoNumber rest
-  pub place : at ≡ length front
+  pub begins : at ≡ length front
 
 -- ---- flags
 

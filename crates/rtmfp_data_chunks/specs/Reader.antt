@@ -25,13 +25,13 @@ Shows view (Err fault) read = read ≡ Err fault
 
 -- ---- fields, in a payload of so many bytes of which these are left
 
-abbrev pub placed : ℕ → List ℕ → Result (ℕ × ℕ) VluFault → Result (ℕ × List ℕ) DataFault
-placed at b (Ok found) = Ok (found.0, drop found.1 b)
-placed at b (Err fault) = Err (Malformed at)
+abbrev pub read_at : ℕ → List ℕ → Result (ℕ × ℕ) VluFault → Result (ℕ × List ℕ) DataFault
+read_at at b (Ok found) = Ok (found.0, drop found.1 b)
+read_at at b (Err fault) = Err (Malformed at)
 
 -- a number, and the bytes after it
 unfoldable pub number_then : ℕ → List ℕ → Result (ℕ × List ℕ) DataFault
-number_then size b = placed (size - length b) b (number_at b)
+number_then size b = read_at (size - length b) b (number_at b)
 
 unfoldable pub numbers_then : ℕ → ℕ → List ℕ → Result (List ℕ × List ℕ) DataFault
 numbers_then zero size b = Ok ([], b)

@@ -45,7 +45,7 @@ pub record HasBadOffset (b : List ℕ) (at : ℕ) : Type 0 where
   pub forward : VluSpells behind offset
   pub bad : (seq < behind) ⊎ ((behind ≡ 0) × (flag flags 1 ≡ false))
   pub whole : b ≡ flags ∷ (numbers ++ (offset ++ rest))
-  pub place : at ≡ 1 + length numbers
+  pub begins : at ≡ 1 + length numbers
 
 -- all up to the options is good, and they are not
 pub record HasBadOptions (b : List ℕ) (at : ℕ) : Type 0 where
@@ -61,7 +61,7 @@ pub record HasBadOptions (b : List ℕ) (at : ℕ) : Type 0 where
   pub good : (behind ≤ seq) × (behind ≡ 0 → flag flags 1 ≡ true)
   pub breaks : OptionsBreak flags rest
   pub whole : b ≡ flags ∷ (numbers ++ (offset ++ rest))
-  pub place : at ≡ 1 + (length numbers + length offset)
+  pub begins : at ≡ 1 + (length numbers + length offset)
 
 -- flags stand in front, and behind them so many numbers don't
 abbrev pub FlaggedBreak : ℕ → List ℕ → ℕ → Type 0
@@ -127,7 +127,7 @@ pub record AckBreaks (Breaks : ℕ → List ℕ → ℕ → Type 0) (b : List �
   pub spell : NumbersSpell (flow ∷ blocks ∷ upto ∷ []) numbers
   pub breaks : Breaks upto rest within
   pub whole : b ≡ numbers ++ rest
-  pub place : at ≡ length numbers + within
+  pub begins : at ≡ length numbers + within
 
 -- ---- numbers alone, behind which bytes say nothing
 

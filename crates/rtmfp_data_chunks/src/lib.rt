@@ -5,6 +5,7 @@
 mod acked;
 mod cursor;
 mod fields;
+pub mod kinds;
 mod reading;
 mod user_data;
 mod view;

@@ -5,6 +5,7 @@ ghost use Rattle.rtmfp_data_chunks.specs.Reader.{Shows, is_bad_offset, data_then
     bitmap_then, ack_ranges_then, probe_then, exception_then, data_at, passing_byte, pairs_then};
 
 use crate::fields::{abandons, number, three_numbers, two_numbers, user_data};
+use crate::kinds;
 use crate::user_data::{Numbers, UserData};
 use crate::view::{DataFault, DataView};
 
@@ -161,12 +162,12 @@ pub(crate) fn read_kind(
     ensures { Shows data_chunk result (data_at before kind payload.now) }
 {
     match kind {
-        0x10 => Ok(DataView::Data(read_data(payload)?)),
-        0x11 => Ok(DataView::Next(read_next(before, payload)?)),
-        0x50 => read_bitmap(payload),
-        0x51 => read_ack_ranges(payload),
-        0x18 => read_probe(payload),
-        0x5e => read_exception(payload),
+        kinds::DATA => Ok(DataView::Data(read_data(payload)?)),
+        kinds::NEXT => Ok(DataView::Next(read_next(before, payload)?)),
+        kinds::ACK_BITMAP => read_bitmap(payload),
+        kinds::ACK_RANGES => read_ack_ranges(payload),
+        kinds::PROBE => read_probe(payload),
+        kinds::EXCEPTION => read_exception(payload),
         _ => Err(DataFault::Unknown(kind)),
     }
 }

@@ -6,7 +6,7 @@ use Rattle.rtmfp_data_chunks.proofs.acked.span_from.Given as goal
 abbrev pub invariant-loop-after : goal.invariant-loop-after
 invariant-loop-after l = record {
   there : AreThere l.after;
-  place : l.last + 1 ≡ l.after.upto + 2 + l.after.at;
+  follows : l.last + 1 ≡ l.after.upto + 2 + l.after.at;
   same : bits_left l.fn.bits ≡ in_front l.first l.last (bits_left l.after);
 }
 
