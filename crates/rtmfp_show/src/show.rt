@@ -124,7 +124,7 @@ fn show_chunk(
     Ok(())
 }
 
-/// Adds what stands behind the place of a chunk. One that can't be of a flow ends a run of user
+/// Adds what stands behind the offset of a chunk. One that can't be of a flow ends a run of user
 /// data.
 fn show_fields(
     kind: u8,
