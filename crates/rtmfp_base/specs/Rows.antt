@@ -1,6 +1,20 @@
 -- A list of rows, each with a number as its key and a value, as the finite map from keys to values.
-use Rattle.std.specs.Prelude.{ℕ, ◌<◌, ◌≤◌, ◌≡◌, Bool, true, false, List, map, length,
-    slice_index_or, Option, Some, None}
+use Rattle.std.specs.Prelude.{
+  ℕ,
+  ◌<◌,
+  ◌≤◌,
+  ◌≡◌,
+  Bool,
+  true,
+  false,
+  List,
+  map,
+  length,
+  slice_index_or,
+  Option,
+  Some,
+  None,
+}
 use Rattle.std.specs.Ordering.{nat_cmp}
 use Rattle.std.specs.FinMap.{FinMap, from_entries, len}
 
@@ -26,7 +40,7 @@ module _ {A V : Type 0} (key : A → ℕ) (value : A → V) where
     pub within : index < n
     pub passes : (d : A) → test (value (slice_index_or rows index d)) ≡ true
     pub lowest : (i : ℕ) (d : A) → i < n → test (value (slice_index_or rows i d)) ≡ true →
-      key (slice_index_or rows index d) ≤ key (slice_index_or rows i d)
+        key (slice_index_or rows index d) ≤ key (slice_index_or rows i d)
 
   -- of the first n rows, the index of the one that passes with the lowest key
   abbrev pub IsBest : (V → Bool) → List A → ℕ → Option ℕ → Type 0

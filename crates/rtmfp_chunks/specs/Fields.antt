@@ -51,7 +51,7 @@ abbrev pub AddressesSpell : List AddressParts → List ℕ → Type 0
 AddressesSpell [] b = b ≡ []
 AddressesSpell (a ∷ addresses) b =
     (front : List ℕ) × (rest : List ℕ) × (b ≡ front ++ rest) × AddressSpells a front ×
-      AddressesSpell addresses rest
+    AddressesSpell addresses rest
 
 -- whole addresses, and nothing else
 abbrev pub AreAddresses : List ℕ → Type 0
@@ -61,7 +61,7 @@ AreAddresses b = (addresses : List AddressParts) × AddressesSpell addresses b
 abbrev pub PartsSpell : Parts → List ℕ → Type 0
 PartsSpell (Then first others) b =
     (front : List ℕ) × (rest : List ℕ) × (b ≡ front ++ rest) × FieldSpells first front ×
-      PartsSpell others rest
+    PartsSpell others rest
 PartsSpell (Rest bytes) b = b ≡ bytes
 PartsSpell (AddressList list) b = (b ≡ list) × AreAddresses b
 PartsSpell Ignored b = Unit {0}
@@ -129,7 +129,7 @@ abbrev pub RowBreaks : Row → List ℕ → ℕ → Type 0
 RowBreaks (ThenRow first others) b at =
     FieldBreaks first b at
     ⊎ ((field : Field) × (front : List ℕ) × (rest : List ℕ) × (later : ℕ) ×
-      (form_of field ≡ first) × (b ≡ front ++ rest) × FieldSpells field front
+    (form_of field ≡ first) × (b ≡ front ++ rest) × FieldSpells field front
     × RowBreaks others rest later × (at ≡ length front + later))
 RowBreaks RestRow b at = ⊥
 RowBreaks AddressesRow b at = AddressesBreak b at

@@ -1,14 +1,6 @@
 //! The payload of each type of chunk. An `Err` has the number of bytes from the field that can't be
 //! read to the end.
-#![tactic(
-    auto,
-    unfolding(
-        crate::specs::FieldReading::chunk_at,
-        crate::specs::Chunk::row_of,
-        crate::specs::FieldReading::row_at,
-        crate::specs::FieldReading::field_then
-    )
-)]
+#![tactic(auto, unfolding(crate::specs::FieldReading::chunk_at, crate::specs::Chunk::row_of, crate::specs::FieldReading::row_at, crate::specs::FieldReading::field_then))]
 
 ghost use Rattle.std.specs.Prelude.{◌≡◌, Some};
 ghost use Rattle.std.specs.Option.{option_map};

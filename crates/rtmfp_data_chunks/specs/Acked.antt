@@ -1,9 +1,44 @@
 -- What an ack acknowledges above its cumulative number (RFC 7016 sections 2.3.13 and 2.3.14).
-use Rattle.std.specs.Prelude.{◌≡◌, ℕ, zero, suc, ◌+◌, ◌-◌, ◌*◌, ◌/◌, ◌%◌, ◌^◌, ◌<◌, ◌≤◌, ◌==◌, ◌⊎◌,
-    ◌↔◌, min, Bool, true, List, [], ◌∷◌, length, drop, get_or, Result, Ok, Err, nat_lt,
-    if◌then◌else◌}
-use Rattle.rtmfp_data_chunks.specs.Chunk.{DataChunk, Data, Next, AckBitmap, AckRanges, Probe,
-    Exception}
+use Rattle.std.specs.Prelude.{
+  ◌≡◌,
+  ℕ,
+  zero,
+  suc,
+  ◌+◌,
+  ◌-◌,
+  ◌*◌,
+  ◌/◌,
+  ◌%◌,
+  ◌^◌,
+  ◌<◌,
+  ◌≤◌,
+  ◌==◌,
+  ◌⊎◌,
+  ◌↔◌,
+  min,
+  Bool,
+  true,
+  List,
+  [],
+  ◌∷◌,
+  length,
+  drop,
+  get_or,
+  Result,
+  Ok,
+  Err,
+  nat_lt,
+  if◌then◌else◌,
+}
+use Rattle.rtmfp_data_chunks.specs.Chunk.{
+  DataChunk,
+  Data,
+  Next,
+  AckBitmap,
+  AckRanges,
+  Probe,
+  Exception,
+}
 use Rattle.rtmfp_data_chunks.specs.Fields.{flag}
 use Rattle.rtmfp_data_chunks.specs.Acks.{PairsTell}
 use Rattle.rtmfp_vlu.specs.declared.reading.VluFault.{VluFault}
@@ -17,7 +52,7 @@ abbrev pub with_received : (ℕ → List ℕ → List (ℕ × ℕ)) → ℕ → 
 with_received later first bytes (Err fault) = []
 with_received later first bytes (Ok received) =
     if nat_lt (first + received.0) (2 ^ 64) then
-      (first, first + received.0) ∷ later (first + received.0) (drop received.1 bytes) else []
+    (first, first + received.0) ∷ later (first + received.0) (drop received.1 bytes) else []
 
 abbrev pub with_holes : (ℕ → List ℕ → List (ℕ × ℕ)) → ℕ → List ℕ → Result (ℕ × ℕ) VluFault →
     List (ℕ × ℕ)

@@ -1,7 +1,35 @@
 -- The same from left to right, with the first fault that is met.
-use Rattle.std.specs.Prelude.{◌≡◌, ℕ, zero, suc, ◌+◌, ◌-◌, ◌/◌, ◌%◌, ◌^◌, ◌==◌, if◌then◌else◌,
-    nat_lt, not, min, Bool, true, false, List, [], ◌∷◌, length, drop, get_or, Option, Some, None,
-    Result, Ok, Err}
+use Rattle.std.specs.Prelude.{
+  ◌≡◌,
+  ℕ,
+  zero,
+  suc,
+  ◌+◌,
+  ◌-◌,
+  ◌/◌,
+  ◌%◌,
+  ◌^◌,
+  ◌==◌,
+  if◌then◌else◌,
+  nat_lt,
+  not,
+  min,
+  Bool,
+  true,
+  false,
+  List,
+  [],
+  ◌∷◌,
+  length,
+  drop,
+  get_or,
+  Option,
+  Some,
+  None,
+  Result,
+  Ok,
+  Err,
+}
 use Rattle.std.specs.Option.{option_map}
 use Rattle.rtmfp_vlu.specs.declared.reading.VluFault.{VluFault}
 use Rattle.rtmfp_vlu.specs.Reading.{number_at}
@@ -12,10 +40,21 @@ use Rattle.rtmfp_data_chunks.specs.declared.user_data.Part.{Part}
 use Rattle.rtmfp_data_chunks.specs.declared.user_data.Part.TheVariants.{Whole, Begin, End, Middle}
 use Rattle.rtmfp_data_chunks.specs.declared.user_data.Numbers.{Numbers}
 use Rattle.rtmfp_data_chunks.specs.declared.view.DataFault.{DataFault}
-use Rattle.rtmfp_data_chunks.specs.declared.view.DataFault.TheVariants.{Unknown, Malformed,
-    BadOffset}
-use Rattle.rtmfp_data_chunks.specs.Chunk.{UserParts, DataChunk, Data, Next, AckBitmap, AckRanges,
-    Probe, Exception}
+use Rattle.rtmfp_data_chunks.specs.declared.view.DataFault.TheVariants.{
+  Unknown,
+  Malformed,
+  BadOffset,
+}
+use Rattle.rtmfp_data_chunks.specs.Chunk.{
+  UserParts,
+  DataChunk,
+  Data,
+  Next,
+  AckBitmap,
+  AckRanges,
+  Probe,
+  Exception,
+}
 use Rattle.rtmfp_data_chunks.specs.Fields.{flag}
 
 -- what a function returned, seen by view, is what reading gives
@@ -83,8 +122,11 @@ data_then (flags ∷ b) = do
   behind ← number_then (suc (length b)) numbers.1
   if is_bad_offset flags (get_or numbers.0 1 0) behind.0
       then Err (BadOffset (suc (length b) - length numbers.1))
-      else user_then flags (record { flow = get_or numbers.0 0 0; seq = get_or numbers.0 1 0;
-        forward = get_or numbers.0 1 0 - behind.0 }) (suc (length b)) behind.1
+      else user_then flags (record {
+        flow = get_or numbers.0 0 0;
+        seq = get_or numbers.0 1 0;
+        forward = get_or numbers.0 1 0 - behind.0;
+      }) (suc (length b)) behind.1
 
 abbrev pub next_body : Numbers → List ℕ → Result UserParts DataFault
 next_body numbers [] = Err (Malformed 0)
@@ -117,7 +159,7 @@ unfoldable pub bitmap_then : List ℕ → Result DataChunk DataFault
 bitmap_then b = do
   numbers ← numbers_then 3 (length b) b
   bits_checked (length b - length numbers.1)
-    (AckBitmap (get_or numbers.0 0 0) (get_or numbers.0 1 0) (get_or numbers.0 2 0) numbers.1)
+      (AckBitmap (get_or numbers.0 0 0) (get_or numbers.0 1 0) (get_or numbers.0 2 0) numbers.1)
       (passing_byte (bits_fitting (get_or numbers.0 2 0)) numbers.1)
 
 -- the last number that pairs tell of above a number, in so many steps
@@ -128,7 +170,7 @@ walk_within (suc steps) size above (b ∷ bs) = do
   numbers ← numbers_then 2 size (b ∷ bs)
   let end = above + get_or numbers.0 0 0 + 2 + get_or numbers.0 1 0 in
       if nat_lt end (2 ^ 64) then walk_within steps size end numbers.1
-        else Err (Malformed (size - length (b ∷ bs)))
+      else Err (Malformed (size - length (b ∷ bs)))
 
 -- a pair has at least two bytes
 unfoldable pub pairs_then : ℕ → ℕ → List ℕ → Result ℕ DataFault

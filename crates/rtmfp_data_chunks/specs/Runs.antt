@@ -1,7 +1,26 @@
 -- What becomes of numbers by the data chunks that a receiver takes, and which messages it hands
 -- over.
-use Rattle.std.specs.Prelude.{ℕ, ◌+◌, ◌-◌, ◌==◌, if◌then◌else◌, nat_le, Bool, true, false, not, map,
-    List, [], ◌∷◌, ◌++◌, Option, Some, None, length}
+use Rattle.std.specs.Prelude.{
+  ℕ,
+  ◌+◌,
+  ◌-◌,
+  ◌==◌,
+  if◌then◌else◌,
+  nat_le,
+  Bool,
+  true,
+  false,
+  not,
+  map,
+  List,
+  [],
+  ◌∷◌,
+  ◌++◌,
+  Option,
+  Some,
+  None,
+  length,
+}
 use Prim.Native.Nat.{zero, suc}
 use Rattle.std.specs.Prelude.{max}
 use Rattle.std.specs.List.{filter, sum_by}
@@ -76,8 +95,13 @@ fits a b = if a.last + 1 == b.first then (if a.rear then false else if b.front t
     else false
 
 abbrev pub joined : Run → Run → Run
-joined a b = record { first = a.first; last = b.last; front = a.front; rear = b.rear;
-    bytes = a.bytes ++ b.bytes }
+joined a b = record {
+  first = a.first;
+  last = b.last;
+  front = a.front;
+  rear = b.rear;
+  bytes = a.bytes ++ b.bytes;
+}
 
 -- the longest run that ends at number n, or goes on there
 abbrev pub run_with : Number → ℕ → Option Run → Option Run
@@ -117,7 +141,7 @@ abbrev pub is_dead : (ℕ → Bool) → Run → Bool
 is_dead missing y =
     if y.front then (if y.rear then false else not (missing (y.last + 1)))
     else if missing (y.first - 1) then (if y.rear then false else not (missing (y.last + 1)))
-      else true
+    else true
 
 abbrev pub message_of : Run → Message
 message_of y = record { number = y.first; bytes = y.bytes }

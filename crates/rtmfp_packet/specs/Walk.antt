@@ -1,6 +1,23 @@
 -- The walk over the chunks of a packet.
-use Rattle.std.specs.Prelude.{ℕ, suc, ◌+◌, ◌*◌, ◌==◌, ◌||◌, nat_le, not, Bool, List, [], ◌∷◌,
-    length, take, drop, filter, if◌then◌else◌}
+use Rattle.std.specs.Prelude.{
+  ℕ,
+  suc,
+  ◌+◌,
+  ◌*◌,
+  ◌==◌,
+  ◌||◌,
+  nat_le,
+  not,
+  Bool,
+  List,
+  [],
+  ◌∷◌,
+  length,
+  take,
+  drop,
+  filter,
+  if◌then◌else◌,
+}
 use Rattle.rtmfp_packet.specs.Spelling.{Chunk}
 
 -- what stands behind a head: chunks, and padding
@@ -19,7 +36,7 @@ abbrev pub walk : ℕ → List ℕ → Body
 walk (suc n) (kind ∷ high ∷ low ∷ rest) =
     if nat_le (high * 256 + low) (length rest)
     then then_body (record { kind = kind; payload = take (high * 256 + low) rest })
-      (walk n (drop (high * 256 + low) rest))
+    (walk n (drop (high * 256 + low) rest))
     else only_padding (kind ∷ high ∷ low ∷ rest)
 walk n b = only_padding b
 
@@ -41,7 +58,7 @@ abbrev pub all_placed_from : ℕ → List Chunk → List Placed
 all_placed_from at [] = []
 all_placed_from at (chunk ∷ chunks) =
     record { kind = chunk.kind; at = at; payload = chunk.payload }
-      ∷ all_placed_from (at + (3 + length chunk.payload)) chunks
+    ∷ all_placed_from (at + (3 + length chunk.payload)) chunks
 
 -- the chunks that are not passed over
 abbrev pub visible : List Placed → List Placed

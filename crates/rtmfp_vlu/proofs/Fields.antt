@@ -1,9 +1,8 @@
 -- A number's spelling, and then the rest: what readers and writers of longer forms cite.
-use Rattle.std.proofs.Common.{◌≡◌, ℕ, ◌/◌, ◌%◌, ◌^◌, ◌<◌, ◌≤◌, List, [], ◌∷◌, ◌++◌, length, take, drop, Result, Ok, refl, sym, ap, ◌∙◌, arith}
-use Rattle.std.proofs.lemmas.List.{take_at, drop_at, length-append, append_cancel_left}
-use Rattle.rtmfp_vlu.specs.Vlu.{VluSpells, IsCut, IsLarge, groups_before, vlu}
-use Rattle.rtmfp_vlu.specs.declared.reading.VluFault.{VluFault}
-use Rattle.rtmfp_vlu.proofs.Spellings.{IsEnded-some, prefix_code, not_cut, not_large}
+use Rattle.std.proofs.Common.{◌≡◌, ℕ, ◌/◌, ◌%◌, ◌^◌, ◌<◌, ◌≤◌, List, [], ◌∷◌, ◌++◌, length, take, drop, refl, sym, ap, ◌∙◌, arith}
+use Rattle.std.proofs.lemmas.List.{take_at, drop_at, length-append}
+use Rattle.rtmfp_vlu.specs.Vlu.{VluSpells, IsLarge, groups_before, vlu}
+use Rattle.rtmfp_vlu.proofs.Spellings.{IsEnded-some, not_large}
 use Rattle.rtmfp_vlu.proofs.Shortest.{Shortest-vlu}
 
 -- ---- any list in front of another
