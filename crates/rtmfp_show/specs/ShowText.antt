@@ -1,6 +1,20 @@
 -- What `show` prints of one packet.
-use Rattle.std.specs.Prelude.{◌≡◌, ℕ, List, [], ◌∷◌, ◌++◌, length, codes, decimal, Option, None,
-    Result, Ok, Err}
+use Rattle.std.specs.Prelude.{
+  ◌≡◌,
+  ℕ,
+  List,
+  [],
+  ◌∷◌,
+  ◌++◌,
+  length,
+  codes,
+  decimal,
+  Option,
+  None,
+  Result,
+  Ok,
+  Err,
+}
 use Rattle.hex.specs.Hex.{encode_lower}
 use Rattle.rtmfp_packet.specs.declared.head.PacketHead.{PacketHead}
 use Rattle.rtmfp_packet.specs.declared.head.PacketFault.{PacketFault}
@@ -100,7 +114,7 @@ padding_text count = text_of (codes "padding " ∷ decimal count ∷ codes "\n" 
 abbrev pub WholeText : Whole → List ℕ → Type 0
 WholeText packet text =
     (lines : List ℕ) × (after : Option Numbers) ×
-      ChunksText None (visible (all_placed_from packet.start packet.chunks)) lines after
+    ChunksText None (visible (all_placed_from packet.start packet.chunks)) lines after
     × (text ≡ text_of (head_text packet.head ∷ lines ∷ padding_text (length packet.padding) ∷ []))
 
 abbrev pub ResultText : Result Whole PacketFault → List ℕ → Type 0
