@@ -16,7 +16,7 @@ ghost use Rattle.flow_send.specs.Picked.{IsThere};
 use flow_recv::FlowReceiver;
 use flow_send::{FlowSender, MessageOptions, Pick};
 use rtmfp_base::Memory;
-use rtmfp_data_chunks::{AckedRanges, DataCursor, DataView, Part, UserData};
+use rtmfp_data_chunks::{AckedSpans, DataCursor, DataView, Part, UserData};
 use rtmfp_forms::Outgoing;
 use std::alloc::AllocError;
 use std::collections::VecDeque;
@@ -222,7 +222,7 @@ fn hear(pair: &mut Pair) {
         {
             let _ = pair
                 .from
-                .take_ack(blocks, upto, AckedRanges::of_pairs(upto, pairs));
+                .take_ack(blocks, upto, AckedSpans::of_pairs(upto, pairs));
         }
     }
 }

@@ -3,7 +3,7 @@ use Rattle.std.proofs.Common.{ℕ, List, ◌≡◌, length, get_or, set, Some, a
 use Rattle.std.specs.FinMap.{get, insert, len}
 use Rattle.session_core.specs.Session.{SessionState}
 use Rattle.endpoint.specs.Kept.{near_of, table_of}
-use Rattle.rtmfp_base.proofs.Rows.{place_found}
+use Rattle.rtmfp_base.proofs.Rows.{index_found}
 use Rattle.endpoint.proofs.Keeping.{place_in, kept_at, found_at}
 
 pub record IsChanged (rows : List SessionState) (near : ℕ) (old new : SessionState) (changed : List SessionState) : Type 0 where
@@ -14,7 +14,7 @@ pub record IsChanged (rows : List SessionState) (near : ℕ) (old new : SessionS
 pub changed_at : (rows : List SessionState) (near place : ℕ) (old new : SessionState) → len (table_of rows) ≡ length rows → place_in rows near ≡ Some place →
     old ≡ get_or rows place old → near_of new ≡ near_of old → IsChanged rows near old new (set rows place new)
 changed_at rows near place old new distinct found is same =
-    let at = place_found near_of (λ (s : SessionState). s) rows near place distinct found in
+    let at = index_found near_of (λ (s : SessionState). s) rows near place distinct found in
     let id : near_of new ≡ near = same ∙ ap near_of is ∙ at.key_is old in
     let kept = kept_at rows new place distinct (ap (place_in rows) id ∙ found) in
     record {

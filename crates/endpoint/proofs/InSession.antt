@@ -1,7 +1,7 @@
 -- What goes out in a session, by the list of sessions that is kept.
 use Rattle.std.proofs.Common.{ℕ, List, [], ◌∷◌, ◌++◌, ◌≡◌, ◌≤◌, ◌+◌, length, get_or, set, Bool, true, false, if◌then◌else◌, Option, Some, None, refl, sym, ap, ◌∙◌, subst}
 use Rattle.std.specs.FinMap.{get, insert, len}
-use Rattle.rtmfp_base.proofs.Rows.{place_found}
+use Rattle.rtmfp_base.proofs.Rows.{index_found}
 use Rattle.rtmfp_forms.specs.Address.{AddressParts}
 use Rattle.crypto_profile.specs.declared.keys.Context.{Context}
 use Rattle.session_core.specs.Session.{SessionState, context_of}
@@ -52,7 +52,7 @@ pub record IsPutBack (rows : List SessionState) (near : ℕ) (new : SessionState
 pub put_back : (rows : List SessionState) (near place : ℕ) (old new : SessionState) → len (table_of rows) ≡ length rows → place_in rows near ≡ Some place → old ≡ get_or rows place old →
     new ≡ after_seal old → IsPutBack rows near new (set rows place new)
 put_back rows near place old new distinct found is sealed =
-    let at = place_found near_of itself rows near place distinct found in
+    let at = index_found near_of itself rows near place distinct found in
     let same : near_of new ≡ near = ap near_of sealed ∙ seal_keeps_near old (is_spent old) ∙ ap near_of is ∙ at.key_is old in
     let kept = kept_at rows new place distinct (ap (place_in rows) same ∙ found) in
     record { table = kept.table ∙ ap (λ k. insert (table_of rows) k new) same; distinct = kept.distinct }

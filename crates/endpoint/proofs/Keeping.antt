@@ -3,8 +3,8 @@ use Rattle.std.proofs.Common.{ℕ, List, ◌≡◌, ◌==◌, ◌++◌, [], ◌�
 use Rattle.std.specs.List.{swap_remove}
 use Rattle.std.specs.FinMap.{get, insert, remove, len, contains_key}
 use Rattle.rtmfp_base.proofs.Maps.{same_tables, same_or_not, get_removed, get_left}
-use Rattle.rtmfp_base.proofs.Rows.{place_found, place_none, table_set, set_are_distinct, table_push, pushed_are_distinct, table_swap_removed}
-use Rattle.rtmfp_base.proofs.Places.{place_tells}
+use Rattle.rtmfp_base.proofs.Rows.{index_found, index_none, table_set, set_are_distinct, table_push, pushed_are_distinct, table_swap_removed}
+use Rattle.rtmfp_base.proofs.Indices.{index_tells}
 use Rattle.session_core.specs.Session.{SessionState}
 use Rattle.endpoint_model.specs.State.{Sessions}
 use Rattle.endpoint.specs.Kept.{near_of, table_of}
@@ -22,7 +22,7 @@ pub record IsKept (rows : List SessionState) (session : SessionState) (new : Lis
 
 pub kept_at : (rows : List SessionState) (session : SessionState) (place : ℕ) → len (table_of rows) ≡ length rows → place_in rows (near_of session) ≡ Some place → IsKept rows session (set rows place session)
 kept_at rows session place distinct found =
-    let at = place_found near_of itself rows (near_of session) place distinct found in
+    let at = index_found near_of itself rows (near_of session) place distinct found in
     record {
       table = table_set near_of itself rows place session session distinct at.within (sym (at.key_is session));
       distinct = set_are_distinct near_of itself rows place session session distinct at.within (sym (at.key_is session));
@@ -30,7 +30,7 @@ kept_at rows session place distinct found =
 
 pub kept_besides : (rows : List SessionState) (session : SessionState) → len (table_of rows) ≡ length rows → place_in rows (near_of session) ≡ None → IsKept rows session (rows ++ session ∷ [])
 kept_besides rows session distinct found =
-    let none = place_none near_of itself rows (near_of session) found in
+    let none = index_none near_of itself rows (near_of session) found in
     record {
       table = table_push near_of itself rows session none;
       distinct = pushed_are_distinct near_of itself rows session distinct none;
@@ -44,7 +44,7 @@ pub record IsLeft (rows : List SessionState) (near : ℕ) (rest : List SessionSt
 pub left_at : (rows : List SessionState) (near place : ℕ) (gone : SessionState) → len (table_of rows) ≡ length rows → place_in rows near ≡ Some place → gone ≡ get_or rows place gone
     → IsLeft rows near (swap_remove rows place gone)
 left_at rows near place gone distinct found is =
-    let at = place_found near_of itself rows near place distinct found in
+    let at = index_found near_of itself rows near place distinct found in
     let rest = table_swap_removed near_of itself rows place gone distinct at.within is in
     record { table = rest.table_is ∙ ap (remove (table_of rows)) (ap near_of is ∙ at.key_is gone); distinct = rest.distinct }
 
@@ -58,16 +58,16 @@ removed_none sessions near none =
     ])
 
 pub left_nowhere : (rows : List SessionState) (near : ℕ) → place_in rows near ≡ None → table_of rows ≡ remove (table_of rows) near
-left_nowhere rows near none = removed_none (table_of rows) near (place_none near_of itself rows near none)
+left_nowhere rows near none = removed_none (table_of rows) near (index_none near_of itself rows near none)
 
 -- A session ID has a place exactly where it is in the table.
 pub has_place : (rows : List SessionState) (near : ℕ) → len (table_of rows) ≡ length rows → is_some (place_in rows near) ≡ contains_key (table_of rows) near
-has_place rows near distinct = place_tells near_of itself rows near distinct
+has_place rows near distinct = index_tells near_of itself rows near distinct
 
 -- the session at its place
 pub found_at : (rows : List SessionState) (near place : ℕ) (session : SessionState) → len (table_of rows) ≡ length rows → place_in rows near ≡ Some place → session ≡ get_or rows place session → get (table_of rows) near ≡ Some session
 found_at rows near place session distinct found is =
-    (place_found near_of itself rows near place distinct found).found session ∙ ap (λ (s : SessionState). Some s) (sym is)
+    (index_found near_of itself rows near place distinct found).found session ∙ ap (λ (s : SessionState). Some s) (sym is)
 
 pub found_nowhere : (rows : List SessionState) (near : ℕ) → place_in rows near ≡ None → get (table_of rows) near ≡ None
-found_nowhere rows near none = place_none near_of itself rows near none
+found_nowhere rows near none = index_none near_of itself rows near none

@@ -7,7 +7,7 @@ use Rattle.crypto_profile.specs.Keys.{sign_key_of}
 use Rattle.rtmfp_vlu.proofs.Bytes.{IsBytes, IsBytes-drop}
 use Rattle.rtmfp_vlu.proofs.Fields.{behind}
 use Rattle.rtmfp_forms.specs.OptionReading.{◌>>=◌}
-use Rattle.rtmfp_chunks.specs.Fields.{Field, Counted, Number, SessionId, More, Place, Parts, Then, Rest, Places, Ignored, Form, CountedForm, SessionIdForm, Row, ThenRow, RestRow, PlacesRow, IgnoredRow, form_of, PartsSpell}
+use Rattle.rtmfp_chunks.specs.Fields.{Field, Counted, Number, SessionId, More, OneAddress, Parts, Then, Rest, AddressList, Ignored, Form, CountedForm, SessionIdForm, Row, ThenRow, RestRow, AddressesRow, IgnoredRow, form_of, PartsSpell}
 use Rattle.rtmfp_chunks.specs.Chunk.{Chunk, IIKeying, RIKeying, Spells, row_of, parts_of}
 use Rattle.rtmfp_chunks.specs.FieldReading.{field_then, list_at, row_at, typed, chunk_at, chunk_with, known_chunk, chunk_or_fault, chunk_reading}
 use Rattle.rtmfp_chunks.proofs.FieldLaws.{FieldIs, field_is}
@@ -36,10 +36,10 @@ has_row : (row : Row) (b : List ℕ) → IsBytes b → (parts : Parts) → row_a
 unfolding row_at
 has_row (ThenRow first others) b are parts e = then_row first others b (field_then first b) parts (field_is first b are) are (λ rest bytes p at. has_row others rest bytes p at) e
 has_row RestRow b are parts e = let same : Rest b ≡ parts = cc in sym (ap row_of_parts same)
-has_row PlacesRow b are parts e = places (list_at b) e
+has_row AddressesRow b are parts e = places (list_at b) e
   where
-    places : (q : Result (List ℕ) ℕ) → (q >>= λ list. Ok (Places list)) ≡ Ok parts → row_of_parts parts ≡ PlacesRow
-    places (Ok list) e = let same : Places list ≡ parts = cc in sym (ap row_of_parts same)
+    places : (q : Result (List ℕ) ℕ) → (q >>= λ list. Ok (AddressList list)) ≡ Ok parts → row_of_parts parts ≡ AddressesRow
+    places (Ok list) e = let same : AddressList list ≡ parts = cc in sym (ap row_of_parts same)
     places (Err left) e = absurd (cc)
 has_row IgnoredRow b are parts e = let same : Ignored ≡ parts = cc in sym (ap row_of_parts same)
 
@@ -55,13 +55,13 @@ record IsThen (parts : Parts) (first : Form) (others : Row) : Type 0 where
 then_is : (parts : Parts) (first : Form) (others : Row) → row_of_parts parts ≡ ThenRow first others → IsThen parts first others
 then_is (Then field rest) first others e = record { field = field; rest = rest; is = refl; form = let a : form_of field ≡ first = cc in a; row = let a : row_of_parts rest ≡ others = cc in a }
 then_is (Rest bytes) first others e = absurd (cc)
-then_is (Places list) first others e = absurd (cc)
+then_is (AddressList list) first others e = absurd (cc)
 then_is Ignored first others e = absurd (cc)
 
 rest_is : (parts : Parts) → row_of_parts parts ≡ RestRow → (bytes : List ℕ) × (parts ≡ Rest bytes)
 rest_is (Then field rest) e = absurd (cc)
 rest_is (Rest bytes) e = (bytes, refl)
-rest_is (Places list) e = absurd (cc)
+rest_is (AddressList list) e = absurd (cc)
 rest_is Ignored e = absurd (cc)
 
 id_is : (field : Field) → form_of field ≡ SessionIdForm → (id : ℕ) × (field ≡ SessionId id)
@@ -69,14 +69,14 @@ id_is (Counted bytes) e = absurd (cc)
 id_is (Number number) e = absurd (cc)
 id_is (SessionId id) e = (id, refl)
 id_is (More more) e = absurd (cc)
-id_is (Place address) e = absurd (cc)
+id_is (OneAddress address) e = absurd (cc)
 
 counted_is : (field : Field) → form_of field ≡ CountedForm → (bytes : List ℕ) × (field ≡ Counted bytes)
 counted_is (Counted bytes) e = (bytes, refl)
 counted_is (Number number) e = absurd (cc)
 counted_is (SessionId id) e = absurd (cc)
 counted_is (More more) e = absurd (cc)
-counted_is (Place address) e = absurd (cc)
+counted_is (OneAddress address) e = absurd (cc)
 
 responder_parts : (parts : Parts) → row_of_parts parts ≡ ThenRow SessionIdForm (ThenRow CountedForm RestRow) →
     (near : ℕ) × (part : List ℕ) × (sign : List ℕ) × (parts ≡ parts_of (RIKeying near part sign))
@@ -162,7 +162,7 @@ responder_spelled b chunk are e =
 last_of : Parts → Option (List ℕ)
 last_of (Then first others) = last_of others
 last_of (Rest bytes) = Some bytes
-last_of (Places list) = None
+last_of (AddressList list) = None
 last_of Ignored = None
 
 ends : (parts : Parts) (b sign : List ℕ) → last_of parts ≡ Some sign → PartsSpell parts b → (front : List ℕ) × (b ≡ front ++ sign)
@@ -171,7 +171,7 @@ ends (Then first others) b sign e h =
     let rest = ends others h.1 sign e h.4 in
     (h.0 ++ rest.0, h.2 ∙ ap (λ xs. h.0 ++ xs) rest.1 ∙ sym (append_assoc h.0 rest.0 sign))
 ends (Rest bytes) b sign e h = let same : bytes ≡ sign = cc in ([], h ∙ same)
-ends (Places list) b sign e h = absurd (cc)
+ends (AddressList list) b sign e h = absurd (cc)
 ends Ignored b sign e h = absurd (cc)
 
 signed_of : (secret payload sign : List ℕ) → (front : List ℕ) × (payload ≡ front ++ sign) → is_signed secret payload sign ≡ true → IsSigned secret payload sign

@@ -4,7 +4,7 @@ use Rattle.std.specs.Option.{option_map}
 use Rattle.std.proofs.lemmas.Bool.{cases_eq, cases_lt, ne_eqb, lt-ltb, le-ltb}
 use Rattle.std.proofs.lemmas.List.{append-nil, map-append}
 use Rattle.rtmfp_data_chunks.specs.declared.user_data.Part.{Part}
-use Rattle.rtmfp_data_chunks.specs.Runs.{Number, Missing, Held, GivenUp, Run, has_front, single, fits, joined, stretch_with, stretch, goes_on, run_ending, runs_to}
+use Rattle.rtmfp_data_chunks.specs.Runs.{Number, Missing, Held, GivenUp, Run, has_front, single, fits, joined, run_with, run_up_to, goes_on, run_ending, runs_to}
 use Rattle.flow_recv.specs.Receiver.{join_next, join_before, add_run}
 use Rattle.rtmfp_data_chunks.specs.HandsOver.{IsIn}
 use Rattle.flow_exchange.proofs.Wholes.{IsHeld, in_either}
@@ -16,7 +16,7 @@ pub data SameHeld (v w : Number) : Type 0 where
   Alike : v ≡ w → SameHeld v w
   Neither : (IsHeld v → ⊥) → (IsHeld w → ⊥) → SameHeld v w
 
-pub none_with : (v : Number) (n : ℕ) (o : Option Run) → (IsHeld v → ⊥) → stretch_with v n o ≡ None
+pub none_with : (v : Number) (n : ℕ) (o : Option Run) → (IsHeld v → ⊥) → run_with v n o ≡ None
 none_with Missing n o h = refl
 none_with GivenUp n o h = refl
 none_with (Held p b) n o h = absurd (h tt)
@@ -26,8 +26,8 @@ none_on Missing y h = refl
 none_on GivenUp y h = refl
 none_on (Held p b) y h = absurd (h tt)
 
-with_same : (v w : Number) (n : ℕ) (o : Option Run) → SameHeld v w → stretch_with v n o ≡ stretch_with w n o
-with_same v w n o (Alike e) = ap (λ x. stretch_with x n o) e
+with_same : (v w : Number) (n : ℕ) (o : Option Run) → SameHeld v w → run_with v n o ≡ run_with w n o
+with_same v w n o (Alike e) = ap (λ x. run_with x n o) e
 with_same v w n o (Neither a b) = none_with v n o a ∙ sym (none_with w n o b)
 
 on_same : (v w : Number) (y : Run) → SameHeld v w → goes_on y v ≡ goes_on y w
@@ -38,19 +38,19 @@ ending_same : (o : Option Run) (v w : Number) → SameHeld v w → run_ending o 
 ending_same None v w h = refl
 ending_same (Some y) v w h = ap (λ x. cond x [] (y ∷ [])) (on_same v w y h)
 
-pub stretch_same : (s r : ℕ → Number) (n : ℕ) → ((k : ℕ) → k ≤ n → SameHeld (s k) (r k)) → stretch r n ≡ stretch s n
-unfolding stretch
+pub stretch_same : (s r : ℕ → Number) (n : ℕ) → ((k : ℕ) → k ≤ n → SameHeld (s k) (r k)) → run_up_to r n ≡ run_up_to s n
+unfolding run_up_to
 stretch_same s r zero h = refl
 stretch_same s r (suc n) h =
-    ap (λ x. stretch_with (r (suc n)) (suc n) x) (stretch_same s r n (λ k l. h k (omega arith))) ∙ sym (with_same (s (suc n)) (r (suc n)) (suc n) (stretch s n) (h (suc n) (omega arith)))
+    ap (λ x. run_with (r (suc n)) (suc n) x) (stretch_same s r n (λ k l. h k (omega arith))) ∙ sym (with_same (s (suc n)) (r (suc n)) (suc n) (run_up_to s n) (h (suc n) (omega arith)))
 
 -- the same numbers held: the same runs
 pub runs_same : (s r : ℕ → Number) (n : ℕ) → ((k : ℕ) → SameHeld (s k) (r k)) → runs_to r n ≡ runs_to s n
 unfolding runs_to
 runs_same s r zero h = refl
 runs_same s r (suc n) h =
-    ap (λ x. x ++ run_ending (stretch r (suc n)) (r (suc (suc n)))) (runs_same s r n h)
-    ∙ ap (λ x. runs_to s n ++ x) (ap (λ x. run_ending x (r (suc (suc n)))) (stretch_same s r (suc n) (λ k l. h k)) ∙ sym (ending_same (stretch s (suc n)) (s (suc (suc n))) (r (suc (suc n))) (h (suc (suc n)))))
+    ap (λ x. x ++ run_ending (run_up_to r (suc n)) (r (suc (suc n)))) (runs_same s r n h)
+    ∙ ap (λ x. runs_to s n ++ x) (ap (λ x. run_ending x (r (suc (suc n)))) (stretch_same s r (suc n) (λ k l. h k)) ∙ sym (ending_same (run_up_to s (suc n)) (s (suc (suc n))) (r (suc (suc n))) (h (suc (suc n)))))
 
 -- a stretch that comes after another, joined to it where it fits
 abbrev pub follow : Run → Run → Run
@@ -65,7 +65,7 @@ some_cond : {X : Type 0} (t : Bool) (a b : X) → cond t (Some a) (Some b) ≡ S
 some_cond true a b = refl
 some_cond false a b = refl
 
-held_with : (p : Part) (b : List ℕ) (n : ℕ) (o : Option Run) → stretch_with (Held p b) n o ≡ Some (before o (single n p b))
+held_with : (p : Part) (b : List ℕ) (n : ℕ) (o : Option Run) → run_with (Held p b) n o ≡ Some (before o (single n p b))
 held_with p b n None = refl
 held_with p b n (Some y) = some_cond (fits y (single n p b)) (joined y (single n p b)) (single n p b)
 
@@ -105,7 +105,7 @@ joined_assoc : (x y z : Run) → joined (joined x y) z ≡ joined x (joined y z)
 joined_assoc x y z = run_eq x.first z.last x.front z.rear ((x.bytes ++ y.bytes) ++ z.bytes) (x.bytes ++ (y.bytes ++ z.bytes)) (append_assoc x.bytes y.bytes z.bytes)
 
 -- the first number after x, if it is held
-next_first : (v : Number) (n : ℕ) (x : Run) → stretch_with v n (Some x) ≡ option_map (follow x) (stretch_with v n None)
+next_first : (v : Number) (n : ℕ) (x : Run) → run_with v n (Some x) ≡ option_map (follow x) (run_with v n None)
 next_first Missing n x = refl
 next_first GivenUp n x = refl
 next_first (Held p b) n x = some_cond (fits x (single n p b)) (joined x (single n p b)) (single n p b)
@@ -116,7 +116,7 @@ both_if x y z false true e f g = rw e refl
 both_if x y z t false e f g = rw g refl
 
 -- and a number further on
-next_more : (v : Number) (n : ℕ) (x : Run) (o : Option Run) → x.last < n → stretch_with v (suc n) (option_map (follow x) o) ≡ option_map (follow x) (stretch_with v (suc n) o)
+next_more : (v : Number) (n : ℕ) (x : Run) (o : Option Run) → x.last < n → run_with v (suc n) (option_map (follow x) o) ≡ option_map (follow x) (run_with v (suc n) o)
 next_more Missing n x o lt = refl
 next_more GivenUp n x o lt = refl
 next_more (Held p b) n x None lt =
@@ -139,40 +139,40 @@ pub record Grown (s r : ℕ → Number) (q : ℕ) (p : Part) (b : List ℕ) : Ty
 
 -- the stretch that ends at the new number
 abbrev pub new_stretch : (ℕ → Number) → ℕ → Part → List ℕ → Run
-new_stretch s q p b = before (stretch s (q - 1)) (single q p b)
+new_stretch s q p b = before (run_up_to s (q - 1)) (single q p b)
 
-stretch_at : (s : ℕ → Number) (n k : ℕ) → n ≡ suc k → stretch s n ≡ stretch_with (s n) n (stretch s k)
-unfolding stretch
+stretch_at : (s : ℕ → Number) (n k : ℕ) → n ≡ suc k → run_up_to s n ≡ run_with (s n) n (run_up_to s k)
+unfolding run_up_to
 stretch_at s n k e = rw e refl
 
-pub stretch_new : (s r : ℕ → Number) (q : ℕ) (p : Part) (b : List ℕ) → Grown s r q p b → stretch r q ≡ Some (new_stretch s q p b)
+pub stretch_new : (s r : ℕ → Number) (q : ℕ) (p : Part) (b : List ℕ) → Grown s r q p b → run_up_to r q ≡ Some (new_stretch s q p b)
 stretch_new s r q p b g =
     let e : q ≡ suc (q - 1) = omega (arith, g.above) in
     stretch_at r q (q - 1) e
-    ∙ (ap (λ v. stretch_with v q (stretch r (q - 1))) g.is
-    ∙ (held_with p b q (stretch r (q - 1)) ∙ ap (λ o. Some (before o (single q p b))) (stretch_same s r (q - 1) (λ k l. g.others k (λ x. omega (arith, x, l, g.above))))))
+    ∙ (ap (λ v. run_with v q (run_up_to r (q - 1))) g.is
+    ∙ (held_with p b q (run_up_to r (q - 1)) ∙ ap (λ o. Some (before o (single q p b))) (stretch_same s r (q - 1) (λ k l. g.others k (λ x. omega (arith, x, l, g.above))))))
 
 before_last : (o : Option Run) (x : Run) → (before o x).last ≡ x.last
 before_last None x = refl
 before_last (Some y) x = follow_last_if y x (fits y x)
 
-stretch_none : (s : ℕ → Number) (q : ℕ) → 0 < q → (IsHeld (s q) → ⊥) → stretch s q ≡ None
-stretch_none s q lt h = let e : q ≡ suc (q - 1) = omega (arith, lt) in stretch_at s q (q - 1) e ∙ none_with (s q) q (stretch s (q - 1)) h
+stretch_none : (s : ℕ → Number) (q : ℕ) → 0 < q → (IsHeld (s q) → ⊥) → run_up_to s q ≡ None
+stretch_none s q lt h = let e : q ≡ suc (q - 1) = omega (arith, lt) in stretch_at s q (q - 1) e ∙ none_with (s q) q (run_up_to s (q - 1)) h
 
 -- the stretches beyond it: joined to it where they begin right after it and fit
 pub stretch_beyond : (s r : ℕ → Number) (q : ℕ) (p : Part) (b : List ℕ) (d : ℕ) → Grown s r q p b
-    → stretch r (suc (q + d)) ≡ option_map (follow (new_stretch s q p b)) (stretch s (suc (q + d)))
-unfolding stretch
+    → run_up_to r (suc (q + d)) ≡ option_map (follow (new_stretch s q p b)) (run_up_to s (suc (q + d)))
+unfolding run_up_to
 stretch_beyond s r q p b zero g =
     let x = new_stretch s q p b in
     let z : q + 0 ≡ q = omega arith in
     let v = r (suc (q + 0)) in
     let alike = g.others (suc (q + 0)) (λ e. omega (arith, e)) in
-    ap (λ k. stretch_with v (suc (q + 0)) (stretch r k)) z
-    ∙ (ap (λ o. stretch_with v (suc (q + 0)) o) (stretch_new s r q p b g)
+    ap (λ k. run_with v (suc (q + 0)) (run_up_to r k)) z
+    ∙ (ap (λ o. run_with v (suc (q + 0)) o) (stretch_new s r q p b g)
     ∙ (next_first v (suc (q + 0)) x
     ∙ (ap (option_map (follow x)) (sym (with_same (s (suc (q + 0))) v (suc (q + 0)) None alike))
-    ∙ ap (λ o. option_map (follow x) (stretch_with (s (suc (q + 0))) (suc (q + 0)) o)) (sym (ap (stretch s) z ∙ stretch_none s q g.above g.was)))))
+    ∙ ap (λ o. option_map (follow x) (run_with (s (suc (q + 0))) (suc (q + 0)) o)) (sym (ap (run_up_to s) z ∙ stretch_none s q g.above g.was)))))
 stretch_beyond s r q p b (suc d) g =
     let x = new_stretch s q p b in
     let z : q + suc d ≡ suc (q + d) = omega arith in
@@ -180,24 +180,24 @@ stretch_beyond s r q p b (suc d) g =
     let v = r (suc n) in
     let alike = g.others (suc n) (λ e. omega (arith, e)) in
     let ih = stretch_beyond s r q p b d g in
-    let last : x.last ≡ q = before_last (stretch s (q - 1)) (single q p b) in
-    ap (λ k. stretch_with v (suc n) (stretch r k)) z
-    ∙ (ap (λ o. stretch_with v (suc n) o) ih
-    ∙ (next_more v n x (stretch s (suc (q + d))) (omega (arith, last))
-    ∙ (ap (option_map (follow x)) (sym (with_same (s (suc n)) v (suc n) (stretch s (suc (q + d))) alike))
-    ∙ ap (λ k. option_map (follow x) (stretch_with (s (suc n)) (suc n) (stretch s k))) (sym z))))
+    let last : x.last ≡ q = before_last (run_up_to s (q - 1)) (single q p b) in
+    ap (λ k. run_with v (suc n) (run_up_to r k)) z
+    ∙ (ap (λ o. run_with v (suc n) o) ih
+    ∙ (next_more v n x (run_up_to s (suc (q + d))) (omega (arith, last))
+    ∙ (ap (option_map (follow x)) (sym (with_same (s (suc n)) v (suc n) (run_up_to s (suc (q + d))) alike))
+    ∙ ap (λ k. option_map (follow x) (run_with (s (suc n)) (suc n) (run_up_to s k))) (sym z))))
 
 -- the runs that end above q, up to q + d
 unfoldable pub later : (ℕ → Number) → ℕ → ℕ → List Run
 later s q zero = []
-later s q (suc d) = later s q d ++ run_ending (stretch s (suc (q + d))) (s (suc (suc (q + d))))
+later s q (suc d) = later s q d ++ run_ending (run_up_to s (suc (q + d))) (s (suc (suc (q + d))))
 
 pub split : (s : ℕ → Number) (q d : ℕ) → runs_to s (q + d) ≡ runs_to s q ++ later s q d
 unfolding runs_to later
 split s q zero = let e : q + 0 ≡ q = omega arith in ap (runs_to s) e ∙ sym (append-nil (runs_to s q))
 split s q (suc d) =
     let e : q + suc d ≡ suc (q + d) = omega arith in
-    let end = run_ending (stretch s (suc (q + d))) (s (suc (suc (q + d)))) in
+    let end = run_ending (run_up_to s (suc (q + d))) (s (suc (suc (q + d)))) in
     ap (runs_to s) e ∙ (ap (λ x. x ++ end) (split s q d) ∙ append_assoc (runs_to s q) (later s q d) end)
 
 ending_if : (x y : Run) (t : Bool) → cond t [] (follow x y ∷ []) ≡ map (follow x) (cond t [] (y ∷ []))
@@ -215,11 +215,11 @@ later_follows s r q p b zero g = refl
 later_follows s r q p b (suc d) g =
     let x = new_stretch s q p b in
     let n = suc (q + d) in
-    let end = run_ending (stretch s n) (s (suc n)) in
-    let e : run_ending (stretch r n) (r (suc n)) ≡ map (follow x) end =
+    let end = run_ending (run_up_to s n) (s (suc n)) in
+    let e : run_ending (run_up_to r n) (r (suc n)) ≡ map (follow x) end =
     ap (λ o. run_ending o (r (suc n))) (stretch_beyond s r q p b d g)
-    ∙ (ending_follow x (stretch s n) (r (suc n)) ∙ ap (map (follow x)) (sym (ending_same (stretch s n) (s (suc n)) (r (suc n)) (g.others (suc n) (λ k. omega (arith, k)))))) in
-    ap (λ xs. xs ++ run_ending (stretch r n) (r (suc n))) (later_follows s r q p b d g)
+    ∙ (ending_follow x (run_up_to s n) (r (suc n)) ∙ ap (map (follow x)) (sym (ending_same (run_up_to s n) (s (suc n)) (r (suc n)) (g.others (suc n) (λ k. omega (arith, k)))))) in
+    ap (λ xs. xs ++ run_ending (run_up_to r n) (r (suc n))) (later_follows s r q p b d g)
     ∙ (ap (λ xs. map (follow x) (later s q d) ++ xs) e ∙ sym (map-append (follow x) (later s q d) end))
 
 -- where a stretch begins
@@ -237,24 +237,24 @@ front_if s n p b x y true e o f =
     let g : joined x (single n p b) ≡ y = cc in subst (λ (z : Run). FrontOf s z) g (record { part = o.part; bytes = o.bytes; is = o.is; front = o.front })
 front_if s n p b x y false e o f = front_single s n p b y e cc
 
-front_with : (s : ℕ → Number) (n : ℕ) (v : Number) (o : Option Run) (y : Run) → s n ≡ v → ((x : Run) → o ≡ Some x → FrontOf s x) → stretch_with v n o ≡ Some y → FrontOf s y
+front_with : (s : ℕ → Number) (n : ℕ) (v : Number) (o : Option Run) (y : Run) → s n ≡ v → ((x : Run) → o ≡ Some x → FrontOf s x) → run_with v n o ≡ Some y → FrontOf s y
 front_with s n Missing o y e ih f = absurd cc
 front_with s n GivenUp o y e ih f = absurd cc
 front_with s n (Held p b) None y e ih f = front_single s n p b y e cc
 front_with s n (Held p b) (Some x) y e ih f = front_if s n p b x y (fits x (single n p b)) e (ih x refl) f
 
-pub front_of : (s : ℕ → Number) (n : ℕ) (y : Run) → stretch s n ≡ Some y → FrontOf s y
-unfolding stretch
+pub front_of : (s : ℕ → Number) (n : ℕ) (y : Run) → run_up_to s n ≡ Some y → FrontOf s y
+unfolding run_up_to
 front_of s zero y e = absurd cc
-front_of s (suc n) y e = front_with s (suc n) (s (suc n)) (stretch s n) y refl (λ x. front_of s n x) e
+front_of s (suc n) y e = front_with s (suc n) (s (suc n)) (run_up_to s n) y refl (λ x. front_of s n x) e
 
 -- inside a stretch each part of it goes on
 pub record Inner (s : ℕ → Number) (k : ℕ) : Type 0 where
   pub run : Run
-  pub is : stretch s k ≡ Some run
+  pub is : run_up_to s k ≡ Some run
   pub on : goes_on run (s (suc k)) ≡ true
 
-inner_if : (s : ℕ → Number) (n k : ℕ) (p : Part) (b : List ℕ) (x w : Run) (t : Bool) → s (suc n) ≡ Held p b → stretch s n ≡ Some x → x.last ≡ n → (x.first ≤ k → k < n → Inner s k)
+inner_if : (s : ℕ → Number) (n k : ℕ) (p : Part) (b : List ℕ) (x w : Run) (t : Bool) → s (suc n) ≡ Held p b → run_up_to s n ≡ Some x → x.last ≡ n → (x.first ≤ k → k < n → Inner s k)
     → fits x (single (suc n) p b) ≡ t → cond t (Some (joined x (single (suc n) p b))) (Some (single (suc n) p b)) ≡ Some w → w.first ≤ k → k < suc n → Inner s k
 inner_if s n k p b x w false e o l ih g f low high =
     let z : single (suc n) p b ≡ w = cc in
@@ -269,8 +269,8 @@ inner_if s n k p b x w true e o l ih g f low high =
       | inr ne ↦ ih first (omega (arith, high, ne))
     ]
 
-inner_with : (s : ℕ → Number) (n k : ℕ) (v : Number) (o : Option Run) (w : Run) → s (suc n) ≡ v → stretch s n ≡ o → ((x : Run) → o ≡ Some x → x.first ≤ k → k < n → Inner s k)
-    → stretch_with v (suc n) o ≡ Some w → w.first ≤ k → k < suc n → Inner s k
+inner_with : (s : ℕ → Number) (n k : ℕ) (v : Number) (o : Option Run) (w : Run) → s (suc n) ≡ v → run_up_to s n ≡ o → ((x : Run) → o ≡ Some x → x.first ≤ k → k < n → Inner s k)
+    → run_with v (suc n) o ≡ Some w → w.first ≤ k → k < suc n → Inner s k
 inner_with s n k Missing o w e oe ih f low high = absurd cc
 inner_with s n k GivenUp o w e oe ih f low high = absurd cc
 inner_with s n k (Held p b) None w e oe ih f low high =
@@ -279,10 +279,10 @@ inner_with s n k (Held p b) None w e oe ih f low high =
 inner_with s n k (Held p b) (Some x) w e oe ih f low high =
     inner_if s n k p b x w (fits x (single (suc n) p b)) e oe (stretch_is s n x oe).last (ih x refl) refl f low high
 
-pub inner : (s : ℕ → Number) (n k : ℕ) (w : Run) → stretch s n ≡ Some w → w.first ≤ k → k < n → Inner s k
-unfolding stretch
+pub inner : (s : ℕ → Number) (n k : ℕ) (w : Run) → run_up_to s n ≡ Some w → w.first ≤ k → k < n → Inner s k
+unfolding run_up_to
 inner s zero k w e low high = absurd (omega arith)
-inner s (suc n) k w e low high = inner_with s n k (s (suc n)) (stretch s n) w refl refl (λ x f a c. inner s n k x f a c) e low high
+inner s (suc n) k w e low high = inner_with s n k (s (suc n)) (run_up_to s n) w refl refl (λ x f a c. inner s n k x f a c) e low high
 
 -- a run above q, where q isn't held
 pub record Beyond (s : ℕ → Number) (q : ℕ) (z : Run) : Type 0 where
@@ -295,7 +295,7 @@ ending_is y z true h = absurd h
 ending_is y z false (inl e) = (refl, e)
 ending_is y z false (inr h) = absurd h
 
-beyond_one : (s : ℕ → Number) (q n : ℕ) (o : Option Run) (z : Run) → (IsHeld (s q) → ⊥) → q < n → stretch s n ≡ o → IsIn z (run_ending o (s (suc n))) → Beyond s q z
+beyond_one : (s : ℕ → Number) (q n : ℕ) (o : Option Run) (z : Run) → (IsHeld (s q) → ⊥) → q < n → run_up_to s n ≡ o → IsIn z (run_ending o (s (suc n))) → Beyond s q z
 beyond_one s q n None z not lt e h = absurd h
 beyond_one s q n (Some y) z not lt e h =
     let r = ending_is y z (goes_on y (s (suc n))) h in
@@ -304,8 +304,8 @@ beyond_one s q n (Some y) z not lt e h =
     subst (λ (w : Run). Beyond s q w) (sym r.1) (
     record {
       run = record {
-        stretches = ap (stretch s) o.last ∙ e;
-        of = stretch_is s y.last y (ap (stretch s) o.last ∙ e);
+        stretches = ap (run_up_to s) o.last ∙ e;
+        of = stretch_is s y.last y (ap (run_up_to s) o.last ∙ e);
         low = omega arith;
         stops = ap (λ k. goes_on y (s (suc k))) o.last ∙ r.0;
       };
@@ -317,22 +317,22 @@ beyond_one s q n (Some y) z not lt e h =
 pub beyond : (s : ℕ → Number) (q d : ℕ) (z : Run) → (IsHeld (s q) → ⊥) → IsIn z (later s q d) → Beyond s q z
 unfolding later
 beyond s q zero z not h = absurd h
-beyond s q (suc d) z not h = elim (in_either z (later s q d) (run_ending (stretch s (suc (q + d))) (s (suc (suc (q + d))))) h) [
+beyond s q (suc d) z not h = elim (in_either z (later s q d) (run_ending (run_up_to s (suc (q + d))) (s (suc (suc (q + d))))) h) [
   | inl a ↦ beyond s q d z not a
-  | inr a ↦ beyond_one s q (suc (q + d)) (stretch s (suc (q + d))) z not (omega arith) refl a
+  | inr a ↦ beyond_one s q (suc (q + d)) (run_up_to s (suc (q + d))) z not (omega arith) refl a
 ]
 
 -- the run that begins right after q, where that number is held: it is pending, or the first of the later ones
 pub data First (s : ℕ → Number) (q d : ℕ) : Type 0 where
-  Pending : (y : Run) → stretch s (suc (q + d)) ≡ Some y → y.first ≡ suc q → later s q d ≡ [] → First s q d
+  Pending : (y : Run) → run_up_to s (suc (q + d)) ≡ Some y → y.first ≡ suc q → later s q d ≡ [] → First s q d
   Ended : (z : Run) → (zs : List Run) → later s q d ≡ z ∷ zs → z.first ≡ suc q → ((w : Run) → IsIn w zs → suc q < w.first) → First s q d
 
-stretch_held : (s : ℕ → Number) (n : ℕ) (v : Number) (o : Option Run) → s (suc n) ≡ v → IsHeld v → (y : Run) × (stretch_with v (suc n) o ≡ Some y)
+stretch_held : (s : ℕ → Number) (n : ℕ) (v : Number) (o : Option Run) → s (suc n) ≡ v → IsHeld v → (y : Run) × (run_with v (suc n) o ≡ Some y)
 stretch_held s n Missing o e h = absurd h
 stretch_held s n GivenUp o e h = absurd h
 stretch_held s n (Held p b) o e h = (before o (single (suc n) p b), held_with p b (suc n) o)
 
-joined_on : (v : Number) (n : ℕ) (y : Run) → y.last ≡ n → goes_on y v ≡ true → (w : Run) × (stretch_with v (suc n) (Some y) ≡ Some w) × (w.first ≡ y.first)
+joined_on : (v : Number) (n : ℕ) (y : Run) → y.last ≡ n → goes_on y v ≡ true → (w : Run) × (run_with v (suc n) (Some y) ≡ Some w) × (w.first ≡ y.first)
 joined_on Missing n y l e = absurd cc
 joined_on GivenUp n y l e = absurd cc
 joined_on (Held p b) n y l e =
@@ -340,34 +340,34 @@ joined_on (Held p b) n y l e =
     let f : fits y (single (suc n) p b) ≡ true = ap (λ i. fits y (single i p b)) (sym m) ∙ e in
     (joined y (single (suc n) p b), rw f refl, refl)
 
-pending_more : (s : ℕ → Number) (q d : ℕ) (y : Run) (t : Bool) → (IsHeld (s q) → ⊥) → stretch s (suc (q + d)) ≡ Some y → y.first ≡ suc q → later s q d ≡ []
+pending_more : (s : ℕ → Number) (q d : ℕ) (y : Run) (t : Bool) → (IsHeld (s q) → ⊥) → run_up_to s (suc (q + d)) ≡ Some y → y.first ≡ suc q → later s q d ≡ []
     → goes_on y (s (suc (suc (q + d)))) ≡ t → First s q (suc d)
-unfolding later stretch
+unfolding later run_up_to
 pending_more s q d y true not e f none g =
     let n = suc (q + d) in
     let j = joined_on (s (suc n)) n y (stretch_is s n y e).last g in
     let z : q + suc d ≡ suc (q + d) = omega arith in
-    let up : stretch s (suc (q + suc d)) ≡ Some j.0 = ap (λ k. stretch s (suc k)) z ∙ (ap (stretch_with (s (suc n)) (suc n)) e ∙ j.1) in
-    let l : later s q (suc d) ≡ [] = ap (λ xs. xs ++ run_ending (stretch s n) (s (suc n))) none ∙ (ap (λ o. run_ending o (s (suc n))) e ∙ ap (λ u. cond u [] (y ∷ [])) g) in
+    let up : run_up_to s (suc (q + suc d)) ≡ Some j.0 = ap (λ k. run_up_to s (suc k)) z ∙ (ap (run_with (s (suc n)) (suc n)) e ∙ j.1) in
+    let l : later s q (suc d) ≡ [] = ap (λ xs. xs ++ run_ending (run_up_to s n) (s (suc n))) none ∙ (ap (λ o. run_ending o (s (suc n))) e ∙ ap (λ u. cond u [] (y ∷ [])) g) in
     Pending j.0 up (j.2 ∙ f) l
 pending_more s q d y false not e f none g =
     let n = suc (q + d) in
-    let l : later s q (suc d) ≡ y ∷ [] = ap (λ xs. xs ++ run_ending (stretch s n) (s (suc n))) none ∙ (ap (λ o. run_ending o (s (suc n))) e ∙ ap (λ u. cond u [] (y ∷ [])) g) in
+    let l : later s q (suc d) ≡ y ∷ [] = ap (λ xs. xs ++ run_ending (run_up_to s n) (s (suc n))) none ∙ (ap (λ o. run_ending o (s (suc n))) e ∙ ap (λ u. cond u [] (y ∷ [])) g) in
     Ended y [] l f (λ w h. absurd h)
 
-ended_new : (s : ℕ → Number) (q n : ℕ) (z : Run) (o : Option Run) (w : Run) → Beyond s q z → z.first ≡ suc q → z.last < n → stretch s n ≡ o → (IsHeld (s q) → ⊥) → q < n → IsIn w (run_ending o (s (suc n))) → suc q < w.first
+ended_new : (s : ℕ → Number) (q n : ℕ) (z : Run) (o : Option Run) (w : Run) → Beyond s q z → z.first ≡ suc q → z.last < n → run_up_to s n ≡ o → (IsHeld (s q) → ⊥) → q < n → IsIn w (run_ending o (s (suc n))) → suc q < w.first
 ended_new s q n z o w bz fz lt e not qn h =
     let bw = beyond_one s q n o w not qn e h in
     elim (cases_lt (suc q) w.first) [
       | inl l ↦ l
       | inr l ↦
-          let last : stretch s n ≡ Some w = last_of o w e h in
+          let last : run_up_to s n ≡ Some w = last_of o w e h in
           let i = inner s n z.last w last (omega (arith, l, bw.high, fz, bz.run.of.low)) lt in
           let same : z ≡ i.run = let k : Some z ≡ Some i.run = sym bz.run.stretches ∙ i.is in cc in
           absurd (let x : false ≡ true = sym bz.run.stops ∙ (ap (λ y. goes_on y (s (suc z.last))) same ∙ i.on) in cc)
     ]
   where
-    last_of : (o : Option Run) (w : Run) → stretch s n ≡ o → IsIn w (run_ending o (s (suc n))) → stretch s n ≡ Some w
+    last_of : (o : Option Run) (w : Run) → run_up_to s n ≡ o → IsIn w (run_ending o (s (suc n))) → run_up_to s n ≡ Some w
     last_of None w e h = absurd h
     last_of (Some y) w e h = e ∙ ap (λ x. Some x) (sym (ending_is y w (goes_on y (s (suc n))) h).1)
 
@@ -375,12 +375,12 @@ ended_more : (s : ℕ → Number) (q d : ℕ) (z : Run) (zs : List Run) → (IsH
 unfolding later
 ended_more s q d z zs not e f others low =
     let n = suc (q + d) in
-    let end = run_ending (stretch s n) (s (suc n)) in
+    let end = run_ending (run_up_to s n) (s (suc n)) in
     let bz = beyond s q d z not (subst (λ (xs : List Run). IsIn z xs) (sym e) (inl refl)) in
     Ended z (zs ++ end) (ap (λ xs. xs ++ end) e) f (
     λ w h. elim (in_either w zs end h) [
       | inl a ↦ others w a
-      | inr a ↦ ended_new s q n z (stretch s n) w bz f (omega (arith, low)) refl not (omega arith) a
+      | inr a ↦ ended_new s q n z (run_up_to s n) w bz f (omega (arith, low)) refl not (omega arith) a
     ]
     )
 
@@ -392,11 +392,11 @@ later_low s q d z h = (run_of s (q + d) z (subst (λ (xs : List Run). IsIn z xs)
     in_after x (y ∷ xs) ys h = inr (in_after x xs ys h)
 
 pub first_run : (s : ℕ → Number) (q d : ℕ) → 0 < q → (IsHeld (s q) → ⊥) → IsHeld (s (suc q)) → First s q d
-unfolding later stretch
+unfolding later run_up_to
 first_run s q zero pos not held =
     let z : q + 0 ≡ q = omega arith in
-    let r = stretch_held s q (s (suc q)) (stretch s q) refl held in
-    let e : stretch s (suc (q + 0)) ≡ Some r.0 = ap (λ k. stretch s (suc k)) z ∙ r.1 in
+    let r = stretch_held s q (s (suc q)) (run_up_to s q) refl held in
+    let e : run_up_to s (suc (q + 0)) ≡ Some r.0 = ap (λ k. run_up_to s (suc k)) z ∙ r.1 in
     let o = stretch_is s (suc (q + 0)) r.0 e in
     let high : q < r.0.first = elim (cases_lt q r.0.first) [ inl l ↦ l | inr l ↦ absurd (not (o.held q l (omega arith))) ] in
     Pending r.0 e (omega (arith, high, o.low)) refl
@@ -434,7 +434,7 @@ held_or GivenUp = inr (λ h. h)
 
 pub after_new : (s : ℕ → Number) (q d : ℕ) (x : Run) → x.last ≡ q → 0 < q → (IsHeld (s q) → ⊥) → (IsHeld (s (suc (q + d))) → ⊥)
     → join_next x (later s q d) ≡ run_ending (Some x) (s (suc q)) ++ map (follow x) (later s q d)
-unfolding stretch
+unfolding run_up_to
 after_new s q d x last pos not stop = elim (held_or (s (suc q))) [
   | inl held ↦ elim (first_run s q d pos not held) [
     | Pending y e f none ↦
@@ -494,10 +494,10 @@ same_below : (s r : ℕ → Number) (q n : ℕ) (p : Part) (b : List ℕ) → Gr
 unfolding runs_to
 same_below s r q zero p b g lt = refl
 same_below s r q (suc n) p b g lt =
-    ap (λ x. x ++ run_ending (stretch r (suc n)) (r (suc (suc n)))) (same_below s r q n p b g (omega arith))
+    ap (λ x. x ++ run_ending (run_up_to r (suc n)) (r (suc (suc n)))) (same_below s r q n p b g (omega arith))
     ∙ ap (λ x. runs_to s n ++ x) (
     ap (λ o. run_ending o (r (suc (suc n)))) (stretch_same s r (suc n) (λ k l. g.others k (λ e. omega (arith, e, l, lt))))
-    ∙ sym (ending_same (stretch s (suc n)) (s (suc (suc n))) (r (suc (suc n))) (g.others (suc (suc n)) (λ e. omega (arith, e, lt))))
+    ∙ sym (ending_same (run_up_to s (suc n)) (s (suc (suc n))) (r (suc (suc n))) (g.others (suc (suc n)) (λ e. omega (arith, e, lt))))
     )
 
 -- the run that ended right before it goes on where it fits
@@ -517,23 +517,23 @@ empty_end None v e = refl
 empty_end (Some y) v e = absurd cc
 
 at_new : (s r : ℕ → Number) (m : ℕ) (p : Part) (b : List ℕ) (ys : List Run) → Grown s r (suc m) p b → add_run (single (suc m) p b) ys ≡ join_next (single (suc m) p b) ys
-    → add_run (single (suc m) p b) (runs_to s m ++ ys) ≡ runs_to r m ++ join_next (before (stretch s m) (single (suc m) p b)) ys
-unfolding runs_to stretch
+    → add_run (single (suc m) p b) (runs_to s m ++ ys) ≡ runs_to r m ++ join_next (before (run_up_to s m) (single (suc m) p b)) ys
+unfolding runs_to run_up_to
 at_new s r zero p b ys g k = k
 at_new s r (suc n) p b ys g k =
     let m = suc n in
     let x = single (suc m) p b in
-    let e = run_ending (stretch s m) (s (suc m)) in
+    let e = run_ending (run_up_to s m) (s (suc m)) in
     let low : (a : Run) → IsIn a (runs_to s n) → a.last + 1 < x.first = λ a h. omega (arith, (run_of s n a h).low) in
-    let o : stretch r m ≡ stretch s m = stretch_same s r m (λ i l. g.others i (λ z. omega (arith, z, l))) in
+    let o : run_up_to r m ≡ run_up_to s m = stretch_same s r m (λ i l. g.others i (λ z. omega (arith, z, l))) in
     let below : runs_to r n ≡ runs_to s n = same_below s r (suc m) n p b g (omega arith) in
     ap (add_run x) (append_assoc (runs_to s n) e ys)
     ∙ (add_over x (runs_to s n) (e ++ ys) low
-    ∙ (ap (λ zs. runs_to s n ++ zs) (last_before (stretch s m) m p b (s (suc m)) ys (λ y f. (stretch_is s m y f).last) g.was k)
-    ∙ (sym (append_assoc (runs_to s n) (run_ending (stretch s m) (Held p b)) (join_next (before (stretch s m) x) ys))
-    ∙ ap (λ zs. zs ++ join_next (before (stretch s m) x) ys) (
-    ap (λ zs. zs ++ run_ending (stretch s m) (Held p b)) (sym below)
-    ∙ (ap (λ w. runs_to r n ++ run_ending w (Held p b)) (sym o) ∙ ap (λ v. runs_to r n ++ run_ending (stretch r m) v) (sym g.is))
+    ∙ (ap (λ zs. runs_to s n ++ zs) (last_before (run_up_to s m) m p b (s (suc m)) ys (λ y f. (stretch_is s m y f).last) g.was k)
+    ∙ (sym (append_assoc (runs_to s n) (run_ending (run_up_to s m) (Held p b)) (join_next (before (run_up_to s m) x) ys))
+    ∙ ap (λ zs. zs ++ join_next (before (run_up_to s m) x) ys) (
+    ap (λ zs. zs ++ run_ending (run_up_to s m) (Held p b)) (sym below)
+    ∙ (ap (λ w. runs_to r n ++ run_ending w (Held p b)) (sym o) ∙ ap (λ v. runs_to r n ++ run_ending (run_up_to r m) v) (sym g.is))
     ))))
 
 -- one number more is held: its fragment is added to the runs
@@ -544,13 +544,13 @@ runs_grow s r m d p b g stop =
     let q = suc m in
     let x0 = single q p b in
     let e : q - 1 ≡ m = omega arith in
-    let x : Run = before (stretch s m) x0 in
-    let xs : new_stretch s q p b ≡ x = ap (λ k. before (stretch s k) x0) e in
+    let x : Run = before (run_up_to s m) x0 in
+    let xs : new_stretch s q p b ≡ x = ap (λ k. before (run_up_to s k) x0) e in
     let ys = later s q d in
     let behind : (a : Run) → IsIn a ys → (x0.first < a.first) × (a.first ≤ a.last) = λ a h. let z = beyond s q d a g.was h in (z.high, z.run.of.low) in
     let k = add_before x0 ys behind in
-    let last : x.last ≡ q = before_last (stretch s m) x0 in
-    let none : run_ending (stretch s q) (s (suc q)) ≡ [] = empty_end (stretch s q) (s (suc q)) (stretch_none s q (omega arith) g.was) in
+    let last : x.last ≡ q = before_last (run_up_to s m) x0 in
+    let none : run_ending (run_up_to s q) (s (suc q)) ≡ [] = empty_end (run_up_to s q) (s (suc q)) (stretch_none s q (omega arith) g.was) in
     let old : runs_to s q ≡ runs_to s m = ap (λ zs. runs_to s m ++ zs) none ∙ append-nil (runs_to s m) in
     let right : add_run x0 (runs_to s (q + d)) ≡ runs_to r m ++ join_next x ys =
     ap (add_run x0) (split s q d ∙ ap (λ zs. zs ++ ys) old) ∙ at_new s r m p b ys g k in

@@ -5,7 +5,7 @@ use Rattle.std.proofs.lemmas.Bool.{cases_eq, cases_lt, le-leb, lt-leb}
 use Rattle.std.proofs.lemmas.Bool.Decides.{nat_tests}
 use Rattle.std.proofs.lemmas.List.{append-nil}
 use Rattle.std.proofs.lemmas.List.Elements.{filter-append}
-use Rattle.rtmfp_data_chunks.specs.Runs.{Chunk, Number, Missing, Held, GivenUp, number_of, Run, stretch, goes_on, run_ending, runs_to, runs_of, is_whole, is_ready, message_of, highest, through_with, through, through_of, handed_in_order}
+use Rattle.rtmfp_data_chunks.specs.Runs.{Chunk, Number, Missing, Held, GivenUp, number_of, Run, run_up_to, goes_on, run_ending, runs_to, runs_of, is_whole, is_ready, message_of, highest, through_with, through, through_of, handed_in_order}
 use Rattle.rtmfp_data_chunks.specs.HandsOver.{IsIn}
 use Rattle.flow_exchange.proofs.Ends.{wholes_to}
 use Rattle.flow_exchange.proofs.Wholes.{IsHeld, in_either}
@@ -76,7 +76,7 @@ missing_or GivenUp = inr (λ e. cc)
 
 -- what a run is
 pub record RunOf (s : ℕ → Number) (n : ℕ) (y : Run) : Type 0 where
-  pub stretches : stretch s y.last ≡ Some y
+  pub stretches : run_up_to s y.last ≡ Some y
   pub of : StretchOf s y.last y
   pub low : y.last ≤ n
   pub stops : goes_on y (s (suc y.last)) ≡ false
@@ -86,15 +86,15 @@ ending_of y z true h = absurd h
 ending_of y z false (inl e) = (refl, e)
 ending_of y z false (inr h) = absurd h
 
-run_ending_of : (s : ℕ → Number) (n : ℕ) (o : Option Run) (z : Run) → stretch s n ≡ o → IsIn z (run_ending o (s (suc n))) → RunOf s n z
+run_ending_of : (s : ℕ → Number) (n : ℕ) (o : Option Run) (z : Run) → run_up_to s n ≡ o → IsIn z (run_ending o (s (suc n))) → RunOf s n z
 run_ending_of s n None z e h = absurd h
 run_ending_of s n (Some y) z e h =
     let r = ending_of y z (goes_on y (s (suc n))) h in
     let o = stretch_is s n y e in
     subst (λ (x : Run). RunOf s n x) (sym r.1) (
     record {
-      stretches = ap (stretch s) o.last ∙ e;
-      of = stretch_is s y.last y (ap (stretch s) o.last ∙ e);
+      stretches = ap (run_up_to s) o.last ∙ e;
+      of = stretch_is s y.last y (ap (run_up_to s) o.last ∙ e);
       low = omega (arith, o.last);
       stops = ap (λ x. goes_on y (s (suc x))) o.last ∙ r.0;
     }
@@ -106,9 +106,9 @@ run_low s n m y le r = record { stretches = r.stretches; of = r.of; low = omega 
 pub run_of : (s : ℕ → Number) (n : ℕ) (y : Run) → IsIn y (runs_to s n) → RunOf s n y
 unfolding runs_to
 run_of s zero y h = absurd h
-run_of s (suc n) y h = elim (in_either y (runs_to s n) (run_ending (stretch s (suc n)) (s (suc (suc n)))) h) [
+run_of s (suc n) y h = elim (in_either y (runs_to s n) (run_ending (run_up_to s (suc n)) (s (suc (suc n)))) h) [
   | inl a ↦ run_low s n (suc n) y (omega arith) (run_of s n y a)
-  | inr b ↦ run_ending_of s (suc n) (stretch s (suc n)) y refl b
+  | inr b ↦ run_ending_of s (suc n) (run_up_to s (suc n)) y refl b
 ]
 
 filter_cons : {X : Type 0} (p q : X → Bool) (x : X) (xs : List X) (b : Bool) → p x ≡ b → q x ≡ b → filter p xs ≡ filter q xs → filter p (x ∷ xs) ≡ filter q (x ∷ xs)
@@ -141,7 +141,7 @@ held_not_missing Missing h e = h
 held_not_missing (Held p b) h e = cc
 held_not_missing GivenUp h e = h
 
-none_ending : (s : ℕ → Number) (t n : ℕ) (o : Option Run) (next : Number) → stretch s n ≡ o → t < n → s (suc t) ≡ Missing → filter (is_ready t) (run_ending o next) ≡ []
+none_ending : (s : ℕ → Number) (t n : ℕ) (o : Option Run) (next : Number) → run_up_to s n ≡ o → t < n → s (suc t) ≡ Missing → filter (is_ready t) (run_ending o next) ≡ []
 none_ending s t n None next e lt miss = refl
 none_ending s t n (Some y) next e lt miss =
     let o = stretch_is s n y e in
@@ -155,8 +155,8 @@ ready_to s t (suc m) le miss = elim (cases_eq t (suc m)) [
   | inl e ↦ subst (λ (x : ℕ). filter (is_ready t) (runs_to s x) ≡ filter is_whole (runs_to s t)) e (ready_low s t)
   | inr ne ↦
       let ih = ready_to s t m (omega (arith, ne)) miss in
-      let none = none_ending s t (suc m) (stretch s (suc m)) (s (suc (suc m))) refl (omega (arith, ne, le)) miss in
-      filter-append (is_ready t) (runs_to s m) (run_ending (stretch s (suc m)) (s (suc (suc m))))
+      let none = none_ending s t (suc m) (run_up_to s (suc m)) (s (suc (suc m))) refl (omega (arith, ne, le)) miss in
+      filter-append (is_ready t) (runs_to s m) (run_ending (run_up_to s (suc m)) (s (suc (suc m))))
       ∙ (ap (λ x. filter (is_ready t) (runs_to s m) ++ x) none ∙ (append-nil (filter (is_ready t) (runs_to s m)) ∙ ih))
 ]
 

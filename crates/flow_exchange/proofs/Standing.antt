@@ -5,7 +5,7 @@ use Rattle.std.proofs.lemmas.Bool.{cases_eq, cases_lt, eq-eqb}
 use Rattle.std.proofs.lemmas.List.{append-nil}
 use Rattle.flow_recv.specs.declared.spans.Span.{Span}
 use Rattle.rtmfp_data_chunks.specs.Fragments.{Message}
-use Rattle.rtmfp_data_chunks.specs.Runs.{Chunk, Number, Missing, Held, GivenUp, number_of, is_missing, missing_of, highest, Run, single, fits, joined, stretch, goes_on, run_ending, runs_to, runs_of, is_dead, is_kept, has_number}
+use Rattle.rtmfp_data_chunks.specs.Runs.{Chunk, Number, Missing, Held, GivenUp, number_of, is_missing, missing_of, highest, Run, single, fits, joined, run_up_to, goes_on, run_ending, runs_to, runs_of, is_dead, is_kept, has_number}
 use Rattle.flow_recv.specs.Receiver.{Receiver, lacks, is_alive, living, add_run, join_next, join_before, holds, spans_after, taken, add_span}
 use Rattle.rtmfp_data_chunks.specs.HandsOver.{IsIn}
 use Rattle.flow_exchange.specs.Stands.{StandsFor}
@@ -45,13 +45,13 @@ end_none (Some y) v e = absurd cc
 
 -- above the highest number there are no runs
 runs_above : (s : ℕ → Number) (top d : ℕ) → ((k : ℕ) → top < k → IsHeld (s k) → ⊥) → runs_to s (top + d) ≡ runs_to s top
-unfolding runs_to stretch
+unfolding runs_to run_up_to
 runs_above s top zero h = let e : top + 0 ≡ top = omega arith in ap (runs_to s) e
 runs_above s top (suc d) h =
     let e : top + suc d ≡ suc (top + d) = omega arith in
     let n = suc (top + d) in
-    let none : stretch s n ≡ None = none_with (s n) n (stretch s (top + d)) (h n (omega arith)) in
-    ap (runs_to s) e ∙ (ap (λ x. runs_to s (top + d) ++ x) (end_none (stretch s n) (s (suc n)) none) ∙ (append-nil (runs_to s (top + d)) ∙ runs_above s top d h))
+    let none : run_up_to s n ≡ None = none_with (s n) n (run_up_to s (top + d)) (h n (omega arith)) in
+    ap (runs_to s) e ∙ (ap (λ x. runs_to s (top + d) ++ x) (end_none (run_up_to s n) (s (suc n)) none) ∙ (append-nil (runs_to s (top + d)) ∙ runs_above s top d h))
 
 runs_to_top : (s : ℕ → Number) (top n : ℕ) → top ≤ n → ((k : ℕ) → top < k → IsHeld (s k) → ⊥) → runs_to s n ≡ runs_to s top
 runs_to_top s top n le h = let e : n ≡ top + (n - top) = omega arith in ap (runs_to s) e ∙ runs_above s top (n - top) h
@@ -84,10 +84,10 @@ sorted_end (Some y) v = sorted_if y (goes_on y v)
 pub sorted_runs : (s : ℕ → Number) (n : ℕ) → Sorted (runs_to s n)
 unfolding runs_to
 sorted_runs s zero = tt
-sorted_runs s (suc n) = sorted_push (runs_to s n) (run_ending (stretch s (suc n)) (s (suc (suc n)))) (sorted_runs s n) (sorted_end (stretch s (suc n)) (s (suc (suc n)))) (
+sorted_runs s (suc n) = sorted_push (runs_to s n) (run_ending (run_up_to s (suc n)) (s (suc (suc n)))) (sorted_runs s n) (sorted_end (run_up_to s (suc n)) (s (suc (suc n)))) (
     λ y z h k.
     let ry = run_of s n y h in
-    let e = ending_is (stretch s (suc n)) (s (suc (suc n))) z k in
+    let e = ending_is (run_up_to s (suc n)) (s (suc (suc n))) z k in
     elim (cases_lt y.last z.first) [
       | inl l ↦ l
       | inr l ↦

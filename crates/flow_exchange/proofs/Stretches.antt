@@ -8,7 +8,7 @@ use Rattle.std.proofs.lemmas.List.Elements.{filter-append}
 use Rattle.rtmfp_data_chunks.specs.declared.user_data.Part.{Part}
 use Rattle.rtmfp_data_chunks.specs.declared.user_data.Part.TheVariants.{Whole, Begin, End, Middle}
 use Rattle.rtmfp_data_chunks.specs.Fragments.{Message}
-use Rattle.rtmfp_data_chunks.specs.Runs.{Number, Missing, Held, GivenUp, Run, single, fits, joined, stretch_with, stretch, goes_on, run_ending, runs_to, is_whole, message_of}
+use Rattle.rtmfp_data_chunks.specs.Runs.{Number, Missing, Held, GivenUp, Run, single, fits, joined, run_with, run_up_to, goes_on, run_ending, runs_to, is_whole, message_of}
 use Rattle.flow_exchange.proofs.Ends.{open_with, open_at, whole_with, whole_at, wholes_to}
 use Rattle.flow_exchange.proofs.Wholes.{IsHeld}
 
@@ -59,16 +59,16 @@ stretch_is_if s n p b x y true e o f = stretch_joined s n p b x y e o cc
 stretch_is_if s n p b x y false e o f = stretch_single s n p b y e cc
 
 stretch_is_with : (s : ℕ → Number) (n : ℕ) (v : Number) (before : Option Run) (y : Run) → s (suc n) ≡ v → ((x : Run) → before ≡ Some x → StretchOf s n x)
-    → stretch_with v (suc n) before ≡ Some y → StretchOf s (suc n) y
+    → run_with v (suc n) before ≡ Some y → StretchOf s (suc n) y
 stretch_is_with s n Missing before y e ih f = absurd cc
 stretch_is_with s n GivenUp before y e ih f = absurd cc
 stretch_is_with s n (Held p b) None y e ih f = stretch_single s n p b y e cc
 stretch_is_with s n (Held p b) (Some x) y e ih f = stretch_is_if s n p b x y (fits x (single (suc n) p b)) e (ih x refl) f
 
-pub stretch_is : (s : ℕ → Number) (n : ℕ) (y : Run) → stretch s n ≡ Some y → StretchOf s n y
-unfolding stretch
+pub stretch_is : (s : ℕ → Number) (n : ℕ) (y : Run) → run_up_to s n ≡ Some y → StretchOf s n y
+unfolding run_up_to
 stretch_is s zero y e = absurd cc
-stretch_is s (suc n) y e = stretch_is_with s n (s (suc n)) (stretch s n) y refl (λ x. stretch_is s n x) e
+stretch_is s (suc n) y e = stretch_is_with s n (s (suc n)) (run_up_to s n) y refl (λ x. stretch_is s n x) e
 
 abbrev pub if_open : Bool → Bool → Message → Option Message
 if_open true true m = None
@@ -90,7 +90,7 @@ whole_of (Some y) = if_whole y.front y.rear (message_of y)
 
 -- a stretch and one more number, by the parts
 open_join : (n first last : ℕ) (front rear : Bool) (bytes : List ℕ) (p : Part) (b : List ℕ) → last + 1 ≡ n
-    → open_with (Held p b) n (if_open front rear (record { number = first; bytes = bytes })) ≡ open_of (stretch_with (Held p b) n (Some (with_parts first last front rear bytes)))
+    → open_with (Held p b) n (if_open front rear (record { number = first; bytes = bytes })) ≡ open_of (run_with (Held p b) n (Some (with_parts first last front rear bytes)))
 open_join n first last true true bytes Whole b e = rw (eq-eqb (last + 1) n e) refl
 open_join n first last true true bytes Begin b e = rw (eq-eqb (last + 1) n e) refl
 open_join n first last true true bytes End b e = rw (eq-eqb (last + 1) n e) refl
@@ -109,7 +109,7 @@ open_join n first last false false bytes End b e = rw (eq-eqb (last + 1) n e) re
 open_join n first last false false bytes Middle b e = rw (eq-eqb (last + 1) n e) refl
 
 whole_join : (n first last : ℕ) (front rear : Bool) (bytes : List ℕ) (p : Part) (b : List ℕ) → last + 1 ≡ n
-    → whole_with (Held p b) n (if_open front rear (record { number = first; bytes = bytes })) ≡ whole_of (stretch_with (Held p b) n (Some (with_parts first last front rear bytes)))
+    → whole_with (Held p b) n (if_open front rear (record { number = first; bytes = bytes })) ≡ whole_of (run_with (Held p b) n (Some (with_parts first last front rear bytes)))
 whole_join n first last true true bytes Whole b e = rw (eq-eqb (last + 1) n e) refl
 whole_join n first last true true bytes Begin b e = rw (eq-eqb (last + 1) n e) refl
 whole_join n first last true true bytes End b e = rw (eq-eqb (last + 1) n e) refl
@@ -139,29 +139,29 @@ whole_alone n Begin b = refl
 whole_alone n End b = refl
 whole_alone n Middle b = refl
 
-open_step : (n : ℕ) (v : Number) (before : Option Run) → ((y : Run) → before ≡ Some y → y.last ≡ n) → open_with v (suc n) (open_of before) ≡ open_of (stretch_with v (suc n) before)
+open_step : (n : ℕ) (v : Number) (before : Option Run) → ((y : Run) → before ≡ Some y → y.last ≡ n) → open_with v (suc n) (open_of before) ≡ open_of (run_with v (suc n) before)
 open_step n Missing before e = refl
 open_step n GivenUp before e = refl
 open_step n (Held p b) None e = open_alone (suc n) p b
 open_step n (Held p b) (Some y) e = open_join (suc n) y.first y.last y.front y.rear y.bytes p b (omega (arith, e y refl))
 
-whole_step : (n : ℕ) (v : Number) (before : Option Run) → ((y : Run) → before ≡ Some y → y.last ≡ n) → whole_with v (suc n) (open_of before) ≡ whole_of (stretch_with v (suc n) before)
+whole_step : (n : ℕ) (v : Number) (before : Option Run) → ((y : Run) → before ≡ Some y → y.last ≡ n) → whole_with v (suc n) (open_of before) ≡ whole_of (run_with v (suc n) before)
 whole_step n Missing before e = refl
 whole_step n GivenUp before e = refl
 whole_step n (Held p b) None e = whole_alone (suc n) p b
 whole_step n (Held p b) (Some y) e = whole_join (suc n) y.first y.last y.front y.rear y.bytes p b (omega (arith, e y refl))
 
-pub open_is_stretch : (s : ℕ → Number) (n : ℕ) → open_at s n ≡ open_of (stretch s n)
-unfolding open_at stretch
+pub open_is_stretch : (s : ℕ → Number) (n : ℕ) → open_at s n ≡ open_of (run_up_to s n)
+unfolding open_at run_up_to
 open_is_stretch s zero = refl
 open_is_stretch s (suc n) =
-    ap (λ x. open_with (s (suc n)) (suc n) x) (open_is_stretch s n) ∙ open_step n (s (suc n)) (stretch s n) (λ y e. (stretch_is s n y e).last)
+    ap (λ x. open_with (s (suc n)) (suc n) x) (open_is_stretch s n) ∙ open_step n (s (suc n)) (run_up_to s n) (λ y e. (stretch_is s n y e).last)
 
-pub whole_is_stretch : (s : ℕ → Number) (n : ℕ) → whole_at s n ≡ whole_of (stretch s n)
-unfolding whole_at stretch
+pub whole_is_stretch : (s : ℕ → Number) (n : ℕ) → whole_at s n ≡ whole_of (run_up_to s n)
+unfolding whole_at run_up_to
 whole_is_stretch s zero = refl
 whole_is_stretch s (suc n) =
-    ap (λ x. whole_with (s (suc n)) (suc n) x) (open_is_stretch s n) ∙ whole_step n (s (suc n)) (stretch s n) (λ y e. (stretch_is s n y e).last)
+    ap (λ x. whole_with (s (suc n)) (suc n) x) (open_is_stretch s n) ∙ whole_step n (s (suc n)) (run_up_to s n) (λ y e. (stretch_is s n y e).last)
 
 -- a whole stretch is a run
 goes_if : (y : Run) (b : Bool) → y.rear ≡ true → cond b (cond y.rear false (cond false false true)) false ≡ false
@@ -189,6 +189,6 @@ unfolding wholes_to runs_to
 wholes_are s zero = refl
 wholes_are s (suc t) =
     ap (λ x. x ++ option_to_list (whole_at s (suc t))) (wholes_are s t)
-    ∙ (ap (λ x. map message_of (filter is_whole (runs_to s t)) ++ x) (ap option_to_list (whole_is_stretch s (suc t)) ∙ ending (stretch s (suc t)) (s (suc (suc t))))
-    ∙ (sym (map-append message_of (filter is_whole (runs_to s t)) (filter is_whole (run_ending (stretch s (suc t)) (s (suc (suc t))))))
-    ∙ ap (map message_of) (sym (filter-append is_whole (runs_to s t) (run_ending (stretch s (suc t)) (s (suc (suc t))))))))
+    ∙ (ap (λ x. map message_of (filter is_whole (runs_to s t)) ++ x) (ap option_to_list (whole_is_stretch s (suc t)) ∙ ending (run_up_to s (suc t)) (s (suc (suc t))))
+    ∙ (sym (map-append message_of (filter is_whole (runs_to s t)) (filter is_whole (run_ending (run_up_to s (suc t)) (s (suc (suc t))))))
+    ∙ ap (map message_of) (sym (filter-append is_whole (runs_to s t) (run_ending (run_up_to s (suc t)) (s (suc (suc t))))))))

@@ -7,10 +7,10 @@ ghost use Rattle.flow_send.specs.Acks.{Told, greatest, acknowledge, acknowledge_
     last_place, in_range};
 
 use crate::rows::Rows;
-use rtmfp_data_chunks::AckedRanges;
+use rtmfp_data_chunks::AckedSpans;
 
 /// The greatest number that an ack acknowledges.
-pub fn greatest(upto: u64, ranges: &AckedRanges<'_>) -> u64
+pub fn greatest(upto: u64, ranges: &AckedSpans<'_>) -> u64
     ensures { result ≡ greatest upto ranges.now }
 {
     let mut most = upto;
@@ -38,7 +38,7 @@ fn acknowledge_stretch(rows: &mut Rows, forward: u64, first: u64, last: u64) -> 
 }
 
 /// Acknowledges what an ack tells. The answer is the last place of what it newly acknowledges.
-pub fn acknowledge(rows: &mut Rows, forward: u64, upto: u64, ranges: &AckedRanges<'_>) -> u64
+pub fn acknowledge(rows: &mut Rows, forward: u64, upto: u64, ranges: &AckedSpans<'_>) -> u64
     requires { greatest upto ranges.now < forward + 1 + length rows.old.rows }
     ensures rows { rows.new.rows
         ≡ map_rows (acknowledge (record { blocks = 0; upto = upto; ranges = ranges.now }))

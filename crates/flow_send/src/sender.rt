@@ -28,7 +28,7 @@ use crate::rows::Rows;
 use crate::told::spelled;
 use crate::waiting::{MessageOptions, Waiting};
 use rtmfp_base::Memory;
-use rtmfp_data_chunks::{AckedRanges, Part, UserData};
+use rtmfp_data_chunks::{AckedSpans, Part, UserData};
 use rtmfp_forms::{Options, options_len, read_options};
 use rtmfp_vlu::vlu_len;
 use std::alloc::{AllocError, Global};
@@ -342,7 +342,7 @@ impl FlowSender {
         &mut self,
         blocks: u64,
         upto: u64,
-        ranges: AckedRanges<'_>,
+        ranges: AckedSpans<'_>,
     ) -> Result<Acked, AckFault>
         ensures beyond { MatchOption (beyond self.old.sender (told blocks upto ranges.entry))
             (IsOk result) (λ n. result ≡ Err (AckFault.AckBeyond n)) }

@@ -2,4 +2,4 @@ pub mod Maps
 pub mod Rows
 pub mod Lowest
 pub mod Counts
-pub mod Places
+pub mod Indices

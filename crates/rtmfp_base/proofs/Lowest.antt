@@ -1,7 +1,7 @@
 -- The first entry of a map whose value passes a test is that of the lowest such key, and how a list of rows is looked through for it.
-use Rattle.std.proofs.Common.{inl, inr, ◌≡◌, ◌<◌, ◌≤◌, ◌+◌, ℕ, Bool, true, false, List, [], ◌∷◌, length, cond, find, get_or, T, ◌&&◌, refl, sym, ap, ◌∙◌, Some, None, Option, subst, arith}
+use Rattle.std.proofs.Common.{inl, inr, ◌≡◌, ◌<◌, ◌≤◌, ◌+◌, ℕ, Bool, true, false, List, [], ◌∷◌, length, cond, find, get_or, T, ◌&&◌, refl, sym, ap, ◌∙◌, Some, None, subst, arith}
 use Rattle.std.proofs.lemmas.Bool.Decides.{nat_tests}
-use Rattle.std.proofs.lemmas.Bool.{cases_order, cases_Bool, cases_lt}
+use Rattle.std.proofs.lemmas.Bool.{cases_order, cases_Bool}
 use Rattle.std.proofs.lemmas.List.{get_or_default}
 use Rattle.std.specs.Ordering.{nat_cmp, is_lt, eq_by_cmp}
 use Rattle.std.specs.FinMap.{FinMap, entries, entries_sorted, is_sorted, get-entries, get}
@@ -118,93 +118,18 @@ first_is_there p m e f = let there = found_first p (entries m) e (entries_sorted
 -- ---- rows that are looked through one by one
 
 module _ {A V : Type 0} (key : A → ℕ) (value : A → V) where
-  pub best_of_none : (p : V → Bool) (rows : List A) → IsBest key value p rows 0 None
-  best_of_none p rows = record { fails = λ i d lt. absurd (omega arith) }
-
-  -- the next row doesn't pass
-  pub best_stays : (p : V → Bool) (rows : List A) (n : ℕ) (best : Option ℕ) → ((d : A) → p (value (get_or rows n d)) ≡ false) → IsBest key value p rows n best → IsBest key value p rows (n + 1) best
-  best_stays p rows n None bad is = record {
-    fails = λ i d lt. elim (cases_lt i n) [
-      | inl before ↦ is.fails i d before
-      | inr after ↦ subst (λ (k : ℕ). p (value (get_or rows k d)) ≡ false) (at_end i n lt after) (bad d)
-    ];
-  }
-    where
-      at_end : (i n : ℕ) → i < n + 1 → n ≤ i → n ≡ i
-      at_end i n lt after = omega arith
-  best_stays p rows n (Some place) bad is = record {
-    within = omega (arith, is.within);
-    passes = is.passes;
-    lowest = λ i d lt good. elim (cases_lt i n) [
-      | inl before ↦ is.lowest i d before good
-      | inr after ↦ absurd (clash (p (value (get_or rows i d))) good (subst (λ (k : ℕ). p (value (get_or rows k d)) ≡ false) (at_end i n lt after) (bad d)))
-    ];
-  }
-    where
-      at_end : (i n : ℕ) → i < n + 1 → n ≤ i → n ≡ i
-      at_end i n lt after = omega arith
-
-      clash : (b : Bool) → b ≡ true → b ≡ false → ⊥
-      clash b good bad = let both : true ≡ false = sym good ∙ bad in cc
-
-  -- the next row is the first that passes
-  pub best_is_first : (p : V → Bool) (rows : List A) (n : ℕ) → ((d : A) → p (value (get_or rows n d)) ≡ true) → IsBest key value p rows n None → IsBest key value p rows (n + 1) (Some n)
-  best_is_first p rows n good is = record {
-    within = omega arith;
-    passes = good;
-    lowest = λ i d lt at. elim (cases_lt i n) [
-      | inl before ↦ absurd (clash (p (value (get_or rows i d))) at (is.fails i d before))
-      | inr after ↦ subst (λ (k : ℕ). key (get_or rows n d) ≤ key (get_or rows k d)) (at_end i n lt after) (omega arith)
-    ];
-  }
-    where
-      at_end : (i n : ℕ) → i < n + 1 → n ≤ i → n ≡ i
-      at_end i n lt after = omega arith
-
-      clash : (b : Bool) → b ≡ true → b ≡ false → ⊥
-      clash b good bad = let both : true ≡ false = sym good ∙ bad in cc
-
-  -- the next row passes and has a lower key, or it hasn't
-  pub best_is_lower : (p : V → Bool) (rows : List A) (n place : ℕ) → ((d : A) → p (value (get_or rows n d)) ≡ true) → ((d : A) → key (get_or rows n d) ≤ key (get_or rows place d)) →
-      IsBest key value p rows n (Some place) → IsBest key value p rows (n + 1) (Some n)
-  best_is_lower p rows n place good lower is = record {
-    within = omega arith;
-    passes = good;
-    lowest = λ i d lt at. elim (cases_lt i n) [
-      | inl before ↦ let a = lower d in let b = is.lowest i d before at in omega (arith, a, b)
-      | inr after ↦ subst (λ (k : ℕ). key (get_or rows n d) ≤ key (get_or rows k d)) (at_end i n lt after) (omega arith)
-    ];
-  }
-    where
-      at_end : (i n : ℕ) → i < n + 1 → n ≤ i → n ≡ i
-      at_end i n lt after = omega arith
-
-  pub best_is_kept : (p : V → Bool) (rows : List A) (n place : ℕ) → ((d : A) → key (get_or rows place d) ≤ key (get_or rows n d)) →
-      IsBest key value p rows n (Some place) → IsBest key value p rows (n + 1) (Some place)
-  best_is_kept p rows n place above is = record {
-    within = omega (arith, is.within);
-    passes = is.passes;
-    lowest = λ i d lt at. elim (cases_lt i n) [
-      | inl before ↦ is.lowest i d before at
-      | inr after ↦ subst (λ (k : ℕ). key (get_or rows place d) ≤ key (get_or rows k d)) (at_end i n lt after) (above d)
-    ];
-  }
-    where
-      at_end : (i n : ℕ) → i < n + 1 → n ≤ i → n ≡ i
-      at_end i n lt after = omega arith
-
   -- when all were looked through: the first entry that passes
-  pub best_is_entry : (p : V → Bool) (rows : List A) (place : ℕ) → IsDistinct key value rows → IsBest key value p rows (length rows) (Some place) → (d : A) →
-      find (λ e. p e.1) (entries (table key value rows)) ≡ Some (key (get_or rows place d), value (get_or rows place d))
-  best_is_entry p rows place distinct is d =
-      let row = get_or rows place d in
-      lowest_is_first p (table key value rows) (key row) (value row) (row_at key value rows place d distinct is.within) (is.passes d) (λ j w lt there.
+  pub best_is_entry : (p : V → Bool) (rows : List A) (index : ℕ) → IsDistinct key value rows → IsBest key value p rows (length rows) (Some index) → (d : A) →
+      find (λ e. p e.1) (entries (table key value rows)) ≡ Some (key (get_or rows index d), value (get_or rows index d))
+  best_is_entry p rows index distinct is d =
+      let row = get_or rows index d in
+      lowest_is_first p (table key value rows) (key row) (value row) (row_at key value rows index d distinct is.within) (is.passes d) (λ j w lt there.
       let found = row_of key value rows j w there in
       elim (cases_Bool (p w)) [
         | inl good ↦
-            let above : key (get_or rows place found.0) ≤ key (get_or rows found.1.0 found.0) = is.lowest found.1.0 found.0 found.1.1 (ap (λ (r : A). p (value r)) found.1.2 ∙ ap p found.3 ∙ good) in
+            let above : key (get_or rows index found.0) ≤ key (get_or rows found.1.0 found.0) = is.lowest found.1.0 found.0 found.1.1 (ap (λ (r : A). p (value r)) found.1.2 ∙ ap p found.3 ∙ good) in
             let other : key (get_or rows found.1.0 found.0) ≡ j = ap key found.1.2 ∙ found.2 in
-            let this : key (get_or rows place found.0) ≡ key row = ap key (get_or_default rows place found.0 d is.within) in
+            let this : key (get_or rows index found.0) ≡ key row = ap key (get_or_default rows index found.0 d is.within) in
             absurd (omega (arith, above, other, this, lt))
         | inr bad ↦ bad
       ])

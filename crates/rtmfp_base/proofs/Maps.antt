@@ -80,17 +80,6 @@ module _ {V : Type 0} where
     | inr is ↦ get_left (insert m k v) k q is.0 ∙ get_beside m k v q is.0
   ])
 
-  -- a key is taken away before or after another one is put there
-  pub remove_crossed : (m : FinMap nat_cmp V) (k : ℕ) (v : V) (j : ℕ) → (j ≡ k → ⊥) → remove (insert m k v) j ≡ insert (remove m j) k v
-  remove_crossed m k v j apart = same_tables _ _ (λ q. elim (same_or_not q j) [
-    | inl is ↦ ap (get (remove (insert m k v) j)) is.0 ∙ get_removed (insert m k v) j
-        ∙ sym (ap (get (insert (remove m j) k v)) is.0 ∙ get_beside (remove m j) k v j apart ∙ get_removed m j)
-    | inr is ↦ get_left (insert m k v) j q is.0 ∙ elim (same_or_not q k) [
-      | inl at ↦ ap (get (insert m k v)) at.0 ∙ get_inserted m k v ∙ sym (ap (get (insert (remove m j) k v)) at.0 ∙ get_inserted (remove m j) k v)
-      | inr at ↦ get_beside m k v q at.0 ∙ sym (get_beside (remove m j) k v q at.0 ∙ get_left m j q is.0)
-    ]
-  ])
-
   pub len_new : (m : FinMap nat_cmp V) (k : ℕ) (v : V) → get m k ≡ None → len (insert m k v) ≡ len m + 1
   len_new m k v none = len-insert nat_cmp_total m k v ∙ ap (λ o. cond (is_some o) (len m) (len m + 1)) none
 

@@ -3,14 +3,14 @@ use Rattle.std.proofs.Common.{ℕ, ◌≡◌, ◌<◌, ◌≤◌, ◌==◌, zero
 use Rattle.std.proofs.Math.ListN.{length-set}
 use Rattle.std.specs.Ordering.{nat_cmp}
 use Rattle.std.specs.Cmp.{nat_cmp_total}
-use Rattle.std.specs.List.{Contains, remove as remove_at, swap_remove, position_or_len}
+use Rattle.std.specs.List.{Contains, swap_remove, position_or_len}
 use Rattle.std.specs.List.Sorted.{IsPermutation}
 use Rattle.std.specs.FinMap.{FinMap, get, insert, remove, empty, len, from_entries, get-empty, len-empty, get-from_entries, from_entries_push, nat_cmp-IsAntisymmetric}
 use Rattle.std.proofs.lemmas.Bool.Decides.{nat_tests}
 use Rattle.std.proofs.lemmas.List.{map-append}
 use Rattle.std.proofs.lemmas.List.Quantifiers.{position-Some}
 use Rattle.std.proofs.lemmas.List.Sums.{fails_before_first}
-use Rattle.std.proofs.lemmas.List.Sorted.{Contains-permutation, IsPermutation-sym, IsPermutation-remove, IsPermutation-swap_remove, length_permutation}
+use Rattle.std.proofs.lemmas.List.Sorted.{Contains-permutation, IsPermutation-sym, IsPermutation-swap_remove, length_permutation}
 use Rattle.std.proofs.lemmas.Bool.{cases_lt, lt-ltb}
 use Rattle.rtmfp_base.specs.Rows as rows_of
 use Rattle.rtmfp_base.proofs.Maps.{same_or_not, none_is_some, same_tables, get_inserted, get_beside, found_inserted, insert_twice, insert_crossed, remove_inserted, len_new, len_known}
@@ -62,7 +62,7 @@ module _ {A V : Type 0} (key : A → ℕ) (value : A → V) where
 
   -- ---- what is found
 
-  -- the row at a place is found under its key
+  -- the row at an index is found under its key
   pub row_at : (rows : List A) (i : ℕ) (d : A) → IsDistinct rows → i < length rows → get (table rows) (key (get_or rows i d)) ≡ Some (value (get_or rows i d))
   row_at [] i d distinct within = absurd (omega arith)
   row_at (row ∷ rows) zero d distinct within = get_inserted (table rows) (key row) (value row)
@@ -183,22 +183,19 @@ module _ {A V : Type 0} (key : A → ℕ) (value : A → V) where
         distinct = rest_are_distinct row rest whole;
       }
 
-  pub table_removed : (rows : List A) (i : ℕ) (row : A) → IsDistinct rows → i < length rows → row ≡ get_or rows i row → IsWithout rows row (remove_at rows i)
-  table_removed rows i row distinct within is = without rows row (remove_at rows i) distinct (IsPermutation-remove rows i row within is)
-
   pub table_swap_removed : (rows : List A) (i : ℕ) (row : A) → IsDistinct rows → i < length rows → row ≡ get_or rows i row → IsWithout rows row (swap_remove rows i row)
   table_swap_removed rows i row distinct within is = without rows row (swap_remove rows i row) distinct (IsPermutation-swap_remove rows i row within is)
 
-  -- ---- the place of a key
+  -- ---- the index of a key
 
-  pub record IsPlace (rows : List A) (k i : ℕ) : Type 0 where
+  pub record IsIndex (rows : List A) (k i : ℕ) : Type 0 where
     pub within : i < length rows
     pub key_is : (d : A) → key (get_or rows i d) ≡ k
     pub found : (d : A) → get (table rows) k ≡ Some (value (get_or rows i d))
 
-  pub place_found : (rows : List A) (k i : ℕ) → IsDistinct rows → position (λ row. key row == k) rows ≡ Some i → IsPlace rows k i
-  place_found [] k i distinct e = absurd (cc)
-  place_found (row ∷ rows) k i distinct e =
+  pub index_found : (rows : List A) (k i : ℕ) → IsDistinct rows → position (λ row. key row == k) rows ≡ Some i → IsIndex rows k i
+  index_found [] k i distinct e = absurd (cc)
+  index_found (row ∷ rows) k i distinct e =
       let p : A → Bool = λ r. key r == k in
       let here = position-Some p (row ∷ rows) i in
       record {
@@ -207,15 +204,15 @@ module _ {A V : Type 0} (key : A → ℕ) (value : A → V) where
         found = λ d. ap (get (table (row ∷ rows))) (sym (key_test (key (get_or (row ∷ rows) i d)) k (here d e).1)) ∙ row_at (row ∷ rows) i d distinct (here d e).0;
       }
 
-  unplaced : (n count : ℕ) → cond (nat_lt n count) (Some n) None ≡ None → count ≤ n
-  unplaced n count e = elim (cases_lt n count) [ inl lt ↦ absurd (let t = lt-ltb n count lt in cc) | inr ge ↦ ge ]
+  not_found : (n count : ℕ) → cond (nat_lt n count) (Some n) None ≡ None → count ≤ n
+  not_found n count e = elim (cases_lt n count) [ inl lt ↦ absurd (let t = lt-ltb n count lt in cc) | inr ge ↦ ge ]
 
-  pub place_none : (rows : List A) (k : ℕ) → position (λ row. key row == k) rows ≡ None → get (table rows) k ≡ None
-  place_none rows k e = elim (there_or_not (get (table rows) k)) [
+  pub index_none : (rows : List A) (k : ℕ) → position (λ row. key row == k) rows ≡ None → get (table rows) k ≡ None
+  index_none rows k e = elim (there_or_not (get (table rows) k)) [
     | inl there ↦
         let found = row_of rows k there.0 there.1 in
         let p : A → Bool = λ r. key r == k in
-        let all : length rows ≤ position_or_len p rows = unplaced (position_or_len p rows) (length rows) e in
+        let all : length rows ≤ position_or_len p rows = not_found (position_or_len p rows) (length rows) e in
         let fails : p (get_or rows found.1.0 found.0) ≡ false = fails_before_first p rows found.1.0 found.0 (omega (arith, found.1.1, all)) in
         let passes : p (get_or rows found.1.0 found.0) ≡ true = test_key (key (get_or rows found.1.0 found.0)) k (ap key found.1.2 ∙ found.2) in
         let clash : false ≡ true = sym fails ∙ passes in

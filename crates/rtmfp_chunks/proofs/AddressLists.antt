@@ -11,7 +11,7 @@ use Rattle.rtmfp_forms.specs.AddressReading.{address_at}
 use Rattle.rtmfp_forms.proofs.Addresses.{parts, short_address, whole_address}
 use Rattle.std.proofs.lemmas.Bool.{cases_lt}
 use Rattle.rtmfp_forms.specs.OptionReading.{◌>>=◌}
-use Rattle.rtmfp_chunks.specs.Fields.{AddressesSpell, AreAddresses, AddressesBreak, PlaceForm, Place}
+use Rattle.rtmfp_chunks.specs.Fields.{AddressesSpell, AreAddresses, AddressesBreak, AddressForm, OneAddress}
 use Rattle.rtmfp_chunks.specs.FieldReading.{split_address, address_then, addresses_within, addresses_at, list_at, found_or_none, first_addresses, addresses_in}
 use Rattle.rtmfp_chunks.proofs.FieldLaws.{Is, address_is, address_then-again, address_then-cut}
 
@@ -64,7 +64,7 @@ unfolding list_at addresses_at
 list_broken b at h =
     let enough : length h.front < suc (length b) = omega (arith, ap length h.joined, length-append h.front h.rest) in
     let read : addresses_within (suc (length b)) b ≡ Err (length h.rest) = ap (addresses_within (suc (length b))) h.joined ∙ broken_within h.addresses h.front h.rest (suc (length b)) h.whole h.some h.cut enough in
-    let left : length h.rest ≡ length b - at = omega (arith, ap length h.joined, length-append h.front h.rest, h.place) in
+    let left : length h.rest ≡ length b - at = omega (arith, ap length h.joined, length-append h.front h.rest, h.begins) in
     rw read (ap (λ (n : ℕ). Err n) left)
 
 -- ---- the walk over the list
@@ -78,7 +78,7 @@ walked_bytes bytes rest fits w = subst IsBytes (behind bytes w.1 rest w.2) (IsBy
 
 pub walked_on : (bytes rest : List ℕ) (a : AddressParts) (after : List ℕ) → IsBytes bytes → Walked bytes rest → address_then rest ≡ Ok (a, after) → Walked bytes after × (length after < length rest)
 walked_on bytes rest a after fits w e =
-    let one : Is PlaceForm Place rest (Ok (a, after)) = rw e at (address_is rest (walked_bytes bytes rest fits w)) in (
+    let one : Is AddressForm OneAddress rest (Ok (a, after)) = rw e at (address_is rest (walked_bytes bytes rest fits w)) in (
       (w.0 ++ a ∷ [], w.1 ++ one.0, w.2 ∙ ap (λ (xs : List ℕ). w.1 ++ xs) one.1 ∙ sym (append_assoc w.1 one.0 after), addresses-push w.0 w.1 a one.0 w.3 one.2),
       omega (arith, address-some a one.0 one.2, ap length one.1, length-append one.0 after),
     )
@@ -89,7 +89,7 @@ walked_end bytes (x ∷ xs) w e = absurd (omega (arith, e))
 
 pub walked_fault : (bytes rest : List ℕ) (left : ℕ) → IsBytes bytes → Walked bytes rest → 0 < length rest → address_then rest ≡ Err left → list_at bytes ≡ Err left
 walked_fault bytes rest left fits w some e =
-    let one : Is PlaceForm Place rest (Err left) = rw e at (address_is rest (walked_bytes bytes rest fits w)) in
+    let one : Is AddressForm OneAddress rest (Err left) = rw e at (address_is rest (walked_bytes bytes rest fits w)) in
     let broken : AddressesBreak bytes (length bytes - left) = record {
       addresses = w.0;
       front = w.1;
@@ -98,7 +98,7 @@ walked_fault bytes rest left fits w some e =
       whole = w.3;
       some = some;
       cut = one.1.0;
-      place = omega (arith, ap length w.2, length-append w.1 rest, one.0, one.1.1);
+      begins = omega (arith, ap length w.2, length-append w.1 rest, one.0, one.1.1);
     } in
     let same : length bytes - (length bytes - left) ≡ left = omega (arith, ap length w.2, length-append w.1 rest, one.0) in
     list_broken bytes (length bytes - left) broken ∙ ap (λ (n : ℕ). Err n) same
@@ -122,18 +122,18 @@ list_more b front rest a (Err left) e first h =
         whole = (front, broken.front, refl, first, broken.whole);
         some = broken.some;
         cut = broken.cut;
-        place = omega (arith, ap length e, length-append front rest, h.0, broken.place, length-append front broken.front);
+        begins = omega (arith, ap length e, length-append front rest, h.0, broken.begins, length-append front broken.front);
       },
     )
 
-list_first : (steps x : ℕ) (xs : List ℕ) (r : Result (AddressParts × List ℕ) ℕ) → Is PlaceForm Place (x ∷ xs) r → ((rest : List ℕ) → IsBytes rest → length rest < steps → ListIs rest (addresses_within steps rest)) → IsBytes (x ∷ xs)
+list_first : (steps x : ℕ) (xs : List ℕ) (r : Result (AddressParts × List ℕ) ℕ) → Is AddressForm OneAddress (x ∷ xs) r → ((rest : List ℕ) → IsBytes rest → length rest < steps → ListIs rest (addresses_within steps rest)) → IsBytes (x ∷ xs)
     → length (x ∷ xs) < suc steps → ListIs (x ∷ xs) (r >>= λ first. (addresses_within steps first.1 >>= λ others. Ok (first.0 ∷ others)))
 list_first steps x xs (Ok first) h later fits lt =
     let bytes : IsBytes first.1 = subst IsBytes (behind (x ∷ xs) h.0 first.1 h.1) (IsBytes-drop (length h.0) (x ∷ xs) fits) in
     let fewer : length first.1 < steps = omega (arith, lt, ap length h.1, length-append h.0 first.1, address-some first.0 h.0 h.2) in
     list_more (x ∷ xs) h.0 first.1 first.0 (addresses_within steps first.1) h.1 h.2 (later first.1 bytes fewer)
 list_first steps x xs (Err left) h later fits lt =
-    (h.0, record { addresses = []; front = []; rest = x ∷ xs; joined = refl; whole = refl; some = omega arith; cut = h.1.0; place = h.1.1 })
+    (h.0, record { addresses = []; front = []; rest = x ∷ xs; joined = refl; whole = refl; some = omega arith; cut = h.1.0; begins = h.1.1 })
 
 list_within : (steps : ℕ) (b : List ℕ) → IsBytes b → length b < steps → ListIs b (addresses_within steps b)
 unfolding addresses_within
@@ -146,7 +146,7 @@ unfolding addresses_at
 list_is b fits = list_within (suc (length b)) b fits (omega arith)
 
 pub addresses_within_length : (b : List ℕ) (at : ℕ) → AddressesBreak b at → at ≤ length b
-addresses_within_length b at h = omega (arith, ap length h.joined, length-append h.front h.rest, h.place)
+addresses_within_length b at h = omega (arith, ap length h.joined, length-append h.front h.rest, h.begins)
 
 -- ---- one after another
 

@@ -11,15 +11,15 @@ use Rattle.rtmfp_vlu.specs.Reading.{number_at}
 use Rattle.rtmfp_vlu.specs.Decoding.{Decodes}
 use Rattle.rtmfp_vlu.proofs.Bytes.{IsBytes, IsBytes-take}
 use Rattle.rtmfp_vlu.proofs.Fields.{stands}
-use Rattle.rtmfp_vlu.proofs.Places.{decodes_number, reads_number, reads_cut, reads_large}
+use Rattle.rtmfp_vlu.proofs.Decoded.{decodes_number, reads_number, reads_cut, reads_large}
 use Rattle.rtmfp_forms.specs.declared.fault.FormFault.{FormFault}
 use Rattle.rtmfp_forms.specs.declared.fault.FormFault.TheVariants.{Short, Large, NoMarker}
 use Rattle.rtmfp_forms.specs.Address.{AddressParts, AddressSpells, IsCutAddress}
 use Rattle.rtmfp_forms.specs.AddressReading.{address_at}
 use Rattle.rtmfp_forms.specs.OptionReading.{◌>>=◌}
 use Rattle.rtmfp_forms.proofs.Addresses.{address_takes, address_again, address_short, address_only_short}
-use Rattle.rtmfp_chunks.specs.Fields.{Field, Counted, Number, SessionId, More, Place, FieldSpells, CountedSpells, NoVlu, FieldBreaks, form_of}
-use Rattle.rtmfp_chunks.specs.Fields.{Form, CountedForm, NumberForm, SessionIdForm, MoreForm, PlaceForm}
+use Rattle.rtmfp_chunks.specs.Fields.{Field, Counted, Number, SessionId, More, OneAddress, FieldSpells, CountedSpells, NoVlu, FieldBreaks, form_of}
+use Rattle.rtmfp_chunks.specs.Fields.{Form, CountedForm, NumberForm, SessionIdForm, MoreForm, AddressForm}
 use Rattle.rtmfp_chunks.specs.FieldReading.{split_number, number_then, bytes_then, counted_then, id_then, more_then, split_address, address_then, field_then}
 
 -- what was read, made a field of this form, is spelled in front; or it breaks
@@ -57,7 +57,7 @@ counted_from b size count rest e h =
     elim (cases_lt (length rest) size) [
       | inl lt ↦ rw (lt-ltb (length rest) size lt) (
         omega (arith, ap length e, length-append count rest),
-        inr record { size = size; count = count; rest = rest; spells = h; joined = e; cut = lt; place = omega (arith, ap length e, length-append count rest) },
+        inr record { size = size; count = count; rest = rest; spells = h; joined = e; cut = lt; begins = omega (arith, ap length e, length-append count rest) },
       )
       | inr fits ↦ rw (le-ltb (length rest) size fits) (
           let P : ℕ → Type 0 = λ n. VluSpells n count in (
@@ -86,7 +86,7 @@ counted_broken : (b : List ℕ) (at : ℕ) → FieldBreaks CountedForm b at → 
 unfolding counted_then bytes_then
 counted_broken b at (inl none) = let left : length b ≡ length b - at = omega (arith, none.1) in rw (number_broken b none.0) (ap (λ (n : ℕ). Err n) left)
 counted_broken b at (inr h) =
-    let left : length h.rest ≡ length b - at = omega (arith, ap length h.joined, length-append h.count h.rest, h.place) in
+    let left : length h.rest ≡ length b - at = omega (arith, ap length h.joined, length-append h.count h.rest, h.begins) in
     let read : number_then b ≡ Ok (h.size, h.rest) = ap number_then h.joined ∙ number_again h.size h.count h.rest h.spells in
     rw (read, lt-ltb (length h.rest) h.size h.cut) (ap (λ (n : ℕ). Err n) left)
 
@@ -135,13 +135,13 @@ more_broken b at h = let left : 0 ≡ length b - at = omega (arith, ap length h.
 
 -- ---- addresses
 
-located : (b : List ℕ) (r : Result (AddressParts × ℕ) FormFault) → IsBytes b → r ≡ address_at b → Is PlaceForm Place b (split_address b r)
+located : (b : List ℕ) (r : Result (AddressParts × ℕ) FormFault) → IsBytes b → r ≡ address_at b → Is AddressForm OneAddress b (split_address b r)
 located b (Ok found) fits e = let h = address_takes b (Ok found) fits e in (take found.1 b, sym (take-append-drop found.1 b), h.1)
 located b (Err Short) fits e = (omega arith, ((address_short b).0 (sym e), omega arith))
 located b (Err Large) fits e = absurd (cc (rw (← e) at (address_only_short b)))
 located b (Err NoMarker) fits e = absurd (cc (rw (← e) at (address_only_short b)))
 
-pub address_is : (b : List ℕ) → IsBytes b → Is PlaceForm Place b (address_then b)
+pub address_is : (b : List ℕ) → IsBytes b → Is AddressForm OneAddress b (address_then b)
 unfolding address_then
 address_is b fits = located b (address_at b) fits refl
 
@@ -170,7 +170,7 @@ field_is CountedForm b fits = made CountedForm Counted b (counted_then b) (λ x.
 field_is NumberForm b fits = made NumberForm Number b (number_then b) (λ x. refl) (number_is b fits)
 field_is SessionIdForm b fits = made SessionIdForm SessionId b (id_then b) (λ x. refl) (id_is b fits)
 field_is MoreForm b fits = made MoreForm More b (more_then b) (λ x. refl) (more_is b fits)
-field_is PlaceForm b fits = made PlaceForm Place b (address_then b) (λ x. refl) (address_is b fits)
+field_is AddressForm b fits = made AddressForm OneAddress b (address_then b) (λ x. refl) (address_is b fits)
 
 -- what is spelled is read, whatever follows it
 pub field_again : (field : Field) (s rest : List ℕ) → FieldSpells field s → field_then (form_of field) (s ++ rest) ≡ Ok (field, rest)
@@ -179,7 +179,7 @@ field_again (Counted bytes) s rest h = rw (counted_again bytes s rest h) refl
 field_again (Number number) s rest h = rw (number_again number s rest h) refl
 field_again (SessionId id) s rest h = rw (id_again id s rest h.0 h.1) refl
 field_again (More more) s rest h = rw (more_again more s rest h) refl
-field_again (Place address) s rest h = rw (address_then-again address s rest h) refl
+field_again (OneAddress address) s rest h = rw (address_then-again address s rest h) refl
 
 -- what breaks isn't read
 pub field_broken : (form : Form) (b : List ℕ) (at : ℕ) → FieldBreaks form b at → field_then form b ≡ Err (length b - at)
@@ -188,12 +188,12 @@ field_broken CountedForm b at h = rw (counted_broken b at h) refl
 field_broken NumberForm b at h = let left : length b ≡ length b - at = omega (arith, h.1) in rw (number_broken b h.0) (ap (λ (n : ℕ). Err n) left)
 field_broken SessionIdForm b at h = rw (id_broken b at h) refl
 field_broken MoreForm b at h = rw (more_broken b at h) refl
-field_broken PlaceForm b at h = let left : length b ≡ length b - at = omega (arith, h.1) in rw (address_then-cut b h.0) (ap (λ (n : ℕ). Err n) left)
+field_broken AddressForm b at h = let left : length b ≡ length b - at = omega (arith, h.1) in rw (address_then-cut b h.0) (ap (λ (n : ℕ). Err n) left)
 
 pub breaks_within : (form : Form) (b : List ℕ) (at : ℕ) → FieldBreaks form b at → at ≤ length b
 breaks_within CountedForm b at (inl none) = omega (arith, none.1)
-breaks_within CountedForm b at (inr h) = omega (arith, ap length h.joined, length-append h.count h.rest, h.place)
+breaks_within CountedForm b at (inr h) = omega (arith, ap length h.joined, length-append h.count h.rest, h.begins)
 breaks_within NumberForm b at h = omega (arith, h.1)
 breaks_within SessionIdForm b at h = omega (arith, h.1)
 breaks_within MoreForm b at h = omega (arith, h.1)
-breaks_within PlaceForm b at h = omega (arith, h.1)
+breaks_within AddressForm b at h = omega (arith, h.1)

@@ -5,7 +5,7 @@ use Rattle.rtmfp_vlu.proofs.Bytes.{IsBytes, IsBytes-drop}
 use Rattle.rtmfp_vlu.proofs.Fields.{behind}
 use Rattle.rtmfp_forms.specs.Address.{AddressParts}
 use Rattle.rtmfp_forms.specs.OptionReading.{◌>>=◌}
-use Rattle.rtmfp_chunks.specs.Fields.{Field, Parts, Then, Rest, Places, Ignored, Form, Row, ThenRow, RestRow, PlacesRow, IgnoredRow, FieldSpells, PartsSpell, RowBreaks, form_of}
+use Rattle.rtmfp_chunks.specs.Fields.{Field, Parts, Then, Rest, AddressList, Ignored, Form, Row, ThenRow, RestRow, AddressesRow, IgnoredRow, FieldSpells, PartsSpell, RowBreaks, form_of}
 use Rattle.rtmfp_chunks.specs.FieldReading.{field_then, addresses_at, list_at, row_at}
 use Rattle.rtmfp_chunks.proofs.FieldLaws.{FieldIs, field_is, field_again, field_broken, breaks_within}
 use Rattle.rtmfp_chunks.proofs.AddressLists.{ListIs, list_is, list_again, list_broken, addresses_within_length}
@@ -13,7 +13,7 @@ use Rattle.rtmfp_chunks.proofs.AddressLists.{ListIs, list_is, list_again, list_b
 abbrev pub row_of_parts : Parts → Row
 row_of_parts (Then first others) = ThenRow (form_of first) (row_of_parts others)
 row_of_parts (Rest bytes) = RestRow
-row_of_parts (Places list) = PlacesRow
+row_of_parts (AddressList list) = AddressesRow
 row_of_parts Ignored = IgnoredRow
 
 abbrev pub RowIs : Row → List ℕ → Result Parts ℕ → Type 0
@@ -33,16 +33,16 @@ step_is first others b (Ok found) h later fits =
     then_is first others b found.0 h.0 found.1 (row_at others found.1) h.1 h.2 h.3 (later found.1 bytes)
 step_is first others b (Err left) h later fits = (h.0, inl h.1)
 
-places_is : (b : List ℕ) (r : Result (List AddressParts) ℕ) → ListIs b r → RowIs PlacesRow b ((r >>= λ addresses. Ok b) >>= λ list. Ok (Places list))
-places_is b (Ok addresses) h = (refl, (addresses, h))
-places_is b (Err left) h = h
+addresses_are : (b : List ℕ) (r : Result (List AddressParts) ℕ) → ListIs b r → RowIs AddressesRow b ((r >>= λ addresses. Ok b) >>= λ list. Ok (AddressList list))
+addresses_are b (Ok addresses) h = (refl, (addresses, h))
+addresses_are b (Err left) h = h
 
 -- what is read is spelled, and what can't be read breaks there
 pub row_is : (row : Row) (b : List ℕ) → IsBytes b → RowIs row b (row_at row b)
 unfolding row_at list_at
 row_is (ThenRow first others) b fits = step_is first others b (field_then first b) (field_is first b fits) (λ rest bytes. row_is others rest bytes) fits
 row_is RestRow b fits = refl
-row_is PlacesRow b fits = places_is b (addresses_at b) (list_is b fits)
+row_is AddressesRow b fits = addresses_are b (addresses_at b) (list_is b fits)
 row_is IgnoredRow b fits = tt
 
 -- what is spelled is read
@@ -50,25 +50,25 @@ pub row_again : (parts : Parts) (b : List ℕ) → PartsSpell parts b → row_at
 unfolding row_at
 row_again (Then first others) b (front, rest, e, one, more) = rw (e, field_again first front rest one, row_again others rest more) refl
 row_again (Rest bytes) b h = ap (λ (xs : List ℕ). Ok (Rest xs)) h
-row_again (Places list) b h = rw (list_again b h.1) (ap (λ (xs : List ℕ). Ok (Places xs)) h.0)
+row_again (AddressList list) b h = rw (list_again b h.1) (ap (λ (xs : List ℕ). Ok (AddressList xs)) h.0)
 row_again Ignored b h = refl
 
 -- what breaks isn't read
 pub row_broken : (row : Row) (b : List ℕ) (at : ℕ) → RowBreaks row b at → row_at row b ≡ Err (length b - at)
 unfolding row_at
 row_broken (ThenRow first others) b at (inl h) = rw (field_broken first b at h) refl
-row_broken (ThenRow first others) b at (inr (field, front, rest, later, f, e, one, more, place)) =
+row_broken (ThenRow first others) b at (inr (field, front, rest, later, f, e, one, more, begins)) =
     let read : field_then first b ≡ Ok (field, rest) = ap (λ (x : Form). field_then x b) (sym f) ∙ ap (field_then (form_of field)) e ∙ field_again field front rest one in
-    let left : length rest - later ≡ length b - at = omega (arith, ap length e, length-append front rest, place) in
+    let left : length rest - later ≡ length b - at = omega (arith, ap length e, length-append front rest, begins) in
     rw (read, row_broken others rest later more) (ap (λ (n : ℕ). Err n) left)
 row_broken RestRow b at h = absurd h
-row_broken PlacesRow b at h = rw (list_broken b at h) refl
+row_broken AddressesRow b at h = rw (list_broken b at h) refl
 row_broken IgnoredRow b at h = absurd h
 
 pub row_within : (row : Row) (b : List ℕ) (at : ℕ) → RowBreaks row b at → at ≤ length b
 row_within (ThenRow first others) b at (inl h) = breaks_within first b at h
-row_within (ThenRow first others) b at (inr (field, front, rest, later, f, e, one, more, place)) =
-    omega (arith, row_within others rest later more, ap length e, length-append front rest, place)
+row_within (ThenRow first others) b at (inr (field, front, rest, later, f, e, one, more, begins)) =
+    omega (arith, row_within others rest later more, ap length e, length-append front rest, begins)
 row_within RestRow b at h = absurd h
-row_within PlacesRow b at h = addresses_within_length b at h
+row_within AddressesRow b at h = addresses_within_length b at h
 row_within IgnoredRow b at h = absurd h

@@ -3,7 +3,7 @@ use Rattle.std.proofs.Common.{◌≡◌, ℕ, ◌<◌, Bool, true, false, cond, 
 use Rattle.rtmfp_vlu.proofs.Fields.{vlu-spells}
 use Rattle.rtmfp_vlu.specs.Vlu.{vlu}
 use Rattle.rtmfp_forms.proofs.Addresses.{address_bytes-spell}
-use Rattle.rtmfp_chunks.specs.Fields.{Field, Counted, Number, SessionId, More, Place, Parts, Then, Rest, Places, Ignored, FieldSpells, PartsSpell, AreAddresses}
+use Rattle.rtmfp_chunks.specs.Fields.{Field, Counted, Number, SessionId, More, OneAddress, Parts, Then, Rest, AddressList, Ignored, FieldSpells, PartsSpell, AreAddresses}
 use Rattle.rtmfp_chunks.specs.Chunk.{Chunk, IHello, FIHello, RHello, Redirect, CookieChange, IIKeying, RIKeying, Ping, PingReply, Close, CloseAck, Fragment, parts_of}
 use Rattle.rtmfp_chunks.specs.Reading.{Reading}
 use Rattle.rtmfp_chunks.specs.Writing.{field_bytes, parts_bytes, FieldFits, PartsFit, IsWritable}
@@ -21,12 +21,12 @@ field_bytes-spell (Counted bytes) h = record { count = vlu (length bytes); spell
 field_bytes-spell (Number number) h = vlu-spells number h
 field_bytes-spell (SessionId id) h = (h, refl)
 field_bytes-spell (More more) h = record { flags = cond more 128 0; fits = flags_fit more; highest = flags_highest more; whole = refl }
-field_bytes-spell (Place address) h = address_bytes-spell address h
+field_bytes-spell (OneAddress address) h = address_bytes-spell address h
 
 pub parts_bytes-spell : (parts : Parts) → PartsFit parts → PartsSpell parts (parts_bytes parts)
 parts_bytes-spell (Then first others) h = (field_bytes first, parts_bytes others, refl, field_bytes-spell first h.0, parts_bytes-spell others h.1)
 parts_bytes-spell (Rest bytes) h = refl
-parts_bytes-spell (Places list) h = (refl, h)
+parts_bytes-spell (AddressList list) h = (refl, h)
 parts_bytes-spell Ignored h = tt
 
 writable_parts : (chunk : Chunk) (b : List ℕ) → PartsSpell (parts_of chunk) b → IsWritable chunk

@@ -3,10 +3,32 @@ use Rattle.std.specs.Prelude.{◌≡◌, ℕ, ◌==◌, if◌then◌else◌, Boo
 use Rattle.rtmfp_forms.specs.Address.{AddressParts}
 use Rattle.rtmfp_chunks.specs.declared.view.ChunkView.{ChunkView}
 use Rattle.rtmfp_chunks.specs.declared.view.ChunkView.TheVariants as view
-use Rattle.rtmfp_chunks.specs.Fields.{Counted, Number, SessionId, More, Place, Parts, Then, Rest,
-    Places, Ignored, PartsSpell}
-use Rattle.rtmfp_chunks.specs.Fields.{Row, ThenRow, RestRow, PlacesRow, IgnoredRow, CountedForm,
-    NumberForm, SessionIdForm, MoreForm, PlaceForm, RowBreaks}
+use Rattle.rtmfp_chunks.specs.Fields.{
+  Counted,
+  Number,
+  SessionId,
+  More,
+  OneAddress,
+  Parts,
+  Then,
+  Rest,
+  AddressList,
+  Ignored,
+  PartsSpell,
+}
+use Rattle.rtmfp_chunks.specs.Fields.{
+  Row,
+  ThenRow,
+  RestRow,
+  AddressesRow,
+  IgnoredRow,
+  CountedForm,
+  NumberForm,
+  SessionIdForm,
+  MoreForm,
+  AddressForm,
+  RowBreaks,
+}
 
 -- a chunk as contracts see it; the list of a redirect is its addresses' bytes
 pub data Chunk : Type 0 where
@@ -57,13 +79,13 @@ kind_of (Fragment more id number bytes) = 0x7f
 -- the fields of each chunk
 abbrev pub parts_of : Chunk → Parts
 parts_of (IHello epd tag) = Then (Counted epd) (Rest tag)
-parts_of (FIHello epd reply tag) = Then (Counted epd) (Then (Place reply) (Rest tag))
+parts_of (FIHello epd reply tag) = Then (Counted epd) (Then (OneAddress reply) (Rest tag))
 parts_of (RHello tag cookie cert) = Then (Counted tag) (Then (Counted cookie) (Rest cert))
-parts_of (Redirect tag list) = Then (Counted tag) (Places list)
+parts_of (Redirect tag list) = Then (Counted tag) (AddressList list)
 parts_of (CookieChange old new) = Then (Counted old) (Rest new)
 parts_of (IIKeying near cookie cert part sign) =
     Then (SessionId near) (Then (Counted cookie)
-      (Then (Counted cert) (Then (Counted part) (Rest sign))))
+    (Then (Counted cert) (Then (Counted part) (Rest sign))))
 parts_of (RIKeying near part sign) = Then (SessionId near) (Then (Counted part) (Rest sign))
 parts_of (Ping bytes) = Rest bytes
 parts_of (PingReply bytes) = Rest bytes
@@ -80,20 +102,20 @@ Spells chunk kind b = (kind ≡ kind_of chunk) × PartsSpell (parts_of chunk) b
 unfoldable pub row_of : ℕ → Option Row
 row_of kind =
     if kind == 0x30 then Some (ThenRow CountedForm RestRow)
-    else if kind == 0x0f then Some (ThenRow CountedForm (ThenRow PlaceForm RestRow))
+    else if kind == 0x0f then Some (ThenRow CountedForm (ThenRow AddressForm RestRow))
     else if kind == 0x70 then Some (ThenRow CountedForm (ThenRow CountedForm RestRow))
-    else if kind == 0x71 then Some (ThenRow CountedForm PlacesRow)
+    else if kind == 0x71 then Some (ThenRow CountedForm AddressesRow)
     else if kind == 0x79 then Some (ThenRow CountedForm RestRow)
     else if kind == 0x38 then
-      Some (ThenRow SessionIdForm (ThenRow CountedForm
-      (ThenRow CountedForm (ThenRow CountedForm RestRow))))
+    Some (ThenRow SessionIdForm (ThenRow CountedForm
+    (ThenRow CountedForm (ThenRow CountedForm RestRow))))
     else if kind == 0x78 then Some (ThenRow SessionIdForm (ThenRow CountedForm RestRow))
     else if kind == 0x01 then Some RestRow
     else if kind == 0x41 then Some RestRow
     else if kind == 0x0c then Some IgnoredRow
     else if kind == 0x4c then Some IgnoredRow
     else if kind == 0x7f then
-      Some (ThenRow MoreForm (ThenRow NumberForm (ThenRow NumberForm RestRow)))
+    Some (ThenRow MoreForm (ThenRow NumberForm (ThenRow NumberForm RestRow)))
     else None
 
 -- the first field that isn't there breaks at this offset

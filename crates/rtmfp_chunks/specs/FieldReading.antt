@@ -1,8 +1,30 @@
 -- Fields from left to right. Where one can't be read, the number of bytes from there to the end is
 -- told.
 use Rattle.std.specs.Borrow.{Bor}
-use Rattle.std.specs.Prelude.{◌≡◌, ℕ, ◌-◌, ◌==◌, zero, suc, Bool, List, [], ◌∷◌, length, take, drop,
-    Option, Some, None, Result, Ok, Err, nat_lt, nat_le, if◌then◌else◌}
+use Rattle.std.specs.Prelude.{
+  ◌≡◌,
+  ℕ,
+  ◌-◌,
+  ◌==◌,
+  zero,
+  suc,
+  Bool,
+  List,
+  [],
+  ◌∷◌,
+  length,
+  take,
+  drop,
+  Option,
+  Some,
+  None,
+  Result,
+  Ok,
+  Err,
+  nat_lt,
+  nat_le,
+  if◌then◌else◌,
+}
 use Rattle.std.specs.Int.{w32, from_be_bytes}
 use Rattle.rtmfp_vlu.specs.declared.reading.VluFault.{VluFault}
 use Rattle.rtmfp_vlu.specs.Reading.{number_at}
@@ -11,15 +33,53 @@ use Rattle.rtmfp_forms.specs.Address.{AddressParts}
 use Rattle.rtmfp_forms.specs.AddressReading.{address_at}
 use Rattle.rtmfp_forms.specs.OptionReading.{◌>>=◌}
 use Rattle.rtmfp_chunks.specs.declared.view.ChunkView.{ChunkView}
-use Rattle.rtmfp_chunks.specs.Fields.{Field, Counted, Number, SessionId, More, Place, Parts, Then,
-    Rest, Places, Ignored}
-use Rattle.rtmfp_chunks.specs.Fields.{Form, CountedForm, NumberForm, SessionIdForm, MoreForm,
-    PlaceForm, Row, ThenRow, RestRow, PlacesRow, IgnoredRow}
+use Rattle.rtmfp_chunks.specs.Fields.{
+  Field,
+  Counted,
+  Number,
+  SessionId,
+  More,
+  OneAddress,
+  Parts,
+  Then,
+  Rest,
+  AddressList,
+  Ignored,
+}
+use Rattle.rtmfp_chunks.specs.Fields.{
+  Form,
+  CountedForm,
+  NumberForm,
+  SessionIdForm,
+  MoreForm,
+  AddressForm,
+  Row,
+  ThenRow,
+  RestRow,
+  AddressesRow,
+  IgnoredRow,
+}
 use Rattle.rtmfp_chunks.specs.declared.reading.ChunkFault.{ChunkFault}
 use Rattle.rtmfp_chunks.specs.declared.reading.ChunkFault.TheVariants.{Unknown, Malformed}
-use Rattle.rtmfp_chunks.specs.Chunk.{Chunk, IHello, FIHello, RHello, Redirect, CookieChange,
-    IIKeying, RIKeying, Ping, PingReply, Close, CloseAck, Fragment, chunk_of, kind_of, parts_of,
-    row_of}
+use Rattle.rtmfp_chunks.specs.Chunk.{
+  Chunk,
+  IHello,
+  FIHello,
+  RHello,
+  Redirect,
+  CookieChange,
+  IIKeying,
+  RIKeying,
+  Ping,
+  PingReply,
+  Close,
+  CloseAck,
+  Fragment,
+  chunk_of,
+  kind_of,
+  parts_of,
+  row_of,
+}
 
 -- what a function returned, seen by view, is what reading gives
 abbrev pub Shows : {X Y : Type 0} → (X → Y) → Result X ℕ → Result Y ℕ → Type 0
@@ -96,7 +156,7 @@ field_then CountedForm b = counted_then b >>= λ found. Ok (Counted found.0, fou
 field_then NumberForm b = number_then b >>= λ found. Ok (Number found.0, found.1)
 field_then SessionIdForm b = id_then b >>= λ found. Ok (SessionId found.0, found.1)
 field_then MoreForm b = more_then b >>= λ found. Ok (More found.0, found.1)
-field_then PlaceForm b = address_then b >>= λ found. Ok (Place found.0, found.1)
+field_then AddressForm b = address_then b >>= λ found. Ok (OneAddress found.0, found.1)
 
 unfoldable pub row_at : Row → List ℕ → Result Parts ℕ
 row_at (ThenRow first others) b = do
@@ -104,7 +164,7 @@ row_at (ThenRow first others) b = do
   parts ← row_at others field.1
   Ok (Then field.0 parts)
 row_at RestRow b = Ok (Rest b)
-row_at PlacesRow b = list_at b >>= λ list. Ok (Places list)
+row_at AddressesRow b = list_at b >>= λ list. Ok (AddressList list)
 row_at IgnoredRow b = Ok Ignored
 
 abbrev pub typed : ℕ → Result Parts ℕ → Result (ℕ × Parts) ℕ
@@ -138,12 +198,12 @@ value_of found = (found.0, found.1.now)
 unfoldable pub chunk_with : ℕ → Parts → Option Chunk
 chunk_with kind (Then (Counted x) (Rest y)) = if kind == 0x30 then Some (IHello x y)
     else if kind == 0x79 then Some (CookieChange x y) else None
-chunk_with kind (Then (Counted epd) (Then (Place reply) (Rest tag))) =
+chunk_with kind (Then (Counted epd) (Then (OneAddress reply) (Rest tag))) =
     if kind == 0x0f then Some (FIHello epd reply tag) else None
 chunk_with kind (Then (Counted tag) (Then (Counted cookie) (Rest cert))) =
     if kind == 0x70 then Some (RHello tag cookie cert) else None
-chunk_with kind (Then (Counted tag) (Places list)) = if kind == 0x71 then Some (Redirect tag list)
-    else None
+chunk_with kind (Then (Counted tag) (AddressList list)) =
+    if kind == 0x71 then Some (Redirect tag list) else None
 chunk_with kind
     (Then (SessionId near) (Then (Counted cookie)
     (Then (Counted cert) (Then (Counted part) (Rest sign))))) =

@@ -15,14 +15,14 @@ pub data Field : Type 0 where
   -- a byte of flags, the highest of which says whether more fragments follow; the others are
   -- ignored
   More : (more : Bool) → Field
-  Place : (address : AddressParts) → Field
+  OneAddress : (address : AddressParts) → Field
 
 -- the fields of a payload, one after another, the last of which goes to its end
 pub data Parts : Type 0 where
   Then : (first : Field) → (others : Parts) → Parts
   Rest : (bytes : List ℕ) → Parts
   -- addresses, in the bytes that spell them
-  Places : (list : List ℕ) → Parts
+  AddressList : (list : List ℕ) → Parts
   -- any bytes, which say nothing
   Ignored : Parts
 
@@ -45,13 +45,13 @@ FieldSpells (Counted bytes) b = CountedSpells bytes b
 FieldSpells (Number number) b = VluSpells number b
 FieldSpells (SessionId id) b = (id < 2 ^ 32) × (b ≡ to_be_bytes w32 id)
 FieldSpells (More more) b = FlagsSpell more b
-FieldSpells (Place address) b = AddressSpells address b
+FieldSpells (OneAddress address) b = AddressSpells address b
 
 abbrev pub AddressesSpell : List AddressParts → List ℕ → Type 0
 AddressesSpell [] b = b ≡ []
 AddressesSpell (a ∷ addresses) b =
     (front : List ℕ) × (rest : List ℕ) × (b ≡ front ++ rest) × AddressSpells a front ×
-      AddressesSpell addresses rest
+    AddressesSpell addresses rest
 
 -- whole addresses, and nothing else
 abbrev pub AreAddresses : List ℕ → Type 0
@@ -61,9 +61,9 @@ AreAddresses b = (addresses : List AddressParts) × AddressesSpell addresses b
 abbrev pub PartsSpell : Parts → List ℕ → Type 0
 PartsSpell (Then first others) b =
     (front : List ℕ) × (rest : List ℕ) × (b ≡ front ++ rest) × FieldSpells first front ×
-      PartsSpell others rest
+    PartsSpell others rest
 PartsSpell (Rest bytes) b = b ≡ bytes
-PartsSpell (Places list) b = (b ≡ list) × AreAddresses b
+PartsSpell (AddressList list) b = (b ≡ list) × AreAddresses b
 PartsSpell Ignored b = Unit {0}
 
 -- ---- which fields stand where
@@ -73,12 +73,12 @@ pub data Form : Type 0 where
   NumberForm : Form
   SessionIdForm : Form
   MoreForm : Form
-  PlaceForm : Form
+  AddressForm : Form
 
 pub data Row : Type 0 where
   ThenRow : (first : Form) → (others : Row) → Row
   RestRow : Row
-  PlacesRow : Row
+  AddressesRow : Row
   IgnoredRow : Row
 
 abbrev pub form_of : Field → Form
@@ -86,7 +86,7 @@ form_of (Counted bytes) = CountedForm
 form_of (Number number) = NumberForm
 form_of (SessionId id) = SessionIdForm
 form_of (More more) = MoreForm
-form_of (Place address) = PlaceForm
+form_of (OneAddress address) = AddressForm
 
 -- ---- where they break
 
@@ -102,7 +102,7 @@ pub record IsCutAfter (b : List ℕ) (at : ℕ) : Type 0 where
   pub spells : VluSpells size count
   pub joined : b ≡ count ++ rest
   pub cut : length rest < size
-  pub place : at ≡ length count
+  pub begins : at ≡ length count
 
 -- no field of this form stands in front, and what of it isn't there whole, or is large, begins at
 -- this offset
@@ -111,7 +111,7 @@ FieldBreaks CountedForm b at = (NoVlu b × (at ≡ 0)) ⊎ IsCutAfter b at
 FieldBreaks NumberForm b at = NoVlu b × (at ≡ 0)
 FieldBreaks SessionIdForm b at = (length b < 4) × (at ≡ 0)
 FieldBreaks MoreForm b at = (b ≡ []) × (at ≡ 0)
-FieldBreaks PlaceForm b at = IsCutAddress b × (at ≡ 0)
+FieldBreaks AddressForm b at = IsCutAddress b × (at ≡ 0)
 
 -- whole addresses, and then some bytes, from this offset on, with which no whole address begins
 pub record AddressesBreak (b : List ℕ) (at : ℕ) : Type 0 where
@@ -122,15 +122,15 @@ pub record AddressesBreak (b : List ℕ) (at : ℕ) : Type 0 where
   pub whole : AddressesSpell addresses front
   pub some : 0 < length rest
   pub cut : IsCutAddress rest
-  pub place : at ≡ length front
+  pub begins : at ≡ length front
 
 -- the first field that isn't there breaks at this offset
 abbrev pub RowBreaks : Row → List ℕ → ℕ → Type 0
 RowBreaks (ThenRow first others) b at =
     FieldBreaks first b at
     ⊎ ((field : Field) × (front : List ℕ) × (rest : List ℕ) × (later : ℕ) ×
-      (form_of field ≡ first) × (b ≡ front ++ rest) × FieldSpells field front
+    (form_of field ≡ first) × (b ≡ front ++ rest) × FieldSpells field front
     × RowBreaks others rest later × (at ≡ length front + later))
 RowBreaks RestRow b at = ⊥
-RowBreaks PlacesRow b at = AddressesBreak b at
+RowBreaks AddressesRow b at = AddressesBreak b at
 RowBreaks IgnoredRow b at = ⊥

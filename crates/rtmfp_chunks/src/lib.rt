@@ -3,6 +3,7 @@
 
 mod address_list;
 mod fields;
+pub mod kinds;
 mod reading;
 mod rows;
 mod view;

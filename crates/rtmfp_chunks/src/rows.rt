@@ -1,21 +1,14 @@
 //! The payload of each type of chunk. An `Err` has the number of bytes from the field that can't be
 //! read to the end.
-#![tactic(
-    auto,
-    unfolding(
-        crate::specs::FieldReading::chunk_at,
-        crate::specs::Chunk::row_of,
-        crate::specs::FieldReading::row_at,
-        crate::specs::FieldReading::field_then
-    )
-)]
+#![tactic(auto, unfolding(crate::specs::FieldReading::chunk_at, crate::specs::Chunk::row_of, crate::specs::FieldReading::row_at, crate::specs::FieldReading::field_then))]
 
 ghost use Rattle.std.specs.Prelude.{◌≡◌, Some};
 ghost use Rattle.std.specs.Option.{option_map};
 ghost use Rattle.rtmfp_chunks.specs.FieldReading.{chunk_at, described};
 
 use crate::fields::{address, addresses, counted, more_flag, number, session_id};
-use crate::view::*;
+use crate::kinds::*;
+use crate::view::ChunkView;
 
 /// Reads a payload of this type; `None` where no chunk has it.
 pub(crate) fn read_payload(kind: u8, payload: &[u8]) -> Option<Result<ChunkView<'_>, usize>>

@@ -90,28 +90,3 @@ pub enum ChunkView<'a> {
         bytes: &'a [u8],
     },
 }
-
-/// The types of the chunks.
-pub(crate) const IHELLO: u8 = 0x30;
-
-pub(crate) const FIHELLO: u8 = 0x0f;
-
-pub(crate) const RHELLO: u8 = 0x70;
-
-pub(crate) const REDIRECT: u8 = 0x71;
-
-pub(crate) const COOKIE_CHANGE: u8 = 0x79;
-
-pub(crate) const IIKEYING: u8 = 0x38;
-
-pub(crate) const RIKEYING: u8 = 0x78;
-
-pub(crate) const PING: u8 = 0x01;
-
-pub(crate) const PING_REPLY: u8 = 0x41;
-
-pub(crate) const CLOSE: u8 = 0x0c;
-
-pub(crate) const CLOSE_ACK: u8 = 0x4c;
-
-pub(crate) const FRAGMENT: u8 = 0x7f;

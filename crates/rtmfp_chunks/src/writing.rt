@@ -1,15 +1,35 @@
 //! Chunks written into a packet.
-ghost use Rattle.std.specs.Prelude.{◌≡◌, ◌+◌, ◌^◌, ◌<◌, ◌≤◌, ◌↔◌, ◌++◌, ◌∷◌, ◌-◌, length, min, OnOk,
-    OnErr, IsErr};
+ghost use Rattle.std.specs.Prelude.{
+  ◌≡◌,
+  ◌+◌,
+  ◌^◌,
+  ◌<◌,
+  ◌≤◌,
+  ◌↔◌,
+  ◌++◌,
+  ◌∷◌,
+  ◌-◌,
+  length,
+  min,
+  OnOk,
+  OnErr,
+  IsErr,
+};
 ghost use Rattle.std.specs.Int.{w16, to_be_bytes};
 ghost use Rattle.rtmfp_forms.specs.Address.{IsAddress};
 ghost use Rattle.rtmfp_forms.specs.Outgoing.{packet_limit};
-ghost use Rattle.rtmfp_chunks.specs.Fields.{Counted, SessionId, More, Place};
+ghost use Rattle.rtmfp_chunks.specs.Fields.{Counted, SessionId, More, OneAddress};
 ghost use Rattle.rtmfp_chunks.specs.Chunk.{Spells, chunk_of, kind_of, parts_of};
-ghost use Rattle.rtmfp_chunks.specs.Writing.{IsWritable, PartsFit, chunk_bytes, field_bytes,
-    payload_bytes};
+ghost use Rattle.rtmfp_chunks.specs.Writing.{
+  IsWritable,
+  PartsFit,
+  chunk_bytes,
+  field_bytes,
+  payload_bytes,
+};
 
-use crate::view::*;
+use crate::kinds::*;
+use crate::view::ChunkView;
 use rtmfp_forms::{Address, NoRoom, Outgoing};
 use rtmfp_vlu::vlu_len;
 
@@ -106,7 +126,7 @@ fn payload_len(view: &ChunkView<'_>) -> usize
 
 /// The length of an address's spelling.
 fn address_len(address: &Address) -> usize
-    ensures length { result ≡ length (field_bytes (Place address.now)) }
+    ensures length { result ≡ length (field_bytes (OneAddress address.now)) }
     ensures fits { IsAddress address.now }
 {
     if address.v6 { 19 } else { 7 }

@@ -44,9 +44,9 @@ ones_end n fits e =
 -- bit j behind the one at an index, in its byte
 bit_is : (upto at j : ℕ) (bits : List ℕ) → at % 8 + j < 8 → is_set upto bits (upto + 2 + at + j) ≡ eqb (bit_at (get_or bits (at / 8) 0 / 2 ^ (at % 8)) j) 1
 bit_is upto at j bits within =
-    let place : (upto + 2 + at + j - (upto + 2)) / 8 ≡ at / 8 = omega (arith, within) in
+    let begins : (upto + 2 + at + j - (upto + 2)) / 8 ≡ at / 8 = omega (arith, within) in
     let bit : (upto + 2 + at + j - (upto + 2)) % 8 ≡ at % 8 + j = omega (arith, within) in
-    ap (λ (i : ℕ). flag (get_or bits i 0) ((upto + 2 + at + j - (upto + 2)) % 8)) place
+    ap (λ (i : ℕ). flag (get_or bits i 0) ((upto + 2 + at + j - (upto + 2)) % 8)) begins
     ∙ (ap (λ (i : ℕ). flag (get_or bits (at / 8) 0) i) bit ∙ ap (λ (n : ℕ). eqb (n % 2) 1) (sym (shr-shr (get_or bits (at / 8) 0) (at % 8) j)))
 
 pub unset_behind : (upto at j : ℕ) (bits : List ℕ) → get_or bits (at / 8) 0 < 256 → j < min (trailing_zeros w8 (get_or bits (at / 8) 0 / 2 ^ (at % 8))) (8 - at % 8)

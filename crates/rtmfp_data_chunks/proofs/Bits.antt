@@ -128,13 +128,6 @@ all_fit fitting (b ∷ bs) fits le =
 abbrev pub PassedOver : ℕ → ℕ → ℕ → List ℕ → Type 0
 PassedOver fitting room i bits = passing_byte fitting bits ≡ option_map (λ k. i + k) (passing_byte room (drop i bits))
 
-from_zero : (r : Option ℕ) → r ≡ option_map (λ k. 0 + k) r
-from_zero None = refl
-from_zero (Some k) = let same : k ≡ 0 + k = omega arith in ap (λ (n : ℕ). Some n) same
-
-pub over_none : (fitting : ℕ) (bits : List ℕ) → PassedOver fitting fitting 0 bits
-over_none fitting bits = from_zero (passing_byte fitting bits)
-
 byte_passes : (room b : ℕ) (bs : List ℕ) → (b / 2 ^ min room 8 ≡ 0 → ⊥) → passing_byte room (b ∷ bs) ≡ Some 0
 unfolding passing_byte
 byte_passes room b bs some = rw (ne_eqb (b / 2 ^ min room 8) 0 some) refl

@@ -1,4 +1,4 @@
-pub mod Stretching
+pub mod Spanning
 pub mod Numbers
 pub mod OptionLists
 pub mod Pairs
@@ -7,6 +7,6 @@ pub mod UserLaws
 pub mod AckLaws
 pub mod ReadingLaws
 pub mod Respelling
-pub mod RunLaws
+pub mod SpanLaws
 pub mod PairsTold
 pub mod Ahead

@@ -70,8 +70,8 @@ options_are b fits = within_are (suc (length b)) b fits (omega arith)
 abbrev pub ListIs : Bool → ℕ → List ℕ → Result (Option (List OptionParts) × List ℕ) DataFault → Type 0
 ListIs flagged at b (Ok found) = (s : List ℕ) × (b ≡ s ++ found.1) × OptionsStand found.0 s × (flagged ≡ is_some found.0)
 ListIs flagged at b (Err (Unknown told)) = ⊥
-ListIs flagged at b (Err (Malformed place)) = (flagged ≡ true) × ((fault : FormFault) × HasFault fault b) × (place ≡ at)
-ListIs flagged at b (Err (BadOffset place)) = ⊥
+ListIs flagged at b (Err (Malformed begins)) = (flagged ≡ true) × ((fault : FormFault) × HasFault fault b) × (begins ≡ at)
+ListIs flagged at b (Err (BadOffset begins)) = ⊥
 
 listed_is : (at : ℕ) (b : List ℕ) (r : Result (List OptionParts × List ℕ) FormFault) → OptionsAre b r → ListIs true at b (listed at r)
 listed_is at b (Ok found) o = (o.0, o.1, o.2, refl)
@@ -124,8 +124,8 @@ pub record UserFound (flags : ℕ) (numbers : Numbers) (b : List ℕ) (user : Us
 abbrev pub UserIs : ℕ → Numbers → ℕ → List ℕ → Result UserParts DataFault → Type 0
 UserIs flags numbers at b (Ok user) = UserFound flags numbers b user
 UserIs flags numbers at b (Err (Unknown told)) = ⊥
-UserIs flags numbers at b (Err (Malformed place)) = OptionsBreak flags b × (place ≡ at)
-UserIs flags numbers at b (Err (BadOffset place)) = ⊥
+UserIs flags numbers at b (Err (Malformed begins)) = OptionsBreak flags b × (begins ≡ at)
+UserIs flags numbers at b (Err (BadOffset begins)) = ⊥
 
 abbrev user_with : ℕ → Numbers → Option (List OptionParts) × List ℕ → UserParts
 user_with flags numbers found = record {
@@ -151,8 +151,8 @@ list_user flags numbers at b (Ok found) l = record {
   forward = refl;
 }
 list_user flags numbers at b (Err (Unknown told)) l = l
-list_user flags numbers at b (Err (Malformed place)) l = ((l.0, l.1.0, l.1.1), l.2)
-list_user flags numbers at b (Err (BadOffset place)) l = l
+list_user flags numbers at b (Err (Malformed begins)) l = ((l.0, l.1.0, l.1.1), l.2)
+list_user flags numbers at b (Err (BadOffset begins)) l = l
 
 pub user_is : (flags : ℕ) (numbers : Numbers) (size : ℕ) (b : List ℕ) → IsBytes b → UserIs flags numbers (size - length b) b (user_then flags numbers size b)
 unfolding user_then

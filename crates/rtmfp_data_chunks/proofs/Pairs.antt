@@ -31,10 +31,10 @@ one_turn steps size above (x ∷ xs) some = refl
 -- ---- what the walk gives is so
 
 abbrev pub PairsAre : ℕ → ℕ → List ℕ → Result ℕ DataFault → Type 0
-PairsAre above at b (Ok end) = (stretches : List (ℕ × ℕ)) × PairsTell above stretches b × (end ≡ last_told above stretches)
+PairsAre above at b (Ok end) = (spans : List (ℕ × ℕ)) × PairsTell above spans b × (end ≡ last_told above spans)
 PairsAre above at b (Err (Unknown told)) = ⊥
-PairsAre above at b (Err (Malformed place)) = (within : ℕ) × PairsBreak above b within × (place ≡ at + within)
-PairsAre above at b (Err (BadOffset place)) = ⊥
+PairsAre above at b (Err (Malformed begins)) = (within : ℕ) × PairsBreak above b within × (begins ≡ at + within)
+PairsAre above at b (Err (BadOffset begins)) = ⊥
 
 -- the first pair is good
 first_told : (above h r size : ℕ) (b pair rest : List ℕ) (read : Result ℕ DataFault) → b ≡ pair ++ rest → NumbersSpell (h ∷ r ∷ []) pair → above + h + 2 + r < 2 ^ 64 → length b ≤ size
@@ -45,32 +45,24 @@ first_told above h r size b pair rest (Ok end) e spells fits le m =
     let told : NumbersSpell (((above + h + 2) - (above + 2)) ∷ ((above + h + 2 + r) - (above + h + 2)) ∷ []) pair = rw (holes, received) spells in
     ((above + h + 2, above + h + 2 + r) ∷ m.0, (pair, rest, e, omega arith, omega arith, fits, told, m.1), m.2)
 first_told above h r size b pair rest (Err (Unknown t)) e spells fits le m = m
-first_told above h r size b pair rest (Err (Malformed place)) e spells fits le m =
+first_told above h r size b pair rest (Err (Malformed begins)) e spells fits le m =
     let holes : (above + h + 2) - (above + 2) ≡ h = omega arith in
     let received : (above + h + 2 + r) - (above + h + 2) ≡ r = omega arith in
     let told : NumbersSpell (((above + h + 2) - (above + 2)) ∷ ((above + h + 2 + r) - (above + h + 2)) ∷ []) pair = rw (holes, received) spells in (
       length pair + m.0,
       record {
-        stretches = (above + h + 2, above + h + 2 + r) ∷ m.1.stretches;
+        spans = (above + h + 2, above + h + 2 + r) ∷ m.1.spans;
         front = pair ++ m.1.front;
         rest = m.1.rest;
         within = m.1.within;
         whole = e ∙ ap (λ (t : List ℕ). pair ++ t) m.1.whole ∙ sym (append_assoc pair m.1.front m.1.rest);
         told = (pair, m.1.front, refl, omega arith, omega arith, fits, told, m.1.told);
         breaks = m.1.breaks;
-        place = omega (arith, m.1.place, length-append pair m.1.front);
+        begins = omega (arith, m.1.begins, length-append pair m.1.front);
       },
       omega (arith, m.2, le, ap length e, length-append pair rest),
     )
-first_told above h r size b pair rest (Err (BadOffset place)) e spells fits le m = m
-
--- no pair is good
-none_told : (above at : ℕ) (b : List ℕ) (within : ℕ) → PairBreaks above b within → PairsAre above at b (Err (Malformed (at + within)))
-none_told above at b within breaks = (
-  within,
-  record { stretches = []; front = []; rest = b; within = within; whole = refl; told = refl; breaks = breaks; place = omega arith },
-  refl,
-)
+first_told above h r size b pair rest (Err (BadOffset begins)) e spells fits le m = m
 
 pair_read : (steps size above : ℕ) (b : List ℕ) (r : Result (List ℕ × List ℕ) DataFault) → IsBytes b → length b ≤ size → 0 < length b → length b < suc steps
     → ((up : ℕ) (t : List ℕ) → IsBytes t → length t ≤ size → length t < steps → PairsAre up (size - length t) t (walk_within steps size up t))
@@ -87,26 +79,26 @@ pair_read steps size above b (Ok (h ∷ r ∷ [], rest)) fits le some lt ih n =
       | inr past ↦ rw (le-ltb (above + h + 2 + r) (2 ^ 64) past) (
         0,
         record {
-          stretches = [];
+          spans = [];
           front = [];
           rest = b;
           within = 0;
           whole = refl;
           told = refl;
           breaks = (some, inr (record { holes = h; received = r; pair = n.0; rest = rest; whole = n.1; spell = n.2; passes = past }, refl));
-          place = refl;
+          begins = refl;
         },
         omega arith,
       )
     ]
 pair_read steps size above b (Ok (h ∷ r ∷ q ∷ qs, rest)) fits le some lt ih n = absurd (omega (arith, n.3))
 pair_read steps size above b (Err (Unknown told)) fits le some lt ih n = n
-pair_read steps size above b (Err (Malformed place)) fits le some lt ih n = (
+pair_read steps size above b (Err (Malformed begins)) fits le some lt ih n = (
   n.0,
-  record { stretches = []; front = []; rest = b; within = n.0; whole = refl; told = refl; breaks = (some, inl n.1); place = omega arith },
+  record { spans = []; front = []; rest = b; within = n.0; whole = refl; told = refl; breaks = (some, inl n.1); begins = omega arith },
   n.2,
 )
-pair_read steps size above b (Err (BadOffset place)) fits le some lt ih n = n
+pair_read steps size above b (Err (BadOffset begins)) fits le some lt ih n = n
 
 pub pairs_are : (steps size above : ℕ) (b : List ℕ) → IsBytes b → length b ≤ size → length b < steps → PairsAre above (size - length b) b (walk_within steps size above b)
 unfolding walk_within
@@ -117,10 +109,10 @@ pairs_are (suc steps) size above (x ∷ xs) fits le lt =
 
 -- ---- what is so is what the walk gives
 
-pub pairs_found : (steps size above : ℕ) (stretches : List (ℕ × ℕ)) (b : List ℕ) → PairsTell above stretches b → length b < steps → length b ≤ size
-    → walk_within steps size above b ≡ Ok (last_told above stretches)
+pub pairs_found : (steps size above : ℕ) (spans : List (ℕ × ℕ)) (b : List ℕ) → PairsTell above spans b → length b < steps → length b ≤ size
+    → walk_within steps size above b ≡ Ok (last_told above spans)
 unfolding walk_within
-pairs_found zero size above stretches b h lt le = absurd (omega (arith, lt))
+pairs_found zero size above spans b h lt le = absurd (omega (arith, lt))
 pairs_found (suc steps) size above [] b h lt le = rw h refl
 pairs_found (suc steps) size above (s ∷ ss) b (pair, rest, e, low, high, fits, spells, others) lt le =
     let sum : length b ≡ length pair + length rest = ap length e ∙ length-append pair rest in
@@ -132,41 +124,41 @@ pairs_found (suc steps) size above (s ∷ ss) b (pair, rest, e, low, high, fits,
 
 broken_first : (steps size above : ℕ) (b : List ℕ) (within : ℕ) → PairBreaks above b within → length b ≤ size → walk_within (suc steps) size above b ≡ Err (Malformed (size - length b + within))
 broken_first steps size above b within (some, inl breaks) le = one_turn steps size above b some ∙ rw (numbers_broken 2 size b within breaks le) refl
-broken_first steps size above b within (some, inr (p, place)) le =
-    let same : size - length b ≡ size - length b + within = omega (arith, place) in
+broken_first steps size above b within (some, inr (p, begins)) le =
+    let same : size - length b ≡ size - length b + within = omega (arith, begins) in
     one_turn steps size above b some
     ∙ rw (numbers_found (p.holes ∷ p.received ∷ []) size b p.pair p.rest p.whole p.spell, le-ltb (above + p.holes + 2 + p.received) (2 ^ 64) p.passes)
     (ap (λ (n : ℕ). Err (Malformed n)) same)
 
-broken_behind : (steps size above : ℕ) (stretches : List (ℕ × ℕ)) (b front rest : List ℕ) (within : ℕ) → b ≡ front ++ rest → PairsTell above stretches front
-    → PairBreaks (last_told above stretches) rest within → length b < steps → length b ≤ size → walk_within steps size above b ≡ Err (Malformed (size - length b + (length front + within)))
-broken_behind zero size above stretches b front rest within e told breaks lt le = absurd (omega (arith, lt))
+broken_behind : (steps size above : ℕ) (spans : List (ℕ × ℕ)) (b front rest : List ℕ) (within : ℕ) → b ≡ front ++ rest → PairsTell above spans front
+    → PairBreaks (last_told above spans) rest within → length b < steps → length b ≤ size → walk_within steps size above b ≡ Err (Malformed (size - length b + (length front + within)))
+broken_behind zero size above spans b front rest within e told breaks lt le = absurd (omega (arith, lt))
 broken_behind (suc steps) size above [] b front rest within e told breaks lt le =
     let whole : b ≡ rest = e ∙ ap (λ (t : List ℕ). t ++ rest) told in
     let P : List ℕ → Type 0 = λ t. PairBreaks above t within in
-    let place : size - length b + within ≡ size - length b + (length front + within) = omega (arith, ap length told) in
-    broken_first steps size above b within (subst P (sym whole) breaks) le ∙ ap (λ (n : ℕ). Err (Malformed n)) place
+    let begins : size - length b + within ≡ size - length b + (length front + within) = omega (arith, ap length told) in
+    broken_first steps size above b within (subst P (sym whole) breaks) le ∙ ap (λ (n : ℕ). Err (Malformed n)) begins
 broken_behind (suc steps) size above (s ∷ ss) b front rest within e (pair, others, joined, low, high, fits, spells, told) breaks lt le =
     let whole : b ≡ pair ++ (others ++ rest) = e ∙ ap (λ (t : List ℕ). t ++ rest) joined ∙ append_assoc pair others rest in
     let sum : length b ≡ length pair + length (others ++ rest) = ap length whole ∙ length-append pair (others ++ rest) in
     let more : 0 < length pair = pair_some (s.0 - (above + 2)) (s.1 - s.0) pair spells in
     let end : above + (s.0 - (above + 2)) + 2 + (s.1 - s.0) ≡ s.1 = omega (arith, low, high) in
-    let place : size - length (others ++ rest) + (length others + within) ≡ size - length b + (length front + within) = omega (arith, sum, le, ap length joined, length-append pair others) in
+    let begins : size - length (others ++ rest) + (length others + within) ≡ size - length b + (length front + within) = omega (arith, sum, le, ap length joined, length-append pair others) in
     one_turn steps size above b (omega (arith, sum, more))
     ∙ rw (numbers_found ((s.0 - (above + 2)) ∷ (s.1 - s.0) ∷ []) size b pair (others ++ rest) whole spells, end, lt-ltb s.1 (2 ^ 64) fits)
-    (broken_behind steps size s.1 ss (others ++ rest) others rest within refl told breaks (omega (arith, sum, more, lt)) (omega (arith, sum, le)) ∙ ap (λ (n : ℕ). Err (Malformed n)) place)
+    (broken_behind steps size s.1 ss (others ++ rest) others rest within refl told breaks (omega (arith, sum, more, lt)) (omega (arith, sum, le)) ∙ ap (λ (n : ℕ). Err (Malformed n)) begins)
 
 pub pairs_broken : (steps size above : ℕ) (b : List ℕ) (within : ℕ) → PairsBreak above b within → length b < steps → length b ≤ size → walk_within steps size above b ≡ Err (Malformed (size - length b + within))
 pairs_broken steps size above b within h lt le =
-    broken_behind steps size above h.stretches b h.front h.rest h.within h.whole h.told h.breaks lt le ∙ ap (λ (n : ℕ). Err (Malformed (size - length b + n))) (sym h.place)
+    broken_behind steps size above h.spans b h.front h.rest h.within h.whole h.told h.breaks lt le ∙ ap (λ (n : ℕ). Err (Malformed (size - length b + n))) (sym h.begins)
 
 -- so any number of steps that is enough gives the same
 
 again : (steps size above : ℕ) (b : List ℕ) (r : Result ℕ DataFault) → PairsAre above (size - length b) b r → length b < steps → length b ≤ size → walk_within steps size above b ≡ r
 again steps size above b (Ok end) m lt le = pairs_found steps size above m.0 b m.1 lt le ∙ ap (λ (n : ℕ). Ok n) (sym m.2)
 again steps size above b (Err (Unknown told)) m lt le = absurd m
-again steps size above b (Err (Malformed place)) m lt le = pairs_broken steps size above b m.0 m.1 lt le ∙ ap (λ (n : ℕ). Err (Malformed n)) (sym m.2)
-again steps size above b (Err (BadOffset place)) m lt le = absurd m
+again steps size above b (Err (Malformed begins)) m lt le = pairs_broken steps size above b m.0 m.1 lt le ∙ ap (λ (n : ℕ). Err (Malformed n)) (sym m.2)
+again steps size above b (Err (BadOffset begins)) m lt le = absurd m
 
 pub same_walk : (m n size above : ℕ) (b : List ℕ) → IsBytes b → length b ≤ size → length b < m → length b < n → walk_within m size above b ≡ walk_within n size above b
 same_walk m n size above b fits le lm ln = again m size above b (walk_within n size above b) (pairs_are n size above b fits le ln) lm le

@@ -10,7 +10,7 @@ use Rattle.rtmfp_data_chunks.specs.declared.view.DataView.{DataView}
 use Rattle.rtmfp_data_chunks.specs.Chunk.{data_chunk, UserParts, DataChunk, Data, Next, AckBitmap, AckRanges, Probe, Exception}
 use Rattle.rtmfp_data_chunks.specs.Spelling.{is_known, DataSpells, DataReading, shown, before_next, IsOrdered}
 use Rattle.rtmfp_data_chunks.specs.Writing.{IsDataChunk}
-use Rattle.rtmfp_data_chunks.specs.Reader.{Shows, data_then, next_then, bitmap_then, ranges_then, probe_then, exception_then, data_at}
+use Rattle.rtmfp_data_chunks.specs.Reader.{Shows, data_then, next_then, bitmap_then, ack_ranges_then, probe_then, exception_then, data_at}
 use Rattle.rtmfp_data_chunks.proofs.UserLaws.{DataIs, data_is, data_found, data_bad, data_broken, NextIs, next_is, next_found, next_broken}
 use Rattle.rtmfp_data_chunks.proofs.AckLaws.{bitmap_is, bitmap_found, bitmap_broken, ranges_is, ranges_found, ranges_broken, probe_is, probe_found, probe_broken, exception_is, exception_found, exception_broken}
 
@@ -77,7 +77,7 @@ at_bitmap : (last : Option Numbers) (kind : ℕ) (b : List ℕ) → kind ≡ 0x5
 unfolding data_at
 at_bitmap last kind b e = rw e refl
 
-at_ranges : (last : Option Numbers) (kind : ℕ) (b : List ℕ) → kind ≡ 0x51 → data_at last kind b ≡ ranges_then b
+at_ranges : (last : Option Numbers) (kind : ℕ) (b : List ℕ) → kind ≡ 0x51 → data_at last kind b ≡ ack_ranges_then b
 unfolding data_at
 at_ranges last kind b e = rw e refl
 
@@ -133,7 +133,7 @@ can_write (Some before) kind b (Next user) ordered (e, h) =
     let forward : user.forward < user.seq = omega (arith, h.follows, ordered) in
     (omega (arith, forward), λ same. absurd (omega (arith, forward, same)))
 can_write last kind b (AckBitmap flow blocks upto bits) ordered (e, h) = h.fit
-can_write last kind b (AckRanges flow blocks upto pairs) ordered (e, h) = (h.stretches, h.tell)
+can_write last kind b (AckRanges flow blocks upto pairs) ordered (e, h) = (h.spans, h.tell)
 can_write last kind b (Probe flow) ordered h = tt
 can_write last kind b (Exception flow code) ordered h = tt
 

@@ -10,7 +10,7 @@ use Rattle.rtmfp_data_chunks.specs.declared.user_data.Numbers.{Numbers}
 use Rattle.rtmfp_data_chunks.specs.Chunk.{UserParts, Data, Next, AckBitmap, AckRanges, Probe, Exception}
 use Rattle.rtmfp_data_chunks.specs.Fields.{NumbersSpell, part_number, FlagsTell, OptionsStand}
 use Rattle.rtmfp_data_chunks.specs.Acks.{BitsFit, PairsTell}
-use Rattle.rtmfp_data_chunks.specs.Spelling.{IsBehind, UserSpells, HasNext, Follows, NextSpells, BitmapSpells, RangesSpell, NumbersStand}
+use Rattle.rtmfp_data_chunks.specs.Spelling.{IsBehind, UserSpells, HasNext, Follows, NextSpells, BitmapSpells, AckRangesSpell, NumbersStand}
 use Rattle.rtmfp_data_chunks.specs.Writing.{bit, flags_of, list_bytes, body_bytes, payload_bytes}
 
 -- ---- flags
@@ -92,11 +92,11 @@ bitmap_spelled flow blocks upto bits f b u fit = record {
   whole = joined (vlu flow) (vlu blocks) (vlu upto) bits;
 }
 
-pub ranges_spelled : (flow blocks upto : ℕ) (pairs : List ℕ) → flow < 2 ^ 64 → blocks < 2 ^ 64 → upto < 2 ^ 64 → (stretches : List (ℕ × ℕ)) × PairsTell upto stretches pairs
-    → RangesSpell flow blocks upto pairs (payload_bytes (AckRanges flow blocks upto pairs))
+pub ranges_spelled : (flow blocks upto : ℕ) (pairs : List ℕ) → flow < 2 ^ 64 → blocks < 2 ^ 64 → upto < 2 ^ 64 → (spans : List (ℕ × ℕ)) × PairsTell upto spans pairs
+    → AckRangesSpell flow blocks upto pairs (payload_bytes (AckRanges flow blocks upto pairs))
 ranges_spelled flow blocks upto pairs f b u told = record {
   numbers = vlu flow ++ (vlu blocks ++ vlu upto);
-  stretches = told.0;
+  spans = told.0;
   spell = three_spelled flow blocks upto f b u;
   tell = told.1;
   whole = joined (vlu flow) (vlu blocks) (vlu upto) pairs;

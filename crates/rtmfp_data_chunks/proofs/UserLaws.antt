@@ -111,7 +111,7 @@ data_user : (flags flow seq behind : ℕ) (b numbers offset rest : List ℕ) (r 
     → UserIs flags (data_numbers flow seq behind) (suc (length b) - length rest) rest r → DataIs (flags ∷ b) r
 data_user flags flow seq behind b numbers offset rest (Ok user) f good u = user_spelled flags flow seq behind b numbers offset rest user f good u
 data_user flags flow seq behind b numbers offset rest (Err (Unknown told)) f good u = u
-data_user flags flow seq behind b numbers offset rest (Err (Malformed place)) f good u = inr record {
+data_user flags flow seq behind b numbers offset rest (Err (Malformed begins)) f good u = inr record {
   flags = flags;
   flow = flow;
   seq = seq;
@@ -124,9 +124,9 @@ data_user flags flow seq behind b numbers offset rest (Err (Malformed place)) f 
   good = good;
   breaks = u.0;
   whole = ap (λ (t : List ℕ). flags ∷ t) f.whole;
-  place = omega (arith, u.1, front_size flow seq behind b numbers offset rest f);
+  begins = omega (arith, u.1, front_size flow seq behind b numbers offset rest f);
 }
-data_user flags flow seq behind b numbers offset rest (Err (BadOffset place)) f good u = absurd u
+data_user flags flow seq behind b numbers offset rest (Err (BadOffset begins)) f good u = absurd u
 
 data_checked : (flags flow seq behind : ℕ) (b numbers offset rest : List ℕ) (t : Bool) → IsBytes rest → Front flow seq behind b numbers offset rest → OffsetIs flags seq behind t
     → DataIs (flags ∷ b) (cond t (Err (BadOffset (suc (length b) - length (offset ++ rest)))) (user_then flags (data_numbers flow seq behind) (suc (length b)) rest))
@@ -142,7 +142,7 @@ data_checked flags flow seq behind b numbers offset rest true fits f bad = recor
   forward = f.forward;
   bad = bad;
   whole = ap (λ (t : List ℕ). flags ∷ t) f.whole;
-  place = omega (arith, front_size flow seq behind b numbers offset rest f, length-append offset rest);
+  begins = omega (arith, front_size flow seq behind b numbers offset rest f, length-append offset rest);
 }
 data_checked flags flow seq behind b numbers offset rest false fits f good =
     data_user flags flow seq behind b numbers offset rest (user_then flags (data_numbers flow seq behind) (suc (length b)) rest) f good
@@ -155,12 +155,12 @@ data_offset flags flow seq b numbers after (Ok found) fits e h n =
     let P : List ℕ → Type 0 = λ t. DataIs (flags ∷ b) (cond (is_bad_offset flags seq found.0) (Err (BadOffset (suc (length b) - length t))) (user_then flags (data_numbers flow seq found.0) (suc (length b)) found.1)) in
     subst P (sym n.1) (data_checked flags flow seq found.0 b numbers n.0 found.1 (is_bad_offset flags seq found.0) (bytes_behind after n.0 found.1 n.1 fits) f (offset_is flags seq found.0))
 data_offset flags flow seq b numbers after (Err (Unknown told)) fits e h n = n
-data_offset flags flow seq b numbers after (Err (Malformed place)) fits e h n = inl (
+data_offset flags flow seq b numbers after (Err (Malformed begins)) fits e h n = inl (
   length numbers,
-  record { numbers = flow ∷ seq ∷ []; front = numbers; rest = after; fewer = omega arith; spell = h; whole = e; none = n.0; place = refl },
+  record { numbers = flow ∷ seq ∷ []; front = numbers; rest = after; fewer = omega arith; spell = h; whole = e; none = n.0; begins = refl },
   omega (arith, n.1, ap length e, length-append numbers after),
 )
-data_offset flags flow seq b numbers after (Err (BadOffset place)) fits e h n = absurd n
+data_offset flags flow seq b numbers after (Err (BadOffset begins)) fits e h n = absurd n
 
 data_behind : (flags : ℕ) (b : List ℕ) (r : Result (List ℕ × List ℕ) DataFault) → IsBytes b → NumbersAre 2 (suc (length b) - length b) b r → DataIs (flags ∷ b) (r >>= after_numbers flags b)
 data_behind flags b (Ok ([], rest)) fits n = absurd (omega (arith, n.3))
@@ -170,10 +170,10 @@ data_behind flags b (Ok (flow ∷ seq ∷ [], rest)) fits n =
     data_offset flags flow seq b n.0 rest (number_then (suc (length b)) rest) after n.1 n.2 (number_is (suc (length b)) rest after)
 data_behind flags b (Ok (flow ∷ seq ∷ more ∷ others, rest)) fits n = absurd (omega (arith, n.3))
 data_behind flags b (Err (Unknown told)) fits n = n
-data_behind flags b (Err (Malformed place)) fits n =
+data_behind flags b (Err (Malformed begins)) fits n =
     let m = n.1 in
-    inl (n.0, record { numbers = m.numbers; front = m.front; rest = m.rest; fewer = omega (arith, m.fewer); spell = m.spell; whole = m.whole; none = m.none; place = m.place }, omega (arith, n.2))
-data_behind flags b (Err (BadOffset place)) fits n = absurd n
+    inl (n.0, record { numbers = m.numbers; front = m.front; rest = m.rest; fewer = omega (arith, m.fewer); spell = m.spell; whole = m.whole; none = m.none; begins = m.begins }, omega (arith, n.2))
+data_behind flags b (Err (BadOffset begins)) fits n = absurd n
 
 pub data_is : (b : List ℕ) → IsBytes b → DataIs b (data_then b)
 unfolding data_then
@@ -208,36 +208,36 @@ pub data_bad : (b : List ℕ) (at : ℕ) → HasBadOffset b at → data_then b �
 data_bad b at h =
     let after = h.numbers ++ (h.offset ++ h.rest) in
     let f : Front h.flow h.seq h.behind after h.numbers h.offset h.rest = record { flow_seq = h.flow_seq; forward = h.forward; whole = refl } in
-    let place : suc (length after) - length (h.offset ++ h.rest) ≡ at = omega (arith, h.place, length-append h.numbers (h.offset ++ h.rest)) in
+    let begins : suc (length after) - length (h.offset ++ h.rest) ≡ at = omega (arith, h.begins, length-append h.numbers (h.offset ++ h.rest)) in
     ap data_then h.whole
-    ∙ (front_read h.flags h.flow h.seq h.behind after h.numbers h.offset h.rest f ∙ rw (bad_again h.flags h.seq h.behind h.bad) (ap (λ (n : ℕ). Err (BadOffset n)) place))
+    ∙ (front_read h.flags h.flow h.seq h.behind after h.numbers h.offset h.rest f ∙ rw (bad_again h.flags h.seq h.behind h.bad) (ap (λ (n : ℕ). Err (BadOffset n)) begins))
 
 data_bad_options : (b : List ℕ) (at : ℕ) → HasBadOptions b at → data_then b ≡ Err (Malformed at)
 data_bad_options b at h =
     let after = h.numbers ++ (h.offset ++ h.rest) in
     let f : Front h.flow h.seq h.behind after h.numbers h.offset h.rest = record { flow_seq = h.flow_seq; forward = h.forward; whole = refl } in
-    let place : suc (length after) - length h.rest ≡ at = omega (arith, h.place, front_size h.flow h.seq h.behind after h.numbers h.offset h.rest f) in
+    let begins : suc (length after) - length h.rest ≡ at = omega (arith, h.begins, front_size h.flow h.seq h.behind after h.numbers h.offset h.rest f) in
     ap data_then h.whole
     ∙ (front_read h.flags h.flow h.seq h.behind after h.numbers h.offset h.rest f
-    ∙ rw (good_again h.flags h.seq h.behind h.good) (user_broken h.flags (data_numbers h.flow h.seq h.behind) (suc (length after)) h.rest h.breaks ∙ ap (λ (n : ℕ). Err (Malformed n)) place))
+    ∙ rw (good_again h.flags h.seq h.behind h.good) (user_broken h.flags (data_numbers h.flow h.seq h.behind) (suc (length after)) h.rest h.breaks ∙ ap (λ (n : ℕ). Err (Malformed n)) begins))
 
 few_numbers : (flags : ℕ) (b : List ℕ) (within : ℕ) → NumbersBreak 2 b within → data_then (flags ∷ b) ≡ Err (Malformed (1 + within))
 unfolding data_then
 few_numbers flags b within h =
-    let place : suc (length b) - length b + within ≡ 1 + within = omega arith in
-    rw (numbers_broken 2 (suc (length b)) b within h (omega arith)) (ap (λ (n : ℕ). Err (Malformed n)) place)
+    let begins : suc (length b) - length b + within ≡ 1 + within = omega arith in
+    rw (numbers_broken 2 (suc (length b)) b within h (omega arith)) (ap (λ (n : ℕ). Err (Malformed n)) begins)
 
 no_offset : (flags flow seq : ℕ) (b front rest : List ℕ) → b ≡ front ++ rest → NumbersSpell (flow ∷ seq ∷ []) front → NoNumber rest → data_then (flags ∷ b) ≡ Err (Malformed (1 + length front))
 unfolding data_then
 no_offset flags flow seq b front rest e h none =
-    let place : suc (length b) - length rest ≡ 1 + length front = omega (arith, ap length e, length-append front rest) in
-    rw (numbers_found (flow ∷ seq ∷ []) (suc (length b)) b front rest e h, number_none (suc (length b)) rest none) (ap (λ (n : ℕ). Err (Malformed n)) place)
+    let begins : suc (length b) - length rest ≡ 1 + length front = omega (arith, ap length e, length-append front rest) in
+    rw (numbers_found (flow ∷ seq ∷ []) (suc (length b)) b front rest e h, number_none (suc (length b)) rest none) (ap (λ (n : ℕ). Err (Malformed n)) begins)
 
 numbers_missing : (flags : ℕ) (b front rest ns : List ℕ) → b ≡ front ++ rest → NumbersSpell ns front → length ns < 3 → NoNumber rest → data_then (flags ∷ b) ≡ Err (Malformed (1 + length front))
 numbers_missing flags b front rest [] e h fewer none =
-    few_numbers flags b (length front) record { numbers = []; front = front; rest = rest; fewer = omega arith; spell = h; whole = e; none = none; place = refl }
+    few_numbers flags b (length front) record { numbers = []; front = front; rest = rest; fewer = omega arith; spell = h; whole = e; none = none; begins = refl }
 numbers_missing flags b front rest (flow ∷ []) e h fewer none =
-    few_numbers flags b (length front) record { numbers = flow ∷ []; front = front; rest = rest; fewer = omega arith; spell = h; whole = e; none = none; place = refl }
+    few_numbers flags b (length front) record { numbers = flow ∷ []; front = front; rest = rest; fewer = omega arith; spell = h; whole = e; none = none; begins = refl }
 numbers_missing flags b front rest (flow ∷ seq ∷ []) e h fewer none = no_offset flags flow seq b front rest e h none
 numbers_missing flags b front rest (flow ∷ seq ∷ more ∷ others) e h fewer none = absurd (omega (arith, fewer))
 
@@ -247,8 +247,8 @@ no_flags = refl
 
 flagged_missing : (b : List ℕ) (at : ℕ) → FlaggedBreak 3 b at → data_then b ≡ Err (Malformed at)
 flagged_missing [] at h = no_flags ∙ ap (λ (n : ℕ). Err (Malformed n)) (sym h)
-flagged_missing (flags ∷ b) at (within, h, place) =
-    numbers_missing flags b h.front h.rest h.numbers h.whole h.spell h.fewer h.none ∙ ap (λ (n : ℕ). Err (Malformed n)) (omega (arith, place, h.place))
+flagged_missing (flags ∷ b) at (within, h, begins) =
+    numbers_missing flags b h.front h.rest h.numbers h.whole h.spell h.fewer h.none ∙ ap (λ (n : ℕ). Err (Malformed n)) (omega (arith, begins, h.begins))
 
 pub data_broken : (b : List ℕ) (at : ℕ) → UserBreaks b at → data_then b ≡ Err (Malformed at)
 data_broken b at (inl h) = flagged_missing b at h
@@ -307,17 +307,17 @@ next_found (Some before) b user h =
 
 body_broken : (before : Numbers) (b : List ℕ) (at : ℕ) → NextBodyBreaks b at → next_body (next_numbers before) b ≡ Err (Malformed at)
 body_broken before [] at h = ap (λ (n : ℕ). Err (Malformed n)) (sym h)
-body_broken before (flags ∷ b) at (breaks, place) =
-    let same : suc (length b) - length b ≡ at = omega (arith, place) in
+body_broken before (flags ∷ b) at (breaks, begins) =
+    let same : suc (length b) - length b ≡ at = omega (arith, begins) in
     user_broken flags (next_numbers before) (suc (length b)) b breaks ∙ ap (λ (n : ℕ). Err (Malformed n)) same
 
 pub next_broken : (last : Option Numbers) (b : List ℕ) (at : ℕ) → NextBreaks last b at → next_then last b ≡ Err (Malformed at)
 unfolding next_then
-next_broken None b at (inl (none, place)) = ap (λ (n : ℕ). Err (Malformed n)) (sym place)
+next_broken None b at (inl (none, begins)) = ap (λ (n : ℕ). Err (Malformed n)) (sym begins)
 next_broken None b at (inr (next, h)) = absurd next
-next_broken (Some before) b at (inl (none, place)) =
+next_broken (Some before) b at (inl (none, begins)) =
     elim (cases_lt (before.seq + 1) (2 ^ 64)) [
       | inl below ↦ absurd (none below)
-      | inr past ↦ rw (le-ltb (before.seq + 1) (2 ^ 64) past) (ap (λ (n : ℕ). Err (Malformed n)) (sym place))
+      | inr past ↦ rw (le-ltb (before.seq + 1) (2 ^ 64) past) (ap (λ (n : ℕ). Err (Malformed n)) (sym begins))
     ]
 next_broken (Some before) b at (inr (below, h)) = rw (lt-ltb (before.seq + 1) (2 ^ 64) below) (body_broken before b at h)

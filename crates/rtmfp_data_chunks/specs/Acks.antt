@@ -1,7 +1,22 @@
 -- What acks tell beside their cumulative number (RFC 7016 sections 2.3.13 and 2.3.14). Own: no
 -- number above 64 bits.
-use Rattle.std.specs.Prelude.{◌≡◌, ℕ, ◌+◌, ◌-◌, ◌*◌, ◌^◌, ◌<◌, ◌≤◌, ◌⊎◌, List, [], ◌∷◌, ◌++◌,
-    length, get_or}
+use Rattle.std.specs.Prelude.{
+  ◌≡◌,
+  ℕ,
+  ◌+◌,
+  ◌-◌,
+  ◌*◌,
+  ◌^◌,
+  ◌<◌,
+  ◌≤◌,
+  ◌⊎◌,
+  List,
+  [],
+  ◌∷◌,
+  ◌++◌,
+  length,
+  get_or,
+}
 use Rattle.std.specs.Int.{bit_at}
 use Rattle.rtmfp_data_chunks.specs.Fields.{NumbersSpell, NumbersBreak}
 
@@ -24,7 +39,7 @@ pub record BitsPass (upto : ℕ) (bits : List ℕ) (at : ℕ) : Type 0 where
 -- ---- pairs: each is one less than the count of numbers that are missing, and one less than the
 -- count of those that are there, and they walk upward
 
--- the pairs tell of these stretches above a number, each by its first and its last number
+-- the pairs tell of these spans above a number, each by its first and its last number
 abbrev pub PairsTell : ℕ → List (ℕ × ℕ) → List ℕ → Type 0
 PairsTell above [] b = b ≡ []
 PairsTell above (s ∷ ss) b =
@@ -37,7 +52,7 @@ PairsTell above (s ∷ ss) b =
     × NumbersSpell ((s.0 - (above + 2)) ∷ (s.1 - s.0) ∷ []) pair
     × PairsTell s.1 ss rest
 
--- the last number that stretches above a number tell of
+-- the last number that spans above a number tell of
 abbrev pub last_told : ℕ → List (ℕ × ℕ) → ℕ
 last_told above [] = above
 last_told above (s ∷ ss) = last_told s.1 ss
@@ -59,11 +74,11 @@ PairBreaks above b at = (0 < length b) × (NumbersBreak 2 b at ⊎ (PairPasses a
 
 -- pairs, and then one that is not good
 pub record PairsBreak (upto : ℕ) (b : List ℕ) (at : ℕ) : Type 0 where
-  pub stretches : List (ℕ × ℕ)
+  pub spans : List (ℕ × ℕ)
   pub front : List ℕ
   pub rest : List ℕ
   pub within : ℕ
   pub whole : b ≡ front ++ rest
-  pub told : PairsTell upto stretches front
-  pub breaks : PairBreaks (last_told upto stretches) rest within
-  pub place : at ≡ length front + within
+  pub told : PairsTell upto spans front
+  pub breaks : PairBreaks (last_told upto spans) rest within
+  pub begins : at ≡ length front + within

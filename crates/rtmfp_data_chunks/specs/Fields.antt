@@ -1,6 +1,24 @@
 -- The fields that chunks of flows are made of.
-use Rattle.std.specs.Prelude.{◌≡◌, ℕ, ◌/◌, ◌%◌, ◌<◌, ◌==◌, ◌⊎◌, Bool, true, List, [], ◌∷◌, ◌++◌,
-    length, Option, Some, None, is_some}
+use Rattle.std.specs.Prelude.{
+  ◌≡◌,
+  ℕ,
+  ◌/◌,
+  ◌%◌,
+  ◌<◌,
+  ◌==◌,
+  ◌⊎◌,
+  Bool,
+  true,
+  List,
+  [],
+  ◌∷◌,
+  ◌++◌,
+  length,
+  Option,
+  Some,
+  None,
+  is_some,
+}
 use Rattle.std.specs.Int.{bit_at}
 use Rattle.rtmfp_vlu.specs.Vlu.{VluSpells, IsCut, IsLarge}
 use Rattle.rtmfp_forms.specs.declared.fault.FormFault.{FormFault}
@@ -30,7 +48,7 @@ pub record NumbersBreak (count : ℕ) (b : List ℕ) (at : ℕ) : Type 0 where
   pub spell : NumbersSpell numbers front
   pub whole : b ≡ front ++ rest
   pub none : NoNumber rest
-  pub place : at ≡ length front
+  pub begins : at ≡ length front
 
 -- ---- flags
 

@@ -1,6 +1,26 @@
 -- Messages and their fragments.
-use Rattle.std.specs.Prelude.{ℕ, ◌+◌, ◌-◌, ◌*◌, ◌/◌, ◌<◌, ◌≤◌, ◌==◌, if◌then◌else◌, nat_lt, nat_le,
-    List, [], ◌∷◌, Option, Some, None, length, take, drop}
+use Rattle.std.specs.Prelude.{
+  ℕ,
+  ◌+◌,
+  ◌-◌,
+  ◌*◌,
+  ◌/◌,
+  ◌<◌,
+  ◌≤◌,
+  ◌==◌,
+  if◌then◌else◌,
+  nat_lt,
+  nat_le,
+  List,
+  [],
+  ◌∷◌,
+  Option,
+  Some,
+  None,
+  length,
+  take,
+  drop,
+}
 use Rattle.rtmfp_data_chunks.specs.declared.user_data.Part.{Part}
 use Rattle.rtmfp_data_chunks.specs.declared.user_data.Part.TheVariants.{Whole, Begin, End, Middle}
 
@@ -39,8 +59,10 @@ Spans m n = (m.number ≤ n) × (n < m.number + fragment_count m)
 
 -- the fragment of number n, where the messages were queued one after another, the newest first
 abbrev pub fragment_at : Message → ℕ → Fragment
-fragment_at m n = record { part = part_of (fragment_count m) (n - m.number);
-    bytes = piece m.bytes (n - m.number) }
+fragment_at m n = record {
+  part = part_of (fragment_count m) (n - m.number);
+  bytes = piece m.bytes (n - m.number);
+}
 
 abbrev pub fragment_of : List Message → ℕ → Option Fragment
 fragment_of [] n = None

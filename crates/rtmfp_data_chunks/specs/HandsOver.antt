@@ -23,7 +23,7 @@ pub record HandsOver (queued : List Message) (abandoned : List ℕ) (handed : Li
   pub rise : Rise handed
   pub were_queued : (m : Message) → IsIn m handed → IsIn m queued
   pub skipped : (m later : Message) → IsIn m queued → IsIn later handed → m.number < later.number →
-    (IsIn m handed → ⊥) → IsIn m.number abandoned
+      (IsIn m handed → ⊥) → IsIn m.number abandoned
 
 -- whole, at most once
 pub record HandsOnce (queued : List Message) (handed : List Message) : Type 0 where

@@ -1,7 +1,35 @@
 -- The same from left to right, with the first fault that is met.
-use Rattle.std.specs.Prelude.{◌≡◌, ℕ, zero, suc, ◌+◌, ◌-◌, ◌/◌, ◌%◌, ◌^◌, ◌==◌, if◌then◌else◌,
-    nat_lt, not, min, Bool, true, false, List, [], ◌∷◌, length, drop, get_or, Option, Some, None,
-    Result, Ok, Err}
+use Rattle.std.specs.Prelude.{
+  ◌≡◌,
+  ℕ,
+  zero,
+  suc,
+  ◌+◌,
+  ◌-◌,
+  ◌/◌,
+  ◌%◌,
+  ◌^◌,
+  ◌==◌,
+  if◌then◌else◌,
+  nat_lt,
+  not,
+  min,
+  Bool,
+  true,
+  false,
+  List,
+  [],
+  ◌∷◌,
+  length,
+  drop,
+  get_or,
+  Option,
+  Some,
+  None,
+  Result,
+  Ok,
+  Err,
+}
 use Rattle.std.specs.Option.{option_map}
 use Rattle.rtmfp_vlu.specs.declared.reading.VluFault.{VluFault}
 use Rattle.rtmfp_vlu.specs.Reading.{number_at}
@@ -12,10 +40,21 @@ use Rattle.rtmfp_data_chunks.specs.declared.user_data.Part.{Part}
 use Rattle.rtmfp_data_chunks.specs.declared.user_data.Part.TheVariants.{Whole, Begin, End, Middle}
 use Rattle.rtmfp_data_chunks.specs.declared.user_data.Numbers.{Numbers}
 use Rattle.rtmfp_data_chunks.specs.declared.view.DataFault.{DataFault}
-use Rattle.rtmfp_data_chunks.specs.declared.view.DataFault.TheVariants.{Unknown, Malformed,
-    BadOffset}
-use Rattle.rtmfp_data_chunks.specs.Chunk.{UserParts, DataChunk, Data, Next, AckBitmap, AckRanges,
-    Probe, Exception}
+use Rattle.rtmfp_data_chunks.specs.declared.view.DataFault.TheVariants.{
+  Unknown,
+  Malformed,
+  BadOffset,
+}
+use Rattle.rtmfp_data_chunks.specs.Chunk.{
+  UserParts,
+  DataChunk,
+  Data,
+  Next,
+  AckBitmap,
+  AckRanges,
+  Probe,
+  Exception,
+}
 use Rattle.rtmfp_data_chunks.specs.Fields.{flag}
 
 -- what a function returned, seen by view, is what reading gives
@@ -25,13 +64,13 @@ Shows view (Err fault) read = read ≡ Err fault
 
 -- ---- fields, in a payload of so many bytes of which these are left
 
-abbrev pub placed : ℕ → List ℕ → Result (ℕ × ℕ) VluFault → Result (ℕ × List ℕ) DataFault
-placed at b (Ok found) = Ok (found.0, drop found.1 b)
-placed at b (Err fault) = Err (Malformed at)
+abbrev pub read_at : ℕ → List ℕ → Result (ℕ × ℕ) VluFault → Result (ℕ × List ℕ) DataFault
+read_at at b (Ok found) = Ok (found.0, drop found.1 b)
+read_at at b (Err fault) = Err (Malformed at)
 
 -- a number, and the bytes after it
 unfoldable pub number_then : ℕ → List ℕ → Result (ℕ × List ℕ) DataFault
-number_then size b = placed (size - length b) b (number_at b)
+number_then size b = read_at (size - length b) b (number_at b)
 
 unfoldable pub numbers_then : ℕ → ℕ → List ℕ → Result (List ℕ × List ℕ) DataFault
 numbers_then zero size b = Ok ([], b)
@@ -83,8 +122,11 @@ data_then (flags ∷ b) = do
   behind ← number_then (suc (length b)) numbers.1
   if is_bad_offset flags (get_or numbers.0 1 0) behind.0
       then Err (BadOffset (suc (length b) - length numbers.1))
-      else user_then flags (record { flow = get_or numbers.0 0 0; seq = get_or numbers.0 1 0;
-        forward = get_or numbers.0 1 0 - behind.0 }) (suc (length b)) behind.1
+      else user_then flags (record {
+        flow = get_or numbers.0 0 0;
+        seq = get_or numbers.0 1 0;
+        forward = get_or numbers.0 1 0 - behind.0;
+      }) (suc (length b)) behind.1
 
 abbrev pub next_body : Numbers → List ℕ → Result UserParts DataFault
 next_body numbers [] = Err (Malformed 0)
@@ -117,7 +159,7 @@ unfoldable pub bitmap_then : List ℕ → Result DataChunk DataFault
 bitmap_then b = do
   numbers ← numbers_then 3 (length b) b
   bits_checked (length b - length numbers.1)
-    (AckBitmap (get_or numbers.0 0 0) (get_or numbers.0 1 0) (get_or numbers.0 2 0) numbers.1)
+      (AckBitmap (get_or numbers.0 0 0) (get_or numbers.0 1 0) (get_or numbers.0 2 0) numbers.1)
       (passing_byte (bits_fitting (get_or numbers.0 2 0)) numbers.1)
 
 -- the last number that pairs tell of above a number, in so many steps
@@ -128,14 +170,14 @@ walk_within (suc steps) size above (b ∷ bs) = do
   numbers ← numbers_then 2 size (b ∷ bs)
   let end = above + get_or numbers.0 0 0 + 2 + get_or numbers.0 1 0 in
       if nat_lt end (2 ^ 64) then walk_within steps size end numbers.1
-        else Err (Malformed (size - length (b ∷ bs)))
+      else Err (Malformed (size - length (b ∷ bs)))
 
 -- a pair has at least two bytes
 unfoldable pub pairs_then : ℕ → ℕ → List ℕ → Result ℕ DataFault
 pairs_then size above b = walk_within (suc (length b)) size above b
 
-unfoldable pub ranges_then : List ℕ → Result DataChunk DataFault
-ranges_then b = do
+unfoldable pub ack_ranges_then : List ℕ → Result DataChunk DataFault
+ack_ranges_then b = do
   numbers ← numbers_then 3 (length b) b
   end ← pairs_then (length b) (get_or numbers.0 2 0) numbers.1
   Ok (AckRanges (get_or numbers.0 0 0) (get_or numbers.0 1 0) (get_or numbers.0 2 0) numbers.1)
@@ -157,7 +199,7 @@ data_at last kind b =
     if kind == 0x10 then data_then b >>= (λ user. Ok (Data user))
     else if kind == 0x11 then next_then last b >>= (λ user. Ok (Next user))
     else if kind == 0x50 then bitmap_then b
-    else if kind == 0x51 then ranges_then b
+    else if kind == 0x51 then ack_ranges_then b
     else if kind == 0x18 then probe_then b
     else if kind == 0x5e then exception_then b
     else Err (Unknown kind)

@@ -1,7 +1,26 @@
 -- What becomes of numbers by the data chunks that a receiver takes, and which messages it hands
 -- over.
-use Rattle.std.specs.Prelude.{ℕ, ◌+◌, ◌-◌, ◌==◌, if◌then◌else◌, nat_le, Bool, true, false, not, map,
-    List, [], ◌∷◌, ◌++◌, Option, Some, None, length}
+use Rattle.std.specs.Prelude.{
+  ℕ,
+  ◌+◌,
+  ◌-◌,
+  ◌==◌,
+  if◌then◌else◌,
+  nat_le,
+  Bool,
+  true,
+  false,
+  not,
+  map,
+  List,
+  [],
+  ◌∷◌,
+  ◌++◌,
+  Option,
+  Some,
+  None,
+  length,
+}
 use Prim.Native.Nat.{zero, suc}
 use Rattle.std.specs.Prelude.{max}
 use Rattle.std.specs.List.{filter, sum_by}
@@ -46,8 +65,8 @@ unfoldable pub number_of : List Chunk → ℕ → Number
 number_of [] n = if n == 0 then GivenUp else Missing
 number_of (c ∷ earlier) n = first_change (number_of earlier n) (changed_by c n)
 
--- a stretch of held numbers that fit, its bytes joined. front: it begins with a begin or a whole;
--- rear: it ends with an end or a whole
+-- held numbers one after another that fit, their bytes joined. front: it begins with a begin or a
+-- whole; rear: it ends with an end or a whole
 pub record Run : Type 0 where
   pub first : ℕ
   pub last : ℕ
@@ -76,28 +95,33 @@ fits a b = if a.last + 1 == b.first then (if a.rear then false else if b.front t
     else false
 
 abbrev pub joined : Run → Run → Run
-joined a b = record { first = a.first; last = b.last; front = a.front; rear = b.rear;
-    bytes = a.bytes ++ b.bytes }
+joined a b = record {
+  first = a.first;
+  last = b.last;
+  front = a.front;
+  rear = b.rear;
+  bytes = a.bytes ++ b.bytes;
+}
 
--- the longest stretch of held numbers that fit and end at number n
-abbrev pub stretch_with : Number → ℕ → Option Run → Option Run
-stretch_with Missing n before = None
-stretch_with GivenUp n before = None
-stretch_with (Held p b) n None = Some (single n p b)
-stretch_with (Held p b) n (Some y) = if fits y (single n p b) then Some (joined y (single n p b))
+-- the longest run that ends at number n, or goes on there
+abbrev pub run_with : Number → ℕ → Option Run → Option Run
+run_with Missing n before = None
+run_with GivenUp n before = None
+run_with (Held p b) n None = Some (single n p b)
+run_with (Held p b) n (Some y) = if fits y (single n p b) then Some (joined y (single n p b))
     else Some (single n p b)
 
-unfoldable pub stretch : (ℕ → Number) → ℕ → Option Run
-stretch s zero = None
-stretch s (suc n) = stretch_with (s (suc n)) (suc n) (stretch s n)
+unfoldable pub run_up_to : (ℕ → Number) → ℕ → Option Run
+run_up_to s zero = None
+run_up_to s (suc n) = run_with (s (suc n)) (suc n) (run_up_to s n)
 
--- the number after a stretch is held and fits it, so that the stretch goes on
+-- the number after a run is held and fits it, so that the run goes on
 abbrev pub goes_on : Run → Number → Bool
 goes_on y Missing = false
 goes_on y GivenUp = false
 goes_on y (Held p b) = fits y (single (y.last + 1) p b)
 
--- a run is a longest stretch: this is the run that ends at a number, by the number after it
+-- the run that ends at a number and does not go on, by the number after it
 abbrev pub run_ending : Option Run → Number → List Run
 run_ending None next = []
 run_ending (Some y) next = if goes_on y next then [] else y ∷ []
@@ -105,7 +129,7 @@ run_ending (Some y) next = if goes_on y next then [] else y ∷ []
 -- the runs that end at or below n, by rising number
 unfoldable pub runs_to : (ℕ → Number) → ℕ → List Run
 runs_to s zero = []
-runs_to s (suc n) = runs_to s n ++ run_ending (stretch s (suc n)) (s (suc (suc n)))
+runs_to s (suc n) = runs_to s n ++ run_ending (run_up_to s (suc n)) (s (suc (suc n)))
 
 -- one whole fragment, or from a begin to an end
 abbrev pub is_whole : Run → Bool
@@ -117,7 +141,7 @@ abbrev pub is_dead : (ℕ → Bool) → Run → Bool
 is_dead missing y =
     if y.front then (if y.rear then false else not (missing (y.last + 1)))
     else if missing (y.first - 1) then (if y.rear then false else not (missing (y.last + 1)))
-      else true
+    else true
 
 abbrev pub message_of : Run → Message
 message_of y = record { number = y.first; bytes = y.bytes }

@@ -1,16 +1,58 @@
 -- What spells the chunks of flows: the fields of each, one after another.
-use Rattle.std.specs.Prelude.{◌≡◌, ℕ, ◌+◌, ◌-◌, ◌^◌, ◌<◌, ◌≤◌, ◌==◌, ◌||◌, ◌⊎◌, Bool, true, false,
-    List, [], ◌∷◌, ◌++◌, length, Option, Some, None, Result, Ok, Err}
+use Rattle.std.specs.Prelude.{
+  ◌≡◌,
+  ℕ,
+  ◌+◌,
+  ◌-◌,
+  ◌^◌,
+  ◌<◌,
+  ◌≤◌,
+  ◌==◌,
+  ◌||◌,
+  ◌⊎◌,
+  Bool,
+  true,
+  false,
+  List,
+  [],
+  ◌∷◌,
+  ◌++◌,
+  length,
+  Option,
+  Some,
+  None,
+  Result,
+  Ok,
+  Err,
+}
 use Rattle.rtmfp_vlu.specs.Vlu.{VluSpells}
 use Rattle.rtmfp_data_chunks.specs.declared.user_data.Numbers.{Numbers}
 use Rattle.rtmfp_data_chunks.specs.declared.view.DataView.{DataView}
 use Rattle.rtmfp_data_chunks.specs.declared.view.DataFault.{DataFault}
-use Rattle.rtmfp_data_chunks.specs.declared.view.DataFault.TheVariants.{Unknown, Malformed,
-    BadOffset}
-use Rattle.rtmfp_data_chunks.specs.Chunk.{UserParts, DataChunk, Data, Next, AckBitmap, AckRanges,
-    Probe, Exception, data_chunk}
-use Rattle.rtmfp_data_chunks.specs.Fields.{NumbersSpell, NumbersBreak, flag, FlagsTell,
-    OptionsStand, OptionsBreak}
+use Rattle.rtmfp_data_chunks.specs.declared.view.DataFault.TheVariants.{
+  Unknown,
+  Malformed,
+  BadOffset,
+}
+use Rattle.rtmfp_data_chunks.specs.Chunk.{
+  UserParts,
+  DataChunk,
+  Data,
+  Next,
+  AckBitmap,
+  AckRanges,
+  Probe,
+  Exception,
+  data_chunk,
+}
+use Rattle.rtmfp_data_chunks.specs.Fields.{
+  NumbersSpell,
+  NumbersBreak,
+  flag,
+  FlagsTell,
+  OptionsStand,
+  OptionsBreak,
+}
 use Rattle.rtmfp_data_chunks.specs.Acks.{BitsFit, BitsPass, PairsTell, PairsBreak}
 
 -- ---- data: flags, the flow, the number, how far the forward number is behind it, options where
@@ -45,7 +87,7 @@ pub record HasBadOffset (b : List ℕ) (at : ℕ) : Type 0 where
   pub forward : VluSpells behind offset
   pub bad : (seq < behind) ⊎ ((behind ≡ 0) × (flag flags 1 ≡ false))
   pub whole : b ≡ flags ∷ (numbers ++ (offset ++ rest))
-  pub place : at ≡ 1 + length numbers
+  pub begins : at ≡ 1 + length numbers
 
 -- all up to the options is good, and they are not
 pub record HasBadOptions (b : List ℕ) (at : ℕ) : Type 0 where
@@ -61,7 +103,7 @@ pub record HasBadOptions (b : List ℕ) (at : ℕ) : Type 0 where
   pub good : (behind ≤ seq) × (behind ≡ 0 → flag flags 1 ≡ true)
   pub breaks : OptionsBreak flags rest
   pub whole : b ≡ flags ∷ (numbers ++ (offset ++ rest))
-  pub place : at ≡ 1 + (length numbers + length offset)
+  pub begins : at ≡ 1 + (length numbers + length offset)
 
 -- flags stand in front, and behind them so many numbers don't
 abbrev pub FlaggedBreak : ℕ → List ℕ → ℕ → Type 0
@@ -109,11 +151,11 @@ pub record BitmapSpells (flow blocks upto : ℕ) (bits b : List ℕ) : Type 0 wh
   pub fit : BitsFit upto bits
   pub whole : b ≡ numbers ++ bits
 
-pub record RangesSpell (flow blocks upto : ℕ) (pairs b : List ℕ) : Type 0 where
+pub record AckRangesSpell (flow blocks upto : ℕ) (pairs b : List ℕ) : Type 0 where
   pub numbers : List ℕ
-  pub stretches : List (ℕ × ℕ)
+  pub spans : List (ℕ × ℕ)
   pub spell : NumbersSpell (flow ∷ blocks ∷ upto ∷ []) numbers
-  pub tell : PairsTell upto stretches pairs
+  pub tell : PairsTell upto spans pairs
   pub whole : b ≡ numbers ++ pairs
 
 -- what follows the cumulative number breaks so, at an offset from there
@@ -127,7 +169,7 @@ pub record AckBreaks (Breaks : ℕ → List ℕ → ℕ → Type 0) (b : List �
   pub spell : NumbersSpell (flow ∷ blocks ∷ upto ∷ []) numbers
   pub breaks : Breaks upto rest within
   pub whole : b ≡ numbers ++ rest
-  pub place : at ≡ length numbers + within
+  pub begins : at ≡ length numbers + within
 
 -- ---- numbers alone, behind which bytes say nothing
 
@@ -151,7 +193,7 @@ abbrev pub PayloadSpells : DataChunk → Option Numbers → List ℕ → Type 0
 PayloadSpells (Data user) last b = UserSpells user b
 PayloadSpells (Next user) last b = NextSpells user last b
 PayloadSpells (AckBitmap flow blocks upto bits) last b = BitmapSpells flow blocks upto bits b
-PayloadSpells (AckRanges flow blocks upto pairs) last b = RangesSpell flow blocks upto pairs b
+PayloadSpells (AckRanges flow blocks upto pairs) last b = AckRangesSpell flow blocks upto pairs b
 PayloadSpells (Probe flow) last b = NumbersStand (flow ∷ []) b
 PayloadSpells (Exception flow code) last b = NumbersStand (flow ∷ code ∷ []) b
 

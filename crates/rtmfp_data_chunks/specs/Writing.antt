@@ -1,13 +1,36 @@
 -- The one spelling of a chunk that is written: its type, the length of its payload in two bytes,
 -- and the payload, with each number and option in its shortest spelling.
-use Rattle.std.specs.Prelude.{ℕ, ◌+◌, ◌-◌, ◌*◌, Bool, if◌then◌else◌, List, [], ◌∷◌, ◌++◌, length,
-    Option, Some, None, is_some}
+use Rattle.std.specs.Prelude.{
+  ℕ,
+  ◌+◌,
+  ◌-◌,
+  ◌*◌,
+  Bool,
+  if◌then◌else◌,
+  List,
+  [],
+  ◌∷◌,
+  ◌++◌,
+  length,
+  Option,
+  Some,
+  None,
+  is_some,
+}
 use Rattle.std.specs.Int.{to_be_bytes, w16}
 use Rattle.rtmfp_vlu.specs.Vlu.{vlu}
 use Rattle.rtmfp_forms.specs.Options.{OptionParts, options_bytes}
 use Rattle.rtmfp_data_chunks.specs.declared.user_data.Numbers.{Numbers}
-use Rattle.rtmfp_data_chunks.specs.Chunk.{UserParts, DataChunk, Data, Next, AckBitmap, AckRanges,
-    Probe, Exception}
+use Rattle.rtmfp_data_chunks.specs.Chunk.{
+  UserParts,
+  DataChunk,
+  Data,
+  Next,
+  AckBitmap,
+  AckRanges,
+  Probe,
+  Exception,
+}
 use Rattle.rtmfp_data_chunks.specs.Fields.{part_number}
 use Rattle.rtmfp_data_chunks.specs.Acks.{BitsFit, PairsTell}
 use Rattle.rtmfp_data_chunks.specs.Spelling.{IsBehind, HasNext, Follows, kind_of}
@@ -17,8 +40,8 @@ abbrev pub IsDataChunk : DataChunk → Type 0
 IsDataChunk (Data user) = IsBehind user.forward user.seq user.abandon
 IsDataChunk (Next user) = IsBehind user.forward user.seq user.abandon
 IsDataChunk (AckBitmap flow blocks upto bits) = BitsFit upto bits
-IsDataChunk (AckRanges flow blocks upto pairs) = (stretches : List (ℕ × ℕ)) ×
-    PairsTell upto stretches pairs
+IsDataChunk (AckRanges flow blocks upto pairs) = (spans : List (ℕ × ℕ)) ×
+    PairsTell upto spans pairs
 IsDataChunk (Probe flow) = Unit {0}
 IsDataChunk (Exception flow code) = Unit {0}
 

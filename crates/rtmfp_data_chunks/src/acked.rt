@@ -1,25 +1,48 @@
 //! The numbers that an ack acknowledges above its cumulative number.
 
-ghost use Rattle.std.specs.Prelude.{◌≡◌, ℕ, ◌+◌, ◌*◌, ◌<◌, ◌≤◌, ◌^◌, ◌⊎◌, [], ◌∷◌, List, true,
-    false, length, drop, MatchOption, IfSome};
+ghost use Rattle.std.specs.Prelude.{
+  ◌≡◌,
+  ℕ,
+  ◌+◌,
+  ◌*◌,
+  ◌<◌,
+  ◌≤◌,
+  ◌^◌,
+  ◌⊎◌,
+  [],
+  ◌∷◌,
+  List,
+  true,
+  false,
+  length,
+  drop,
+  MatchOption,
+  IfSome,
+};
 ghost use Rattle.std.specs.Iterator.{YieldsFirst, item_count};
 ghost use Rattle.rtmfp_data_chunks.specs.Chunk.{data_chunk};
-ghost use Rattle.rtmfp_data_chunks.specs.Acked.{acked_pairs, is_set, acked_bits, acked, AckTells};
+ghost use Rattle.rtmfp_data_chunks.specs.Acked.{
+  AckTells,
+  acked,
+  is_set,
+  spans_of_bits,
+  spans_of_pairs,
+};
 ghost use Rattle.rtmfp_data_chunks.specs.AckedLeft.{bits_left, AreThere};
 
 use crate::view::DataView;
 use rtmfp_vlu::read_vlu;
 use std::marker::Model;
 
-/// An iterator of the first and the last number of each stretch that an ack acknowledges above its
+/// An iterator of the first and the last number of each span that an ack acknowledges above its
 /// cumulative number, rising. It ends before a pair that isn't whole, and before a pair or a bit
-/// that passes 64 bits. Contracts see the stretches that are left.
+/// that passes 64 bits. Contracts see the spans that are left.
 #[derive(Drop)]
-pub struct AckedRanges<'a> {
+pub struct AckedSpans<'a> {
     source: Source<'a>,
 }
 
-impl<'a> Model for AckedRanges<'a> {
+impl<'a> Model for AckedSpans<'a> {
     ghost use Rattle.std.specs.Prelude.{List, ℕ};
     ghost use Rattle.rtmfp_data_chunks.specs.AckedLeft.{source_left, IsSource};
 
@@ -47,27 +70,27 @@ struct Bits<'a> {
     left: u64,
 }
 
-/// A stretch, and the bytes after its pair.
+/// A span, and the bytes after its pair.
 #[derive(Clone, Copy)]
-struct Stretch<'a> {
+struct PairSpan<'a> {
     first: u64,
     last: u64,
     after: &'a [u8],
 }
 
-/// A stretch, and the bits after it.
+/// A span, and the bits after it.
 #[derive(Clone, Copy)]
-struct Run<'a> {
+struct BitSpan<'a> {
     first: u64,
     last: u64,
     after: Bits<'a>,
 }
 
-/// The stretch of the pair in front, above a number.
-fn next_stretch(above: u64, bytes: &[u8]) -> Option<Stretch<'_>>
-    ensures { MatchOption result (acked_pairs above bytes.now
-        ≡ []) (λ s. acked_pairs above bytes.now
-        ≡ (s.first, s.last) ∷ acked_pairs s.last s.after.now) }
+/// The span of the pair in front, above a number.
+fn next_in_pairs(above: u64, bytes: &[u8]) -> Option<PairSpan<'_>>
+    ensures { MatchOption result (spans_of_pairs above bytes.now
+        ≡ []) (λ s. spans_of_pairs above bytes.now
+        ≡ (s.first, s.last) ∷ spans_of_pairs s.last s.after.now) }
 {
     let Ok((holes, used)) = read_vlu(bytes) else {
         return None;
@@ -82,7 +105,7 @@ fn next_stretch(above: u64, bytes: &[u8]) -> Option<Stretch<'_>>
     if last > u128::from(u64::MAX) {
         return None;
     }
-    Some(Stretch {
+    Some(PairSpan {
         first: first as u64,
         last: last as u64,
         after,
@@ -131,8 +154,8 @@ fn skip_unset(bits: Bits<'_>) -> Bits<'_>
     rest
 }
 
-/// The stretch that begins with the first bit, which is set.
-fn run_from(bits: Bits<'_>) -> Run<'_>
+/// The span that begins with the first bit, which is set.
+fn span_from(bits: Bits<'_>) -> BitSpan<'_>
     requires there { AreThere bits }
     requires some { 0 < bits.left }
     requires set { is_set bits.upto bits.bits.now (bits.upto + 2 + bits.at) ≡ true }
@@ -153,11 +176,11 @@ fn run_from(bits: Bits<'_>) -> Run<'_>
         after.at += set;
         after.left -= set;
     }
-    Run { first, last, after }
+    BitSpan { first, last, after }
 }
 
-/// The next stretch of set bits.
-fn next_run(bits: Bits<'_>) -> Option<Run<'_>>
+/// The next span of set bits.
+fn next_in_bits(bits: Bits<'_>) -> Option<BitSpan<'_>>
     requires { AreThere bits }
     ensures there { IfSome result (λ r. AreThere r.after) }
     ensures first { MatchOption result (bits_left bits.entry ≡ []) (λ r. bits_left bits.entry
@@ -167,26 +190,26 @@ fn next_run(bits: Bits<'_>) -> Option<Run<'_>>
     if rest.left == 0 {
         return None;
     }
-    Some(run_from(rest))
+    Some(span_from(rest))
 }
 
-impl<'a> AckedRanges<'a> {
-    /// The stretches that pairs tell of, above a cumulative number (RFC 7016 section 2.3.14).
-    pub fn of_pairs(upto: u64, pairs: &'a [u8]) -> AckedRanges<'a>
-        ensures { result ≡ acked_pairs upto pairs.now }
+impl<'a> AckedSpans<'a> {
+    /// The spans that pairs tell of, above a cumulative number (RFC 7016 section 2.3.14).
+    pub fn of_pairs(upto: u64, pairs: &'a [u8]) -> AckedSpans<'a>
+        ensures { result ≡ spans_of_pairs upto pairs.now }
     {
-        AckedRanges {
+        AckedSpans {
             source: Source::Pairs(upto, pairs),
         }
     }
 
-    /// The stretches of the set bits, above a cumulative number (RFC 7016 section 2.3.13).
-    pub fn of_bits(upto: u64, bits: &'a [u8]) -> AckedRanges<'a>
-        ensures { result ≡ acked_bits upto bits.now }
+    /// The spans of the set bits, above a cumulative number (RFC 7016 section 2.3.13).
+    pub fn of_bits(upto: u64, bits: &'a [u8]) -> AckedSpans<'a>
+        ensures { result ≡ spans_of_bits upto bits.now }
     {
         let fitting = (u64::MAX - upto).saturating_sub(1);
         let left = (bits.len() as u64).saturating_mul(8).min(fitting);
-        AckedRanges {
+        AckedSpans {
             source: Source::Bits(Bits {
                 upto,
                 bits,
@@ -196,17 +219,17 @@ impl<'a> AckedRanges<'a> {
         }
     }
 
-    /// The same stretches again, from the one that is next here.
-    pub fn iter(&self) -> AckedRanges<'a>
+    /// The same spans again, from the one that is next here.
+    pub fn iter(&self) -> AckedSpans<'a>
         ensures { result ≡ self.now }
     {
-        AckedRanges {
+        AckedSpans {
             source: self.source,
         }
     }
 }
 
-impl<'a> Iterator for AckedRanges<'a> {
+impl<'a> Iterator for AckedSpans<'a> {
     type Item = (u64, u64);
 
     ghost next_gives = { YieldsFirst (λ s. s) };
@@ -215,14 +238,14 @@ impl<'a> Iterator for AckedRanges<'a> {
 
     fn next(&mut self) -> Option<(u64, u64)> {
         match self.source {
-            Source::Pairs(last, rest) => match next_stretch(last, rest) {
+            Source::Pairs(last, rest) => match next_in_pairs(last, rest) {
                 Some(found) => {
                     self.source = Source::Pairs(found.last, found.after);
                     Some((found.first, found.last))
                 }
                 None => None,
             },
-            Source::Bits(bits) => match next_run(bits) {
+            Source::Bits(bits) => match next_in_bits(bits) {
                 Some(found) => {
                     self.source = Source::Bits(found.after);
                     Some((found.first, found.last))
@@ -234,18 +257,18 @@ impl<'a> Iterator for AckedRanges<'a> {
 }
 
 impl<'a> DataView<'a> {
-    /// The first and the last number of each stretch that an ack acknowledges above its cumulative
+    /// The first and the last number of each span that an ack acknowledges above its cumulative
     /// number. Other chunks acknowledge none.
-    pub fn acked(&self) -> AckedRanges<'a>
+    pub fn acked(&self) -> AckedSpans<'a>
         ensures acked { result ≡ acked (data_chunk self.now) }
 
         // Those whose bit is set, or those that the pairs tell of.
         ensures tells { AckTells (data_chunk self.now) result }
     {
         match self {
-            DataView::AckBitmap { upto, bits, .. } => AckedRanges::of_bits(*upto, bits),
-            DataView::AckRanges { upto, pairs, .. } => AckedRanges::of_pairs(*upto, pairs),
-            _ => AckedRanges::of_pairs(0, &[]),
+            DataView::AckBitmap { upto, bits, .. } => AckedSpans::of_bits(*upto, bits),
+            DataView::AckRanges { upto, pairs, .. } => AckedSpans::of_pairs(*upto, pairs),
+            _ => AckedSpans::of_pairs(0, &[]),
         }
     }
 }

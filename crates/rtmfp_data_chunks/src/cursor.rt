@@ -75,8 +75,11 @@ fn before_next(read: &Result<DataView<'_>, DataFault>) -> Option<Numbers>
 }
 
 fn numbers(user: &UserData<'_>) -> Numbers
-    ensures { result ≡ record { flow = user.now.flow; seq = user.now.seq;
-        forward = user.now.forward } }
+    ensures { result ≡ record {
+      flow = user.now.flow;
+      seq = user.now.seq;
+      forward = user.now.forward;
+    } }
 {
     Numbers {
         flow: user.flow,

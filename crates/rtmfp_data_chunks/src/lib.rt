@@ -5,12 +5,13 @@
 mod acked;
 mod cursor;
 mod fields;
+pub mod kinds;
 mod reading;
 mod user_data;
 mod view;
 mod writing;
 
-pub use acked::AckedRanges;
+pub use acked::AckedSpans;
 pub use cursor::DataCursor;
 pub use user_data::{Part, UserData};
 pub use view::{DataFault, DataView};

@@ -1,10 +1,22 @@
 //! The payload of each chunk of flows.
 ghost use Rattle.std.specs.Prelude.{◌≡◌, ◌<◌, ◌≤◌, length, IfSome};
 ghost use Rattle.rtmfp_data_chunks.specs.Chunk.{user_parts, data_chunk};
-ghost use Rattle.rtmfp_data_chunks.specs.Reader.{Shows, is_bad_offset, data_then, next_then,
-    bitmap_then, ranges_then, probe_then, exception_then, data_at, passing_byte, pairs_then};
+ghost use Rattle.rtmfp_data_chunks.specs.Reader.{
+  Shows,
+  is_bad_offset,
+  data_then,
+  next_then,
+  bitmap_then,
+  ack_ranges_then,
+  probe_then,
+  exception_then,
+  data_at,
+  passing_byte,
+  pairs_then,
+};
 
 use crate::fields::{abandons, number, three_numbers, two_numbers, user_data};
+use crate::kinds;
 use crate::user_data::{Numbers, UserData};
 use crate::view::{DataFault, DataView};
 
@@ -118,10 +130,10 @@ fn last_told(size: usize, above: u64, pairs: &[u8]) -> Result<u64, DataFault>
     Ok(end)
 }
 
-/// Reads an ack by ranges.
-#[tactic(auto, unfolding(crate::specs::Reader::ranges_then))]
-fn read_ranges(payload: &[u8]) -> Result<DataView<'_>, DataFault>
-    ensures { Shows data_chunk result (ranges_then payload.now) }
+/// Reads an ack by spans.
+#[tactic(auto, unfolding(crate::specs::Reader::ack_ranges_then))]
+fn read_ack_ranges(payload: &[u8]) -> Result<DataView<'_>, DataFault>
+    ensures { Shows data_chunk result (ack_ranges_then payload.now) }
 {
     let ([flow, blocks, upto], pairs) = three_numbers(payload.len(), payload)?;
     last_told(payload.len(), upto, pairs)?;
@@ -161,12 +173,12 @@ pub(crate) fn read_kind(
     ensures { Shows data_chunk result (data_at before kind payload.now) }
 {
     match kind {
-        0x10 => Ok(DataView::Data(read_data(payload)?)),
-        0x11 => Ok(DataView::Next(read_next(before, payload)?)),
-        0x50 => read_bitmap(payload),
-        0x51 => read_ranges(payload),
-        0x18 => read_probe(payload),
-        0x5e => read_exception(payload),
+        kinds::DATA => Ok(DataView::Data(read_data(payload)?)),
+        kinds::NEXT => Ok(DataView::Next(read_next(before, payload)?)),
+        kinds::ACK_BITMAP => read_bitmap(payload),
+        kinds::ACK_RANGES => read_ack_ranges(payload),
+        kinds::PROBE => read_probe(payload),
+        kinds::EXCEPTION => read_exception(payload),
         _ => Err(DataFault::Unknown(kind)),
     }
 }

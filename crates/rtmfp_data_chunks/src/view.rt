@@ -21,7 +21,7 @@ pub enum DataView<'a> {
         /// of the next number.
         bits: &'a [u8],
     },
-    /// An ack by ranges (RFC 7016 section 2.3.14).
+    /// An ack by spans (RFC 7016 section 2.3.14).
     AckRanges {
         flow: u64,
         /// The room for more, in blocks of 1,024 bytes.

@@ -1,6 +1,23 @@
 //! Chunks of flows written, each in its shortest spelling.
-ghost use Rattle.std.specs.Prelude.{◌≡◌, ℕ, ◌+◌, ◌-◌, ◌^◌, ◌<◌, ◌≤◌, ◌↔◌, ◌++◌, ◌∷◌, min, length,
-    Bool, Option, OnOk, OnErr, IsErr};
+ghost use Rattle.std.specs.Prelude.{
+  ◌≡◌,
+  ℕ,
+  ◌+◌,
+  ◌-◌,
+  ◌^◌,
+  ◌<◌,
+  ◌≤◌,
+  ◌↔◌,
+  ◌++◌,
+  ◌∷◌,
+  min,
+  length,
+  Bool,
+  Option,
+  OnOk,
+  OnErr,
+  IsErr,
+};
 ghost use Rattle.std.specs.Int.{to_be_bytes, w16};
 ghost use Rattle.rtmfp_vlu.specs.Vlu.{vlu};
 ghost use Rattle.rtmfp_forms.specs.Outgoing.{packet_limit};
@@ -8,9 +25,18 @@ ghost use Rattle.rtmfp_data_chunks.specs.declared.user_data.Numbers.{Numbers};
 ghost use Rattle.rtmfp_data_chunks.specs.Chunk.{user_parts, data_chunk};
 ghost use Rattle.rtmfp_data_chunks.specs.Fields.{OptionsStand, part_number};
 ghost use Rattle.rtmfp_data_chunks.specs.Spelling.{IsBehind, PayloadSpells, DataSpells, kind_of};
-ghost use Rattle.rtmfp_data_chunks.specs.Writing.{IsDataChunk, CanFollow, bit, flags_of, list_bytes,
-    body_bytes, payload_bytes, data_bytes};
+ghost use Rattle.rtmfp_data_chunks.specs.Writing.{
+  IsDataChunk,
+  CanFollow,
+  bit,
+  flags_of,
+  list_bytes,
+  body_bytes,
+  payload_bytes,
+  data_bytes,
+};
 
+use crate::kinds;
 use crate::user_data::{Part, UserData};
 use crate::view::DataView;
 use rtmfp_forms::{NoRoom, Options, Outgoing, append_options, options_len};
@@ -45,12 +71,12 @@ fn kind(view: &DataView<'_>) -> u8
     ensures { result ≡ kind_of (data_chunk view.now) }
 {
     match view {
-        DataView::Data(_) => 0x10,
-        DataView::Next(_) => 0x11,
-        DataView::AckBitmap { .. } => 0x50,
-        DataView::AckRanges { .. } => 0x51,
-        DataView::Probe { .. } => 0x18,
-        DataView::Exception { .. } => 0x5e,
+        DataView::Data(_) => kinds::DATA,
+        DataView::Next(_) => kinds::NEXT,
+        DataView::AckBitmap { .. } => kinds::ACK_BITMAP,
+        DataView::AckRanges { .. } => kinds::ACK_RANGES,
+        DataView::Probe { .. } => kinds::PROBE,
+        DataView::Exception { .. } => kinds::EXCEPTION,
     }
 }
 

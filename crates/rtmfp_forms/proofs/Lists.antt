@@ -81,8 +81,8 @@ complete_from b (Ok found) l os n le h =
     let same = ok_is (found.0, drop found.1 b) (os, drop n b) (sym (exact_from b (Ok found) l) ∙ read) in
     let list : found.0 ≡ os = ap (λ (x : List OptionParts × List ℕ). x.0) same in
     let rest : drop found.1 b ≡ drop n b = ap (λ (x : List OptionParts × List ℕ). x.1) same in
-    let place : found.1 ≡ n = omega (arith, l.0, le, ap length rest, length-drop found.1 b, length-drop n b) in
-    rw (← list, ← place) refl
+    let used : found.1 ≡ n = omega (arith, l.0, le, ap length rest, length-drop found.1 b, length-drop n b) in
+    rw (← list, ← used) refl
 complete_from b (Err fault) l os n le h =
     let read : options_then b ≡ Ok (os, drop n b) = ap options_then (sym (take-append-drop n b)) ∙ options_again os (take n b) (drop n b) h in
     absurd (ok_or_err (os, drop n b) fault (sym read ∙ options_fault fault b l))

@@ -10,7 +10,7 @@ use Rattle.rtmfp_vlu.specs.Decoding.{Decodes}
 use Rattle.rtmfp_vlu.proofs.Bytes.{IsBytes, IsBytes-take, IsBytes-drop}
 use Rattle.rtmfp_vlu.proofs.Fields.{behind, within, stands}
 use Rattle.rtmfp_vlu.proofs.Spellings.{IsEnded-some}
-use Rattle.rtmfp_vlu.proofs.Places.{decodes_number, reads_number, reads_cut, reads_large}
+use Rattle.rtmfp_vlu.proofs.Decoded.{decodes_number, reads_number, reads_cut, reads_large}
 use Rattle.rtmfp_forms.specs.declared.fault.FormFault.{FormFault}
 use Rattle.rtmfp_forms.specs.declared.fault.FormFault.TheVariants.{Short, Large, NoMarker}
 use Rattle.rtmfp_forms.specs.Options.{OptionParts, PieceSpells, HasPiece, IsCutPiece, IsFaultAt}

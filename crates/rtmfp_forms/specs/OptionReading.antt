@@ -1,8 +1,27 @@
 -- Options from left to right, with the first fault that is met.
 use Rattle.std.specs.Borrow.{Bor}
 use Rattle.std.specs.Option.{option_map}
-use Rattle.std.specs.Prelude.{◌≡◌, ℕ, zero, suc, List, [], ◌∷◌, length, take, drop, Option, Some,
-    None, Result, Ok, Err, nat_lt, ◌==◌, if◌then◌else◌}
+use Rattle.std.specs.Prelude.{
+  ◌≡◌,
+  ℕ,
+  zero,
+  suc,
+  List,
+  [],
+  ◌∷◌,
+  length,
+  take,
+  drop,
+  Option,
+  Some,
+  None,
+  Result,
+  Ok,
+  Err,
+  nat_lt,
+  ◌==◌,
+  if◌then◌else◌,
+}
 use Rattle.rtmfp_vlu.specs.declared.reading.VluFault.{VluFault}
 use Rattle.rtmfp_vlu.specs.declared.reading.VluFault.TheVariants as vlu
 use Rattle.rtmfp_vlu.specs.Reading.{number_at}
@@ -48,7 +67,7 @@ unfoldable pub counted_then : ℕ → List ℕ → Result (Option OptionParts ×
 counted_then size bytes = do
   kind ← number_then (take size bytes)
   if nat_lt (length bytes) size then Err Short
-    else Ok (Some (record { kind = kind.0; value = kind.1 }), drop size bytes)
+      else Ok (Some (record { kind = kind.0; value = kind.1 }), drop size bytes)
 
 -- an option, or the marker, and the bytes after it
 unfoldable pub piece_then : List ℕ → Result (Option OptionParts × List ℕ) FormFault
@@ -62,8 +81,11 @@ unfoldable pub options_within : ℕ → List ℕ → Result (List OptionParts ×
 options_within zero bytes = Err NoMarker
 options_within (suc steps) bytes = do
   first ← piece_then bytes
-  elim first.0 [ None ↦ Ok ([], first.1) | Some o ↦ options_within steps first.1 >>= λ others. Ok
-    (o ∷ others.0, others.1) ]
+  elim first.0 [
+    | None ↦ Ok ([], first.1)
+    | Some o ↦ options_within steps first.1 >>= λ others. Ok
+        (o ∷ others.0, others.1)
+  ]
 
 -- an option has at least a byte
 unfoldable pub options_then : List ℕ → Result (List OptionParts × List ℕ) FormFault

@@ -1,6 +1,20 @@
 -- Options and lists of them (RFC 7016 sections 2.1.3 and 2.1.4).
-use Rattle.std.specs.Prelude.{◌≡◌, ℕ, ◌<◌, ◌≤◌, ◌⊎◌, List, [], ◌∷◌, ◌++◌, length, take, Result, Ok,
-    Err}
+use Rattle.std.specs.Prelude.{
+  ◌≡◌,
+  ℕ,
+  ◌<◌,
+  ◌≤◌,
+  ◌⊎◌,
+  List,
+  [],
+  ◌∷◌,
+  ◌++◌,
+  length,
+  take,
+  Result,
+  Ok,
+  Err,
+}
 use Rattle.std.specs.List.{flat_map}
 use Rattle.rtmfp_vlu.specs.Vlu.{VluSpells, IsCut, IsLarge, vlu}
 use Rattle.rtmfp_forms.specs.declared.fault.FormFault.{FormFault}
@@ -48,7 +62,7 @@ pub record HasPiece (bytes : List ℕ) (size : ℕ) (counted : List ℕ) : Type 
 abbrev pub IsCutPiece : ℕ → List ℕ → Type 0
 IsCutPiece size counted =
     IsCut counted ⊎ ((kind : ℕ) × (n : ℕ) × (n ≤ length counted) × VluSpells kind (take n counted) ×
-      (length counted < size))
+    (length counted < size))
 
 -- what is wrong where an option or the marker has to stand
 abbrev pub IsFaultAt : FormFault → List ℕ → Type 0

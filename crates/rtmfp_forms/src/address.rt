@@ -1,7 +1,35 @@
-ghost use Rattle.std.specs.Prelude.{◌≡◌, ℕ, ◌+◌, ◌-◌, ◌^◌, ◌<◌, ◌≤◌, ◌↔◌, ◌++◌, Bool, false,
-    if◌then◌else◌, List, length, take, drop, replicate, IsTrue, IfOk, IfErr, Ok};
-ghost use Rattle.rtmfp_forms.specs.Address.{AddressParts, host_len, IsAddress, SamePlace,
-    AddressSpells, address_bytes, IsCutAddress};
+ghost use Rattle.std.specs.Prelude.{
+  ◌≡◌,
+  ℕ,
+  ◌+◌,
+  ◌-◌,
+  ◌^◌,
+  ◌<◌,
+  ◌≤◌,
+  ◌↔◌,
+  ◌++◌,
+  Bool,
+  false,
+  if◌then◌else◌,
+  List,
+  length,
+  take,
+  drop,
+  replicate,
+  IsTrue,
+  IfOk,
+  IfErr,
+  Ok,
+};
+ghost use Rattle.rtmfp_forms.specs.Address.{
+  AddressParts,
+  host_len,
+  IsAddress,
+  SamePlace,
+  AddressSpells,
+  address_bytes,
+  IsCutAddress,
+};
 ghost use Rattle.rtmfp_forms.specs.AddressReading.{address_at};
 
 use crate::fault::FormFault;
@@ -27,8 +55,7 @@ impl Model for Address {
 
     ghost view = { λ a. record { v6 = a.v6; origin = a.origin; host = a.host; port = a.port } };
 
-    ghost invariant =
-        { λ a. IsAddress (record { v6 = a.v6; origin = a.origin; host = a.host; port = a.port }) };
+    ghost invariant = { λ a. IsAddress (record { v6 = a.v6; origin = a.origin; host = a.host; port = a.port }) };
 
     ghost inverse = { λ a. record { v6 = a.v6; origin = a.origin; host = a.host; port = a.port } };
 }
@@ -36,8 +63,12 @@ impl Model for Address {
 impl Address {
     /// An IPv4 address of unknown origin.
     pub fn v4(host: [u8; 4], port: u16) -> Address
-        ensures { result ≡ record { v6 = false; origin = 0; host = host ++ replicate 12 0;
-            port = port } }
+        ensures { result ≡ record {
+          v6 = false;
+          origin = 0;
+          host = host ++ replicate 12 0;
+          port = port;
+        } }
     {
         let mut filled = [0; 16];
         filled[..4].copy_from_slice(&host);

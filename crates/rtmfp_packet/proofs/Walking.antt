@@ -51,15 +51,3 @@ body_of-padding [] h = refl
 body_of-padding (k ∷ []) h = refl
 body_of-padding (k ∷ x ∷ []) h = refl
 body_of-padding (k ∷ x ∷ y ∷ rest) h = no (x * 256 + y) (length rest) _ _ h
-
-pub padding_short : (b : List ℕ) → length b < 3 → IsPadding b
-padding_short [] h = tt
-padding_short (k ∷ []) h = tt
-padding_short (k ∷ x ∷ []) h = tt
-padding_short (k ∷ x ∷ y ∷ rest) h = absurd (omega arith)
-
-pub padding_cut : (n : ℕ) (b : List ℕ) → n ≡ get_or b 1 0 * 256 + get_or b 2 0 → 3 ≤ length b → length (drop 3 b) < n → IsPadding b
-padding_cut n [] e le h = tt
-padding_cut n (k ∷ []) e le h = tt
-padding_cut n (k ∷ x ∷ []) e le h = tt
-padding_cut n (k ∷ x ∷ y ∷ rest) e le h = omega (arith, e, h)

@@ -18,6 +18,6 @@ left walk = visible (all_left walk)
 -- one chunk is taken from what is left
 pub record Steps (old : Chunks) (chunk : RawChunk) (new : Chunks) : Type 0 where
   pub body : body_of old.rest.now ≡ then_body
-    (record { kind = chunk.kind; payload = chunk.payload.now }) (body_of new.rest.now)
+      (record { kind = chunk.kind; payload = chunk.payload.now }) (body_of new.rest.now)
   pub at : chunk.at ≡ old.at
   pub past : new.at ≡ old.at + (3 + length chunk.payload.now)

@@ -1,7 +1,27 @@
 -- The head of a plain packet (RFC 7016 section 2.2.4): a byte of flags, then the timestamp and the
 -- echo, each where it is flagged. Own: two bits of the flags are not looked at.
-use Rattle.std.specs.Prelude.{◌≡◌, ◌≢◌, ℕ, ◌+◌, ◌%◌, ◌^◌, ◌<◌, ◌==◌, Bool, List, [], ◌∷◌, ◌++◌,
-    length, Option, Some, None, is_some, IfSome, if◌then◌else◌}
+use Rattle.std.specs.Prelude.{
+  ◌≡◌,
+  ◌≢◌,
+  ℕ,
+  ◌+◌,
+  ◌%◌,
+  ◌^◌,
+  ◌<◌,
+  ◌==◌,
+  Bool,
+  List,
+  [],
+  ◌∷◌,
+  ◌++◌,
+  length,
+  Option,
+  Some,
+  None,
+  is_some,
+  IfSome,
+  if◌then◌else◌,
+}
 use Rattle.std.specs.Int.{bit_at, to_be_bytes, w16}
 use Rattle.rtmfp_packet.specs.declared.head.PacketHead.{PacketHead}
 use Rattle.rtmfp_packet.specs.declared.head.Mode.{Mode}
@@ -66,7 +86,7 @@ flag_value is_set bit = if is_set then bit else 0
 abbrev pub head_flags : PacketHead → ℕ
 head_flags head =
     flag_value head.critical 128 + flag_value head.reverse 64 + flag_value (is_some head.stamp) 8
-      + flag_value (is_some head.echo) 4
+    + flag_value (is_some head.echo) 4
     + mode_number head.mode
 
 abbrev pub head_bytes : PacketHead → List ℕ

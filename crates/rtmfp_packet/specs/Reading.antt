@@ -21,7 +21,7 @@ HeadReads flags b (Err ShortStamp) = IsShortStamp (flags ∷ b)
 pub record Reads (packet : Whole) (b : List ℕ) : Type 0 where
   pub spells : PacketSpells packet.head packet.chunks packet.padding b
   pub start : packet.start + length (flat_map chunk_bytes packet.chunks ++ packet.padding)
-    ≡ length b
+      ≡ length b
 
 -- how bytes read: as a packet that they spell, or with the fault of their head
 abbrev pub PacketReading : List ℕ → Result Whole PacketFault → Type 0

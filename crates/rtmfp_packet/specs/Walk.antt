@@ -1,6 +1,23 @@
 -- The walk over the chunks of a packet.
-use Rattle.std.specs.Prelude.{ℕ, suc, ◌+◌, ◌*◌, ◌==◌, ◌||◌, nat_le, not, Bool, List, [], ◌∷◌,
-    length, take, drop, filter, if◌then◌else◌}
+use Rattle.std.specs.Prelude.{
+  ℕ,
+  suc,
+  ◌+◌,
+  ◌*◌,
+  ◌==◌,
+  ◌||◌,
+  nat_le,
+  not,
+  Bool,
+  List,
+  [],
+  ◌∷◌,
+  length,
+  take,
+  drop,
+  filter,
+  if◌then◌else◌,
+}
 use Rattle.rtmfp_packet.specs.Spelling.{Chunk}
 
 -- what stands behind a head: chunks, and padding
@@ -19,14 +36,14 @@ abbrev pub walk : ℕ → List ℕ → Body
 walk (suc n) (kind ∷ high ∷ low ∷ rest) =
     if nat_le (high * 256 + low) (length rest)
     then then_body (record { kind = kind; payload = take (high * 256 + low) rest })
-      (walk n (drop (high * 256 + low) rest))
+    (walk n (drop (high * 256 + low) rest))
     else only_padding (kind ∷ high ∷ low ∷ rest)
 walk n b = only_padding b
 
 abbrev pub body_of : List ℕ → Body
 body_of b = walk (length b) b
 
--- a chunk with the place of its type byte in the packet
+-- a chunk with the offset of its type byte in the packet
 pub record Placed : Type 0 where
   pub kind : ℕ
   pub at : ℕ
@@ -36,12 +53,12 @@ pub record Placed : Type 0 where
 abbrev pub is_ignored : ℕ → Bool
 is_ignored kind = (kind == 0) || (kind == 255)
 
--- the chunks with their places, where the first begins at `at`
+-- the chunks with their offsets, where the first begins at `at`
 abbrev pub all_placed_from : ℕ → List Chunk → List Placed
 all_placed_from at [] = []
 all_placed_from at (chunk ∷ chunks) =
     record { kind = chunk.kind; at = at; payload = chunk.payload }
-      ∷ all_placed_from (at + (3 + length chunk.payload)) chunks
+    ∷ all_placed_from (at + (3 + length chunk.payload)) chunks
 
 -- the chunks that are not passed over
 abbrev pub visible : List Placed → List Placed

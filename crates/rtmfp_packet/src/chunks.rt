@@ -7,7 +7,7 @@ ghost use Rattle.rtmfp_packet.specs.Walk.{is_ignored};
 pub struct RawChunk<'a> {
     /// The type.
     pub kind: u8,
-    /// The place of the type byte in the packet.
+    /// The offset of the type byte in the packet.
     pub at: usize,
     /// The payload, a part of the packet.
     pub payload: &'a [u8],
@@ -26,7 +26,7 @@ impl<'a> Chunks<'a> {
     ghost use Rattle.rtmfp_packet.specs.Walk.{body_of, only_padding};
     ghost use Rattle.rtmfp_packet.specs.Chunks.{Steps};
 
-    /// The chunks that begin at this place of a packet.
+    /// The chunks that begin at this offset of a packet.
     pub(crate) fn new(at: usize, rest: &'a [u8]) -> Chunks<'a>
         requires { at + length rest.now < 2 ^ 64 }
         ensures at { result.at ≡ at }

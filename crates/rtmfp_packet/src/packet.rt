@@ -23,9 +23,12 @@ impl<'a> Model for Packet<'a> {
 
     ghost Value = { Whole };
 
-    ghost view =
-        { λ p. record { head = p.head; start = p.start; chunks = (body_of p.body.now).chunks;
-        padding = (body_of p.body.now).padding } };
+    ghost view = { λ p. record {
+      head = p.head;
+      start = p.start;
+      chunks = (body_of p.body.now).chunks;
+      padding = (body_of p.body.now).padding;
+    } };
 
     ghost invariant = { λ p. p.start + length p.body.now < 2 ^ 64 };
 }

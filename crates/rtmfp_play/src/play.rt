@@ -121,12 +121,12 @@ fn step_said(alloc: Global, ends: &[Named], said: ScriptLine) -> Result<Option<S
             cert,
         })),
         ScriptLine::At { moment } => Ok(Some(Step::At { moment })),
-        ScriptLine::Open { name, peer, places } => open_said(
+        ScriptLine::Open { name, peer, candidates } => open_said(
             alloc,
             ends,
             &name,
             &peer,
-            places.as_slice(),
+            candidates.as_slice(),
         ),
         ScriptLine::Cancel { name, number } => Ok(cancel_said(ends, &name, number)),
         ScriptLine::Tick { name } => Ok(tick_said(ends, &name)),

@@ -9,8 +9,8 @@ use Rattle.std.proofs.lemmas.Fmt.{decimal_nonempty}
 use Rattle.hex.specs.Hex.{encode_lower}
 use Rattle.rtmfp_forms.specs.Address.{AddressParts}
 use Rattle.rtmfp_text.specs.AddressText.{address_text, host_text, v4_host_text, v6_host_text}
-use Rattle.rtmfp_script.specs.Grammar.{IsPlace}
-use Rattle.rtmfp_script.specs.Fields.{split_of, number_below, digits_of, v4_of, v6_of, v4_place, v6_place, place_at, place_of, is_lower_digit}
+use Rattle.rtmfp_script.specs.Grammar.{IsPlainAddress}
+use Rattle.rtmfp_script.specs.Fields.{split_of, number_below, digits_of, v4_of, v6_of, v4_address, v6_address, address_at, address_of, is_lower_digit}
 use Rattle.rtmfp_script.proofs.Splits.{some_some, bind_some, Each, Lacks, each_is, each_append, each_passes, split_text, split_joined}
 use Rattle.rtmfp_script.proofs.Numbers.{number_below-some, number_below-decimal, IsDigit, each_decimal}
 use Rattle.rtmfp_script.proofs.Digits.{digits_of-some, digits_of-encoded, length-encoded, lower_encoded}
@@ -90,21 +90,21 @@ v6_of-some rest bytes h =
     }
 
 -- what was read of a host and a port
-record IsRead (host : List ℕ) (port : ℕ) (place : AddressParts) : Type 0 where
-  host_is : host ≡ host_text place
-  port_is : place.port ≡ port
-  place_is : IsPlace place
+record IsRead (host : List ℕ) (port : ℕ) (address : AddressParts) : Type 0 where
+  host_is : host ≡ host_text address
+  port_is : address.port ≡ port
+  address_is : IsPlainAddress address
 
 front_of : (host : List ℕ) → slice_index host 0 ≡ 91 → host ≡ 91 ∷ drop 1 host
 front_of [] e = absurd (omega arith)
 front_of (b ∷ host) e = ap (λ (x : ℕ). x ∷ host) e
 
-v6_read : (port : ℕ) (host bytes : List ℕ) → port < 2 ^ 16 → slice_index host 0 ≡ 91 → IsV6 (drop 1 host) bytes → IsRead host port (v6_place port bytes)
+v6_read : (port : ℕ) (host bytes : List ℕ) → port < 2 ^ 16 → slice_index host 0 ≡ 91 → IsV6 (drop 1 host) bytes → IsRead host port (v6_address port bytes)
 unfolding v6_host_text
 v6_read port host bytes small first is = record {
   host_is = front_of host first ∙ ap (λ xs. 91 ∷ xs) is.text;
   port_is = refl;
-  place_is = record {
+  address_is = record {
     form = record { origin = omega arith; host = is.size; filled = drop_all 16 bytes (let e = is.size in omega arith); port = small };
     origin = refl;
     each = is.fits;
@@ -118,42 +118,42 @@ v4_joined : (a b c d : ℕ) → decimal a ++ 46 ∷ (decimal b ++ 46 ∷ (decima
 unfolding v4_host_text
 v4_joined a b c d = ap (λ xs. decimal a ++ 46 ∷ (decimal b ++ 46 ∷ (decimal c ++ 46 ∷ xs))) (sym (append-nil (decimal d)))
 
-v4_read : (port : ℕ) (host bytes : List ℕ) → port < 2 ^ 16 → IsV4 host bytes → IsRead host port (v4_place port bytes)
+v4_read : (port : ℕ) (host bytes : List ℕ) → port < 2 ^ 16 → IsV4 host bytes → IsRead host port (v4_address port bytes)
 v4_read port host bytes small is =
-    subst (λ (bs : List ℕ). IsRead host port (v4_place port bs)) (sym is.is)
-    (let read : IsRead host port (v4_place port (is.a ∷ is.b ∷ is.c ∷ is.d ∷ [])) = record {
+    subst (λ (bs : List ℕ). IsRead host port (v4_address port bs)) (sym is.is)
+    (let read : IsRead host port (v4_address port (is.a ∷ is.b ∷ is.c ∷ is.d ∷ [])) = record {
       host_is = is.text ∙ v4_joined is.a is.b is.c is.d;
       port_is = refl;
-      place_is = record {
+      address_is = record {
         form = record { origin = omega arith; host = refl; filled = refl; port = small };
         origin = refl;
         each = v4_fits is.a is.b is.c is.d is.a_fits is.b_fits is.c_fits is.d_fits;
       };
     } in read)
 
-place_at-some : (host : List ℕ) (port : ℕ) (place : AddressParts) → port < 2 ^ 16 → place_at host port ≡ Some place → IsRead host port place
-unfolding place_at
-place_at-some host port place small h = elim (cases_Bool (slice_index host 0 == 91)) [
+address_at-some : (host : List ℕ) (port : ℕ) (address : AddressParts) → port < 2 ^ 16 → address_at host port ≡ Some address → IsRead host port address
+unfolding address_at
+address_at-some host port address small h = elim (cases_Bool (slice_index host 0 == 91)) [
   | inl is ↦
-      let p = bind_some (v6_of (drop 1 host)) (λ bytes. Some (v6_place port bytes)) place (rw is at h) in
+      let p = bind_some (v6_of (drop 1 host)) (λ bytes. Some (v6_address port bytes)) address (rw is at h) in
       subst (IsRead host port) (some_some _ _ p.2) (v6_read port host p.0 small (eqb-true _ _ is) (v6_of-some (drop 1 host) p.0 p.1))
   | inr other ↦
-      let p = bind_some (v4_of host) (λ bytes. Some (v4_place port bytes)) place (rw other at h) in
+      let p = bind_some (v4_of host) (λ bytes. Some (v4_address port bytes)) address (rw other at h) in
       subst (IsRead host port) (some_some _ _ p.2) (v4_read port host p.0 small (v4_of-some host p.0 p.1))
 ]
 
-address_joined : (place : AddressParts) → host_text place ++ 58 ∷ decimal place.port ≡ address_text place
+address_joined : (address : AddressParts) → host_text address ++ 58 ∷ decimal address.port ≡ address_text address
 unfolding address_text
-address_joined place = ap (λ xs. host_text place ++ 58 ∷ xs) (sym (append-nil (decimal place.port)))
+address_joined address = ap (λ xs. host_text address ++ 58 ∷ xs) (sym (append-nil (decimal address.port)))
 
-pub place_of-some : (word : List ℕ) (place : AddressParts) → place_of word ≡ Some place → (word ≡ address_text place) × IsPlace place
-unfolding place_of
-place_of-some word place h =
-    let p = bind_some (split_of 58 word) _ place h in
-    let q = bind_some (number_below (2 ^ 16) p.0.1) _ place p.2 in
+pub address_of-some : (word : List ℕ) (address : AddressParts) → address_of word ≡ Some address → (word ≡ address_text address) × IsPlainAddress address
+unfolding address_of
+address_of-some word address h =
+    let p = bind_some (split_of 58 word) _ address h in
+    let q = bind_some (number_below (2 ^ 16) p.0.1) _ address p.2 in
     let port = number_below-some (2 ^ 16) p.0.1 q.0 q.1 in
-    let is = place_at-some p.0.0 q.0 place port.1 q.2 in
-    (rejoin 58 word p.0.0 p.0.1 _ _ (split_joined 58 word p.0 p.1) is.host_is (port.0 ∙ ap decimal (sym is.port_is)) ∙ address_joined place, is.place_is)
+    let is = address_at-some p.0.0 q.0 address port.1 q.2 in
+    (rejoin 58 word p.0.0 p.0.1 _ _ (split_joined 58 word p.0 p.1) is.host_is (port.0 ∙ ap decimal (sym is.port_is)) ∙ address_joined address, is.address_is)
 
 -- ---- the text of an address is read
 
@@ -228,8 +228,8 @@ lacks_v6 b bytes left right bad fits = (left, each_append (λ x. x ≢ b) (encod
 
 -- what an address of a script is
 data Shape : AddressParts → Type 0 where
-  is_v4 : (port a b c d : ℕ) → port < 2 ^ 16 → a < 256 → b < 256 → c < 256 → d < 256 → Shape (v4_place port (a ∷ b ∷ c ∷ d ∷ []))
-  is_v6 : (port : ℕ) (bytes : List ℕ) → port < 2 ^ 16 → length bytes ≡ 16 → list_all (λ b. nat_lt b 256) bytes ≡ true → Shape (v6_place port bytes)
+  is_v4 : (port a b c d : ℕ) → port < 2 ^ 16 → a < 256 → b < 256 → c < 256 → d < 256 → Shape (v4_address port (a ∷ b ∷ c ∷ d ∷ []))
+  is_v6 : (port : ℕ) (bytes : List ℕ) → port < 2 ^ 16 → length bytes ≡ 16 → list_all (λ b. nat_lt b 256) bytes ≡ true → Shape (v6_address port bytes)
 
 four : (port : ℕ) (host : List ℕ) → port < 2 ^ 16 → length host ≡ 16 → drop 4 host ≡ replicate 12 0 → list_all (λ b. nat_lt b 256) host ≡ true → Shape (record { v6 = false; origin = 0; host = host; port = port })
 four port [] small size filled fits = absurd (omega arith)
@@ -247,17 +247,17 @@ four port (a ∷ b ∷ c ∷ d ∷ rest) small size filled fits =
     let hd : d < 256 = grind (arith, nat_tests, s.0) in
     subst (λ (xs : List ℕ). Shape (record { v6 = false; origin = 0; host = a ∷ b ∷ c ∷ d ∷ xs; port = port })) (sym filled) (is_v4 port a b c d small ha hb hc hd)
 
-shape_by : (v6 : Bool) (port : ℕ) (host : List ℕ) → IsPlace (record { v6 = v6; origin = 0; host = host; port = port }) → Shape (record { v6 = v6; origin = 0; host = host; port = port })
+shape_by : (v6 : Bool) (port : ℕ) (host : List ℕ) → IsPlainAddress (record { v6 = v6; origin = 0; host = host; port = port }) → Shape (record { v6 = v6; origin = 0; host = host; port = port })
 shape_by true port host is = is_v6 port host is.form.port is.form.host is.each
 shape_by false port host is = four port host is.form.port is.form.host is.form.filled is.each
 
-shape : (place : AddressParts) → IsPlace place → Shape place
-shape place is =
-    let e : place ≡ record { v6 = place.v6; origin = 0; host = place.host; port = place.port } = ap (λ (n : ℕ). record { v6 = place.v6; origin = n; host = place.host; port = place.port }) is.origin in
-    subst Shape (sym e) (shape_by place.v6 place.port place.host (subst IsPlace e is))
+shape : (address : AddressParts) → IsPlainAddress address → Shape address
+shape address is =
+    let e : address ≡ record { v6 = address.v6; origin = 0; host = address.host; port = address.port } = ap (λ (n : ℕ). record { v6 = address.v6; origin = n; host = address.host; port = address.port }) is.origin in
+    subst Shape (sym e) (shape_by address.v6 address.port address.host (subst IsPlainAddress e is))
 
-read_v6 : (port : ℕ) (bytes : List ℕ) → port < 2 ^ 16 → length bytes ≡ 16 → list_all (λ b. nat_lt b 256) bytes ≡ true → place_of (v6_host_text bytes ++ 58 ∷ decimal port) ≡ Some (v6_place port bytes)
-unfolding place_of place_at v6_host_text
+read_v6 : (port : ℕ) (bytes : List ℕ) → port < 2 ^ 16 → length bytes ≡ 16 → list_all (λ b. nat_lt b 256) bytes ≡ true → address_of (v6_host_text bytes ++ 58 ∷ decimal port) ≡ Some (v6_address port bytes)
+unfolding address_of address_at v6_host_text
 read_v6 port bytes small size fits =
     rw (
       split_text 58 (v6_host_text bytes) (decimal port) (lacks_v6 58 bytes (λ e. cc e) (λ e. cc e) refl fits),
@@ -266,8 +266,8 @@ read_v6 port bytes small size fits =
     ) refl
 
 read_v4 : (port a b c d : ℕ) → port < 2 ^ 16 → a < 256 → b < 256 → c < 256 → d < 256 →
-    place_of (v4_host_text ((a ∷ b ∷ c ∷ d ∷ []) ++ replicate 12 0) ++ 58 ∷ decimal port) ≡ Some (v4_place port (a ∷ b ∷ c ∷ d ∷ []))
-unfolding place_of place_at
+    address_of (v4_host_text ((a ∷ b ∷ c ∷ d ∷ []) ++ replicate 12 0) ++ 58 ∷ decimal port) ≡ Some (v4_address port (a ∷ b ∷ c ∷ d ∷ []))
+unfolding address_of address_at
 read_v4 port a b c d small ha hb hc hd =
     rw (
       split_text 58 (v4_host_text ((a ∷ b ∷ c ∷ d ∷ []) ++ replicate 12 0)) (decimal port) (lacks_colon_v4 a b c d ha hb hc hd),
@@ -276,12 +276,12 @@ read_v4 port a b c d small ha hb hc hd =
       v4_of-text a b c d ha hb hc hd,
     ) refl
 
-read_shape : (place : AddressParts) → Shape place → place_of (host_text place ++ 58 ∷ decimal place.port) ≡ Some place
-read_shape place (is_v4 port a b c d small ha hb hc hd) = read_v4 port a b c d small ha hb hc hd
-read_shape place (is_v6 port bytes small size fits) = read_v6 port bytes small size fits
+read_shape : (address : AddressParts) → Shape address → address_of (host_text address ++ 58 ∷ decimal address.port) ≡ Some address
+read_shape address (is_v4 port a b c d small ha hb hc hd) = read_v4 port a b c d small ha hb hc hd
+read_shape address (is_v6 port bytes small size fits) = read_v6 port bytes small size fits
 
-pub place_of-text : (place : AddressParts) → IsPlace place → place_of (address_text place) ≡ Some place
-place_of-text place is = ap place_of (sym (address_joined place)) ∙ read_shape place (shape place is)
+pub address_of-text : (address : AddressParts) → IsPlainAddress address → address_of (address_text address) ≡ Some address
+address_of-text address is = ap address_of (sym (address_joined address)) ∙ read_shape address (shape address is)
 
 lacks_port : (host : List ℕ) (port : ℕ) → port < 2 ^ 16 → Lacks 32 host → Lacks 32 (host ++ 58 ∷ decimal port)
 lacks_port host port small lacks =
@@ -297,9 +297,9 @@ no_space_v4 port a b c d small ha hb hc hd = record { lacks = lacks_port (v4_hos
 no_space_v6 : (port : ℕ) (bytes : List ℕ) → port < 2 ^ 16 → list_all (λ b. nat_lt b 256) bytes ≡ true → HasNoSpace (v6_host_text bytes ++ 58 ∷ decimal port)
 no_space_v6 port bytes small fits = record { lacks = lacks_port (v6_host_text bytes) port small (lacks_v6 32 bytes (λ e. cc e) (λ e. cc e) refl fits) }
 
-no_space : (place : AddressParts) → Shape place → HasNoSpace (host_text place ++ 58 ∷ decimal place.port)
-no_space place (is_v4 port a b c d small ha hb hc hd) = no_space_v4 port a b c d small ha hb hc hd
-no_space place (is_v6 port bytes small size fits) = no_space_v6 port bytes small fits
+no_space : (address : AddressParts) → Shape address → HasNoSpace (host_text address ++ 58 ∷ decimal address.port)
+no_space address (is_v4 port a b c d small ha hb hc hd) = no_space_v4 port a b c d small ha hb hc hd
+no_space address (is_v6 port bytes small size fits) = no_space_v6 port bytes small fits
 
-pub lacks_address : (place : AddressParts) → IsPlace place → Lacks 32 (address_text place)
-lacks_address place is = (subst HasNoSpace (address_joined place) (no_space place (shape place is))).lacks
+pub lacks_address : (address : AddressParts) → IsPlainAddress address → Lacks 32 (address_text address)
+lacks_address address is = (subst HasNoSpace (address_joined address) (no_space address (shape address is))).lacks

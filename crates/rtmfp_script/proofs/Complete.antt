@@ -7,15 +7,15 @@ use Rattle.rtmfp_text.specs.AddressText.{address_text}
 use Rattle.rtmfp_text.specs.Words.{bytes_text}
 use Rattle.rtmfp_script.specs.declared.line.ScriptLine.{ScriptLine}
 use Rattle.rtmfp_script.specs.declared.line.ScriptLine.TheVariants.{End, At, Open, Cancel, Tick, Deliver, Bent, Inject, Forge}
-use Rattle.rtmfp_script.specs.Grammar.{IsName, IsCert, IsPlace, IsBytesUpTo, EachIsPlace, IsWithin, IsLineOf, line_text, words_text, line_limit}
+use Rattle.rtmfp_script.specs.Grammar.{IsName, IsCert, IsPlainAddress, IsBytesUpTo, EachIsPlainAddress, IsWithin, IsLineOf, line_text, words_text, line_limit}
 use Rattle.rtmfp_script.specs.Fields.{split_of, ◌>>=◌}
 use Rattle.rtmfp_script.specs.Lines.{end_of, at_of, open_of, open_to, cancel_of, tick_of, deliver_of, bent_of, inject_of, forge_of, word_of, step_of}
 use Rattle.rtmfp_script.proofs.Splits.{split_text, split_nothing}
 use Rattle.rtmfp_script.proofs.Numbers.{number_of-decimal, number_below-decimal}
 use Rattle.rtmfp_script.proofs.Digits.{bytes_of-text}
 use Rattle.rtmfp_script.proofs.NamesRead.{name_of-name, lacks_name, cert_of-cert}
-use Rattle.rtmfp_script.proofs.Addresses.{place_of-text, lacks_address, lacks_low}
-use Rattle.rtmfp_script.proofs.PlacesRead.{places_of-text}
+use Rattle.rtmfp_script.proofs.Addresses.{address_of-text, lacks_address, lacks_low}
+use Rattle.rtmfp_script.proofs.AddressesRead.{addresses_of-text}
 
 end_read : (name : List ℕ) (peers sessions : ℕ) (cert : List ℕ) → IsName name → peers < 2 ^ 32 → sessions < 2 ^ 32 → IsCert cert →
     end_of (name ++ 32 ∷ (decimal peers ++ 32 ∷ (decimal sessions ++ 32 ∷ cert))) ≡ Some (End name peers sessions cert)
@@ -45,7 +45,7 @@ tick_read : (name : List ℕ) → IsName name → tick_of name ≡ Some (Tick na
 unfolding tick_of
 tick_read name n = rw (name_of-name name n) refl
 
-deliver_read : (number : ℕ) (name : List ℕ) (from : AddressParts) → number < 2 ^ 64 → IsName name → IsPlace from →
+deliver_read : (number : ℕ) (name : List ℕ) (from : AddressParts) → number < 2 ^ 64 → IsName name → IsPlainAddress from →
     deliver_of (decimal number ++ 32 ∷ (name ++ 32 ∷ address_text from)) ≡ Some (Deliver number name from)
 unfolding deliver_of
 deliver_read number name from m n f =
@@ -54,10 +54,10 @@ deliver_read number name from m n f =
       split_text 32 name (address_text from) (lacks_name name n),
       number_of-decimal number m,
       name_of-name name n,
-      place_of-text from f,
+      address_of-text from f,
     ) refl
 
-bent_read : (number place : ℕ) (name : List ℕ) (from : AddressParts) → number < 2 ^ 64 → place < 2 ^ 64 → IsName name → IsPlace from →
+bent_read : (number place : ℕ) (name : List ℕ) (from : AddressParts) → number < 2 ^ 64 → place < 2 ^ 64 → IsName name → IsPlainAddress from →
     bent_of (decimal number ++ 32 ∷ (decimal place ++ 32 ∷ (name ++ 32 ∷ address_text from))) ≡ Some (Bent number place name from)
 unfolding bent_of
 bent_read number place name from m p n f =
@@ -68,10 +68,10 @@ bent_read number place name from m p n f =
       number_of-decimal number m,
       number_of-decimal place p,
       name_of-name name n,
-      place_of-text from f,
+      address_of-text from f,
     ) refl
 
-inject_read : (name : List ℕ) (from : AddressParts) (bytes : List ℕ) → IsName name → IsPlace from → IsBytesUpTo 2048 bytes →
+inject_read : (name : List ℕ) (from : AddressParts) (bytes : List ℕ) → IsName name → IsPlainAddress from → IsBytesUpTo 2048 bytes →
     inject_of (name ++ 32 ∷ (address_text from ++ 32 ∷ bytes_text bytes)) ≡ Some (Inject name from bytes)
 unfolding inject_of
 inject_read name from bytes n f b =
@@ -79,11 +79,11 @@ inject_read name from bytes n f b =
       split_text 32 name (address_text from ++ 32 ∷ bytes_text bytes) (lacks_name name n),
       split_text 32 (address_text from) (bytes_text bytes) (lacks_address from f),
       name_of-name name n,
-      place_of-text from f,
+      address_of-text from f,
       bytes_of-text 2048 bytes b,
     ) refl
 
-forge_read : (name : List ℕ) (from : AddressParts) (bytes : List ℕ) → IsName name → IsPlace from → IsBytesUpTo 1164 bytes →
+forge_read : (name : List ℕ) (from : AddressParts) (bytes : List ℕ) → IsName name → IsPlainAddress from → IsBytesUpTo 1164 bytes →
     forge_of (name ++ 32 ∷ (address_text from ++ 32 ∷ bytes_text bytes)) ≡ Some (Forge name from bytes)
 unfolding forge_of
 forge_read name from bytes n f b =
@@ -91,7 +91,7 @@ forge_read name from bytes n f b =
       split_text 32 name (address_text from ++ 32 ∷ bytes_text bytes) (lacks_name name n),
       split_text 32 (address_text from) (bytes_text bytes) (lacks_address from f),
       name_of-name name n,
-      place_of-text from f,
+      address_of-text from f,
       bytes_of-text 1164 bytes b,
     ) refl
 
@@ -99,7 +99,7 @@ open_alone : (name peer : List ℕ) → IsName name → IsName peer → open_of 
 unfolding open_of open_to
 open_alone name peer n p = rw (split_text 32 name peer (lacks_name name n), name_of-name name n, split_nothing 32 peer (lacks_name peer p), name_of-name peer p) refl
 
-open_read : (name peer : List ℕ) (first : AddressParts) (more : List AddressParts) → IsName name → IsName peer → length (first ∷ more) ≤ 32 → EachIsPlace (first ∷ more) →
+open_read : (name peer : List ℕ) (first : AddressParts) (more : List AddressParts) → IsName name → IsName peer → length (first ∷ more) ≤ 32 → EachIsPlainAddress (first ∷ more) →
     open_of (name ++ 32 ∷ (peer ++ 32 ∷ words_text (map address_text (first ∷ more)))) ≡ Some (Open name peer (first ∷ more))
 unfolding open_of open_to
 open_read name peer first more n p few good =
@@ -108,7 +108,7 @@ open_read name peer first more n p few good =
       name_of-name name n,
       split_text 32 peer (words_text (map address_text (first ∷ more))) (lacks_name peer p),
       name_of-name peer p,
-      places_of-text first more few good,
+      addresses_of-text first more few good,
     ) refl
 
 -- ---- by the first word

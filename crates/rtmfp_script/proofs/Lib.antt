@@ -1,10 +1,10 @@
 pub mod Splits
 pub mod Numbers
 pub mod Digits
-pub mod PlaceSteps
+pub mod AddressSteps
 pub mod NamesRead
 pub mod Addresses
-pub mod PlacesRead
+pub mod AddressesRead
 pub mod Sound
 pub mod Complete
 pub mod Saying

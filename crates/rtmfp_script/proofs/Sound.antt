@@ -8,15 +8,15 @@ use Rattle.rtmfp_forms.specs.Address.{AddressParts}
 use Rattle.rtmfp_text.specs.AddressText.{address_text}
 use Rattle.rtmfp_script.specs.declared.line.ScriptLine.{ScriptLine}
 use Rattle.rtmfp_script.specs.declared.line.ScriptLine.TheVariants.{Open}
-use Rattle.rtmfp_script.specs.Grammar.{IsName, EachIsPlace, IsWithin, IsLineOf, line_text, words_text, line_limit}
-use Rattle.rtmfp_script.specs.Fields.{split_of, name_of, cert_of, number_of, number_below, bytes_of, place_of, places_of, either, ◌>>=◌}
+use Rattle.rtmfp_script.specs.Grammar.{IsName, EachIsPlainAddress, IsWithin, IsLineOf, line_text, words_text, line_limit}
+use Rattle.rtmfp_script.specs.Fields.{split_of, name_of, cert_of, number_of, number_below, bytes_of, address_of, addresses_of, either, ◌>>=◌}
 use Rattle.rtmfp_script.specs.Lines.{end_of, at_of, open_of, open_to, cancel_of, tick_of, deliver_of, bent_of, inject_of, forge_of, word_of, step_of}
 use Rattle.rtmfp_script.proofs.Splits.{some_some, bind_some, split_joined}
 use Rattle.rtmfp_script.proofs.Numbers.{number_of-some, number_below-some}
 use Rattle.rtmfp_script.proofs.Digits.{bytes_of-some}
 use Rattle.rtmfp_script.proofs.NamesRead.{rejoin, name_of-some, cert_of-some}
-use Rattle.rtmfp_script.proofs.Addresses.{place_of-some}
-use Rattle.rtmfp_script.proofs.PlacesRead.{places_of-some}
+use Rattle.rtmfp_script.proofs.Addresses.{address_of-some}
+use Rattle.rtmfp_script.proofs.AddressesRead.{addresses_of-some}
 
 -- a word, and what stands behind its space, say this
 pub record IsSaid (word rest : List ℕ) (said : ScriptLine) : Type 0 where
@@ -83,10 +83,10 @@ deliver_sound rest said h =
     let b = bind_some (split_of 32 a.0.1) _ said a.2 in
     let number = bind_some (number_of a.0.0) _ said b.2 in
     let name = bind_some (name_of b.0.0) _ said number.2 in
-    let from = bind_some (place_of b.0.1) _ said name.2 in
+    let from = bind_some (address_of b.0.1) _ said name.2 in
     let m = number_of-some a.0.0 number.0 number.1 in
     let n = name_of-some b.0.0 name.0 name.1 in
-    let f = place_of-some b.0.1 from.0 from.1 in
+    let f = address_of-some b.0.1 from.0 from.1 in
     subst (IsSaid (codes "deliver") rest) (some_some _ _ from.2) (record {
       text = after (codes "deliver") rest _
           (rejoin 32 rest a.0.0 a.0.1 _ _ (split_joined 32 rest a.0 a.1) m.0
@@ -103,11 +103,11 @@ bent_sound rest said h =
     let number = bind_some (number_of a.0.0) _ said c.2 in
     let place = bind_some (number_of b.0.0) _ said number.2 in
     let name = bind_some (name_of c.0.0) _ said place.2 in
-    let from = bind_some (place_of c.0.1) _ said name.2 in
+    let from = bind_some (address_of c.0.1) _ said name.2 in
     let m = number_of-some a.0.0 number.0 number.1 in
     let p = number_of-some b.0.0 place.0 place.1 in
     let n = name_of-some c.0.0 name.0 name.1 in
-    let f = place_of-some c.0.1 from.0 from.1 in
+    let f = address_of-some c.0.1 from.0 from.1 in
     subst (IsSaid (codes "bent") rest) (some_some _ _ from.2) (record {
       text = after (codes "bent") rest _
           (rejoin 32 rest a.0.0 a.0.1 _ _ (split_joined 32 rest a.0 a.1) m.0
@@ -122,10 +122,10 @@ inject_sound rest said h =
     let a = bind_some (split_of 32 rest) _ said h in
     let b = bind_some (split_of 32 a.0.1) _ said a.2 in
     let name = bind_some (name_of a.0.0) _ said b.2 in
-    let from = bind_some (place_of b.0.0) _ said name.2 in
+    let from = bind_some (address_of b.0.0) _ said name.2 in
     let bytes = bind_some (bytes_of 2048 b.0.1) _ said from.2 in
     let n = name_of-some a.0.0 name.0 name.1 in
-    let f = place_of-some b.0.0 from.0 from.1 in
+    let f = address_of-some b.0.0 from.0 from.1 in
     let x = bytes_of-some 2048 b.0.1 bytes.0 bytes.1 in
     subst (IsSaid (codes "inject") rest) (some_some _ _ bytes.2) (record {
       text = after (codes "inject") rest _
@@ -140,10 +140,10 @@ forge_sound rest said h =
     let a = bind_some (split_of 32 rest) _ said h in
     let b = bind_some (split_of 32 a.0.1) _ said a.2 in
     let name = bind_some (name_of a.0.0) _ said b.2 in
-    let from = bind_some (place_of b.0.0) _ said name.2 in
+    let from = bind_some (address_of b.0.0) _ said name.2 in
     let bytes = bind_some (bytes_of 1164 b.0.1) _ said from.2 in
     let n = name_of-some a.0.0 name.0 name.1 in
-    let f = place_of-some b.0.0 from.0 from.1 in
+    let f = address_of-some b.0.0 from.0 from.1 in
     let x = bytes_of-some 1164 b.0.1 bytes.0 bytes.1 in
     subst (IsSaid (codes "forge") rest) (some_some _ _ bytes.2) (record {
       text = after (codes "forge") rest _
@@ -157,28 +157,28 @@ forge_sound rest said h =
 -- a peer, and the addresses behind it
 record IsPeer (name rest : List ℕ) (said : ScriptLine) : Type 0 where
   peer : List ℕ
-  places : List AddressParts
-  is : Open name peer places ≡ said
-  text : rest ≡ words_text (peer ∷ map address_text places)
+  candidates : List AddressParts
+  is : Open name peer candidates ≡ said
+  text : rest ≡ words_text (peer ∷ map address_text candidates)
   peer_is : IsName peer
-  few : length places ≤ 32
-  good : EachIsPlace places
+  few : length candidates ≤ 32
+  good : EachIsPlainAddress candidates
 
 peer_by : (name rest : List ℕ) (said : ScriptLine) (o : Option (List ℕ × List ℕ)) → split_of 32 rest ≡ o →
-    either (name_of rest >>= λ peer. Some (Open name peer [])) (λ parts. name_of parts.0 >>= λ peer. places_of parts.1 >>= λ places. Some (Open name peer places)) o ≡ Some said → IsPeer name rest said
+    either (name_of rest >>= λ peer. Some (Open name peer [])) (λ parts. name_of parts.0 >>= λ peer. addresses_of parts.1 >>= λ candidates. Some (Open name peer candidates)) o ≡ Some said → IsPeer name rest said
 peer_by name rest said None cut h =
     let peer = bind_some (name_of rest) (λ peer. Some (Open name peer [])) said h in
     let p = name_of-some rest peer.0 peer.1 in
-    record { peer = peer.0; places = []; is = some_some _ _ peer.2; text = p.0; peer_is = p.1; few = omega arith; good = tt }
+    record { peer = peer.0; candidates = []; is = some_some _ _ peer.2; text = p.0; peer_is = p.1; few = omega arith; good = tt }
 peer_by name rest said (Some parts) cut h =
-    let peer = bind_some (name_of parts.0) (λ peer. places_of parts.1 >>= λ places. Some (Open name peer places)) said h in
-    let places = bind_some (places_of parts.1) (λ places. Some (Open name peer.0 places)) said peer.2 in
+    let peer = bind_some (name_of parts.0) (λ peer. addresses_of parts.1 >>= λ candidates. Some (Open name peer candidates)) said h in
+    let candidates = bind_some (addresses_of parts.1) (λ candidates. Some (Open name peer.0 candidates)) said peer.2 in
     let p = name_of-some parts.0 peer.0 peer.1 in
-    let l = places_of-some parts.1 places.0 places.1 in
+    let l = addresses_of-some parts.1 candidates.0 candidates.1 in
     record {
       peer = peer.0;
-      places = places.0;
-      is = some_some _ _ places.2;
+      candidates = candidates.0;
+      is = some_some _ _ candidates.2;
       text = rejoin 32 rest parts.0 parts.1 peer.0 parts.1 (split_joined 32 rest parts cut) p.0 refl ∙ sym (l.text_is peer.0);
       peer_is = p.1;
       few = l.few;

@@ -75,7 +75,7 @@ split_joined b (x ∷ xs) p h = elim (cases_Bool (x == b)) [
       ap (λ ys. x ∷ ys) (split_joined b xs found.0 found.1) ∙ ap (λ (q : List ℕ × List ℕ). q.0 ++ b ∷ q.1) found.2
 ]
 
--- ---- by the place of the byte
+-- ---- by the index of the byte
 
 pub split_first : (b i : ℕ) (xs : List ℕ) → i < length xs → get_or xs i 0 ≡ b → ((k : ℕ) → k < i → get_or xs k 0 ≢ b) → split_of b xs ≡ Some (take i xs, drop (suc i) xs)
 unfolding split_of

@@ -1,7 +1,37 @@
 -- How the fields of a line are read, as functions.
-use Rattle.std.specs.Prelude.{ℕ, zero, suc, ◌+◌, ◌-◌, ◌*◌, ◌%◌, ◌^◌, ◌==◌, ◌&&◌, ◌||◌, nat_lt,
-    nat_le, Bool, true, false, if◌then◌else◌, List, [], ◌∷◌, ◌++◌, length, drop, slice_index,
-    replicate, Option, Some, None, Result, Ok, Err}
+use Rattle.std.specs.Prelude.{
+  ℕ,
+  zero,
+  suc,
+  ◌+◌,
+  ◌-◌,
+  ◌*◌,
+  ◌%◌,
+  ◌^◌,
+  ◌==◌,
+  ◌&&◌,
+  ◌||◌,
+  nat_lt,
+  nat_le,
+  Bool,
+  true,
+  false,
+  if◌then◌else◌,
+  List,
+  [],
+  ◌∷◌,
+  ◌++◌,
+  length,
+  drop,
+  slice_index,
+  replicate,
+  Option,
+  Some,
+  None,
+  Result,
+  Ok,
+  Err,
+}
 use Rattle.std.specs.List.{list_all}
 use Rattle.std.specs.Char.{is_ascii_digit}
 use Rattle.hex.specs.Hex.{decode_pairs}
@@ -121,29 +151,29 @@ unfoldable pub v6_of : List ℕ → Option (List ℕ)
 v6_of rest = split_of 93 rest >>= λ parts. (if length parts.1 == 0 && length parts.0 == 32 then
     digits_of parts.0 else None)
 
-abbrev pub v4_place : ℕ → List ℕ → AddressParts
-v4_place port host = record { v6 = false; origin = 0; host = host ++ replicate 12 0; port = port }
+abbrev pub v4_address : ℕ → List ℕ → AddressParts
+v4_address port host = record { v6 = false; origin = 0; host = host ++ replicate 12 0; port = port }
 
-abbrev pub v6_place : ℕ → List ℕ → AddressParts
-v6_place port host = record { v6 = true; origin = 0; host = host; port = port }
+abbrev pub v6_address : ℕ → List ℕ → AddressParts
+v6_address port host = record { v6 = true; origin = 0; host = host; port = port }
 
 -- a bracket in front says IPv6
-unfoldable pub place_at : List ℕ → ℕ → Option AddressParts
-place_at host port =
-    if slice_index host 0 == 91 then (v6_of (drop 1 host) >>= λ bytes. Some (v6_place port bytes))
-    else (v4_of host >>= λ bytes. Some (v4_place port bytes))
+unfoldable pub address_at : List ℕ → ℕ → Option AddressParts
+address_at host port =
+    if slice_index host 0 == 91 then (v6_of (drop 1 host) >>= λ bytes. Some (v6_address port bytes))
+    else (v4_of host >>= λ bytes. Some (v4_address port bytes))
 
-unfoldable pub place_of : List ℕ → Option AddressParts
-place_of word = split_of 58 word >>= λ parts. number_below (2 ^ 16) parts.1 >>= λ port. place_at
+unfoldable pub address_of : List ℕ → Option AddressParts
+address_of word = split_of 58 word >>= λ parts. number_below (2 ^ 16) parts.1 >>= λ port. address_at
     parts.0 port
 
 -- at most so many addresses behind those that were read
-unfoldable pub places_from : ℕ → List AddressParts → List ℕ → Option (List AddressParts)
-places_from zero done rest = None
-places_from (suc room) done rest = either
-    (place_of rest >>= λ place. Some (done ++ place ∷ []))
-    (λ parts. place_of parts.0 >>= λ place. places_from room (done ++ place ∷ []) parts.1)
+unfoldable pub addresses_from : ℕ → List AddressParts → List ℕ → Option (List AddressParts)
+addresses_from zero done rest = None
+addresses_from (suc room) done rest = either
+    (address_of rest >>= λ address. Some (done ++ address ∷ []))
+    (λ parts. address_of parts.0 >>= λ address. addresses_from room (done ++ address ∷ []) parts.1)
     (split_of 32 rest)
 
-unfoldable pub places_of : List ℕ → Option (List AddressParts)
-places_of rest = places_from 32 [] rest
+unfoldable pub addresses_of : List ℕ → Option (List AddressParts)
+addresses_of rest = addresses_from 32 [] rest

@@ -1,13 +1,41 @@
 -- The lines of a script: the text of what a line says, and the limits (own).
-use Rattle.std.specs.Prelude.{◌≡◌, ℕ, ◌^◌, ◌<◌, ◌≤◌, ◌&&◌, ◌||◌, nat_lt, nat_le, Bool, true, List,
-    [], ◌∷◌, ◌++◌, map, length, codes, decimal}
+use Rattle.std.specs.Prelude.{
+  ◌≡◌,
+  ℕ,
+  ◌^◌,
+  ◌<◌,
+  ◌≤◌,
+  ◌&&◌,
+  ◌||◌,
+  nat_lt,
+  nat_le,
+  Bool,
+  true,
+  List,
+  [],
+  ◌∷◌,
+  ◌++◌,
+  map,
+  length,
+  codes,
+  decimal,
+}
 use Rattle.std.specs.List.{list_all}
 use Rattle.rtmfp_forms.specs.Address.{AddressParts, IsAddress}
 use Rattle.rtmfp_text.specs.AddressText.{address_text}
 use Rattle.rtmfp_text.specs.Words.{bytes_text}
 use Rattle.rtmfp_script.specs.declared.line.ScriptLine.{ScriptLine}
-use Rattle.rtmfp_script.specs.declared.line.ScriptLine.TheVariants.{End, At, Open, Cancel, Tick,
-    Deliver, Bent, Inject, Forge}
+use Rattle.rtmfp_script.specs.declared.line.ScriptLine.TheVariants.{
+  End,
+  At,
+  Open,
+  Cancel,
+  Tick,
+  Deliver,
+  Bent,
+  Inject,
+  Forge,
+}
 
 -- words, with one space between each two
 abbrev pub words_text : List (List ℕ) → List ℕ
@@ -20,8 +48,8 @@ abbrev pub line_text : ScriptLine → List ℕ
 line_text (End name peers sessions cert) = words_text
     (codes "end" ∷ name ∷ decimal peers ∷ decimal sessions ∷ cert ∷ [])
 line_text (At moment) = words_text (codes "at" ∷ decimal moment ∷ [])
-line_text (Open name peer places) = words_text
-    (codes "open" ∷ name ∷ peer ∷ map address_text places)
+line_text (Open name peer candidates) = words_text
+    (codes "open" ∷ name ∷ peer ∷ map address_text candidates)
 line_text (Cancel name number) = words_text (codes "cancel" ∷ name ∷ decimal number ∷ [])
 line_text (Tick name) = words_text (codes "tick" ∷ name ∷ [])
 line_text (Deliver number name from) = words_text
@@ -49,14 +77,14 @@ pub record IsCert (cert : List ℕ) : Type 0 where
   pub ascii : list_all (λ b. nat_lt b 0x80) cert ≡ true
 
 -- an address of a script has origin 0
-pub record IsPlace (place : AddressParts) : Type 0 where
-  pub form : IsAddress place
-  pub origin : place.origin ≡ 0
-  pub each : list_all (λ b. nat_lt b 256) place.host ≡ true
+pub record IsPlainAddress (address : AddressParts) : Type 0 where
+  pub form : IsAddress address
+  pub origin : address.origin ≡ 0
+  pub each : list_all (λ b. nat_lt b 256) address.host ≡ true
 
-abbrev pub EachIsPlace : List AddressParts → Type 0
-EachIsPlace [] = Unit {0}
-EachIsPlace (place ∷ places) = IsPlace place × EachIsPlace places
+abbrev pub EachIsPlainAddress : List AddressParts → Type 0
+EachIsPlainAddress [] = Unit {0}
+EachIsPlainAddress (address ∷ addresses) = IsPlainAddress address × EachIsPlainAddress addresses
 
 -- at most so many bytes
 pub record IsBytesUpTo (most : ℕ) (bytes : List ℕ) : Type 0 where
@@ -68,15 +96,15 @@ abbrev pub IsWithin : ScriptLine → Type 0
 IsWithin (End name peers sessions cert) = IsName name × (peers < 2 ^ 32) × (sessions < 2 ^ 32) ×
     IsCert cert
 IsWithin (At moment) = moment < 2 ^ 64
-IsWithin (Open name peer places) = IsName name × IsName peer × (length places ≤ 32) ×
-    EachIsPlace places
+IsWithin (Open name peer candidates) = IsName name × IsName peer × (length candidates ≤ 32) ×
+    EachIsPlainAddress candidates
 IsWithin (Cancel name number) = IsName name × (number < 2 ^ 64)
 IsWithin (Tick name) = IsName name
-IsWithin (Deliver number name from) = (number < 2 ^ 64) × IsName name × IsPlace from
+IsWithin (Deliver number name from) = (number < 2 ^ 64) × IsName name × IsPlainAddress from
 IsWithin (Bent number place name from) = (number < 2 ^ 64) × (place < 2 ^ 64) × IsName name ×
-    IsPlace from
-IsWithin (Inject name from bytes) = IsName name × IsPlace from × IsBytesUpTo 2048 bytes
-IsWithin (Forge name from bytes) = IsName name × IsPlace from × IsBytesUpTo 1164 bytes
+    IsPlainAddress from
+IsWithin (Inject name from bytes) = IsName name × IsPlainAddress from × IsBytesUpTo 2048 bytes
+IsWithin (Forge name from bytes) = IsName name × IsPlainAddress from × IsBytesUpTo 1164 bytes
 
 -- what is read of the line takes memory
 abbrev pub TakesMemory : ScriptLine → Type 0
@@ -84,7 +112,7 @@ TakesMemory (Inject name from bytes) = Unit {0}
 TakesMemory (Forge name from bytes) = Unit {0}
 TakesMemory (End name peers sessions cert) = ⊥
 TakesMemory (At moment) = ⊥
-TakesMemory (Open name peer places) = ⊥
+TakesMemory (Open name peer candidates) = ⊥
 TakesMemory (Cancel name number) = ⊥
 TakesMemory (Tick name) = ⊥
 TakesMemory (Deliver number name from) = ⊥

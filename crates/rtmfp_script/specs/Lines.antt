@@ -1,15 +1,45 @@
 -- How a line is read, as a function.
-use Rattle.std.specs.Prelude.{ℕ, ◌^◌, nat_le, List, [], length, codes, Option, Some, None,
-    if◌then◌else◌}
+use Rattle.std.specs.Prelude.{
+  ℕ,
+  ◌^◌,
+  nat_le,
+  List,
+  [],
+  length,
+  codes,
+  Option,
+  Some,
+  None,
+  if◌then◌else◌,
+}
 use Rattle.std.specs.Str.{bytes_eq}
 use Rattle.rtmfp_script.specs.declared.line.ScriptLine.{ScriptLine}
-use Rattle.rtmfp_script.specs.declared.line.ScriptLine.TheVariants.{End, At, Open, Cancel, Tick,
-    Deliver, Bent, Inject, Forge}
+use Rattle.rtmfp_script.specs.declared.line.ScriptLine.TheVariants.{
+  End,
+  At,
+  Open,
+  Cancel,
+  Tick,
+  Deliver,
+  Bent,
+  Inject,
+  Forge,
+}
 use Rattle.rtmfp_script.specs.declared.line.Said.{Said}
 use Rattle.rtmfp_script.specs.declared.line.Said.TheVariants.{Nothing, Step, Outside}
 use Rattle.rtmfp_script.specs.Grammar.{IsLineOf, IsSkipped, TakesMemory, line_limit}
-use Rattle.rtmfp_script.specs.Fields.{split_of, name_of, cert_of, number_of, number_below, bytes_of,
-    place_of, places_of, either, ◌>>=◌}
+use Rattle.rtmfp_script.specs.Fields.{
+  split_of,
+  name_of,
+  cert_of,
+  number_of,
+  number_below,
+  bytes_of,
+  address_of,
+  addresses_of,
+  either,
+  ◌>>=◌,
+}
 
 -- what stands behind the first word of a line
 unfoldable pub end_of : List ℕ → Option ScriptLine
@@ -29,8 +59,8 @@ at_of rest = number_of rest >>= λ moment. Some (At moment)
 unfoldable pub open_to : List ℕ → List ℕ → Option ScriptLine
 open_to name rest = either
     (name_of rest >>= λ peer. Some (Open name peer []))
-    (λ parts. name_of parts.0 >>= λ peer. places_of parts.1 >>= λ places. Some
-      (Open name peer places))
+    (λ parts. name_of parts.0 >>= λ peer. addresses_of parts.1 >>= λ candidates. Some
+    (Open name peer candidates))
     (split_of 32 rest)
 
 unfoldable pub open_of : List ℕ → Option ScriptLine
@@ -52,7 +82,7 @@ deliver_of rest =
     split_of 32 a.1 >>= λ b.
     number_of a.0 >>= λ number.
     name_of b.0 >>= λ name.
-    place_of b.1 >>= λ from.
+    address_of b.1 >>= λ from.
     Some (Deliver number name from)
 
 unfoldable pub bent_of : List ℕ → Option ScriptLine
@@ -63,7 +93,7 @@ bent_of rest =
     number_of a.0 >>= λ number.
     number_of b.0 >>= λ place.
     name_of c.0 >>= λ name.
-    place_of c.1 >>= λ from.
+    address_of c.1 >>= λ from.
     Some (Bent number place name from)
 
 unfoldable pub inject_of : List ℕ → Option ScriptLine
@@ -71,7 +101,7 @@ inject_of rest =
     split_of 32 rest >>= λ a.
     split_of 32 a.1 >>= λ b.
     name_of a.0 >>= λ name.
-    place_of b.0 >>= λ from.
+    address_of b.0 >>= λ from.
     bytes_of 2048 b.1 >>= λ bytes.
     Some (Inject name from bytes)
 
@@ -80,7 +110,7 @@ forge_of rest =
     split_of 32 rest >>= λ a.
     split_of 32 a.1 >>= λ b.
     name_of a.0 >>= λ name.
-    place_of b.0 >>= λ from.
+    address_of b.0 >>= λ from.
     bytes_of 1164 b.1 >>= λ bytes.
     Some (Forge name from bytes)
 

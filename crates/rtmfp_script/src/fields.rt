@@ -1,11 +1,38 @@
 //! The fields of a line, each read whole.
-ghost use Rattle.std.specs.Prelude.{◌≡◌, ◌≤◌, ◌<◌, ◌^◌, ◌*◌, ◌%◌, ◌==◌, nat_le, nat_lt, length,
-    Some, None, MatchOption, IfOk, Ok};
+ghost use Rattle.std.specs.Prelude.{
+  ◌≡◌,
+  ◌≤◌,
+  ◌<◌,
+  ◌^◌,
+  ◌*◌,
+  ◌%◌,
+  ◌==◌,
+  ℕ,
+  nat_le,
+  nat_lt,
+  length,
+  Some,
+  None,
+  MatchOption,
+  IfOk,
+  IfSome,
+  Ok,
+};
+ghost use Rattle.std.specs.Fmt.{decimal};
 ghost use Rattle.std.specs.List.{list_all};
 ghost use Rattle.rtmfp_script.specs.Grammar.{is_name_byte};
-ghost use Rattle.rtmfp_script.specs.Fields.{split_of, is_name, name_of, is_cert, cert_of,
-    with_digit, number_from, is_unwritten, number_of, number_below, is_lower_digit, digits_of,
-    is_hyphen, bytes_of, v4_of, v6_of, place_of, places_of};
+ghost use Rattle.rtmfp_script.specs.Fields.{
+  split_of,
+  is_name,
+  name_of,
+  is_cert,
+  cert_of,
+  with_digit,
+  number_from,
+  is_unwritten,
+  number_of,
+  number_below,
+};
 
 use identity::Certificate;
 use memchr::memchr;
@@ -123,7 +150,15 @@ pub(crate) fn number(word: &[u8]) -> Option<u64>
     number_from(word)
 }
 
-/// The same of a number of 32 bits.
+/// The number below 2^64 whose decimal text, without leading zeros, a word is (own).
+pub fn read_number(word: &[u8]) -> Option<u64>
+    ensures reads { IfSome result (λ n. (word.now ≡ decimal n) × (n < 2 ^ 64)) }
+    ensures only { (n : ℕ) → n < 2 ^ 64 → word.now ≡ decimal n → result ≡ Some n }
+{
+    number(word)
+}
+
+/// A number of 32 bits.
 #[tactic(auto, unfolding(crate::specs::Fields::number_below))]
 pub(crate) fn number32(word: &[u8]) -> Option<u32>
     ensures { result ≡ number_below (2 ^ 32) word.now }
@@ -131,7 +166,7 @@ pub(crate) fn number32(word: &[u8]) -> Option<u32>
     u32::try_from(number(word)?).ok()
 }
 
-/// The same of a number of 16 bits.
+/// A number of 16 bits.
 #[tactic(auto, unfolding(crate::specs::Fields::number_below))]
 pub(crate) fn number16(word: &[u8]) -> Option<u16>
     ensures { result ≡ number_below (2 ^ 16) word.now }
@@ -139,7 +174,7 @@ pub(crate) fn number16(word: &[u8]) -> Option<u16>
     u16::try_from(number(word)?).ok()
 }
 
-/// The same of a number of 8 bits.
+/// A number of 8 bits.
 #[tactic(auto, unfolding(crate::specs::Fields::number_below))]
 pub(crate) fn number8(word: &[u8]) -> Option<u8>
     ensures { result ≡ number_below 256 word.now }

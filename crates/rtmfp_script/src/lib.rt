@@ -1,13 +1,12 @@
 //! The lines of a script of steps, as one grammar that the reader meets in both directions.
 #![tactic(auto)]
 
+mod address;
 mod bytes;
 mod fields;
 mod line;
-mod number;
-mod places;
 mod reading;
 
-pub use line::{Places, Said, ScriptLine};
-pub use number::read_number;
+pub use fields::read_number;
+pub use line::{Candidates, Said, ScriptLine};
 pub use reading::read_line;

@@ -8,16 +8,16 @@ use rtmfp_text::Name;
 use std::marker::Model;
 
 /// The most addresses of an `open` (own).
-pub(crate) const MOST_PLACES: usize = 32;
+pub(crate) const MOST_CANDIDATES: usize = 32;
 
 /// At most 32 addresses, in the order of the line.
 #[derive(Drop)]
-pub struct Places {
-    kept: [Address; MOST_PLACES],
+pub struct Candidates {
+    kept: [Address; MOST_CANDIDATES],
     count: usize,
 }
 
-impl Model for Places {
+impl Model for Candidates {
     ghost use Rattle.std.specs.Prelude.{◌≤◌, List, take};
     ghost use Rattle.rtmfp_forms.specs.Address.{AddressParts};
 
@@ -28,23 +28,23 @@ impl Model for Places {
     ghost invariant = { λ p. p.count ≤ 32 };
 }
 
-impl Places {
+impl Candidates {
     /// No address.
-    pub(crate) fn new() -> Places
+    pub(crate) fn new() -> Candidates
         ensures { result ≡ [] }
     {
-        Places {
-            kept: [Address::v4([0; 4], 0); MOST_PLACES],
+        Candidates {
+            kept: [Address::v4([0; 4], 0); MOST_CANDIDATES],
             count: 0,
         }
     }
 
     /// Adds an address behind the others.
-    pub(crate) fn push(&mut self, place: Address)
+    pub(crate) fn push(&mut self, address: Address)
         requires { length self.old < 32 }
-        ensures { self.new ≡ self.old ++ place ∷ [] }
+        ensures { self.new ≡ self.old ++ address ∷ [] }
     {
-        self.kept[self.count] = place;
+        self.kept[self.count] = address;
         self.count += 1;
     }
 
@@ -84,7 +84,7 @@ pub enum ScriptLine {
         /// The end that is sought.
         peer: Name,
         /// Where to try.
-        places: Places,
+        candidates: Candidates,
     },
     /// `cancel NAME N`: the end gives an attempt up.
     Cancel {

@@ -1,13 +1,27 @@
 //! Lines that are read.
 ghost use Rattle.std.specs.Prelude.{◌≡◌, ◌↔◌, IsTrue, IfErr, IfOk};
 ghost use Rattle.rtmfp_script.specs.Grammar.{IsLineOf, IsSkipped, TakesMemory};
-ghost use Rattle.rtmfp_script.specs.Lines.{end_of, at_of, open_of, open_to, cancel_of, tick_of,
-    deliver_of, bent_of, inject_of, forge_of, word_of, step_of, StepTakesMemory, Says};
+ghost use Rattle.rtmfp_script.specs.Lines.{
+  end_of,
+  at_of,
+  open_of,
+  open_to,
+  cancel_of,
+  tick_of,
+  deliver_of,
+  bent_of,
+  inject_of,
+  forge_of,
+  word_of,
+  step_of,
+  StepTakesMemory,
+  Says,
+};
 
+use crate::address::{address, addresses};
 use crate::bytes::bytes;
 use crate::fields::{cert, name, number, number32, split};
-use crate::line::{Places, Said, ScriptLine};
-use crate::places::{place, places};
+use crate::line::{Candidates, Said, ScriptLine};
 use rtmfp_base::Memory;
 use rtmfp_text::Name;
 use std::alloc::Global;
@@ -62,12 +76,12 @@ fn open_to(name: Name, rest: &[u8]) -> Option<ScriptLine>
         Some((first, rest)) => Some(ScriptLine::Open {
             name,
             peer: crate::fields::name(first)?,
-            places: places(rest)?,
+            candidates: addresses(rest)?,
         }),
         None => Some(ScriptLine::Open {
             name,
             peer: crate::fields::name(rest)?,
-            places: Places::new(),
+            candidates: Candidates::new(),
         }),
     }
 }
@@ -99,7 +113,7 @@ fn read_deliver(rest: &[u8]) -> Option<ScriptLine>
     Some(ScriptLine::Deliver {
         number: number(first)?,
         name: name(second)?,
-        from: place(rest)?,
+        from: address(rest)?,
     })
 }
 
@@ -114,7 +128,7 @@ fn read_bent(rest: &[u8]) -> Option<ScriptLine>
         number: number(first)?,
         place: number(second)?,
         name: name(third)?,
-        from: place(rest)?,
+        from: address(rest)?,
     })
 }
 
@@ -132,7 +146,7 @@ fn read_inject(alloc: Global, rest: &[u8]) -> Result<Option<ScriptLine>, Memory>
     let Some(name) = name(first) else {
         return Ok(None);
     };
-    let Some(from) = place(second) else {
+    let Some(from) = address(second) else {
         return Ok(None);
     };
     let Some(bytes) = bytes(alloc, rest, INJECTED)? else {
@@ -155,7 +169,7 @@ fn read_forge(alloc: Global, rest: &[u8]) -> Result<Option<ScriptLine>, Memory>
     let Some(name) = name(first) else {
         return Ok(None);
     };
-    let Some(from) = place(second) else {
+    let Some(from) = address(second) else {
         return Ok(None);
     };
     let Some(bytes) = bytes(alloc, rest, FORGED)? else {

@@ -1,5 +1,5 @@
 -- Lists that are added to a text, each item behind a comma.
-use Rattle.std.proofs.Common.{◌≡◌, ℕ, suc, ◌-◌, ◌<◌, ◌≤◌, List, [], ◌∷◌, ◌++◌, refl, sym, ap, ◌∙◌, append_assoc, append-nil, arith, codes, decimal, map}
+use Rattle.std.proofs.Common.{◌≡◌, ℕ, suc, ◌-◌, ◌<◌, ◌≤◌, List, [], ◌∷◌, ◌++◌, refl, sym, ap, ◌∙◌, append_assoc, arith, codes, decimal, map}
 use Rattle.std.specs.List.{flat_map}
 use Rattle.std.proofs.lemmas.List.{map-append}
 use Rattle.rtmfp_text.specs.Words.{behind_commas}
@@ -37,32 +37,27 @@ number_pushed old mid new n next last below is_next comma one =
 none_left : (n last : ℕ) → last ≤ n → last - n ≡ 0
 none_left n last e = omega arith
 
--- all of them
-pub numbers_pushed : (start now : List ℕ) (n above last : ℕ) → now ++ numbers_above n last ≡ start ++ numbers_above above last → last ≤ n → now ≡ start ++ numbers_above above last
-numbers_pushed start now n above last so e =
-    sym (append-nil now) ∙ ap (λ count. now ++ behind_commas (map decimal (count_up (suc n) count))) (sym (none_left n last e)) ∙ so
-
--- the texts of the numbers of stretches, each behind a comma
+-- the texts of the numbers of spans, each behind a comma
 abbrev pub numbers_in : List (ℕ × ℕ) → List ℕ
 numbers_in ss = behind_commas (map decimal (flat_map numbers_of ss))
 
--- the numbers of a stretch above its first one, and those of other stretches
+-- the numbers of a span above its first one, and those of other spans
 pub above_first : (s : ℕ × ℕ) (ss : List (ℕ × ℕ)) → behind_commas (map decimal (count_up (suc s.0) (s.1 - s.0) ++ flat_map numbers_of ss)) ≡ numbers_above s.0 s.1 ++ numbers_in ss
 above_first s ss =
     ap behind_commas (map-append decimal (count_up (suc s.0) (s.1 - s.0)) (flat_map numbers_of ss))
     ∙ commas_append (map decimal (count_up (suc s.0) (s.1 - s.0))) (map decimal (flat_map numbers_of ss))
 
--- one more stretch
-pub stretch_pushed : (old mid first new : List ℕ) (left rest : List (ℕ × ℕ)) (s : ℕ × ℕ) → left ≡ s ∷ rest → mid ≡ old ++ codes "," → first ≡ mid ++ decimal s.0 → new ≡ first ++ numbers_above s.0 s.1
+-- one more span
+pub span_pushed : (old mid first new : List ℕ) (left rest : List (ℕ × ℕ)) (s : ℕ × ℕ) → left ≡ s ∷ rest → mid ≡ old ++ codes "," → first ≡ mid ++ decimal s.0 → new ≡ first ++ numbers_above s.0 s.1
     → new ++ numbers_in rest ≡ old ++ numbers_in left
-stretch_pushed old mid first new left rest s e comma one more =
+span_pushed old mid first new left rest s e comma one more =
     ap (λ t. t ++ numbers_in rest) more
     ∙ append_assoc first (numbers_above s.0 s.1) (numbers_in rest)
     ∙ item_pushed old mid first (decimal s.0) (numbers_above s.0 s.1 ++ numbers_in rest) comma one
     ∙ ap (λ t. old ++ (codes "," ++ (decimal s.0 ++ t))) (sym (above_first s rest))
     ∙ ap (λ (ss : List (ℕ × ℕ)). old ++ numbers_in ss) (sym e)
 
--- the numbers of all stretches, with commas between them
+-- the numbers of all spans, with commas between them
 pub each_pushed : (old first mid new : List ℕ) (s : ℕ × ℕ) (rest : List (ℕ × ℕ)) → first ≡ old ++ decimal s.0 → mid ≡ first ++ numbers_above s.0 s.1 → new ≡ mid ++ numbers_in rest
     → new ≡ old ++ (decimal s.0 ++ behind_commas (map decimal (count_up (suc s.0) (s.1 - s.0) ++ flat_map numbers_of rest)))
 each_pushed old first mid new s rest one more others =

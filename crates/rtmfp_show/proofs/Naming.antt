@@ -6,7 +6,7 @@ use Rattle.rtmfp_data_chunks.specs.Spelling.{kind_of as data_kind}
 use Rattle.rtmfp_text.specs.KindText.{kind_text}
 use Rattle.rtmfp_show.specs.ChunkText.{chunk_text}
 use Rattle.rtmfp_show.specs.DataText.{data_text, marks_text, user_text, ack_text}
-use Rattle.rtmfp_show.specs.Names.{BeginsWith}
+use Rattle.rtmfp_show.specs.Laws.{BeginsWith}
 
 pub chunk_named : (chunk : Chunk) → BeginsWith (kind_text (kind_of chunk)) (chunk_text chunk)
 unfolding chunk_text kind_text

@@ -1,15 +1,42 @@
 -- The texts of the chunks of flows.
-use Rattle.std.specs.Prelude.{ℕ, zero, suc, ◌-◌, Bool, List, [], ◌∷◌, map, codes, decimal, Option,
-    Some, None}
+use Rattle.std.specs.Prelude.{
+  ℕ,
+  zero,
+  suc,
+  ◌-◌,
+  Bool,
+  List,
+  [],
+  ◌∷◌,
+  map,
+  codes,
+  decimal,
+  Option,
+  Some,
+  None,
+}
 use Rattle.std.specs.List.{flat_map}
 use Rattle.rtmfp_forms.specs.Options.{OptionParts}
 use Rattle.rtmfp_data_chunks.specs.declared.user_data.Part.{Part}
 use Rattle.rtmfp_data_chunks.specs.declared.user_data.Part.TheVariants.{Whole, Begin, End, Middle}
-use Rattle.rtmfp_data_chunks.specs.Chunk.{UserParts, DataChunk, Data, Next, AckBitmap, AckRanges,
-    Probe, Exception}
-use Rattle.rtmfp_data_chunks.specs.Acked.{acked_bits, acked_pairs}
-use Rattle.rtmfp_text.specs.Words.{bit_field_text, field_text, list_text, number_field_text,
-    text_of}
+use Rattle.rtmfp_data_chunks.specs.Chunk.{
+  UserParts,
+  DataChunk,
+  Data,
+  Next,
+  AckBitmap,
+  AckRanges,
+  Probe,
+  Exception,
+}
+use Rattle.rtmfp_data_chunks.specs.Acked.{spans_of_bits, spans_of_pairs}
+use Rattle.rtmfp_text.specs.Words.{
+  bit_field_text,
+  field_text,
+  list_text,
+  number_field_text,
+  text_of,
+}
 
 -- ---- user data
 
@@ -66,17 +93,17 @@ ack_text name flow blocks upto = text_of (
     ∷ [])
 
 -- first, hyphen, last
-unfoldable pub stretch_text : ℕ × ℕ → List ℕ
-stretch_text stretch = text_of (decimal stretch.0 ∷ codes "-" ∷ decimal stretch.1 ∷ [])
+unfoldable pub span_text : ℕ × ℕ → List ℕ
+span_text span = text_of (decimal span.0 ∷ codes "-" ∷ decimal span.1 ∷ [])
 
 -- so many numbers from n on
 abbrev pub count_up : ℕ → ℕ → List ℕ
 count_up n zero = []
 count_up n (suc count) = n ∷ count_up (suc n) count
 
--- the numbers of a stretch
+-- the numbers of a span
 abbrev pub numbers_of : ℕ × ℕ → List ℕ
-numbers_of stretch = stretch.0 ∷ count_up (suc stretch.0) (stretch.1 - stretch.0)
+numbers_of span = span.0 ∷ count_up (suc span.0) (span.1 - span.0)
 
 -- ---- all chunks
 
@@ -86,10 +113,10 @@ data_text (Data user) = user_text (codes " data") user
 data_text (Next user) = user_text (codes " next") user
 data_text (AckBitmap flow blocks upto bits) =
     text_of (ack_text (codes " ackbits flow=") flow blocks upto
-    ∷ list_text (map decimal (flat_map numbers_of (acked_bits upto bits))) ∷ [])
+    ∷ list_text (map decimal (flat_map numbers_of (spans_of_bits upto bits))) ∷ [])
 data_text (AckRanges flow blocks upto pairs) =
     text_of (ack_text (codes " ackranges flow=") flow blocks upto
-    ∷ list_text (map stretch_text (acked_pairs upto pairs)) ∷ [])
+    ∷ list_text (map span_text (spans_of_pairs upto pairs)) ∷ [])
 data_text (Probe flow) = number_field_text (codes " probe flow=") flow
 data_text (Exception flow code) =
     text_of (number_field_text (codes " exception flow=") flow

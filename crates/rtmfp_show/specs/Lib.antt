@@ -3,5 +3,4 @@ pub mod DataText
 pub mod ShowText
 pub mod ShowLine
 pub mod Adding
-pub mod OneText
-pub mod Names
+pub mod Laws

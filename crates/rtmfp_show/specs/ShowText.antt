@@ -1,6 +1,20 @@
 -- What `show` prints of one packet.
-use Rattle.std.specs.Prelude.{◌≡◌, ℕ, List, [], ◌∷◌, ◌++◌, length, codes, decimal, Option, None,
-    Result, Ok, Err}
+use Rattle.std.specs.Prelude.{
+  ◌≡◌,
+  ℕ,
+  List,
+  [],
+  ◌∷◌,
+  ◌++◌,
+  length,
+  codes,
+  decimal,
+  Option,
+  None,
+  Result,
+  Ok,
+  Err,
+}
 use Rattle.hex.specs.Hex.{encode_lower}
 use Rattle.rtmfp_packet.specs.declared.head.PacketHead.{PacketHead}
 use Rattle.rtmfp_packet.specs.declared.head.PacketFault.{PacketFault}
@@ -43,7 +57,7 @@ unfoldable pub malformed_text : ℕ → ℕ → List ℕ
 malformed_text kind at =
     text_of (codes " malformed " ∷ kind_text kind ∷ codes " " ∷ decimal at ∷ [])
 
--- what stands behind the place of a chunk of this type that reads so as a chunk of a flow
+-- what stands behind the offset of a chunk of this type that reads so as a chunk of a flow
 abbrev pub flow_text : ℕ → Result DataChunk DataFault → List ℕ
 flow_text kind (Ok chunk) = data_text chunk
 flow_text kind (Err (flow.Unknown told)) = unknown_text told
@@ -58,7 +72,7 @@ pub record FlowText (before : Option Numbers) (kind : ℕ) (payload text : List 
   pub is_text : text ≡ flow_text kind result
   pub is_after : after ≡ before_next result
 
--- what stands behind the place of a chunk that reads so as a chunk of no flow. A type that isn't
+-- what stands behind the offset of a chunk that reads so as a chunk of no flow. A type that isn't
 -- known here can be one of flows
 abbrev pub ReadText : Result Chunk ChunkFault → Option Numbers → ℕ → List ℕ → List ℕ →
     Option Numbers → Type 0
@@ -68,7 +82,7 @@ ReadText (Err (Malformed at)) before kind payload text after = (text ≡ malform
 ReadText (Err (Unknown told)) before kind payload text after =
     FlowText before kind payload text after
 
--- what stands behind the place of a chunk, and the numbers that a next chunk stands behind, before
+-- what stands behind the offset of a chunk, and the numbers that a next chunk stands behind, before
 -- it and after it
 abbrev pub FieldsText : Option Numbers → ℕ → List ℕ → List ℕ → Option Numbers → Type 0
 FieldsText before kind payload text after = (result : Result Chunk ChunkFault) ×
@@ -100,7 +114,7 @@ padding_text count = text_of (codes "padding " ∷ decimal count ∷ codes "\n" 
 abbrev pub WholeText : Whole → List ℕ → Type 0
 WholeText packet text =
     (lines : List ℕ) × (after : Option Numbers) ×
-      ChunksText None (visible (all_placed_from packet.start packet.chunks)) lines after
+    ChunksText None (visible (all_placed_from packet.start packet.chunks)) lines after
     × (text ≡ text_of (head_text packet.head ∷ lines ∷ padding_text (length packet.padding) ∷ []))
 
 abbrev pub ResultText : Result Whole PacketFault → List ℕ → Type 0

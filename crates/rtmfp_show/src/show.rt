@@ -3,8 +3,17 @@ ghost use Rattle.std.specs.Prelude.{◌≡◌, ◌++◌, ◌≤◌, length, OnOk
 ghost use Rattle.rtmfp_packet.specs.Head.{mode_number};
 ghost use Rattle.rtmfp_data_chunks.specs.Spelling.{shown};
 ghost use Rattle.rtmfp_text.specs.Words.{number_text};
-ghost use Rattle.rtmfp_show.specs.ShowText.{FieldsText, FlowText, PacketText, WholeText, flow_text,
-    head_text, malformed_text, padding_text, unknown_text};
+ghost use Rattle.rtmfp_show.specs.ShowText.{
+  FieldsText,
+  FlowText,
+  PacketText,
+  WholeText,
+  flow_text,
+  head_text,
+  malformed_text,
+  padding_text,
+  unknown_text,
+};
 ghost use Rattle.rtmfp_show.specs.ShowLine.{IsNoPacket, ShowsLine};
 ghost use Rattle.rtmfp_show.specs.Adding.{Adds, AddsChunk};
 
@@ -124,7 +133,7 @@ fn show_chunk(
     Ok(())
 }
 
-/// Adds what stands behind the place of a chunk. One that can't be of a flow ends a run of user
+/// Adds what stands behind the offset of a chunk. One that can't be of a flow ends a run of user
 /// data.
 fn show_fields(
     kind: u8,

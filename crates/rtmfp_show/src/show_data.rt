@@ -2,14 +2,30 @@
 ghost use Rattle.std.specs.Prelude.{◌≡◌, ◌++◌, ◌-◌, suc, OnOk, decimal, map};
 ghost use Rattle.std.specs.List.{flat_map};
 ghost use Rattle.rtmfp_forms.specs.OptionReading.{option_parts};
-ghost use Rattle.rtmfp_data_chunks.specs.Acked.{acked_bits, acked_pairs};
-ghost use Rattle.rtmfp_data_chunks.specs.Chunk.{AckBitmap, AckRanges, Exception, data_chunk,
-    user_parts};
+ghost use Rattle.rtmfp_data_chunks.specs.Acked.{spans_of_bits, spans_of_pairs};
+ghost use Rattle.rtmfp_data_chunks.specs.Chunk.{
+  AckBitmap,
+  AckRanges,
+  Exception,
+  data_chunk,
+  user_parts,
+};
 ghost use Rattle.rtmfp_text.specs.Words.{behind_commas, list_text};
-ghost use Rattle.rtmfp_show.specs.DataText.{ack_text, count_up, data_text, marks_text, numbers_of,
-    numbers_text, option_text, options_text, part_text, stretch_text, user_text};
+ghost use Rattle.rtmfp_show.specs.DataText.{
+  ack_text,
+  count_up,
+  data_text,
+  marks_text,
+  numbers_of,
+  numbers_text,
+  option_text,
+  options_text,
+  part_text,
+  span_text,
+  user_text,
+};
 
-use rtmfp_data_chunks::{AckedRanges, DataView, Part, UserData};
+use rtmfp_data_chunks::{AckedSpans, DataView, Part, UserData};
 use rtmfp_forms::{OptionView, Options};
 use rtmfp_text::Text;
 use std::alloc::AllocError;
@@ -33,7 +49,7 @@ pub(crate) fn show_data_view(view: &DataView<'_>, text: &mut Text) -> Result<(),
             blocks,
             upto,
             pairs,
-        } => show_ranges(*flow, *blocks, *upto, pairs, text),
+        } => show_ack_ranges(*flow, *blocks, *upto, pairs, text),
         DataView::Probe { flow } => text.push_number_field(" probe flow=", *flow),
         DataView::Exception { flow, code } => show_exception(*flow, *code, text),
     }
@@ -143,7 +159,7 @@ fn show_ack(
     Ok(())
 }
 
-fn show_ranges(
+fn show_ack_ranges(
     flow: u64,
     blocks: u64,
     upto: u64,
@@ -154,41 +170,41 @@ fn show_ranges(
         ++ data_text (AckRanges flow blocks upto pairs.now)) }
 {
     show_ack(" ackranges flow=", flow, blocks, upto, text)?;
-    show_stretches(AckedRanges::of_pairs(upto, pairs), text)?;
+    show_spans(AckedSpans::of_pairs(upto, pairs), text)?;
     Ok(())
 }
 
-/// Adds the first and the last number of each stretch with commas between them, or `-` where there
+/// Adds the first and the last number of each span with commas between them, or `-` where there
 /// are none.
-fn show_stretches(stretches: AckedRanges<'_>, text: &mut Text) -> Result<(), AllocError>
-    ensures { OnOk result (text.new ≡ text.old ++ list_text (map stretch_text stretches.entry)) }
+fn show_spans(spans: AckedSpans<'_>, text: &mut Text) -> Result<(), AllocError>
+    ensures { OnOk result (text.new ≡ text.old ++ list_text (map span_text spans.entry)) }
 {
-    let mut others = stretches;
+    let mut others = spans;
     let Some(first) = others.next() else {
         return text.push("-");
     };
-    show_stretch(first, text)?;
-    show_more_stretches(others, text)
+    show_span(first, text)?;
+    show_more_spans(others, text)
 }
 
-/// Adds stretches, each behind a comma.
-fn show_more_stretches(stretches: AckedRanges<'_>, text: &mut Text) -> Result<(), AllocError>
+/// Adds spans, each behind a comma.
+fn show_more_spans(spans: AckedSpans<'_>, text: &mut Text) -> Result<(), AllocError>
     ensures { OnOk result (text.new ≡ text.old
-        ++ behind_commas (map stretch_text stretches.entry)) }
+        ++ behind_commas (map span_text spans.entry)) }
 {
-    for stretch in stretches {
+    for span in spans {
         text.push(",")?;
-        show_stretch(stretch, text)?;
+        show_span(span, text)?;
     }
     Ok(())
 }
 
-fn show_stretch(stretch: (u64, u64), text: &mut Text) -> Result<(), AllocError>
-    ensures { OnOk result (text.new ≡ text.old ++ stretch_text stretch) }
+fn show_span(span: (u64, u64), text: &mut Text) -> Result<(), AllocError>
+    ensures { OnOk result (text.new ≡ text.old ++ span_text span) }
 {
-    text.push_number(stretch.0)?;
+    text.push_number(span.0)?;
     text.push("-")?;
-    text.push_number(stretch.1)?;
+    text.push_number(span.1)?;
     Ok(())
 }
 
@@ -202,16 +218,16 @@ fn show_bitmap(
     ensures { OnOk result (text.new ≡ text.old ++ data_text (AckBitmap flow blocks upto bits.now)) }
 {
     show_ack(" ackbits flow=", flow, blocks, upto, text)?;
-    show_each_number(AckedRanges::of_bits(upto, bits), text)?;
+    show_each_number(AckedSpans::of_bits(upto, bits), text)?;
     Ok(())
 }
 
-/// Adds each number of stretches with commas between them, or `-` where there are none.
-fn show_each_number(stretches: AckedRanges<'_>, text: &mut Text) -> Result<(), AllocError>
+/// Adds each number of spans with commas between them, or `-` where there are none.
+fn show_each_number(spans: AckedSpans<'_>, text: &mut Text) -> Result<(), AllocError>
     ensures { OnOk result (text.new ≡ text.old
-        ++ list_text (map decimal (flat_map numbers_of stretches.entry))) }
+        ++ list_text (map decimal (flat_map numbers_of spans.entry))) }
 {
-    let mut others = stretches;
+    let mut others = spans;
     let Some((first, last)) = others.next() else {
         return text.push("-");
     };
@@ -221,12 +237,12 @@ fn show_each_number(stretches: AckedRanges<'_>, text: &mut Text) -> Result<(), A
     Ok(())
 }
 
-/// Adds each number of stretches behind a comma.
-fn show_numbers_of_more(stretches: AckedRanges<'_>, text: &mut Text) -> Result<(), AllocError>
+/// Adds each number of spans behind a comma.
+fn show_numbers_of_more(spans: AckedSpans<'_>, text: &mut Text) -> Result<(), AllocError>
     ensures { OnOk result (text.new ≡ text.old
-        ++ behind_commas (map decimal (flat_map numbers_of stretches.entry))) }
+        ++ behind_commas (map decimal (flat_map numbers_of spans.entry))) }
 {
-    for (first, last) in stretches {
+    for (first, last) in spans {
         text.push(",")?;
         text.push_number(first)?;
         show_more_numbers(first, last, text)?;

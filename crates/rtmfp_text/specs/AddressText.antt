@@ -8,7 +8,7 @@ use Rattle.rtmfp_text.specs.Words.{text_of}
 unfoldable pub v4_host_text : List ℕ → List ℕ
 v4_host_text host = text_of (
     decimal (slice_index host 0) ∷ codes "." ∷ decimal (slice_index host 1) ∷ codes "."
-      ∷ decimal (slice_index host 2) ∷ codes "." ∷ decimal (slice_index host 3) ∷ [])
+    ∷ decimal (slice_index host 2) ∷ codes "." ∷ decimal (slice_index host 3) ∷ [])
 
 -- the 16 bytes of a host, in brackets
 unfoldable pub v6_host_text : List ℕ → List ℕ

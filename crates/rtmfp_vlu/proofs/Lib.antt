@@ -5,4 +5,4 @@ pub mod Groups
 pub mod Shortest
 pub mod Tails
 pub mod Fields
-pub mod Places
+pub mod Decoded

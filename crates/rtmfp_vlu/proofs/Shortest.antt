@@ -95,9 +95,9 @@ same_spelling (a ∷ []) (b ∷ d ∷ t) p q e h = absurd (omega (arith, e))
 same_spelling (a ∷ c ∷ s) (b ∷ []) p q e h = absurd (omega (arith, e))
 same_spelling (a ∷ c ∷ s) (b ∷ d ∷ t) p q e h =
     let lengths : length (c ∷ s) ≡ length (d ∷ t) = omega (arith, e) in
-    let places : a % 128 * 128 ^ length (c ∷ s) + value (c ∷ s) ≡ b % 128 * 128 ^ length (c ∷ s) + value (d ∷ t) = h ∙ ap (λ (n : ℕ). b % 128 * 128 ^ n + value (d ∷ t)) (sym lengths) in
+    let sums : a % 128 * 128 ^ length (c ∷ s) + value (c ∷ s) ≡ b % 128 * 128 ^ length (c ∷ s) + value (d ∷ t) = h ∙ ap (λ (n : ℕ). b % 128 * 128 ^ n + value (d ∷ t)) (sym lengths) in
     let below : value (d ∷ t) < 128 ^ length (c ∷ s) = subst (λ (n : ℕ). value (d ∷ t) < 128 ^ n) (sym lengths) (value-below (d ∷ t)) in
-    let both = same_from_place (a % 128) (value (c ∷ s)) (b % 128) (value (d ∷ t)) (128 ^ length (c ∷ s)) (value-below (c ∷ s)) below places in
+    let both = same_from_place (a % 128) (value (c ∷ s)) (b % 128) (value (d ∷ t)) (128 ^ length (c ∷ s)) (value-below (c ∷ s)) below sums in
     let head : a ≡ b = omega (arith, p.0.0, p.0.1, q.0.0, q.0.1, both.0) in
     let tails : c ∷ s ≡ d ∷ t = same_spelling (c ∷ s) (d ∷ t) p.1 q.1 lengths both.1 in
     cc
@@ -115,7 +115,7 @@ VluSpells-vlu v h = (Shortest-vlu v h).spells
 pub length-vlu : (v n : ℕ) → v < 2 ^ 64 → Needs v n → n ≡ length (vlu v)
 length-vlu v n h need = same_need v n (length (vlu v)) need (Needs-shortest v (vlu v) (Shortest-vlu v h))
 
--- ---- how long it is, from the place of the highest bit
+-- ---- how long it is, from the index of the highest bit
 
 pow_128 : (k : ℕ) → 128 ^ k ≡ 2 ^ (7 * k)
 pow_128 zero = refl

@@ -67,9 +67,9 @@ not_cut_and_large b cut (inr over) = not_cut b over.0 cut over.1.2
 
 pub complete_from : (b : List ℕ) (r : Result (ℕ × ℕ) VluFault) → Decodes b r → (v n : ℕ) → n ≤ length b → VluSpells v (take n b) → r ≡ Ok (v, n)
 complete_from b (Ok found) d v n le s =
-    let place : found.1 ≡ n = same_end found.1 n b d.0 le d.1.ended s.ended in
-    let number : found.0 ≡ v = sym d.1.sum ∙ ap (λ (k : ℕ). value (take k b)) place ∙ s.sum in
-    rw (← place, ← number) refl
+    let used : found.1 ≡ n = same_end found.1 n b d.0 le d.1.ended s.ended in
+    let number : found.0 ≡ v = sym d.1.sum ∙ ap (λ (k : ℕ). value (take k b)) used ∙ s.sum in
+    rw (← used, ← number) refl
 complete_from b (Err Short) d v n le s = absurd (not_cut b n d s.ended)
 complete_from b (Err Large) d v n le s = absurd (not_large b v n d le s)
 

@@ -7,7 +7,7 @@ use Rattle.std.specs.Prelude.{bit_and, bit_or}
 use Rattle.rtmfp_vlu.specs.Vlu.{value, IsContinued, IsEnded, IsUnpadded, Shortest, vlu}
 use Rattle.rtmfp_vlu.proofs.Shortest.{Needs, Needs-shortest, Shortest-vlu}
 
--- what stands from a place to the end of the spelling
+-- what stands from an index to the end of the spelling
 abbrev pub written : ℕ → ℕ → List ℕ → List ℕ
 written len at out = take (len - at) (drop at out)
 

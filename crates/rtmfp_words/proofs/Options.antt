@@ -1,5 +1,5 @@
 -- Options: what a reader finds is spelled, and what is spelled is found.
-use Rattle.std.proofs.Common.{◌≡◌, ◌⊎◌, ℕ, ◌^◌, ◌<◌, ◌≤◌, Bool, true, false, List, [], ◌∷◌, ◌++◌, Option, Some, None, refl, sym, ap, ◌∙◌, subst, arith, inl, inr, codes}
+use Rattle.std.proofs.Common.{◌≡◌, ℕ, ◌^◌, ◌<◌, ◌≤◌, Bool, List, [], ◌∷◌, ◌++◌, Option, Some, None, refl, sym, ap, ◌∙◌, subst, arith, inl, inr, codes}
 use Rattle.std.specs.Prelude.{nat_le, decimal}
 use Rattle.std.specs.Str.{bytes_eq}
 use Rattle.std.proofs.lemmas.Bool.{leb-true, le-leb}
@@ -8,7 +8,7 @@ use Rattle.rtmfp_script.specs.Fields.{number_of, ◌>>=◌, either, only_if}
 use Rattle.rtmfp_script.proofs.Numbers.{number_of-some, number_of-decimal}
 use Rattle.rtmfp_script.proofs.Splits.{some_some, bind_some, only_if-some}
 use Rattle.rtmfp_words.specs.Words.{OptionSpells}
-use Rattle.rtmfp_words.specs.Functions.{head_of, behind_of, seed_of, steps_of, setting_of, joined_of, apart_of, option_of}
+use Rattle.rtmfp_words.specs.Reading.{head_of, behind_of, seed_of, steps_of, setting_of, joined_of, apart_of, option_of}
 use Rattle.rtmfp_words.specs.declared.option.Setting.{Setting}
 use Rattle.rtmfp_words.specs.declared.option.Setting.TheVariants.{Seed, Steps}
 use Rattle.rtmfp_words.proofs.Texts.{if-some, either-some, head-some, behind-some}

@@ -1,13 +1,13 @@
 -- Commands: what a reader finds is said, and what is said is found.
-use Rattle.std.proofs.Common.{◌≡◌, ◌⊎◌, ℕ, ◌^◌, ◌<◌, ◌≤◌, Bool, true, false, List, [], ◌∷◌, ◌++◌, Option, Some, None, refl, sym, ap, ◌∙◌, subst, arith, inl, inr, codes, append-nil}
+use Rattle.std.proofs.Common.{◌≡◌, ◌⊎◌, ℕ, ◌^◌, ◌<◌, ◌≤◌, List, [], ◌∷◌, ◌++◌, Option, Some, None, refl, sym, ap, ◌∙◌, subst, inl, inr, codes, append-nil}
 use Rattle.std.specs.Prelude.{decimal, if◌then◌else◌, map, String, string_bytes}
 use Rattle.std.specs.declared.alloc.Global.{Global}
 use Rattle.std.specs.Str.{bytes_eq}
 use Rattle.std.proofs.lemmas.Slice.Eq.{bytes_eq-Decides}
-use Rattle.rtmfp_script.specs.Fields.{◌>>=◌, only_if}
+use Rattle.rtmfp_script.specs.Fields.{◌>>=◌}
 use Rattle.rtmfp_script.proofs.Splits.{some_some, bind_some, only_if-some}
-use Rattle.rtmfp_words.specs.Words.{OptionSpells, IsShow, IsReplay, IsGenerate, IsFaulty, Reads}
-use Rattle.rtmfp_words.specs.Functions.{head_of, is_empty, option_of, both, generate_of, replay_of, show_of, command_of}
+use Rattle.rtmfp_words.specs.Words.{OptionSpells, IsGenerate, Reads}
+use Rattle.rtmfp_words.specs.Reading.{head_of, is_empty, option_of, both, generate_of, replay_of, show_of, command_of}
 use Rattle.rtmfp_words.specs.declared.option.Setting.{Setting}
 use Rattle.rtmfp_words.specs.declared.option.Setting.TheVariants.{Seed, Steps}
 use Rattle.rtmfp_words.specs.declared.command.Command.{Command}

@@ -3,12 +3,12 @@ use Rattle.std.proofs.Common.{◌≡◌, ◌≢◌, ◌⊎◌, ℕ, ◌^◌, ◌
 use Rattle.std.specs.Prelude.{if◌then◌else◌, map, IfSome, MatchOption, String, string_bytes}
 use Rattle.std.specs.Fmt.{decimal}
 use Rattle.std.specs.declared.alloc.Global.{Global}
-use Rattle.std.proofs.lemmas.Bool.{eq-eqb, ne_eqb, eqb-true, cases_Bool}
+use Rattle.std.proofs.lemmas.Bool.{eq-eqb, eqb-true}
 use denote.Ref.{Bor}
 use Rattle.rtmfp_script.specs.Fields.{number_of, either}
 use Rattle.rtmfp_script.proofs.Numbers.{number_of-some, number_of-decimal}
 use Rattle.rtmfp_script.proofs.Splits.{some_some}
-use Rattle.rtmfp_words.specs.Functions.{head_of, is_empty, behind_of}
+use Rattle.rtmfp_words.specs.Reading.{head_of, is_empty, behind_of}
 
 -- ---- what a choice that gave a value shows
 

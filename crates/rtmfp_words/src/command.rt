@@ -1,7 +1,7 @@
 //! The commands.
 ghost use Rattle.std.specs.Prelude.{◌≡◌, ℕ, map, string_bytes, Some};
 ghost use Rattle.rtmfp_words.specs.Words.{IsShow, IsReplay, IsGenerate, Reads};
-ghost use Rattle.rtmfp_words.specs.Functions.{command_of, show_of, replay_of, generate_of, both};
+ghost use Rattle.rtmfp_words.specs.Reading.{command_of, show_of, replay_of, generate_of, both};
 
 use crate::option::{Setting, read_option};
 use crate::words::{is_end, next_word};
@@ -38,7 +38,7 @@ pub fn read_command(words: &[String]) -> Option<Command>
     find_command(words)
 }
 
-#[tactic(auto, unfolding(crate::specs::Functions::command_of))]
+#[tactic(auto, unfolding(crate::specs::Reading::command_of))]
 fn find_command(words: &[String]) -> Option<Command>
     ensures { result ≡ command_of (map string_bytes words.now) }
 {
@@ -53,7 +53,7 @@ fn find_command(words: &[String]) -> Option<Command>
 }
 
 /// What the words behind `show` make it.
-#[tactic(auto, unfolding(crate::specs::Functions::show_of))]
+#[tactic(auto, unfolding(crate::specs::Reading::show_of))]
 fn show(words: &[String]) -> Option<Command>
     ensures { result ≡ show_of (map string_bytes words.now) }
 {
@@ -64,7 +64,7 @@ fn show(words: &[String]) -> Option<Command>
 }
 
 /// What the words behind `replay` make it.
-#[tactic(auto, unfolding(crate::specs::Functions::replay_of))]
+#[tactic(auto, unfolding(crate::specs::Reading::replay_of))]
 fn replay(words: &[String]) -> Option<Command>
     ensures { result ≡ replay_of (map string_bytes words.now) }
 {
@@ -75,7 +75,7 @@ fn replay(words: &[String]) -> Option<Command>
 }
 
 /// The two options, and nothing behind them.
-#[tactic(auto, unfolding(crate::specs::Functions::generate_of))]
+#[tactic(auto, unfolding(crate::specs::Reading::generate_of))]
 fn generate(words: &[String]) -> Option<Command>
     ensures { result ≡ generate_of (map string_bytes words.now) }
 {
@@ -88,7 +88,7 @@ fn generate(words: &[String]) -> Option<Command>
 }
 
 /// One option of each kind.
-#[tactic(auto, unfolding(crate::specs::Functions::both))]
+#[tactic(auto, unfolding(crate::specs::Reading::both))]
 fn both(first: Setting, second: Setting) -> Option<Command>
     ensures { result ≡ both first second }
 {

@@ -1,8 +1,14 @@
 //! The two options of `replay`.
 ghost use Rattle.std.specs.Prelude.{◌≡◌, map, string_bytes, None, Some, MatchOption};
 ghost use Rattle.rtmfp_script.specs.Fields.{number_of};
-ghost use Rattle.rtmfp_words.specs.Functions.{seed_of, steps_of, setting_of, joined_of, apart_of,
-    option_of};
+ghost use Rattle.rtmfp_words.specs.Reading.{
+  seed_of,
+  steps_of,
+  setting_of,
+  joined_of,
+  apart_of,
+  option_of,
+};
 
 use crate::words::{behind, next_word};
 use rtmfp_script::read_number;
@@ -27,7 +33,7 @@ fn read_value(value: &[u8]) -> Option<u64>
 }
 
 /// The seed that a value is.
-#[tactic(auto, unfolding(crate::specs::Functions::seed_of))]
+#[tactic(auto, unfolding(crate::specs::Reading::seed_of))]
 fn read_seed(value: &[u8]) -> Option<Setting>
     ensures { result ≡ seed_of value.now }
 {
@@ -35,7 +41,7 @@ fn read_seed(value: &[u8]) -> Option<Setting>
 }
 
 /// The count of steps that a value is.
-#[tactic(auto, unfolding(crate::specs::Functions::steps_of))]
+#[tactic(auto, unfolding(crate::specs::Reading::steps_of))]
 fn read_steps(value: &[u8]) -> Option<Setting>
     ensures { result ≡ steps_of value.now }
 {
@@ -47,7 +53,7 @@ fn read_steps(value: &[u8]) -> Option<Setting>
 }
 
 /// An option by its name and its value.
-#[tactic(auto, unfolding(crate::specs::Functions::setting_of))]
+#[tactic(auto, unfolding(crate::specs::Reading::setting_of))]
 fn read_setting(name: &[u8], value: &[u8]) -> Option<Setting>
     ensures { result ≡ setting_of name.now value.now }
 {
@@ -61,7 +67,7 @@ fn read_setting(name: &[u8], value: &[u8]) -> Option<Setting>
 }
 
 /// An option that is one word.
-#[tactic(auto, unfolding(crate::specs::Functions::joined_of))]
+#[tactic(auto, unfolding(crate::specs::Reading::joined_of))]
 fn read_joined(word: &[u8]) -> Option<Setting>
     ensures { result ≡ joined_of word.now }
 {
@@ -72,7 +78,7 @@ fn read_joined(word: &[u8]) -> Option<Setting>
 }
 
 /// An option whose value is the next word.
-#[tactic(auto, unfolding(crate::specs::Functions::apart_of))]
+#[tactic(auto, unfolding(crate::specs::Reading::apart_of))]
 fn read_apart<'a>(name: &[u8], words: &'a [String]) -> Option<(Setting, &'a [String])>
     ensures { MatchOption result (apart_of name.now (map string_bytes words.now)
         ≡ None) (λ p. apart_of name.now (map string_bytes words.now)
@@ -83,7 +89,7 @@ fn read_apart<'a>(name: &[u8], words: &'a [String]) -> Option<(Setting, &'a [Str
 }
 
 /// The option that stands in front, and the words behind it.
-#[tactic(auto, unfolding(crate::specs::Functions::option_of))]
+#[tactic(auto, unfolding(crate::specs::Reading::option_of))]
 pub(crate) fn read_option(words: &[String]) -> Option<(Setting, &[String])>
     ensures { MatchOption result (option_of (map string_bytes words.now)
         ≡ None) (λ p. option_of (map string_bytes words.now)

@@ -2,7 +2,7 @@
 use Rattle.std.proofs.Common.{ℕ, ◌≡◌, ◌<◌, ◌==◌, true, false, List, [], ◌∷◌, length, get_or, Option, Some, None, position, sym, ap, ◌∙◌, arith, refl}
 use Rattle.std.specs.FinMap.{get, len}
 use Rattle.std.proofs.lemmas.List.{get_or_default}
-use Rattle.rtmfp_base.proofs.Rows.{place_found, place_none}
+use Rattle.rtmfp_base.proofs.Rows.{index_found, index_none}
 use Rattle.glare_core.specs.Calls.{first_that_stands, where_true}
 use Rattle.startup.specs.declared.attempt.Row.{Row}
 use Rattle.startup.specs.declared.cause.Cause.{Cause}
@@ -17,16 +17,16 @@ some_row (row ∷ rows) place within = row
 
 -- no attempt has the near id
 pub none_at : (rows : List Row) (near : ℕ) (cookie : List ℕ) → position (λ row. row.near == near) rows ≡ None → if_cookie cookie near (get (table_of rows) near) ≡ None
-none_at rows near cookie e = ap (if_cookie cookie near) (place_none near_in attempt_in rows near e)
+none_at rows near cookie e = ap (if_cookie cookie near) (index_none near_in attempt_in rows near e)
 
 -- the attempt with the near id has the cookie, or it hasn't
 module _ (rows : List Row) (near place : ℕ) (row : Row) (cookie : List ℕ) (distinct : len (table_of rows) ≡ length rows) (at : position (λ r. r.near == near) rows ≡ Some place) (is : row ≡ get_or rows place row) where
   found_there : get (table_of rows) near ≡ Some row.attempt
-  found_there = (place_found near_in attempt_in rows near place distinct at).found row ∙ ap (λ (r : Row). Some r.attempt) (sym is)
+  found_there = (index_found near_in attempt_in rows near place distinct at).found row ∙ ap (λ (r : Row). Some r.attempt) (sym is)
 
   pub cookie_at : has_cookie cookie row.attempt ≡ true → IsChosen (if_cookie cookie near (get (table_of rows) near)) rows (Some place)
   cookie_at has =
-      let found = place_found near_in attempt_in rows near place distinct at in (
+      let found = index_found near_in attempt_in rows near place distinct at in (
         found.within,
         λ d.
             ap (if_cookie cookie near) found_there ∙ ap (λ b. where_true b (near, row.attempt)) has

@@ -3,7 +3,7 @@ use Rattle.std.proofs.Common.{ℕ, List, ◌≡◌, ◌==◌, length, get_or, Op
 use Rattle.std.specs.List.{swap_remove}
 use Rattle.std.specs.FinMap.{get, remove, len}
 use Rattle.rtmfp_base.proofs.Maps.{same_tables, same_or_not, get_removed, get_left}
-use Rattle.rtmfp_base.proofs.Rows.{place_found, place_none, table_swap_removed}
+use Rattle.rtmfp_base.proofs.Rows.{index_found, index_none, table_swap_removed}
 use Rattle.startup.specs.declared.attempt.Row.{Row}
 use Rattle.startup.specs.State.{AttemptState, Attempts}
 use Rattle.startup.specs.Rows.{table_of}
@@ -25,7 +25,7 @@ pub record IsLeft (rows : List Row) (near : ℕ) (rest : List Row) : Type 0 wher
 pub left_at : (rows : List Row) (near place : ℕ) (gone : Row) → len (table_of rows) ≡ length rows → place_in rows near ≡ Some place → gone ≡ get_or rows place gone
     → IsLeft rows near (swap_remove rows place gone)
 left_at rows near place gone distinct found is =
-    let at = place_found near_in attempt_in rows near place distinct found in
+    let at = index_found near_in attempt_in rows near place distinct found in
     let rest = table_swap_removed near_in attempt_in rows place gone distinct at.within is in
     record { table = rest.table_is ∙ ap (remove (table_of rows)) (ap near_in is ∙ at.key_is gone); distinct = rest.distinct }
 
@@ -39,12 +39,12 @@ removed_none attempts near none =
     ])
 
 pub left_nowhere : (rows : List Row) (near : ℕ) → place_in rows near ≡ None → table_of rows ≡ remove (table_of rows) near
-left_nowhere rows near none = removed_none (table_of rows) near (place_none near_in attempt_in rows near none)
+left_nowhere rows near none = removed_none (table_of rows) near (index_none near_in attempt_in rows near none)
 
 -- the attempt at the place of a near id
 pub found_at : (rows : List Row) (near place : ℕ) (d : Row) → len (table_of rows) ≡ length rows → place_in rows near ≡ Some place
     → get (table_of rows) near ≡ Some (get_or rows place d).attempt
-found_at rows near place d distinct found = (place_found near_in attempt_in rows near place distinct found).found d
+found_at rows near place d distinct found = (index_found near_in attempt_in rows near place distinct found).found d
 
 pub found_nowhere : (rows : List Row) (near : ℕ) → place_in rows near ≡ None → get (table_of rows) near ≡ None
-found_nowhere rows near none = place_none near_in attempt_in rows near none
+found_nowhere rows near none = index_none near_in attempt_in rows near none

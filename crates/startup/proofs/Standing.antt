@@ -6,7 +6,7 @@ use Rattle.rtmfp_vlu.specs.Vlu.{VluSpells}
 use Rattle.rtmfp_vlu.specs.Reading.{number_at}
 use Rattle.rtmfp_vlu.specs.declared.reading.VluFault.{VluFault}
 use Rattle.rtmfp_vlu.proofs.Fields.{stands}
-use Rattle.rtmfp_vlu.proofs.Places.{reads_number}
+use Rattle.rtmfp_vlu.proofs.Decoded.{reads_number}
 use Rattle.startup.specs.Keyings.{bytes_used, behind_vlu, cert_offset, part_offset}
 use Rattle.startup.specs.Offsets.{CertificateStandsThere, PartStandsThere}
 

@@ -4,7 +4,7 @@ use flow_send::{
     AckFault, Acked, FlowSender, MessageOptions, NoChunk, NotQueued, Pick, QueueRefusal,
 };
 use rtmfp_base::Memory;
-use rtmfp_data_chunks::AckedRanges;
+use rtmfp_data_chunks::AckedSpans;
 use std::alloc::Global;
 
 const PLAIN: MessageOptions = MessageOptions {
@@ -113,9 +113,9 @@ fn acks_tell_of_what_was_sent(rt: HostRuntime) -> Result<(), Memory> {
         assert!(rt; flow.queue(&[0x55; 10], PLAIN).is_ok());
     }
     assert_eq!(rt; send_all(&mut flow, 0), 5);
-    let beyond = flow.take_ack(64, 6, AckedRanges::of_pairs(6, &[]));
+    let beyond = flow.take_ack(64, 6, AckedSpans::of_pairs(6, &[]));
     assert_eq!(rt; beyond, Err(AckFault::AckBeyond(6)));
-    let beyond = flow.take_ack(64, 1, AckedRanges::of_pairs(1, &[0x02, 0x00, 0x00, 0x00]));
+    let beyond = flow.take_ack(64, 1, AckedSpans::of_pairs(1, &[0x02, 0x00, 0x00, 0x00]));
     assert_eq!(rt; beyond, Err(AckFault::AckBeyond(7)));
     // Each ack but the first newly acknowledges a number that was sent after number 2.
     for (upto, pairs, bytes, lost) in [
@@ -124,7 +124,7 @@ fn acks_tell_of_what_was_sent(rt: HostRuntime) -> Result<(), Memory> {
         (1, &[0x00, 0x01], 10, false),
         (1, &[0x00, 0x02], 10, true),
     ] {
-        let taken = flow.take_ack(64, upto, AckedRanges::of_pairs(upto, pairs));
+        let taken = flow.take_ack(64, upto, AckedSpans::of_pairs(upto, pairs));
         assert_eq!(rt; taken, Ok(Acked { bytes, lost }), "{pairs:?}");
     }
     assert_eq!(rt; (flow.flight(), flow.waiting()), (0, 1));
@@ -149,7 +149,7 @@ fn messages_are_abandoned_while_they_wait(rt: HostRuntime) -> Result<(), Memory>
         assert!(rt; flow.queue(&[0x55; 10], options).is_ok());
     }
     assert_eq!(rt; send_all(&mut flow, 0), 4);
-    assert!(rt; flow.take_ack(64, 1, AckedRanges::of_pairs(1, &[])).is_ok());
+    assert!(rt; flow.take_ack(64, 1, AckedSpans::of_pairs(1, &[])).is_ok());
     assert_eq!(rt; (flow.waits(1), flow.abandon(1)), (false, Err(NotQueued)));
     assert_eq!(rt; (flow.waits(2), flow.abandon(2)), (true, Ok(())));
     assert_eq!(rt; flow.abandon(2), Err(NotQueued));

@@ -107,8 +107,8 @@ fn tell_step(step: &ScriptLine, text: &mut Text) -> Result<(), AllocError> {
             tell_name(" cert=", cert.bytes(), text)
         }
         ScriptLine::At { moment } => text.push_number_field("at moment=", *moment),
-        ScriptLine::Open { name, peer, places } => {
-            tell_open(name.bytes(), peer.bytes(), places.as_slice(), text)
+        ScriptLine::Open { name, peer, candidates } => {
+            tell_open(name.bytes(), peer.bytes(), candidates.as_slice(), text)
         }
         ScriptLine::Cancel { name, number } => {
             tell_name("cancel name=", name.bytes(), text)?;

@@ -1,5 +1,5 @@
 use Rattle.rtmfp_vlu.proofs.Spellings.{complete_from, short_from, large_from}
-use Rattle.rtmfp_vlu.proofs.Places.{exact_from}
+use Rattle.rtmfp_vlu.proofs.Decoded.{exact_from}
 use Rattle.rtmfp_vlu.proofs.reading.read_vlu.Goals as goal
 
 pub returns-clause-complete : goal.returns-clause-complete

@@ -5,7 +5,7 @@ use Rattle.rtmfp_data_chunks.specs.declared.view.DataView.TheVariants as view
 use Rattle.rtmfp_data_chunks.specs.Chunk.{data_chunk}
 use Rattle.rtmfp_data_chunks.specs.Acked.{acked, AckTells}
 use Rattle.rtmfp_data_chunks.proofs.PairsTold.{nothing_told, pairs_told}
-use Rattle.rtmfp_data_chunks.proofs.RunLaws.{bits_tell, bits_apart}
+use Rattle.rtmfp_data_chunks.proofs.SpanLaws.{bits_tell, bits_apart}
 use Rattle.rtmfp_data_chunks.proofs.view.DataView.acked.Goals as goal
 
 pub returns-in-AckBitmap-clause-tells : goal.returns-in-AckBitmap-clause-tells

@@ -1,24 +1,31 @@
 //! Addresses.
 ghost use Rattle.std.specs.Prelude.{◌≡◌, length, slice_index, ◌==◌};
-ghost use Rattle.rtmfp_script.specs.Fields.{v4_of, v6_of, v6_place, place_at, place_of, places_of};
+ghost use Rattle.rtmfp_script.specs.Fields.{
+  address_at,
+  address_of,
+  addresses_of,
+  v4_of,
+  v6_address,
+  v6_of,
+};
 
 use crate::bytes::sixteen;
 use crate::fields::{number8, number16, split};
-use crate::line::{MOST_PLACES, Places};
+use crate::line::{Candidates, MOST_CANDIDATES};
 use rtmfp_forms::Address;
 
 /// The address that a word is: `1.2.3.4:5`, or 32 digits in brackets, a colon and the port.
-#[tactic(auto, unfolding(crate::specs::Fields::place_of))]
-pub(crate) fn place(word: &[u8]) -> Option<Address>
-    ensures { result ≡ place_of word.now }
+#[tactic(auto, unfolding(crate::specs::Fields::address_of))]
+pub(crate) fn address(word: &[u8]) -> Option<Address>
+    ensures { result ≡ address_of word.now }
 {
     let (host, port) = split(b':', word)?;
-    place_at(host, number16(port)?)
+    address_at(host, number16(port)?)
 }
 
-#[tactic(auto, unfolding(crate::specs::Fields::place_at))]
-fn place_at(host: &[u8], port: u16) -> Option<Address>
-    ensures { result ≡ place_at host.now port }
+#[tactic(auto, unfolding(crate::specs::Fields::address_at))]
+fn address_at(host: &[u8], port: u16) -> Option<Address>
+    ensures { result ≡ address_at host.now port }
 {
     if !host.is_empty() && host[0] == b'[' {
         let (_, rest) = host.split_at(1);
@@ -28,7 +35,7 @@ fn place_at(host: &[u8], port: u16) -> Option<Address>
 }
 
 fn v6(host: [u8; 16], port: u16) -> Address
-    ensures { result ≡ v6_place port host }
+    ensures { result ≡ v6_address port host }
 {
     Address {
         v6: true,
@@ -67,20 +74,20 @@ fn v4_host(host: &[u8]) -> Option<[u8; 4]>
 }
 
 /// The addresses that are the rest of a line: one to 32, with spaces between them.
-pub(crate) fn places(text: &[u8]) -> Option<Places>
-    ensures { result ≡ places_of text.now }
+pub(crate) fn addresses(text: &[u8]) -> Option<Candidates>
+    ensures { result ≡ addresses_of text.now }
 {
-    let mut places = Places::new();
+    let mut addresses = Candidates::new();
     let mut rest = text;
-    'words: for at in 0..MOST_PLACES {
+    'words: for at in 0..MOST_CANDIDATES {
         match split(b' ', rest) {
             Some((word, behind)) => {
-                places.push(place(word)?);
+                addresses.push(address(word)?);
                 rest = behind;
             }
             None => {
-                places.push(place(rest)?);
-                return Some(places);
+                addresses.push(address(rest)?);
+                return Some(addresses);
             }
         }
     }

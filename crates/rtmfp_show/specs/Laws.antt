@@ -1,4 +1,4 @@
--- The names of chunks, and the longest line, a second time.
+-- What holds of all texts; the names of chunks, and the longest line, a second time.
 use Rattle.std.specs.Prelude.{◌≡◌, ◌⊎◌, ℕ, List, codes, ◌++◌}
 use Rattle.rtmfp_chunks.specs.Chunk.{Chunk, kind_of}
 use Rattle.rtmfp_data_chunks.specs.Chunk.{DataChunk}
@@ -6,7 +6,11 @@ use Rattle.rtmfp_data_chunks.specs.Spelling.{kind_of as data_kind}
 use Rattle.rtmfp_text.specs.KindText.{kind_text}
 use Rattle.rtmfp_show.specs.ChunkText.{chunk_text}
 use Rattle.rtmfp_show.specs.DataText.{data_text}
-use Rattle.rtmfp_show.specs.ShowLine.{show_limit}
+use Rattle.rtmfp_show.specs.ShowLine.{ShowsLine, show_limit}
+
+abbrev pub EachLineHasOneText : Type 0
+EachLineHasOneText = (line text other : List ℕ) → ShowsLine line text → ShowsLine line other →
+    text ≡ other
 
 -- a space and the name, and then nothing or a space and more
 abbrev pub BeginsWith : List ℕ → List ℕ → Type 0

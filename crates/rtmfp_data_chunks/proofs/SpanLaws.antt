@@ -1,25 +1,25 @@
--- The stretches of the numbers that pass a test.
+-- The spans of the numbers that pass a test.
 use Rattle.std.proofs.Common.{◌≡◌, ℕ, zero, suc, ◌+◌, ◌-◌, ◌*◌, ◌/◌, ◌%◌, ◌^◌, ◌<◌, ◌≤◌, ◌⊎◌, Bool, true, false, cond, eqb, List, [], ◌∷◌, length, refl, sym, ap, subst, ◌∙◌, inl, inr, arith}
 use Rattle.std.specs.Prelude.{◌↔◌}
 use Rattle.std.proofs.lemmas.Bool.{cases_lt, cases_eq, eq-eqb, ne_eqb}
 use Rattle.std.proofs.lemmas.List.{get_or_past}
 use Rattle.std.proofs.lemmas.Nat.Bits.{bit_at-zero}
 use Rattle.rtmfp_data_chunks.specs.Fields.{flag}
-use Rattle.rtmfp_data_chunks.specs.Acked.{is_set, in_front, runs, bits_told, acked_bits, IsTold, AreApart}
+use Rattle.rtmfp_data_chunks.specs.Acked.{is_set, in_front, spans_where, bits_told, spans_of_bits, IsTold, AreApart}
 
-pub no_runs : (test : ℕ → Bool) (n : ℕ) → runs test n 0 ≡ []
-unfolding runs
-no_runs test n = refl
+pub no_spans : (test : ℕ → Bool) (n : ℕ) → spans_where test n 0 ≡ []
+unfolding spans_where
+no_spans test n = refl
 
-pub runs_unset : (test : ℕ → Bool) (n count : ℕ) → test n ≡ false → runs test n (suc count) ≡ runs test (suc n) count
-unfolding runs
-runs_unset test n count e = rw e refl
+pub spans_unset : (test : ℕ → Bool) (n count : ℕ) → test n ≡ false → spans_where test n (suc count) ≡ spans_where test (suc n) count
+unfolding spans_where
+spans_unset test n count e = rw e refl
 
-pub runs_set : (test : ℕ → Bool) (n count : ℕ) → test n ≡ true → runs test n (suc count) ≡ in_front n n (runs test (suc n) count)
-unfolding runs
-runs_set test n count e = rw e refl
+pub spans_set : (test : ℕ → Bool) (n count : ℕ) → test n ≡ true → spans_where test n (suc count) ≡ in_front n n (spans_where test (suc n) count)
+unfolding spans_where
+spans_set test n count e = rw e refl
 
--- ---- no stretch begins before the first number
+-- ---- no span begins before the first number
 
 abbrev Begins : ℕ → List (ℕ × ℕ) → Type 0
 Begins n [] = Unit {0}
@@ -37,24 +37,24 @@ front_begins : (a b : ℕ) (ss : List (ℕ × ℕ)) → Begins a (in_front a b s
 front_begins a b [] = omega arith
 front_begins a b (s ∷ ss) = begins_if (eqb s.0 (b + 1)) a b s ss
 
-runs_if : (test : ℕ → Bool) (n count : ℕ) (t : Bool) → test n ≡ t → Begins (suc n) (runs test (suc n) count) → Begins n (runs test n (suc count))
-runs_if test n count true e h = rw (runs_set test n count e) (front_begins n n (runs test (suc n) count))
-runs_if test n count false e h = rw (runs_unset test n count e) (begins_less n (runs test (suc n) count) h)
+spans_if : (test : ℕ → Bool) (n count : ℕ) (t : Bool) → test n ≡ t → Begins (suc n) (spans_where test (suc n) count) → Begins n (spans_where test n (suc count))
+spans_if test n count true e h = rw (spans_set test n count e) (front_begins n n (spans_where test (suc n) count))
+spans_if test n count false e h = rw (spans_unset test n count e) (begins_less n (spans_where test (suc n) count) h)
 
-runs_begin : (test : ℕ → Bool) (n count : ℕ) → Begins n (runs test n count)
-runs_begin test n zero = rw (no_runs test n) tt
-runs_begin test n (suc count) = runs_if test n count (test n) refl (runs_begin test (suc n) count)
+spans_begin : (test : ℕ → Bool) (n count : ℕ) → Begins n (spans_where test n count)
+spans_begin test n zero = rw (no_spans test n) tt
+spans_begin test n (suc count) = spans_if test n count (test n) refl (spans_begin test (suc n) count)
 
--- ---- a stretch grows, and ends
+-- ---- a span grows, and ends
 
 apart_alone : (a b : ℕ) (ss : List (ℕ × ℕ)) → Begins (suc (b + 1)) ss → in_front a b ss ≡ (a, b) ∷ ss
 apart_alone a b [] h = refl
 apart_alone a b (s ∷ ss) h = rw (ne_eqb s.0 (b + 1) (λ e. omega (arith, e, h))) refl
 
-pub ends_here : (test : ℕ → Bool) (a b count : ℕ) → (count ≡ 0) ⊎ (test (b + 1) ≡ false) → in_front a b (runs test (b + 1) count) ≡ (a, b) ∷ runs test (b + 1) count
-ends_here test a b count (inl none) = rw (none, no_runs test (b + 1)) refl
-ends_here test a b zero (inr unset) = rw (no_runs test (b + 1)) refl
-ends_here test a b (suc count) (inr unset) = rw (runs_unset test (b + 1) count unset) (apart_alone a b (runs test (suc (b + 1)) count) (runs_begin test (suc (b + 1)) count))
+pub ends_here : (test : ℕ → Bool) (a b count : ℕ) → (count ≡ 0) ⊎ (test (b + 1) ≡ false) → in_front a b (spans_where test (b + 1) count) ≡ (a, b) ∷ spans_where test (b + 1) count
+ends_here test a b count (inl none) = rw (none, no_spans test (b + 1)) refl
+ends_here test a b zero (inr unset) = rw (no_spans test (b + 1)) refl
+ends_here test a b (suc count) (inr unset) = rw (spans_unset test (b + 1) count unset) (apart_alone a b (spans_where test (suc (b + 1)) count) (spans_begin test (suc (b + 1)) count))
 
 front_if : (a b : ℕ) (s : ℕ × ℕ) (ss : List (ℕ × ℕ)) (t : Bool)
     → in_front a b (cond t ((b + 1, s.1) ∷ ss) ((b + 1, b + 1) ∷ (s ∷ ss))) ≡ cond t ((a, s.1) ∷ ss) ((a, b + 1) ∷ (s ∷ ss))
@@ -65,10 +65,10 @@ two_fronts : (a b : ℕ) (ss : List (ℕ × ℕ)) → in_front a b (in_front (b 
 two_fronts a b [] = rw (eq-eqb (b + 1) (b + 1) refl) refl
 two_fronts a b (s ∷ ss) = front_if a b s ss (eqb s.0 (b + 1 + 1))
 
-pub goes_further : (test : ℕ → Bool) (a b count : ℕ) → test (b + 1) ≡ true → in_front a b (runs test (b + 1) (suc count)) ≡ in_front a (b + 1) (runs test (suc (b + 1)) count)
-goes_further test a b count set = rw (runs_set test (b + 1) count set) (two_fronts a b (runs test (suc (b + 1)) count))
+pub goes_further : (test : ℕ → Bool) (a b count : ℕ) → test (b + 1) ≡ true → in_front a b (spans_where test (b + 1) (suc count)) ≡ in_front a (b + 1) (spans_where test (suc (b + 1)) count)
+goes_further test a b count set = rw (spans_set test (b + 1) count set) (two_fronts a b (spans_where test (suc (b + 1)) count))
 
--- ---- the stretches are apart, and of just the numbers that pass
+-- ---- the spans are apart, and of just the numbers that pass
 
 apart_front : (above m : ℕ) (ss : List (ℕ × ℕ)) → above + 2 ≤ m → Begins (suc m) ss → AreApart above ss → AreApart above (in_front m m ss)
 apart_front above m [] le h p = (le, omega arith, tt)
@@ -78,13 +78,13 @@ apart_front above m (s ∷ ss) le h p =
       | inr ne ↦ rw (ne_eqb s.0 (m + 1) ne) (le, omega arith, (omega (arith, h, ne), p.1, p.2))
     ]
 
-apart_if : (test : ℕ → Bool) (above m count : ℕ) (t : Bool) → test m ≡ t → above + 2 ≤ m → AreApart above (runs test (suc m) count) → AreApart above (runs test m (suc count))
-apart_if test above m count true e le h = rw (runs_set test m count e) (apart_front above m (runs test (suc m) count) le (runs_begin test (suc m) count) h)
-apart_if test above m count false e le h = rw (runs_unset test m count e) h
+apart_if : (test : ℕ → Bool) (above m count : ℕ) (t : Bool) → test m ≡ t → above + 2 ≤ m → AreApart above (spans_where test (suc m) count) → AreApart above (spans_where test m (suc count))
+apart_if test above m count true e le h = rw (spans_set test m count e) (apart_front above m (spans_where test (suc m) count) le (spans_begin test (suc m) count) h)
+apart_if test above m count false e le h = rw (spans_unset test m count e) h
 
-pub runs_apart : (test : ℕ → Bool) (above m count : ℕ) → above + 2 ≤ m → AreApart above (runs test m count)
-runs_apart test above m zero le = rw (no_runs test m) tt
-runs_apart test above m (suc count) le = apart_if test above m count (test m) refl le (runs_apart test above (suc m) count (omega (arith, le)))
+pub spans_apart : (test : ℕ → Bool) (above m count : ℕ) → above + 2 ≤ m → AreApart above (spans_where test m count)
+spans_apart test above m zero le = rw (no_spans test m) tt
+spans_apart test above m (suc count) le = apart_if test above m count (test m) refl le (spans_apart test above (suc m) count (omega (arith, le)))
 
 abbrev Among : (ℕ → Bool) → ℕ → ℕ → ℕ → Type 0
 Among test m count n = (m ≤ n) × (n < m + count) × (test n ≡ true)
@@ -124,28 +124,28 @@ front_told above m n (s ∷ ss) p h =
       | inr ne ↦ rw (ne_eqb s.0 (m + 1) ne) (beside_told m n s ss h)
     ]
 
-passes_if : (test : ℕ → Bool) (above m count n : ℕ) (t : Bool) → test m ≡ t → above + 2 ≤ m → (IsTold n (runs test (suc m) count) → Among test (suc m) count n) → IsTold n (runs test m (suc count)) → Among test m (suc count) n
+passes_if : (test : ℕ → Bool) (above m count n : ℕ) (t : Bool) → test m ≡ t → above + 2 ≤ m → (IsTold n (spans_where test (suc m) count) → Among test (suc m) count n) → IsTold n (spans_where test m (suc count)) → Among test m (suc count) n
 passes_if test above m count n true e le ih h =
-    elim (told_front above m n (runs test (suc m) count) (runs_apart test above (suc m) count (omega (arith, le))) (rw (runs_set test m count e) at h)) [
+    elim (told_front above m n (spans_where test (suc m) count) (spans_apart test above (suc m) count (omega (arith, le))) (rw (spans_set test m count e) at h)) [
       | inl here ↦ (omega (arith, here), omega (arith, here), ap test here ∙ e)
       | inr later ↦ let p = ih later in (omega (arith, p.0), omega (arith, p.1), p.2)
     ]
-passes_if test above m count n false e le ih h = let p = ih (rw (runs_unset test m count e) at h) in (omega (arith, p.0), omega (arith, p.1), p.2)
+passes_if test above m count n false e le ih h = let p = ih (rw (spans_unset test m count e) at h) in (omega (arith, p.0), omega (arith, p.1), p.2)
 
-told_passes : (test : ℕ → Bool) (above m count n : ℕ) → above + 2 ≤ m → IsTold n (runs test m count) → Among test m count n
-told_passes test above m zero n le h = absurd (rw (no_runs test m) at h)
+told_passes : (test : ℕ → Bool) (above m count n : ℕ) → above + 2 ≤ m → IsTold n (spans_where test m count) → Among test m count n
+told_passes test above m zero n le h = absurd (rw (no_spans test m) at h)
 told_passes test above m (suc count) n le h = passes_if test above m count n (test m) refl le (told_passes test above (suc m) count n (omega (arith, le))) h
 
-told_if : (test : ℕ → Bool) (above m count n : ℕ) (t : Bool) → test m ≡ t → above + 2 ≤ m → (Among test (suc m) count n → IsTold n (runs test (suc m) count)) → Among test m (suc count) n → IsTold n (runs test m (suc count))
+told_if : (test : ℕ → Bool) (above m count n : ℕ) (t : Bool) → test m ≡ t → above + 2 ≤ m → (Among test (suc m) count n → IsTold n (spans_where test (suc m) count)) → Among test m (suc count) n → IsTold n (spans_where test m (suc count))
 told_if test above m count n true e le ih p =
-    let apart = runs_apart test above (suc m) count (omega (arith, le)) in
-    rw (runs_set test m count e)
-    (front_told above m n (runs test (suc m) count) apart (elim (cases_eq n m) [ inl here ↦ inl here | inr ne ↦ inr (ih (omega (arith, p.0, ne), omega (arith, p.1), p.2)) ]))
+    let apart = spans_apart test above (suc m) count (omega (arith, le)) in
+    rw (spans_set test m count e)
+    (front_told above m n (spans_where test (suc m) count) apart (elim (cases_eq n m) [ inl here ↦ inl here | inr ne ↦ inr (ih (omega (arith, p.0, ne), omega (arith, p.1), p.2)) ]))
 told_if test above m count n false e le ih p =
-    rw (runs_unset test m count e)
+    rw (spans_unset test m count e)
     (elim (cases_eq n m) [ inl here ↦ absurd (cc (e, p.2, ap test here)) | inr ne ↦ ih (omega (arith, p.0, ne), omega (arith, p.1), p.2) ])
 
-passes_told : (test : ℕ → Bool) (above m count n : ℕ) → above + 2 ≤ m → Among test m count n → IsTold n (runs test m count)
+passes_told : (test : ℕ → Bool) (above m count n : ℕ) → above + 2 ≤ m → Among test m count n → IsTold n (spans_where test m count)
 passes_told test above m zero n le p = absurd (omega (arith, p.0, p.1))
 passes_told test above m (suc count) n le p = told_if test above m count n (test m) refl le (passes_told test above (suc m) count n (omega (arith, le))) p
 
@@ -166,53 +166,53 @@ set_inside upto n bits set =
           absurd (cc (none, set))
     ]
 
-pub bits_tell : (upto : ℕ) (bits : List ℕ) (n : ℕ) → IsTold n (acked_bits upto bits) ↔ IsAcked upto bits n
+pub bits_tell : (upto : ℕ) (bits : List ℕ) (n : ℕ) → IsTold n (spans_of_bits upto bits) ↔ IsAcked upto bits n
 bits_tell upto bits n = (
   λ told. let p = told_passes (is_set upto bits) upto (upto + 2) (bits_told upto bits) n (omega arith) told in (p.0, omega (arith, p.0, p.1), p.2),
   λ p. let inside = set_inside upto n bits p.2 in passes_told (is_set upto bits) upto (upto + 2) (bits_told upto bits) n (omega arith) (p.0, omega (arith, p.0, p.1, inside), p.2),
 )
 
-pub bits_apart : (upto : ℕ) (bits : List ℕ) → AreApart upto (acked_bits upto bits)
-bits_apart upto bits = runs_apart (is_set upto bits) upto (upto + 2) (bits_told upto bits) (omega arith)
+pub bits_apart : (upto : ℕ) (bits : List ℕ) → AreApart upto (spans_of_bits upto bits)
+bits_apart upto bits = spans_apart (is_set upto bits) upto (upto + 2) (bits_told upto bits) (omega arith)
 
 -- ---- a turn of a walk over the bits
 
-pub passes_over : (test : ℕ → Bool) (k n count : ℕ) → k ≤ count → ((j : ℕ) → j < k → test (n + j) ≡ false) → runs test (n + k) (count - k) ≡ runs test n count
+pub passes_over : (test : ℕ → Bool) (k n count : ℕ) → k ≤ count → ((j : ℕ) → j < k → test (n + j) ≡ false) → spans_where test (n + k) (count - k) ≡ spans_where test n count
 passes_over test zero n count le unset =
     let here : n + 0 ≡ n = omega arith in
     let all : count - 0 ≡ count = omega arith in
     rw (here, all) refl
 passes_over test (suc k) n zero le unset = absurd (omega (arith, le))
 passes_over test (suc k) n (suc count) le unset =
-    let place : n + suc k ≡ suc n + k = omega arith in
+    let begins : n + suc k ≡ suc n + k = omega arith in
     let left : suc count - suc k ≡ count - k = omega arith in
     let first : n + 0 ≡ n = omega arith in
     let later : (j : ℕ) → j < k → test (suc n + j) ≡ false = λ j lt. let at : suc n + j ≡ n + suc j = omega arith in ap test at ∙ unset (suc j) (omega (arith, lt)) in
-    rw (place, left) (passes_over test k (suc n) count (omega (arith, le)) later) ∙ sym (runs_unset test n count (ap test (sym first) ∙ unset 0 (omega arith)))
+    rw (begins, left) (passes_over test k (suc n) count (omega (arith, le)) later) ∙ sym (spans_unset test n count (ap test (sym first) ∙ unset 0 (omega arith)))
 
-pub starts : (test : ℕ → Bool) (n count : ℕ) → 0 < count → test n ≡ true → runs test n count ≡ in_front n n (runs test (n + 1) (count - 1))
+pub starts : (test : ℕ → Bool) (n count : ℕ) → 0 < count → test n ≡ true → spans_where test n count ≡ in_front n n (spans_where test (n + 1) (count - 1))
 starts test n zero some set = absurd (omega (arith, some))
 starts test n (suc count) some set =
     let next : n + 1 ≡ suc n = omega arith in
     let left : suc count - 1 ≡ count = omega arith in
-    rw (next, left) (runs_set test n count set)
+    rw (next, left) (spans_set test n count set)
 
 pub goes_on : (test : ℕ → Bool) (a k b count : ℕ) → k ≤ count → ((j : ℕ) → j < k → test (b + 1 + j) ≡ true)
-    → in_front a b (runs test (b + 1) count) ≡ in_front a (b + k) (runs test (b + k + 1) (count - k))
+    → in_front a b (spans_where test (b + 1) count) ≡ in_front a (b + k) (spans_where test (b + k + 1) (count - k))
 goes_on test a zero b count le set =
     let here : b + 0 ≡ b = omega arith in
     let all : count - 0 ≡ count = omega arith in
     rw (here, all) refl
 goes_on test a (suc k) b zero le set = absurd (omega (arith, le))
 goes_on test a (suc k) b (suc count) le set =
-    let place : b + suc k ≡ (b + 1) + k = omega arith in
+    let begins : b + suc k ≡ (b + 1) + k = omega arith in
     let left : suc count - suc k ≡ count - k = omega arith in
     let first : b + 1 + 0 ≡ b + 1 = omega arith in
     let next : suc (b + 1) ≡ b + 1 + 1 = omega arith in
     let later : (j : ℕ) → j < k → test (b + 1 + 1 + j) ≡ true = λ j lt. let at : b + 1 + 1 + j ≡ b + 1 + suc j = omega arith in ap test at ∙ set (suc j) (omega (arith, lt)) in
     goes_further test a b count (ap test (sym first) ∙ set 0 (omega arith))
-    ∙ (ap (λ (m : ℕ). in_front a (b + 1) (runs test m count)) next ∙ rw (place, left) (goes_on test a k (b + 1) count (omega (arith, le)) later))
+    ∙ (ap (λ (m : ℕ). in_front a (b + 1) (spans_where test m count)) next ∙ rw (begins, left) (goes_on test a k (b + 1) count (omega (arith, le)) later))
 
-pub ends : (test : ℕ → Bool) (a b n count : ℕ) → b + 1 ≡ n → (count ≡ 0) ⊎ (test n ≡ false) → in_front a b (runs test n count) ≡ (a, b) ∷ runs test n count
-ends test a b n count p (inl none) = subst (λ (k : ℕ). in_front a b (runs test k count) ≡ (a, b) ∷ runs test k count) p (ends_here test a b count (inl none))
-ends test a b n count p (inr unset) = subst (λ (k : ℕ). in_front a b (runs test k count) ≡ (a, b) ∷ runs test k count) p (ends_here test a b count (inr (ap test p ∙ unset)))
+pub ends : (test : ℕ → Bool) (a b n count : ℕ) → b + 1 ≡ n → (count ≡ 0) ⊎ (test n ≡ false) → in_front a b (spans_where test n count) ≡ (a, b) ∷ spans_where test n count
+ends test a b n count p (inl none) = subst (λ (k : ℕ). in_front a b (spans_where test k count) ≡ (a, b) ∷ spans_where test k count) p (ends_here test a b count (inl none))
+ends test a b n count p (inr unset) = subst (λ (k : ℕ). in_front a b (spans_where test k count) ≡ (a, b) ∷ spans_where test k count) p (ends_here test a b count (inr (ap test p ∙ unset)))

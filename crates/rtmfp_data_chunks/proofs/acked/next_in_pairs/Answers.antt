@@ -1,6 +1,6 @@
 use Rattle.std.proofs.Common.{sym, arith}
-use Rattle.rtmfp_data_chunks.proofs.Stretching.{none_holes, none_after, none_past, some_past}
-use Rattle.rtmfp_data_chunks.proofs.acked.next_stretch.Goals as goal
+use Rattle.rtmfp_data_chunks.proofs.Spanning.{none_holes, none_after, none_past, some_past}
+use Rattle.rtmfp_data_chunks.proofs.acked.next_in_pairs.Goals as goal
 
 pub returns-in_default : goal.returns-in_default
 returns-in_default c = none_holes c.args.above c.args.bytes.now c.in_default.field-0 (sym c.in_default.ensures.exact)

@@ -3,7 +3,7 @@ use Rattle.std.specs.Prelude.{IfSome}
 use Rattle.std.specs.Fmt.{decimal}
 use Rattle.rtmfp_script.specs.Fields.{number_of}
 use Rattle.rtmfp_script.proofs.Numbers.{number_of-some, number_of-decimal}
-use Rattle.rtmfp_script.proofs.number.read_number.Goals as goal
+use Rattle.rtmfp_script.proofs.fields.read_number.Goals as goal
 
 reads : (word : List ℕ) (o : Option ℕ) → o ≡ number_of word → IfSome o (λ n. (word ≡ decimal n) × (n < 2 ^ 64))
 reads word None is = tt
