@@ -82,9 +82,12 @@ fn words_of(alloc: Global, text: &str) -> Result<Vec<String>, Fail> {
 }
 
 fn is_so(alloc: Global, row: &Row) -> Result<bool, Fail> {
+    if row.piece == 0 {
+        return Ok(false);
+    }
     let words = words_of(alloc, row.words)?;
     let input = Vec::from_slice(alloc, row.input.as_bytes())?;
-    let bytes = MemorySource::in_pieces(input, row.piece.max(1));
+    let bytes = MemorySource::in_pieces(input, row.piece);
     let mut source = FaultySource::new(bytes, Vec::from_slice(alloc, row.faults.reads)?);
     let writes = Vec::from_slice(alloc, row.faults.writes)?;
     let flushes = Vec::from_slice(alloc, row.faults.flushes)?;
