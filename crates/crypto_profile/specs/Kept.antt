@@ -15,7 +15,7 @@ pub record Kept : Type 0 where
 unfoldable pub recents : (ℕ → Bool) → List Bool
 recents f = map f (range_with_len 0 1024)
 
--- what is kept where this test tells whether a number was taken: place d is of the number d below
+-- what is kept where this test tells whether a number was taken: index d is of the number d below
 -- the highest
 abbrev pub kept_where : ℕ → (ℕ → Bool) → Kept
 kept_where highest test = record {

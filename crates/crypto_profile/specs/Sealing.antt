@@ -20,7 +20,7 @@ keystream enc number (suc n) = keystream enc number n ++ stream_block enc number
 abbrev pub blocks_of : ℕ → ℕ
 blocks_of len = (len + 31) / 32
 
--- each byte XOR the byte at its place in a stream
+-- each byte XOR the byte at its offset in a stream
 abbrev pub xored : List ℕ → List ℕ → List ℕ
 xored [] stream = []
 xored (byte ∷ rest) [] = []

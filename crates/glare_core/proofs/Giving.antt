@@ -265,7 +265,7 @@ module _ (own : List ℕ) (max_peers started : ℕ) (before after : PeerRows) (o
       (subst (λ e. Gave l (heard_facts (Birth e born)) (heard_noted l (Birth e born))) (sym way) (gave_if_heard l keying near nr free None other none)))
 
 -- There is room for the row of a peer that has none.
-room_of : (place : Option ℕ) (count max_peers n : ℕ) (known : Bool) → is_some place ≡ known → (not known && nat_eq count max_peers) ≡ false → count ≡ n → n ≤ max_peers → IsRoom place n max_peers
+room_of : (index : Option ℕ) (count max_peers n : ℕ) (known : Bool) → is_some index ≡ known → (not known && nat_eq count max_peers) ≡ false → count ≡ n → n ≤ max_peers → IsRoom index n max_peers
 room_of (Some i) count max_peers n known e full c within = tt
 room_of None count max_peers n true e full c within = absurd (cc)
 room_of None count max_peers n false e full c within = grind (arith, nat_tests)
@@ -287,13 +287,13 @@ birth_full l keying free none =
     let glare = first_none (glare_of l.own keying.peer (held_with l keying.peer)) full stale.1 in
     test_fails (peers_full l keying.peer) (NoRow (row_count l)) (first_none (where_true (peers_full l keying.peer) (NoRow (row_count l))) sessions glare.1).0
 
-module _ (own : List ℕ) (max_peers started : ℕ) (rows : PeerRows) (old : Ledger) (is : record { own = own; max_peers = max_peers; started = started; rows = rows } ≡ old) (place : Option ℕ) (n : ℕ) (count : len rows ≡ n) (within : n ≤ max_peers) where
-  pub start_room : (peer : List ℕ) → is_some place ≡ contains_key rows peer → start_refusal old peer ≡ None → IsRoom place n max_peers
+module _ (own : List ℕ) (max_peers started : ℕ) (rows : PeerRows) (old : Ledger) (is : record { own = own; max_peers = max_peers; started = started; rows = rows } ≡ old) (index : Option ℕ) (n : ℕ) (count : len rows ≡ n) (within : n ≤ max_peers) where
+  pub start_room : (peer : List ℕ) → is_some index ≡ contains_key rows peer → start_refusal old peer ≡ None → IsRoom index n max_peers
   start_room peer known =
-      subst (λ o. start_refusal o peer ≡ None → IsRoom place n max_peers) is (λ none.
-      room_of place (len rows) max_peers n (contains_key rows peer) known (start_full (record { own = own; max_peers = max_peers; started = started; rows = rows }) peer none) count within)
+      subst (λ o. start_refusal o peer ≡ None → IsRoom index n max_peers) is (λ none.
+      room_of index (len rows) max_peers n (contains_key rows peer) known (start_full (record { own = own; max_peers = max_peers; started = started; rows = rows }) peer none) count within)
 
-  pub birth_room : (keying : Keying) (free : Bool) → is_some place ≡ contains_key rows keying.peer → birth_refusal old keying free ≡ None → IsRoom place n max_peers
+  pub birth_room : (keying : Keying) (free : Bool) → is_some index ≡ contains_key rows keying.peer → birth_refusal old keying free ≡ None → IsRoom index n max_peers
   birth_room keying free known =
-      subst (λ o. birth_refusal o keying free ≡ None → IsRoom place n max_peers) is (λ none.
-      room_of place (len rows) max_peers n (contains_key rows keying.peer) known (birth_full (record { own = own; max_peers = max_peers; started = started; rows = rows }) keying free none) count within)
+      subst (λ o. birth_refusal o keying free ≡ None → IsRoom index n max_peers) is (λ none.
+      room_of index (len rows) max_peers n (contains_key rows keying.peer) known (birth_full (record { own = own; max_peers = max_peers; started = started; rows = rows }) keying free none) count within)

@@ -37,8 +37,8 @@ found (row ∷ rows) q =
 pub get_table : (rows : List Row) (q : List ℕ) → get (table_of rows) q ≡ kept_in (find (is_of q) rows)
 get_table rows q = get-from_entries nat_list_cmp_total (map entry_of rows) q ∙ found rows q
 
--- the place of a peer's row
-pub record IsPlace (p : List ℕ) (rows : List Row) (i : ℕ) : Type 0 where
+-- the index of a peer's row
+pub record IsIndex (p : List ℕ) (rows : List Row) (i : ℕ) : Type 0 where
   pub first : i ≡ position_or_len (is_of p) rows
   pub within : i < length rows
 
@@ -46,8 +46,8 @@ tested : (b : Bool) (n count i : ℕ) → nat_lt n count ≡ b → cond b (Some 
 tested true n count i t e = (cc, ltb-true n count t)
 tested false n count i t e = absurd (cc)
 
-pub place_is : (p : List ℕ) (rows : List Row) (i : ℕ) → position (is_of p) rows ≡ Some i → IsPlace p rows i
-place_is p rows i e =
+pub index_is : (p : List ℕ) (rows : List Row) (i : ℕ) → position (is_of p) rows ≡ Some i → IsIndex p rows i
+index_is p rows i e =
     let n = position_or_len (is_of p) rows in
     let both = tested (nat_lt n (length rows)) n (length rows) i refl e in
     record { first = both.0; within = omega (arith, both.0, both.1) }
@@ -56,25 +56,25 @@ untested : (b : Bool) (n count : ℕ) → nat_lt n count ≡ b → ◌≡◌ {A 
 untested true n count t e = absurd (cc)
 untested false n count t e = elim (cases_lt n count) [ inl lt ↦ absurd (let t' = lt-ltb n count lt in cc) | inr ge ↦ ge ]
 
-pub no_place : (p : List ℕ) (rows : List Row) → position (is_of p) rows ≡ None → find (is_of p) rows ≡ None
-no_place p rows e =
+pub no_index : (p : List ℕ) (rows : List Row) → position (is_of p) rows ≡ None → find (is_of p) rows ≡ None
+no_index p rows e =
     let n = position_or_len (is_of p) rows in
     find_at (is_of p) rows ∙ slice_get_past rows n (untested (nat_lt n (length rows)) n (length rows) refl e)
 
--- the row at the place of a peer is the peer's, and is found there
-row_is_of : (p : List ℕ) (rows : List Row) (i : ℕ) (d : Row) → IsPlace p rows i → (get_or rows i d).peer ≡ p
+-- the row at the index of a peer is the peer's, and is found there
+row_is_of : (p : List ℕ) (rows : List Row) (i : ℕ) (d : Row) → IsIndex p rows i → (get_or rows i d).peer ≡ p
 row_is_of p rows i d at =
     let first = at.first in
     let lt : position_or_len (is_of p) rows < length rows = omega (arith, at.first, at.within) in
     (bytes_eq-Decides (get_or rows i d).peer p).0 (subst (λ k. is_of p (get_or rows k d) ≡ true) (sym at.first) (passes_at_first (is_of p) rows d lt))
 
-pub row_there : (p : List ℕ) (rows : List Row) (i : ℕ) (d : Row) → IsPlace p rows i → find (is_of p) rows ≡ Some (get_or rows i d)
+pub row_there : (p : List ℕ) (rows : List Row) (i : ℕ) (d : Row) → IsIndex p rows i → find (is_of p) rows ≡ Some (get_or rows i d)
 row_there p rows i d at = find_at (is_of p) rows ∙ subst (λ k. slice_get rows k ≡ Some (get_or rows i d)) at.first (slice_get-get_or rows i d at.within)
 
 not_of : (q : List ℕ) (row : Row) → (row.peer ≡ q → ⊥) → is_of q row ≡ false
 not_of q row ne = elim (same_end row.peer q) [ inl f ↦ absurd (ne f.0) | inr f ↦ f.1 ]
 
-found_after_set : (p q : List ℕ) (rows : List Row) (i : ℕ) (new d : Row) → IsPlace p rows i → new.peer ≡ p →
+found_after_set : (p q : List ℕ) (rows : List Row) (i : ℕ) (new d : Row) → IsIndex p rows i → new.peer ≡ p →
     find (is_of q) (set rows i new) ≡ cond (bytes_eq p q) (Some new) (find (is_of q) rows)
 found_after_set p q rows i new d at same =
     let is_p : (get_or rows i d).peer ≡ p = row_is_of p rows i d at in
@@ -86,7 +86,7 @@ found_after_set p q rows i new d at same =
     ]
 
 -- a write to the row of a peer
-pub table_set : (p : List ℕ) (rows : List Row) (i : ℕ) (new d : Row) → IsPlace p rows i → new.peer ≡ p →
+pub table_set : (p : List ℕ) (rows : List Row) (i : ℕ) (new d : Row) → IsIndex p rows i → new.peer ≡ p →
     table_of (set rows i new) ≡ insert (table_of rows) p (record { held = new.held; floor = new.floor })
 table_set p rows i new d at same =
     same_rows (table_of (set rows i new)) (insert (table_of rows) p (record { held = new.held; floor = new.floor })) (λ q.
@@ -104,20 +104,20 @@ table_push rows new none =
     (found rows new.peer ∙ ap kept_in none)
 
 -- what the table says of a peer that has a row, and of one that has none
-pub row_at : (p : List ℕ) (rows : List Row) (i : ℕ) (d : Row) → IsPlace p rows i → row_in (table_of rows) p ≡ record { held = (get_or rows i d).held; floor = (get_or rows i d).floor }
+pub row_at : (p : List ℕ) (rows : List Row) (i : ℕ) (d : Row) → IsIndex p rows i → row_in (table_of rows) p ≡ record { held = (get_or rows i d).held; floor = (get_or rows i d).floor }
 row_at p rows i d at = ap row_or_blank (get_table rows p ∙ ap kept_in (row_there p rows i d at))
 
 pub row_nowhere : (p : List ℕ) (rows : List Row) → position (is_of p) rows ≡ None → row_in (table_of rows) p ≡ record { held = None; floor = 0 }
-row_nowhere p rows e = ap row_or_blank (get_table rows p ∙ ap kept_in (no_place p rows e))
+row_nowhere p rows e = ap row_or_blank (get_table rows p ∙ ap kept_in (no_index p rows e))
 
-pub known_at : (p : List ℕ) (rows : List Row) (i : ℕ) (d : Row) → IsPlace p rows i → contains_key (table_of rows) p ≡ true
+pub known_at : (p : List ℕ) (rows : List Row) (i : ℕ) (d : Row) → IsIndex p rows i → contains_key (table_of rows) p ≡ true
 known_at p rows i d at = ap is_some (get_table rows p ∙ ap kept_in (row_there p rows i d at))
 
 pub known_nowhere : (p : List ℕ) (rows : List Row) → position (is_of p) rows ≡ None → contains_key (table_of rows) p ≡ false
-known_nowhere p rows e = ap is_some (get_table rows p ∙ ap kept_in (no_place p rows e))
+known_nowhere p rows e = ap is_some (get_table rows p ∙ ap kept_in (no_index p rows e))
 
 -- The list stays a table.
-pub table_kept : (p : List ℕ) (rows : List Row) (i : ℕ) (new d : Row) (max_peers : ℕ) → IsPlace p rows i → new.peer ≡ p → IsTable rows max_peers → IsTable (set rows i new) max_peers
+pub table_kept : (p : List ℕ) (rows : List Row) (i : ℕ) (new d : Row) (max_peers : ℕ) → IsIndex p rows i → new.peer ≡ p → IsTable rows max_peers → IsTable (set rows i new) max_peers
 table_kept p rows i new d max_peers at same table =
     let value : PeerRow = record { held = new.held; floor = new.floor } in
     let count : len (insert (table_of rows) p value) ≡ len (table_of rows) = len_inserted (table_of rows) p value ∙ ap (λ b. cond b (len (table_of rows)) (len (table_of rows) + 1)) (known_at p rows i d at) in
@@ -131,20 +131,20 @@ table_grown rows new max_peers none room table =
     let value : PeerRow = record { held = new.held; floor = new.floor } in
     let count : len (insert (table_of rows) new.peer value) ≡ len (table_of rows) + 1 = len_inserted (table_of rows) new.peer value ∙ ap (λ b. cond b (len (table_of rows)) (len (table_of rows) + 1)) (known_nowhere new.peer rows none) in
     record {
-      distinct = ap len (table_push rows new (no_place new.peer rows none)) ∙ count ∙ ap (λ n. n + 1) table.distinct ∙ sym (length-append rows (new ∷ []));
+      distinct = ap len (table_push rows new (no_index new.peer rows none)) ∙ count ∙ ap (λ n. n + 1) table.distinct ∙ sym (length-append rows (new ∷ []));
       within = omega (arith, length-append rows (new ∷ []));
     }
 
--- What is known of a peer, at its place and where it has none.
+-- What is known of a peer, at its index and where it has none.
 module _ (p : List ℕ) (rows : List Row) where
   pub seat_held : (i : ℕ) (d : Row) → Some i ≡ position (is_of p) rows → (get_or rows i d).held ≡ (row_in (table_of rows) p).held
-  seat_held i d e = sym (ap (λ (r : PeerRow). r.held) (row_at p rows i d (place_is p rows i (sym e))))
+  seat_held i d e = sym (ap (λ (r : PeerRow). r.held) (row_at p rows i d (index_is p rows i (sym e))))
 
   pub seat_floor : (i : ℕ) (d : Row) → Some i ≡ position (is_of p) rows → (get_or rows i d).floor ≡ (row_in (table_of rows) p).floor
-  seat_floor i d e = sym (ap (λ (r : PeerRow). r.floor) (row_at p rows i d (place_is p rows i (sym e))))
+  seat_floor i d e = sym (ap (λ (r : PeerRow). r.floor) (row_at p rows i d (index_is p rows i (sym e))))
 
   pub seat_known : (i : ℕ) (d : Row) → Some i ≡ position (is_of p) rows → true ≡ contains_key (table_of rows) p
-  seat_known i d e = sym (known_at p rows i d (place_is p rows i (sym e)))
+  seat_known i d e = sym (known_at p rows i d (index_is p rows i (sym e)))
 
   pub blank_held : None ≡ position (is_of p) rows → None ≡ (row_in (table_of rows) p).held
   blank_held e = sym (ap (λ (r : PeerRow). r.held) (row_nowhere p rows (sym e)))
@@ -160,14 +160,14 @@ pub table_noted : (fact : Fact) (rows : List Row) (i : ℕ) (new d : Row) → po
     new.held ≡ after fact (get_or rows i d).held → new.floor ≡ max (seen_in fact) (get_or rows i d).floor → table_of (set rows i new) ≡ rows_after fact (table_of rows)
 table_noted fact rows i new d e same held floor =
     let p = peer_of fact in
-    let at = place_is p rows i e in
+    let at = index_is p rows i e in
     let here : ◌≡◌ {A = PeerRow} (record { held = new.held; floor = new.floor }) (row_after fact (row_in (table_of rows) p)) =
     λ j. record { held = (held ∙ ap (after fact) (seat_held p rows i d (sym e))) j; floor = (floor ∙ ap (max (seen_in fact)) (seat_floor p rows i d (sym e))) j } in
     table_set p rows i new d at (same ∙ row_is_of p rows i d at) ∙ ap (insert (table_of rows) p) here
 
 pub table_still : (p : List ℕ) (rows : List Row) (i : ℕ) (new d : Row) → position (is_of p) rows ≡ Some i → new.peer ≡ (get_or rows i d).peer →
     (max_peers : ℕ) → IsTable rows max_peers → IsTable (set rows i new) max_peers
-table_still p rows i new d e same max_peers table = let at = place_is p rows i e in table_kept p rows i new d max_peers at (same ∙ row_is_of p rows i d at) table
+table_still p rows i new d e same max_peers table = let at = index_is p rows i e in table_kept p rows i new d max_peers at (same ∙ row_is_of p rows i d at) table
 
 -- What a fact leaves, once it is written to a new row.
 pub table_added : (fact : Fact) (rows : List Row) (new : Row) → position (is_of (peer_of fact)) rows ≡ None → new.peer ≡ peer_of fact →
@@ -176,7 +176,7 @@ table_added fact rows new e same held floor =
     let p = peer_of fact in
     let here : ◌≡◌ {A = PeerRow} (record { held = new.held; floor = new.floor }) (row_after fact (row_in (table_of rows) p)) =
     λ j. record { held = (held ∙ ap (after fact) (blank_held p rows (sym e))) j; floor = (floor ∙ ap (max (seen_in fact)) (blank_floor p rows (sym e))) j } in
-    let none : find (is_of new.peer) rows ≡ None = subst (λ q. find (is_of q) rows ≡ None) (sym same) (no_place p rows e) in
+    let none : find (is_of new.peer) rows ≡ None = subst (λ q. find (is_of q) rows ≡ None) (sym same) (no_index p rows e) in
     table_push rows new none ∙ ap (λ q. insert (table_of rows) q (record { held = new.held; floor = new.floor })) same ∙ ap (insert (table_of rows) p) here
 
 pub table_more : (p : List ℕ) (rows : List Row) (new : Row) → position (is_of p) rows ≡ None → new.peer ≡ p →
@@ -184,7 +184,7 @@ pub table_more : (p : List ℕ) (rows : List Row) (new : Row) → position (is_o
 table_more p rows new e same max_peers room table =
     table_grown rows new max_peers (subst (λ q. position (is_of q) rows ≡ None) (sym same) e) room table
 
--- The place of the peer stays.
-pub place_noted : (p : List ℕ) (rows : List Row) (i : ℕ) (new d : Row) → position (is_of p) rows ≡ Some i → new.peer ≡ (get_or rows i d).peer → position (is_of p) (set rows i new) ≡ Some i
-place_noted p rows i new d e same =
+-- The index of the peer stays.
+pub index_noted : (p : List ℕ) (rows : List Row) (i : ℕ) (new d : Row) → position (is_of p) rows ≡ Some i → new.peer ≡ (get_or rows i d).peer → position (is_of p) (set rows i new) ≡ Some i
+index_noted p rows i new d e same =
     rw (position_or_len-set (is_of p) rows i new d (ap (λ q. bytes_eq q p) same), length-set rows i new) e

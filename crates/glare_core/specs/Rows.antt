@@ -20,7 +20,7 @@ pub record IsTable (rows : List Row) (max_peers : ℕ) : Type 0 where
   pub distinct : len (table_of rows) ≡ length rows
   pub within : length rows ≤ max_peers
 
--- There is a place for what has none yet.
+-- There is room for what has none yet.
 abbrev pub IsRoom : Option ℕ → ℕ → ℕ → Type 0
 IsRoom None rows max_peers = rows < max_peers
-IsRoom (Some place) rows max_peers = Unit {0}
+IsRoom (Some index) rows max_peers = Unit {0}

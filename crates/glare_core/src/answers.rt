@@ -59,6 +59,6 @@ pub enum HearRefusal {
     PeersFull(u64),
     /// There is no memory for the peer's row.
     Memory,
-    /// Nothing is held with the peer, and there is no place for a session.
+    /// Nothing is held with the peer, and there is no room for a session.
     SessionsFull,
 }

@@ -4,6 +4,7 @@
 
 mod answers;
 mod checks;
+pub mod edges;
 mod facts;
 mod given;
 pub mod laws;

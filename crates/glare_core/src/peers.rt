@@ -16,7 +16,7 @@ ghost use Rattle.glare_core.specs.Account.{StandsFor, Gave};
 use crate::answers::{HearRefusal, Heard, Keying, StartRefusal};
 use crate::facts::{Fact, Held, Joined, Why};
 use crate::given::{again, confirmed_fact, ended_fact, glare, near_of, opened_fact, way_made};
-use crate::rows::{Row, Seat, note_after, note_if, place_of, seat_of};
+use crate::rows::{Row, Seat, note_after, note_if, index_of, seat_of};
 use std::alloc::Global;
 use std::marker::Model;
 
@@ -68,10 +68,10 @@ impl Peers {
 
     /// The number of rows, where the peer has none and there are as many as may be.
     fn full_for(&self, seat: &Seat) -> Option<u64>
-        ensures { result ≡ where_true (not (is_some seat.now.place)
+        ensures { result ≡ where_true (not (is_some seat.now.index)
             && (row_count self.now == self.now.max_peers)) (row_count self.now) }
     {
-        if seat.place.is_none() && self.rows.len() == self.max_peers as usize {
+        if seat.index.is_none() && self.rows.len() == self.max_peers as usize {
             Some(self.rows.len() as u64)
         } else {
             None
@@ -81,7 +81,7 @@ impl Peers {
     /// Why no attempt towards the peer starts, but for want of memory.
     fn refusal_at(&self, peer: &[u8; 32], seat: &Seat) -> Option<StartRefusal>
         requires held { seat.now.held ≡ held_with self.now peer.now }
-        requires known { is_some seat.now.place ≡ knows self.now peer.now }
+        requires known { is_some seat.now.index ≡ knows self.now peer.now }
         ensures { result ≡ start_refusal self.now peer.now }
     {
         if *peer == self.own {
@@ -137,7 +137,7 @@ impl Peers {
             near,
             ni,
         };
-        match note_after(&mut self.rows, seat.place, &None, &fact) {
+        match note_after(&mut self.rows, seat.index, &None, &fact) {
             Ok(()) => {
                 self.started += 1;
                 Ok(fact)
@@ -150,7 +150,7 @@ impl Peers {
     fn birth_refusal(&self, keying: &Keying, seat: &Seat, free: bool) -> Option<HearRefusal>
         requires held { seat.now.held ≡ held_with self.now keying.now.peer }
         requires floor { seat.now.floor ≡ floor_of self.now keying.now.peer }
-        requires known { is_some seat.now.place ≡ knows self.now keying.now.peer }
+        requires known { is_some seat.now.index ≡ knows self.now keying.now.peer }
         ensures { result ≡ birth_refusal self.now keying.now free }
     {
         if keying.n <= seat.floor {
@@ -182,7 +182,7 @@ impl Peers {
     }
 
     /// Hears a keying of a peer that isn't this end, whose near id and responder nonce for a
-    /// session are given; `free` says whether there is a place for one.
+    /// session are given; `free` says whether there is room for one.
     ///
     /// It gives Again exactly where the held session was born of this very keying, and else, where
     /// nothing refuses it, the birth of a session: a held attempt ends with Glare, a held session
@@ -225,7 +225,7 @@ impl Peers {
             k: self.started,
         });
         let ended = way_made(&keying.peer, &seat.held);
-        match note_after(&mut self.rows, seat.place, &ended, &born) {
+        match note_after(&mut self.rows, seat.index, &ended, &born) {
             Ok(()) => Ok(Heard::Birth { ended, born }),
             Err(_) => Err(HearRefusal::Memory),
         }
@@ -241,7 +241,7 @@ impl Peers {
     {
         let seat = seat_of(&self.rows, peer);
         let fact = opened_fact(&seat.held, peer, nr, far, k);
-        note_if(&mut self.rows, seat.place, &fact);
+        note_if(&mut self.rows, seat.index, &fact);
         fact
     }
 
@@ -255,7 +255,7 @@ impl Peers {
     {
         let seat = seat_of(&self.rows, peer);
         let fact = confirmed_fact(&seat.held, peer);
-        note_if(&mut self.rows, seat.place, &fact);
+        note_if(&mut self.rows, seat.index, &fact);
         fact
     }
 
@@ -273,7 +273,7 @@ impl Peers {
     {
         let seat = seat_of(&self.rows, peer);
         let fact = ended_fact(&seat.held, peer, why);
-        note_if(&mut self.rows, seat.place, &fact);
+        note_if(&mut self.rows, seat.index, &fact);
         fact
     }
 
@@ -283,8 +283,8 @@ impl Peers {
         ensures facts { (from : ℕ) (facts : List Fact) → StandsFor from self.now facts →
             option_copied result ≡ held peer.now facts }
     {
-        match place_of(&self.rows, peer) {
-            Some(place) => self.rows[place].held.as_ref(),
+        match index_of(&self.rows, peer) {
+            Some(index) => self.rows[index].held.as_ref(),
             None => None,
         }
     }
@@ -313,7 +313,7 @@ impl Peers {
         ensures facts { (from : ℕ) (facts : List Fact) → StandsFor from self.now facts →
             result ≡ list_any (bytes_eq peer.now) (peers_in facts) }
     {
-        seat_of(&self.rows, peer).place.is_some()
+        seat_of(&self.rows, peer).index.is_some()
     }
 
     /// The number of rows. Rows are kept for good.

@@ -19,16 +19,16 @@ pub(crate) struct Row {
     pub(crate) floor: u64,
 }
 
-/// What is known of a peer: the place of its row, and what is in it.
+/// What is known of a peer: the index of its row, and what is in it.
 #[derive(Clone, Copy)]
 pub(crate) struct Seat {
-    pub(crate) place: Option<usize>,
+    pub(crate) index: Option<usize>,
     pub(crate) held: Option<Held>,
     pub(crate) floor: u64,
 }
 
-/// The place of the peer's row.
-pub(crate) fn place_of(rows: &[Row], peer: &[u8; 32]) -> Option<usize>
+/// The index of the peer's row.
+pub(crate) fn index_of(rows: &[Row], peer: &[u8; 32]) -> Option<usize>
     ensures { result ≡ position (is_of peer.now) rows.now }
 {
     rows.iter().position(|row| row.peer == *peer)
@@ -36,20 +36,20 @@ pub(crate) fn place_of(rows: &[Row], peer: &[u8; 32]) -> Option<usize>
 
 /// What is known of the peer.
 pub(crate) fn seat_of(rows: &[Row], peer: &[u8; 32]) -> Seat
-    ensures place { result.place ≡ position (is_of peer.now) rows.now }
+    ensures index { result.index ≡ position (is_of peer.now) rows.now }
     ensures held { result.held ≡ (row_in (table_of rows.now) peer.now).held }
     ensures floor { result.floor ≡ (row_in (table_of rows.now) peer.now).floor }
-    ensures known { is_some result.place ≡ contains_key (table_of rows.now) peer.now }
-    ensures holds { IsSome result.held → IsSome result.place }
+    ensures known { is_some result.index ≡ contains_key (table_of rows.now) peer.now }
+    ensures holds { IsSome result.held → IsSome result.index }
 {
-    match place_of(rows, peer) {
-        Some(place) => Seat {
-            place: Some(place),
-            held: rows[place].held,
-            floor: rows[place].floor,
+    match index_of(rows, peer) {
+        Some(index) => Seat {
+            index: Some(index),
+            held: rows[index].held,
+            floor: rows[index].floor,
         },
         None => Seat {
-            place: None,
+            index: None,
             held: None,
             floor: 0,
         },
@@ -68,28 +68,28 @@ pub(crate) fn row_after(fact: &Fact, before: Row) -> Row
     row
 }
 
-/// Notes a fact in the row of its peer, which stands at this place.
-pub(crate) fn note(rows: &mut Vec<Row>, place: usize, fact: &Fact)
-    requires { position (is_of (peer_of fact.now)) rows.old.items ≡ Some place }
+/// Notes a fact in the row of its peer, which stands at this index.
+pub(crate) fn note(rows: &mut Vec<Row>, index: usize, fact: &Fact)
+    requires { position (is_of (peer_of fact.now)) rows.old.items ≡ Some index }
     ensures table { table_of rows.new.items ≡ rows_after fact.now (table_of rows.old.items) }
-    ensures place { position (is_of (peer_of fact.now)) rows.new.items ≡ Some place }
+    ensures index { position (is_of (peer_of fact.now)) rows.new.items ≡ Some index }
     ensures kept { (max_peers : ℕ) → IsTable rows.old.items max_peers →
         IsTable rows.new.items max_peers }
 {
-    let row = row_after(fact, rows[place]);
-    rows[place] = row;
+    let row = row_after(fact, rows[index]);
+    rows[index] = row;
 }
 
-/// Notes a fact, where there is one; its peer's row stands at this place.
-pub(crate) fn note_if(rows: &mut Vec<Row>, place: Option<usize>, fact: &Option<Fact>)
-    requires { IfSome fact.now (λ fact. (place ≡ position (is_of (peer_of fact)) rows.old.items) ×
-        IsSome place) }
+/// Notes a fact, where there is one; its peer's row stands at this index.
+pub(crate) fn note_if(rows: &mut Vec<Row>, index: Option<usize>, fact: &Option<Fact>)
+    requires { IfSome fact.now (λ fact. (index ≡ position (is_of (peer_of fact)) rows.old.items) ×
+        IsSome index) }
     ensures table { table_of rows.new.items ≡ rows_after_if fact.now (table_of rows.old.items) }
     ensures kept { (max_peers : ℕ) → IsTable rows.old.items max_peers →
         IsTable rows.new.items max_peers }
 {
-    if let (Some(place), Some(fact)) = (place, fact) {
-        note(rows, place, fact);
+    if let (Some(index), Some(fact)) = (index, fact) {
+        note(rows, index, fact);
     }
 }
 
@@ -116,28 +116,28 @@ pub(crate) fn add(rows: &mut Vec<Row>, fact: &Fact) -> Result<(), AllocError>
 /// one.
 pub(crate) fn note_after(
     rows: &mut Vec<Row>,
-    place: Option<usize>,
+    index: Option<usize>,
     ended: &Option<Fact>,
     fact: &Fact,
 ) -> Result<(), AllocError>
-    requires place { place ≡ position (is_of (peer_of fact.now)) rows.old.items }
+    requires index { index ≡ position (is_of (peer_of fact.now)) rows.old.items }
     requires peer { IfSome ended.now (λ end. peer_of end ≡ peer_of fact.now) }
-    requires known { IsSome ended.now → IsSome place }
+    requires known { IsSome ended.now → IsSome index }
     ensures table { OnOk result (table_of rows.new.items
         ≡ rows_after fact.now (rows_after_if ended.now (table_of rows.old.items))) }
-    ensures kept { (max_peers : ℕ) → IsRoom place (length rows.old.items) max_peers →
+    ensures kept { (max_peers : ℕ) → IsRoom index (length rows.old.items) max_peers →
         IsTable rows.old.items max_peers → IsTable rows.new.items max_peers }
     ensures err { OnErr result (rows.new.items ≡ rows.old.items) }
-    ensures takes_none { IsSome place → IsOk result }
+    ensures takes_none { IsSome index → IsOk result }
 {
-    match (place, ended) {
-        (Some(place), Some(ended)) => {
-            note(rows, place, ended);
-            note(rows, place, fact);
+    match (index, ended) {
+        (Some(index), Some(ended)) => {
+            note(rows, index, ended);
+            note(rows, index, fact);
             Ok(())
         }
-        (Some(place), None) => {
-            note(rows, place, fact);
+        (Some(index), None) => {
+            note(rows, index, fact);
             Ok(())
         }
         (None, _) => add(rows, fact),

@@ -2,7 +2,7 @@
 use Rattle.std.specs.Prelude.{ℕ, List, [], ◌∷◌, ◌≢◌, ◌⊎◌, Bool, true, false, ◌||◌, ◌&&◌, nat_lt,
     ◌==◌, IsTrue}
 
--- Whether the list x is above the list y in byte order: at the first place where they differ x has
+-- Whether the list x is above the list y in byte order: at the first index where they differ x has
 -- the greater byte, or y ends there.
 abbrev pub is_above : List ℕ → List ℕ → Bool
 is_above [] ys = false

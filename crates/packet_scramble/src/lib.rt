@@ -13,7 +13,7 @@ ghost use Rattle.packet_scramble.specs.Datagram.{datagram, first_word, second_wo
 pub mod edges;
 pub mod laws;
 
-// A sealed part's byte at a place, 0 past its end.
+// A sealed part's byte at an offset, 0 past its end.
 fn byte_at(sealed: &[u8], at: usize) -> u8
     ensures { result ≡ slice_index sealed.now at }
 {

@@ -1,21 +1,13 @@
-//! Tests of the profile, of identities and cookies, of what ends hold with each other, of sessions
-//! and of startup: values of other programs, and calls one after another. They use public items
-//! alone.
+//! Tests of the profile, of identities and cookies, of sessions and of startup: values of other
+//! programs, through public items alone. `scripts/baseline/vectors.py` prints the lines that stand
+//! here as texts. The edges of the rules are rows of the crates' own modules `edges`.
 #![tactic(auto)]
 
 #[cfg(test)]
-mod attempts;
-#[cfg(test)]
-mod certificates;
-#[cfg(test)]
-mod cookie;
-#[cfg(test)]
-mod keyings;
-#[cfg(test)]
-mod ledger;
+mod lines;
 #[cfg(test)]
 mod profile;
 #[cfg(test)]
-mod scrambling;
-#[cfg(test)]
 mod session;
+#[cfg(test)]
+mod startup;

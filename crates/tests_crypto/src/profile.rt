@@ -1,42 +1,72 @@
-//! Outside vectors of the profile, and a replay window at its limits.
+//! HMACs, keys, a sealed part, cookies and fingerprints.
 
-use crypto_profile::{
-    Context, Keys, ReplayWindow, SealFault, Seen, hmac, open_in_place, seal_in_place, sign_key,
-};
+use crate::lines::put;
+use cookies::CookieMaker;
+use crypto_profile::{Context, Keys, hmac, open_in_place, seal_in_place, sign_key};
+use identity::Certificate;
+use rtmfp_forms::Address;
+use std::alloc::Global;
+use std::test::Fail;
 
-// The test cases of RFC 4231, in its order. The fifth gives 16 bytes alone.
-#[test]
-fn hmac_is_that_of_rfc_4231(rt: HostRuntime) {
-    let counting =
-        b"\x01\x02\x03\x04\x05\x06\x07\x08\x09\x0a\x0b\x0c\x0d\x0e\x0f\x10\x11\x12\x13\x14\x15\x16\x17\x18\x19";
-    let long_text =
-        b"This is a test using a larger than block-size key and a larger than block-size data. The key needs to be hashed before being used by the HMAC algorithm.";
-    let macs = [
-        hmac(&[0x0b; 20], b"Hi There"),
-        hmac(b"Jefe", b"what do ya want for nothing?"),
-        hmac(&[0xaa; 20], &[0xdd; 50]),
-        hmac(counting, &[0xcd; 50]),
-        hmac(
-            &[0xaa; 131],
-            b"Test Using Larger Than Block-Size Key - Hash Key First",
-        ),
-        hmac(&[0xaa; 131], long_text),
-    ];
-    let expected = [
-        *b"\xb0\x34\x4c\x61\xd8\xdb\x38\x53\x5c\xa8\xaf\xce\xaf\x0b\xf1\x2b\x88\x1d\xc2\x00\xc9\x83\x3d\xa7\x26\xe9\x37\x6c\x2e\x32\xcf\xf7",
-        *b"\x5b\xdc\xc1\x46\xbf\x60\x75\x4e\x6a\x04\x24\x26\x08\x95\x75\xc7\x5a\x00\x3f\x08\x9d\x27\x39\x83\x9d\xec\x58\xb9\x64\xec\x38\x43",
-        *b"\x77\x3e\xa9\x1e\x36\x80\x0e\x46\x85\x4d\xb8\xeb\xd0\x91\x81\xa7\x29\x59\x09\x8b\x3e\xf8\xc1\x22\xd9\x63\x55\x14\xce\xd5\x65\xfe",
-        *b"\x82\x55\x8a\x38\x9a\x44\x3c\x0e\xa4\xcc\x81\x98\x99\xf2\x08\x3a\x85\xf0\xfa\xa3\xe5\x78\xf8\x07\x7a\x2e\x3f\xf4\x67\x29\x66\x5b",
-        *b"\x60\xe4\x31\x59\x1e\xe0\xb6\x7f\x0d\x8a\x26\xaa\xcb\xf5\xb7\x7f\x8e\x0b\xc6\x21\x37\x28\xc5\x14\x05\x46\x04\x0f\x0e\xe3\x7f\x54",
-        *b"\x9b\x09\xff\xa7\x1b\x94\x2f\xcb\x27\x63\x5f\xbc\xd5\xb0\xe9\x44\xbf\xdc\x63\x64\x4f\x07\x13\x93\x8a\x7f\x51\x53\x5c\x3a\x35\xe2",
-    ];
-    assert!(rt; macs == expected);
-    let truncated = hmac(&[0x0c; 20], b"Test With Truncation");
-    let first_half = b"\xa3\xb6\x16\x74\x73\x10\x0e\xe0\x6e\x0c\x79\x6c\x29\x55\x55\x2b";
-    assert!(rt; truncated[..16] == first_half[..]);
+/// The test cases of RFC 4231, in its order: a key, a text, and what their HMAC begins with.
+const HMACS: &str =
+    "0b0b0b0b0b0b0b0b0b0b0b0b0b0b0b0b0b0b0b0b 4869205468657265 b0344c61d8db38535ca8afceaf0bf12b881dc200c9833da726e9376c2e32cff7
+4a656665 7768617420646f2079612077616e7420666f72206e6f7468696e673f 5bdcc146bf60754e6a042426089575c75a003f089d2739839dec58b964ec3843
+aaaaaaaaaaaaaaaaaaaaaaaaaaaaaaaaaaaaaaaa dddddddddddddddddddddddddddddddddddddddddddddddddddddddddddddddddddddddddddddddddddddddddddddddddddd 773ea91e36800e46854db8ebd09181a72959098b3ef8c122d9635514ced565fe
+0102030405060708090a0b0c0d0e0f10111213141516171819 cdcdcdcdcdcdcdcdcdcdcdcdcdcdcdcdcdcdcdcdcdcdcdcdcdcdcdcdcdcdcdcdcdcdcdcdcdcdcdcdcdcdcdcdcdcdcdcdcdcd 82558a389a443c0ea4cc819899f2083a85f0faa3e578f8077a2e3ff46729665b
+0c0c0c0c0c0c0c0c0c0c0c0c0c0c0c0c0c0c0c0c 546573742057697468205472756e636174696f6e a3b6167473100ee06e0c796c2955552b
+aaaaaaaaaaaaaaaaaaaaaaaaaaaaaaaaaaaaaaaaaaaaaaaaaaaaaaaaaaaaaaaaaaaaaaaaaaaaaaaaaaaaaaaaaaaaaaaaaaaaaaaaaaaaaaaaaaaaaaaaaaaaaaaaaaaaaaaaaaaaaaaaaaaaaaaaaaaaaaaaaaaaaaaaaaaaaaaaaaaaaaaaaaaaaaaaaaaaaaaaaaaaaaaaaaaaaaaaaaaaaaaaaaaaaaaaaaaaaaaaaaaaaaaaaaaaaaaaaaaaaa 54657374205573696e67204c6172676572205468616e20426c6f636b2d53697a65204b6579202d2048617368204b6579204669727374 60e431591ee0b67f0d8a26aacbf5b77f8e0bc6213728c5140546040f0ee37f54
+aaaaaaaaaaaaaaaaaaaaaaaaaaaaaaaaaaaaaaaaaaaaaaaaaaaaaaaaaaaaaaaaaaaaaaaaaaaaaaaaaaaaaaaaaaaaaaaaaaaaaaaaaaaaaaaaaaaaaaaaaaaaaaaaaaaaaaaaaaaaaaaaaaaaaaaaaaaaaaaaaaaaaaaaaaaaaaaaaaaaaaaaaaaaaaaaaaaaaaaaaaaaaaaaaaaaaaaaaaaaaaaaaaaaaaaaaaaaaaaaaaaaaaaaaaaaaaaaaaaaaa 5468697320697320612074657374207573696e672061206c6172676572207468616e20626c6f636b2d73697a65206b657920616e642061206c6172676572207468616e20626c6f636b2d73697a6520646174612e20546865206b6579206e6565647320746f20626520686173686564206265666f7265206265696e6720757365642062792074686520484d414320616c676f726974686d2e 9b09ffa71b942fcb27635fbcd5b0e944bfdc63644f0713938a7f51535c3a35e2
+";
+
+/// The fingerprints of certificates.
+const PRINTS: &str =
+    "d7a8fbb307d7809469ca9abcb0082e4f8d5651e46d3cdb762d02d0bf37c9e592 The quick brown fox jumps over the lazy dog
+ef537f25c895bfa782526529a9b63d97aa631564d5d789c2b765448c8635fb6c The quick brown fox jumps over the lazy dog.
+248d6a61d20638b8e5c026930c3e6039a33ce45964ff2167f6ecedd419db06c1 abcdbcdecdefdefgefghfghighijhijkijkljklmklmnlmnomnopnopq
+";
+
+const VALUES: &str = "startup-enc 8ffe2c06726fdcf2ff588649137b431537f3942e55b49b0e6efd2db36882e39e
+startup-mac a4bdf7fa339488ff9d577b9d5b7b09a6e1bab067fec61b2f5fd9ce0f4a26093f
+sign e952c5bd24f02ff6718a08ba5e484696a12800fcb2517042a8f91e38d85f7078
+session-enc-i 63716d5d2c302d2765579a0d706adeeab64e067f30c902af1fb7528b5df491bd
+session-mac-i 2625884312c5c3065e904103a59efb1ba951aa0c9c281da4419d17a150d6668f
+session-enc-r 40e998d64442c5f94bfa41aa4defdf66f084e4a4a00a74238473e0f91d265f2b
+session-mac-r 073e23ab890285870eb9111991301c22e23cd46513699a06338464785aaf6aed
+sealed-of-70 7bdd32f626a1784b7e4853474188a85d000000000000000000000000000000098c694f46591449f2b0f3f97b62d7a34a3cd9408dfd167c057d05447468813c77a9e2af0025b1a0bc244b9d19edca6322207d7e28af37cc0542e04c306521c8fd6740902766c6
+cookie-v4 00000000000003e8020a000001078f7363e3130b3dc89c20184680d6916150
+cookie-v6 000001000000000082000102030405060708090a0b0c0d0e0fffff3ffd7264c980cca97de10c6c503bb694
+";
+
+/// The first case whose HMAC is another.
+fn first_wrong(alloc: Global) -> Result<Option<&'static str>, Fail> {
+    for case in HMACS.lines() {
+        let (key, rest) = case.split_once(' ').unwrap_or(("", ""));
+        let (text, mac) = rest.split_once(' ').unwrap_or(("", ""));
+        let key = hex::decode(alloc, key.as_bytes()).ok().ok_or("a key")?;
+        let text = hex::decode(alloc, text.as_bytes()).ok().ok_or("a text")?;
+        let told = hex::encode(alloc, &hmac(key.as_slice(), text.as_slice()))?;
+        if mac.is_empty() || !told.as_str().starts_with(mac) {
+            return Ok(Some(case));
+        }
+    }
+    Ok(None)
 }
 
-fn secret() -> [u8; 32] {
+/// The first certificate whose fingerprint is another.
+fn first_misnamed(alloc: Global) -> Result<Option<&'static str>, Fail> {
+    for line in PRINTS.lines() {
+        let (print, cert) = line.split_once(' ').unwrap_or(("", ""));
+        let cert = Certificate::read(cert.as_bytes())?;
+        if hex::encode(alloc, &cert.print())?.as_str() != print {
+            return Ok(Some(line));
+        }
+    }
+    Ok(None)
+}
+
+/// The bytes 0 to 31.
+pub(crate) fn secret() -> [u8; 32] {
     *b"\x00\x01\x02\x03\x04\x05\x06\x07\x08\x09\x0a\x0b\x0c\x0d\x0e\x0f\x10\x11\x12\x13\x14\x15\x16\x17\x18\x19\x1a\x1b\x1c\x1d\x1e\x1f"
 }
 
@@ -52,43 +82,21 @@ fn session(to_responder: bool) -> Context {
     }
 }
 
-// The values are those of another program, over Python's hmac.
-#[test]
-fn keys_are_those_of_another_program(rt: HostRuntime) {
+fn put_keys(alloc: Global, lines: &mut String) -> Result<(), Fail> {
     let startup = Keys::of(&secret(), &Context::Startup);
-    assert!(rt;
-        *startup.enc()
-            == *b"\x8f\xfe\x2c\x06\x72\x6f\xdc\xf2\xff\x58\x86\x49\x13\x7b\x43\x15\x37\xf3\x94\x2e\x55\xb4\x9b\x0e\x6e\xfd\x2d\xb3\x68\x82\xe3\x9e"
-    );
-    assert!(rt;
-        *startup.mac()
-            == *b"\xa4\xbd\xf7\xfa\x33\x94\x88\xff\x9d\x57\x7b\x9d\x5b\x7b\x09\xa6\xe1\xba\xb0\x67\xfe\xc6\x1b\x2f\x5f\xd9\xce\x0f\x4a\x26\x09\x3f"
-    );
+    put(alloc, "startup-enc", startup.enc(), lines)?;
+    put(alloc, "startup-mac", startup.mac(), lines)?;
+    put(alloc, "sign", &sign_key(&secret()), lines)?;
     let there = Keys::of(&secret(), &session(true));
-    assert!(rt;
-        *there.enc()
-            == *b"\x63\x71\x6d\x5d\x2c\x30\x2d\x27\x65\x57\x9a\x0d\x70\x6a\xde\xea\xb6\x4e\x06\x7f\x30\xc9\x02\xaf\x1f\xb7\x52\x8b\x5d\xf4\x91\xbd"
-    );
-    assert!(rt;
-        *there.mac()
-            == *b"\x26\x25\x88\x43\x12\xc5\xc3\x06\x5e\x90\x41\x03\xa5\x9e\xfb\x1b\xa9\x51\xaa\x0c\x9c\x28\x1d\xa4\x41\x9d\x17\xa1\x50\xd6\x66\x8f"
-    );
+    put(alloc, "session-enc-i", there.enc(), lines)?;
+    put(alloc, "session-mac-i", there.mac(), lines)?;
     let back = Keys::of(&secret(), &session(false));
-    assert!(rt;
-        *back.enc()
-            == *b"\x40\xe9\x98\xd6\x44\x42\xc5\xf9\x4b\xfa\x41\xaa\x4d\xef\xdf\x66\xf0\x84\xe4\xa4\xa0\x0a\x74\x23\x84\x73\xe0\xf9\x1d\x26\x5f\x2b"
-    );
-    assert!(rt;
-        *back.mac()
-            == *b"\x07\x3e\x23\xab\x89\x02\x85\x87\x0e\xb9\x11\x19\x91\x30\x1c\x22\xe2\x3c\xd4\x65\x13\x69\x9a\x06\x33\x84\x64\x78\x5a\xaf\x6a\xed"
-    );
-    assert!(rt;
-        sign_key(&secret())
-            == *b"\xe9\x52\xc5\xbd\x24\xf0\x2f\xf6\x71\x8a\x08\xba\x5e\x48\x46\x96\xa1\x28\x00\xfc\xb2\x51\x70\x42\xa8\xf9\x1e\x38\xd8\x5f\x70\x78"
-    );
+    put(alloc, "session-enc-r", back.enc(), lines)?;
+    put(alloc, "session-mac-r", back.mac(), lines)?;
+    Ok(())
 }
 
-// A buffer whose plain packet is the bytes 0 to 69.
+/// A buffer whose plain packet is the bytes 0 to 69.
 fn counting_buffer() -> [u8; 102] {
     let mut buf = [0u8; 102];
     for i in 0..70 {
@@ -97,44 +105,54 @@ fn counting_buffer() -> [u8; 102] {
     buf
 }
 
-#[test]
-fn a_sealed_part_is_that_of_another_program_and_opens(rt: HostRuntime) {
+/// A sealed part that opens.
+fn put_sealed(alloc: Global, lines: &mut String) -> Result<(), Fail> {
     let keys = Keys::of(&secret(), &session(true));
     let mut buf = counting_buffer();
-    let number = [0, 0, 0, 0, 0, 0, 0, 0, 0, 0, 0, 0, 0, 0, 0, 9];
+    let mut number = [0; 16];
+    number[15] = 9;
     seal_in_place(&keys, 7, number, &mut buf);
-    let sealed =
-        b"\x7b\xdd\x32\xf6\x26\xa1\x78\x4b\x7e\x48\x53\x47\x41\x88\xa8\x5d\x00\x00\x00\x00\x00\x00\x00\x00\x00\x00\x00\x00\x00\x00\x00\x09\x8c\x69\x4f\x46\x59\x14\x49\xf2\xb0\xf3\xf9\x7b\x62\xd7\xa3\x4a\x3c\xd9\x40\x8d\xfd\x16\x7c\x05\x7d\x05\x44\x74\x68\x81\x3c\x77\xa9\xe2\xaf\x00\x25\xb1\xa0\xbc\x24\x4b\x9d\x19\xed\xca\x63\x22\x20\x7d\x7e\x28\xaf\x37\xcc\x05\x42\xe0\x4c\x30\x65\x21\xc8\xfd\x67\x40\x90\x27\x66\xc6";
-    assert!(rt; buf[..] == sealed[..]);
-    assert!(rt; open_in_place(&keys, 7, &mut buf) == Ok(32..102));
-    assert!(rt; buf[32..] == counting_buffer()[32..]);
+    put(alloc, "sealed-of-70", &buf, lines)?;
+    if open_in_place(&keys, 7, &mut buf) == Ok(32..102) && buf[32..] == counting_buffer()[32..] {
+        return Ok(());
+    }
+    Err(Fail::from("it doesn't open"))
+}
+
+fn put_cookies(alloc: Global, lines: &mut String) -> Result<(), Fail> {
+    let mut secret = secret();
+    for byte in &mut secret {
+        *byte = byte.wrapping_add(100);
+    }
+    let maker = CookieMaker::new(secret);
+    let v4 = maker.make(&Address::v4([10, 0, 0, 1], 1935), 1000);
+    put(alloc, "cookie-v4", v4.bytes(), lines)?;
+    let long = Address {
+        v6: true,
+        origin: 3,
+        host: [0, 1, 2, 3, 4, 5, 6, 7, 8, 9, 10, 11, 12, 13, 14, 15],
+        port: 65535,
+    };
+    put(
+        alloc,
+        "cookie-v6",
+        maker.make(&long, 1 << 40).bytes(),
+        lines,
+    )
+}
+
+fn values(alloc: Global) -> Result<String, Fail> {
+    let mut lines = String::new(alloc);
+    put_keys(alloc, &mut lines)?;
+    put_sealed(alloc, &mut lines)?;
+    put_cookies(alloc, &mut lines)?;
+    Ok(lines)
 }
 
 #[test]
-fn a_short_part_and_another_session_id_leave_the_buffer_as_it_was(rt: HostRuntime) {
-    let keys = Keys::of(&secret(), &Context::Startup);
-    let mut short = [9u8; 31];
-    assert!(rt; open_in_place(&keys, 7, &mut short) == Err(SealFault::Short));
-    assert!(rt; short == [9u8; 31]);
-    let mut buf = counting_buffer();
-    seal_in_place(&keys, 7, [1; 16], &mut buf);
-    let sealed = buf;
-    assert!(rt; open_in_place(&keys, 8, &mut buf) == Err(SealFault::BadTag));
-    assert!(rt; buf[..] == sealed[..]);
-}
-
-#[test]
-fn a_window_takes_a_number_once_and_none_that_is_1024_below_the_highest(rt: HostRuntime) {
-    let mut window = ReplayWindow::new();
-    assert!(rt; window.take(0) == Err(Seen::Repeated));
-    assert!(rt; window.take(1) == Ok(()));
-    assert!(rt; window.take(1) == Err(Seen::Repeated));
-    assert!(rt; window.take(1025) == Ok(()));
-    assert!(rt; window.take(1) == Err(Seen::Old));
-    assert!(rt; window.take(2) == Ok(()));
-    assert!(rt; window.take(0) == Err(Seen::Old));
-    assert!(rt; window.take(u64::MAX) == Ok(()));
-    assert!(rt; window.take(u64::MAX - 1024) == Err(Seen::Old));
-    assert!(rt; window.take(u64::MAX - 1023) == Ok(()));
-    assert!(rt; window.take(u64::MAX) == Err(Seen::Repeated));
+fn values_are_those_of_another_program(rt: HostRuntime) -> Result<(), Fail> {
+    assert_eq!(rt; first_wrong(rt.alloc())?, None);
+    assert_eq!(rt; first_misnamed(rt.alloc())?, None);
+    assert_eq!(rt; values(rt.alloc())?.as_str(), VALUES);
+    Ok(())
 }

@@ -1,10 +1,11 @@
-//! Two ends by hand, datagram by datagram, and datagrams that a member of the group makes.
+//! Two ends by hand: a caller `a` and an answerer `b`, and what is done with them, as the words of a
+//! row say.
 
-use crypto_profile::{Context, Keys, open_in_place, seal_in_place};
-use endpoint::{Config, Draws, Endpoint, Entry, Outbox, outgoing_kinds};
+use crypto_profile::{Context, Keys, seal_in_place};
+use endpoint::{Config, Draws, Endpoint, Entry, Outbox};
 use glare_core::Fact;
 use identity::{CertFault, Certificate, Epd};
-use packet_scramble::{scramble, unscramble};
+use packet_scramble::scramble;
 use rtmfp_forms::Address;
 use std::alloc::{AllocError, Global};
 use std::test::Fail;
@@ -15,24 +16,26 @@ pub(crate) const ANSWERER: &[u8] = b"0123456789abcdefanswerer";
 
 pub(crate) const CALLER: &[u8] = b"0123456789abcdefcaller";
 
-pub(crate) fn end(alloc: Global, cert: &[u8]) -> Result<Endpoint, CertFault> {
+fn end(alloc: Global, cert: &[u8], peers: u32, sessions: u32) -> Result<Endpoint, CertFault> {
     let config = Config {
-        max_peers: 16,
-        max_sessions: 16,
+        max_peers: peers,
+        max_sessions: sessions.min(16),
         introduces: false,
     };
     let cert = Certificate::read(cert)?;
     Ok(Endpoint::new(alloc, config, cert, GROUP, [9; 32]))
 }
 
-pub(crate) fn epd_of(cert: &[u8]) -> Result<Epd, CertFault> {
-    let cert = Certificate::read(cert)?;
+/// The end that is called so: the caller, the answerer, or one with such a name.
+fn epd_of(alloc: Global, name: &str) -> Result<Epd, Fail> {
+    let cert = format!(in alloc; "0123456789abcdef{name}")?;
+    let cert = Certificate::read(cert.as_str().as_bytes())?;
     Ok(Epd {
         print: cert.print(),
     })
 }
 
-pub(crate) fn place(last: u8) -> Address {
+fn address(last: u8) -> Address {
     Address::v4([10, 0, 0, last], 1935)
 }
 
@@ -47,62 +50,25 @@ pub(crate) fn draws(word: u32) -> Draws {
     }
 }
 
-/// A datagram on its way.
-#[derive(Clone, Copy)]
-pub(crate) struct Letter {
-    pub(crate) bytes: [u8; 2048],
-    pub(crate) len: usize,
-}
-
-impl Letter {
-    pub(crate) fn of(datagram: &[u8]) -> Letter {
-        let mut bytes = [0; 2048];
-        let len = datagram.len().min(2048);
-        for i in 0..len {
-            bytes[i] = datagram[i];
-        }
-        Letter { bytes, len }
+/// A fact in words.
+fn fact_text(alloc: Global, fact: &Fact) -> Result<String, AllocError> {
+    match fact {
+        Fact::Started { n, near, .. } => format!(in alloc; "started {n} {near}; "),
+        Fact::Born(j) => format!(in alloc; "born {} {}; ", j.near, j.far),
+        Fact::Opened(j) => format!(in alloc; "opened {} {}; ", j.near, j.far),
+        Fact::Confirmed { near, .. } => format!(in alloc; "confirmed {near}; "),
+        Fact::Ended { near, why, .. } => format!(in alloc; "ended {near} {why:?}; "),
     }
-}
-
-/// The type of the first chunk of a datagram, opened in its context.
-fn kind_of(datagram: &[u8], context: &Context) -> u8 {
-    let mut letter = Letter::of(datagram);
-    let (head, part) = letter.bytes.split_at_mut(4);
-    let mut word = [0; 4];
-    word.copy_from_slice(head);
-    let sid = unscramble(u32::from_be_bytes(word), part);
-    let Some(part) = part.get_mut(..datagram.len().saturating_sub(4)) else {
-        return 0;
-    };
-    if open_in_place(&Keys::of(&GROUP, context), sid, part).is_err() {
-        return 0;
-    }
-    let flags = part.get(32).copied().unwrap_or(0);
-    let stamps = usize::from((flags >> 3) & 1) + usize::from((flags >> 2) & 1);
-    part.get(33 + 2 * stamps).copied().unwrap_or(0)
 }
 
 /// The entries of an outbox in one line.
-pub(crate) fn text_of(alloc: Global, out: &Outbox) -> Result<String, AllocError> {
+fn text_of(alloc: Global, out: &Outbox) -> Result<String, AllocError> {
     let mut text = String::new(alloc);
     for entry in out.entries() {
         let word = match entry {
-            Entry::Fact(Fact::Started { n, near, .. }) => {
-                format!(in alloc; "started {n} {near}; ")?
-            }
-            Entry::Fact(Fact::Born(j)) => format!(in alloc; "born {} {}; ", j.near, j.far)?,
-            Entry::Fact(Fact::Opened(j)) => format!(in alloc; "opened {} {}; ", j.near, j.far)?,
-            Entry::Fact(Fact::Confirmed { near, .. }) => format!(in alloc; "confirmed {near}; ")?,
-            Entry::Fact(Fact::Ended { near, why, .. }) => {
-                format!(in alloc; "ended {near} {why:?}; ")?
-            }
+            Entry::Fact(fact) => fact_text(alloc, fact)?,
             Entry::Discard { place, cause } => format!(in alloc; "drop {place} {cause:?}; ")?,
-            Entry::Out {
-                datagram,
-                context,
-                ..
-            } => { format!(in alloc; "out {:02x}; ", kind_of(datagram.bytes(), context))? }
+            Entry::Out { datagram, .. } => format!(in alloc; "out {}; ", datagram.len())?,
         };
         text.push_str(&word)?;
     }
@@ -110,267 +76,268 @@ pub(crate) fn text_of(alloc: Global, out: &Outbox) -> Result<String, AllocError>
 }
 
 /// The last datagram of an outbox.
-pub(crate) fn last_of(out: &Outbox) -> Letter {
-    let mut last = Letter::of(&[]);
+fn last_of(alloc: Global, out: &Outbox) -> Result<Vec<u8>, AllocError> {
+    let mut last = Vec::new(alloc);
     for entry in out.entries() {
         if let Entry::Out { datagram, .. } = entry {
-            last = Letter::of(datagram.bytes());
+            last = Vec::from_slice(alloc, datagram.bytes())?;
         }
     }
-    last
-}
-
-/// Gives a datagram to an end, and puts its last answer in the datagram's place; whether it did
-/// just this.
-pub(crate) fn passes(
-    alloc: Global,
-    end: &mut Endpoint,
-    from: u8,
-    word: u32,
-    letter: &mut Letter,
-    expected: &str,
-) -> Result<bool, AllocError> {
-    let mut out = Outbox::new(alloc, 4).map_err(|_| AllocError)?;
-    let len = letter.len;
-    let Some(datagram) = letter.bytes.get_mut(..len) else {
-        return Ok(false);
-    };
-    let done = end.receive(place(from), 0, datagram, &draws(word), &mut out);
-    *letter = last_of(&out);
-    let text = text_of(alloc, &out)?;
-    Ok(done.is_ok() && text.as_str() == expected)
-}
-
-/// An attempt of the caller's, and its first hello.
-pub(crate) fn hello_of(alloc: Global, caller: &mut Endpoint) -> Result<Letter, Fail> {
-    let mut out = Outbox::new(alloc, 4).map_err(|_| AllocError)?;
-    let epd = epd_of(ANSWERER)?;
-    match caller.open(&epd, &[place(2)], 0, &draws(3), &mut out) {
-        Ok(_) => Ok(last_of(&out)),
-        Err(_) => Err(Fail::from("no attempt was opened")),
-    }
-}
-
-#[test]
-fn a_handshake_by_hand(rt: HostRuntime) -> Result<(), Fail> {
-    let alloc = rt.alloc();
-    let mut a = end(alloc, CALLER)?;
-    let mut b = end(alloc, ANSWERER)?;
-    let mut letter = hello_of(alloc, &mut a)?;
-    assert!(rt; passes(alloc, &mut b, 1, 4, &mut letter, "out 70; ")?);
-    assert!(rt; passes(alloc, &mut a, 2, 5, &mut letter, "out 38; ")?);
-    let mut again = letter;
-    let mut moved = letter;
-    assert!(rt; passes(alloc, &mut b, 1, 6, &mut letter, "born 6 3; out 78; ")?);
-    assert!(rt; passes(alloc, &mut a, 2, 7, &mut letter, "opened 3 6; out 01; ")?);
-    assert!(rt; passes(alloc, &mut b, 1, 8, &mut letter, "confirmed 6; out 41; ")?);
-    assert!(rt; passes(alloc, &mut a, 2, 9, &mut letter, "")?);
-    assert!(rt; passes(alloc, &mut b, 1, 9, &mut again, "out 78; ")?);
-    assert!(rt; passes(alloc, &mut b, 9, 9, &mut moved, "out 79; ")?);
-    Ok(())
-}
-
-#[test]
-fn what_is_no_datagram_of_the_group(rt: HostRuntime) -> Result<(), Fail> {
-    let alloc = rt.alloc();
-    let mut b = end(alloc, ANSWERER)?;
-    let mut zeros = Letter::of(&[0; 16]);
-    assert!(rt; passes(alloc, &mut b, 1, 4, &mut zeros, "drop 0 Short; ")?);
-    let mut zeros = Letter::of(&[0; 40]);
-    assert!(rt; passes(alloc, &mut b, 1, 4, &mut zeros, "drop 0 BadTag; ")?);
-    let mut other = Letter::of(&[7; 40]);
-    assert!(rt; passes(alloc, &mut b, 1, 4, &mut other, "drop 0 UnknownSession; ")?);
-    Ok(())
+    Ok(last)
 }
 
 /// A datagram of this plain packet, sealed in a context under a session ID and a count.
-pub(crate) fn sealed(context: &Context, sid: u32, count: u64, plain: &[u8]) -> Letter {
-    let mut letter = Letter::of(&[]);
-    letter.len = 36 + plain.len().min(1200);
-    for i in 0..plain.len().min(1200) {
-        letter.bytes[36 + i] = plain[i];
-    }
+fn sealed(
+    alloc: Global,
+    context: &Context,
+    sid: u32,
+    count: u64,
+    plain: &[u8],
+) -> Result<Vec<u8>, Fail> {
+    let mut part = Vec::new(alloc);
+    part.resize(32, 0)?;
+    part.extend_from_slice(plain)?;
     let mut number = [0; 16];
     let (_, back) = number.split_at_mut(8);
     back.copy_from_slice(&count.to_be_bytes());
-    let len = letter.len;
-    let (head, rest) = letter.bytes.split_at_mut(4);
-    if let Some(part) = rest.get_mut(..len.saturating_sub(4)) {
-        if part.len() >= 32 {
-            seal_in_place(&Keys::of(&GROUP, context), sid, number, part);
-            head.copy_from_slice(&scramble(sid, part).to_be_bytes());
-        }
+    let sealed = part.as_mut_slice();
+    if sealed.len() >= 32 {
+        seal_in_place(&Keys::of(&GROUP, context), sid, number, sealed);
     }
-    letter
-}
-
-/// Gives an end a startup packet that a member made.
-pub(crate) fn answers(
-    alloc: Global,
-    end: &mut Endpoint,
-    plain: &[u8],
-    expected: &str,
-) -> Result<bool, AllocError> {
-    let mut letter = sealed(&Context::Startup, 0, 1, plain);
-    passes(alloc, end, 1, 4, &mut letter, expected)
-}
-
-#[test]
-fn packets_that_are_refused(rt: HostRuntime) -> Result<(), Fail> {
-    let alloc = rt.alloc();
-    let mut b = end(alloc, ANSWERER)?;
-    let script: [(&[u8], &str); 9] = [
-        (&[], "drop 0 BadPacket(1); "),
-        (&[0x00], "drop 0 BadPacket(2); "),
-        (&[0x0b, 0x12], "drop 0 BadPacket(3); "),
-        (&[0x01], "drop 0 WrongPlace; "),
-        (&[0x03, 0x20, 0, 0], "drop 1 UnknownChunk(32); "),
-        (&[0x03, 0x30, 0, 1, 5], "drop 1 Malformed(1); "),
-        (&[0x03, 0x7f, 0, 3, 0, 0, 0], "drop 1 Fragment; "),
-        (&[0x03, 0x01, 0, 0], "drop 1 WrongPlace; "),
-        (
-            &[0x03, 0x30, 0, 1, 0, 0x79, 0, 1, 0],
-            "drop 1 NotSelected; drop 5 NoAttempt; ",
-        ),
-    ];
-    for (plain, expected) in script {
-        assert!(rt; answers(alloc, &mut b, plain, expected)?);
-    }
-    Ok(())
-}
-
-/// A ping of so many bytes.
-fn ping_of(len: usize) -> ([u8; 1040], usize) {
-    let mut plain = [0; 1040];
-    let len = len.min(1030);
-    plain[0] = 0x01;
-    plain[1] = 0x01;
-    plain[2] = (len / 256) as u8;
-    plain[3] = (len % 256) as u8;
-    (plain, len + 4)
+    let head = scramble(sid, part.as_slice()).to_be_bytes();
+    let mut datagram = Vec::from_slice(alloc, &head)?;
+    datagram.extend_from_slice(part.as_slice())?;
+    Ok(datagram)
 }
 
 /// The context of packets to the responder, in the session of the handshake.
-fn to_responder() -> Result<Context, CertFault> {
+fn to_responder(alloc: Global) -> Result<Context, Fail> {
     Ok(Context::Session {
         ni: draws(3).nonce,
         nr: draws(6).nonce,
-        fp_i: epd_of(CALLER)?.print,
-        fp_r: epd_of(ANSWERER)?.print,
+        fp_i: epd_of(alloc, "caller")?.print,
+        fp_r: epd_of(alloc, "answerer")?.print,
         sid_i: 3,
         sid_r: 6,
         to_responder: true,
     })
 }
 
-/// Brings a caller and an answerer as far as the birth of a session; whether each did as expected.
-fn bears(alloc: Global, a: &mut Endpoint, b: &mut Endpoint) -> Result<bool, Fail> {
-    let mut letter = hello_of(alloc, a)?;
-    let hello = passes(alloc, b, 1, 4, &mut letter, "out 70; ")?;
-    let answer = passes(alloc, a, 2, 5, &mut letter, "out 38; ")?;
-    let keying = passes(alloc, b, 1, 6, &mut letter, "born 6 3; out 78; ")?;
-    Ok(hello && answer && keying)
+/// A word of a row.
+fn word(row: &str, index: usize) -> &str {
+    row.split(' ').nth(index).unwrap_or("")
 }
 
-#[test]
-fn pings_in_a_session(rt: HostRuntime) -> Result<(), Fail> {
-    let alloc = rt.alloc();
-    let mut a = end(alloc, CALLER)?;
-    let mut b = end(alloc, ANSWERER)?;
-    assert!(rt; bears(alloc, &mut a, &mut b)?);
-    let context = to_responder()?;
-    let (plain, len) = ping_of(1024);
-    let mut whole = sealed(&context, 6, 7, plain.get(..len).unwrap_or(&[]));
-    assert!(rt; passes(alloc, &mut b, 1, 8, &mut whole, "confirmed 6; out 41; ")?);
-    let (plain, len) = ping_of(1025);
-    let mut wide = sealed(&context, 6, 8, plain.get(..len).unwrap_or(&[]));
-    assert!(rt; passes(alloc, &mut b, 1, 8, &mut wide, "drop 1 Wide(1025); ")?);
-    let mut early = sealed(&context, 6, 7, &[0x01]);
-    assert!(rt; passes(alloc, &mut b, 1, 8, &mut early, "drop 0 Repeated; ")?);
-    Ok(())
+/// A number of a row, 0 where there is none.
+fn number(row: &str, index: usize) -> u32 {
+    word(row, index).parse::<u32>().unwrap_or(0)
 }
 
-/// Gives an end a packet of the session of the handshake, sealed with this count.
-fn hears(
+/// Bytes of a row in hexadecimal; `-` stands for none.
+fn bytes(alloc: Global, row: &str, index: usize) -> Result<Vec<u8>, Fail> {
+    let digits = word(row, index);
+    if digits == "-" {
+        return Ok(Vec::new(alloc));
+    }
+    Ok(hex::decode(alloc, digits.as_bytes()).ok().ok_or("bytes")?)
+}
+
+/// What an end adds, and its last datagram.
+type Added = (String, Vec<u8>);
+
+fn added(alloc: Global, out: &Outbox) -> Result<Added, Fail> {
+    Ok((text_of(alloc, out)?, last_of(alloc, out)?))
+}
+
+fn outbox(alloc: Global) -> Result<Outbox, Fail> {
+    Ok(Outbox::new(alloc, 4).ok().ok_or("an outbox")?)
+}
+
+/// Gives an end a datagram from an address.
+fn receives(
     alloc: Global,
     end: &mut Endpoint,
-    count: u64,
-    plain: &[u8],
-    expected: &str,
-) -> Result<bool, Fail> {
-    let mut letter = sealed(&to_responder()?, 6, count, plain);
-    Ok(passes(alloc, end, 1, 8, &mut letter, expected)?)
-}
-
-#[test]
-fn a_packet_of_a_session_that_is_refused_spends_its_number(rt: HostRuntime) -> Result<(), Fail> {
-    let alloc = rt.alloc();
-    let mut a = end(alloc, CALLER)?;
-    let mut b = end(alloc, ANSWERER)?;
-    assert!(rt; bears(alloc, &mut a, &mut b)?);
-    assert!(rt; hears(alloc, &mut b, 7, &[], "drop 0 BadPacket(1); ")?);
-    assert!(rt; hears(alloc, &mut b, 7, &[], "drop 0 Repeated; ")?);
-    assert!(rt; hears(alloc, &mut b, 8, &[0x02], "drop 0 WrongPlace; ")?);
-    assert!(rt; hears(alloc, &mut b, 8, &[0x01], "drop 0 Repeated; ")?);
-    assert!(rt; hears(alloc, &mut b, 9, &[0x01], "confirmed 6; ")?);
-    Ok(())
-}
-
-#[test]
-fn time_and_cancelling(rt: HostRuntime) -> Result<(), Fail> {
-    let alloc = rt.alloc();
-    let mut a = end(alloc, CALLER)?;
-    let mut out = Outbox::new(alloc, 4).map_err(|_| AllocError)?;
-    let _hello = hello_of(alloc, &mut a)?;
-    assert!(rt; a.tick(999, &draws(4), &mut out).is_ok());
-    assert!(rt; a.tick(1000, &draws(5), &mut out).is_ok());
-    assert_eq!(rt; text_of(alloc, &out)?.as_str(), "out 30; ");
-    out.clear();
-    assert!(rt; a.cancel(2, &mut out).is_err());
-    assert!(rt; a.cancel(1, &mut out).is_ok());
-    assert_eq!(rt; text_of(alloc, &out)?.as_str(), "ended 3 Cancelled; ");
-    Ok(())
-}
-
-/// The context in which an end opens a datagram.
-fn context_at(end: &Endpoint, letter: &Letter) -> Option<Context> {
-    end.opens_in(letter.bytes.get(..letter.len).unwrap_or(&[]))
-}
-
-#[test]
-fn where_datagrams_open(rt: HostRuntime) -> Result<(), Fail> {
-    let alloc = rt.alloc();
-    let mut a = end(alloc, CALLER)?;
-    let mut b = end(alloc, ANSWERER)?;
-    assert!(rt; bears(alloc, &mut a, &mut b)?);
-    let context = to_responder()?;
-    let hello = sealed(&Context::Startup, 0, 1, &[0x03]);
-    let answer = sealed(&Context::Startup, 3, 1, &[0x03]);
-    let ping = sealed(&context, 6, 7, &[0x01, 0x01, 0, 0]);
-    let mut taken = ping;
-    assert!(rt; context_at(&b, &hello) == Some(Context::Startup));
-    assert!(rt; context_at(&a, &answer) == Some(Context::Startup));
-    assert!(rt; context_at(&b, &answer).is_none());
-    assert!(rt; passes(alloc, &mut b, 1, 8, &mut taken, "confirmed 6; out 41; ")?);
-    assert!(rt; context_at(&b, &ping) == Some(context));
-    assert!(rt; context_at(&b, &sealed(&Context::Startup, 6, 8, &[0x01])).is_none());
-    Ok(())
-}
-
-/// The types of the chunks of a packet in one line.
-fn kinds_of(alloc: Global, plain: &[u8]) -> Result<String, AllocError> {
-    let mut text = String::new(alloc);
-    for kind in outgoing_kinds(plain) {
-        text.push_str(&format!(in alloc; "{kind:02x} ")?)?;
+    from: u8,
+    moment: u64,
+    drawn: u32,
+    datagram: &[u8],
+) -> Result<Added, Fail> {
+    let mut out = outbox(alloc)?;
+    let mut bytes = Vec::from_slice(alloc, datagram)?;
+    let datagram = bytes.as_mut_slice();
+    match end.receive(address(from), moment, datagram, &draws(drawn), &mut out) {
+        Ok(()) => added(alloc, &out),
+        Err(_) => Err(Fail::from("a datagram found no memory")),
     }
-    Ok(text)
 }
 
-#[test]
-fn the_types_of_chunks(rt: HostRuntime) -> Result<(), Fail> {
-    let alloc = rt.alloc();
-    let packet = [0x03, 0x30, 0, 1, 5, 0x00, 0, 0, 0x01, 0, 0, 0xff, 0, 2];
-    assert_eq!(rt; kinds_of(alloc, &packet)?.as_str(), "30 01 ");
-    assert_eq!(rt; kinds_of(alloc, &[0x00, 0x30, 0, 0])?.as_str(), "");
-    Ok(())
+/// Opens an attempt at so many addresses, 2 at most, which are the same place.
+fn opens(alloc: Global, end: &mut Endpoint, row: &str) -> Result<Added, Fail> {
+    let mut out = outbox(alloc)?;
+    let peer = epd_of(alloc, word(row, 2))?;
+    let both = [address(2), address(2)];
+    let candidates = both.get(..number(row, 3) as usize).unwrap_or(&[]);
+    let moment = u64::from(number(row, 5));
+    match end.open(&peer, candidates, moment, &draws(number(row, 4)), &mut out) {
+        Ok(_) => added(alloc, &out),
+        Err(refusal) => Ok((format!(in alloc; "{refusal:?}")?, Vec::new(alloc))),
+    }
+}
+
+fn ticks(alloc: Global, end: &mut Endpoint, moment: u64) -> Result<Added, Fail> {
+    let mut out = outbox(alloc)?;
+    match end.tick(moment, &draws(4), &mut out) {
+        Ok(()) => added(alloc, &out),
+        Err(_) => Err(Fail::from("a tick found no memory")),
+    }
+}
+
+fn cancels(alloc: Global, end: &mut Endpoint, n: u64) -> Result<Added, Fail> {
+    let mut out = outbox(alloc)?;
+    match end.cancel(n, &mut out) {
+        Ok(()) => added(alloc, &out),
+        Err(_) => Ok((String::from_str(alloc, "refused")?, Vec::new(alloc))),
+    }
+}
+
+/// In which context a datagram opens at an end.
+fn context_name(end: &Endpoint, datagram: &[u8]) -> &'static str {
+    match end.opens_in(datagram) {
+        Some(Context::Startup) => "startup",
+        Some(Context::Session { .. }) => "session",
+        None => "none",
+    }
+}
+
+/// The datagram that a member of the group makes, as a row says from a word on: of the startup under
+/// a session ID, or in the session of the handshake with a count.
+fn made(alloc: Global, row: &str, index: usize) -> Result<Vec<u8>, Fail> {
+    let value = number(row, index.saturating_add(2));
+    let plain = bytes(alloc, row, index.saturating_add(3))?;
+    if word(row, index) == "session" {
+        let context = to_responder(alloc)?;
+        return sealed(alloc, &context, 6, u64::from(value), plain.as_slice());
+    }
+    sealed(alloc, &Context::Startup, value, 1, plain.as_slice())
+}
+
+/// A caller and an answerer, the last datagram, and one that is kept.
+#[derive(Drop)]
+pub(crate) struct Ends {
+    a: Endpoint,
+    b: Endpoint,
+    last: Vec<u8>,
+    kept: Vec<u8>,
+}
+
+impl Ends {
+    pub(crate) fn new(alloc: Global) -> Result<Ends, Fail> {
+        Ok(Ends {
+            a: end(alloc, CALLER, 16, 16)?,
+            b: end(alloc, ANSWERER, 16, 16)?,
+            last: Vec::new(alloc),
+            kept: Vec::new(alloc),
+        })
+    }
+
+    pub(crate) fn last(&self) -> &[u8] {
+        self.last.as_slice()
+    }
+
+    /// Gives an end a datagram.
+    fn gives(
+        &mut self,
+        alloc: Global,
+        row: &str,
+        from: u8,
+        drawn: u32,
+        datagram: &[u8],
+    ) -> Result<String, Fail> {
+        let moment = u64::from(number(row, 4));
+        let (text, last) = if word(row, 1) == "a" {
+            receives(alloc, &mut self.a, from, moment, drawn, datagram)?
+        } else {
+            receives(alloc, &mut self.b, from, moment, drawn, datagram)?
+        };
+        self.last = last;
+        Ok(text)
+    }
+
+    /// Gives the answerer a packet of the session of the handshake.
+    pub(crate) fn hears(
+        &mut self,
+        alloc: Global,
+        count: u64,
+        plain: &[u8],
+    ) -> Result<String, Fail> {
+        let datagram = sealed(alloc, &to_responder(alloc)?, 6, count, plain)?;
+        let (text, _) = receives(alloc, &mut self.b, 1, 0, 8, datagram.as_slice())?;
+        Ok(text)
+    }
+
+    /// A new end in the place of one.
+    fn renews(&mut self, alloc: Global, row: &str) -> Result<String, Fail> {
+        let (peers, sessions) = (number(row, 2), number(row, 3));
+        if word(row, 1) == "a" {
+            self.a = end(alloc, CALLER, peers, sessions)?;
+        } else {
+            self.b = end(alloc, ANSWERER, peers, sessions)?;
+        }
+        Ok(String::new(alloc))
+    }
+
+    /// What the caller does by itself.
+    fn acts(&mut self, alloc: Global, row: &str) -> Result<String, Fail> {
+        let value = u64::from(number(row, 2));
+        let (text, last) = match word(row, 0) {
+            "open" => opens(alloc, &mut self.a, row)?,
+            "tick" => ticks(alloc, &mut self.a, value)?,
+            _ => cancels(alloc, &mut self.a, value)?,
+        };
+        self.last = last;
+        Ok(text)
+    }
+
+    /// Gives an end the last datagram, or the one that is kept, as a row says.
+    fn passes(&mut self, alloc: Global, row: &str) -> Result<String, Fail> {
+        let kept = word(row, 0) == "kept";
+        let datagram = if kept { &self.kept } else { &self.last };
+        let datagram = Vec::from_slice(alloc, datagram.as_slice())?;
+        let from = (number(row, 2) % 256) as u8;
+        self.gives(alloc, row, from, number(row, 3), datagram.as_slice())
+    }
+
+    /// In which context the datagram of a row opens.
+    fn tells(&self, alloc: Global, row: &str) -> Result<String, Fail> {
+        let datagram = made(alloc, row, 1)?;
+        let end = if word(row, 2) == "a" {
+            &self.a
+        } else {
+            &self.b
+        };
+        Ok(String::from_str(alloc, context_name(end, datagram.as_slice()))?)
+    }
+
+    /// What comes of what a row says.
+    pub(crate) fn told(&mut self, alloc: Global, row: &str) -> Result<String, Fail> {
+        match word(row, 0) {
+            "new" => self.renews(alloc, row),
+            "open" | "tick" | "cancel" => self.acts(alloc, row),
+            "last" | "kept" => self.passes(alloc, row),
+            "keep" => {
+                self.kept = Vec::from_slice(alloc, self.last.as_slice())?;
+                Ok(String::new(alloc))
+            }
+            "opens" => self.tells(alloc, row),
+            "raw" => {
+                let datagram = bytes(alloc, row, 2)?;
+                self.gives(alloc, row, 1, 4, datagram.as_slice())
+            }
+            _ => {
+                let datagram = made(alloc, row, 0)?;
+                let drawn = if word(row, 0) == "session" { 8 } else { 4 };
+                self.gives(alloc, row, 1, drawn, datagram.as_slice())
+            }
+        }
+    }
 }

@@ -1,5 +1,5 @@
-//! Tests of ends, through what `endpoint` gives to all: two ends by hand, datagrams that a member
-//! of the group makes, rows of rules, and the bytes of a whole handshake.
+//! Tests of ends, through what `endpoint` gives to all: rows of rules, datagrams that a member of the
+//! group makes, and the bytes of a whole handshake.
 #![tactic(auto)]
 
 #[cfg(test)]
@@ -8,7 +8,5 @@ mod by_hand;
 mod handshake;
 #[cfg(test)]
 mod library;
-#[cfg(test)]
-mod refusals;
 #[cfg(test)]
 mod rows;

@@ -1,6 +1,8 @@
+//! Sources and sinks over the streams of the system.
+
 use rtmfp_host::{Sink, Source, StreamSink, StreamSource, Taken, Wrote};
+use std::alloc::Global;
 use std::io::{self, Read, Write};
-use std::test::Fail;
 
 /// A stream that fails at each call, and one that takes no byte.
 #[derive(Drop)]
@@ -35,30 +37,34 @@ impl Write for Full {
     }
 }
 
-#[test]
-fn a_reader_is_read_to_its_end(rt: HostRuntime) {
+/// A reader is read to its end, and one that fails isn't at its end.
+fn reads() -> bool {
     let mut source = StreamSource::new(b"abc".as_slice());
     let mut buf = [0; 2];
-    assert_eq!(rt; source.read(&mut buf), Taken::Done(2));
-    assert_eq!(rt; buf, *b"ab");
-    assert_eq!(rt; source.read(&mut buf), Taken::Done(1));
-    assert_eq!(rt; buf[0], b'c');
-    assert_eq!(rt; source.read(&mut buf), Taken::End);
-    assert_eq!(rt; StreamSource::new(Broken).read(&mut buf), Taken::Failed);
+    let two = source.read(&mut buf) == Taken::Done(2) && buf == *b"ab";
+    let one = source.read(&mut buf) == Taken::Done(1) && buf[0] == b'c';
+    let end = source.read(&mut buf) == Taken::End;
+    two && one && end && StreamSource::new(Broken).read(&mut buf) == Taken::Failed
+}
+
+/// A writer takes all or fails.
+fn writes(alloc: Global) -> bool {
+    let mut written = Vec::new(alloc);
+    let mut sink = StreamSink::new(&mut written);
+    let done = sink.write(b"ab") == Wrote::Done
+        && sink.write(b"") == Wrote::Done
+        && sink.flush() == Wrote::Done;
+    done && written.as_slice() == b"ab".as_slice()
+}
+
+/// One that takes nothing, or fails, is a failed one.
+fn fails() -> bool {
+    StreamSink::new(Full).write(b"ab") == Wrote::Failed
+        && StreamSink::new(Broken).write(b"ab") == Wrote::Failed
+        && StreamSink::new(Broken).flush() == Wrote::Failed
 }
 
 #[test]
-fn a_writer_takes_all_or_fails(rt: HostRuntime) -> Result<(), Fail> {
-    let mut written = Vec::new(rt.alloc());
-    {
-        let mut sink = StreamSink::new(&mut written);
-        assert_eq!(rt; sink.write(b"ab"), Wrote::Done);
-        assert_eq!(rt; sink.write(b""), Wrote::Done);
-        assert_eq!(rt; sink.flush(), Wrote::Done);
-    }
-    assert_eq!(rt; written.as_slice(), b"ab".as_slice());
-    assert_eq!(rt; StreamSink::new(Full).write(b"ab"), Wrote::Failed);
-    assert_eq!(rt; StreamSink::new(Broken).write(b"ab"), Wrote::Failed);
-    assert_eq!(rt; StreamSink::new(Broken).flush(), Wrote::Failed);
-    Ok(())
+fn streams_are_sources_and_sinks(rt: HostRuntime) {
+    assert!(rt; reads() && writes(rt.alloc()) && fails());
 }

@@ -1,5 +1,6 @@
-//! The tests of the program's crates and of those of scripts and reports, a module a crate: texts
-//! from the rules, through public items alone.
+//! The tests of the program's crates and of those of scripts and reports, a module a crate, through
+//! public items alone: what the two programs `rtmfp` and `rtmfp_refused` don't show already, whose
+//! files `stdin` and `stdout` are the rows of packets and of scripts.
 #![tactic(auto)]
 
 #[cfg(test)]
@@ -7,16 +8,8 @@ mod cli;
 #[cfg(test)]
 mod host;
 #[cfg(test)]
-mod lines;
-#[cfg(test)]
-mod replay;
-#[cfg(test)]
 mod report;
 #[cfg(test)]
 mod script;
-#[cfg(test)]
-mod show;
-#[cfg(test)]
-mod texts;
 #[cfg(test)]
 mod words;

@@ -7,13 +7,13 @@ abbrev blank : Row
 blank = record { peer = []; held = None; floor = 0 }
 
 pub returns-in-Some-clause-held : goal.returns-in-Some-clause-held
-returns-in-Some-clause-held c = seat_held c.args.peer.now c.args.rows.now c.in-Some.place blank c.in-Some.ensures
+returns-in-Some-clause-held c = seat_held c.args.peer.now c.args.rows.now c.in-Some.index blank c.in-Some.ensures
 
 pub returns-in-Some-clause-floor : goal.returns-in-Some-clause-floor
-returns-in-Some-clause-floor c = seat_floor c.args.peer.now c.args.rows.now c.in-Some.place blank c.in-Some.ensures
+returns-in-Some-clause-floor c = seat_floor c.args.peer.now c.args.rows.now c.in-Some.index blank c.in-Some.ensures
 
 pub returns-in-Some-clause-known : goal.returns-in-Some-clause-known
-returns-in-Some-clause-known c = seat_known c.args.peer.now c.args.rows.now c.in-Some.place blank c.in-Some.ensures
+returns-in-Some-clause-known c = seat_known c.args.peer.now c.args.rows.now c.in-Some.index blank c.in-Some.ensures
 
 pub returns-in-None-clause-held : goal.returns-in-None-clause-held
 returns-in-None-clause-held c = blank_held c.args.peer.now c.args.rows.now c.in-None.ensures

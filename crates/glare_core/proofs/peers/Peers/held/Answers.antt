@@ -11,16 +11,16 @@ there : (c : goal.After-as_ref) → option_copied c.as_ref.result ≡ held_with 
 there c =
     let peer : List ℕ = c.args.peer.now in
     let row : Row = c.index.result.now in
-    let place : Some c.in-Some.place ≡ position (is_of peer) c.self.inside.rows.items =
-    subst (λ (rows : List Row). Some c.in-Some.place ≡ position (is_of peer) rows) c.deref.ensures.value c.in-Some.ensures in
-    c.as_ref.ensures.value ∙ ap (λ (r : Row). r.held) c.index.ensures ∙ seat_held peer c.self.inside.rows.items c.in-Some.place row place ∙
+    let index : Some c.in-Some.index ≡ position (is_of peer) c.self.inside.rows.items =
+    subst (λ (rows : List Row). Some c.in-Some.index ≡ position (is_of peer) rows) c.deref.ensures.value c.in-Some.ensures in
+    c.as_ref.ensures.value ∙ ap (λ (r : Row). r.held) c.index.ensures ∙ seat_held peer c.self.inside.rows.items c.in-Some.index row index ∙
     ap (λ l. held_with l peer) c.self.view_is
 
 nowhere : (c : goal.In-None) → None ≡ held_with c.args.self.now c.args.peer.now
 nowhere c =
     let peer : List ℕ = c.args.peer.now in
-    let place : None ≡ position (is_of peer) c.self.inside.rows.items = subst (λ (rows : List Row). None ≡ position (is_of peer) rows) c.deref.ensures.value c.in-None.ensures in
-    blank_held peer c.self.inside.rows.items place ∙ ap (λ l. held_with l peer) c.self.view_is
+    let index : None ≡ position (is_of peer) c.self.inside.rows.items = subst (λ (rows : List Row). None ≡ position (is_of peer) rows) c.deref.ensures.value c.in-None.ensures in
+    blank_held peer c.self.inside.rows.items index ∙ ap (λ l. held_with l peer) c.self.view_is
 
 pub returns-in-Some-clause-held : goal.returns-in-Some-clause-held
 returns-in-Some-clause-held c = there c

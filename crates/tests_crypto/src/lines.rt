@@ -1,0 +1,22 @@
+//! Values as lines: a name, and bytes in hexadecimal.
+
+use std::alloc::Global;
+use std::test::Fail;
+
+/// Adds a line.
+pub(crate) fn put(alloc: Global, name: &str, bytes: &[u8], lines: &mut String) -> Result<(), Fail> {
+    let digits = hex::encode(alloc, bytes)?;
+    lines.push_str(format!(in alloc; "{name} {digits}\n")?.as_str())?;
+    Ok(())
+}
+
+/// The bytes of the line with a name.
+pub(crate) fn bytes_of(alloc: Global, lines: &str, name: &str) -> Result<Vec<u8>, Fail> {
+    for line in lines.lines() {
+        let (found, digits) = line.split_once(' ').unwrap_or(("", ""));
+        if found == name {
+            return Ok(hex::decode(alloc, digits.as_bytes()).ok().ok_or("digits")?);
+        }
+    }
+    Err(Fail::from("no line has this name"))
+}
