@@ -12,3 +12,4 @@ pub mod Startups
 pub mod Falling
 pub mod Chosen
 pub mod Standing
+pub mod Judged

@@ -9,6 +9,7 @@ mod cause;
 mod choosing;
 mod due;
 pub mod edges;
+mod judging;
 mod keying;
 pub mod laws;
 mod leaving;
@@ -24,5 +25,8 @@ mod startup;
 
 pub use answer::{Answer, Due, KeyRefusal, Keyed, Spread};
 pub use cause::Cause;
+pub use judging::Hearing;
 pub use looking::keying_fault;
+pub use parts::{InitiatorPart, ResponderPart};
+pub use reading::{InitiatorFields, ResponderFields, read_initiator_keying, read_responder_keying};
 pub use startup::Startup;
