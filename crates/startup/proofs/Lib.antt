@@ -13,3 +13,4 @@ pub mod Falling
 pub mod Chosen
 pub mod Standing
 pub mod Judged
+pub mod Finding

@@ -1,5 +1,6 @@
 -- What a chunk that isn't discarded is found to be, before anything changes.
-use Rattle.std.specs.Prelude.{ℕ, List, Option, Some, None, Result, Ok, Err}
+use Rattle.std.specs.Prelude.{ℕ, List, ◌≡◌, Option, Some, None, Result, Ok, Err}
+use Rattle.std.specs.FinMap.{get}
 use Rattle.sha2.specs.Sha256.{sha256}
 use Rattle.rtmfp_forms.specs.Address.{AddressParts}
 use Rattle.cookies.specs.declared.CookieTest.{CookieTest}
@@ -11,7 +12,9 @@ use Rattle.glare_core.specs.Ledger.{held_with}
 use Rattle.startup.specs.declared.cause.Cause.{Cause}
 use Rattle.startup.specs.declared.judging.Hearing.{Hearing}
 use Rattle.startup.specs.declared.judging.Hearing.TheVariants.{Change, Again, Birth}
-use Rattle.startup.specs.State.{StartupState}
+use Rattle.startup.specs.declared.leaving.Found.{Found}
+use Rattle.startup.specs.State.{AttemptState, StartupState}
+use Rattle.startup.specs.Attempts.{has_cookie}
 use Rattle.startup.specs.Keyings.{InitiatorKeying, keying_of, repeated_session, initiator_cause}
 
 -- what was found, where no cause stands
@@ -38,3 +41,10 @@ abbrev pub judged_initiator : StartupState → List ℕ → AddressParts → ℕ
 judged_initiator s payload from now full keying =
     unless_cause (hearing s keying (cookie_test s.cookie_secret keying.cookie from now))
     (initiator_cause s payload from now full keying)
+
+-- the attempt that is chosen was found
+pub record IsFound (s : StartupState) (found : Found) (chosen : Option (ℕ × AttemptState)) :
+    Type 0 where
+  pub attempt : AttemptState
+  pub chosen_is : chosen ≡ Some (found.near, attempt)
+  pub there : get s.attempts found.near ≡ Some attempt

@@ -3,6 +3,7 @@
 #![tactic(auto)]
 
 mod answer;
+mod answering;
 mod attempt;
 mod attempts;
 mod cause;
@@ -26,6 +27,7 @@ mod startup;
 pub use answer::{Answer, Due, KeyRefusal, Keyed, Spread};
 pub use cause::Cause;
 pub use judging::Hearing;
+pub use leaving::Found;
 pub use looking::keying_fault;
 pub use parts::{InitiatorPart, ResponderPart};
 pub use reading::{InitiatorFields, ResponderFields, read_initiator_keying, read_responder_keying};
