@@ -45,7 +45,7 @@ current_judged s payload from now full read signed narrow current =
     sym ((λ i. unless_cause (hearing s read (current i)) (first_that_stands (where_true (not (signed i)) BadSignature ∷ narrow i ∷ cookie_cause (current i) (named_cause s read full) ∷ [])))
     ∙ ap (unless_cause (hearing s read Current)) (lone (named_cause s read full)))
 
--- ---- a keying that isn't refused isn't where there is a place, either
+-- ---- a keying that isn't refused isn't where there is room, either
 
 last_free : (a b c : Option HearRefusal) (x : HearRefusal) (none free : Bool) → first_that_stands (a ∷ b ∷ c ∷ where_true (none && not free) x ∷ []) ≡ None →
     first_that_stands (a ∷ b ∷ c ∷ where_true (none && not true) x ∷ []) ≡ None

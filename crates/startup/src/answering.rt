@@ -11,8 +11,8 @@ ghost use Rattle.startup.specs.Judging.{IsFound};
 
 use crate::answer::{Answer, KeyRefusal};
 use crate::cause::Cause;
-use crate::choosing::{answered_place, changed_place};
-use crate::leaving::{Found, found_at, index_of};
+use crate::choosing::{answered_index, changed_index};
+use crate::leaving::{Found, found_at, index_of_found};
 use crate::rows::{answer_at, recookie_at};
 use crate::sending::{keying_again, keying_answer};
 use crate::startup::Startup;
@@ -42,7 +42,7 @@ impl Startup {
             ≡ Some cause) }
     {
         let print = Sha256::digest(cert);
-        match answered_place(&self.attempts, tag, cookie, &print) {
+        match answered_index(&self.attempts, tag, cookie, &print) {
             Ok(index) => Ok(found_at(&self.attempts, index)),
             Err(cause) => Err(cause),
         }
@@ -64,7 +64,7 @@ impl Startup {
         ensures after { (chosen : Option (ℕ × AttemptState)) → IsFound self.old found chosen →
             self.new ≡ after_answer self.old chosen from.now cookie.now moment }
     {
-        let index = index_of(&self.attempts, found);
+        let index = index_of_found(&self.attempts, found);
         let answer = keying_answer(&self.attempts[index], &self.sign, &self.cert, from, cookie);
         answer_at(&mut self.attempts, index, from, cookie, moment);
         answer
@@ -114,7 +114,7 @@ impl Startup {
             { IfErr result (λ cause. cookie_change_cause self.now sid old.now new.now
             ≡ Some cause) }
     {
-        match changed_place(&self.attempts, sid, old, new) {
+        match changed_index(&self.attempts, sid, old, new) {
             Ok(index) => Ok(found_at(&self.attempts, index)),
             Err(cause) => Err(cause),
         }
@@ -131,7 +131,7 @@ impl Startup {
         ensures after { (chosen : Option (ℕ × AttemptState)) → IsFound self.old found chosen →
             self.new ≡ after_change self.old chosen new.now moment }
     {
-        let index = index_of(&self.attempts, found);
+        let index = index_of_found(&self.attempts, found);
         let answer = match keying_again(&self.attempts[index], &self.sign, &self.cert, new) {
             Some(answer) => answer,
             None => unreachable!(),

@@ -6,7 +6,7 @@ ghost use Rattle.startup.specs.Attempts.{session_in};
 
 use crate::answer::Spread;
 use crate::attempt::{Attempt, Row, Stage};
-use crate::places::{Places, places_of};
+use crate::candidates::{Candidates, distinct_candidates};
 use crate::rows::{Sought, end_at, lowest, push_reserved};
 use crate::sending::hello_spread;
 use crate::startup::Startup;
@@ -38,7 +38,7 @@ impl Startup {
     /// and that no held attempt has, with 1 to 16 candidate addresses; candidates at the same place
     /// count once.
     ///
-    /// It gives Started, and the hello for all candidate places, in order. The refusals are those
+    /// It gives Started, and the hello for all candidates, in order. The refusals are those
     /// of `Peers::start`, in their order; where it is refused, all is as before.
     pub fn begin(
         &mut self,
@@ -77,7 +77,7 @@ impl Startup {
             Ok(fact) => fact,
             Err(refusal) => return Err(refusal),
         };
-        let Places { to, count } = places_of(candidates);
+        let Candidates { to, count } = distinct_candidates(candidates);
         let attempt = Attempt {
             peer: epd.print,
             n: self.peers.started(),
@@ -102,7 +102,7 @@ impl Startup {
         ensures after { self.new ≡ after_cancel self.old n }
     {
         match lowest(&self.attempts, &Sought::Number(n)) {
-            Some(place) => Some(end_at(&mut self.peers, &mut self.attempts, place, Why::Cancelled)),
+            Some(index) => Some(end_at(&mut self.peers, &mut self.attempts, index, Why::Cancelled)),
             None => None,
         }
     }

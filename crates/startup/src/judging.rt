@@ -23,7 +23,7 @@ use crate::answer::{KeyRefusal, Keyed};
 use crate::attempt::{Attempt, Row, Stage};
 use crate::cause::Cause;
 use crate::choosing::wide;
-use crate::leaving::{leave_at, place_of};
+use crate::leaving::{leave_at, index_of};
 use crate::parts::is_signed;
 use crate::reading::{
     InitiatorFields, ResponderFields, read_initiator_keying, read_responder_keying,
@@ -148,7 +148,7 @@ fn opened_peer(rows: &[Row], near: u32, fields: &ResponderFields<'_>) -> Result<
     ensures refused { IfErr result (λ cause. attempt_cause (responder_of fields.now)
         (get (table_of rows.now) near) ≡ Some cause) }
 {
-    let Some(index) = place_of(rows, near) else {
+    let Some(index) = index_of(rows, near) else {
         return Err(Cause::NoAttempt);
     };
     let attempt = &rows[index].attempt;
@@ -195,7 +195,7 @@ impl Startup {
     }
 
     /// What hearing an initiator's keying would be, which came from an address, or why it is
-    /// discarded; `full` is the limit on sessions where no place is free.
+    /// discarded; `full` is the limit on sessions where there is no room for one more.
     ///
     /// The causes are those of `initiator_keying`, in their order. It changes nothing and takes no
     /// memory.

@@ -160,7 +160,7 @@ impl Startup {
 
     /// Takes an initiator's keying, the payload of its chunk, which came from an address, and a
     /// near id and a nonce for a session (RFC 7016 section 3.5.1.2); `full` is the limit on
-    /// sessions where no place is free.
+    /// sessions where there is no room for one more.
     ///
     /// Where its cookie was made for another place or too long ago, a new one is sent. Where its
     /// session is held, the responder's keying is sent again. Else the session is born, and what

@@ -18,8 +18,8 @@ pub struct Found {
     pub(crate) index: usize,
 }
 
-/// The place of the attempt with this near id.
-pub(crate) fn place_of(rows: &[Row], near: u32) -> Option<usize>
+/// The index of the attempt with this near id.
+pub(crate) fn index_of(rows: &[Row], near: u32) -> Option<usize>
     ensures { result ≡ position (λ row. row.near == near) rows.now }
 {
     rows.iter().position(|row| row.near == near)
@@ -38,7 +38,7 @@ pub(crate) fn found_at(rows: &[Row], index: usize) -> Found
 
 /// The index of the row of an attempt that was found, which is there still. It stands where it
 /// stood, unless another one left before.
-pub(crate) fn index_of(rows: &[Row], found: Found) -> usize
+pub(crate) fn index_of_found(rows: &[Row], found: Found) -> usize
     requires distinct { len (table_of rows.now) ≡ length rows.now }
     requires there { IsSome (get (table_of rows.now) found.near) }
     ensures { (attempt : AttemptState) → get (table_of rows.now) found.near ≡ Some attempt →
@@ -49,7 +49,7 @@ pub(crate) fn index_of(rows: &[Row], found: Found) -> usize
             return found.index;
         }
     }
-    match place_of(rows, found.near) {
+    match index_of(rows, found.near) {
         Some(index) => index,
         None => unreachable!(),
     }
@@ -73,9 +73,9 @@ pub(crate) fn leave_at(rows: &mut Vec<Row>, near: u32)
     ensures table { table_of rows.new.items ≡ remove (table_of rows.old.items) near }
     ensures distinct { len (table_of rows.new.items) ≡ length rows.new.items }
 {
-    match place_of(rows, near) {
-        Some(place) => {
-            let _gone = rows.swap_remove(place);
+    match index_of(rows, near) {
+        Some(index) => {
+            let _gone = rows.swap_remove(index);
         }
         None => {}
     }

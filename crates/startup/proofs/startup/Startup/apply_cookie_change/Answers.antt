@@ -15,9 +15,9 @@ unreachable-requires c =
     let i = c.self.inside in
     let row : Row = c.index.result.now in
     let attempts : Attempts = c.args.self.now.attempts in
-    let at : IsChosen (changed attempts c.requires.found.0 c.requires.found.1.0) i.attempts.items (Some c.index_of-index.result) =
-    chosen_so c.args.self.now i.attempts.items c.index_of-index.result c.args.found (changed attempts c.requires.found.0 c.requires.found.1.0) (ap (λ (t : StartupState). t.attempts) c.self.view_is)
-    (subst (λ (r : List Row). (attempt : AttemptState) → get (table_of r) c.args.found.near ≡ Some attempt → IsChosen (Some (c.args.found.near, attempt)) r (Some c.index_of-index.result)) c.deref.ensures.value c.index_of-index.ensures)
+    let at : IsChosen (changed attempts c.requires.found.0 c.requires.found.1.0) i.attempts.items (Some c.index_of_found-index.result) =
+    chosen_so c.args.self.now i.attempts.items c.index_of_found-index.result c.args.found (changed attempts c.requires.found.0 c.requires.found.1.0) (ap (λ (t : StartupState). t.attempts) c.self.view_is)
+    (subst (λ (r : List Row). (attempt : AttemptState) → get (table_of r) c.args.found.near ≡ Some attempt → IsChosen (Some (c.args.found.near, attempt)) r (Some c.index_of_found-index.result)) c.deref.ensures.value c.index_of_found-index.ensures)
     c.requires.found.1.1 in
     let is : changed attempts c.requires.found.0 c.requires.found.1.0 ≡ Some (entry_of row) = at.1 row ∙ ap (λ (r : Row). Some (entry_of r)) (sym c.index.ensures) in
     keying_goes_again i.sign i.cert row.near row.attempt c.requires.found.1.0 c.args.new.now (changed_has_cookie attempts c.requires.found.0 c.requires.found.1.0 (entry_of row) is)
@@ -27,9 +27,9 @@ pub invariant_of-self : goal.invariant_of-self
 invariant_of-self c =
     let i = c.self.inside in
     let attempts : Attempts = c.args.self.now.attempts in
-    let at : IsChosen (changed attempts c.requires.found.0 c.requires.found.1.0) i.attempts.items (Some c.index_of-index.result) =
-    chosen_so c.args.self.now i.attempts.items c.index_of-index.result c.args.found (changed attempts c.requires.found.0 c.requires.found.1.0) (ap (λ (t : StartupState). t.attempts) c.self.view_is)
-    (subst (λ (r : List Row). (attempt : AttemptState) → get (table_of r) c.args.found.near ≡ Some attempt → IsChosen (Some (c.args.found.near, attempt)) r (Some c.index_of-index.result)) c.deref.ensures.value c.index_of-index.ensures)
+    let at : IsChosen (changed attempts c.requires.found.0 c.requires.found.1.0) i.attempts.items (Some c.index_of_found-index.result) =
+    chosen_so c.args.self.now i.attempts.items c.index_of_found-index.result c.args.found (changed attempts c.requires.found.0 c.requires.found.1.0) (ap (λ (t : StartupState). t.attempts) c.self.view_is)
+    (subst (λ (r : List Row). (attempt : AttemptState) → get (table_of r) c.args.found.near ≡ Some attempt → IsChosen (Some (c.args.found.near, attempt)) r (Some c.index_of_found-index.result)) c.deref.ensures.value c.index_of_found-index.ensures)
     c.requires.found.1.1 in
-    changed_is_kept i.cert i.print i.secret i.sign i.cookies i.peers i.attempts.items c.self.invariant c.index_of-index.result at.0 (λ a. recookied a c.args.new.now c.args.moment) c.recookie_at.new.rows.items
+    changed_is_kept i.cert i.print i.secret i.sign i.cookies i.peers i.attempts.items c.self.invariant c.index_of_found-index.result at.0 (λ a. recookied a c.args.new.now c.args.moment) c.recookie_at.new.rows.items
     c.recookie_at.ensures (record { peer = λ a. refl; n = λ a. refl; ni = λ a. refl })
