@@ -125,9 +125,9 @@ start_none : (o : Option StartRefusal) → start_refused o ≡ None → o ≡ No
 start_none None e = refl
 start_none (Some refusal) e = absurd (cc)
 
-place_none : (o : Option ℕ) → full_refused o ≡ None → o ≡ None
-place_none None e = refl
-place_none (Some limit) e = absurd (cc)
+index_none : (o : Option ℕ) → full_refused o ≡ None → o ≡ None
+index_none None e = refl
+index_none (Some limit) e = absurd (cc)
 
 pub may_start : (s : State) (peer : List ℕ) (candidates : List AddressParts) → open_refusal s peer candidates ≡ None → MayStart s peer
 may_start s peer candidates none =
@@ -139,7 +139,7 @@ may_start s peer candidates none =
       start = start;
       unheld = none_held (held_with s.startup.ledger peer) each.1.0;
       row = test_fails (peers_full s.startup.ledger peer) (PeersFull (row_count s.startup.ledger)) each.1.1.1.0;
-      place = place_none (full s) all.1.1.0;
+      place = index_none (full s) all.1.1.0;
     }
 
 started_tied : (setup : Setup) (past : List Stamped) (s : State) (peer : List ℕ) (candidates : List AddressParts) (near : ℕ) (ni tag : List ℕ) → Tied setup past s → MayStart s peer → IsNew s near →

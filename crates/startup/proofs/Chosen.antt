@@ -6,9 +6,9 @@ use Rattle.startup.specs.State.{AttemptState}
 use Rattle.startup.specs.Sought.{IsChosen}
 use Rattle.startup.specs.Attempts.{end_of}
 
-pub chosen_there : (chosen : Option (ℕ × AttemptState)) (rows : List Row) (place : ℕ) → IsChosen chosen rows (Some place) → true ≡ is_some chosen
-chosen_there chosen [] place is = absurd (let within : place < 0 = is.0 in omega (arith, within))
-chosen_there chosen (row ∷ rows) place is = sym (ap is_some (is.1 row))
+pub chosen_there : (chosen : Option (ℕ × AttemptState)) (rows : List Row) (index : ℕ) → IsChosen chosen rows (Some index) → true ≡ is_some chosen
+chosen_there chosen [] index is = absurd (let within : index < 0 = is.0 in omega (arith, within))
+chosen_there chosen (row ∷ rows) index is = sym (ap is_some (is.1 row))
 
 pub chosen_none : (chosen : Option (ℕ × AttemptState)) (rows : List Row) → IsChosen chosen rows None → false ≡ is_some chosen
 chosen_none chosen rows is = sym (ap is_some is)

@@ -44,20 +44,20 @@ due_falls s moment = falls_of s moment (lowest (is_due moment) s.attempts) refl
 
 -- ---- the same by rows
 
--- the attempt at a place that is due is taken away
-pub gone_falls : (rows : List Row) (place : ℕ) (new : List Row) (moment : ℕ) → IsLowest (is_due moment) rows (Some place) → IsGone rows place new →
+-- the attempt at an index that is due is taken away
+pub gone_falls : (rows : List Row) (index : ℕ) (new : List Row) (moment : ℕ) → IsLowest (is_due moment) rows (Some index) → IsGone rows index new →
     count_where (is_due moment) (table_of new) < count_where (is_due moment) (table_of rows)
-gone_falls rows place new moment at gone =
-    let row = some_row rows place at.0 in
-    let e = entry_of (get_or rows place row) in
+gone_falls rows index new moment at gone =
+    let row = some_row rows index at.0 in
+    let e = entry_of (get_or rows index row) in
     subst (λ (t : Attempts). count_where (is_due moment) t < count_where (is_due moment) (table_of rows)) (sym (gone.table row))
     (one_less _ _ (count_removed (is_due moment) (table_of rows) e.0 e.1 (lowest_is_there (is_due moment) (table_of rows) e (at.1 row)) (lowest_passes (is_due moment) (table_of rows) e (at.1 row))))
 
--- the attempt at a place that is due is repeated
-pub repeated_falls : (rows : List Row) (place : ℕ) (new : List Row) (moment : ℕ) (row : Row) → IsLowest (is_due moment) rows (Some place) → IsChanged rows place (λ a. repeated a moment) new →
-    row ≡ get_or rows place row → is_over moment row.attempt ≡ false → count_where (is_due moment) (table_of new) < count_where (is_due moment) (table_of rows)
-repeated_falls rows place new moment row at changed is lasts =
-    let e = entry_of (get_or rows place row) in
+-- the attempt at an index that is due is repeated
+pub repeated_falls : (rows : List Row) (index : ℕ) (new : List Row) (moment : ℕ) (row : Row) → IsLowest (is_due moment) rows (Some index) → IsChanged rows index (λ a. repeated a moment) new →
+    row ≡ get_or rows index row → is_over moment row.attempt ≡ false → count_where (is_due moment) (table_of new) < count_where (is_due moment) (table_of rows)
+repeated_falls rows index new moment row at changed is lasts =
+    let e = entry_of (get_or rows index row) in
     let lasts_there : is_over moment e.1 ≡ false = ap (λ (r : Row). is_over moment r.attempt) (sym is) ∙ lasts in
     subst (λ (t : Attempts). count_where (is_due moment) t < count_where (is_due moment) (table_of rows)) (sym (changed.table row))
     (one_less _ _ (count_changed (is_due moment) (table_of rows) e.0 e.1 (repeated e.1 moment) (lowest_is_there (is_due moment) (table_of rows) e (at.1 row))

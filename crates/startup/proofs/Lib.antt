@@ -12,3 +12,5 @@ pub mod Startups
 pub mod Falling
 pub mod Chosen
 pub mod Standing
+pub mod Judged
+pub mod Finding

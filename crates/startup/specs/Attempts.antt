@@ -79,12 +79,12 @@ keying_answer s near a to cookie = keying_signed (sign_key_of s.secret) s.cert n
 
 -- An address joins the others unless one at its place is there.
 abbrev pub joined : List AddressParts → AddressParts → List AddressParts
-joined places address = if list_any (is_same_place address) places then places
-    else places ++ address ∷ []
+joined candidates address = if list_any (is_same_place address) candidates then candidates
+    else candidates ++ address ∷ []
 
 -- of the candidates at one place the first, in their order
-abbrev pub places_of : List AddressParts → List AddressParts
-places_of candidates = fold joined [] candidates
+abbrev pub distinct_candidates : List AddressParts → List AddressParts
+distinct_candidates candidates = fold joined [] candidates
 
 abbrev pub begun_attempt : StartupState → List ℕ → List AddressParts → List ℕ → List ℕ → ℕ →
     AttemptState
@@ -95,7 +95,7 @@ begun_attempt s peer candidates ni tag moment =
       ni = ni;
       tag = tag;
       start = moment;
-      candidates = places_of candidates;
+      candidates = distinct_candidates candidates;
       stage = Hello;
       last = moment;
       gap = 0;
@@ -110,7 +110,7 @@ after_begin s peer candidates near ni tag moment =
 abbrev pub begin_spread : StartupState → List ℕ → List AddressParts → List ℕ → List ℕ → ℕ →
     SpreadParts
 begin_spread s peer candidates ni tag moment =
-    hello_spread (begun_attempt s peer candidates ni tag moment) (places_of candidates)
+    hello_spread (begun_attempt s peer candidates ni tag moment) (distinct_candidates candidates)
 
 -- ---- an attempt is given up
 

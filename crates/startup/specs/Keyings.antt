@@ -169,7 +169,7 @@ keying_of keying = record { peer = sha256 keying.cert; n = keying.part.n; ni = k
 abbrev pub is_own : StartupState → List ℕ → Bool
 is_own s cert = bytes_eq cert s.cert || bytes_eq (sha256 cert) (sha256 s.cert)
 
--- the limit on sessions, which is told where no place is free
+-- the limit on sessions, which is told where there is no room for one more
 abbrev pub limit_told : Option ℕ → ℕ
 limit_told None = 0
 limit_told (Some limit) = limit
@@ -211,7 +211,7 @@ initiator_cause s payload from now full keying =
     ∷ [])
 
 -- Why an initiator's keying is discarded, where it came from this address at this moment; full is
--- the limit on sessions where no place is free. Want of memory stands behind all this.
+-- the limit on sessions where there is no room for one more. Want of memory stands behind all this.
 abbrev pub iikeying_cause : StartupState → List ℕ → AddressParts → ℕ → Option ℕ → Option Cause
 iikeying_cause s payload from now full = cause_by (initiator_cause s payload from now full)
     (initiator_keying_in payload)

@@ -16,25 +16,25 @@ fits (sought.Tag tag) a = has_tag tag.now a
 fits (sought.Cookie cookie) a = has_cookie cookie.now a
 fits (sought.Due moment) a = is_due moment a
 
--- the place of the row with the attempt that is chosen, where one is
+-- the index of the row with the attempt that is chosen, where one is
 abbrev pub IsChosen : Option (ℕ × AttemptState) → List Row → Option ℕ → Type 0
 IsChosen chosen rows None = chosen ≡ None
-IsChosen chosen rows (Some place) = (place < length rows) ×
-    ((d : Row) → chosen ≡ Some (entry_of (slice_index_or rows place d)))
+IsChosen chosen rows (Some index) = (index < length rows) ×
+    ((d : Row) → chosen ≡ Some (entry_of (slice_index_or rows index d)))
 
--- the place of the row with the lowest near id of those whose attempts pass
+-- the index of the row with the lowest near id of those whose attempts pass
 abbrev pub IsLowest : (AttemptState → Bool) → List Row → Option ℕ → Type 0
-IsLowest test rows place = IsChosen (lowest test (table_of rows)) rows place
+IsLowest test rows index = IsChosen (lowest test (table_of rows)) rows index
 
--- the attempt at one place is changed so
-pub record IsChanged (old : List Row) (place : ℕ) (change : AttemptState →
+-- the attempt at one index is changed so
+pub record IsChanged (old : List Row) (index : ℕ) (change : AttemptState →
     AttemptState) (new : List Row) : Type 0 where
   pub table : (d : Row) →
-    table_of new ≡ insert (table_of old) (slice_index_or old place d).near
-    (change (slice_index_or old place d).attempt)
+    table_of new ≡ insert (table_of old) (slice_index_or old index d).near
+    (change (slice_index_or old index d).attempt)
   pub distinct : len (table_of new) ≡ length new
 
--- the row at one place is gone
-pub record IsGone (old : List Row) (place : ℕ) (new : List Row) : Type 0 where
-  pub table : (d : Row) → table_of new ≡ remove (table_of old) (slice_index_or old place d).near
+-- the row at one index is gone
+pub record IsGone (old : List Row) (index : ℕ) (new : List Row) : Type 0 where
+  pub table : (d : Row) → table_of new ≡ remove (table_of old) (slice_index_or old index d).near
   pub distinct : len (table_of new) ≡ length new

@@ -4,18 +4,15 @@ ghost use Rattle.std.specs.Prelude.{◌≡◌, is_some};
 ghost use Rattle.glare_core.specs.Ledger.{held_with};
 ghost use Rattle.startup.specs.Attempts.{session_in};
 
-use crate::answer::{Answer, KeyRefusal, Spread};
+use crate::answer::Spread;
 use crate::attempt::{Attempt, Row, Stage};
-use crate::cause::Cause;
-use crate::choosing::{answered_place, changed_place};
-use crate::places::{Places, places_of};
-use crate::rows::{Sought, answer_at, end_at, lowest, push_reserved, recookie_at};
-use crate::sending::{hello_spread, keying_again, keying_answer};
+use crate::candidates::{Candidates, distinct_candidates};
+use crate::rows::{Sought, end_at, lowest, push_reserved};
+use crate::sending::hello_spread;
 use crate::startup::Startup;
 use glare_core::{Fact, Held, Peers, StartRefusal, Why};
 use identity::Epd;
 use rtmfp_forms::Address;
-use sha2::{Digest, Sha256};
 
 /// Whether a session is held with the peer.
 fn holds_session(peers: &Peers, peer: &[u8; 32]) -> bool
@@ -30,19 +27,18 @@ fn holds_session(peers: &Peers, peer: &[u8; 32]) -> bool
 
 impl Startup {
     ghost use Rattle.std.specs.Prelude.{◌≡◌, ◌≢◌, ◌≤◌, length, None, Some, Err, IfSome, IfNone,
-        IfOk, IfErr, IsOk, OnErr};
+        IfOk, IfErr, OnErr};
     ghost use Rattle.std.specs.FinMap.{get};
     ghost use Rattle.glare_core.specs.Ledger.{held_with};
     ghost use Rattle.glare_core.specs.Calls.{start_refusal, started_fact, MayEnd};
     ghost use Rattle.startup.specs.Attempts.{begin_spread, after_begin, cancel_fact, after_cancel,
-        confirm_fact, after_confirm, end_fact, after_end, rhello_cause, rhello_keying, after_rhello,
-        cookie_change_cause, cookie_change_keying, after_cookie_change, session_in};
+        confirm_fact, after_confirm, end_fact, after_end, session_in};
 
     /// Begins an attempt towards the end that the discriminator names, under a near id that isn't 0
     /// and that no held attempt has, with 1 to 16 candidate addresses; candidates at the same place
     /// count once.
     ///
-    /// It gives Started, and the hello for all candidate places, in order. The refusals are those
+    /// It gives Started, and the hello for all candidates, in order. The refusals are those
     /// of `Peers::start`, in their order; where it is refused, all is as before.
     pub fn begin(
         &mut self,
@@ -81,7 +77,7 @@ impl Startup {
             Ok(fact) => fact,
             Err(refusal) => return Err(refusal),
         };
-        let Places { to, count } = places_of(candidates);
+        let Candidates { to, count } = distinct_candidates(candidates);
         let attempt = Attempt {
             peer: epd.print,
             n: self.peers.started(),
@@ -106,7 +102,7 @@ impl Startup {
         ensures after { self.new ≡ after_cancel self.old n }
     {
         match lowest(&self.attempts, &Sought::Number(n)) {
-            Some(place) => Some(end_at(&mut self.peers, &mut self.attempts, place, Why::Cancelled)),
+            Some(index) => Some(end_at(&mut self.peers, &mut self.attempts, index, Why::Cancelled)),
             None => None,
         }
     }
@@ -135,72 +131,5 @@ impl Startup {
         } else {
             None
         }
-    }
-
-    /// Hears a responder's hello with this tag, cookie and certificate, from an address: the
-    /// attempt goes on to keyings, and its keying is given.
-    ///
-    /// The causes, in their order, are a wide tag or cookie, no attempt with this tag (of several
-    /// the one with the lowest near id counts), an attempt that was answered already, and the
-    /// certificate of another end; where one stands, all is as before. It never answers Memory.
-    pub fn responder_hello(
-        &mut self,
-        tag: &[u8],
-        cookie: &[u8],
-        cert: &[u8],
-        from: &Address,
-        moment: u64,
-    ) -> Result<Answer, KeyRefusal>
-        ensures answer { IfOk result (λ answer. rhello_keying self.old tag.now cookie.now from.now
-            ≡ Some answer) }
-        ensures after { IfOk result (λ _. self.new
-            ≡ after_rhello self.old tag.now cookie.now from.now moment) }
-        ensures refused { IfSome (rhello_cause self.old tag.now cookie.now cert.now)
-            (λ cause. result ≡ Err (KeyRefusal.Cause cause)) }
-        ensures heard { IfNone (rhello_cause self.old tag.now cookie.now cert.now) (IsOk result) }
-        ensures err { OnErr result (self.new ≡ self.old) }
-    {
-        let print = Sha256::digest(cert);
-        let place = match answered_place(&self.attempts, tag, cookie, &print) {
-            Ok(place) => place,
-            Err(cause) => return Err(KeyRefusal::Cause(cause)),
-        };
-        let answer = keying_answer(&self.attempts[place], &self.sign, &self.cert, from, cookie);
-        answer_at(&mut self.attempts, place, from, cookie, moment);
-        Ok(answer)
-    }
-
-    /// Hears a change of a cookie under a session ID: the keying goes out again with the new one.
-    ///
-    /// Under 0 it is of the attempt with the lowest near id that has the old cookie, else of the
-    /// attempt with that near id alone. The causes, in their order, are a wide cookie, the old one
-    /// before the new one, and no such attempt in the keying stage; where one stands, all is as
-    /// before. It takes no memory.
-    pub fn cookie_change(
-        &mut self,
-        sid: u32,
-        old: &[u8],
-        new: &[u8],
-        moment: u64,
-    ) -> Result<Answer, Cause>
-        ensures answer { IfOk result (λ answer. cookie_change_keying self.old sid old.now new.now
-            ≡ Some answer) }
-        ensures after { IfOk result (λ _. self.new
-            ≡ after_cookie_change self.old sid old.now new.now moment) }
-        ensures refused { IfSome (cookie_change_cause self.old sid old.now new.now) (λ cause. result
-            ≡ Err cause) }
-        ensures heard { IfNone (cookie_change_cause self.old sid old.now new.now) (IsOk result) }
-        ensures err { OnErr result (self.new ≡ self.old) }
-    {
-        let place = match changed_place(&self.attempts, sid, old, new) {
-            Ok(place) => place,
-            Err(cause) => return Err(cause),
-        };
-        let answer = match keying_again(&self.attempts[place], &self.sign, &self.cert, new) {
-            Some(answer) => answer,
-            None => unreachable!(),
-        };
-        recookie_at(&mut self.attempts, place, new, moment);
-        Ok(answer)
     }
 }

@@ -9,7 +9,7 @@ ghost use Rattle.startup.specs.Sought.{IsChosen};
 
 use crate::attempt::{Attempt, Row, Stage};
 use crate::cause::Cause;
-use crate::leaving::place_of;
+use crate::leaving::index_of;
 use crate::rows::{Sought, has_cookie, lowest};
 
 /// The most bytes of a tag or a cookie that is taken from a peer (own).
@@ -42,9 +42,9 @@ fn hello_cause(attempt: &Attempt, print: &[u8; 32]) -> Option<Cause>
     }
 }
 
-/// The place of the attempt that a responder's hello with this tag, cookie and fingerprint answers,
+/// The index of the attempt that a responder's hello with this tag, cookie and fingerprint answers,
 /// or why it is discarded.
-pub(crate) fn answered_place(
+pub(crate) fn answered_index(
     rows: &[Row],
     tag: &[u8],
     cookie: &[u8],
@@ -52,8 +52,8 @@ pub(crate) fn answered_place(
 ) -> Result<usize, Cause>
     requires { len (table_of rows.now) ≡ length rows.now }
     ensures ok
-        { IfOk result (λ place. IsChosen (lowest (has_tag tag.now) (table_of rows.now)) rows.now
-        (Some place)) }
+        { IfOk result (λ index. IsChosen (lowest (has_tag tag.now) (table_of rows.now)) rows.now
+        (Some index)) }
     ensures cookie { IfOk result (λ _. length cookie.now ≤ 128) }
     ensures cause
         { IfOk result (λ _. hello_cause_among (table_of rows.now) tag.now cookie.now print.now
@@ -70,24 +70,24 @@ pub(crate) fn answered_place(
         Some(cause) => return Err(cause),
         None => {}
     }
-    let Some(place) = lowest(rows, &Sought::Tag(tag)) else {
+    let Some(index) = lowest(rows, &Sought::Tag(tag)) else {
         return Err(Cause::NoAttempt);
     };
-    match hello_cause(&rows[place].attempt, print) {
+    match hello_cause(&rows[index].attempt, print) {
         Some(cause) => Err(cause),
-        None => Ok(place),
+        None => Ok(index),
     }
 }
 
-/// The place of the attempt with this near id, where it has this cookie.
-fn cookie_place(rows: &[Row], near: u32, cookie: &[u8]) -> Option<usize>
+/// The index of the attempt with this near id, where it has this cookie.
+fn cookie_index(rows: &[Row], near: u32, cookie: &[u8]) -> Option<usize>
     requires { len (table_of rows.now) ≡ length rows.now }
     ensures { IsChosen (if_cookie cookie.now near (get (table_of rows.now) near)) rows.now result }
 {
-    match place_of(rows, near) {
-        Some(place) => {
-            if has_cookie(&rows[place].attempt, cookie) {
-                Some(place)
+    match index_of(rows, near) {
+        Some(index) => {
+            if has_cookie(&rows[index].attempt, cookie) {
+                Some(index)
             } else {
                 None
             }
@@ -96,25 +96,25 @@ fn cookie_place(rows: &[Row], near: u32, cookie: &[u8]) -> Option<usize>
     }
 }
 
-/// The place of the attempt whose cookie a change under this session ID replaces.
-fn chosen_place(rows: &[Row], sid: u32, old: &[u8]) -> Option<usize>
+/// The index of the attempt whose cookie a change under this session ID replaces.
+fn chosen_index(rows: &[Row], sid: u32, old: &[u8]) -> Option<usize>
     requires { len (table_of rows.now) ≡ length rows.now }
     ensures { IsChosen (changed (table_of rows.now) sid old.now) rows.now result }
 {
     if sid == 0 {
         lowest(rows, &Sought::Cookie(old))
     } else {
-        cookie_place(rows, sid, old)
+        cookie_index(rows, sid, old)
     }
 }
 
-/// The place of the attempt whose cookie a change under this session ID replaces, or why it is
+/// The index of the attempt whose cookie a change under this session ID replaces, or why it is
 /// discarded.
-pub(crate) fn changed_place(rows: &[Row], sid: u32, old: &[u8], new: &[u8]) -> Result<usize, Cause>
+pub(crate) fn changed_index(rows: &[Row], sid: u32, old: &[u8], new: &[u8]) -> Result<usize, Cause>
     requires { len (table_of rows.now) ≡ length rows.now }
     ensures ok
-        { IfOk result (λ place. IsChosen (changed (table_of rows.now) sid old.now) rows.now
-        (Some place)) }
+        { IfOk result (λ index. IsChosen (changed (table_of rows.now) sid old.now) rows.now
+        (Some index)) }
     ensures cookie { IfOk result (λ _. length new.now ≤ 128) }
     ensures cause { IfOk result (λ _. change_cause_among (table_of rows.now) sid old.now new.now
         ≡ None) }
@@ -130,8 +130,8 @@ pub(crate) fn changed_place(rows: &[Row], sid: u32, old: &[u8], new: &[u8]) -> R
         Some(cause) => return Err(cause),
         None => {}
     }
-    match chosen_place(rows, sid, old) {
-        Some(place) => Ok(place),
+    match chosen_index(rows, sid, old) {
+        Some(index) => Ok(index),
         None => Err(Cause::NoAttempt),
     }
 }

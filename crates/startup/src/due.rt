@@ -20,19 +20,19 @@ impl Startup {
         ensures after { self.new ≡ after_due self.old moment }
         ensures falls { IfSome result (λ _. due_count moment self.new < due_count moment self.old) }
     {
-        let Some(place) = lowest(&self.attempts, &Sought::Due(moment)) else {
+        let Some(index) = lowest(&self.attempts, &Sought::Due(moment)) else {
             return None;
         };
-        if is_over(&self.attempts[place].attempt, moment) {
+        if is_over(&self.attempts[index].attempt, moment) {
             return Some(Due::Ended(end_at(
                 &mut self.peers,
                 &mut self.attempts,
-                place,
+                index,
                 Why::Expired,
             )));
         }
-        let repeat = repeat_of(&self.attempts[place], &self.sign, &self.cert);
-        repeat_at(&mut self.attempts, place, moment);
+        let repeat = repeat_of(&self.attempts[index], &self.sign, &self.cert);
+        repeat_at(&mut self.attempts, index, moment);
         Some(repeat)
     }
 }

@@ -24,7 +24,7 @@ ghost use Rattle.startup.specs.declared.answer.Due.TheVariants.{Ended as EndDue,
 ghost use Rattle.startup.specs.State.{AttemptState, Attempts, StartupState};
 ghost use Rattle.startup.specs.Attempts.{after_answer, after_change, answered, begun_attempt,
     change_cause_among, changed, ended_attempt, has_tag, hello_cause, hello_cause_among,
-    keying_signed, lowest, places_of, recookied, wide, with_attempt, without_attempt};
+    keying_signed, lowest, distinct_candidates, recookied, wide, with_attempt, without_attempt};
 ghost use Rattle.startup.specs.Due.{after_due_of, due_of, gap_of, is_over, is_repeat_due,
     repeat_signed, repeated, sends};
 ghost use Rattle.startup.specs.Keyings.{InitiatorKeying, ResponderKeying, attempt_cause,
@@ -81,7 +81,7 @@ pub fn a_repeat_goes_to_all_candidates()
     ensures keying { (key cert : List ℕ) (near : ℕ) (a : AttemptState) (at : AddressParts)
         (cookie : List ℕ) → repeat_signed key cert near a (Keying at cookie)
         ≡ KeyingDue (keying_signed key cert near a at cookie) }
-    ensures places { places_of (v4 0 2 ∷ v4 0 1 ∷ v4 0 2 ∷ v4 2 1 ∷ v4 0 3 ∷ [])
+    ensures places { distinct_candidates (v4 0 2 ∷ v4 0 1 ∷ v4 0 2 ∷ v4 2 1 ∷ v4 0 3 ∷ [])
         ≡ v4 0 2 ∷ v4 0 1 ∷ v4 0 3 ∷ [] }
     ensures two { (a : AttemptState) →
         sends 1000 (in_hello (record (timed 0 0 0 a) { candidates = v4 0 1 ∷ v4 0 2 ∷ [] })) ≡ 2 }

@@ -3,19 +3,21 @@
 #![tactic(auto)]
 
 mod answer;
+mod answering;
 mod attempt;
 mod attempts;
+mod candidates;
 mod cause;
 mod choosing;
 mod due;
 pub mod edges;
+mod judging;
 mod keying;
 pub mod laws;
 mod leaving;
 mod looking;
 mod packets;
 mod parts;
-mod places;
 mod reading;
 mod refusing;
 mod rows;
@@ -24,5 +26,9 @@ mod startup;
 
 pub use answer::{Answer, Due, KeyRefusal, Keyed, Spread};
 pub use cause::Cause;
+pub use judging::Hearing;
+pub use leaving::Found;
 pub use looking::keying_fault;
+pub use parts::{InitiatorPart, ResponderPart};
+pub use reading::{InitiatorFields, ResponderFields, read_initiator_keying, read_responder_keying};
 pub use startup::Startup;

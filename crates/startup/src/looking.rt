@@ -9,7 +9,7 @@ ghost use Rattle.startup.specs.Attempts.{cancel_fact, has_number, lowest};
 
 use crate::attempt::{Attempt, Row, Stage};
 use crate::cause::Cause;
-use crate::leaving::place_of;
+use crate::leaving::index_of;
 use crate::reading::{IIKEYING, RIKEYING, read_initiator_keying, read_responder_keying};
 use crate::rows::{Sought, is_over, lowest};
 use crate::startup::Startup;
@@ -52,7 +52,7 @@ fn has_row(rows: &[Row], near: u32) -> bool
     requires { len (table_of rows.now) ≡ length rows.now }
     ensures { result ≡ contains_key (table_of rows.now) near }
 {
-    place_of(rows, near).is_some()
+    index_of(rows, near).is_some()
 }
 
 /// Whether an attempt has this number.
@@ -72,7 +72,7 @@ fn due_sends(rows: &[Row], moment: u64) -> Option<usize>
     ensures { result ≡ due_sends_of moment (lowest (is_due moment) (table_of rows.now)) }
 {
     match lowest(rows, &Sought::Due(moment)) {
-        Some(place) => Some(sends(&rows[place].attempt, moment)),
+        Some(index) => Some(sends(&rows[index].attempt, moment)),
         None => None,
     }
 }

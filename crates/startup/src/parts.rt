@@ -9,26 +9,26 @@ use crypto_profile::{hmac, same_bytes};
 
 /// What the part of an initiator says.
 #[derive(Clone, Copy, Debug, PartialEq, Eq)]
-pub(crate) struct InitiatorPart {
+pub struct InitiatorPart {
     /// The initiator's nonce.
-    pub(crate) ni: [u8; 16],
+    pub ni: [u8; 16],
     /// The number of its attempt.
-    pub(crate) n: u64,
+    pub n: u64,
     /// The fingerprint of the end that it calls.
-    pub(crate) responder: [u8; 32],
+    pub responder: [u8; 32],
 }
 
 /// What the part of a responder says.
 #[derive(Clone, Copy, Debug, PartialEq, Eq)]
-pub(crate) struct ResponderPart {
+pub struct ResponderPart {
     /// The responder's nonce.
-    pub(crate) nr: [u8; 16],
+    pub nr: [u8; 16],
     /// How many attempts it had started.
-    pub(crate) k: u64,
+    pub k: u64,
     /// Its fingerprint.
-    pub(crate) responder: [u8; 32],
+    pub responder: [u8; 32],
     /// The initiator's nonce.
-    pub(crate) ni: [u8; 16],
+    pub ni: [u8; 16],
 }
 
 /// What these bytes say as the part of an initiator; None exactly where there aren't 56.

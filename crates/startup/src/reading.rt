@@ -1,7 +1,7 @@
 //! Keyings read from their payloads (RFC 7016 sections 2.3.7 and 2.3.8, with the own form of what
 //! they carry).
 
-ghost use Rattle.std.specs.Prelude.{◌≡◌, ◌≤◌, length, max};
+ghost use Rattle.std.specs.Prelude.{◌≡◌, ◌≤◌, IfOk, length, max};
 ghost use Rattle.startup.specs.Keyings.{behind_vlu, cert_offset, part_offset, fault_cause,
     initiator_keying_in, formed_initiator, responder_keying_in, formed_responder};
 ghost use Rattle.startup.specs.Read.{initiator_read, responder_read};
@@ -23,22 +23,32 @@ const ID_LEN: usize = 4;
 
 /// What an initiator's keying says.
 #[derive(Drop)]
-pub(crate) struct InitiatorFields<'a> {
+pub struct InitiatorFields<'a> {
+    /// The whole payload, which ends with the signature.
+    pub payload: &'a [u8],
     /// The initiator's session ID.
-    pub(crate) near: u32,
-    pub(crate) cookie: &'a [u8],
-    pub(crate) cert: Certificate,
-    pub(crate) part: InitiatorPart,
-    pub(crate) sign: &'a [u8],
+    pub near: u32,
+    /// The cookie that it was given.
+    pub cookie: &'a [u8],
+    /// The initiator's certificate.
+    pub cert: Certificate,
+    /// Its part of the session key.
+    pub part: InitiatorPart,
+    /// The signature of what stands before it.
+    pub sign: &'a [u8],
 }
 
 /// What a responder's keying says.
 #[derive(Drop)]
-pub(crate) struct ResponderFields<'a> {
+pub struct ResponderFields<'a> {
+    /// The whole payload, which ends with the signature.
+    pub payload: &'a [u8],
     /// The responder's session ID.
-    pub(crate) near: u32,
-    pub(crate) part: ResponderPart,
-    pub(crate) sign: &'a [u8],
+    pub near: u32,
+    /// Its part of the session key.
+    pub part: ResponderPart,
+    /// The signature of what stands before it.
+    pub sign: &'a [u8],
 }
 
 /// The cause of a chunk that can't be read.
@@ -86,8 +96,9 @@ fn part_offset(payload: &[u8], part: &[u8], sign: &[u8]) -> u64
 
 /// Reads an initiator's keying, whose certificate and part have their form.
 #[tactic(auto, unfolding(crate::specs::Keyings::initiator_keying_in))]
-pub(crate) fn read_initiator_keying(payload: &[u8]) -> Result<InitiatorFields<'_>, Cause>
-    ensures { initiator_read result ≡ initiator_keying_in payload.now }
+pub fn read_initiator_keying(payload: &[u8]) -> Result<InitiatorFields<'_>, Cause>
+    ensures fields { initiator_read result ≡ initiator_keying_in payload.now }
+    ensures payload { IfOk result (λ fields. fields.payload.now ≡ payload.now) }
 {
     match read_chunk(IIKEYING, payload) {
         Ok(
@@ -106,15 +117,16 @@ pub(crate) fn read_initiator_keying(payload: &[u8]) -> Result<InitiatorFields<'_
 
 /// The fields of an initiator's keying, where each has its form.
 fn formed_initiator<'a>(
-    payload: &[u8],
+    payload: &'a [u8],
     near: u32,
     cookie: &'a [u8],
     cert: &[u8],
     part: &[u8],
     sign: &'a [u8],
 ) -> Result<InitiatorFields<'a>, Cause>
-    ensures { initiator_read result ≡ formed_initiator payload.now near cookie.now cert.now part.now
-        sign.now }
+    ensures fields { initiator_read result
+        ≡ formed_initiator payload.now near cookie.now cert.now part.now sign.now }
+    ensures payload { IfOk result (λ fields. fields.payload.now ≡ payload.now) }
 {
     if near == 0 {
         return Err(Cause::Malformed(0));
@@ -125,6 +137,7 @@ fn formed_initiator<'a>(
     };
     match read_initiator_part(part) {
         Some(part) => Ok(InitiatorFields {
+            payload,
             near,
             cookie,
             cert,
@@ -137,8 +150,9 @@ fn formed_initiator<'a>(
 
 /// Reads a responder's keying, whose part has its form.
 #[tactic(auto, unfolding(crate::specs::Keyings::responder_keying_in))]
-pub(crate) fn read_responder_keying(payload: &[u8]) -> Result<ResponderFields<'_>, Cause>
-    ensures { responder_read result ≡ responder_keying_in payload.now }
+pub fn read_responder_keying(payload: &[u8]) -> Result<ResponderFields<'_>, Cause>
+    ensures fields { responder_read result ≡ responder_keying_in payload.now }
+    ensures payload { IfOk result (λ fields. fields.payload.now ≡ payload.now) }
 {
     match read_chunk(RIKEYING, payload) {
         Ok(ChunkView::RIKeying { near, part, sign }) => formed_responder(payload, near, part, sign),
@@ -149,18 +163,24 @@ pub(crate) fn read_responder_keying(payload: &[u8]) -> Result<ResponderFields<'_
 
 /// The fields of a responder's keying, where each has its form.
 fn formed_responder<'a>(
-    payload: &[u8],
+    payload: &'a [u8],
     near: u32,
     part: &[u8],
     sign: &'a [u8],
 ) -> Result<ResponderFields<'a>, Cause>
-    ensures { responder_read result ≡ formed_responder payload.now near part.now sign.now }
+    ensures fields { responder_read result ≡ formed_responder payload.now near part.now sign.now }
+    ensures payload { IfOk result (λ fields. fields.payload.now ≡ payload.now) }
 {
     if near == 0 {
         return Err(Cause::Malformed(0));
     }
     match read_responder_part(part) {
-        Some(part) => Ok(ResponderFields { near, part, sign }),
+        Some(part) => Ok(ResponderFields {
+            payload,
+            near,
+            part,
+            sign,
+        }),
         None => Err(Cause::Malformed(part_offset(payload, part, sign))),
     }
 }

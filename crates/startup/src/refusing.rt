@@ -6,7 +6,7 @@ ghost use Rattle.startup.specs.Refusals.{rhello_refusal_with, rhello_refusal, co
 ghost use Rattle.startup.specs.Attempts.{rhello_cause, cookie_change_cause};
 
 use crate::cause::Cause;
-use crate::choosing::{answered_place, changed_place};
+use crate::choosing::{answered_index, changed_index};
 use crate::reading::{IIKEYING, RIKEYING, fault_cause};
 use crate::startup::Startup;
 use identity::Certificate;
@@ -22,8 +22,8 @@ const COOKIE_CHANGE: u8 = 0x79;
 impl Startup {
     /// The cause with which `responder_hello`, `cookie_change`, `initiator_keying` or
     /// `responder_keying` would refuse the chunk of this type and payload, which came under this
-    /// session ID; `full` is the limit on sessions where no place is free. None exactly where that
-    /// call would give no cause, and for other types.
+    /// session ID; `full` is the limit on sessions where there is no room for one more. None
+    /// exactly where that call would give no cause, and for other types.
     ///
     /// A payload that doesn't read, and a responder's hello whose certificate has no form, are
     /// malformed. It changes nothing and takes no memory.
@@ -66,7 +66,7 @@ impl Startup {
         ensures { result ≡ rhello_refusal_with self.now payload.now tag.now cookie.now cert.now }
     {
         match Certificate::read(cert) {
-            Ok(cert) => match answered_place(&self.attempts, tag, cookie, &cert.print()) {
+            Ok(cert) => match answered_index(&self.attempts, tag, cookie, &cert.print()) {
                 Ok(_) => None,
                 Err(cause) => Some(cause),
             },
@@ -90,7 +90,7 @@ impl Startup {
     fn change_refusal(&self, sid: u32, old: &[u8], new: &[u8]) -> Option<Cause>
         ensures { result ≡ cookie_change_cause self.now sid old.now new.now }
     {
-        match changed_place(&self.attempts, sid, old, new) {
+        match changed_index(&self.attempts, sid, old, new) {
             Ok(_) => None,
             Err(cause) => Some(cause),
         }

@@ -85,14 +85,14 @@ fn fits(attempt: &Attempt, sought: &Sought<'_>) -> bool
     }
 }
 
-/// The place of the row with the lowest near id of those that are sought, once the row at `place`
+/// The index of the row with the lowest near id of those that are sought, once the row at `index`
 /// was looked at too.
-fn better(rows: &[Row], sought: &Sought<'_>, best: Option<usize>, place: usize) -> Option<usize>
-    requires within { place < length rows.now }
-    requires best { IsBest near_in attempt_in (fits sought.now) rows.now place best }
-    ensures { IsBest near_in attempt_in (fits sought.now) rows.now (place + 1) result }
+fn better(rows: &[Row], sought: &Sought<'_>, best: Option<usize>, index: usize) -> Option<usize>
+    requires within { index < length rows.now }
+    requires best { IsBest near_in attempt_in (fits sought.now) rows.now index best }
+    ensures { IsBest near_in attempt_in (fits sought.now) rows.now (index + 1) result }
 {
-    let row = &rows[place];
+    let row = &rows[index];
     if !fits(&row.attempt, sought) {
         return best;
     }
@@ -101,21 +101,21 @@ fn better(rows: &[Row], sought: &Sought<'_>, best: Option<usize>, place: usize) 
             if rows[other].near <= row.near {
                 Some(other)
             } else {
-                Some(place)
+                Some(index)
             }
         }
-        None => Some(place),
+        None => Some(index),
     }
 }
 
-/// The place of the row with the lowest near id of those that are sought.
+/// The index of the row with the lowest near id of those that are sought.
 pub(crate) fn lowest(rows: &[Row], sought: &Sought<'_>) -> Option<usize>
     requires { len (table_of rows.now) ≡ length rows.now }
     ensures { IsLowest (fits sought.now) rows.now result }
 {
     let mut best = None;
-    for place in 0..rows.len() {
-        best = better(rows, sought, best, place);
+    for index in 0..rows.len() {
+        best = better(rows, sought, best, index);
     }
     best
 }
@@ -131,68 +131,68 @@ pub(crate) fn push_reserved(rows: &mut Vec<Row>, row: Row)
     }
 }
 
-/// The attempt at this place was answered from an address with a cookie.
+/// The attempt at this index was answered from an address with a cookie.
 pub(crate) fn answer_at(
     rows: &mut Vec<Row>,
-    place: usize,
+    index: usize,
     from: &Address,
     cookie: &[u8],
     moment: u64,
 )
-    requires within { place < length rows.old.items }
+    requires within { index < length rows.old.items }
     requires distinct { len (table_of rows.old.items) ≡ length rows.old.items }
     requires cookie { length cookie.now ≤ 128 }
-    ensures { IsChanged rows.old.items place (λ a. answered a from.now cookie.now moment)
+    ensures { IsChanged rows.old.items index (λ a. answered a from.now cookie.now moment)
         rows.new.items }
 {
-    rows[place].attempt.answer(from, cookie, moment);
+    rows[index].attempt.answer(from, cookie, moment);
 }
 
-/// The keying of the attempt at this place goes out with another cookie from now on.
-pub(crate) fn recookie_at(rows: &mut Vec<Row>, place: usize, new: &[u8], moment: u64)
-    requires within { place < length rows.old.items }
+/// The keying of the attempt at this index goes out with another cookie from now on.
+pub(crate) fn recookie_at(rows: &mut Vec<Row>, index: usize, new: &[u8], moment: u64)
+    requires within { index < length rows.old.items }
     requires distinct { len (table_of rows.old.items) ≡ length rows.old.items }
     requires cookie { length new.now ≤ 128 }
-    ensures { IsChanged rows.old.items place (λ a. recookied a new.now moment) rows.new.items }
+    ensures { IsChanged rows.old.items index (λ a. recookied a new.now moment) rows.new.items }
 {
-    rows[place].attempt.recookie(new, moment);
+    rows[index].attempt.recookie(new, moment);
 }
 
-/// What the attempt at this place sends is sent again.
-pub(crate) fn repeat_at(rows: &mut Vec<Row>, place: usize, moment: u64)
-    requires within { place < length rows.old.items }
+/// What the attempt at this index sends is sent again.
+pub(crate) fn repeat_at(rows: &mut Vec<Row>, index: usize, moment: u64)
+    requires within { index < length rows.old.items }
     requires distinct { len (table_of rows.old.items) ≡ length rows.old.items }
-    ensures { IsChanged rows.old.items place (λ a. repeated a moment) rows.new.items }
+    ensures { IsChanged rows.old.items index (λ a. repeated a moment) rows.new.items }
 {
-    rows[place].attempt.repeat(moment);
+    rows[index].attempt.repeat(moment);
 }
 
-/// The attempt at this place is forgotten.
-pub(crate) fn forget_at(rows: &mut Vec<Row>, place: usize)
-    requires within { place < length rows.old.items }
+/// The attempt at this index is forgotten.
+pub(crate) fn forget_at(rows: &mut Vec<Row>, index: usize)
+    requires within { index < length rows.old.items }
     requires distinct { len (table_of rows.old.items) ≡ length rows.old.items }
-    ensures { IsGone rows.old.items place rows.new.items }
+    ensures { IsGone rows.old.items index rows.new.items }
 {
-    let _gone = rows.swap_remove(place);
+    let _gone = rows.swap_remove(index);
 }
 
-/// The attempt at this place ends, and is forgotten; its end is given.
-pub(crate) fn end_at(peers: &mut Peers, rows: &mut Vec<Row>, place: usize, why: Why) -> Fact
-    requires within { place < length rows.old.items }
+/// The attempt at this index ends, and is forgotten; its end is given.
+pub(crate) fn end_at(peers: &mut Peers, rows: &mut Vec<Row>, index: usize, why: Why) -> Fact
+    requires within { index < length rows.old.items }
     requires distinct { len (table_of rows.old.items) ≡ length rows.old.items }
-    requires held { (d : Row) → let a = (slice_index_or rows.old.items place d) in
+    requires held { (d : Row) → let a = (slice_index_or rows.old.items index d) in
         held_with peers.old a.attempt.peer ≡ Some (Opening a.attempt.n a.near a.attempt.ni) }
     requires why { (n near : ℕ) (ni : List ℕ) → MayEnd why (Opening n near ni) }
     ensures fact { (d : Row) →
-        result ≡ ended_attempt (entry_of (slice_index_or rows.old.items place d)) why }
+        result ≡ ended_attempt (entry_of (slice_index_or rows.old.items index d)) why }
     ensures ledger { peers.new ≡ noted peers.old result }
-    ensures gone { IsGone rows.old.items place rows.new.items }
+    ensures gone { IsGone rows.old.items index rows.new.items }
 {
-    let attempt = &rows[place].attempt;
+    let attempt = &rows[index].attempt;
     let peer = attempt.peer;
     match peers.end(&peer, why) {
         Some(fact) => {
-            forget_at(rows, place);
+            forget_at(rows, index);
             fact
         }
         None => unreachable!(),

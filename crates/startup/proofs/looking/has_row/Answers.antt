@@ -4,4 +4,4 @@ use Rattle.startup.specs.Rows.{near_in, attempt_in}
 use Rattle.startup.proofs.looking.has_row.Goals as goal
 
 pub returns : goal.returns
-returns c = c.is_some.ensures ∙ ap is_some c.place_of.ensures ∙ index_tells near_in attempt_in c.args.rows.now c.args.near c.requires
+returns c = c.is_some.ensures ∙ ap is_some c.index_of.ensures ∙ index_tells near_in attempt_in c.args.rows.now c.args.near c.requires

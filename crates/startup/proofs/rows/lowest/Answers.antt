@@ -7,6 +7,6 @@ use Rattle.startup.proofs.rows.lowest.Goals as goal
 
 pub returns : goal.returns
 returns c =
-    let all : c.loop-place.place ≡ length c.args.rows.now = omega arith in
-    lowest_of_all (fits c.args.sought.now) c.args.rows.now c.loop-place.best c.requires
-    (subst (λ (n : ℕ). IsBest near_in attempt_in (fits c.args.sought.now) c.args.rows.now n c.loop-place.best) all c.loop-place.invariant)
+    let all : c.loop-index.index ≡ length c.args.rows.now = omega arith in
+    lowest_of_all (fits c.args.sought.now) c.args.rows.now c.loop-index.best c.requires
+    (subst (λ (n : ℕ). IsBest near_in attempt_in (fits c.args.sought.now) c.args.rows.now n c.loop-index.best) all c.loop-index.invariant)

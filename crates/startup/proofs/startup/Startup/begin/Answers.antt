@@ -14,7 +14,7 @@ invariant_of-self-2 c =
     let free : get (table_of i.attempts.items) c.args.near ≡ None = ap (λ (t : StartupState). get t.attempts c.args.near) c.self.view_is ∙ c.requires.free in
     begun_is_kept i.cert i.print i.secret i.sign i.cookies i.peers i.attempts.items c.self.invariant c.args.epd.now.print c.args.ni c.args.tag c.args.candidates.now c.args.near c.args.moment
     free (sym c.start_refusal.ensures ∙ c.in-None.is) _ refl
-    (begun_attempt_is s c.args.epd.now.print c.args.candidates.now c.args.near c.args.ni c.args.tag c.args.moment _ _ c.start.new.self c.in-Ok-start.fact c.started.ensures.started c.in-Ok-start.ensures.ok.1 c.in-Ok-start.ensures.ok.0 c.places_of-to.ensures.places)
+    (begun_attempt_is s c.args.epd.now.print c.args.candidates.now c.args.near c.args.ni c.args.tag c.args.moment _ _ c.start.new.self c.in-Ok-start.fact c.started.ensures.started c.in-Ok-start.ensures.ok.1 c.in-Ok-start.ensures.ok.0 c.distinct_candidates-to.ensures.distinct)
     c.start.new.self (c.in-Ok-start.ensures.ok.1 ∙ ap (noted i.peers) c.in-Ok-start.ensures.ok.0)
     c.try_reserve.new.self.items c.push_reserved.new.rows.items c.try_reserve.ensures.items c.push_reserved.ensures
 
@@ -25,7 +25,7 @@ returns-clause-after c =
     let free : get (table_of i.attempts.items) c.args.near ≡ None = ap (λ (t : StartupState). get t.attempts c.args.near) c.self.view_is ∙ c.requires.free in
     begun_state i.cert i.print i.secret i.sign i.cookies i.peers i.attempts.items c.self.invariant c.args.epd.now.print c.args.ni c.args.tag c.args.candidates.now c.args.near c.args.moment
     free (sym c.start_refusal.ensures ∙ c.in-None.is) _ refl
-    (begun_attempt_is s c.args.epd.now.print c.args.candidates.now c.args.near c.args.ni c.args.tag c.args.moment _ _ c.start.new.self c.in-Ok-start.fact c.started.ensures.started c.in-Ok-start.ensures.ok.1 c.in-Ok-start.ensures.ok.0 c.places_of-to.ensures.places)
+    (begun_attempt_is s c.args.epd.now.print c.args.candidates.now c.args.near c.args.ni c.args.tag c.args.moment _ _ c.start.new.self c.in-Ok-start.fact c.started.ensures.started c.in-Ok-start.ensures.ok.1 c.in-Ok-start.ensures.ok.0 c.distinct_candidates-to.ensures.distinct)
     c.start.new.self (c.in-Ok-start.ensures.ok.1 ∙ ap (noted i.peers) c.in-Ok-start.ensures.ok.0)
     c.try_reserve.new.self.items c.push_reserved.new.rows.items c.try_reserve.ensures.items c.push_reserved.ensures
     ∙ ap (λ (t : StartupState). after_begin t c.args.epd.now.print c.args.candidates.now c.args.near c.args.ni c.args.tag c.args.moment) c.self.view_is

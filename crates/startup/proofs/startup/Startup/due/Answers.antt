@@ -13,32 +13,32 @@ use Rattle.startup.proofs.startup.Startup.due.Goals as goal
 pub end_at-requires-clause-held : goal.end_at-requires-clause-held
 end_at-requires-clause-held c d =
     let i = c.self.inside in
-    let at : IsLowest (is_due c.args.moment) i.attempts.items (Some c.in-Some.place) = subst (λ (r : List Row). IsLowest (is_due c.args.moment) r (Some c.in-Some.place)) c.deref.ensures.value c.in-Some.ensures in
-    held_at i.cert i.print i.secret i.sign i.cookies i.peers i.attempts.items c.self.invariant c.in-Some.place d at.0
+    let at : IsLowest (is_due c.args.moment) i.attempts.items (Some c.in-Some.index) = subst (λ (r : List Row). IsLowest (is_due c.args.moment) r (Some c.in-Some.index)) c.deref.ensures.value c.in-Some.ensures in
+    held_at i.cert i.print i.secret i.sign i.cookies i.peers i.attempts.items c.self.invariant c.in-Some.index d at.0
 
 pub invariant_of-self : goal.invariant_of-self
 invariant_of-self c =
     let i = c.self.inside in
-    let at : IsLowest (is_due c.args.moment) i.attempts.items (Some c.in-Some.place) = subst (λ (r : List Row). IsLowest (is_due c.args.moment) r (Some c.in-Some.place)) c.deref.ensures.value c.in-Some.ensures in
-    ended_is_kept i.cert i.print i.secret i.sign i.cookies i.peers i.attempts.items c.self.invariant c.in-Some.place at.0 Expired c.end_at.result c.end_at.ensures.fact c.end_at.new.peers c.end_at.new.rows.items c.end_at.ensures.ledger c.end_at.ensures.gone
+    let at : IsLowest (is_due c.args.moment) i.attempts.items (Some c.in-Some.index) = subst (λ (r : List Row). IsLowest (is_due c.args.moment) r (Some c.in-Some.index)) c.deref.ensures.value c.in-Some.ensures in
+    ended_is_kept i.cert i.print i.secret i.sign i.cookies i.peers i.attempts.items c.self.invariant c.in-Some.index at.0 Expired c.end_at.result c.end_at.ensures.fact c.end_at.new.peers c.end_at.new.rows.items c.end_at.ensures.ledger c.end_at.ensures.gone
 
 pub invariant_of-self-2 : goal.invariant_of-self-2
 invariant_of-self-2 c =
     let i = c.self.inside in
-    let at : IsLowest (is_due c.args.moment) i.attempts.items (Some c.in-Some.place) = subst (λ (r : List Row). IsLowest (is_due c.args.moment) r (Some c.in-Some.place)) c.deref.ensures.value c.in-Some.ensures in
-    changed_is_kept i.cert i.print i.secret i.sign i.cookies i.peers i.attempts.items c.self.invariant c.in-Some.place at.0 (λ a. repeated a c.args.moment) c.repeat_at.new.rows.items c.repeat_at.ensures
+    let at : IsLowest (is_due c.args.moment) i.attempts.items (Some c.in-Some.index) = subst (λ (r : List Row). IsLowest (is_due c.args.moment) r (Some c.in-Some.index)) c.deref.ensures.value c.in-Some.ensures in
+    changed_is_kept i.cert i.print i.secret i.sign i.cookies i.peers i.attempts.items c.self.invariant c.in-Some.index at.0 (λ a. repeated a c.args.moment) c.repeat_at.new.rows.items c.repeat_at.ensures
     (record { peer = λ a. refl; n = λ a. refl; ni = λ a. refl })
 
 pub returns-then-is_over-clause-falls : goal.returns-then-is_over-clause-falls
 returns-then-is_over-clause-falls c =
     let i = c.self.inside in
-    let at : IsLowest (is_due c.args.moment) i.attempts.items (Some c.in-Some.place) = subst (λ (r : List Row). IsLowest (is_due c.args.moment) r (Some c.in-Some.place)) c.deref.ensures.value c.in-Some.ensures in
+    let at : IsLowest (is_due c.args.moment) i.attempts.items (Some c.in-Some.index) = subst (λ (r : List Row). IsLowest (is_due c.args.moment) r (Some c.in-Some.index)) c.deref.ensures.value c.in-Some.ensures in
     subst (λ (s : StartupState). count_where (is_due c.args.moment) (table_of c.end_at.new.rows.items) < due_count c.args.moment s) c.self.view_is
-    (gone_falls i.attempts.items c.in-Some.place c.end_at.new.rows.items c.args.moment at c.end_at.ensures.gone)
+    (gone_falls i.attempts.items c.in-Some.index c.end_at.new.rows.items c.args.moment at c.end_at.ensures.gone)
 
 pub returns-clause-falls : goal.returns-clause-falls
 returns-clause-falls c =
     let i = c.self.inside in
-    let at : IsLowest (is_due c.args.moment) i.attempts.items (Some c.in-Some.place) = subst (λ (r : List Row). IsLowest (is_due c.args.moment) r (Some c.in-Some.place)) c.deref.ensures.value c.in-Some.ensures in
+    let at : IsLowest (is_due c.args.moment) i.attempts.items (Some c.in-Some.index) = subst (λ (r : List Row). IsLowest (is_due c.args.moment) r (Some c.in-Some.index)) c.deref.ensures.value c.in-Some.ensures in
     subst (λ (s : StartupState). count_where (is_due c.args.moment) (table_of c.repeat_at.new.rows.items) < due_count c.args.moment s) c.self.view_is
-    (repeated_falls i.attempts.items c.in-Some.place c.repeat_at.new.rows.items c.args.moment c.index.result.now at c.repeat_at.ensures c.index.ensures (sym c.is_over.ensures ∙ c.if-is_over.false))
+    (repeated_falls i.attempts.items c.in-Some.index c.repeat_at.new.rows.items c.args.moment c.index.result.now at c.repeat_at.ensures c.index.ensures (sym c.is_over.ensures ∙ c.if-is_over.false))

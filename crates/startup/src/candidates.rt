@@ -1,16 +1,16 @@
-//! Addresses, no two at one place.
+//! Candidate addresses, no two at one place.
 
 ghost use Rattle.std.specs.Prelude.{◌≡◌, ◌<◌, ◌≤◌, ◌+◌, length, take};
 ghost use Rattle.std.specs.List.{list_any};
 ghost use Rattle.cookies.specs.Cookie.{is_same_place};
-ghost use Rattle.startup.specs.Attempts.{joined, places_of};
+ghost use Rattle.startup.specs.Attempts.{joined, distinct_candidates};
 
 use crate::attempt::CANDIDATES;
 use rtmfp_forms::Address;
 
 /// Addresses: the first `count` of these.
 #[derive(Drop)]
-pub(crate) struct Places {
+pub(crate) struct Candidates {
     pub(crate) to: [Address; CANDIDATES],
     pub(crate) count: usize,
 }
@@ -22,11 +22,13 @@ fn is_same_place(a: &Address, b: &Address) -> bool
     a.same_place(b)
 }
 
-/// Whether one of the places is that of the address.
-fn has_place(places: &[Address], address: &Address) -> bool
-    ensures { result ≡ list_any (is_same_place address.now) places.now }
+/// Whether one of the addresses is at the same place as this one.
+fn has_address(addresses: &[Address], address: &Address) -> bool
+    ensures { result ≡ list_any (is_same_place address.now) addresses.now }
 {
-    places.iter().any(|place| is_same_place(address, place))
+    addresses
+        .iter()
+        .any(|other| is_same_place(address, other))
 }
 
 /// An address joins the first `count` of these, unless one of them is at its place; how many there
@@ -36,7 +38,7 @@ fn join(to: &mut [Address; CANDIDATES], count: usize, address: &Address) -> usiz
     ensures joined { take result to.new ≡ joined (take count to.old) address.now }
     ensures one_more { result ≤ count + 1 }
 {
-    if has_place(&to[..count], address) {
+    if has_address(&to[..count], address) {
         return count;
     }
     to[count] = *address;
@@ -44,9 +46,9 @@ fn join(to: &mut [Address; CANDIDATES], count: usize, address: &Address) -> usiz
 }
 
 /// Of the candidates at one place the first, in their order.
-pub(crate) fn places_of(candidates: &[Address]) -> Places
+pub(crate) fn distinct_candidates(candidates: &[Address]) -> Candidates
     requires { length candidates.now ≤ 16 }
-    ensures places { take result.count result.to ≡ places_of candidates.now }
+    ensures distinct { take result.count result.to ≡ distinct_candidates candidates.now }
     ensures few { result.count ≤ 16 }
 {
     let mut to = [Address::v4([0; 4], 0); CANDIDATES];
@@ -54,5 +56,5 @@ pub(crate) fn places_of(candidates: &[Address]) -> Places
     for candidate in candidates {
         count = join(&mut to, count, candidate);
     }
-    Places { to, count }
+    Candidates { to, count }
 }

@@ -4,7 +4,7 @@ use Rattle.startup.specs.State.{StartupState, peer_of_attempt}
 use Rattle.startup.specs.Rows.{state_of, table_of}
 use Rattle.startup.specs.Read.{responder_of}
 use Rattle.startup.proofs.Stepping.{opened_is_kept_sound}
-use Rattle.startup.proofs.startup.Startup.open.Goals as goal
+use Rattle.startup.proofs.startup.Startup.apply_responder_keying.Goals as goal
 
 pub invariant_of-self : goal.invariant_of-self
 invariant_of-self c =

@@ -1,7 +1,7 @@
 use Rattle.std.proofs.Common.{◌≡◌, ◌≤◌, take, []}
 use Rattle.std.specs.List.{fold}
 use Rattle.startup.specs.Attempts.{joined}
-use Rattle.startup.proofs.places.places_of.Given as goal
+use Rattle.startup.proofs.candidates.distinct_candidates.Given as goal
 
 abbrev pub invariant-loop-candidate : goal.invariant-loop-candidate
 invariant-loop-candidate l = record {

@@ -1,0 +1,171 @@
+-- What a keying that was found to be heard, and how, gives and leaves.
+use Rattle.std.proofs.Common.{ℕ, List, [], ◌∷◌, ◌≡◌, Bool, true, false, ◌&&◌, not, Option, Some, None, is_some, is_none, Result, Ok, Err, IfOk, IfErr, refl, sym, ap, ◌∙◌, if◌then◌else◌, nat_le}
+use Rattle.sha2.specs.Sha256.{sha256}
+use Rattle.rtmfp_forms.specs.Address.{AddressParts}
+use Rattle.cookies.specs.declared.CookieTest.{CookieTest}
+use Rattle.cookies.specs.declared.CookieTest.TheVariants.{Bad, Moved, Expired, Current}
+use Rattle.cookies.specs.Cookie.{cookie_test}
+use Rattle.glare_core.specs.declared.facts.Joined.{Joined}
+use Rattle.glare_core.specs.declared.answers.Keying.{Keying}
+use Rattle.glare_core.specs.declared.answers.HearRefusal.{HearRefusal}
+use Rattle.glare_core.specs.declared.answers.HearRefusal.TheVariants.{Stale, PeersFull, SessionsFull}
+use Rattle.glare_core.specs.Ledger.{Ledger, held_with, floor_of, row_count, knows}
+use Rattle.glare_core.specs.Calls.{where_true, first_that_stands, again_of, peers_full, glare_of, birth_refusal, hear_refusal}
+use Rattle.startup.specs.declared.cause.Cause.{Cause}
+use Rattle.startup.specs.declared.cause.Cause.TheVariants.{BadSignature}
+use Rattle.startup.specs.declared.answer.Keyed.{Keyed}
+use Rattle.startup.specs.declared.answer.Keyed.TheVariants as keyed
+use Rattle.startup.specs.declared.judging.Hearing.{Hearing}
+use Rattle.startup.specs.declared.judging.Hearing.TheVariants.{Change, Again, Birth}
+use Rattle.startup.specs.State.{StartupState}
+use Rattle.startup.specs.Packets.{is_signed}
+use Rattle.startup.specs.Attempts.{wide}
+use Rattle.startup.specs.Keyings.{InitiatorKeying, cookie_cause, named_cause, keying_of, repeated_session, initiator_cause, change_answer, session_answer, again_or_birth, after_again_or_birth, keyed_with, after_keyed_with, needs_row_with}
+use Rattle.startup.specs.Judging.{unless_cause, again_or_new, hearing, judged_initiator}
+use Rattle.startup.proofs.Uncaused.{IsHeard, no_cause_is_heard, no_cause_is_narrow}
+
+-- ---- what was found, where no cause stands
+pub uncaused : {A : Type 0} (found x : A) (o : Option Cause) → unless_cause found o ≡ Ok x → o ≡ None
+uncaused found x None e = refl
+uncaused found x (Some cause) e = absurd (cc)
+
+pub is_found : {A : Type 0} (found x : A) (o : Option Cause) → unless_cause found o ≡ Ok x → found ≡ x
+is_found found x None e = cc
+is_found found x (Some cause) e = absurd (cc)
+
+-- a keying with a good signature and a narrow, current cookie
+lone : (o : Option Cause) → first_that_stands (o ∷ []) ≡ o
+lone None = refl
+lone (Some cause) = refl
+
+pub current_judged : (s : StartupState) (payload : List ℕ) (from : AddressParts) (now : ℕ) (full : Option ℕ) (read : InitiatorKeying) →
+    is_signed s.secret payload read.sign ≡ true → wide read.cookie ≡ None → cookie_test s.cookie_secret read.cookie from now ≡ Current →
+    unless_cause (hearing s read Current) (named_cause s read full) ≡ judged_initiator s payload from now full read
+current_judged s payload from now full read signed narrow current =
+    sym ((λ i. unless_cause (hearing s read (current i)) (first_that_stands (where_true (not (signed i)) BadSignature ∷ narrow i ∷ cookie_cause (current i) (named_cause s read full) ∷ [])))
+    ∙ ap (unless_cause (hearing s read Current)) (lone (named_cause s read full)))
+
+-- ---- a keying that isn't refused isn't where there is room, either
+
+last_free : (a b c : Option HearRefusal) (x : HearRefusal) (none free : Bool) → first_that_stands (a ∷ b ∷ c ∷ where_true (none && not free) x ∷ []) ≡ None →
+    first_that_stands (a ∷ b ∷ c ∷ where_true (none && not true) x ∷ []) ≡ None
+last_free None None None x true free e = refl
+last_free None None None x false free e = refl
+last_free (Some y) b c x none free e = absurd (cc)
+last_free None (Some y) c x none free e = absurd (cc)
+last_free None None (Some y) x none free e = absurd (cc)
+
+chosen_free : (again : Bool) (o p : Option HearRefusal) → (o ≡ None → p ≡ None) → (if again then None else o) ≡ None → (if again then None else p) ≡ None
+chosen_free true o p go e = refl
+chosen_free false o p go e = go e
+
+pub heard_free : (l : Ledger) (keying : Keying) (free : Bool) → hear_refusal l keying free ≡ None → hear_refusal l keying true ≡ None
+heard_free l keying free e =
+    let thing = held_with l keying.peer in
+    chosen_free (is_some (again_of thing keying)) (birth_refusal l keying free) (birth_refusal l keying true)
+    (last_free (where_true (nat_le keying.n (floor_of l keying.peer)) (Stale (floor_of l keying.peer))) (glare_of l.own keying.peer thing)
+    (where_true (peers_full l keying.peer) (PeersFull (row_count l))) SessionsFull (is_none thing) free) e
+
+-- ---- the three ways
+
+module _ (s : StartupState) (from : AddressParts) (now : ℕ) (near : ℕ) (nr : List ℕ) (read : InitiatorKeying) where
+  abbrev pub repeated : Option Joined
+  repeated = repeated_session (held_with s.ledger (sha256 read.cert)) (keying_of read)
+
+  pub record GivesAndLeaves (test : CookieTest) (answer : Keyed) (after : StartupState) : Type 0 where
+    pub gives : keyed_with s from now near nr read test ≡ answer
+    pub leaves : after_keyed_with s near nr read test ≡ after
+
+  not_change : (o : Option Joined) → again_or_new (keying_of read) o ≡ Change → ⊥
+  not_change None e = cc
+  not_change (Some j) e = cc
+
+  change_gives : (test : CookieTest) → hearing s read test ≡ Change → GivesAndLeaves test (keyed.Change (change_answer s read from now)) s
+  change_gives Current e = absurd (not_change repeated e)
+  change_gives Bad e = record { gives = refl; leaves = refl }
+  change_gives Moved e = record { gives = refl; leaves = refl }
+  change_gives Expired e = record { gives = refl; leaves = refl }
+
+  held_again : (o : Option Joined) (j : Joined) → again_or_new (keying_of read) o ≡ Again j → o ≡ Some j
+  held_again None j e = absurd (cc)
+  held_again (Some k) j e = cc
+
+  again_gives : (test : CookieTest) (j : Joined) → hearing s read test ≡ Again j → GivesAndLeaves test (keyed.Again (session_answer s j from)) s
+  again_gives Current j e =
+      let is : repeated ≡ Some j = held_again repeated j e in
+      record { gives = ap (again_or_birth s (keying_of read) from near nr) is; leaves = ap (after_again_or_birth s (keying_of read) near nr) is }
+  again_gives Bad j e = absurd (cc)
+  again_gives Moved j e = absurd (cc)
+  again_gives Expired j e = absurd (cc)
+
+  pub record IsBorn (test : CookieTest) (keying : Keying) : Type 0 where
+    pub current : test ≡ Current
+    pub keying_is : keying_of read ≡ keying
+    pub fresh : repeated ≡ None
+
+  born_new : (o : Option Joined) (keying : Keying) → again_or_new (keying_of read) o ≡ Birth keying → (o ≡ None) × (keying_of read ≡ keying)
+  born_new None keying e = (refl, cc)
+  born_new (Some k) keying e = absurd (cc)
+
+  pub birth_is : (test : CookieTest) (keying : Keying) → hearing s read test ≡ Birth keying → IsBorn test keying
+  birth_is Current keying e =
+      let is = born_new repeated keying e in
+      record { current = refl; keying_is = is.1; fresh = is.0 }
+  birth_is Bad keying e = absurd (cc)
+  birth_is Moved keying e = absurd (cc)
+  birth_is Expired keying e = absurd (cc)
+
+  pub birth_gives : (test : CookieTest) (keying : Keying) → IsBorn test keying →
+      GivesAndLeaves test (again_or_birth s keying from near nr None) (after_again_or_birth s keying near nr None)
+  birth_gives test keying is =
+      record {
+        gives = ap (keyed_with s from now near nr read) is.current ∙ ap (again_or_birth s (keying_of read) from near nr) is.fresh ∙ ap (λ (k : Keying). again_or_birth s k from near nr None) is.keying_is;
+        leaves = ap (after_keyed_with s near nr read) is.current ∙ ap (after_again_or_birth s (keying_of read) near nr) is.fresh ∙ ap (λ (k : Keying). after_again_or_birth s k near nr None) is.keying_is;
+      }
+
+-- ---- what was found is so
+
+module _ (s : StartupState) (payload : List ℕ) (from : AddressParts) (now : ℕ) (full : Option ℕ) (read : InitiatorKeying) where
+  pub change_so : (near : ℕ) (nr : List ℕ) → judged_initiator s payload from now full read ≡ Ok Change →
+      GivesAndLeaves s from now near nr read (cookie_test s.cookie_secret read.cookie from now) (keyed.Change (change_answer s read from now)) s
+  change_so near nr judged = change_gives s from now near nr read (cookie_test s.cookie_secret read.cookie from now)
+      (is_found (hearing s read (cookie_test s.cookie_secret read.cookie from now)) Change (initiator_cause s payload from now full read) judged)
+
+  pub again_so : (near : ℕ) (nr : List ℕ) (j : Joined) → judged_initiator s payload from now full read ≡ Ok (Again j) →
+      GivesAndLeaves s from now near nr read (cookie_test s.cookie_secret read.cookie from now) (keyed.Again (session_answer s j from)) s
+  again_so near nr j judged = again_gives s from now near nr read (cookie_test s.cookie_secret read.cookie from now) j
+      (is_found (hearing s read (cookie_test s.cookie_secret read.cookie from now)) (Again j) (initiator_cause s payload from now full read) judged)
+
+  -- its session can be born
+  pub record Bears (near : ℕ) (nr : List ℕ) (keying : Keying) : Type 0 where
+    pub other : sha256 s.cert ≡ keying.peer → ⊥
+    pub heard : hear_refusal s.ledger keying true ≡ None
+    pub fresh : repeated_session (held_with s.ledger keying.peer) keying ≡ None
+    pub gives : GivesAndLeaves s from now near nr read (cookie_test s.cookie_secret read.cookie from now)
+        (again_or_birth s keying from near nr None) (after_again_or_birth s keying near nr None)
+    pub row : needs_row_with s read (cookie_test s.cookie_secret read.cookie from now) ≡ not (knows s.ledger keying.peer)
+
+  pub birth_so : (near : ℕ) (nr : List ℕ) (keying : Keying) → judged_initiator s payload from now full read ≡ Ok (Birth keying) → Bears near nr keying
+  birth_so near nr keying judged =
+      let t : CookieTest = cookie_test s.cookie_secret read.cookie from now in
+      let none : initiator_cause s payload from now full read ≡ None = uncaused (hearing s read t) (Birth keying) (initiator_cause s payload from now full read) judged in
+      let is : IsBorn s from now near nr read t keying =
+      birth_is s from now near nr read t keying (is_found (hearing s read t) (Birth keying) (initiator_cause s payload from now full read) judged) in
+      let heard : IsHeard s full read = no_cause_is_heard s payload from now full read none is.current in
+      record {
+        other = λ same. heard.other (same ∙ sym (ap (λ (k : Keying). k.peer) is.keying_is));
+        heard = ap (λ (k : Keying). hear_refusal s.ledger k true) (sym is.keying_is) ∙ heard_free s.ledger (keying_of read) (is_none full) heard.heard;
+        fresh = ap (λ (k : Keying). repeated_session (held_with s.ledger k.peer) k) (sym is.keying_is) ∙ is.fresh;
+        gives = birth_gives s from now near nr read t keying is;
+        row = ap (needs_row_with s read) is.current ∙ ap (λ (k : Keying). not (knows s.ledger k.peer)) is.keying_is;
+      }
+
+-- ---- what a result says of its value carries over
+
+pub if_ok : {A E : Type 0} (P Q : A → Type 0) (r : Result A E) → ((x : A) → P x → Q x) → IfOk r P → IfOk r Q
+if_ok P Q (Ok x) go h = go x h
+if_ok P Q (Err e) go h = h
+
+pub if_err : {A E : Type 0} (P Q : E → Type 0) (r : Result A E) → ((x : E) → P x → Q x) → IfErr r P → IfErr r Q
+if_err P Q (Ok x) go h = h
+if_err P Q (Err e) go h = go e h

@@ -1,0 +1,336 @@
+//! What a keying is found to be before anything changes, and what it then does. Each is read, and
+//! its signature and cookie are tested, once.
+
+ghost use Rattle.std.specs.Prelude.{ℕ, List, [], ◌∷◌, Option, ◌≡◌, length, IfOk, IfErr, IfSome,
+    OnErr, IsTrue, Ok, Some, None};
+ghost use Rattle.std.specs.FinMap.{get, len};
+ghost use Rattle.std.specs.Option.{option_copied};
+ghost use Rattle.sha2.specs.Sha256.{sha256};
+ghost use Rattle.cookies.specs.declared.CookieTest.TheVariants.{Current};
+ghost use Rattle.cookies.specs.Cookie.{cookie_test};
+ghost use Rattle.glare_core.specs.Account.{Gave};
+ghost use Rattle.glare_core.specs.Calls.{where_true, is_born_of};
+ghost use Rattle.startup.specs.Keyings.{keying_of, is_own, heard_cause, named_cause, keyed_with,
+    after_keyed_with, needs_row_with, keyed_facts, repeated_session, iikeying_cause, is_in_hello,
+    attempt_cause, responder_cause, rikeying_cause, opened_with, after_opening};
+ghost use Rattle.startup.specs.Packets.{is_signed};
+ghost use Rattle.startup.specs.Judging.{unless_cause, again_or_new, hearing, judged_initiator};
+ghost use Rattle.startup.specs.Read.{initiator_of, responder_of};
+ghost use Rattle.startup.specs.Rows.{table_of};
+ghost use Rattle.startup.specs.State.{peer_of_attempt};
+
+use crate::answer::{KeyRefusal, Keyed};
+use crate::attempt::{Attempt, Row, Stage};
+use crate::cause::Cause;
+use crate::choosing::wide;
+use crate::leaving::{leave_at, index_of};
+use crate::parts::is_signed;
+use crate::reading::{
+    InitiatorFields, ResponderFields, read_initiator_keying, read_responder_keying,
+};
+use crate::startup::Startup;
+use cookies::CookieTest;
+use glare_core::{Fact, HearRefusal, Held, Joined, Keying};
+use identity::Certificate;
+use rtmfp_forms::Address;
+
+/// What hearing an initiator's keying would be that isn't discarded.
+#[derive(Drop)]
+pub enum Hearing {
+    /// Its cookie was made for another place or too long ago: a new one is sent.
+    Change,
+    /// It is the keying of this held session: the responder's keying is sent again.
+    Again(Joined),
+    /// Its session is born.
+    Birth(Keying),
+}
+
+/// What a keying says to the ledger.
+fn keying_of(fields: &InitiatorFields<'_>) -> Keying
+    ensures { result ≡ keying_of (initiator_of fields.now) }
+{
+    Keying {
+        peer: fields.cert.print(),
+        n: fields.part.n,
+        ni: fields.part.ni,
+        far: fields.near,
+    }
+}
+
+/// The cause that goes with a refusal of the ledger.
+fn heard_cause(full: Option<u32>, refusal: Option<HearRefusal>) -> Option<Cause>
+    ensures { result ≡ heard_cause full refusal }
+{
+    match refusal {
+        None => None,
+        Some(HearRefusal::Stale(floor)) => Some(Cause::Stale(floor)),
+        Some(HearRefusal::Glare(n)) => Some(Cause::Glare(n)),
+        Some(HearRefusal::PeersFull(count)) => Some(Cause::PeersFull(count)),
+        Some(HearRefusal::SessionsFull) => Some(Cause::SessionsFull(u64::from(full.unwrap_or(0)))),
+        Some(HearRefusal::Memory) => None,
+    }
+}
+
+/// Whether the session was born of this very keying of its peer.
+fn is_born_of(joined: &Joined, keying: &Keying) -> bool
+    ensures { result ≡ is_born_of joined.now keying.now }
+{
+    joined.n == keying.n && joined.ni == keying.ni && joined.far == keying.far
+}
+
+/// The held session, where it was born of this very keying.
+fn repeated_session(held: Option<&Held>, keying: &Keying) -> Option<Joined>
+    ensures { result ≡ repeated_session (option_copied held.entry) keying.now }
+{
+    match held {
+        Some(Held::HalfOpen(joined)) => born_again(joined, keying),
+        Some(Held::KeptAsResponder(joined)) => born_again(joined, keying),
+        Some(Held::KeptAsInitiator(_)) => None,
+        Some(Held::Opening { .. }) => None,
+        None => None,
+    }
+}
+
+/// The session, where it was born of this very keying.
+fn born_again(joined: &Joined, keying: &Keying) -> Option<Joined>
+    ensures { result ≡ where_true (is_born_of joined.now keying.now) joined.now }
+{
+    if is_born_of(joined, keying) {
+        Some(*joined)
+    } else {
+        None
+    }
+}
+
+/// What hearing a keying would be, where this session was born of it, or none was.
+fn again_or_new(keying: Keying, repeated: Option<Joined>) -> Hearing
+    ensures { result ≡ again_or_new keying repeated }
+{
+    match repeated {
+        Some(session) => Hearing::Again(session),
+        None => Hearing::Birth(keying),
+    }
+}
+
+/// Whether hellos are sent.
+fn is_in_hello(stage: &Stage) -> bool
+    ensures { result ≡ is_in_hello stage.now }
+{
+    match stage {
+        Stage::Hello => true,
+        Stage::Keying { .. } => false,
+    }
+}
+
+/// Why a responder's keying doesn't open this attempt.
+fn unopened_cause(attempt: &Attempt, fields: &ResponderFields<'_>) -> Option<Cause>
+    ensures { result ≡ attempt_cause (responder_of fields.now) (Some attempt.now) }
+{
+    if is_in_hello(&attempt.stage) {
+        return Some(Cause::WrongState);
+    }
+    if fields.part.responder != attempt.peer {
+        return Some(Cause::WrongPeer);
+    }
+    if fields.part.ni != attempt.ni {
+        return Some(Cause::NoAttempt);
+    }
+    None
+}
+
+/// The peer of the attempt with this near id, or why a responder's keying doesn't open it.
+fn opened_peer(rows: &[Row], near: u32, fields: &ResponderFields<'_>) -> Result<[u8; 32], Cause>
+    requires { len (table_of rows.now) ≡ length rows.now }
+    ensures peer { IfOk result (λ peer. peer_of_attempt (get (table_of rows.now) near)
+        ≡ Some peer) }
+    ensures none { IfOk result (λ _. attempt_cause (responder_of fields.now)
+        (get (table_of rows.now) near) ≡ None) }
+    ensures refused { IfErr result (λ cause. attempt_cause (responder_of fields.now)
+        (get (table_of rows.now) near) ≡ Some cause) }
+{
+    let Some(index) = index_of(rows, near) else {
+        return Err(Cause::NoAttempt);
+    };
+    let attempt = &rows[index].attempt;
+    match unopened_cause(attempt, fields) {
+        Some(cause) => Err(cause),
+        None => Ok(attempt.peer),
+    }
+}
+
+impl Startup {
+    /// Whether a certificate counts as the own one.
+    fn is_own(&self, cert: &Certificate, print: &[u8; 32]) -> bool
+        requires { print.now ≡ sha256 cert.now }
+        ensures { result ≡ is_own self.now cert.now }
+    {
+        cert.bytes() == self.cert.bytes() || *print == self.print
+    }
+
+    /// Whether the signature that a payload ends with is one of the group.
+    pub(crate) fn has_signed(&self, payload: &[u8], sign: &[u8]) -> bool
+        ensures { result ≡ is_signed self.now.secret payload.now sign.now }
+    {
+        is_signed(&self.sign, payload, sign)
+    }
+
+    /// What hearing a keying with a good cookie would be, or why it is discarded.
+    fn judge_named(&self, fields: &InitiatorFields<'_>, full: Option<u32>) -> Result<Hearing, Cause>
+        ensures { result ≡ unless_cause (hearing self.now (initiator_of fields.now) Current)
+            (named_cause self.now (initiator_of fields.now) full) }
+    {
+        if fields.part.responder != self.print {
+            return Err(Cause::WrongResponder);
+        }
+        let keying = keying_of(fields);
+        if self.is_own(&fields.cert, &keying.peer) {
+            return Err(Cause::OwnCertificate);
+        }
+        let refusal = self.peers.hear_refusal(&keying, full.is_none());
+        let repeated = repeated_session(self.peers.held(&keying.peer), &keying);
+        match heard_cause(full, refusal) {
+            Some(cause) => Err(cause),
+            None => Ok(again_or_new(keying, repeated)),
+        }
+    }
+
+    /// What hearing an initiator's keying would be, which came from an address, or why it is
+    /// discarded; `full` is the limit on sessions where there is no room for one more.
+    ///
+    /// The causes are those of `initiator_keying`, in their order. It changes nothing and takes no
+    /// memory.
+    pub fn judge_initiator_keying(
+        &self,
+        fields: &InitiatorFields<'_>,
+        from: &Address,
+        moment: u64,
+        full: Option<u32>,
+    ) -> Result<Hearing, Cause>
+        ensures { result ≡ judged_initiator self.now fields.now.payload.now from.now moment full
+            (initiator_of fields.now) }
+    {
+        if !self.has_signed(fields.payload, fields.sign) {
+            return Err(Cause::BadSignature);
+        }
+        match wide(fields.cookie) {
+            Some(cause) => return Err(cause),
+            None => {}
+        }
+        match self.cookies.test(fields.cookie, from, moment) {
+            CookieTest::Bad => Err(Cause::BadCookie),
+            CookieTest::Moved => Ok(Hearing::Change),
+            CookieTest::Expired => Ok(Hearing::Change),
+            CookieTest::Current => self.judge_named(fields, full),
+        }
+    }
+
+    /// Hears an initiator's keying that was found to be this, and isn't discarded.
+    ///
+    /// Only the row of a peer that has none takes memory; where there is none all is as before.
+    pub fn apply_initiator_keying(
+        &mut self,
+        fields: &InitiatorFields<'_>,
+        hearing: &Hearing,
+        from: &Address,
+        moment: u64,
+        near: u32,
+        nr: [u8; 16],
+    ) -> Result<Keyed, KeyRefusal>
+        requires { (payload : List ℕ) × ((full : Option ℕ) × (judged_initiator self.old payload
+            from.now moment full (initiator_of fields.now) ≡ Ok hearing.now)) }
+        ensures ok { IfOk result (λ answer. (answer ≡ keyed_with self.old from.now moment near nr
+            (initiator_of fields.now)
+            (cookie_test self.old.cookie_secret fields.now.cookie.now from.now moment)) ×
+            (self.new ≡ after_keyed_with self.old near nr (initiator_of fields.now)
+            (cookie_test self.old.cookie_secret fields.now.cookie.now from.now moment))) }
+        ensures memory { IfErr result (λ refusal. (refusal ≡ KeyRefusal.Memory) ×
+            IsTrue (needs_row_with self.old (initiator_of fields.now)
+            (cookie_test self.old.cookie_secret fields.now.cookie.now from.now moment))) }
+        ensures err { OnErr result (self.new ≡ self.old) }
+        ensures gave
+            { IfOk result (λ answer. Gave self.old.ledger (keyed_facts answer) self.new.ledger) }
+    {
+        match hearing {
+            Hearing::Change => Ok(Keyed::Change(self.change_answer(fields, from, moment))),
+            Hearing::Again(session) => Ok(Keyed::Again(self.session_answer(session, from))),
+            Hearing::Birth(keying) => self.bear(keying, from, near, nr),
+        }
+    }
+
+    /// Why an initiator's keying is discarded.
+    pub(crate) fn iikeying_cause(
+        &self,
+        payload: &[u8],
+        from: &Address,
+        moment: u64,
+        full: Option<u32>,
+    ) -> Option<Cause>
+        ensures { result ≡ iikeying_cause self.now payload.now from.now moment full }
+    {
+        match read_initiator_keying(payload) {
+            Ok(fields) => self
+                .judge_initiator_keying(&fields, from, moment, full)
+                .err(),
+            Err(cause) => Some(cause),
+        }
+    }
+
+    /// The peer whose attempt with this near id a responder's keying opens, or why the keying is
+    /// discarded.
+    ///
+    /// The causes are those of `responder_keying`, in their order. It changes nothing and takes no
+    /// memory.
+    pub fn judge_responder_keying(
+        &self,
+        near: u32,
+        fields: &ResponderFields<'_>,
+    ) -> Result<[u8; 32], Cause>
+        ensures peer { IfOk result (λ peer. peer_of_attempt (get self.now.attempts near)
+            ≡ Some peer) }
+        ensures none { IfOk result (λ _. responder_cause self.now near fields.now.payload.now
+            (responder_of fields.now) ≡ None) }
+        ensures refused { IfErr result (λ cause. responder_cause self.now near
+            fields.now.payload.now (responder_of fields.now) ≡ Some cause) }
+    {
+        if !self.has_signed(fields.payload, fields.sign) {
+            return Err(Cause::BadSignature);
+        }
+        opened_peer(&self.attempts, near, fields)
+    }
+
+    /// Opens the session of the attempt with this near id, which is one with this peer; the attempt
+    /// leaves. It takes no memory.
+    pub fn apply_responder_keying(
+        &mut self,
+        near: u32,
+        peer: &[u8; 32],
+        fields: &ResponderFields<'_>,
+    ) -> Fact
+        requires { peer_of_attempt (get self.old.attempts near) ≡ Some peer.now }
+        ensures fact { IfSome (get self.old.attempts near) (λ a. result
+            ≡ opened_with near (responder_of fields.now) a) }
+        ensures after { self.new ≡ after_opening self.old near result }
+        ensures gave { Gave self.old.ledger (result ∷ []) self.new.ledger }
+    {
+        match self
+            .peers
+            .answer(peer, fields.part.nr, fields.near, fields.part.k)
+        {
+            Some(fact) => {
+                leave_at(&mut self.attempts, near);
+                fact
+            }
+            None => unreachable!(),
+        }
+    }
+
+    /// Why a responder's keying is discarded that came under this near id.
+    pub(crate) fn rikeying_cause(&self, near: u32, payload: &[u8]) -> Option<Cause>
+        ensures { result ≡ rikeying_cause self.now near payload.now }
+    {
+        match read_responder_keying(payload) {
+            Ok(fields) => self.judge_responder_keying(near, &fields).err(),
+            Err(cause) => Some(cause),
+        }
+    }
+}
