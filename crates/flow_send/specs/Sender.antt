@@ -15,8 +15,8 @@ use Rattle.flow_send.specs.Rows.{Row, end_row, is_flying, is_lost, is_acknowledg
 pub record Sender : Type 0 where
   pub forward : ℕ  -- at or below it all is acknowledged, abandoned or below the flow's first number
   pub rows : List Row  -- the numbers above it, in order
-  pub waiting : List Waiting  -- the messages that are neither abandoned nor wholly acknowledged,
-    by rising number
+  -- the messages that are neither abandoned nor wholly acknowledged, by rising number
+  pub waiting : List Waiting
   pub finish : Option ℕ
   pub sent : ℕ  -- the highest number sent
   pub upto : ℕ  -- the cumulative ack of the last ack
