@@ -1,7 +1,6 @@
 -- An address cookie: the moment of its issue, the address that it was made for, and a tag of both
 -- under a secret of its maker.
-use Rattle.std.specs.Prelude.{◌≡◌, ◌==◌, ℕ, ◌+◌, ◌<◌, ◌≤◌, ◌^◌, Bool, true, false, not, ◌&&◌,
-    if◌then◌else◌, nat_lt, List, ◌++◌, take, drop, Option, Some, None, Result, Ok, Err, All}
+use Rattle.std.specs.Prelude.{◌≡◌, ◌==◌, ℕ, ◌+◌, ◌<◌, ◌≤◌, ◌^◌, Bool, true, false, not, ◌&&◌, if◌then◌else◌, nat_lt, List, ◌++◌, take, drop, Option, Some, None, Result, Ok, Err, All}
 use Rattle.std.specs.Int.{w64, to_be_bytes, from_be_bytes}
 use Rattle.std.specs.Str.{bytes_eq}
 use Rattle.rtmfp_forms.specs.declared.fault.FormFault.{FormFault}
@@ -43,13 +42,13 @@ IsAnswer secret bytes from now Bad = (address : AddressParts) (moment : ℕ) →
     IsCookieOf secret address moment bytes → ⊥
 IsAnswer secret bytes from now Moved =
     (address : AddressParts) × (moment : ℕ) × IsCookieOf secret address moment bytes ×
-      (SamePlace address from → ⊥)
+    (SamePlace address from → ⊥)
 IsAnswer secret bytes from now Expired =
     (address : AddressParts) × (moment : ℕ) × IsCookieOf secret address moment bytes ×
-      SamePlace address from × (moment + 95000 < now)
+    SamePlace address from × (moment + 95000 < now)
 IsAnswer secret bytes from now Current =
     (address : AddressParts) × (moment : ℕ) × IsCookieOf secret address moment bytes ×
-      SamePlace address from × (now ≤ moment + 95000)
+    SamePlace address from × (now ≤ moment + 95000)
 
 -- the same as a function
 
@@ -64,7 +63,7 @@ is_same_place a b = is_same_family a.v6 b.v6 && (bytes_eq a.host b.host && (a.po
 abbrev pub good_cookie_test : AddressParts → ℕ → AddressParts → ℕ → CookieTest
 good_cookie_test address moment from now =
     if is_same_place address from then (if nat_lt (moment + 95000) now then Expired else Current)
-      else Moved
+    else Moved
 
 -- the moment that bytes begin with
 abbrev pub moment_of : List ℕ → ℕ
@@ -76,7 +75,7 @@ abbrev pub cookie_found : List ℕ → List ℕ → Result (AddressParts × ℕ)
 cookie_found secret bytes (Err fault) = None
 cookie_found secret bytes (Ok found) =
     if bytes_eq (cookie_of secret found.0 (moment_of bytes)) bytes then
-      Some (found.0, moment_of bytes) else None
+    Some (found.0, moment_of bytes) else None
 
 unfoldable pub cookie_read : List ℕ → List ℕ → Option (AddressParts × ℕ)
 cookie_read secret bytes = cookie_found secret bytes (address_at (drop 8 bytes))

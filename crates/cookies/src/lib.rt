@@ -82,8 +82,7 @@ pub enum CookieTest {
 
 impl CookieMaker {
     ghost use Rattle.std.specs.Prelude.{◌≡◌, ◌≤◌, length};
-    ghost use Rattle.cookies.specs.Cookie.{IsAnswer, cookie_found, cookie_of, cookie_read,
-        cookie_test};
+    ghost use Rattle.cookies.specs.Cookie.{IsAnswer, cookie_found, cookie_of, cookie_read, cookie_test};
 
     /// A maker of cookies under a secret.
     pub fn new(secret: [u8; 32]) -> CookieMaker

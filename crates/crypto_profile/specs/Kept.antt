@@ -1,7 +1,6 @@
 -- What a replay window keeps of the numbers that it has taken: the highest, and of each of the
 -- 1,024 numbers from it downward whether it was taken.
-use Rattle.std.specs.Prelude.{◌≡◌, ◌==◌, ℕ, ◌+◌, ◌-◌, Bool, true, false, ◌&&◌, ◌||◌, if◌then◌else◌,
-    nat_lt, nat_le, List, map, slice_index_or, Result, Ok, Err}
+use Rattle.std.specs.Prelude.{◌≡◌, ◌==◌, ℕ, ◌+◌, ◌-◌, Bool, true, false, ◌&&◌, ◌||◌, if◌then◌else◌, nat_lt, nat_le, List, map, slice_index_or, Result, Ok, Err}
 use Rattle.std.specs.List.{range_with_len}
 use Rattle.crypto_profile.specs.declared.window.Seen.{Seen}
 use Rattle.crypto_profile.specs.declared.window.Seen.TheVariants.{Old, Repeated}
@@ -43,7 +42,7 @@ abbrev pub raised : Kept → ℕ → ℕ → Kept
 raised kept n up = record {
   highest = n;
   recent = recents (λ d. if d == 0 then true else if nat_lt d up then false
-    else slice_index_or kept.recent (d - up) false);
+      else slice_index_or kept.recent (d - up) false);
 }
 
 abbrev pub marked : Kept → ℕ → Kept
@@ -70,4 +69,4 @@ kept_after kept n = kept_by kept (kept_answer kept n) n
 abbrev pub KeptStandsForTaken : Type 0
 KeptStandsForTaken = (taken : List ℕ) (n : ℕ)
     → (kept_answer (kept_of taken) n ≡ answer taken n) ×
-      (kept_after (kept_of taken) n ≡ kept_of (taken_after taken n))
+    (kept_after (kept_of taken) n ≡ kept_of (taken_after taken n))

@@ -28,8 +28,10 @@ mac_label to_responder = if to_responder then codes "rtmfp session mac i"
 
 -- the keys of a context under a group secret
 abbrev pub keys_of : List ℕ → Context → Keys
-keys_of secret Startup = record { enc = hmac secret (codes "rtmfp startup enc");
-    mac = hmac secret (codes "rtmfp startup mac") }
+keys_of secret Startup = record {
+  enc = hmac secret (codes "rtmfp startup enc");
+  mac = hmac secret (codes "rtmfp startup mac");
+}
 keys_of secret (Session ni nr fp_i fp_r sid_i sid_r to_responder) =
     record {
       enc = hmac secret (session_text (enc_label to_responder) ni nr fp_i fp_r sid_i sid_r);

@@ -2,16 +2,14 @@
 //! nothing: the contract of each states what the definitions that the other contracts cite are
 //! there.
 
-ghost use Rattle.std.specs.Prelude.{◌≡◌, ◌∷◌, ◌++◌, ◌-◌, ◌^◌, ℕ, List, [], Bool, Option, Some, None,
-    Ok, Err, replicate, take};
+ghost use Rattle.std.specs.Prelude.{◌≡◌, ◌∷◌, ◌++◌, ◌-◌, ◌^◌, ℕ, List, [], Bool, Option, Some, None, Ok, Err, replicate, take};
 ghost use Rattle.crypto_profile.specs.declared.window.Seen.TheVariants.{Old, Repeated};
 ghost use Rattle.crypto_profile.specs.declared.sealing.SealFault.TheVariants.{Short};
 ghost use Rattle.crypto_profile.specs.declared.keys.Context.{Context};
 ghost use Rattle.crypto_profile.specs.declared.keys.Context.TheVariants.{Startup, Session};
 ghost use Rattle.crypto_profile.specs.Hmac.{hmac, key_block, inner_block, outer_block};
 ghost use Rattle.crypto_profile.specs.Keys.{Keys, session_text};
-ghost use Rattle.crypto_profile.specs.Sealing.{NumberFits, blocks_of, keystream, number_of, sealed,
-    tag_of};
+ghost use Rattle.crypto_profile.specs.Sealing.{NumberFits, blocks_of, keystream, number_of, sealed, tag_of};
 ghost use Rattle.crypto_profile.specs.Opening.{open_refusal};
 ghost use Rattle.crypto_profile.specs.Taken.{answer, taken_after};
 

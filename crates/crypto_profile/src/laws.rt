@@ -2,8 +2,7 @@
 //! the contract of each is its law.
 
 ghost use Rattle.crypto_profile.specs.Kept.{KeptStandsForTaken};
-ghost use Rattle.crypto_profile.specs.Opening.{OpenedWasSealed, OpensByItsTag, SealedCarries,
-    SealedOpens};
+ghost use Rattle.crypto_profile.specs.Opening.{OpenedWasSealed, OpensByItsTag, SealedCarries, SealedOpens};
 ghost use Rattle.crypto_profile.specs.Taken.{EachIsTakenOnce};
 
 /// What was sealed opens, and gives the plain packet.

@@ -1,7 +1,6 @@
 //! HMAC with SHA-256 (RFC 2104).
 
-ghost use Rattle.std.specs.Prelude.{◌≡◌, ◌-◌, ◌≤◌, List, ℕ, [], ◌++◌, length, map, replicate,
-    bit_xor};
+ghost use Rattle.std.specs.Prelude.{◌≡◌, ◌-◌, ◌≤◌, List, ℕ, [], ◌++◌, length, map, replicate, bit_xor};
 ghost use Rattle.crypto_profile.specs.Hmac.{hmac, key_block};
 
 use sha2::{Digest, Sha256};

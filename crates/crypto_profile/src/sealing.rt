@@ -5,8 +5,7 @@
 //! `HMAC(enc, number ‖ i)` with i as 8 bytes. The tag is the first 16 bytes of
 //! `HMAC(mac, session ID ‖ number ‖ ciphertext)` with the session ID as 4 bytes.
 
-ghost use Rattle.std.specs.Prelude.{◌≡◌, ◌≤◌, ◌++◌, length, take, drop, IfOk, IsOk, IfSome, IfNone,
-    OnErr};
+ghost use Rattle.std.specs.Prelude.{◌≡◌, ◌≤◌, ◌++◌, length, take, drop, IfOk, IsOk, IfSome, IfNone, OnErr};
 ghost use Rattle.crypto_profile.specs.Opening.{open_refusal, plain_of};
 ghost use Rattle.crypto_profile.specs.Sealing.{ciphered, sealed, tag_of, number_of, xored};
 

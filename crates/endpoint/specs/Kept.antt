@@ -21,8 +21,13 @@ table_of sessions = from_entries (map entry_of sessions)
 
 abbrev pub state_of : Config → ℕ → ℕ → StartupState → List SessionState → State
 state_of config moment sealed startup sessions =
-    record { config = config; moment = moment; sealed = sealed; startup = startup;
-      sessions = table_of sessions }
+    record {
+      config = config;
+      moment = moment;
+      sealed = sealed;
+      startup = startup;
+      sessions = table_of sessions;
+    }
 
 -- What is kept beside the state is what it should be, and no two sessions have one session ID.
 pub record IsEndpoint (config : Config) (secret print : List ℕ) (keys : Keys)

@@ -4,8 +4,7 @@ ghost use Rattle.std.specs.Prelude.{◌≡◌, ◌≤◌, IfOk, IfErr, OnOk, Ok,
 ghost use Rattle.std.specs.Int.{w32, from_be_bytes};
 ghost use Rattle.std.specs.FinMap.{get};
 ghost use Rattle.rtmfp_packet.specs.Head.{mode_number};
-ghost use Rattle.endpoint_model.specs.Admission.{fault_number, has_mode, heard_in, mode_at,
-    opened_datagram, opened_in_startup, peers_mode, place_of, placed};
+ghost use Rattle.endpoint_model.specs.Admission.{fault_number, has_mode, heard_in, mode_at, opened_datagram, opened_in_startup, peers_mode, place_of, placed};
 
 use crate::endpoint::Endpoint;
 use crate::sessions;

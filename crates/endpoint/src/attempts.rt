@@ -1,7 +1,6 @@
 //! Attempts that are opened and given up.
 
-ghost use Rattle.std.specs.Prelude.{◌≡◌, ◌+◌, IfErr, IfNone, IfOk, IfSome, IsSome, None, OnErr,
-    OnOk, Err};
+ghost use Rattle.std.specs.Prelude.{◌≡◌, ◌+◌, IfErr, IfNone, IfOk, IfSome, IsSome, None, OnErr, OnOk, Err};
 ghost use Rattle.startup.specs.Attempts.{cancel_fact};
 ghost use Rattle.endpoint_model.specs.Due.{cancelling, open_refusal, opening};
 ghost use Rattle.endpoint_model.specs.Log.{Extends, cancel_event, open_event};
@@ -33,18 +32,14 @@ impl Endpoint {
         out: &mut Outbox,
     ) -> Result<u64, OpenRefusal>
         ensures number { IfOk result (λ n. n ≡ self.old.startup.ledger.started + 1) }
-        ensures ok
-            { OnOk result
+        ensures ok { OnOk result
             (Done (opening (at_moment self.old moment) epd.now.print candidates.now draws.now)
             self.new out.old out.new) }
-        ensures refused
-            { IfSome (open_refusal (at_moment self.old moment) epd.now.print candidates.now)
+        ensures refused { IfSome (open_refusal (at_moment self.old moment) epd.now.print candidates.now)
             (λ refusal. result ≡ Err refusal) }
-        ensures memory
-            { IfNone (open_refusal (at_moment self.old moment) epd.now.print candidates.now)
+        ensures memory { IfNone (open_refusal (at_moment self.old moment) epd.now.print candidates.now)
             (IfErr result (λ refusal. refusal ≡ OpenRefusal.Memory)) }
-        ensures err
-            { OnErr result (Done (nothing (at_moment self.old moment)) self.new out.old out.new) }
+        ensures err { OnErr result (Done (nothing (at_moment self.old moment)) self.new out.old out.new) }
 
         // The end stands for its log with this call.
         ensures stands { Extends self.old self.new
@@ -64,18 +59,14 @@ impl Endpoint {
         out: &mut Outbox,
     ) -> Result<u64, OpenRefusal>
         ensures number { IfOk result (λ n. n ≡ self.old.startup.ledger.started + 1) }
-        ensures ok
-            { OnOk result
+        ensures ok { OnOk result
             (Done (opening (at_moment self.old moment) epd.now.print candidates.now draws.now)
             self.new out.old out.new) }
-        ensures refused
-            { IfSome (open_refusal (at_moment self.old moment) epd.now.print candidates.now)
+        ensures refused { IfSome (open_refusal (at_moment self.old moment) epd.now.print candidates.now)
             (λ refusal. result ≡ Err refusal) }
-        ensures memory
-            { IfNone (open_refusal (at_moment self.old moment) epd.now.print candidates.now)
+        ensures memory { IfNone (open_refusal (at_moment self.old moment) epd.now.print candidates.now)
             (IfErr result (λ refusal. refusal ≡ OpenRefusal.Memory)) }
-        ensures err
-            { OnErr result (Done (nothing (at_moment self.old moment)) self.new out.old out.new) }
+        ensures err { OnErr result (Done (nothing (at_moment self.old moment)) self.new out.old out.new) }
     {
         self.advance(moment);
         if let Some(refusal) = self.open_refusal(epd, candidates) {
@@ -114,8 +105,7 @@ impl Endpoint {
     ) -> Result<u64, AllocError>
         requires { open_refusal self.old epd.now.print candidates.now ≡ None }
         ensures number { IfOk result (λ n. n ≡ self.old.startup.ledger.started + 1) }
-        ensures ok
-            { OnOk result (Done (opening self.old epd.now.print candidates.now draws.now) self.new
+        ensures ok { OnOk result (Done (opening self.old epd.now.print candidates.now draws.now) self.new
             out.old out.new) }
         ensures err { OnErr result (Done (nothing self.old) self.new out.old out.new) }
     {

@@ -1,21 +1,17 @@
 //! One chunk of a datagram: why it is discarded, or what it does.
 
-ghost use Rattle.std.specs.Prelude.{◌≡◌, ◌<◌, ◌≤◌, ◌^◌, Bool, ℕ, Err, IsOk, None, Ok, OnErr, OnOk,
-    length, nat_lt};
+ghost use Rattle.std.specs.Prelude.{◌≡◌, ◌<◌, ◌≤◌, ◌^◌, Bool, ℕ, Err, IsOk, None, Ok, OnErr, OnOk, length, nat_lt};
 ghost use Rattle.glare_core.specs.Calls.{where_true};
 ghost use Rattle.identity.specs.Certificates.{certificate_fault};
 ghost use Rattle.rtmfp_chunks.specs.Chunk.{PingReply, chunk_of, kind_of};
 ghost use Rattle.rtmfp_chunks.specs.FieldReading.{chunk_reading};
 ghost use Rattle.rtmfp_chunks.specs.Writing.{chunk_bytes};
 ghost use Rattle.rtmfp_packet.specs.Chunks.{shown};
-ghost use Rattle.startup.specs.Attempts.{after_cookie_change, after_rhello, cookie_change_cause,
-    cookie_change_keying, rhello_cause, rhello_keying};
+ghost use Rattle.startup.specs.Attempts.{after_cookie_change, after_rhello, cookie_change_cause, cookie_change_keying, rhello_cause, rhello_keying};
 ghost use Rattle.startup.specs.Keyings.{initiator_hello_answer, initiator_hello_cause};
 ghost use Rattle.endpoint_model.specs.Admission.{sid_at};
-ghost use Rattle.endpoint_model.specs.Due.{IsQuiet, chunk_did, discarded, discards_for, effect,
-    read_done};
-ghost use Rattle.endpoint_model.specs.Causes.{chunk_cause, form_cause, initiator_keying_cause, is_known,
-    last_cause, read_cause, responder_keying_cause, takes, view_fault};
+ghost use Rattle.endpoint_model.specs.Due.{IsQuiet, chunk_did, discarded, discards_for, effect, read_done};
+ghost use Rattle.endpoint_model.specs.Causes.{chunk_cause, form_cause, initiator_keying_cause, is_known, last_cause, read_cause, responder_keying_cause, takes, view_fault};
 ghost use Rattle.endpoint_model.specs.Sending.{sent_answer, sent_if, sent_in_session};
 ghost use Rattle.endpoint_model.specs.State.{Done, nothing, with_startup};
 
@@ -168,12 +164,7 @@ impl Endpoint {
     }
 
     /// Why an initiator's keying is discarded.
-    fn initiator_keying_cause(
-        &self,
-        walk: Walk,
-        from: &Address,
-        payload: &[u8],
-    ) -> Option<Cause>
+    fn initiator_keying_cause(&self, walk: Walk, from: &Address, payload: &[u8]) -> Option<Cause>
         ensures { result ≡ initiator_keying_cause self.now walk from.now payload.now }
     {
         if walk.keyed {
@@ -236,8 +227,7 @@ impl Endpoint {
         requires form { form_cause chunk.now.kind chunk.now.payload.now ≡ None }
         requires last { (walk : Walk) ×
             (last_cause self.old place walk from.now (shown chunk.now) ≡ None) }
-        ensures ok
-            { OnOk result (Done (effect self.old place from.now draws.now (shown chunk.now))
+        ensures ok { OnOk result (Done (effect self.old place from.now draws.now (shown chunk.now))
             self.new out.old out.new) }
         ensures err { OnErr result (Done (nothing self.old) self.new out.old out.new) }
         ensures quiet { chunk.now.kind ≡ 0x41 → IsOk result }
@@ -264,8 +254,7 @@ impl Endpoint {
     ) -> Result<(), AllocError>
         requires cause { read_cause self.old place (Ok (chunk_of view.now)) ≡ None }
         requires form { (len : ℕ) × (view_fault len (chunk_of view.now) ≡ None) }
-        ensures ok
-            { OnOk result (Done (read_done self.old place from.now (Ok (chunk_of view.now)))
+        ensures ok { OnOk result (Done (read_done self.old place from.now (Ok (chunk_of view.now)))
             self.new out.old out.new) }
         ensures err { OnErr result (Done (nothing self.old) self.new out.old out.new) }
         ensures quiet { kind_of (chunk_of view.now) ≡ 0x41 → IsOk result }
@@ -293,8 +282,7 @@ impl Endpoint {
         out: &mut Outbox,
     ) -> Result<(), AllocError>
         requires { initiator_hello_cause self.old.startup epd.now tag.now ≡ None }
-        ensures ok
-            { OnOk result
+        ensures ok { OnOk result
             (Done (sent_answer self.old (initiator_hello_answer self.old.startup tag.now to.now
             self.old.moment)) self.new out.old out.new) }
         ensures err { OnErr result (Done (nothing self.old) self.new out.old out.new) }
@@ -318,8 +306,7 @@ impl Endpoint {
     ) -> Result<(), AllocError>
         requires form { certificate_fault cert.now ≡ None }
         requires cause { rhello_cause self.old.startup tag.now cookie.now cert.now ≡ None }
-        ensures ok
-            { OnOk result
+        ensures ok { OnOk result
             (Done (sent_if (with_startup self.old
             (after_rhello self.old.startup tag.now cookie.now from.now self.old.moment))
             (rhello_keying self.old.startup tag.now cookie.now from.now)) self.new out.old
@@ -346,8 +333,7 @@ impl Endpoint {
         out: &mut Outbox,
     ) -> Result<(), AllocError>
         requires { cookie_change_cause self.old.startup sid old.now new.now ≡ None }
-        ensures ok
-            { OnOk result
+        ensures ok { OnOk result
             (Done (sent_if (with_startup self.old
             (after_cookie_change self.old.startup sid old.now new.now self.old.moment))
             (cookie_change_keying self.old.startup sid old.now new.now)) self.new out.old out.new) }
@@ -370,8 +356,7 @@ impl Endpoint {
         out: &mut Outbox,
     ) -> Result<(), AllocError>
         requires { length bytes.now ≤ 1024 }
-        ensures ok
-            { OnOk result
+        ensures ok { OnOk result
             (Done (sent_in_session self.old near to.now (chunk_bytes (PingReply bytes.now)))
             self.new out.old out.new) }
         ensures err { OnErr result (Done (nothing self.old) self.new out.old out.new) }
@@ -414,8 +399,7 @@ impl Endpoint {
         out: &mut Outbox,
     ) -> Result<(), AllocError>
         requires { chunk.now.at < 2 ^ 32 }
-        ensures ok
-            { OnOk result
+        ensures ok { OnOk result
             (Done (chunk_did place from.now draws.now walk self.old (shown chunk.now))
             self.new out.old out.new) }
         ensures err { OnErr result (Done (nothing self.old) self.new out.old out.new) }

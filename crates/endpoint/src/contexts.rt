@@ -3,8 +3,7 @@
 ghost use Rattle.std.specs.Prelude.{◌≡◌, ◌≤◌, Some, length};
 ghost use Rattle.std.specs.FinMap.{get};
 ghost use Rattle.endpoint.specs.NamedContext.{context_towards, named_context};
-ghost use Rattle.endpoint_laws.specs.OpensIn.{OpensByTheLog, context_in_session, context_in_startup,
-    opens_in};
+ghost use Rattle.endpoint_laws.specs.OpensIn.{OpensByTheLog, context_in_session, context_in_startup, opens_in};
 
 use crate::admission::{PLAIN_AT, SEALED_AT, word_of};
 use crate::endpoint::Endpoint;

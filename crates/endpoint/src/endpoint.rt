@@ -37,16 +37,13 @@ impl Model for Endpoint {
 
     ghost Value = { State };
 
-    ghost coded =
-        { state_code config_type.the_row.coded startup_type.the_row.coded session_type.the_row.coded
-        };
+    ghost coded = { state_code config_type.the_row.coded startup_type.the_row.coded session_type.the_row.coded };
 
     ghost use Rattle.endpoint.specs.Kept.{state_of, IsEndpoint};
 
     ghost view = { λ e. state_of e.config e.moment e.sealed e.startup e.sessions.items };
 
-    ghost invariant =
-        { λ e. IsEndpoint e.config e.secret e.print e.keys e.startup e.sessions.items };
+    ghost invariant = { λ e. IsEndpoint e.config e.secret e.print e.keys e.startup e.sessions.items };
 }
 
 impl Endpoint {
@@ -64,13 +61,20 @@ impl Endpoint {
     ) -> Endpoint
         requires { config.max_sessions ≤ 65536 }
         ensures state { result
-            ≡ fresh (record { config = config; cert = cert; secret = secret;
-            cookie_secret = cookie_secret }) }
+            ≡ fresh (record {
+              config = config;
+              cert = cert;
+              secret = secret;
+              cookie_secret = cookie_secret;
+            }) }
 
         // It stands for the empty log.
-        ensures stands
-            { StandsFor (record { config = config; cert = cert; secret = secret;
-            cookie_secret = cookie_secret }) [] result }
+        ensures stands { StandsFor (record {
+          config = config;
+          cert = cert;
+          secret = secret;
+          cookie_secret = cookie_secret;
+        }) [] result }
     {
         let print = cert.print();
         Endpoint {

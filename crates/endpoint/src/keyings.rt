@@ -1,11 +1,9 @@
 //! Keyings that bear and open sessions.
 
-ghost use Rattle.std.specs.Prelude.{◌≡◌, ◌+◌, ◌++◌, ◌<◌, ◌≤◌, None, OnErr, OnOk, length, vec_len,
-    vec_capacity};
+ghost use Rattle.std.specs.Prelude.{◌≡◌, ◌+◌, ◌++◌, ◌<◌, ◌≤◌, None, OnErr, OnOk, length, vec_len, vec_capacity};
 ghost use Rattle.std.specs.FinMap.{len};
 ghost use Rattle.startup.specs.Keyings.{iikeying_cause};
-ghost use Rattle.endpoint_model.specs.Due.{initiator_keyed, responder_keyed, sessions_born,
-    sessions_opened, without_ended};
+ghost use Rattle.endpoint_model.specs.Due.{initiator_keyed, responder_keyed, sessions_born, sessions_opened, without_ended};
 ghost use Rattle.endpoint_model.specs.Causes.{responder_keying_cause};
 ghost use Rattle.endpoint.specs.Kept.{table_of};
 ghost use Rattle.endpoint_model.specs.State.{Done, fact_entries, full, nothing};
@@ -33,8 +31,7 @@ impl Endpoint {
     ) -> Result<(), AllocError>
         requires { iikeying_cause self.old.startup payload.now from.now self.old.moment
             (full self.old) ≡ None }
-        ensures ok
-            { OnOk result (Done (initiator_keyed self.old from.now draws.now payload.now) self.new
+        ensures ok { OnOk result (Done (initiator_keyed self.old from.now draws.now payload.now) self.new
             out.old out.new) }
         ensures err { OnErr result (Done (nothing self.old) self.new out.old out.new) }
     {
@@ -90,8 +87,7 @@ impl Endpoint {
         out: &mut Outbox,
     ) -> Result<(), AllocError>
         requires { responder_keying_cause self.old near payload.now ≡ None }
-        ensures ok
-            { OnOk result (Done (responder_keyed self.old near from.now payload.now) self.new
+        ensures ok { OnOk result (Done (responder_keyed self.old near from.now payload.now) self.new
             out.old out.new) }
         ensures err { OnErr result (Done (nothing self.old) self.new out.old out.new) }
     {

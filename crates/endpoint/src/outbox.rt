@@ -24,9 +24,11 @@ impl Model for Outbox {
 
     ghost Value = { Added };
 
-    ghost view =
-        { λ o. record { entries = o.entries.items;
-        free = vec_capacity o.entries - vec_len o.entries; room = o.room } };
+    ghost view = { λ o. record {
+      entries = o.entries.items;
+      free = vec_capacity o.entries - vec_len o.entries;
+      room = o.room;
+    } };
 
     ghost invariant = { λ o. (o.room ≤ vec_capacity o.entries) × AreShort o.entries.items };
 }

@@ -1,14 +1,11 @@
 //! Datagrams that come in.
 
-ghost use Rattle.std.specs.Prelude.{◌≡◌, ◌+◌, ◌<◌, ◌≤◌, ◌^◌, IfErr, IsOk, OnErr, OnOk, drop, false,
-    length, take, true};
+ghost use Rattle.std.specs.Prelude.{◌≡◌, ◌+◌, ◌<◌, ◌≤◌, ◌^◌, IfErr, IsOk, OnErr, OnOk, drop, false, length, take, true};
 ghost use Rattle.std.specs.List.{AllByRecursion};
 ghost use Rattle.std.specs.FinMap.{get};
 ghost use Rattle.rtmfp_packet.specs.Chunks.{left, shown};
-ghost use Rattle.endpoint_model.specs.Admission.{admission, admitted_packet, confirming, confirming_by,
-    confirms, confirms_by, counted_at, counted_by, packet_in, taken_packet, timed_at, timed_by};
-ghost use Rattle.endpoint_model.specs.Due.{AddsDiscards, AreQuiet, chunks_did, discarded, discards,
-    discards_among, outset, walked, received};
+ghost use Rattle.endpoint_model.specs.Admission.{admission, admitted_packet, confirming, confirming_by, confirms, confirms_by, counted_at, counted_by, packet_in, taken_packet, timed_at, timed_by};
+ghost use Rattle.endpoint_model.specs.Due.{AddsDiscards, AreQuiet, chunks_did, discarded, discards, discards_among, outset, walked, received};
 ghost use Rattle.endpoint_model.specs.Keying.{AreNear};
 ghost use Rattle.endpoint_model.specs.Log.{Extends, IsStop, IsTaken, not_taken, receive_event, stopped};
 ghost use Rattle.endpoint_model.specs.State.{Done, at_moment, nothing};
@@ -52,15 +49,12 @@ impl Endpoint {
         out: &mut Outbox,
     ) -> Result<(), Stopped>
         requires { length datagram.old ≤ 2048 }
-        ensures ok
-            { OnOk result
+        ensures ok { OnOk result
             (Done (received from draws.now (admission (at_moment self.old moment) datagram.old))
             self.new out.old out.new) }
-        ensures stop
-            { IfErr result (λ stop. IsStop (admission (at_moment self.old moment) datagram.old)
+        ensures stop { IfErr result (λ stop. IsStop (admission (at_moment self.old moment) datagram.old)
             stop) }
-        ensures stopped
-            { IfErr result
+        ensures stopped { IfErr result
             (λ stop. Done (stopped (at_moment self.old moment) from draws.now
             (admission (at_moment self.old moment) datagram.old) stop) self.new out.old out.new) }
         ensures enough { AddsDiscards from (admission (at_moment self.old moment) datagram.old) →
@@ -165,8 +159,7 @@ impl Endpoint {
         out: &mut Outbox,
     ) -> Result<(), Stopped>
         requires { 32 ≤ length part.now }
-        ensures ok
-            { OnOk result (Done (discarded (counted_at self.old place part.now) 0 cause) self.new
+        ensures ok { OnOk result (Done (discarded (counted_at self.old place part.now) 0 cause) self.new
             out.old out.new) }
         ensures stop { IfErr result (λ stop. (stop ≡ not_taken) ×
             Done (nothing self.old) self.new out.old out.new) }
@@ -289,14 +282,11 @@ impl Endpoint {
     ) -> Result<(), Stopped>
         requires part { 32 ≤ length part.now }
         requires chunks { AreNear packet.now }
-        ensures ok
-            { OnOk result
+        ensures ok { OnOk result
             (Done (received from.now draws.now (taken_packet self.old place part.now packet.now))
             self.new out.old out.new) }
-        ensures stop
-            { IfErr result (λ stop. IsStop (taken_packet self.old place part.now packet.now) stop) }
-        ensures stopped
-            { IfErr result
+        ensures stop { IfErr result (λ stop. IsStop (taken_packet self.old place part.now packet.now) stop) }
+        ensures stopped { IfErr result
             (λ stop. Done (stopped self.old from.now draws.now
             (taken_packet self.old place part.now packet.now) stop) self.new out.old out.new) }
         ensures enough { AddsDiscards from.now (taken_packet self.old place part.now packet.now) →
@@ -333,8 +323,7 @@ impl Endpoint {
         out: &mut Outbox,
     ) -> Result<(), AllocError>
         requires { 32 ≤ length part.now }
-        ensures ok
-            { OnOk result
+        ensures ok { OnOk result
             (Done (confirming (timed_at (counted_at self.old place part.now) place head.now) place)
             self.new out.old out.new) }
         ensures err { OnErr result (Done (nothing self.old) self.new out.old out.new) }
@@ -358,14 +347,12 @@ impl Endpoint {
     ) -> Result<(), Stopped>
         requires near { AllByRecursion (λ c. c.at < 2 ^ 32) (left chunks) }
         requires few { length (left chunks) < 2 ^ 32 }
-        ensures ok
-            { OnOk result
+        ensures ok { OnOk result
             (Done (chunks_did place from.now draws.now outset self.old (left chunks.entry)) self.new
             out.old out.new) }
         ensures stop { IfErr result (λ stop. (stop.taken ≡ true) ×
             (stop.chunks < length (left chunks.entry))) }
-        ensures stopped
-            { IfErr result
+        ensures stopped { IfErr result
             (λ stop. Done (chunks_did place from.now draws.now outset self.old
             (take stop.chunks (left chunks.entry))) self.new out.old out.new) }
         ensures enough { AreQuiet self.old place from.now outset (left chunks.entry) →

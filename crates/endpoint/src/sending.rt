@@ -8,8 +8,7 @@ ghost use Rattle.session_core.specs.Session.{SessionState, context_of};
 ghost use Rattle.packet_scramble.specs.Datagram.{datagram};
 ghost use Rattle.session_core.specs.Sealed.{after_seal, is_spent, sealed_part};
 ghost use Rattle.endpoint_model.specs.State.{Done, nothing};
-ghost use Rattle.endpoint_model.specs.Sending.{last_count, sent_answer, sent_each, sent_startup,
-    session_datagram, startup_number};
+ghost use Rattle.endpoint_model.specs.Sending.{last_count, sent_answer, sent_each, sent_startup, session_datagram, startup_number};
 
 use crate::endpoint::Endpoint;
 use crate::outbox::Outbox;

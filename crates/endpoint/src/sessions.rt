@@ -1,7 +1,6 @@
 //! The list of sessions of an end.
 
-ghost use Rattle.std.specs.Prelude.{◌≡◌, ◌<◌, ◌≤◌, ◌==◌, IfNone, IfSome, None, length, position,
-    vec_len, vec_capacity};
+ghost use Rattle.std.specs.Prelude.{◌≡◌, ◌<◌, ◌≤◌, ◌==◌, IfNone, IfSome, None, length, position, vec_len, vec_capacity};
 ghost use Rattle.std.specs.FinMap.{get, insert, len, remove};
 ghost use Rattle.endpoint.specs.Kept.{near_of, table_of};
 

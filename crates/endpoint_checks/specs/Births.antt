@@ -30,7 +30,7 @@ pub record BirthsRefused (setup : Setup) (moment : ℕ) (from : AddressParts) (s
     (draws : Draws) (j : Joined) : Type 0 where
   -- no call but one that takes a datagram bears one
   pub in_open : (towards : List ℕ) (candidates : List AddressParts) →
-    IsRefused setup (born_in moment (Open towards candidates draws) j)
+      IsRefused setup (born_in moment (Open towards candidates draws) j)
   pub in_cancel : (n : ℕ) → IsRefused setup (born_in moment (Cancel n) j)
   pub in_tick : IsRefused setup (born_in moment (Tick draws) j)
   -- a datagram that is too short to open, and one under another session ID than 0
@@ -38,13 +38,13 @@ pub record BirthsRefused (setup : Setup) (moment : ℕ) (from : AddressParts) (s
   pub other_id : sid_of sent ≢ 0 → IsRefused setup (born_in moment (Receive from sent draws) j)
   -- a packet of another mode, and one without chunks
   pub other_mode : (packet : Whole) → ReadsUnder setup.secret Startup 0 sent packet →
-    packet.head.mode ≢ StartupMode → IsRefused setup (born_in moment (Receive from sent draws) j)
+      packet.head.mode ≢ StartupMode → IsRefused setup (born_in moment (Receive from sent draws) j)
   pub no_chunk : (packet : Whole) → ReadsUnder setup.secret Startup 0 sent packet →
-    chunks_of packet ≡ [] → IsRefused setup (born_in moment (Receive from sent draws) j)
+      chunks_of packet ≡ [] → IsRefused setup (born_in moment (Receive from sent draws) j)
   -- session ID 0, a nonce that wasn't drawn, and another count of attempts
   pub zero : j.near ≡ 0 → IsRefused setup (born_in moment (Receive from sent draws) j)
   pub other_nonce : j.nr ≢ draws.nonce →
-    IsRefused setup (born_in moment (Receive from sent draws) j)
+      IsRefused setup (born_in moment (Receive from sent draws) j)
   pub other_count : j.k ≢ 0 → IsRefused setup (born_in moment (Receive from sent draws) j)
   -- what no keying may say: the session ID 0, a number above 64 bits, the number 0, which isn't
   -- new, and a nonce of another size
@@ -54,9 +54,9 @@ pub record BirthsRefused (setup : Setup) (moment : ℕ) (from : AddressParts) (s
   pub nonce_size : length j.ni ≢ 16 → IsRefused setup (born_in moment (Receive from sent draws) j)
   -- an end that may know nobody, and one that may hold nothing
   pub no_row : setup.config.max_peers ≡ 0 →
-    IsRefused setup (born_in moment (Receive from sent draws) j)
+      IsRefused setup (born_in moment (Receive from sent draws) j)
   pub no_place : setup.config.max_sessions ≡ 0 →
-    IsRefused setup (born_in moment (Receive from sent draws) j)
+      IsRefused setup (born_in moment (Receive from sent draws) j)
 
 -- Of a datagram whose first initiator's keying is this.
 pub record KeyingsRefused (setup : Setup) (moment : ℕ) (from : AddressParts) (sent : List ℕ)
@@ -64,73 +64,80 @@ pub record KeyingsRefused (setup : Setup) (moment : ℕ) (from : AddressParts) (
   -- what the session has isn't what the first keying says
   pub other_far : k.near ≢ j.far → IsRefused setup (born_in moment (Receive from sent draws) j)
   pub other_part : k.part ≢ initiator_part j.ni j.n (own_of setup) →
-    IsRefused setup (born_in moment (Receive from sent draws) j)
+      IsRefused setup (born_in moment (Receive from sent draws) j)
   pub other_peer : j.peer ≢ sha256 k.cert →
-    IsRefused setup (born_in moment (Receive from sent draws) j)
+      IsRefused setup (born_in moment (Receive from sent draws) j)
   -- the certificate is none, or the own one
   pub no_certificate : (IsCertificate k.cert → ⊥) →
-    IsRefused setup (born_in moment (Receive from sent draws) j)
+      IsRefused setup (born_in moment (Receive from sent draws) j)
   pub own_certificate : k.cert ≡ setup.cert →
-    IsRefused setup (born_in moment (Receive from sent draws) j)
+      IsRefused setup (born_in moment (Receive from sent draws) j)
   -- the signature is wrong
   pub unsigned : k.sign ≢ hmac (sign_key_of setup.secret) k.before →
-    IsRefused setup (born_in moment (Receive from sent draws) j)
+      IsRefused setup (born_in moment (Receive from sent draws) j)
   -- the cookie is too long, is none of this end's, was made for another place, or is older than
   -- 95,000 ms
   pub wide_cookie : 128 < length k.cookie →
-    IsRefused setup (born_in moment (Receive from sent draws) j)
+      IsRefused setup (born_in moment (Receive from sent draws) j)
   pub no_cookie : ((place : AddressParts) (issued : ℕ) →
-    k.cookie ≢ cookie_of setup.cookie_secret place issued) →
-    IsRefused setup (born_in moment (Receive from sent draws) j)
+      k.cookie ≢ cookie_of setup.cookie_secret place issued) →
+      IsRefused setup (born_in moment (Receive from sent draws) j)
   pub moved : (place : AddressParts) (issued : ℕ) →
-    IsCookieOf setup.cookie_secret place issued k.cookie → (SamePlace place from → ⊥) →
-    IsRefused setup (born_in moment (Receive from sent draws) j)
+      IsCookieOf setup.cookie_secret place issued k.cookie → (SamePlace place from → ⊥) →
+      IsRefused setup (born_in moment (Receive from sent draws) j)
   pub old : (place : AddressParts) (issued : ℕ) →
-    IsCookieOf setup.cookie_secret place issued k.cookie → issued + 95000 < moment →
-    IsRefused setup (born_in moment (Receive from sent draws) j)
+      IsCookieOf setup.cookie_secret place issued k.cookie → issued + 95000 < moment →
+      IsRefused setup (born_in moment (Receive from sent draws) j)
 
 -- Of a session that is born after other things were done.
 pub record LaterBirthsRefused (setup : Setup) (moment : ℕ) (c d : Call) (from : AddressParts)
     (sent : List ℕ) (draws : Draws) (other nonce : List ℕ) (j : Joined) : Type 0 where
   -- something is held with the peer
   pub attempt_held : IsRefused setup (doing 0 c (says (Started j.peer 1 5 nonce))
-    ∷ born_in moment (Receive from sent draws) j)
+      ∷ born_in moment (Receive from sent draws) j)
   pub session_held : (b : Joined) → b.peer ≡ j.peer →
-    IsRefused setup (doing 0 c (says (Born b)) ∷ born_in moment (Receive from sent draws) j)
+      IsRefused setup (doing 0 c (says (Born b)) ∷ born_in moment (Receive from sent draws) j)
   -- its session ID is in use
   pub in_use : j.near ≡ 5 →
-    IsRefused setup (doing 0 c (says (Started other 1 5 nonce))
-    ∷ born_in moment (Receive from sent draws) j)
+      IsRefused setup (doing 0 c (says (Started other 1 5 nonce))
+      ∷ born_in moment (Receive from sent draws) j)
   -- the count isn't that of the attempts
   pub other_count : j.k ≢ 1 →
-    IsRefused setup (doing 0 c (says (Started other 1 5 nonce))
-    ∷ born_in moment (Receive from sent draws) j)
+      IsRefused setup (doing 0 c (says (Started other 1 5 nonce))
+      ∷ born_in moment (Receive from sent draws) j)
   -- its number isn't above that of an earlier birth, also when that session is over
   pub not_new : (far : ℕ) (ni nr : List ℕ) → j.n ≡ 1 →
       IsRefused setup (doing 0 c (says (Born (joined j.peer 5 far ni nr)))
-        ∷ doing moment (Receive from sent draws)
-        (FactEntry (Ended j.peer 5 Override) ∷ FactEntry (Born j) ∷ []) ∷ [])
+      ∷ doing moment (Receive from sent draws)
+      (FactEntry (Ended j.peer 5 Override) ∷ FactEntry (Born j) ∷ []) ∷ [])
   -- nor above the count that the peer told when it answered
   pub not_above : (far k : ℕ) (nr : List ℕ) → j.n ≤ k →
       IsRefused setup (
       doing 0 c (says (Started j.peer 1 5 nonce))
       ∷ doing 0 d
-        (says (Opened (record { peer = j.peer; n = 1; near = 5; far = far; ni = nonce; nr = nr;
-        k = k })))
+      (says (Opened (record {
+        peer = j.peer;
+        n = 1;
+        near = 5;
+        far = far;
+        ni = nonce;
+        nr = nr;
+        k = k;
+      })))
       ∷ doing moment (Receive from sent draws)
-        (FactEntry (Ended j.peer 5 Override) ∷ FactEntry (Born j) ∷ [])
+      (FactEntry (Ended j.peer 5 Override) ∷ FactEntry (Born j) ∷ [])
       ∷ [])
   -- the rows, and the places, are taken by another peer
   pub no_row : setup.config.max_peers ≡ 1 → other ≢ j.peer →
-    IsRefused setup (doing 0 c (says (Started other 1 5 nonce))
-    ∷ born_in moment (Receive from sent draws) j)
+      IsRefused setup (doing 0 c (says (Started other 1 5 nonce))
+      ∷ born_in moment (Receive from sent draws) j)
   pub no_place : setup.config.max_sessions ≡ 1 → other ≢ j.peer →
-    IsRefused setup (doing 0 c (says (Started other 1 5 nonce))
-    ∷ born_in moment (Receive from sent draws) j)
+      IsRefused setup (doing 0 c (says (Started other 1 5 nonce))
+      ∷ born_in moment (Receive from sent draws) j)
   -- a row stays taken when its session or attempt is over
   pub row_kept : setup.config.max_peers ≡ 1 → other ≢ j.peer →
       IsRefused setup (doing 0 c (says (Started other 1 5 nonce))
-        ∷ doing 0 d (says (Ended other 5 Cancelled)) ∷ born_in moment (Receive from sent draws) j)
+      ∷ doing 0 d (says (Ended other 5 Cancelled)) ∷ born_in moment (Receive from sent draws) j)
 
 abbrev pub TheTableRefusesBirths : Type 0
 TheTableRefusesBirths = (setup : Setup) (moment : ℕ) (from : AddressParts) (sent : List ℕ)

@@ -4,8 +4,7 @@ use Rattle.rtmfp_forms.specs.Address.{AddressParts}
 use Rattle.crypto_profile.specs.declared.keys.Context.{Context}
 use Rattle.identity.specs.Order.{Prevails}
 use Rattle.startup.specs.declared.cause.Cause.{Cause}
-use Rattle.glare_core.specs.declared.facts.Why.TheVariants.{Cancelled, Expired, Glare, Override,
-    Unconfirmed, Near, Far, Idle}
+use Rattle.glare_core.specs.declared.facts.Why.TheVariants.{Cancelled, Expired, Glare, Override, Unconfirmed, Near, Far, Idle}
 use Rattle.glare_core.specs.declared.facts.Fact.TheVariants.{Started, Born, Confirmed, Ended}
 use Rattle.glare_core.specs.declared.facts.Joined.{Joined}
 use Rattle.endpoint_model.specs.declared.config.Draws.{Draws}
@@ -28,62 +27,62 @@ pub record CancelsRefused (setup : Setup) (moment : ℕ) (c : Call) (draws : Dra
     : Type 0 where
   -- another call than a cancel, or a cancel of another attempt
   pub in_open : (towards : List ℕ) (candidates : List AddressParts) →
-    IsRefused setup
-    (after_start 0 c peer (doing moment (Open towards candidates draws)
-    (says (Ended peer 5 Cancelled))))
+      IsRefused setup
+      (after_start 0 c peer (doing moment (Open towards candidates draws)
+      (says (Ended peer 5 Cancelled))))
   pub in_receive : (from : AddressParts) (datagram : List ℕ) →
-    IsRefused setup
-    (after_start 0 c peer (doing moment (Receive from datagram draws)
-    (says (Ended peer 5 Cancelled))))
+      IsRefused setup
+      (after_start 0 c peer (doing moment (Receive from datagram draws)
+      (says (Ended peer 5 Cancelled))))
   pub in_tick
-    : IsRefused setup
-    (after_start 0 c peer (doing moment (Tick draws) (says (Ended peer 5 Cancelled))))
+      : IsRefused setup
+      (after_start 0 c peer (doing moment (Tick draws) (says (Ended peer 5 Cancelled))))
   pub of_another : (m : ℕ) → m ≢ 1 →
-    IsRefused setup (after_start 0 c peer (doing moment (Cancel m) (says (Ended peer 5 Cancelled))))
+      IsRefused setup (after_start 0 c peer (doing moment (Cancel m) (says (Ended peer 5 Cancelled))))
   -- another session ID, another peer, nothing held, and a session
   pub other_id : (near : ℕ) → near ≢ 5 →
-    IsRefused setup
-    (after_start 0 c peer (doing moment (Cancel 1) (says (Ended peer near Cancelled))))
+      IsRefused setup
+      (after_start 0 c peer (doing moment (Cancel 1) (says (Ended peer near Cancelled))))
   pub other_peer : (other : List ℕ) → peer ≢ other →
-    IsRefused setup
-    (after_start 0 c peer (doing moment (Cancel 1) (says (Ended other 5 Cancelled))))
+      IsRefused setup
+      (after_start 0 c peer (doing moment (Cancel 1) (says (Ended other 5 Cancelled))))
   pub of_nothing : (m near : ℕ) →
-    IsRefused setup (doing moment (Cancel m) (says (Ended peer near Cancelled)) ∷ [])
+      IsRefused setup (doing moment (Cancel m) (says (Ended peer near Cancelled)) ∷ [])
   pub of_session : (j : Joined) (m : ℕ) →
-    IsRefused setup
-    (after_birth c j (doing moment (Cancel m) (says (Ended j.peer j.near Cancelled))))
+      IsRefused setup
+      (after_birth c j (doing moment (Cancel m) (says (Ended j.peer j.near Cancelled))))
 
 pub record ExpiriesRefused (setup : Setup) (c : Call) (draws : Draws) (peer : List ℕ) : Type 0 where
   -- another call than a tick
   pub in_open : (moment : ℕ) (towards : List ℕ) (candidates : List AddressParts) →
-    IsRefused setup
-    (after_start 0 c peer (doing moment (Open towards candidates draws)
-    (says (Ended peer 5 Expired))))
+      IsRefused setup
+      (after_start 0 c peer (doing moment (Open towards candidates draws)
+      (says (Ended peer 5 Expired))))
   pub in_receive : (moment : ℕ) (from : AddressParts) (datagram : List ℕ) →
-    IsRefused setup
-    (after_start 0 c peer (doing moment (Receive from datagram draws)
-    (says (Ended peer 5 Expired))))
+      IsRefused setup
+      (after_start 0 c peer (doing moment (Receive from datagram draws)
+      (says (Ended peer 5 Expired))))
   pub in_cancel : (moment m : ℕ) →
-    IsRefused setup (after_start 0 c peer (doing moment (Cancel m) (says (Ended peer 5 Expired))))
+      IsRefused setup (after_start 0 c peer (doing moment (Cancel m) (says (Ended peer 5 Expired))))
   -- a tick 94,999 ms after the start, also where that wasn't at 0
   pub early
-    : IsRefused setup
-    (after_start 0 c peer (doing 94999 (Tick draws) (says (Ended peer 5 Expired))))
+      : IsRefused setup
+      (after_start 0 c peer (doing 94999 (Tick draws) (says (Ended peer 5 Expired))))
   pub early_later
-    : IsRefused setup
-    (after_start 7 c peer (doing 95006 (Tick draws) (says (Ended peer 5 Expired))))
+      : IsRefused setup
+      (after_start 7 c peer (doing 95006 (Tick draws) (says (Ended peer 5 Expired))))
   -- another session ID, nothing held, and a session
   pub other_id : (moment near : ℕ) → near ≢ 5 →
-    IsRefused setup
-    (after_start 0 c peer (doing moment (Tick draws) (says (Ended peer near Expired))))
+      IsRefused setup
+      (after_start 0 c peer (doing moment (Tick draws) (says (Ended peer near Expired))))
   pub of_nothing : (moment near : ℕ) →
-    IsRefused setup (doing moment (Tick draws) (says (Ended peer near Expired)) ∷ [])
+      IsRefused setup (doing moment (Tick draws) (says (Ended peer near Expired)) ∷ [])
   pub of_session : (moment : ℕ) (j : Joined) →
-    IsRefused setup
-    (after_birth c j (doing moment (Tick draws) (says (Ended j.peer j.near Expired))))
+      IsRefused setup
+      (after_birth c j (doing moment (Tick draws) (says (Ended j.peer j.near Expired))))
   -- one at 95,000 ms after the start meets the line
   pub in_time : EndedLine 95000 (Tick draws) (stamped 0 (FactEntry (Started peer 1 5 peer)) ∷ []) []
-    peer 5 Expired
+      peer 5 Expired
 
 -- Of an attempt or a session that makes way for a Born of its peer: what follows it isn't that
 -- Born.
@@ -91,62 +90,62 @@ pub record WaysRefused (setup : Setup) (moment : ℕ) (c d : Call) (peer : List 
     : Type 0 where
   pub alone : IsRefused setup (after_start 0 c peer (doing moment d (says (Ended peer 5 Glare))))
   pub in_next_event : (e : Call) (b : Joined) →
-    IsRefused setup (doing 0 c (says (Started peer 1 5 peer))
-    ∷ doing moment d (says (Ended peer 5 Glare)) ∷ doing moment e (says (Born b)) ∷ [])
+      IsRefused setup (doing 0 c (says (Started peer 1 5 peer))
+      ∷ doing moment d (says (Ended peer 5 Glare)) ∷ doing moment e (says (Born b)) ∷ [])
   pub after_discard : (at : ℕ) (cause : Cause) (b : Joined) →
-    IsRefused setup
-    (after_start 0 c peer (doing moment d (FactEntry (Ended peer 5 Glare) ∷ Discard at cause
-    ∷ FactEntry (Born b) ∷ [])))
+      IsRefused setup
+      (after_start 0 c peer (doing moment d (FactEntry (Ended peer 5 Glare) ∷ Discard at cause
+      ∷ FactEntry (Born b) ∷ [])))
   pub after_out : (to : AddressParts) (sent : List ℕ) (context : Context) (b : Joined) →
-    IsRefused setup
-    (after_start 0 c peer (doing moment d (FactEntry (Ended peer 5 Glare) ∷ Out to sent context
-    ∷ FactEntry (Born b) ∷ [])))
+      IsRefused setup
+      (after_start 0 c peer (doing moment d (FactEntry (Ended peer 5 Glare) ∷ Out to sent context
+      ∷ FactEntry (Born b) ∷ [])))
   pub of_another : (b : Joined) → b.peer ≢ peer →
-    IsRefused setup
-    (after_start 0 c peer (doing moment d (FactEntry (Ended peer 5 Glare) ∷ FactEntry (Born b)
-    ∷ [])))
+      IsRefused setup
+      (after_start 0 c peer (doing moment d (FactEntry (Ended peer 5 Glare) ∷ FactEntry (Born b)
+      ∷ [])))
   -- where this end prevails, or the peer is this end
   pub prevailing : (b : Joined) → (Prevails peer (own_of setup) → ⊥) →
-    IsRefused setup
-    (after_start 0 c peer (doing moment d (FactEntry (Ended peer 5 Glare) ∷ FactEntry (Born b)
-    ∷ [])))
+      IsRefused setup
+      (after_start 0 c peer (doing moment d (FactEntry (Ended peer 5 Glare) ∷ FactEntry (Born b)
+      ∷ [])))
   -- a session isn't ended by Glare, nor an attempt by Override
   pub of_session : (b : Joined) →
-    IsRefused setup
-    (after_birth c j (doing moment d (FactEntry (Ended j.peer j.near Glare) ∷ FactEntry (Born b)
-    ∷ [])))
+      IsRefused setup
+      (after_birth c j (doing moment d (FactEntry (Ended j.peer j.near Glare) ∷ FactEntry (Born b)
+      ∷ [])))
   pub of_attempt : (b : Joined) →
-    IsRefused setup
-    (after_start 0 c peer (doing moment d (FactEntry (Ended peer 5 Override) ∷ FactEntry (Born b)
-    ∷ [])))
+      IsRefused setup
+      (after_start 0 c peer (doing moment d (FactEntry (Ended peer 5 Override) ∷ FactEntry (Born b)
+      ∷ [])))
   -- and the same of Override
   pub override_alone
-    : IsRefused setup (after_birth c j (doing moment d (says (Ended j.peer j.near Override))))
+      : IsRefused setup (after_birth c j (doing moment d (says (Ended j.peer j.near Override))))
   pub override_in_next_event : (e : Call) (b : Joined) →
-    IsRefused setup (doing 0 c (says (Born j))
-    ∷ doing moment d (says (Ended j.peer j.near Override)) ∷ doing moment e (says (Born b)) ∷ [])
+      IsRefused setup (doing 0 c (says (Born j))
+      ∷ doing moment d (says (Ended j.peer j.near Override)) ∷ doing moment e (says (Born b)) ∷ [])
   pub override_after_discard : (at : ℕ) (cause : Cause) (b : Joined) →
-    IsRefused setup
-    (after_birth c j (doing moment d (FactEntry (Ended j.peer j.near Override) ∷ Discard at cause
-    ∷ FactEntry (Born b) ∷ [])))
+      IsRefused setup
+      (after_birth c j (doing moment d (FactEntry (Ended j.peer j.near Override) ∷ Discard at cause
+      ∷ FactEntry (Born b) ∷ [])))
   pub override_after_out : (to : AddressParts) (sent : List ℕ) (context : Context) (b : Joined) →
-    IsRefused setup
-    (after_birth c j (doing moment d (FactEntry (Ended j.peer j.near Override) ∷ Out to sent context
-    ∷ FactEntry (Born b) ∷ [])))
+      IsRefused setup
+      (after_birth c j (doing moment d (FactEntry (Ended j.peer j.near Override) ∷ Out to sent context
+      ∷ FactEntry (Born b) ∷ [])))
   pub override_of_another : (b : Joined) → b.peer ≢ j.peer →
-    IsRefused setup
-    (after_birth c j (doing moment d (FactEntry (Ended j.peer j.near Override) ∷ FactEntry (Born b)
-    ∷ [])))
+      IsRefused setup
+      (after_birth c j (doing moment d (FactEntry (Ended j.peer j.near Override) ∷ FactEntry (Born b)
+      ∷ [])))
 
 -- No end ends a session for these causes yet.
 pub record OthersRefused (setup : Setup) (moment : ℕ) (c d : Call) (j : Joined) : Type 0 where
   pub unconfirmed
-    : IsRefused setup (after_birth c j (doing moment d (says (Ended j.peer j.near Unconfirmed))))
+      : IsRefused setup (after_birth c j (doing moment d (says (Ended j.peer j.near Unconfirmed))))
   pub near : IsRefused setup (after_birth c j (doing moment d (says (Ended j.peer j.near Near))))
   pub far : IsRefused setup (after_birth c j (doing moment d (says (Ended j.peer j.near Far))))
   pub idle : (e : Call) →
-    IsRefused setup (doing 0 c (says (Born j)) ∷ doing 0 d (says (Confirmed j.peer j.near))
-    ∷ doing moment e (says (Ended j.peer j.near Idle)) ∷ [])
+      IsRefused setup (doing 0 c (says (Born j)) ∷ doing 0 d (says (Confirmed j.peer j.near))
+      ∷ doing moment e (says (Ended j.peer j.near Idle)) ∷ [])
 
 abbrev pub TheTableRefusesCancels : Type 0
 TheTableRefusesCancels = (setup : Setup) (moment : ℕ) (c : Call) (draws : Draws) (peer : List ℕ) →

@@ -8,8 +8,7 @@ use Rattle.packet_scramble.specs.Datagram.{datagram}
 use Rattle.rtmfp_forms.specs.Address.{AddressParts}
 use Rattle.identity.specs.Order.{Prevails}
 use Rattle.glare_core.specs.declared.facts.Why.TheVariants.{Glare, Override, Near}
-use Rattle.glare_core.specs.declared.facts.Fact.TheVariants.{Started, Born, Opened, Confirmed,
-    Ended}
+use Rattle.glare_core.specs.declared.facts.Fact.TheVariants.{Started, Born, Opened, Confirmed, Ended}
 use Rattle.glare_core.specs.declared.facts.Joined.{Joined}
 use Rattle.glare_core.specs.Tells.{as_initiator, as_responder}
 use Rattle.glare_core.specs.declared.facts.Held.TheVariants.{HalfOpen}
@@ -28,8 +27,10 @@ did who entries = record { who = who; event = doing 0 (Cancel 0) entries }
 
 -- an end took this datagram
 abbrev pub took : ℕ → AddressParts → List ℕ → Draws → List Entry → Happened
-took who from sent draws entries = record { who = who;
-    event = doing 0 (Receive from sent draws) entries }
+took who from sent draws entries = record {
+  who = who;
+  event = doing 0 (Receive from sent draws) entries;
+}
 
 -- ---- honest
 
@@ -39,27 +40,27 @@ pub record ForgedRefused (ends : ℕ → Setup) (from to : AddressParts) (draws 
   -- nobody sent it; others sent other bytes, or the same in another context; it is sent later, or
   -- in the same call
   pub unsent
-    : (IsHonest ends (took 0 from (datagram 0 (sealed_in (ends 0).secret Startup 0 number plain))
-    draws [] ∷ [])) → ⊥
+      : (IsHonest ends (took 0 from (datagram 0 (sealed_in (ends 0).secret Startup 0 number plain))
+      draws [] ∷ [])) → ⊥
   pub others_sent : other ≢ datagram 0 (sealed_in (ends 0).secret Startup 0 number plain) →
       IsHonest ends (took 0 from (datagram 0 (sealed_in (ends 0).secret Startup 0 number plain))
-        draws [] ∷ did 1 (Out to other Startup ∷ []) ∷ []) → ⊥
+      draws [] ∷ did 1 (Out to other Startup ∷ []) ∷ []) → ⊥
   pub other_context : context ≢ Startup →
       IsHonest ends (took 0 from (datagram 0 (sealed_in (ends 0).secret Startup 0 number plain))
-        draws [] ∷ did 1 (Out to (datagram 0 (sealed_in (ends 0).secret Startup 0 number plain))
-        context ∷ []) ∷ []) → ⊥
+      draws [] ∷ did 1 (Out to (datagram 0 (sealed_in (ends 0).secret Startup 0 number plain))
+      context ∷ []) ∷ []) → ⊥
   pub sent_later
-    : IsHonest ends
-    (did 1 (Out to (datagram 0 (sealed_in (ends 0).secret Startup 0 number plain)) Startup ∷ [])
-    ∷ took 0 from (datagram 0 (sealed_in (ends 0).secret Startup 0 number plain)) draws [] ∷ []) → ⊥
+      : IsHonest ends
+      (did 1 (Out to (datagram 0 (sealed_in (ends 0).secret Startup 0 number plain)) Startup ∷ [])
+      ∷ took 0 from (datagram 0 (sealed_in (ends 0).secret Startup 0 number plain)) draws [] ∷ []) → ⊥
   pub sent_itself
-    : IsHonest ends (took 0 from (datagram 0 (sealed_in (ends 0).secret Startup 0 number plain))
-    draws (Out to (datagram 0 (sealed_in (ends 0).secret Startup 0 number plain)) Startup ∷ [])
-    ∷ []) → ⊥
+      : IsHonest ends (took 0 from (datagram 0 (sealed_in (ends 0).secret Startup 0 number plain))
+      draws (Out to (datagram 0 (sealed_in (ends 0).secret Startup 0 number plain)) Startup ∷ [])
+      ∷ []) → ⊥
   -- under the session ID of an attempt
   pub under_attempt
-    : IsHonest ends (took 0 from (datagram 5 (sealed_in (ends 0).secret Startup 5 number plain))
-    draws [] ∷ did 0 (says (Started peer n 5 ni)) ∷ []) → ⊥
+      : IsHonest ends (took 0 from (datagram 5 (sealed_in (ends 0).secret Startup 5 number plain))
+      draws [] ∷ did 0 (says (Started peer n 5 ni)) ∷ []) → ⊥
 
 -- Of a datagram that opens in the context of a session that was born at end 0.
 pub record ForgedInSessionsRefused (ends : ℕ →
@@ -67,8 +68,8 @@ pub record ForgedInSessionsRefused (ends : ℕ →
     (j : Joined) : Type 0 where
   pub unsent : IsHonest ends (took 0 from sent draws [] ∷ did 0 (says (Born j)) ∷ []) → ⊥
   pub other_context : context ≢ session_context (as_responder (own_of (ends 0)) j) true →
-    IsHonest ends (took 0 from sent draws [] ∷ did 1 (Out to sent context ∷ [])
-    ∷ did 0 (says (Born j)) ∷ []) → ⊥
+      IsHonest ends (took 0 from sent draws [] ∷ did 1 (Out to sent context ∷ [])
+      ∷ did 0 (says (Born j)) ∷ []) → ⊥
 
 -- ---- fresh
 
@@ -77,14 +78,14 @@ pub record StaleRefused (ends : ℕ → Setup) (p q ni : List ℕ) (n m near id 
   -- a nonce drawn twice: for two attempts at two ends, or at one; for an attempt and a session; for
   -- two sessions
   pub attempts : IsFresh ends (did 0 (says (Started p n near ni)) ∷ did 1 (says (Started q m id ni))
-    ∷ []) → ⊥
+      ∷ []) → ⊥
   pub one_end : IsFresh ends (did 0 (says (Started p n near ni)) ∷ did 0 (says (Started q m id ni))
-    ∷ []) → ⊥
+      ∷ []) → ⊥
   pub in_one_call
-    : IsFresh ends (did 0 (FactEntry (Started p n near ni) ∷ FactEntry (Started q m id ni) ∷ [])
-    ∷ []) → ⊥
+      : IsFresh ends (did 0 (FactEntry (Started p n near ni) ∷ FactEntry (Started q m id ni) ∷ [])
+      ∷ []) → ⊥
   pub attempt_and_session : j.nr ≡ ni →
-    IsFresh ends (did 0 (says (Started p n near ni)) ∷ did 1 (says (Born j)) ∷ []) → ⊥
+      IsFresh ends (did 0 (says (Started p n near ni)) ∷ did 1 (says (Born j)) ∷ []) → ⊥
   pub sessions : j.nr ≡ k.nr → IsFresh ends (did 0 (says (Born j)) ∷ did 1 (says (Born k)) ∷ []) → ⊥
   -- two ends with one fingerprint
   pub prints : own_of (ends 0) ≡ own_of (ends 1) → IsFresh ends (did 0 [] ∷ did 1 [] ∷ []) → ⊥
@@ -110,11 +111,11 @@ confirms who j = did who (says (Confirmed j.peer j.near))
 pub record DisagreedRefused (ends : ℕ → Setup) (s t : Joined) : Type 0 where
   -- they keep different sessions: by either nonce, or by an identifier that isn't crossed
   pub kept : (s.ni ≢ t.ni) ⊎ ((s.nr ≢ t.nr) ⊎ ((s.near ≢ t.far) ⊎ (s.far ≢ t.near))) →
-    IsAgreed ends (confirms 1 t ∷ opens 0 s ∷ bears 1 t ∷ starts 0 s ∷ []) → ⊥
+      IsAgreed ends (confirms 1 t ∷ opens 0 s ∷ bears 1 t ∷ starts 0 s ∷ []) → ⊥
   -- also where that is over since
   pub kept_before : s.nr ≢ t.nr →
-    IsAgreed ends (did 0 (says (Ended s.peer s.near Near)) ∷ confirms 1 t ∷ opens 0 s ∷ bears 1 t
-    ∷ starts 0 s ∷ []) → ⊥
+      IsAgreed ends (did 0 (says (Ended s.peer s.near Near)) ∷ confirms 1 t ∷ opens 0 s ∷ bears 1 t
+      ∷ starts 0 s ∷ []) → ⊥
   -- an attempt opens that wasn't born, is born only then, was born with another count or another
   -- session ID
   pub unborn : IsAgreed ends (opens 0 s ∷ starts 0 s ∷ []) → ⊥
@@ -124,21 +125,21 @@ pub record DisagreedRefused (ends : ℕ → Setup) (s t : Joined) : Type 0 where
   -- the keys of its session differ, in either direction
   pub other_keys : (to_responder : Bool) → t.n ≡ s.n → t.ni ≡ s.ni →
       keys_of (ends 0).secret (session_context (as_initiator (own_of (ends 0)) s) to_responder)
-        ≢ keys_of (ends 1).secret (session_context (as_responder (own_of (ends 1)) t)
-        to_responder) →
+      ≢ keys_of (ends 1).secret (session_context (as_responder (own_of (ends 1)) t)
+      to_responder) →
       IsAgreed ends (opens 0 s ∷ bears 1 t ∷ starts 0 s ∷ []) → ⊥
   -- an attempt is born twice
   pub twice : (u : Joined) → t.n ≡ s.n → t.ni ≡ s.ni → u.peer ≡ t.peer → u.n ≡ s.n → u.ni ≡ s.ni →
-    t ≢ u → IsAgreed ends (bears 1 u ∷ bears 1 t ∷ starts 0 s ∷ []) → ⊥
+      t ≢ u → IsAgreed ends (bears 1 u ∷ bears 1 t ∷ starts 0 s ∷ []) → ⊥
   -- of two attempts that are crossed one opens while the other isn't over, and both open
   pub crossed : IsAgreed ends (opens 0 s ∷ starts 1 t ∷ starts 0 s ∷ []) → ⊥
   pub both : IsAgreed ends (opens 1 t ∷ opens 0 s ∷ starts 1 t ∷ starts 0 s ∷ []) → ⊥
   -- the attempt of an end that prevails is ended for Glare
   pub spared : (near : ℕ) → Prevails (own_of (ends 0)) s.peer →
-    IsAgreed ends (did 0 (says (Ended s.peer near Glare)) ∷ starts 0 s ∷ []) → ⊥
+      IsAgreed ends (did 0 (says (Ended s.peer near Glare)) ∷ starts 0 s ∷ []) → ⊥
   -- a kept session is ended for Override, which its peer has not ended
   pub overridden : (near : ℕ) →
-    IsAgreed ends (did 0 (says (Ended s.peer near Override)) ∷ opens 0 s ∷ starts 0 s ∷ []) → ⊥
+      IsAgreed ends (did 0 (says (Ended s.peer near Override)) ∷ opens 0 s ∷ starts 0 s ∷ []) → ⊥
 
 abbrev pub HistoriesRefuseForged : Type 0
 HistoriesRefuseForged = (ends : ℕ → Setup) (from to : AddressParts) (draws : Draws)
@@ -150,7 +151,7 @@ HistoriesRefuseForgedInSessions = (ends : ℕ →
     Setup) (from to : AddressParts) (draws : Draws) (sent plain : List ℕ) (context : Context)
     (j : Joined)
     → OpensUnder (ends 0).secret (inward (own_of (ends 0)) (HalfOpen j)) j.near sent plain →
-      ForgedInSessionsRefused ends from to draws sent context j
+    ForgedInSessionsRefused ends from to draws sent context j
 
 abbrev pub HistoriesRefuseStale : Type 0
 HistoriesRefuseStale = (ends : ℕ → Setup) (p q ni : List ℕ) (n m near id : ℕ) (j k : Joined) →

@@ -9,8 +9,12 @@ use Rattle.endpoint_laws.specs.Lawful.{IsLawful}
 
 -- a call at a moment, and what it added; the table reads no answer
 abbrev pub doing : ℕ → Call → List Entry → Event
-doing moment call entries = record { moment = moment; call = call; answer = Done;
-    entries = entries }
+doing moment call entries = record {
+  moment = moment;
+  call = call;
+  answer = Done;
+  entries = entries;
+}
 
 -- one fact as the entries of a call
 abbrev pub says : Fact → List Entry
@@ -22,5 +26,12 @@ IsRefused setup log = IsLawful setup log → ⊥
 
 -- a session with this near id, of the first attempt of its initiator
 abbrev pub joined : List ℕ → ℕ → ℕ → List ℕ → List ℕ → Joined
-joined peer near far ni nr = record { peer = peer; n = 1; near = near; far = far; ni = ni; nr = nr;
-    k = 0 }
+joined peer near far ni nr = record {
+  peer = peer;
+  n = 1;
+  near = near;
+  far = far;
+  ni = ni;
+  nr = nr;
+  k = 0;
+}

@@ -29,24 +29,24 @@ pub record SendsRefused (setup : Setup) (moment : ℕ) (c : Call) (to : AddressP
   -- what isn't sealed in its context, such as a datagram that is too short
   pub short : length sent < 36 → IsRefused setup (doing moment c (sends to sent context) ∷ [])
   pub unsealed : ((sid : ℕ) (number plain : List ℕ) →
-    sent ≢ datagram sid (sealed_in setup.secret context sid number plain)) →
-    IsRefused setup (doing moment c (sends to sent context) ∷ [])
+      sent ≢ datagram sid (sealed_in setup.secret context sid number plain)) →
+      IsRefused setup (doing moment c (sends to sent context) ∷ [])
 
 -- Of two datagrams with one number.
 pub record NumbersRefused (setup : Setup) (moment : ℕ) (c d : Call) (first second : AddressParts)
     (sent again : List ℕ) : Type 0 where
   -- in the startup context, in one call and in two
   pub in_startup
-    : IsRefused setup (doing moment c (Out first sent Startup ∷ Out second again Startup ∷ []) ∷ [])
+      : IsRefused setup (doing moment c (Out first sent Startup ∷ Out second again Startup ∷ []) ∷ [])
   pub in_two_calls : IsRefused setup (doing 0 c (sends first sent Startup)
-    ∷ doing moment d (sends second again Startup) ∷ [])
+      ∷ doing moment d (sends second again Startup) ∷ [])
   -- and in the context of a session, where no nonce was drawn twice
   pub in_session : (peer ni : List ℕ) (near : ℕ) (x y fp_i fp_r : List ℕ) (sid_i sid_r : ℕ)
-    (to_responder : Bool) →
+      (to_responder : Bool) →
       IsRefused setup (
       doing 0 c (says (Started peer 1 near ni))
       ∷ doing moment d (Out first sent (Session x y fp_i fp_r sid_i sid_r to_responder)
-        ∷ Out second again (Session x y fp_i fp_r sid_i sid_r to_responder) ∷ [])
+      ∷ Out second again (Session x y fp_i fp_r sid_i sid_r to_responder) ∷ [])
       ∷ [])
 
 -- The datagram is one of a packet in which this chunk is.
@@ -70,48 +70,48 @@ pub record KeyingsSentRefused (setup : Setup) (moment : ℕ) (c d : Call) (to : 
   -- in another context than startup, with another certificate than the own one, and where no
   -- attempt is held
   pub other_context : context ≢ Startup →
-    IsRefused setup (doing 0 c (says (Started peer 1 5 ni)) ∷ doing moment d (sends to sent context)
-    ∷ [])
+      IsRefused setup (doing 0 c (says (Started peer 1 5 ni)) ∷ doing moment d (sends to sent context)
+      ∷ [])
   pub other_cert : cert ≢ setup.cert →
-    IsRefused setup (doing 0 c (says (Started peer 1 5 ni)) ∷ doing moment d (sends to sent context)
-    ∷ [])
+      IsRefused setup (doing 0 c (says (Started peer 1 5 ni)) ∷ doing moment d (sends to sent context)
+      ∷ [])
   pub no_attempt : IsRefused setup (doing moment d (sends to sent context) ∷ [])
   -- with another session ID or another component than the attempt's
   pub other_id : near ≢ 5 →
-    IsRefused setup (doing 0 c (says (Started peer 1 5 ni)) ∷ doing moment d (sends to sent context)
-    ∷ [])
+      IsRefused setup (doing 0 c (says (Started peer 1 5 ni)) ∷ doing moment d (sends to sent context)
+      ∷ [])
   pub other_part : part ≢ initiator_part ni 1 peer →
-    IsRefused setup (doing 0 c (says (Started peer 1 5 ni)) ∷ doing moment d (sends to sent context)
-    ∷ [])
+      IsRefused setup (doing 0 c (says (Started peer 1 5 ni)) ∷ doing moment d (sends to sent context)
+      ∷ [])
   -- of an attempt that is over, and of one that opened
   pub over : IsRefused setup (doing 0 c (FactEntry (Started peer 1 5 ni)
-    ∷ FactEntry (Ended peer 5 Cancelled) ∷ []) ∷ doing moment d (sends to sent context) ∷ [])
+      ∷ FactEntry (Ended peer 5 Cancelled) ∷ []) ∷ doing moment d (sends to sent context) ∷ [])
   pub is_open : (j : Joined) → j.peer ≡ peer →
-    IsRefused setup (doing 0 c (FactEntry (Started peer 1 5 ni) ∷ FactEntry (Opened j) ∷ [])
-    ∷ doing moment d (sends to sent context) ∷ [])
+      IsRefused setup (doing 0 c (FactEntry (Started peer 1 5 ni) ∷ FactEntry (Opened j) ∷ [])
+      ∷ doing moment d (sends to sent context) ∷ [])
 
 -- Of a datagram with a responder's keying.
 pub record AnswersSentRefused (setup : Setup) (moment : ℕ) (c d : Call) (to : AddressParts)
     (sent : List ℕ) (context : Context) (j : Joined) (near : ℕ) (part : List ℕ) : Type 0 where
   -- in another context than startup, and where no session is held
   pub other_context : context ≢ Startup →
-    IsRefused setup (doing 0 c (says (Born j)) ∷ doing moment d (sends to sent context) ∷ [])
+      IsRefused setup (doing 0 c (says (Born j)) ∷ doing moment d (sends to sent context) ∷ [])
   pub no_session : IsRefused setup (doing moment d (sends to sent context) ∷ [])
   -- with another session ID or another component than the session's, and under another session ID
   -- than its far one
   pub other_id : near ≢ j.near →
-    IsRefused setup (doing 0 c (says (Born j)) ∷ doing moment d (sends to sent context) ∷ [])
+      IsRefused setup (doing 0 c (says (Born j)) ∷ doing moment d (sends to sent context) ∷ [])
   pub other_part : part ≢ responder_part j.nr j.k (own_of setup) j.ni →
-    IsRefused setup (doing 0 c (says (Born j)) ∷ doing moment d (sends to sent context) ∷ [])
+      IsRefused setup (doing 0 c (says (Born j)) ∷ doing moment d (sends to sent context) ∷ [])
   pub under_another : ((number plain : List ℕ) →
-    sent ≢ datagram j.far (sealed_in setup.secret context j.far number plain)) →
-    IsRefused setup (doing 0 c (says (Born j)) ∷ doing moment d (sends to sent context) ∷ [])
+      sent ≢ datagram j.far (sealed_in setup.secret context j.far number plain)) →
+      IsRefused setup (doing 0 c (says (Born j)) ∷ doing moment d (sends to sent context) ∷ [])
   -- of a session that is over, and of one that was opened here
   pub over : IsRefused setup (doing 0 c (FactEntry (Born j)
-    ∷ FactEntry (Ended j.peer j.near Override) ∷ []) ∷ doing moment d (sends to sent context) ∷ [])
+      ∷ FactEntry (Ended j.peer j.near Override) ∷ []) ∷ doing moment d (sends to sent context) ∷ [])
   pub opened_here : (peer ni : List ℕ) (o : Joined) →
-    IsRefused setup (doing 0 c (FactEntry (Started peer 1 5 ni) ∷ FactEntry (Opened o) ∷ [])
-    ∷ doing moment d (sends to sent context) ∷ [])
+      IsRefused setup (doing 0 c (FactEntry (Started peer 1 5 ni) ∷ FactEntry (Opened o) ∷ [])
+      ∷ doing moment d (sends to sent context) ∷ [])
 
 -- Of a datagram in the context of a session.
 pub record InSessionsRefused (setup : Setup) (moment : ℕ) (c d : Call) (to : AddressParts)
@@ -119,32 +119,32 @@ pub record InSessionsRefused (setup : Setup) (moment : ℕ) (c d : Call) (to : A
     : Type 0 where
   -- nothing is held, or an attempt
   pub nothing_held
-    : IsRefused setup
-    (doing moment d (sends to sent (Session x y fp_i fp_r sid_i sid_r to_responder)) ∷ [])
+      : IsRefused setup
+      (doing moment d (sends to sent (Session x y fp_i fp_r sid_i sid_r to_responder)) ∷ [])
   pub attempt_held : (peer ni : List ℕ) →
-    IsRefused setup (doing 0 c (says (Started peer 1 5 ni))
-    ∷ doing moment d (sends to sent (Session x y fp_i fp_r sid_i sid_r to_responder)) ∷ [])
+      IsRefused setup (doing 0 c (says (Started peer 1 5 ni))
+      ∷ doing moment d (sends to sent (Session x y fp_i fp_r sid_i sid_r to_responder)) ∷ [])
   -- another context than that of the session that is held, away from this end
   pub other_values : Session x y fp_i fp_r sid_i sid_r to_responder
-    ≢ session_context (as_responder (own_of setup) j) false →
+      ≢ session_context (as_responder (own_of setup) j) false →
       IsRefused setup (doing 0 c (says (Born j))
-        ∷ doing moment d (sends to sent (Session x y fp_i fp_r sid_i sid_r to_responder)) ∷ [])
+      ∷ doing moment d (sends to sent (Session x y fp_i fp_r sid_i sid_r to_responder)) ∷ [])
   pub towards : IsRefused setup (doing 0 c (says (Born j))
-    ∷ doing moment d (sends to sent (session_context (as_responder (own_of setup) j) true)) ∷ [])
+      ∷ doing moment d (sends to sent (session_context (as_responder (own_of setup) j) true)) ∷ [])
   pub opened_towards : (ni : List ℕ) →
-    IsRefused setup (doing 0 c (FactEntry (Started j.peer 1 5 ni) ∷ FactEntry (Opened j) ∷ [])
-    ∷ doing moment d (sends to sent (session_context (as_initiator (own_of setup) j) false)) ∷ [])
+      IsRefused setup (doing 0 c (FactEntry (Started j.peer 1 5 ni) ∷ FactEntry (Opened j) ∷ [])
+      ∷ doing moment d (sends to sent (session_context (as_initiator (own_of setup) j) false)) ∷ [])
   -- under another session ID than its far one
   pub under_another : ((number plain : List ℕ) →
-    sent ≢ datagram j.far (sealed_in setup.secret
-    (session_context (as_responder (own_of setup) j) false) j.far number plain)) →
+      sent ≢ datagram j.far (sealed_in setup.secret
+      (session_context (as_responder (own_of setup) j) false) j.far number plain)) →
       IsRefused setup (doing 0 c (says (Born j))
-        ∷ doing moment d (sends to sent (session_context (as_responder (own_of setup) j) false))
-        ∷ [])
+      ∷ doing moment d (sends to sent (session_context (as_responder (own_of setup) j) false))
+      ∷ [])
   -- a session that is over
   pub over : IsRefused setup (doing 0 c (FactEntry (Born j)
-    ∷ FactEntry (Ended j.peer j.near Override) ∷ [])
-    ∷ doing moment d (sends to sent (Session x y fp_i fp_r sid_i sid_r to_responder)) ∷ [])
+      ∷ FactEntry (Ended j.peer j.near Override) ∷ [])
+      ∷ doing moment d (sends to sent (Session x y fp_i fp_r sid_i sid_r to_responder)) ∷ [])
 
 abbrev pub TheTableRefusesSends : Type 0
 TheTableRefusesSends = (setup : Setup) (moment : ℕ) (c : Call) (to : AddressParts) (sent : List ℕ)
@@ -154,20 +154,20 @@ abbrev pub TheTableRefusesNumbers : Type 0
 TheTableRefusesNumbers = (setup : Setup) (moment : ℕ) (c d : Call) (first second : AddressParts)
     (sent again : List ℕ)
     → number_of (drop 4 sent) ≡ number_of (drop 4 again) →
-      NumbersRefused setup moment c d first second sent again
+    NumbersRefused setup moment c d first second sent again
 
 abbrev pub TheTableRefusesKeyingsSent : Type 0
 TheTableRefusesKeyingsSent = (setup : Setup) (moment : ℕ) (c d : Call) (to : AddressParts)
     (sent : List ℕ) (context : Context) (peer ni : List ℕ) (near : ℕ)
     (cookie cert part sign : List ℕ)
     → HasChunk setup.secret context sent (IIKeying near cookie cert part sign) →
-      KeyingsSentRefused setup moment c d to sent context peer ni near cert part
+    KeyingsSentRefused setup moment c d to sent context peer ni near cert part
 
 abbrev pub TheTableRefusesAnswersSent : Type 0
 TheTableRefusesAnswersSent = (setup : Setup) (moment : ℕ) (c d : Call) (to : AddressParts)
     (sent : List ℕ) (context : Context) (j : Joined) (near : ℕ) (part sign : List ℕ)
     → HasChunk setup.secret context sent (RIKeying near part sign) →
-      AnswersSentRefused setup moment c d to sent context j near part
+    AnswersSentRefused setup moment c d to sent context j near part
 
 abbrev pub TheTableRefusesSendsInSessions : Type 0
 TheTableRefusesSendsInSessions = (setup : Setup) (moment : ℕ) (c d : Call) (to : AddressParts)

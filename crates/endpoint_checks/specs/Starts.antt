@@ -2,8 +2,7 @@
 use Rattle.std.specs.Prelude.{ℕ, ◌≡◌, ◌≢◌, ◌≤◌, ◌^◌, List, [], ◌∷◌, ◌++◌}
 use Rattle.rtmfp_forms.specs.Address.{AddressParts}
 use Rattle.glare_core.specs.declared.facts.Why.TheVariants.{Cancelled}
-use Rattle.glare_core.specs.declared.facts.Fact.TheVariants.{Started, Born, Opened, Confirmed,
-    Ended}
+use Rattle.glare_core.specs.declared.facts.Fact.TheVariants.{Started, Born, Opened, Confirmed, Ended}
 use Rattle.glare_core.specs.declared.facts.Joined.{Joined}
 use Rattle.endpoint_model.specs.declared.config.Draws.{Draws}
 use Rattle.endpoint_model.specs.Event.{Setup, own_of, Call, Open, Cancel, Receive, Tick, Event}
@@ -14,56 +13,56 @@ pub record StartsRefused (setup : Setup) (moment : ℕ) (candidates : List Addre
     (draws : Draws) (peer : List ℕ) (n near : ℕ) (ni : List ℕ) : Type 0 where
   -- no call but an open starts one
   pub in_cancel : (m : ℕ) →
-    IsRefused setup (doing moment (Cancel m) (says (Started peer n near ni)) ∷ [])
+      IsRefused setup (doing moment (Cancel m) (says (Started peer n near ni)) ∷ [])
   pub in_receive : (from : AddressParts) (datagram : List ℕ) →
-    IsRefused setup (doing moment (Receive from datagram draws) (says (Started peer n near ni))
-    ∷ [])
+      IsRefused setup (doing moment (Receive from datagram draws) (says (Started peer n near ni))
+      ∷ [])
   pub in_tick : IsRefused setup (doing moment (Tick draws) (says (Started peer n near ni)) ∷ [])
   -- an open towards another peer, and with another nonce
   pub other_peer : (towards : List ℕ) → towards ≢ peer →
-    IsRefused setup (doing moment (Open towards candidates draws) (says (Started peer n near ni))
-    ∷ [])
+      IsRefused setup (doing moment (Open towards candidates draws) (says (Started peer n near ni))
+      ∷ [])
   pub other_nonce : ni ≢ draws.nonce →
-    IsRefused setup (doing moment (Open peer candidates draws) (says (Started peer n near ni)) ∷ [])
+      IsRefused setup (doing moment (Open peer candidates draws) (says (Started peer n near ni)) ∷ [])
   -- this end itself
   pub itself : peer ≡ own_of setup →
-    IsRefused setup (doing moment (Open peer candidates draws) (says (Started peer n near ni)) ∷ [])
+      IsRefused setup (doing moment (Open peer candidates draws) (says (Started peer n near ni)) ∷ [])
   -- an attempt towards the peer, or a session with it, is held
   pub again : (id : ℕ) (nonce : List ℕ) →
-    IsRefused setup (doing moment (Open peer candidates draws) (says (Started peer 1 id nonce))
-    ∷ doing moment (Open peer candidates draws) (says (Started peer n near ni)) ∷ [])
+      IsRefused setup (doing moment (Open peer candidates draws) (says (Started peer 1 id nonce))
+      ∷ doing moment (Open peer candidates draws) (says (Started peer n near ni)) ∷ [])
   pub with_session : (c : Call) (j : Joined) → j.peer ≡ peer →
-    IsRefused setup (doing moment c (says (Born j))
-    ∷ doing moment (Open peer candidates draws) (says (Started peer n near ni)) ∷ [])
+      IsRefused setup (doing moment c (says (Born j))
+      ∷ doing moment (Open peer candidates draws) (says (Started peer n near ni)) ∷ [])
   -- its number isn't the next: the first is 1, and the second 2, whatever became of the first
   pub first_number : n ≢ 1 →
-    IsRefused setup (doing moment (Open peer candidates draws) (says (Started peer n near ni)) ∷ [])
+      IsRefused setup (doing moment (Open peer candidates draws) (says (Started peer n near ni)) ∷ [])
   pub second_number : n ≢ 2 → (c d : Call) (other : List ℕ) (id : ℕ) (nonce : List ℕ) →
       IsRefused setup (doing moment c (says (Started other 1 id nonce))
-        ∷ doing moment d (says (Ended other id Cancelled))
-        ∷ doing moment (Open peer candidates draws) (says (Started peer n near ni)) ∷ [])
+      ∷ doing moment d (says (Ended other id Cancelled))
+      ∷ doing moment (Open peer candidates draws) (says (Started peer n near ni)) ∷ [])
   -- a number above 64 bits, after whatever log
   pub wide_number : (log : List Event) → 2 ^ 64 ≤ n →
-    IsRefused setup (log ++ doing moment (Open peer candidates draws)
-    (says (Started peer n near ni)) ∷ [])
+      IsRefused setup (log ++ doing moment (Open peer candidates draws)
+      (says (Started peer n near ni)) ∷ [])
   -- the session ID 0
   pub zero : IsRefused setup (doing moment (Open peer candidates draws) (says (Started peer n 0 ni))
-    ∷ [])
+      ∷ [])
   -- a session ID in use: of an attempt, of a session that was born, also when it is confirmed, and
   -- of one that was opened
   pub of_attempt : (c : Call) (other nonce : List ℕ) →
-    IsRefused setup (doing moment c (says (Started other 1 5 nonce))
-    ∷ doing moment (Open peer candidates draws) (says (Started peer n 5 ni)) ∷ [])
+      IsRefused setup (doing moment c (says (Started other 1 5 nonce))
+      ∷ doing moment (Open peer candidates draws) (says (Started peer n 5 ni)) ∷ [])
   pub of_born : (c : Call) (j : Joined) → j.near ≡ 5 →
-    IsRefused setup (doing moment c (says (Born j))
-    ∷ doing moment (Open peer candidates draws) (says (Started peer n 5 ni)) ∷ [])
+      IsRefused setup (doing moment c (says (Born j))
+      ∷ doing moment (Open peer candidates draws) (says (Started peer n 5 ni)) ∷ [])
   pub of_confirmed : (c d : Call) (j : Joined) → j.near ≡ 5 →
       IsRefused setup (doing moment c (says (Born j)) ∷ doing moment d (says (Confirmed j.peer 5))
-        ∷ doing moment (Open peer candidates draws) (says (Started peer n 5 ni)) ∷ [])
+      ∷ doing moment (Open peer candidates draws) (says (Started peer n 5 ni)) ∷ [])
   pub of_opened : (c d : Call) (other nonce : List ℕ) (j : Joined) →
       IsRefused setup (doing moment c (says (Started other 1 5 nonce))
-        ∷ doing moment d (says (Opened j)) ∷ doing moment (Open peer candidates draws)
-        (says (Started peer n 5 ni)) ∷ [])
+      ∷ doing moment d (says (Opened j)) ∷ doing moment (Open peer candidates draws)
+      (says (Started peer n 5 ni)) ∷ [])
   -- one in use while another thing ended
   pub of_another : (c d e : Call) (first second nonce : List ℕ) →
       IsRefused setup (

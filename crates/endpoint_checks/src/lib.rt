@@ -5,17 +5,11 @@
 //! That each log of an end is lawful is `endpoint`'s law; here stands that this law says something.
 #![tactic(auto)]
 
-ghost use Rattle.endpoint_checks.specs.Births.{TheTableRefusesBirths, TheTableRefusesKeyings,
-    TheTableRefusesLaterBirths};
-ghost use Rattle.endpoint_checks.specs.Ends.{TheTableRefusesCancels, TheTableRefusesExpiries,
-    TheTableRefusesOtherEnds, TheTableRefusesWays};
-ghost use Rattle.endpoint_checks.specs.Histories.{HistoriesRefuseDisagreed, HistoriesRefuseForged,
-    HistoriesRefuseForgedInSessions, HistoriesRefuseStale};
-ghost use Rattle.endpoint_checks.specs.Opens.{TheTableRefusesAnswers, TheTableRefusesConfirms,
-    TheTableRefusesOpenings};
-ghost use Rattle.endpoint_checks.specs.Sends.{TheTableRefusesAnswersSent,
-    TheTableRefusesKeyingsSent, TheTableRefusesNumbers, TheTableRefusesSends,
-    TheTableRefusesSendsInSessions};
+ghost use Rattle.endpoint_checks.specs.Births.{TheTableRefusesBirths, TheTableRefusesKeyings, TheTableRefusesLaterBirths};
+ghost use Rattle.endpoint_checks.specs.Ends.{TheTableRefusesCancels, TheTableRefusesExpiries, TheTableRefusesOtherEnds, TheTableRefusesWays};
+ghost use Rattle.endpoint_checks.specs.Histories.{HistoriesRefuseDisagreed, HistoriesRefuseForged, HistoriesRefuseForgedInSessions, HistoriesRefuseStale};
+ghost use Rattle.endpoint_checks.specs.Opens.{TheTableRefusesAnswers, TheTableRefusesConfirms, TheTableRefusesOpenings};
+ghost use Rattle.endpoint_checks.specs.Sends.{TheTableRefusesAnswersSent, TheTableRefusesKeyingsSent, TheTableRefusesNumbers, TheTableRefusesSends, TheTableRefusesSendsInSessions};
 ghost use Rattle.endpoint_checks.specs.Starts.{TheTableRefusesStarts};
 
 /// Attempts that start without an open towards their peer, with another nonce, another number, or a

@@ -533,7 +533,6 @@ one_opens s near walk other from draws c kind none =
     ap (chunk_did (Attempt near) from draws other s) is ∙ ap (λ (o : Option Cause). discarded_or s c.at o (responder_keyed s near from c.payload)) no_cause in
     (opens, did)
 
-
 -- chunks one after another add what each of them adds
 gone_in_two : (place : Place) (from : AddressParts) (draws : Draws) (walk : Walk) (front : List Placed) (c : Placed) (back : List Placed) (s : State) →
     (chunks_did place from draws walk s (front ++ c ∷ back)).entries ≡ (chunks_did place from draws walk s front).entries

@@ -44,8 +44,8 @@ pub record Admissible (setup : Setup) (facts : List Fact) (now : ℕ) (from : Ad
   pub cert : List ℕ
   pub sign : List ℕ
   pub spells
-    : Spells (IIKeying offer.far cookie cert (initiator_part offer.ni offer.n (own_of setup)) sign)
-    chunk.kind chunk.payload
+      : Spells (IIKeying offer.far cookie cert (initiator_part offer.ni offer.n (own_of setup)) sign)
+      chunk.kind chunk.payload
   -- the number is what these 8 bytes say
   pub number : offer.n < 2 ^ 64
   pub nonce_size : length offer.ni ≡ 16
@@ -59,7 +59,7 @@ pub record Admissible (setup : Setup) (facts : List Fact) (now : ℕ) (from : Ad
   -- what the end has stated
   pub above : seen offer.peer facts < offer.n
   pub prevails : (thing : Held) → held offer.peer facts ≡ Some thing → IsAttempt thing →
-    Prevails offer.peer (own_of setup)
+      Prevails offer.peer (own_of setup)
   pub row : (list_any (bytes_eq offer.peer) (peers_in facts) ≡ true) ⊎
-    (length (peers_in facts) < setup.config.max_peers)
+      (length (peers_in facts) < setup.config.max_peers)
   pub place : held offer.peer facts ≡ None → length (ids_in_use facts) < setup.config.max_sessions

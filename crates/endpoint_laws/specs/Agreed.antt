@@ -1,7 +1,6 @@
 -- What it is for a history of many ends to be agreed: what their facts say of each other at each
 -- moment.
-use Rattle.std.specs.Prelude.{ℕ, ◌≡◌, ◌⊎◌, Bool, List, [], ◌∷◌, ◌++◌, Option, Some,
-    None}
+use Rattle.std.specs.Prelude.{ℕ, ◌≡◌, ◌⊎◌, Bool, List, [], ◌∷◌, ◌++◌, Option, Some, None}
 use Rattle.crypto_profile.specs.Keys.{keys_of}
 use Rattle.glare_core.specs.declared.facts.Fact.{Fact}
 use Rattle.glare_core.specs.declared.facts.Fact.TheVariants.{Born, Opened}
@@ -10,15 +9,13 @@ use Rattle.glare_core.specs.declared.facts.Joined.{Joined}
 use Rattle.glare_core.specs.Standing.{held}
 use Rattle.glare_core.specs.Tells.{as_initiator, as_responder}
 use Rattle.glare_core.specs.Steps.{Did, Step, step, view, facts, IsTail, Happened}
-use Rattle.glare_core.specs.Agreed.{AreOne, KeepTheSame, EachOpenedHasOneBirth,
-    NoStartedHasTwoBirths, CrossedIsOver, OneOpens, PrevailingIsSpared, OverrideIsLate}
+use Rattle.glare_core.specs.Agreed.{AreOne, KeepTheSame, EachOpenedHasOneBirth, NoStartedHasTwoBirths, CrossedIsOver, OneOpens, PrevailingIsSpared, OverrideIsLate}
 use Rattle.endpoint_model.specs.declared.entry.Entry.{Entry}
 use Rattle.endpoint_model.specs.Views.{fact_in}
 use Rattle.endpoint_model.specs.Event.{Setup, own_of}
 use Rattle.endpoint_laws.specs.Contexts.{session_context}
 use Rattle.endpoint_laws.specs.Laws.{AreCalls}
-use Rattle.endpoint_laws.specs.History.{History, log_of, facts_at, TakesPart, AreLawful, IsHonest,
-    IsFresh}
+use Rattle.endpoint_laws.specs.History.{History, log_of, facts_at, TakesPart, AreLawful, IsHonest, IsFresh}
 
 -- ---- the facts of all ends
 
@@ -48,12 +45,12 @@ stated ends (h ∷ earlier) = stated_onto (own_of (ends h.who)) h.event.entries 
 abbrev pub HaveTheSameKeys : (ℕ → Setup) → History → List Step → Type 0
 HaveTheSameKeys ends history now =
     (a b : ℕ) (s t : Joined) (g h : ℕ) (before early : List Step) → TakesPart a history →
-      TakesPart b history →
+    TakesPart b history →
     Happened (own_of (ends a)) (Did (Opened s) g) before now →
-      Happened (own_of (ends b)) (Did (Born t) h) early now →
+    Happened (own_of (ends b)) (Did (Born t) h) early now →
     s.peer ≡ own_of (ends b) → t.n ≡ s.n → t.ni ≡ s.ni → (to_responder : Bool) →
     keys_of (ends a).secret (session_context (as_initiator (own_of (ends a)) s) to_responder)
-      ≡ keys_of (ends b).secret (session_context (as_responder (own_of (ends b)) t) to_responder)
+    ≡ keys_of (ends b).secret (session_context (as_responder (own_of (ends b)) t) to_responder)
 
 -- what stands at one moment
 pub record AreAgreed (ends : ℕ → Setup) (history : History) (now : List Step) : Type 0 where
@@ -90,7 +87,7 @@ IsOneGroup ends history = (a b : ℕ) → TakesPart a history → TakesPart b hi
 abbrev pub EveryLawfulHistoryIsAgreed : Type 0
 EveryLawfulHistoryIsAgreed =
     (ends : ℕ → Setup) (history : History) → ((who : ℕ) → AreCalls (log_of who history)) →
-      IsOneGroup ends history →
+    IsOneGroup ends history →
     AreLawful ends history → IsHonest ends history → IsFresh ends history → IsAgreed ends history
 
 -- ---- what this says of logs
@@ -116,6 +113,6 @@ Keeps who peer s history = (held peer (facts_at who history) ≡ Some (KeptAsIni
 abbrev pub LogsKeepTheSame : Type 0
 LogsKeepTheSame =
     (ends : ℕ → Setup) (later early : History) → IsFresh ends (later ++ early) →
-      IsAgreed ends (later ++ early) → (a b : ℕ) (s t : Joined) → TakesPart a early →
-      TakesPart b early →
+    IsAgreed ends (later ++ early) → (a b : ℕ) (s t : Joined) → TakesPart a early →
+    TakesPart b early →
     Keeps a (own_of (ends b)) s early → Keeps b (own_of (ends a)) t early → AreOne s t

@@ -1,6 +1,5 @@
 -- What keyings give that nothing refuses.
-use Rattle.std.specs.Prelude.{ℕ, ◌≡◌, ◌≢◌, ◌+◌, ◌-◌, ◌^◌, ◌<◌, Bool, true, false, List, [], ◌∷◌,
-    ◌++◌, take, Option, Some, None, Ok}
+use Rattle.std.specs.Prelude.{ℕ, ◌≡◌, ◌≢◌, ◌+◌, ◌-◌, ◌^◌, ◌<◌, Bool, true, false, List, [], ◌∷◌, ◌++◌, take, Option, Some, None, Ok}
 use Rattle.std.specs.FinMap.{get}
 use Rattle.crypto_profile.specs.declared.keys.Context.{Context}
 use Rattle.crypto_profile.specs.declared.keys.Context.TheVariants.{Startup}
@@ -23,8 +22,7 @@ use Rattle.endpoint_model.specs.declared.place.Place.TheVariants.{Attempt}
 use Rattle.endpoint_model.specs.declared.entry.Entry.{Entry}
 use Rattle.endpoint_model.specs.declared.entry.Entry.TheVariants.{Fact as FactEntry, Out}
 use Rattle.endpoint_model.specs.Views.{Sending, out_in}
-use Rattle.endpoint_model.specs.Event.{Setup, own_of, Receive, Answer, Began, Done, NotOpened, Refused,
-    Stopped, OutOfMemory, Event, moment_at}
+use Rattle.endpoint_model.specs.Event.{Setup, own_of, Receive, Answer, Began, Done, NotOpened, Refused, Stopped, OutOfMemory, Event, moment_at}
 use Rattle.endpoint_laws.specs.Past.{Stamped, facts_of, past_of, last_moment, out_done}
 use Rattle.endpoint_laws.specs.Contexts.{session_context}
 use Rattle.endpoint_model.specs.Keying.{IsFirst, chunks_of}
@@ -41,8 +39,15 @@ use Rattle.endpoint_laws.specs.Laws.{IsSetup, IsCall, AreCalls}
 
 -- a session that was born at this end, as the end has it whose attempt it was
 abbrev pub at_initiator : List ℕ → Joined → Joined
-at_initiator own j = record { peer = own; n = j.n; near = j.far; far = j.near; ni = j.ni; nr = j.nr;
-    k = j.k }
+at_initiator own j = record {
+  peer = own;
+  n = j.n;
+  near = j.far;
+  far = j.near;
+  ni = j.ni;
+  nr = j.nr;
+  k = j.k;
+}
 
 -- The session has what was offered, the nonce that was drawn, and the count of this end's attempts.
 pub record IsOfOffer (offer : Offer) (nonce : List ℕ) (facts : List Fact) (j : Joined)
@@ -67,8 +72,12 @@ pub record IsBornAndTold (setup : Setup) (to : AddressParts) (j : Joined) (entri
 -- a datagram that an end was given
 abbrev pub taken_event : ℕ → AddressParts → List ℕ → Draws → Answer → List Entry → Event
 taken_event moment from datagram draws answer entries =
-    record { moment = moment; call = Receive from datagram draws; answer = answer;
-    entries = entries }
+    record {
+      moment = moment;
+      call = Receive from datagram draws;
+      answer = answer;
+      entries = entries;
+    }
 
 -- The call has gone through these of the datagram's chunks: all of them, or those before the one
 -- that found no memory.
@@ -105,12 +114,12 @@ AdmissibleKeyingsBear = (setup : Setup) (log : List Event) (s t : State) (moment
     → IsSetup setup → AreCalls log → StandsFor setup log s → IsCall (Receive from datagram draws)
     → Step s (taken_event moment from datagram draws answer entries) t
     → (a : Admissible setup (facts_of (past_of 0 [] log))
-      (moment_at (last_moment 0 log) (taken_event moment from datagram draws answer entries)) from
-      datagram offer)
+    (moment_at (last_moment 0 log) (taken_event moment from datagram draws answer entries)) from
+    datagram offer)
     → WentThrough answer (chunks_of a.packet) gone → IsFirst a.chunk gone
     → offer.peer ≢ own_of setup → outs_of (past_of 0 [] log) + outs_in entries < 2 ^ 64 - 1
     → (j : Joined) × IsOfOffer offer draws.nonce (facts_of (past_of 0 [] log)) j ×
-      IsBornAndTold setup from j entries
+    IsBornAndTold setup from j entries
 
 -- ---- responders' keyings
 
@@ -141,9 +150,9 @@ pub record OpensItsSession (s : State) (near : ℕ) (to : AddressParts) (entries
   pub sent : List ℕ
   pub later : List Entry
   pub are : entries ≡ before ++ FactEntry (Opened j)
-    ∷ Out to sent (session_context (as_initiator s.startup.ledger.own j) true) ∷ later
+      ∷ Out to sent (session_context (as_initiator s.startup.ledger.own j) true) ∷ later
   pub ping : IsPing s.startup.secret (session_context (as_initiator s.startup.ledger.own j) true)
-    j.far sent
+      j.far sent
 
 -- Where an end takes a datagram under the session ID of an attempt, and goes through a responder's
 -- keying against which no cause stands after the chunks before it, the attempt's session is opened
@@ -156,6 +165,6 @@ KeyingsWithoutCauseOpen = (s t u : State) (moment near : ℕ) (from : AddressPar
     → admission (at_moment s moment) datagram ≡ Admitted u (Attempt near) packet
     → WentThrough answer (chunks_of packet) (front ++ c ∷ back)
     → c.kind ≡ 0x78 →
-      chunk_cause (chunks_did (Attempt near) from draws outset u front).state (Attempt near)
-      walk from c ≡ None
+    chunk_cause (chunks_did (Attempt near) from draws outset u front).state (Attempt near)
+    walk from c ≡ None
     → OpensItsSession (chunks_did (Attempt near) from draws outset u front).state near from entries

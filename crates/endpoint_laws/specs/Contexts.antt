@@ -8,8 +8,7 @@ use Rattle.rtmfp_packet.specs.Whole.{Whole}
 use Rattle.rtmfp_packet.specs.Reading.{PacketReading}
 use Rattle.glare_core.specs.declared.facts.Fact.{Fact}
 use Rattle.glare_core.specs.declared.facts.Held.{Held}
-use Rattle.glare_core.specs.declared.facts.Held.TheVariants.{Opening, HalfOpen, KeptAsResponder,
-    KeptAsInitiator}
+use Rattle.glare_core.specs.declared.facts.Held.TheVariants.{Opening, HalfOpen, KeptAsResponder, KeptAsInitiator}
 use Rattle.glare_core.specs.Standing.{held}
 use Rattle.glare_core.specs.Things.{near_of}
 use Rattle.glare_core.specs.Tells.{Values, as_initiator, as_responder}
@@ -45,7 +44,7 @@ pub record HeldUnder (facts : List Fact) (near : ℕ) (thing : Held) : Type 0 wh
 abbrev pub ContextOf : List ℕ → List Fact → ℕ → Context → Type 0
 ContextOf own facts sid context =
     ((sid ≡ 0) × (context ≡ Startup)) ⊎ ((thing : Held) × HeldUnder facts sid thing ×
-      (context ≡ inward own thing))
+    (context ≡ inward own thing))
 
 -- The datagram goes under this session ID, opens in this context, and has this plain packet.
 pub record OpensUnder (secret : List ℕ) (context : Context) (sid : ℕ) (datagram plain : List ℕ)

@@ -1,14 +1,12 @@
 -- Histories of many ends, and when one is honest and fresh.
-use Rattle.std.specs.Prelude.{ℕ, ◌≡◌, ◌==◌, ◌⊎◌, List, [], ◌∷◌, ◌++◌, if◌then◌else◌,
-    Option, Some, None}
+use Rattle.std.specs.Prelude.{ℕ, ◌≡◌, ◌==◌, ◌⊎◌, List, [], ◌∷◌, ◌++◌, if◌then◌else◌, Option, Some, None}
 use Rattle.crypto_profile.specs.declared.keys.Context.{Context}
 use Rattle.packet_scramble.specs.Datagram.{sid_of}
 use Rattle.glare_core.specs.declared.facts.Fact.{Fact}
 use Rattle.glare_core.specs.Told.{AllDifferent}
 use Rattle.endpoint_model.specs.declared.entry.Entry.{Entry}
 use Rattle.endpoint_model.specs.Views.{Sending, out_in}
-use Rattle.endpoint_model.specs.Event.{Setup, own_of, Call, ReceiveCall, receive_in,
-    Event}
+use Rattle.endpoint_model.specs.Event.{Setup, own_of, Call, ReceiveCall, receive_in, Event}
 use Rattle.endpoint_laws.specs.Past.{facts_of, past_of}
 use Rattle.endpoint_laws.specs.Contexts.{ContextOf, OpensUnder}
 use Rattle.endpoint_laws.specs.Lawful.{IsLawful, nonces_of}
@@ -58,9 +56,9 @@ abbrev pub IsHonestReceive : Setup → List Fact → History → Option ReceiveC
 IsHonestReceive setup facts earlier None = Unit {0}
 IsHonestReceive setup facts earlier (Some r) =
     (context : Context) (plain : List ℕ) →
-      ContextOf (own_of setup) facts (sid_of r.datagram) context →
-      OpensUnder setup.secret context (sid_of r.datagram) r.datagram plain →
-      WasSent r.datagram context earlier
+    ContextOf (own_of setup) facts (sid_of r.datagram) context →
+    OpensUnder setup.secret context (sid_of r.datagram) r.datagram plain →
+    WasSent r.datagram context earlier
 
 abbrev pub IsHonestCall : Setup → List Fact → History → Call → Type 0
 IsHonestCall setup facts earlier call = IsHonestReceive setup facts earlier (receive_in call)
@@ -86,4 +84,4 @@ TakesPart who (h ∷ earlier) = (who ≡ h.who) ⊎ TakesPart who earlier
 pub record IsFresh (ends : ℕ → Setup) (history : History) : Type 0 where
   pub nonces : AllDifferent (nonces_in history)
   pub prints : (a b : ℕ) → TakesPart a history → TakesPart b history →
-    own_of (ends a) ≡ own_of (ends b) → a ≡ b
+      own_of (ends a) ≡ own_of (ends b) → a ≡ b

@@ -1,7 +1,6 @@
 -- Lawful logs. Each entry meets its line of this table, judged by its event and by the entries
 -- before it.
-use Rattle.std.specs.Prelude.{ℕ, false, ◌≡◌, ◌≢◌, ◌+◌, ◌^◌, ◌<◌, ◌≤◌, ◌⊎◌, List, [], ◌∷◌, length,
-    drop, Option, Some, None, Ok}
+use Rattle.std.specs.Prelude.{ℕ, false, ◌≡◌, ◌≢◌, ◌+◌, ◌^◌, ◌<◌, ◌≤◌, ◌⊎◌, List, [], ◌∷◌, length, drop, Option, Some, None, Ok}
 use Rattle.crypto_profile.specs.declared.keys.Context.{Context}
 use Rattle.crypto_profile.specs.declared.keys.Context.TheVariants.{Startup, Session}
 use Rattle.crypto_profile.specs.Sealing.{sealed_in, number_of}
@@ -11,14 +10,11 @@ use Rattle.rtmfp_packet.specs.Walk.{Placed}
 use Rattle.rtmfp_packet.specs.Reading.{PacketReading}
 use Rattle.rtmfp_chunks.specs.Chunk.{RIKeying, Spells}
 use Rattle.glare_core.specs.declared.facts.Why.{Why}
-use Rattle.glare_core.specs.declared.facts.Why.TheVariants.{Cancelled, Expired, Glare, Override,
-    Unconfirmed, Near, Far, Idle}
+use Rattle.glare_core.specs.declared.facts.Why.TheVariants.{Cancelled, Expired, Glare, Override, Unconfirmed, Near, Far, Idle}
 use Rattle.glare_core.specs.declared.facts.Fact.{Fact}
-use Rattle.glare_core.specs.declared.facts.Fact.TheVariants.{Started, Born, Opened, Confirmed,
-    Ended}
+use Rattle.glare_core.specs.declared.facts.Fact.TheVariants.{Started, Born, Opened, Confirmed, Ended}
 use Rattle.glare_core.specs.declared.facts.Held.{Held}
-use Rattle.glare_core.specs.declared.facts.Held.TheVariants.{Opening, HalfOpen, KeptAsResponder,
-    KeptAsInitiator}
+use Rattle.glare_core.specs.declared.facts.Held.TheVariants.{Opening, HalfOpen, KeptAsResponder, KeptAsInitiator}
 use Rattle.glare_core.specs.declared.facts.Joined.{Joined}
 use Rattle.glare_core.specs.Standing.{held, count}
 use Rattle.glare_core.specs.Stands.{Stands, IsBornOf, IsForBorn}
@@ -27,13 +23,10 @@ use Rattle.endpoint_model.specs.declared.entry.Entry.{Entry}
 use Rattle.endpoint_model.specs.declared.entry.Entry.TheVariants.{Fact as FactEntry}
 use Rattle.endpoint_model.specs.Views.{Sending, fact_in, out_in}
 use Rattle.endpoint_model.specs.declared.config.Draws.{Draws}
-use Rattle.endpoint_model.specs.Event.{Setup, own_of, Call, OpenCall, ReceiveCall, open_in,
-    cancel_in, receive_in, tick_in, Event, moment_at}
-use Rattle.endpoint_laws.specs.Past.{Stamped, begun, stamped, with_event, out_done, facts_of,
-    is_in_use, WasDone}
+use Rattle.endpoint_model.specs.Event.{Setup, own_of, Call, OpenCall, ReceiveCall, open_in, cancel_in, receive_in, tick_in, Event, moment_at}
+use Rattle.endpoint_laws.specs.Past.{Stamped, begun, stamped, with_event, out_done, facts_of, is_in_use, WasDone}
 use Rattle.endpoint_laws.specs.Contexts.{ReadsUnder, HeldUnder, inward, outward, OpensUnder}
-use Rattle.endpoint_model.specs.Keying.{IsSigned, IsAmong, KeyingsAre, chunks_of, initiator_part,
-    responder_part}
+use Rattle.endpoint_model.specs.Keying.{IsSigned, IsAmong, KeyingsAre, chunks_of, initiator_part, responder_part}
 use Rattle.endpoint_laws.specs.Admissible.{Admissible, Offer}
 
 -- The session ID isn't 0, and none that is in use.
@@ -84,7 +77,7 @@ pub record AnswersAttempt (secret : List ℕ) (j : Joined) (datagram : List ℕ)
   pub among : IsAmong chunk (chunks_of packet)
   pub sign : List ℕ
   pub spells : Spells (RIKeying j.far (responder_part j.nr j.k j.peer j.ni) sign) chunk.kind
-    chunk.payload
+      chunk.payload
   -- the count is what these 8 bytes say
   pub number : j.k < 2 ^ 64
   pub signed : IsSigned secret chunk.payload sign
@@ -123,7 +116,7 @@ pub record BornLine (setup : Setup) (now : ℕ) (call : Call) (facts : List Fact
   pub before : List Fact
   pub way : WayMade facts before j.peer
   pub by : Bears setup before now call (record { peer = j.peer; n = j.n; ni = j.ni; far = j.far })
-    j.nr
+      j.nr
   pub id : IsFree j.near facts
 
 pub record ConfirmedLine (setup : Setup) (call : Call) (facts : List Fact) (peer : List ℕ)
@@ -259,8 +252,8 @@ abbrev pub InSession : Setup → List Fact → ℕ → Context → Type 0
 InSession setup facts sid Startup = Unit {0}
 InSession setup facts sid (Session ni nr fp_i fp_r sid_i sid_r to_responder) =
     (thing : Held) × (near : ℕ) × HeldUnder facts near thing ×
-      (Session ni nr fp_i fp_r sid_i sid_r to_responder ≡ outward (own_of setup) thing) ×
-      IsFarOf thing sid
+    (Session ni nr fp_i fp_r sid_i sid_r to_responder ≡ outward (own_of setup) thing) ×
+    IsFarOf thing sid
 
 pub record OutLine (setup : Setup) (past : List Stamped) (sent : List ℕ) (context : Context)
     : Type 0 where
@@ -272,8 +265,8 @@ pub record OutLine (setup : Setup) (past : List Stamped) (sent : List ℕ) (cont
   pub once : AsFarAs context (facts_of past) → WasNumbered context number past → ⊥
   pub keyings : (packet : Whole) → PacketReading plain (Ok packet) →
       KeyingsAre (λ near cookie cert part sign. KeyingOfAttempt setup context (facts_of past) near
-        cert part) (λ near part sign. KeyingOfBorn setup context (facts_of past) sid near part)
-        packet
+      cert part) (λ near part sign. KeyingOfBorn setup context (facts_of past) sid near part)
+      packet
   pub session : InSession setup (facts_of past) sid context
 
 -- ---- the table
@@ -302,7 +295,7 @@ abbrev pub LawfulFrom : Setup → ℕ → List Stamped → List Event → Type 0
 LawfulFrom setup last past [] = Unit {0}
 LawfulFrom setup last past (e ∷ events) =
     EntriesLawful setup (moment_at last e) e.call (begun (moment_at last e) e ∷ past) e.entries ×
-      LawfulFrom setup (moment_at last e) (with_event (moment_at last e) e past) events
+    LawfulFrom setup (moment_at last e) (with_event (moment_at last e) e past) events
 
 abbrev pub IsLawful : Setup → List Event → Type 0
 IsLawful setup log = LawfulFrom setup 0 [] log

@@ -6,8 +6,7 @@ use Rattle.std.specs.FinMap.{get}
 use Rattle.glare_core.specs.declared.facts.Fact.{Fact}
 use Rattle.glare_core.specs.declared.facts.Fact.TheVariants.{Started}
 use Rattle.glare_core.specs.declared.facts.Held.{Held}
-use Rattle.glare_core.specs.declared.facts.Held.TheVariants.{Opening as AttemptHeld, HalfOpen,
-    KeptAsResponder, KeptAsInitiator}
+use Rattle.glare_core.specs.declared.facts.Held.TheVariants.{Opening as AttemptHeld, HalfOpen, KeptAsResponder, KeptAsInitiator}
 use Rattle.glare_core.specs.declared.facts.Joined.{Joined}
 use Rattle.glare_core.specs.Standing.{held, seen, count, peers_in}
 use Rattle.glare_core.specs.Things.{IsSession, near_of}
@@ -16,13 +15,11 @@ use Rattle.startup.specs.State.{AttemptState}
 use Rattle.session_core.specs.declared.stage.Role.{Role}
 use Rattle.session_core.specs.declared.stage.Role.TheVariants.{Initiator, Responder}
 use Rattle.session_core.specs.declared.stage.Stage.{Stage}
-use Rattle.session_core.specs.declared.stage.Stage.TheVariants.{Opening, Open, NearClose, FarLinger,
-    Closed}
+use Rattle.session_core.specs.declared.stage.Stage.TheVariants.{Opening, Open, NearClose, FarLinger, Closed}
 use Rattle.session_core.specs.Session.{SessionState}
 use Rattle.endpoint_model.specs.declared.entry.Entry.TheVariants.{Fact as FactEntry}
 use Rattle.endpoint_model.specs.Event.{Setup, own_of, Event}
-use Rattle.endpoint_laws.specs.Past.{Stamped, stamped, facts_of, ids_in_use, is_in_use, WasDone, past_of,
-    last_moment}
+use Rattle.endpoint_laws.specs.Past.{Stamped, stamped, facts_of, ids_in_use, is_in_use, WasDone, past_of, last_moment}
 use Rattle.endpoint_model.specs.State.{State, uses, is_used}
 use Rattle.endpoint_model.specs.Log.{StandsFor}
 use Rattle.endpoint_laws.specs.Laws.{IsSetup, AreCalls}
@@ -77,19 +74,19 @@ pub record IsOfTheLog (setup : Setup) (s : State) (now : ℕ) (past : List Stamp
   pub uses_are : uses s ≡ length (ids_in_use (facts_of past))
   -- the attempts
   pub attempts : (near : ℕ) (a : AttemptState) → get s.startup.attempts near ≡ Some a →
-    AttemptIsHeld past near a
+      AttemptIsHeld past near a
   pub attempts_there : (peer : List ℕ) (n near : ℕ) (ni : List ℕ) →
-    held peer (facts_of past) ≡ Some (AttemptHeld n near ni) → AttemptIsThere s peer n near ni
+      held peer (facts_of past) ≡ Some (AttemptHeld n near ni) → AttemptIsThere s peer n near ni
   -- the sessions, with their stages
   pub sessions : (near : ℕ) (session : SessionState) → get s.sessions near ≡ Some session →
-    SessionIsHeld setup (facts_of past) near session
+      SessionIsHeld setup (facts_of past) near session
   pub sessions_there : (peer : List ℕ) (thing : Held) → held peer (facts_of past) ≡ Some thing →
-    IsSession thing → SessionIsThere s thing
+      IsSession thing → SessionIsThere s thing
   -- what is held with each peer, the greatest number seen of it, and whether it has a row
   pub held_is : (peer : List ℕ) → held_with s.startup.ledger peer ≡ held peer (facts_of past)
   pub floor_is : (peer : List ℕ) → floor_of s.startup.ledger peer ≡ seen peer (facts_of past)
   pub row_is : (peer : List ℕ) → knows s.startup.ledger peer
-    ≡ list_any (bytes_eq peer) (peers_in (facts_of past))
+      ≡ list_any (bytes_eq peer) (peers_in (facts_of past))
   -- how many rows there are, and how many attempts were started
   pub rows_are : row_count s.startup.ledger ≡ length (peers_in (facts_of past))
   pub count_is : s.startup.ledger.started ≡ count (facts_of past)

@@ -1,6 +1,5 @@
 -- The context in which a datagram opens at an end.
-use Rattle.std.specs.Prelude.{ℕ, ◌≡◌, nat_lt, false, if◌then◌else◌, List, [], length, drop, Option,
-    Some, None}
+use Rattle.std.specs.Prelude.{ℕ, ◌≡◌, nat_lt, false, if◌then◌else◌, List, [], length, drop, Option, Some, None}
 use Rattle.std.specs.FinMap.{get}
 use Rattle.crypto_profile.specs.declared.keys.Context.{Context}
 use Rattle.crypto_profile.specs.declared.keys.Context.TheVariants.{Startup as StartupContext}
@@ -67,12 +66,12 @@ pub record OpensAt (setup : Setup) (facts : List Fact) (datagram : List ℕ) (co
 pub record IsContextAt (setup : Setup) (log : List Event) (datagram : List ℕ)
     (answer : Option Context) : Type 0 where
   pub opens : (context : Context) → answer ≡ Some context →
-    OpensAt setup (facts_of (past_of 0 [] log)) datagram context
+      OpensAt setup (facts_of (past_of 0 [] log)) datagram context
   pub all : (context : Context) → OpensAt setup (facts_of (past_of 0 [] log)) datagram context →
-    answer ≡ Some context
+      answer ≡ Some context
 
 -- It is so for every log that the end stands for.
 abbrev pub OpensByTheLog : State → List ℕ → Option Context → Type 0
 OpensByTheLog s datagram answer =
     (setup : Setup) (log : List Event) → IsSetup setup → AreCalls log → StandsFor setup log s →
-      IsContextAt setup log datagram answer
+    IsContextAt setup log datagram answer

@@ -1,11 +1,9 @@
 -- What an end did so far: the events that began and the entries that were added, the newest first,
 -- each with the moment of its event. Whoever asks of the past does so by the names below.
-use Rattle.std.specs.Prelude.{ℕ, List, [], ◌∷◌, ◌==◌, ◌≡◌, ◌⊎◌, not, filter, Bool, Option,
-    Some, None}
+use Rattle.std.specs.Prelude.{ℕ, List, [], ◌∷◌, ◌==◌, ◌≡◌, ◌⊎◌, not, filter, Bool, Option, Some, None}
 use Rattle.std.specs.List.{list_any}
 use Rattle.glare_core.specs.declared.facts.Fact.{Fact}
-use Rattle.glare_core.specs.declared.facts.Fact.TheVariants.{Started, Born, Opened, Confirmed,
-    Ended}
+use Rattle.glare_core.specs.declared.facts.Fact.TheVariants.{Started, Born, Opened, Confirmed, Ended}
 use Rattle.endpoint_model.specs.declared.entry.Entry.{Entry}
 use Rattle.endpoint_model.specs.Event.{Event, moment_at}
 use Rattle.endpoint_model.specs.Views.{Sending, fact_in, out_in}

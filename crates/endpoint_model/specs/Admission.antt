@@ -1,6 +1,5 @@
 -- How a datagram is taken, or refused as a whole.
-use Rattle.std.specs.Prelude.{ℕ, ◌+◌, ◌-◌, ◌*◌, ◌%◌, ◌==◌, nat_lt, Bool, true, false, if◌then◌else◌,
-    List, [], ◌∷◌, length, drop, Option, Some, None, Result, Ok, Err}
+use Rattle.std.specs.Prelude.{ℕ, ◌+◌, ◌-◌, ◌*◌, ◌%◌, ◌==◌, nat_lt, Bool, true, false, if◌then◌else◌, List, [], ◌∷◌, length, drop, Option, Some, None, Result, Ok, Err}
 use Rattle.std.specs.FinMap.{get, contains_key}
 use Rattle.crypto_profile.specs.declared.keys.Context.TheVariants.{Startup as StartupContext}
 use Rattle.crypto_profile.specs.declared.sealing.SealFault.{SealFault}
@@ -11,19 +10,16 @@ use Rattle.rtmfp_packet.specs.declared.head.PacketHead.{PacketHead}
 use Rattle.rtmfp_packet.specs.declared.head.PacketFault.{PacketFault}
 use Rattle.rtmfp_packet.specs.declared.head.PacketFault.TheVariants.{Empty, ModeZero, ShortStamp}
 use Rattle.rtmfp_packet.specs.declared.head.Mode.{Mode}
-use Rattle.rtmfp_packet.specs.declared.head.Mode.TheVariants.{Initiator as FromInitiator,
-    Responder as FromResponder, Startup as FromStartup}
+use Rattle.rtmfp_packet.specs.declared.head.Mode.TheVariants.{Initiator as FromInitiator, Responder as FromResponder, Startup as FromStartup}
 use Rattle.rtmfp_packet.specs.Head.{flag, mode_number}
 use Rattle.rtmfp_packet.specs.Walk.{body_of}
 use Rattle.rtmfp_packet.specs.Whole.{Whole}
 use Rattle.startup.specs.declared.cause.Cause.{Cause}
-use Rattle.startup.specs.declared.cause.Cause.TheVariants.{Short, UnknownSession, BadTag, Repeated,
-    BadPacket, WrongPlace}
+use Rattle.startup.specs.declared.cause.Cause.TheVariants.{Short, UnknownSession, BadTag, Repeated, BadPacket, WrongPlace}
 use Rattle.session_core.specs.declared.stage.Role.{Role}
 use Rattle.session_core.specs.declared.stage.Role.TheVariants.{Initiator, Responder}
 use Rattle.session_core.specs.declared.hearing.Unheard.{Unheard}
-use Rattle.session_core.specs.declared.hearing.Unheard.TheVariants.{Short as ShortPart,
-    BadTag as WrongTag, Repeated as OldNumber}
+use Rattle.session_core.specs.declared.hearing.Unheard.TheVariants.{Short as ShortPart, BadTag as WrongTag, Repeated as OldNumber}
 use Rattle.session_core.specs.Session.{SessionState, with_stamps, is_opening, confirmed}
 use Rattle.session_core.specs.Hearing.{unheard, inward_keys, counted}
 use Rattle.startup.specs.Attempts.{confirm_fact, after_confirm}
@@ -51,15 +47,24 @@ stamp_in true (high ∷ low ∷ rest) = Some (Some (high * 256 + low), rest)
 
 -- the packet of a head and of what follows it
 abbrev pub whole_from : List ℕ → PacketHead → List ℕ → Whole
-whole_from bytes head body = record { head = head; start = length bytes - length body;
-    chunks = (body_of body).chunks; padding = (body_of body).padding }
+whole_from bytes head body = record {
+  head = head;
+  start = length bytes - length body;
+  chunks = (body_of body).chunks;
+  padding = (body_of body).padding;
+}
 
 abbrev pub with_echo : List ℕ → ℕ → Mode → Option ℕ → Option (Option ℕ × List ℕ) →
     Result Whole PacketFault
 with_echo bytes flags mode stamp None = Err ShortStamp
 with_echo bytes flags mode stamp (Some echo) =
-    Ok (whole_from bytes (record { critical = flag flags 7; reverse = flag flags 6; stamp = stamp;
-      echo = echo.0; mode = mode }) echo.1)
+    Ok (whole_from bytes (record {
+      critical = flag flags 7;
+      reverse = flag flags 6;
+      stamp = stamp;
+      echo = echo.0;
+      mode = mode;
+    }) echo.1)
 
 abbrev pub with_stamp : List ℕ → ℕ → Mode → Option (Option ℕ × List ℕ) → Result Whole PacketFault
 with_stamp bytes flags mode None = Err ShortStamp
@@ -160,7 +165,7 @@ confirming_by s near (Some session) =
     if is_opening session.stage
     then record {
       state = with_session (with_startup s (after_confirm s.startup session.joined.peer)) near
-        (confirmed session);
+          (confirmed session);
       entries = fact_entries (confirm_fact s.startup session.joined.peer);
     }
     else nothing s
@@ -219,7 +224,7 @@ abbrev pub admitted_packet : State → Place → Result Whole PacketFault → Ad
 admitted_packet s place (Err fault) = Rejected s (BadPacket (fault_number fault))
 admitted_packet s place (Ok packet) =
     if has_mode packet.head (mode_at s place) then
-      Admitted (timed_at s place packet.head) place packet else Rejected s WrongPlace
+    Admitted (timed_at s place packet.head) place packet else Rejected s WrongPlace
 
 abbrev pub admitted : State → List ℕ → Result (Place × List ℕ) Cause → Admission
 admitted s datagram (Err cause) = Rejected s cause

@@ -1,22 +1,18 @@
 -- Why a chunk is discarded, in the order of the causes.
-use Rattle.std.specs.Prelude.{ℕ, ◌-◌, ◌==◌, ◌||◌, nat_lt, not, Bool, is_some, if◌then◌else◌, List,
-    [], ◌∷◌, length, Option, Some, None, Result, Ok, Err}
+use Rattle.std.specs.Prelude.{ℕ, ◌-◌, ◌==◌, ◌||◌, nat_lt, not, Bool, is_some, if◌then◌else◌, List, [], ◌∷◌, length, Option, Some, None, Result, Ok, Err}
 use Rattle.std.specs.FinMap.{contains_key}
 use Rattle.rtmfp_forms.specs.Address.{AddressParts}
 use Rattle.rtmfp_chunks.specs.declared.reading.ChunkFault.{ChunkFault}
-use Rattle.rtmfp_chunks.specs.declared.reading.ChunkFault.TheVariants.{Unknown,
-    Malformed as BadField}
+use Rattle.rtmfp_chunks.specs.declared.reading.ChunkFault.TheVariants.{Unknown, Malformed as BadField}
 use Rattle.rtmfp_chunks.specs.Chunk.{Chunk, IHello, FIHello, RHello, CookieChange, Ping}
 use Rattle.rtmfp_chunks.specs.FieldReading.{chunk_reading}
 use Rattle.rtmfp_packet.specs.Walk.{Placed}
 use Rattle.identity.specs.Certificates.{certificate_fault}
 use Rattle.glare_core.specs.Calls.{where_true, first_that_stands}
 use Rattle.startup.specs.declared.cause.Cause.{Cause}
-use Rattle.startup.specs.declared.cause.Cause.TheVariants.{UnknownChunk, Malformed, WrongPlace,
-    NoAttempt, SecondKeying, Fragment as FragmentCause, Wide}
+use Rattle.startup.specs.declared.cause.Cause.TheVariants.{UnknownChunk, Malformed, WrongPlace, NoAttempt, SecondKeying, Fragment as FragmentCause, Wide}
 use Rattle.startup.specs.Attempts.{rhello_cause, cookie_change_cause}
-use Rattle.startup.specs.Keyings.{keying_fault, initiator_hello_cause, iikeying_cause,
-    rikeying_cause}
+use Rattle.startup.specs.Keyings.{keying_fault, initiator_hello_cause, iikeying_cause, rikeying_cause}
 use Rattle.endpoint_model.specs.declared.place.Place.{Place}
 use Rattle.endpoint_model.specs.declared.walk.Walk.{Walk}
 use Rattle.endpoint_model.specs.declared.place.Place.TheVariants.{Startup, Attempt, Session}
@@ -30,7 +26,7 @@ is_hello kind = (kind == 0x30) || (kind == 0x0f)
 abbrev pub is_known : ℕ → Bool
 is_known kind =
     is_hello kind || (kind == 0x70) || (kind == 0x79) || (kind == 0x38) || (kind == 0x78)
-      || (kind == 0x01) || (kind == 0x41) || (kind == 0x7f)
+    || (kind == 0x01) || (kind == 0x41) || (kind == 0x7f)
 
 -- The certificate of a responder's hello, which ends a payload of this length, isn't one.
 abbrev pub view_fault : ℕ → Chunk → Option Cause
@@ -48,7 +44,7 @@ read_fault len (Err (Unknown kind)) = Some (UnknownChunk kind)
 abbrev pub form_cause : ℕ → List ℕ → Option Cause
 form_cause kind payload =
     if (kind == 0x38) || (kind == 0x78) then keying_fault kind payload
-      else read_fault (length payload) (chunk_reading kind payload)
+    else read_fault (length payload) (chunk_reading kind payload)
 
 -- which chunks a place takes
 abbrev pub takes : Place → ℕ → Bool
@@ -71,7 +67,7 @@ read_cause s place (Err fault) = None
 abbrev pub initiator_keying_cause : State → Walk → AddressParts → List ℕ → Option Cause
 initiator_keying_cause s walk from payload =
     if walk.keyed then Some SecondKeying else
-      iikeying_cause s.startup payload from s.moment (full s)
+    iikeying_cause s.startup payload from s.moment (full s)
 
 -- Once its session is open the attempt isn't there any more.
 abbrev pub responder_keying_cause : State → ℕ → List ℕ → Option Cause

@@ -8,21 +8,17 @@ use Rattle.rtmfp_chunks.specs.FieldReading.{chunk_reading}
 use Rattle.rtmfp_chunks.specs.Writing.{chunk_bytes}
 use Rattle.rtmfp_packet.specs.Walk.{Placed}
 use Rattle.glare_core.specs.declared.facts.Fact.{Fact}
-use Rattle.glare_core.specs.declared.facts.Fact.TheVariants.{Started, Born, Opened, Confirmed,
-    Ended}
+use Rattle.glare_core.specs.declared.facts.Fact.TheVariants.{Started, Born, Opened, Confirmed, Ended}
 use Rattle.glare_core.specs.declared.answers.StartRefusal.{StartRefusal}
 use Rattle.glare_core.specs.Calls.{where_true, first_that_stands, start_refusal, started_fact}
 use Rattle.startup.specs.declared.cause.Cause.{Cause}
 use Rattle.startup.specs.declared.answer.Keyed.{Keyed}
 use Rattle.startup.specs.declared.answer.Keyed.TheVariants.{Change, Again, Birth}
 use Rattle.startup.specs.declared.answer.Due.{Due}
-use Rattle.startup.specs.declared.answer.Due.TheVariants.{Ended as EndDue, Hello as HelloDue,
-    Keying as KeyingDue}
-use Rattle.startup.specs.Attempts.{begin_spread, after_begin, cancel_fact, after_cancel,
-    after_rhello, rhello_keying, after_cookie_change, cookie_change_keying}
+use Rattle.startup.specs.declared.answer.Due.TheVariants.{Ended as EndDue, Hello as HelloDue, Keying as KeyingDue}
+use Rattle.startup.specs.Attempts.{begin_spread, after_begin, cancel_fact, after_cancel, after_rhello, rhello_keying, after_cookie_change, cookie_change_keying}
 use Rattle.startup.specs.Due.{due, after_due}
-use Rattle.startup.specs.Keyings.{initiator_hello_answer, keyed, after_keying, opened,
-    after_opening}
+use Rattle.startup.specs.Keyings.{initiator_hello_answer, keyed, after_keying, opened, after_opening}
 use Rattle.session_core.specs.declared.stage.Role.TheVariants.{Initiator, Responder}
 use Rattle.session_core.specs.Session.{new_session}
 use Rattle.endpoint_model.specs.declared.config.Draws.{Draws}
@@ -31,8 +27,7 @@ use Rattle.endpoint_model.specs.declared.walk.Walk.{Walk}
 use Rattle.endpoint_model.specs.declared.entry.Entry.TheVariants.{Fact as FactEntry, Discard}
 use Rattle.endpoint_model.specs.declared.answers.OpenRefusal.{OpenRefusal}
 use Rattle.endpoint_model.specs.declared.answers.OpenRefusal.TheVariants.{Candidates, Start, SessionsFull}
-use Rattle.endpoint_model.specs.State.{State, Sessions, Did, nothing, after_entries, then_do,
-    fact_entries, with_startup, with_session, with_sessions, free_from, full}
+use Rattle.endpoint_model.specs.State.{State, Sessions, Did, nothing, after_entries, then_do, fact_entries, with_startup, with_session, with_sessions, free_from, full}
 use Rattle.endpoint_model.specs.Sending.{sent_answer, sent_if, sent_spread, sent_in_session}
 use Rattle.endpoint_model.specs.Admission.{Admission, Rejected, Admitted, sid_at, confirming, confirms}
 use Rattle.endpoint_model.specs.Causes.{chunk_cause}
@@ -56,23 +51,25 @@ full_refused (Some limit) = Some (SessionsFull limit)
 abbrev pub open_refusal : State → List ℕ → List AddressParts → Option OpenRefusal
 open_refusal s peer candidates =
     first_that_stands (candidates_refusal (length candidates)
-      ∷ start_refused (start_refusal s.startup.ledger peer) ∷ full_refused (full s) ∷ [])
+    ∷ start_refused (start_refusal s.startup.ledger peer) ∷ full_refused (full s) ∷ [])
 
 -- a Started, then a hello to each candidate place
 abbrev pub opening : State → List ℕ → List AddressParts → Draws → Did
 opening s peer candidates draws =
     after_entries
-      (FactEntry (started_fact s.startup.ledger peer (free_from s draws.word) draws.nonce) ∷ [])
+    (FactEntry (started_fact s.startup.ledger peer (free_from s draws.word) draws.nonce) ∷ [])
     (sent_spread
-      (with_startup s (after_begin s.startup peer candidates (free_from s draws.word) draws.nonce
-      draws.tag s.moment))
+    (with_startup s (after_begin s.startup peer candidates (free_from s draws.word) draws.nonce
+    draws.tag s.moment))
     (begin_spread s.startup peer candidates draws.nonce draws.tag s.moment))
 
 -- ---- giving one up
 
 abbrev pub cancelling : State → ℕ → Did
-cancelling s n = record { state = with_startup s (after_cancel s.startup n);
-    entries = fact_entries (cancel_fact s.startup n) }
+cancelling s n = record {
+  state = with_startup s (after_cancel s.startup n);
+  entries = fact_entries (cancel_fact s.startup n);
+}
 
 -- ---- time
 
@@ -132,7 +129,7 @@ sessions_born sessions ended (Ended peer near why) own from secret moment = sess
 abbrev pub with_born : State → Option Fact → Fact → AddressParts → State
 with_born s ended (Born j) from =
     with_sessions s (insert (without_ended s.sessions ended) j.near
-      (new_session j s.startup.ledger.own Responder from s.startup.secret s.moment))
+    (new_session j s.startup.ledger.own Responder from s.startup.secret s.moment))
 with_born s ended fact from = s
 
 -- a new cookie; the keying of the held session again; or the facts of a birth, and the session's
@@ -143,13 +140,13 @@ keying_done s from (Some (Change answer)) = sent_answer s answer
 keying_done s from (Some (Again answer)) = sent_answer s answer
 keying_done s from (Some (Birth ended born answer)) =
     after_entries (fact_entries ended ++ FactEntry born ∷ [])
-      (sent_answer (with_born s ended born from) answer)
+    (sent_answer (with_born s ended born from) answer)
 
 abbrev pub initiator_keyed : State → AddressParts → Draws → List ℕ → Did
 initiator_keyed s from draws payload =
     keying_done
-      (with_startup s (after_keying s.startup payload from s.moment (free_from s draws.word)
-      draws.nonce)) from
+    (with_startup s (after_keying s.startup payload from s.moment (free_from s draws.word)
+    draws.nonce)) from
     (keyed s.startup payload from s.moment (free_from s draws.word) draws.nonce)
 
 -- the sessions with one that was opened
@@ -173,7 +170,7 @@ opening_done s near from None = nothing s
 opening_done s near from (Some fact) =
     after_entries (FactEntry fact ∷ [])
     (sent_in_session (with_opened (with_startup s (after_opening s.startup near fact)) near fact
-      from) near from (chunk_bytes (Ping [])))
+    from) near from (chunk_bytes (Ping [])))
 
 abbrev pub responder_keyed : State → ℕ → AddressParts → List ℕ → Did
 responder_keyed s near from payload = opening_done s near from (opened s.startup near payload)
@@ -186,10 +183,10 @@ read_done s place from (Ok (FIHello epd reply tag)) =
     sent_answer s (initiator_hello_answer s.startup tag reply s.moment)
 read_done s place from (Ok (RHello tag cookie cert)) =
     sent_if (with_startup s (after_rhello s.startup tag cookie from s.moment))
-      (rhello_keying s.startup tag cookie from)
+    (rhello_keying s.startup tag cookie from)
 read_done s place from (Ok (CookieChange old new)) =
     sent_if (with_startup s (after_cookie_change s.startup (sid_at place) old new s.moment))
-      (cookie_change_keying s.startup (sid_at place) old new)
+    (cookie_change_keying s.startup (sid_at place) old new)
 read_done s place from (Ok (Ping bytes)) =
     sent_in_session s (sid_at place) from (chunk_bytes (PingReply bytes))
 read_done s place from (Ok chunk) = nothing s
@@ -227,7 +224,7 @@ abbrev pub chunks_did : Place → AddressParts → Draws → Walk → State → 
 chunks_did place from draws walk s [] = nothing s
 chunks_did place from draws walk s (c ∷ cs) =
     then_do (chunk_did place from draws walk s c)
-      (λ t. chunks_did place from draws (walked walk c) t cs)
+    (λ t. chunks_did place from draws (walked walk c) t cs)
 
 -- ---- a datagram
 
@@ -265,7 +262,7 @@ abbrev pub discards_among : State → Place → AddressParts → Walk → List P
 discards_among s place from walk [] = 0
 discards_among s place from walk (c ∷ cs) =
     discards_for (chunk_cause s place walk from c)
-      + discards_among s place from (walked walk c) cs
+    + discards_among s place from (walked walk c) cs
 
 -- The datagram adds discards alone, or nothing: it is refused, or it confirms nothing and each of
 -- its chunks is discarded or does nothing.

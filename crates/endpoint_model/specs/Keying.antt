@@ -46,7 +46,7 @@ pub record KeyingsAre (OfInitiator : (near : ℕ) → (cookie cert part sign : L
     Type 0) (OfResponder : (near : ℕ) → (part sign : List ℕ) →
     Type 0) (packet : Whole) : Type 0 where
   pub initiators : (c : Placed) (near : ℕ) (cookie cert part sign : List ℕ) →
-    IsAmong c (chunks_of packet) → Spells (IIKeying near cookie cert part sign) c.kind c.payload →
-    OfInitiator near cookie cert part sign
+      IsAmong c (chunks_of packet) → Spells (IIKeying near cookie cert part sign) c.kind c.payload →
+      OfInitiator near cookie cert part sign
   pub responders : (c : Placed) (near : ℕ) (part sign : List ℕ) → IsAmong c (chunks_of packet) →
-    Spells (RIKeying near part sign) c.kind c.payload → OfResponder near part sign
+      Spells (RIKeying near part sign) c.kind c.payload → OfResponder near part sign

@@ -10,14 +10,12 @@ use Rattle.endpoint_model.specs.declared.answers.OpenRefusal.TheVariants.{Memory
 use Rattle.endpoint_model.specs.declared.answers.CallRefusal.{CallRefusal}
 use Rattle.endpoint_model.specs.declared.answers.CallRefusal.TheVariants.{NoAttempt, Memory as NoMemory}
 use Rattle.endpoint_model.specs.declared.answers.Stopped.{Stopped as Stop}
-use Rattle.endpoint_model.specs.Event.{Setup, Call, Open, Cancel, Receive, Tick, Answer, Began, Done,
-    NotOpened, Refused, Stopped, OutOfMemory, Event}
+use Rattle.endpoint_model.specs.Event.{Setup, Call, Open, Cancel, Receive, Tick, Answer, Began, Done, NotOpened, Refused, Stopped, OutOfMemory, Event}
 use Rattle.endpoint_model.specs.Added.{Added}
 use Rattle.endpoint_model.specs.State.{State, Did, Does, nothing, fresh, at_moment, Done as DoneIn}
 use Rattle.endpoint_model.specs.Admission.{Admission, Rejected, Admitted, admission, confirms}
 use Rattle.endpoint_model.specs.Keying.{chunks_of}
-use Rattle.endpoint_model.specs.Due.{open_refusal, opening, cancelling, ticks, received, part_received,
-    AddsDiscards, discards, first_due}
+use Rattle.endpoint_model.specs.Due.{open_refusal, opening, cancelling, ticks, received, part_received, AddsDiscards, discards, first_due}
 
 -- ---- what a call may answer, add and leave, from a state in which its moment is noted
 
@@ -59,19 +57,19 @@ SomeTicks s t entries = (count : ℕ) × Does (ticks count s) t [] entries
 abbrev pub Answers : State → Call → Answer → List Entry → State → Type 0
 Answers s (Open peer candidates draws) (Began n) entries t =
     (open_refusal s peer candidates ≡ None) × (n ≡ s.startup.ledger.started + 1) ×
-      Does (opening s peer candidates draws) t [] entries
+    Does (opening s peer candidates draws) t [] entries
 Answers s (Open peer candidates draws) (NotOpened refusal) entries t =
     (refusal ≡ not_opened (open_refusal s peer candidates)) × Does (nothing s) t [] entries
 Answers s (Cancel n) Done entries t = IsSome (cancel_fact s.startup n) ×
     Does (cancelling s n) t [] entries
 Answers s (Cancel n) (Refused refusal) entries t =
     IfNone (cancel_fact s.startup n) (refusal ≡ NoAttempt) ×
-      IfSome (cancel_fact s.startup n) (λ fact. refusal ≡ NoMemory) × Does (nothing s) t [] entries
+    IfSome (cancel_fact s.startup n) (λ fact. refusal ≡ NoMemory) × Does (nothing s) t [] entries
 Answers s (Receive from datagram draws) Done entries t =
     Does (received from draws (admission s datagram)) t [] entries
 Answers s (Receive from datagram draws) (Stopped stop) entries t =
     IsStop (admission s datagram) stop ×
-      Does (stopped s from draws (admission s datagram) stop) t [] entries
+    Does (stopped s from draws (admission s datagram) stop) t [] entries
 Answers s (Tick draws) Done entries t = SomeTicks s t entries × (first_due t ≡ None)
 Answers s (Tick draws) OutOfMemory entries t = SomeTicks s t entries
 Answers s call answer entries t = ⊥
@@ -99,8 +97,12 @@ Extends old new e = (setup : Setup) (log : List Event) → StandsFor setup log o
 -- ---- the events of calls, by what they returned and by an outbox before and after them
 
 abbrev pub event : ℕ → Call → Answer → List Entry → List Entry → Event
-event moment call answer before after = record { moment = moment; call = call; answer = answer;
-    entries = drop (length before) after }
+event moment call answer before after = record {
+  moment = moment;
+  call = call;
+  answer = answer;
+  entries = drop (length before) after;
+}
 
 abbrev pub answer_of_open : Result ℕ OpenRefusal → Answer
 answer_of_open (Ok n) = Began n

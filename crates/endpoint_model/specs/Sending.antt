@@ -1,6 +1,5 @@
 -- Datagrams that go out.
-use Rattle.std.specs.Prelude.{ℕ, ◌+◌, ◌-◌, ◌^◌, ◌==◌, true, if◌then◌else◌, List, [], ◌∷◌, ◌++◌,
-    take, Option, Some, None}
+use Rattle.std.specs.Prelude.{ℕ, ◌+◌, ◌-◌, ◌^◌, ◌==◌, true, if◌then◌else◌, List, [], ◌∷◌, ◌++◌, take, Option, Some, None}
 use Rattle.std.specs.Int.{w64, to_be_bytes}
 use Rattle.rtmfp_forms.specs.Address.{AddressParts}
 use Rattle.rtmfp_packet.specs.Head.{head_bytes}
@@ -34,8 +33,10 @@ startup_datagram s sid plain = datagram sid
 abbrev pub sent_startup : State → AddressParts → ℕ → List ℕ → Did
 sent_startup s to sid plain =
     if s.sealed == last_count then nothing s
-    else record { state = with_sealed s (s.sealed + 1);
-      entries = Out to (startup_datagram s sid plain) Startup ∷ [] }
+    else record {
+      state = with_sealed s (s.sealed + 1);
+      entries = Out to (startup_datagram s sid plain) Startup ∷ [];
+    }
 
 abbrev pub sent_answer : State → Answer → Did
 sent_answer s answer = sent_startup s answer.to answer.sid answer.plain
@@ -66,8 +67,10 @@ abbrev pub sent_by : State → ℕ → AddressParts → List ℕ → Option Sess
 sent_by s near to body None = nothing s
 sent_by s near to body (Some session) =
     if session.sealed == last_count then nothing s
-    else record { state = with_session s near (after_seal session);
-      entries = Out to (session_datagram session s.moment body) (context_of session true) ∷ [] }
+    else record {
+      state = with_session s near (after_seal session);
+      entries = Out to (session_datagram session s.moment body) (context_of session true) ∷ [];
+    }
 
 -- a body in the session with this near id
 abbrev pub sent_in_session : State → ℕ → AddressParts → List ℕ → Did

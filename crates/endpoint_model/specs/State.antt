@@ -1,6 +1,5 @@
 -- What an end keeps, and what one thing that it does leaves and adds.
-use Rattle.std.specs.Prelude.{ℕ, zero, suc, ◌+◌, ◌%◌, ◌^◌, ◌==◌, ◌≤◌, ◌&&◌, ◌||◌, not, Bool, max,
-    nat_le, if◌then◌else◌, List, [], ◌∷◌, ◌++◌, length, Option, Some, None, ◌≡◌, refl}
+use Rattle.std.specs.Prelude.{ℕ, zero, suc, ◌+◌, ◌%◌, ◌^◌, ◌==◌, ◌≤◌, ◌&&◌, ◌||◌, not, Bool, max, nat_le, if◌then◌else◌, List, [], ◌∷◌, ◌++◌, length, Option, Some, None, ◌≡◌, refl}
 use Rattle.std.specs.Ordering.{nat_cmp}
 use Rattle.std.specs.FinMap.{FinMap, insert, empty, contains_key, len, code}
 use Rattle.std.specs.Coded.{Coded, code_by, coded×, coded_ℕ}
@@ -39,23 +38,43 @@ fresh setup = record {
 
 -- an end keeps the largest moment that it was given
 abbrev pub at_moment : State → ℕ → State
-at_moment s moment = record { config = s.config; moment = max s.moment moment; sealed = s.sealed;
-    startup = s.startup; sessions = s.sessions }
+at_moment s moment = record {
+  config = s.config;
+  moment = max s.moment moment;
+  sealed = s.sealed;
+  startup = s.startup;
+  sessions = s.sessions;
+}
 
 abbrev pub with_startup : State → StartupState → State
-with_startup s startup = record { config = s.config; moment = s.moment; sealed = s.sealed;
-    startup = startup; sessions = s.sessions }
+with_startup s startup = record {
+  config = s.config;
+  moment = s.moment;
+  sealed = s.sealed;
+  startup = startup;
+  sessions = s.sessions;
+}
 
 abbrev pub with_sessions : State → Sessions → State
-with_sessions s sessions = record { config = s.config; moment = s.moment; sealed = s.sealed;
-    startup = s.startup; sessions = sessions }
+with_sessions s sessions = record {
+  config = s.config;
+  moment = s.moment;
+  sealed = s.sealed;
+  startup = s.startup;
+  sessions = sessions;
+}
 
 abbrev pub with_session : State → ℕ → SessionState → State
 with_session s near session = with_sessions s (insert s.sessions near session)
 
 abbrev pub with_sealed : State → ℕ → State
-with_sealed s sealed = record { config = s.config; moment = s.moment; sealed = sealed;
-    startup = s.startup; sessions = s.sessions }
+with_sealed s sealed = record {
+  config = s.config;
+  moment = s.moment;
+  sealed = sealed;
+  startup = s.startup;
+  sessions = s.sessions;
+}
 
 -- ---- session IDs
 
@@ -129,8 +148,13 @@ pub record Done (d : Did) (new : State) (before after : Added) : Type 0 where
 abbrev pub state_code : Coded Config → Coded StartupState → Coded SessionState → Coded State
 state_code config startup session =
     code_by (Config × (ℕ × (ℕ × (StartupState × Sessions))))
-      (coded× config (coded× coded_ℕ (coded× coded_ℕ (coded× startup (code coded_ℕ session)))))
+    (coded× config (coded× coded_ℕ (coded× coded_ℕ (coded× startup (code coded_ℕ session)))))
     (λ s. (s.config, (s.moment, (s.sealed, (s.startup, s.sessions)))))
-    (λ p. record { config = p.0; moment = p.1.0; sealed = p.1.1.0; startup = p.1.1.1.0;
-      sessions = p.1.1.1.1 })
+    (λ p. record {
+      config = p.0;
+      moment = p.1.0;
+      sealed = p.1.1.0;
+      startup = p.1.1.1.0;
+      sessions = p.1.1.1.1;
+    })
     (λ _. refl)

@@ -1,14 +1,11 @@
 //! The receiver of a flow.
 
-ghost use Rattle.std.specs.Prelude.{◌≡◌, ◌≢◌, ◌+◌, ◌-◌, ◌<◌, ◌≤◌, ◌∷◌, ◌++◌, ◌↔◌, ℕ, IfOk, IsOk,
-    IsErr, OnOk, OnErr, IfErr, MatchOption, List, length, Some, None, Ok, Err, false, true, ◌==◌,
-    ◌^◌, ◌&&◌, ◌||◌, not, nat_lt, nat_le, max, if◌then◌else◌};
+ghost use Rattle.std.specs.Prelude.{◌≡◌, ◌≢◌, ◌+◌, ◌-◌, ◌<◌, ◌≤◌, ◌∷◌, ◌++◌, ◌↔◌, ℕ, IfOk, IsOk, IsErr, OnOk, OnErr, IfErr, MatchOption, List, length, Some, None, Ok, Err, false, true, ◌==◌, ◌^◌, ◌&&◌, ◌||◌, not, nat_lt, nat_le, max, if◌then◌else◌};
 ghost use Rattle.std.specs.List.{filter};
 ghost use Rattle.std.specs.Option.{option_map};
 ghost use Rattle.rtmfp_data_chunks.specs.Runs.{single, message_of};
 ghost use Rattle.rtmfp_data_chunks.specs.Taken.{chunk_of};
-ghost use Rattle.flow_recv.specs.Receiver.{Receiver, Apart, fresh, span, lacks, living, held_in,
-    after_last, passes_buffer, add_run, add_span, beyond_buffer, taken, next_run, handed_next};
+ghost use Rattle.flow_recv.specs.Receiver.{Receiver, Apart, fresh, span, lacks, living, held_in, after_last, passes_buffer, add_run, add_span, beyond_buffer, taken, next_run, handed_next};
 ghost use Rattle.flow_recv.specs.Keyed.{IsFree, stays};
 ghost use Rattle.flow_recv.specs.Acking.{free_blocks, ack_head, ack_bytes, TellsStretches};
 ghost use Rattle.rtmfp_forms.specs.Outgoing.{packet_limit};
@@ -54,13 +51,21 @@ impl Model for FlowReceiver {
 
     ghost Value = { Receiver };
 
-    ghost view =
-        { λ r. record { arriving = r.arriving; spans = span 0 r.through ∷ r.above; runs = r.runs;
-        last = r.last; highest = r.highest } };
+    ghost view = { λ r. record {
+      arriving = r.arriving;
+      spans = span 0 r.through ∷ r.above;
+      runs = r.runs;
+      last = r.last;
+      highest = r.highest;
+    } };
 
-    ghost invariant =
-        { λ r. Laid (record { arriving = r.arriving; spans = span 0 r.through ∷ r.above;
-        runs = r.runs; last = r.last; highest = r.highest }) r.held };
+    ghost invariant = { λ r. Laid (record {
+      arriving = r.arriving;
+      spans = span 0 r.through ∷ r.above;
+      runs = r.runs;
+      last = r.last;
+      highest = r.highest;
+    }) r.held };
 }
 
 impl FlowReceiver {
@@ -298,8 +303,7 @@ fn admit(
     ensures spans { IfOk result (λ end. span 0 end ∷ above.new
         ≡ add_span chunk.now.seq chunk.now.seq (add_span 0 chunk.now.forward
         (span 0 through ∷ above.old))) }
-    ensures held
-        { OnOk result (runs.new ≡ (if not chunk.now.abandon && missing then
+    ensures held { OnOk result (runs.new ≡ (if not chunk.now.abandon && missing then
         add_run (single chunk.now.seq chunk.now.part chunk.now.bytes.now) runs.old else runs.old)) }
     ensures same_spans { OnErr result (above.new ≡ above.old) }
     ensures same_runs { OnErr result (runs.new ≡ runs.old) }
@@ -334,8 +338,7 @@ fn admit(
 fn hold(alloc: Global, runs: &mut HeldRuns, chunk: &UserData<'_>) -> Result<(), AllocError>
     requires order { InOrder 0 runs.old }
     requires free { IsFree chunk.now.seq runs.old }
-    ensures held
-        { OnOk result (runs.new ≡ (if not chunk.now.abandon then
+    ensures held { OnOk result (runs.new ≡ (if not chunk.now.abandon then
         add_run (single chunk.now.seq chunk.now.part chunk.now.bytes.now) runs.old else runs.old)) }
     ensures unchanged { OnErr result (runs.new ≡ runs.old) }
 {

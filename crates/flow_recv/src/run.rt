@@ -1,7 +1,6 @@
 //! A run: a stretch of held fragments that fit, with its bytes.
 
-ghost use Rattle.std.specs.Prelude.{◌≡◌, ◌+◌, ◌<◌, ◌≤◌, ◌^◌, ◌∷◌, [], IfOk, OnOk, OnErr, List, ◌++◌,
-    length, false};
+ghost use Rattle.std.specs.Prelude.{◌≡◌, ◌+◌, ◌<◌, ◌≤◌, ◌^◌, ◌∷◌, [], IfOk, OnOk, OnErr, List, ◌++◌, length, false};
 ghost use Rattle.rtmfp_data_chunks.specs.Runs.{fits, joined, single, is_whole, has_front, has_rear};
 ghost use Rattle.flow_recv.specs.Receiver.{Apart, is_alive, span, lacks, hands};
 ghost use Rattle.flow_recv.specs.Keyed.{is_between, emptied, over};
@@ -29,9 +28,13 @@ impl Model for HeldRun {
 
     ghost Value = { Run };
 
-    ghost view =
-        { λ y. record { first = y.first; last = y.last; front = y.front; rear = y.rear;
-        bytes = y.bytes.items } };
+    ghost view = { λ y. record {
+      first = y.first;
+      last = y.last;
+      front = y.front;
+      rear = y.rear;
+      bytes = y.bytes.items;
+    } };
 }
 
 /// Whether a part begins a message.

@@ -101,10 +101,10 @@ found_if : (n : ℕ) (o : Option ℕ) (b : Bool) → b ≡ true → cond b (Some
 found_if n o true e = refl
 found_if n o false e = absurd cc
 
-pub index_found : (test : State → Bool) (n at : ℕ) (rows : List Row) → at < length rows → test (row_at rows at).state ≡ true → first_place test n (drop at rows) ≡ Some n
-index_found test n at [] lt e = absurd (omega arith)
-index_found test n zero (r ∷ rows) lt e = found_if n (first_place test (n + 1) rows) (test r.state) e
-index_found test n (suc at) (r ∷ rows) lt e = index_found test n at rows (omega arith) e
+pub place_found : (test : State → Bool) (n at : ℕ) (rows : List Row) → at < length rows → test (row_at rows at).state ≡ true → first_place test n (drop at rows) ≡ Some n
+place_found test n at [] lt e = absurd (omega arith)
+place_found test n zero (r ∷ rows) lt e = found_if n (first_place test (n + 1) rows) (test r.state) e
+place_found test n (suc at) (r ∷ rows) lt e = place_found test n at rows (omega arith) e
 
 pub place_end : (test : State → Bool) (n at : ℕ) (rows : List Row) → length rows ≤ at → first_place test n (drop at rows) ≡ None
 place_end test n zero [] le = refl

@@ -1,11 +1,9 @@
 -- What an ack tells a sending flow.
-use Rattle.std.specs.Prelude.{ℕ, ◌+◌, if◌then◌else◌, nat_le, nat_lt, max, map, not, Bool, ◌&&◌,
-    ◌||◌, List, [], ◌∷◌, Option, Some, None, length}
+use Rattle.std.specs.Prelude.{ℕ, ◌+◌, if◌then◌else◌, nat_le, nat_lt, max, map, not, Bool, ◌&&◌, ◌||◌, List, [], ◌∷◌, Option, Some, None, length}
 use Rattle.std.specs.List.{filter, list_any}
 use Rattle.flow_send.specs.declared.state.State.TheVariants.{Lost, Acknowledged}
 use Rattle.flow_send.specs.declared.waiting.Waiting.{Waiting}
-use Rattle.flow_send.specs.Rows.{Row, is_flying, is_acknowledged, is_abandoned, is_settled, let_go,
-    map_rows, any_row, sum_rows, most_rows}
+use Rattle.flow_send.specs.Rows.{Row, is_flying, is_acknowledged, is_abandoned, is_settled, let_go, map_rows, any_row, sum_rows, most_rows}
 use Rattle.flow_send.specs.Sender.{Sender, has_number, with_rows}
 
 -- the blocks told, all at or below a number, and stretches above it from their first to their last
@@ -81,5 +79,5 @@ still_waits n rows w = any_row (λ k r. has_number w k && not (is_settled r.stat
 abbrev pub told_by : Told → Sender → Sender
 told_by a s =
     let t = with_rows (rows_told a s) (filter (still_waits (s.forward + 1) (rows_told a s))
-      s.waiting) s in
+    s.waiting) s in
     record t { upto = a.upto; told = Some a.blocks }

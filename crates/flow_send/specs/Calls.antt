@@ -1,14 +1,12 @@
 -- Any calls of a sender, one after another, and what they did.
-use Rattle.std.specs.Prelude.{ℕ, ◌≡◌, ◌+◌, ◌-◌, ◌^◌, ◌<◌, ◌≤◌, ◌==◌, nat_lt, min, max, not,
-    if◌then◌else◌, Bool, true, false, ◌&&◌, ◌||◌, List, [], ◌∷◌, Option, Some, None, length}
+use Rattle.std.specs.Prelude.{ℕ, ◌≡◌, ◌+◌, ◌-◌, ◌^◌, ◌<◌, ◌≤◌, ◌==◌, nat_lt, min, max, not, if◌then◌else◌, Bool, true, false, ◌&&◌, ◌||◌, List, [], ◌∷◌, Option, Some, None, length}
 use Rattle.rtmfp_data_chunks.specs.Fragments.{Message}
 use Rattle.flow_send.specs.declared.state.State.{State}
 use Rattle.flow_send.specs.declared.waiting.MessageOptions.{MessageOptions}
 use Rattle.flow_send.specs.declared.waiting.Waiting.{Waiting}
 use Rattle.flow_send.specs.declared.outcome.QueueRefusal.{QueueRefusal}
 use Rattle.flow_send.specs.Rows.{Row, is_unsent, is_flying, is_lost, is_acknowledged, is_abandoned}
-use Rattle.flow_send.specs.Sender.{Sender, new_sender, next_of, queued, message_at, has_number,
-    abandoned, finished, lost_late}
+use Rattle.flow_send.specs.Sender.{Sender, new_sender, next_of, queued, message_at, has_number, abandoned, finished, lost_late}
 use Rattle.flow_send.specs.Choice.{Choice, Nothing, Send, Notify, choice, sent_after}
 use Rattle.flow_send.specs.Acks.{Told, tells, beyond, told_by}
 use Rattle.flow_send.specs.Flow.{queue_refusal, next_message}
@@ -43,8 +41,10 @@ begun first = record { sender = new_sender first; done = [] }
 -- a call that is refused does nothing
 abbrev pub queues : Sending → List ℕ → MessageOptions → Option QueueRefusal → Sending
 queues w bytes options None =
-    record { sender = queued (next_message w.sender bytes) options w.sender;
-    done = Queued (next_message w.sender bytes) ∷ w.done }
+    record {
+      sender = queued (next_message w.sender bytes) options w.sender;
+      done = Queued (next_message w.sender bytes) ∷ w.done;
+    }
 queues w bytes options (Some refusal) = w
 
 abbrev pub abandons : Sending → ℕ → Option Waiting → Sending
@@ -57,10 +57,14 @@ finishes w (Some n) = w
 
 abbrev pub sends : Sending → ℕ → Choice → Sending
 sends w moment Nothing = w
-sends w moment (Send n r) = record { sender = sent_after moment (Send n r) w.sender;
-    done = Sent n moment ∷ w.done }
-sends w moment Notify = record { sender = sent_after moment Notify w.sender;
-    done = Noticed w.sender.forward moment ∷ w.done }
+sends w moment (Send n r) = record {
+  sender = sent_after moment (Send n r) w.sender;
+  done = Sent n moment ∷ w.done;
+}
+sends w moment Notify = record {
+  sender = sent_after moment Notify w.sender;
+  done = Noticed w.sender.forward moment ∷ w.done;
+}
 
 abbrev pub hears : Sending → Told → Option ℕ → Sending
 hears w a None = record { sender = told_by a w.sender; done = Heard a ∷ w.done }
@@ -190,7 +194,7 @@ AllSent done n (r ∷ rows) = SentAs done n r × AllSent done (n + 1) rows
 pub record IsForward (first : ℕ) (w : Sending) : Type 0 where
   pub over : (n : ℕ) → n ≤ w.sender.forward → is_over first w.done n ≡ true
   pub next : w.sender.forward + 1 < next_of w.sender →
-    is_over first w.done (w.sender.forward + 1) ≡ false
+      is_over first w.done (w.sender.forward + 1) ≡ false
 
 pub record StandsFor (first : ℕ) (w : Sending) : Type 0 where
   pub last : TellsLast first w

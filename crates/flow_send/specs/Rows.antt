@@ -1,14 +1,12 @@
 -- The numbers of a sending flow above its forward number, each with its fragment and what became of
 -- it.
 use Prim.Native.Nat.{zero, suc}
-use Rattle.std.specs.Prelude.{ℕ, ◌+◌, if◌then◌else◌, max, Bool, true, false, ◌||◌, List, [], ◌∷◌,
-    Option, Some, None, length, slice_index_or}
+use Rattle.std.specs.Prelude.{ℕ, ◌+◌, if◌then◌else◌, max, Bool, true, false, ◌||◌, List, [], ◌∷◌, Option, Some, None, length, slice_index_or}
 use Rattle.std.specs.List.{sum_by, list_any}
 use Rattle.rtmfp_data_chunks.specs.declared.user_data.Part.TheVariants.{Whole}
 use Rattle.rtmfp_data_chunks.specs.Fragments.{Fragment}
 use Rattle.flow_send.specs.declared.state.State.{State}
-use Rattle.flow_send.specs.declared.state.State.TheVariants.{Unsent, Flying, Lost, Acknowledged,
-    Abandoned}
+use Rattle.flow_send.specs.declared.state.State.TheVariants.{Unsent, Flying, Lost, Acknowledged, Abandoned}
 use Rattle.flow_send.specs.declared.totals.Totals.{Totals}
 
 -- A number. ends: it is the number of finish, which has no message. moment, place: of its last
@@ -70,8 +68,15 @@ let_go state r =
 
 -- the number of finish
 abbrev pub end_row : Row
-end_row = record { ends = true; fragment = record { part = Whole; bytes = [] }; state = Unsent;
-    moment = 0; place = 0; resends = 0; acks = 0 }
+end_row = record {
+  ends = true;
+  fragment = record { part = Whole; bytes = [] };
+  state = Unsent;
+  moment = 0;
+  place = 0;
+  resends = 0;
+  acks = 0;
+}
 
 -- each row changed by its number, the first row having number n
 abbrev pub map_rows : (ℕ → Row → Row) → ℕ → List Row → List Row
@@ -115,12 +120,20 @@ abbrev pub lost_of : Row → ℕ
 lost_of r = if is_lost r.state then 1 else 0
 
 abbrev pub totals_of : List Row → Totals
-totals_of rows = record { flight = sum_by flight_of rows; flying = sum_by flying_of rows;
-    stored = sum_by stored_of rows; lost = sum_by lost_of rows }
+totals_of rows = record {
+  flight = sum_by flight_of rows;
+  flying = sum_by flying_of rows;
+  stored = sum_by stored_of rows;
+  lost = sum_by lost_of rows;
+}
 
 abbrev pub row_totals : Row → Totals
-row_totals r = record { flight = flight_of r; flying = flying_of r; stored = stored_of r;
-    lost = lost_of r }
+row_totals r = record {
+  flight = flight_of r;
+  flying = flying_of r;
+  stored = stored_of r;
+  lost = lost_of r;
+}
 
 -- how many rows at the front are settled
 abbrev pub settled_front : List Row → ℕ

@@ -1,10 +1,8 @@
 //! What an ack does to the rows.
 
-ghost use Rattle.std.specs.Prelude.{◌≡◌, ℕ, ◌+◌, ◌-◌, ◌<◌, ◌≤◌, ◌^◌, List, length, nat_le, ◌&&◌,
-    if◌then◌else◌};
+ghost use Rattle.std.specs.Prelude.{◌≡◌, ℕ, ◌+◌, ◌-◌, ◌<◌, ◌≤◌, ◌^◌, List, length, nat_le, ◌&&◌, if◌then◌else◌};
 ghost use Rattle.flow_send.specs.Rows.{map_rows, most_rows};
-ghost use Rattle.flow_send.specs.Acks.{Told, greatest, acknowledge, acknowledge_row, new_place,
-    last_place, in_range};
+ghost use Rattle.flow_send.specs.Acks.{Told, greatest, acknowledge, acknowledge_row, new_place, last_place, in_range};
 
 use crate::rows::Rows;
 use rtmfp_data_chunks::AckedSpans;

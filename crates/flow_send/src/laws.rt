@@ -6,8 +6,7 @@ ghost use Rattle.rtmfp_data_chunks.specs.Runs.{Chunk};
 ghost use Rattle.rtmfp_data_chunks.specs.Chunk.{Data};
 ghost use Rattle.rtmfp_data_chunks.specs.Writing.{data_bytes};
 ghost use Rattle.flow_send.specs.Flow.{data_length, user_data};
-ghost use Rattle.flow_send.specs.Calls.{Call, begun, all_calls, TellsLast, AllStand, AllSent,
-    IsForward};
+ghost use Rattle.flow_send.specs.Calls.{Call, begun, all_calls, TellsLast, AllStand, AllSent, IsForward};
 
 /// Room counts a chunk with the bytes that it has as a written data chunk.
 pub fn room_is_of_the_written_chunk()

@@ -1,13 +1,9 @@
 //! The numbers of a sending flow above its forward number.
 
-ghost use Rattle.std.specs.Prelude.{◌≡◌, ◌+◌, ◌-◌, ◌<◌, ◌≤◌, ◌^◌, ◌∷◌, ◌++◌, [], IfOk, OnOk, OnErr,
-    IfSome, IfNone, List, length, slice_set, drop, map, max, not, true, false, MatchOption, Some,
-    None, position};
+ghost use Rattle.std.specs.Prelude.{◌≡◌, ◌+◌, ◌-◌, ◌<◌, ◌≤◌, ◌^◌, ◌∷◌, ◌++◌, [], IfOk, OnOk, OnErr, IfSome, IfNone, List, length, slice_set, drop, map, max, not, true, false, MatchOption, Some, None, position};
 ghost use Rattle.std.specs.List.{sum_by, list_any};
 ghost use Rattle.std.specs.VecDeque.{deque_len, deque_capacity};
-ghost use Rattle.flow_send.specs.Rows.{Row, row_at, stored_of, totals_of, in_flight, any_flying,
-    between, any_between, most_between, settled_front, front_settled, first_place, is_lost,
-    is_unsent, is_settled, is_acknowledged, lost_of};
+ghost use Rattle.flow_send.specs.Rows.{Row, row_at, stored_of, totals_of, in_flight, any_flying, between, any_between, most_between, settled_front, front_settled, first_place, is_lost, is_unsent, is_settled, is_acknowledged, lost_of};
 ghost use Rattle.flow_send.specs.Sender.{give_up_row, lost_if_late, is_late, is_spent_row};
 ghost use Rattle.flow_send.specs.Choice.{sent_row};
 ghost use Rattle.flow_send.specs.Acks.{acknowledge_row, new_place, count_ack, is_third};
@@ -34,8 +30,7 @@ impl Model for Rows {
 
     ghost Value = { Places };
 
-    ghost view =
-        { λ q. record { rows = q.rows.items; room = deque_capacity q.rows - deque_len q.rows } };
+    ghost view = { λ q. record { rows = q.rows.items; room = deque_capacity q.rows - deque_len q.rows } };
 
     ghost invariant = { λ q. q.totals ≡ totals_of q.rows.items };
 }

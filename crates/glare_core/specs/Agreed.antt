@@ -3,8 +3,7 @@ use Rattle.std.specs.Prelude.{ℕ, List, ◌≡◌, ◌⊎◌, Some}
 use Rattle.glare_core.specs.declared.facts.Why.{Why}
 use Rattle.glare_core.specs.declared.facts.Why.TheVariants.{Glare, Override}
 use Rattle.glare_core.specs.declared.facts.Fact.TheVariants.{Started, Born, Opened, Ended}
-use Rattle.glare_core.specs.declared.facts.Held.TheVariants.{Opening, HalfOpen, KeptAsResponder,
-    KeptAsInitiator}
+use Rattle.glare_core.specs.declared.facts.Held.TheVariants.{Opening, HalfOpen, KeptAsResponder, KeptAsInitiator}
 use Rattle.glare_core.specs.declared.facts.Joined.{Joined}
 use Rattle.identity.specs.Order.{Prevails}
 use Rattle.glare_core.specs.Tells.{as_initiator, as_responder}
@@ -39,20 +38,20 @@ pub record HasOneBirth (now before : List Step) (x : List ℕ) (s : Joined) (gen
   -- the same keys
   pub values : as_responder s.peer t ≡ as_initiator x s
   pub only : (t' : Joined) (g : ℕ) (early' : List Step) →
-    Happened s.peer (Did (Born t') g) early' now → t'.n ≡ s.n → t'.ni ≡ s.ni → (t' ≡ t) ×
-    (early' ≡ early)
+      Happened s.peer (Did (Born t') g) early' now → t'.n ≡ s.n → t'.ni ≡ s.ni → (t' ≡ t) ×
+      (early' ≡ early)
 
 -- Each Opened of x towards a peer has exactly one Born there with its n and ni.
 abbrev pub EachOpenedHasOneBirth : List Step → Type 0
 EachOpenedHasOneBirth now =
     (x : List ℕ) (s : Joined) (generation : ℕ) (before : List Step) →
-      Happened x (Did (Opened s) generation) before now → HasOneBirth now before x s generation
+    Happened x (Did (Opened s) generation) before now → HasOneBirth now before x s generation
 
 -- No Started has two Borns: two Borns of one Started, at whatever ends, are one step.
 abbrev pub NoStartedHasTwoBirths : List Step → Type 0
 NoStartedHasTwoBirths now =
     (x peer : List ℕ) (n near : ℕ) (ni : List ℕ) (g : ℕ) (before : List Step) →
-      Happened x (Did (Started peer n near ni) g) before now →
+    Happened x (Did (Started peer n near ni) g) before now →
     (y y' : List ℕ) (t t' : Joined) (h h' : ℕ) (early early' : List Step) →
     Happened y (Did (Born t) h) early now → t.peer ≡ x → t.n ≡ n → t.ni ≡ ni →
     Happened y' (Did (Born t') h') early' now → t'.peer ≡ x → t'.n ≡ n → t'.ni ≡ ni →
@@ -95,19 +94,19 @@ IsOver y x b now = (near : ℕ) × (why : Why) × (g : ℕ) × (early : List Ste
 abbrev pub CrossedIsOver : List Step → Type 0
 CrossedIsOver now =
     (x y : List ℕ) (a b : Attempt) (then before : List Step) → IsTail then now →
-      AreCrossed x y a b then → Opens x y a before now → IsOver y x b before
+    AreCrossed x y a b then → Opens x y a before now → IsOver y x b before
 
 -- Of two attempts that were crossed at some moment at most one opens.
 abbrev pub OneOpens : List Step → Type 0
 OneOpens now =
     (x y : List ℕ) (a b : Attempt) (then before before' : List Step) → IsTail then now →
-      AreCrossed x y a b then → Opens x y a before now → Opens y x b before' now → ⊥
+    AreCrossed x y a b then → Opens x y a before now → Opens y x b before' now → ⊥
 
 -- No attempt of the end that prevails is ended for the cause Glare.
 abbrev pub PrevailingIsSpared : List Step → Type 0
 PrevailingIsSpared now =
     (x y : List ℕ) (near g : ℕ) (before : List Step) →
-      Happened x (Did (Ended y near Glare) g) before now → Prevails x y → ⊥
+    Happened x (Did (Ended y near Glare) g) before now → Prevails x y → ⊥
 
 -- The end y ended its side of the session s that x has with it.
 pub record PeerEnded (now : List Step) (x y : List ℕ) (s : Joined) : Type 0 where
@@ -125,7 +124,7 @@ abbrev pub OverrideIsLate : List Step → Type 0
 OverrideIsLate now =
     (x y : List ℕ) (near g : ℕ) (s : Joined) (before : List Step) →
     Happened x (Did (Ended y near Override) g) before now → Keeps x y s before →
-      PeerEnded before x y s
+    PeerEnded before x y s
 
 -- The statement holds of the history at each moment, for every told history that is lawful, honest
 -- and fresh.

@@ -1,27 +1,21 @@
 -- What each call on a ledger answers.
-use Rattle.std.specs.Prelude.{ℕ, List, [], ◌∷◌, ◌+◌, ◌-◌, ◌^◌, ◌==◌, Bool, not, ◌&&◌, nat_le,
-    Option, Some, None, is_some, is_none, if◌then◌else◌, ◌≡◌, IsSome}
+use Rattle.std.specs.Prelude.{ℕ, List, [], ◌∷◌, ◌+◌, ◌-◌, ◌^◌, ◌==◌, Bool, not, ◌&&◌, nat_le, Option, Some, None, is_some, is_none, if◌then◌else◌, ◌≡◌, IsSome}
 use Rattle.std.specs.Str.{bytes_eq}
 use Rattle.identity.specs.Order.{is_above}
 use Rattle.glare_core.specs.declared.facts.Why.{Why}
-use Rattle.glare_core.specs.declared.facts.Why.TheVariants.{Cancelled, Expired, Unconfirmed, Near,
-    Far, Idle, Glare as ForGlare, Override as ForOverride}
+use Rattle.glare_core.specs.declared.facts.Why.TheVariants.{Cancelled, Expired, Unconfirmed, Near, Far, Idle, Glare as ForGlare, Override as ForOverride}
 use Rattle.glare_core.specs.declared.facts.Fact.{Fact}
-use Rattle.glare_core.specs.declared.facts.Fact.TheVariants.{Started, Born, Opened, Confirmed,
-    Ended}
+use Rattle.glare_core.specs.declared.facts.Fact.TheVariants.{Started, Born, Opened, Confirmed, Ended}
 use Rattle.glare_core.specs.declared.facts.Held.{Held}
-use Rattle.glare_core.specs.declared.facts.Held.TheVariants.{Opening, HalfOpen, KeptAsResponder,
-    KeptAsInitiator}
+use Rattle.glare_core.specs.declared.facts.Held.TheVariants.{Opening, HalfOpen, KeptAsResponder, KeptAsInitiator}
 use Rattle.glare_core.specs.declared.facts.Joined.{Joined}
 use Rattle.glare_core.specs.declared.answers.StartRefusal.{StartRefusal}
-use Rattle.glare_core.specs.declared.answers.StartRefusal.TheVariants.{OwnPrint,
-    Opening as AttemptHeld, Open as SessionHeld, AttemptsSpent, PeersFull as NoRowToStart}
+use Rattle.glare_core.specs.declared.answers.StartRefusal.TheVariants.{OwnPrint, Opening as AttemptHeld, Open as SessionHeld, AttemptsSpent, PeersFull as NoRowToStart}
 use Rattle.glare_core.specs.declared.answers.Keying.{Keying}
 use Rattle.glare_core.specs.declared.answers.Heard.{Heard}
 use Rattle.glare_core.specs.declared.answers.Heard.TheVariants.{Again, Birth}
 use Rattle.glare_core.specs.declared.answers.HearRefusal.{HearRefusal}
-use Rattle.glare_core.specs.declared.answers.HearRefusal.TheVariants.{Stale, Glare, PeersFull,
-    SessionsFull}
+use Rattle.glare_core.specs.declared.answers.HearRefusal.TheVariants.{Stale, Glare, PeersFull, SessionsFull}
 use Rattle.glare_core.specs.Standing.{peer_of, starts_in}
 use Rattle.glare_core.specs.Things.{IsAttempt, IsHalfOpen, IsSession, IsKept, near_of}
 use Rattle.glare_core.specs.Ledger.{noted, Ledger, held_with, floor_of, knows, row_count}
@@ -108,8 +102,15 @@ way_made peer (Some (KeptAsInitiator j)) = Some (Ended peer j.near ForOverride)
 -- the fact of the session that is born of a Keying
 abbrev pub born_fact : Ledger → Keying → ℕ → List ℕ → Fact
 born_fact l keying near nr =
-    Born (record { peer = keying.peer; n = keying.n; near = near; far = keying.far; ni = keying.ni;
-      nr = nr; k = l.started })
+    Born (record {
+      peer = keying.peer;
+      n = keying.n;
+      near = near;
+      far = keying.far;
+      ni = keying.ni;
+      nr = nr;
+      k = l.started;
+    })
 
 -- Again where there is such a session
 abbrev pub again_or : Option ℕ → Heard → Heard
@@ -121,7 +122,7 @@ again_or (Some near) birth = Again near
 abbrev pub heard : Ledger → Keying → ℕ → List ℕ → Heard
 heard l keying near nr =
     again_or (again_of (held_with l keying.peer) keying)
-      (Birth (way_made keying.peer (held_with l keying.peer)) (born_fact l keying near nr))
+    (Birth (way_made keying.peer (held_with l keying.peer)) (born_fact l keying near nr))
 
 -- the facts that a Keying gave, the newest first
 abbrev pub heard_facts : Heard → List Fact

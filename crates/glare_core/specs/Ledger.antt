@@ -27,8 +27,12 @@ pub record Ledger : Type 0 where
   pub rows : PeerRows
 
 abbrev pub new_ledger : List ℕ → ℕ → ℕ → Ledger
-new_ledger own max_peers started = record { own = own; max_peers = max_peers; started = started;
-    rows = empty }
+new_ledger own max_peers started = record {
+  own = own;
+  max_peers = max_peers;
+  started = started;
+  rows = empty;
+}
 
 -- With a peer that has no row nothing is held, and nothing was seen of it.
 abbrev pub row_or_blank : Option PeerRow → PeerRow
@@ -63,8 +67,12 @@ rows_after fact rows = insert rows (peer_of fact) (row_after fact (row_in rows (
 
 -- the ledger after a fact
 abbrev pub noted : Ledger → Fact → Ledger
-noted l fact = record { own = l.own; max_peers = l.max_peers; started = l.started + starts_in fact;
-    rows = rows_after fact l.rows }
+noted l fact = record {
+  own = l.own;
+  max_peers = l.max_peers;
+  started = l.started + starts_in fact;
+  rows = rows_after fact l.rows;
+}
 
 -- the rows, and the ledger, after a fact, where there is one
 abbrev pub rows_after_if : Option Fact → PeerRows → PeerRows
@@ -88,8 +96,8 @@ row_code held = code_by (Option Held × ℕ) (coded× (coded_option held) coded_
 abbrev pub ledger_code : Coded Held → Coded Ledger
 ledger_code held =
     code_by (List ℕ ×
-      (ℕ × (ℕ × PeerRows))) (coded× (coded_list coded_ℕ)
-      (coded× coded_ℕ (coded× coded_ℕ (code (coded_list coded_ℕ) (row_code held)))))
+    (ℕ × (ℕ × PeerRows))) (coded× (coded_list coded_ℕ)
+    (coded× coded_ℕ (coded× coded_ℕ (code (coded_list coded_ℕ) (row_code held)))))
     (λ l. (l.own, (l.max_peers, (l.started, l.rows))))
     (λ p. record { own = p.0; max_peers = p.1.0; started = p.1.1.0; rows = p.1.1.1 })
     (λ _. refl)

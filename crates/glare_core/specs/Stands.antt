@@ -1,11 +1,9 @@
 -- What a fact of an end asks of what is held and counted: of the facts before it, the newest first.
 use Rattle.std.specs.Prelude.{ℕ, List, ◌≡◌, ◌≢◌, ◌<◌, ◌+◌, ◌⊎◌, Some, None}
 use Rattle.glare_core.specs.declared.facts.Why.{Why}
-use Rattle.glare_core.specs.declared.facts.Why.TheVariants.{Cancelled, Expired, Glare, Override,
-    Unconfirmed, Near, Far, Idle}
+use Rattle.glare_core.specs.declared.facts.Why.TheVariants.{Cancelled, Expired, Glare, Override, Unconfirmed, Near, Far, Idle}
 use Rattle.glare_core.specs.declared.facts.Fact.{Fact}
-use Rattle.glare_core.specs.declared.facts.Fact.TheVariants.{Started, Born, Opened, Confirmed,
-    Ended}
+use Rattle.glare_core.specs.declared.facts.Fact.TheVariants.{Started, Born, Opened, Confirmed, Ended}
 use Rattle.glare_core.specs.declared.facts.Held.{Held}
 use Rattle.glare_core.specs.declared.facts.Held.TheVariants.{Opening, HalfOpen}
 use Rattle.glare_core.specs.declared.facts.Joined.{Joined}

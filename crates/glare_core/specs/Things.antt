@@ -1,8 +1,7 @@
 -- The kinds of things that an end holds.
 use Rattle.std.specs.Prelude.{ℕ}
 use Rattle.glare_core.specs.declared.facts.Held.{Held}
-use Rattle.glare_core.specs.declared.facts.Held.TheVariants.{Opening, HalfOpen, KeptAsResponder,
-    KeptAsInitiator}
+use Rattle.glare_core.specs.declared.facts.Held.TheVariants.{Opening, HalfOpen, KeptAsResponder, KeptAsInitiator}
 
 abbrev pub IsAttempt : Held → Type 0
 IsAttempt (Opening n near ni) = Unit {0}

@@ -1,8 +1,7 @@
 -- Told histories: lists of events, the newest first, and which of them are lawful, honest and
 -- fresh.
 use Rattle.std.specs.Prelude.{ℕ, List, [], ◌∷◌}
-use Rattle.glare_core.specs.declared.facts.Fact.TheVariants.{Started, Born, Opened, Confirmed,
-    Ended}
+use Rattle.glare_core.specs.declared.facts.Fact.TheVariants.{Started, Born, Opened, Confirmed, Ended}
 use Rattle.glare_core.specs.Table.{Meets, Followed}
 use Rattle.glare_core.specs.Tells.{Tell}
 use Rattle.glare_core.specs.Steps.{Item, Told, Did, Sends, Step, step, Among, view}

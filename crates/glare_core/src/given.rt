@@ -3,8 +3,7 @@
 ghost use Rattle.std.specs.Prelude.{◌≡◌, IfSome, Some, None};
 ghost use Rattle.glare_core.specs.Standing.{peer_of, after, seen_in};
 ghost use Rattle.glare_core.specs.Things.{near_of};
-ghost use Rattle.glare_core.specs.Calls.{is_born_of, again_of, glare_of, way_made, opened_fact,
-    confirmed_fact, ended_fact, IsOf};
+ghost use Rattle.glare_core.specs.Calls.{is_born_of, again_of, glare_of, way_made, opened_fact, confirmed_fact, ended_fact, IsOf};
 
 use crate::answers::{HearRefusal, Keying};
 use crate::facts::{Fact, Held, Joined, Why};

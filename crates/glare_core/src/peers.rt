@@ -1,22 +1,19 @@
 //! What one end holds with its peers, and what it has counted.
 
-ghost use Rattle.std.specs.Prelude.{not, ◌&&◌, ◌==◌, ◌≤◌, ◌≡◌, ◌≢◌, ◌+◌, ℕ, List, [], ◌∷◌, length,
-    false, IfOk, IfErr, IfSome, IfNone, OnErr, Ok, Err, is_some, option_to_list};
+ghost use Rattle.std.specs.Prelude.{not, ◌&&◌, ◌==◌, ◌≤◌, ◌≡◌, ◌≢◌, ◌+◌, ℕ, List, [], ◌∷◌, length, false, IfOk, IfErr, IfSome, IfNone, OnErr, Ok, Err, is_some, option_to_list};
 ghost use Rattle.std.specs.List.{list_any};
 ghost use Rattle.std.specs.Option.{option_copied};
 ghost use Rattle.std.specs.Str.{bytes_eq};
 ghost use Rattle.glare_core.specs.declared.facts.Fact.{Fact};
 ghost use Rattle.glare_core.specs.Standing.{held, seen, count, peers_in};
-ghost use Rattle.glare_core.specs.Ledger.{held_with, floor_of, knows, row_count, new_ledger, noted,
-    noted_if};
-ghost use Rattle.glare_core.specs.Calls.{where_true, start_refusal, started_fact, birth_refusal,
-    hear_refusal, heard, heard_facts, heard_noted, opened_fact, confirmed_fact, ended_fact, MayEnd};
+ghost use Rattle.glare_core.specs.Ledger.{held_with, floor_of, knows, row_count, new_ledger, noted, noted_if};
+ghost use Rattle.glare_core.specs.Calls.{where_true, start_refusal, started_fact, birth_refusal, hear_refusal, heard, heard_facts, heard_noted, opened_fact, confirmed_fact, ended_fact, MayEnd};
 ghost use Rattle.glare_core.specs.Account.{StandsFor, Gave};
 
 use crate::answers::{HearRefusal, Heard, Keying, StartRefusal};
 use crate::facts::{Fact, Held, Joined, Why};
 use crate::given::{again, confirmed_fact, ended_fact, glare, near_of, opened_fact, way_made};
-use crate::rows::{Row, Seat, note_after, note_if, index_of, seat_of};
+use crate::rows::{Row, Seat, index_of, note_after, note_if, seat_of};
 use std::alloc::Global;
 use std::marker::Model;
 
@@ -44,9 +41,12 @@ impl Model for Peers {
 
     ghost use Rattle.glare_core.specs.Rows.{table_of, IsTable};
 
-    ghost view =
-        { λ p. record { own = p.own; max_peers = p.max_peers; started = p.started;
-        rows = table_of p.rows.items } };
+    ghost view = { λ p. record {
+      own = p.own;
+      max_peers = p.max_peers;
+      started = p.started;
+      rows = table_of p.rows.items;
+    } };
 
     ghost invariant = { λ p. IsTable p.rows.items p.max_peers };
 }

@@ -1,7 +1,6 @@
 //! The list of rows in which an end keeps what it knows of its peers.
 
-ghost use Rattle.std.specs.Prelude.{◌≡◌, ◌<◌, ℕ, max, length, IfSome, IsSome, IsOk, OnOk, OnErr,
-    None, Some, position, is_some};
+ghost use Rattle.std.specs.Prelude.{◌≡◌, ◌<◌, ℕ, max, length, IfSome, IsSome, IsOk, OnOk, OnErr, None, Some, position, is_some};
 ghost use Rattle.std.specs.FinMap.{contains_key};
 ghost use Rattle.glare_core.specs.Standing.{peer_of, after, seen_in};
 ghost use Rattle.glare_core.specs.Ledger.{row_in, rows_after, rows_after_if};

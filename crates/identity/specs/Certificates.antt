@@ -1,6 +1,5 @@
 -- Certificates: 16 instance bytes and a name of 1 to 64 ASCII bytes.
-use Rattle.std.specs.Prelude.{ℕ, ◌≡◌, ◌+◌, ◌≤◌, List, length, drop, Bool, true, nat_lt, Option,
-    Some, None, if◌then◌else◌}
+use Rattle.std.specs.Prelude.{ℕ, ◌≡◌, ◌+◌, ◌≤◌, List, length, drop, Bool, true, nat_lt, Option, Some, None, if◌then◌else◌}
 use Rattle.std.specs.List.{list_all}
 use Rattle.identity.specs.declared.cert.CertFault.{CertFault}
 use Rattle.identity.specs.declared.cert.CertFault.TheVariants.{Short, LongName, NotAscii}

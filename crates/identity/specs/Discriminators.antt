@@ -1,6 +1,5 @@
 -- Endpoint discriminators: the byte 0x01 and the 32 bytes of a fingerprint.
-use Rattle.std.specs.Prelude.{ℕ, List, [], ◌∷◌, length, ◌==◌, ◌&&◌, Option, Some, None,
-    if◌then◌else◌}
+use Rattle.std.specs.Prelude.{ℕ, List, [], ◌∷◌, length, ◌==◌, ◌&&◌, Option, Some, None, if◌then◌else◌}
 use Rattle.identity.specs.declared.discriminator.Epd.{Epd}
 
 -- the discriminator that these bytes are

@@ -14,10 +14,10 @@ pub record IsKept (bytes : List ℕ) (len : ℕ) : Type 0 where
 pub kept_again : {C : Type 0} (make : List ℕ → ℕ → C) (bytes : List ℕ) (len : ℕ) →
     IsKept bytes len →
     make (take len bytes ++ replicate (80 - length (take len bytes)) 0) (length (take len bytes))
-      ≡ make bytes len
+    ≡ make bytes len
 kept_again make bytes len kept =
     let same : length (take len bytes) ≡ len =
-      length-take-le len bytes (subst (λ n. len ≤ n) (sym kept.whole) kept.within) in
+    length-take-le len bytes (subst (λ n. len ≤ n) (sym kept.whole) kept.within) in
     let padded : take len bytes ++ replicate (80 - len) 0 ≡ bytes =
-      ap (λ zeros. take len bytes ++ zeros) (sym kept.rest) ∙ take-append-drop len bytes in
+    ap (λ zeros. take len bytes ++ zeros) (sym kept.rest) ∙ take-append-drop len bytes in
     ap (λ n. make (take len bytes ++ replicate (80 - n) 0) n) same ∙ ap (λ b. make b len) padded

@@ -1,6 +1,5 @@
 -- The order of fingerprints.
-use Rattle.std.specs.Prelude.{ℕ, List, [], ◌∷◌, ◌≢◌, ◌⊎◌, Bool, true, false, ◌||◌, ◌&&◌, nat_lt,
-    ◌==◌, IsTrue}
+use Rattle.std.specs.Prelude.{ℕ, List, [], ◌∷◌, ◌≢◌, ◌⊎◌, Bool, true, false, ◌||◌, ◌&&◌, nat_lt, ◌==◌, IsTrue}
 
 -- Whether the list x is above the list y in byte order: at the first index where they differ x has
 -- the greater byte, or y ends there.

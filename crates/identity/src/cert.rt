@@ -1,7 +1,6 @@
 //! Certificates (own form).
 
-ghost use Rattle.std.specs.Prelude.{◌≡◌, ◌≤◌, ◌-◌, ◌++◌, length, nat_lt, replicate, None, Ok, Err,
-    IfSome};
+ghost use Rattle.std.specs.Prelude.{◌≡◌, ◌≤◌, ◌-◌, ◌++◌, length, nat_lt, replicate, None, Ok, Err, IfSome};
 ghost use Rattle.std.specs.List.{list_all};
 ghost use Rattle.sha2.specs.Sha256.{sha256};
 ghost use Rattle.identity.specs.Certificates.{IsCertificate, certificate_fault};
@@ -50,9 +49,7 @@ impl Model for Certificate {
 
     ghost inverse = { λ v. record { bytes = v ++ replicate (80 - length v) 0; len = length v } };
 
-    ghost inverse_ok =
-        { λ c kept. kept_again (λ bytes len. record { bytes = bytes; len = len }) c.bytes c.len kept
-        };
+    ghost inverse_ok = { λ c kept. kept_again (λ bytes len. record { bytes = bytes; len = len }) c.bytes c.len kept };
 }
 
 /// Whether each byte is an ASCII character.

@@ -1,8 +1,7 @@
 //! What holds of the order of fingerprints. Each law is a function that does nothing, whose
 //! contract is the law.
 
-ghost use Rattle.identity.specs.Order.{IsIrreflexive, IsAsymmetric, IsTransitive, OneIsAbove,
-    Prevails};
+ghost use Rattle.identity.specs.Order.{IsIrreflexive, IsAsymmetric, IsTransitive, OneIsAbove, Prevails};
 
 /// The order is strict, and of two different fingerprints exactly one prevails over the other.
 pub fn prevails_is_strict_total_order()

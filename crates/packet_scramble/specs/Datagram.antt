@@ -1,7 +1,6 @@
 -- A datagram (RFC 7016 section 2.2.2): a scrambled session ID of 4 bytes, and the encrypted packet,
 -- here called the sealed part.
-use Rattle.std.specs.Prelude.{◌≡◌, ℕ, ◌<◌, ◌≤◌, ◌^◌, List, ◌++◌, length, take, drop, replicate,
-    bit_xor, All}
+use Rattle.std.specs.Prelude.{◌≡◌, ℕ, ◌<◌, ◌≤◌, ◌^◌, List, ◌++◌, length, take, drop, replicate, bit_xor, All}
 use Rattle.std.specs.Int.{w32, to_be_bytes, from_be_bytes}
 
 -- each number is a byte

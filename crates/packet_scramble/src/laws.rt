@@ -1,8 +1,7 @@
 //! What scrambling and datagrams keep, for callers' proofs. The functions do nothing: the contract
 //! of each is its law.
 
-ghost use Rattle.packet_scramble.specs.Datagram.{HasItsSessionId, IsDatagramOfItsSessionId,
-    ScramblingUndoesUnscrambling, UnscramblingUndoesScrambling};
+ghost use Rattle.packet_scramble.specs.Datagram.{HasItsSessionId, IsDatagramOfItsSessionId, ScramblingUndoesUnscrambling, UnscramblingUndoesScrambling};
 
 /// Unscrambling undoes scrambling.
 pub fn unscrambling_undoes_scrambling()

@@ -7,8 +7,7 @@
 
 ghost use Rattle.std.specs.Prelude.{◌≡◌, ◌+◌, slice_index, ◌++◌};
 ghost use Rattle.std.specs.Int.{w32, to_be_bytes, from_be_bytes};
-ghost use Rattle.packet_scramble.specs.Datagram.{datagram, first_word, second_word, scrambled,
-    unscrambled};
+ghost use Rattle.packet_scramble.specs.Datagram.{datagram, first_word, second_word, scrambled, unscrambled};
 
 pub mod edges;
 pub mod laws;

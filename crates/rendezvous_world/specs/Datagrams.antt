@@ -1,6 +1,5 @@
 -- The datagram that a step brings to an end.
-use Rattle.std.specs.Prelude.{ℕ, ◌-◌, ◌==◌, nat_lt, List, [], ◌∷◌, length, replicate, slice_index,
-    slice_set, bit_xor, Option, Some, None, if◌then◌else◌}
+use Rattle.std.specs.Prelude.{ℕ, ◌-◌, ◌==◌, nat_lt, List, [], ◌∷◌, length, replicate, slice_index, slice_set, bit_xor, Option, Some, None, if◌then◌else◌}
 use Rattle.crypto_profile.specs.declared.keys.Context.TheVariants.{Startup}
 use Rattle.crypto_profile.specs.Sealing.{sealed_in}
 use Rattle.packet_scramble.specs.Datagram.{datagram}

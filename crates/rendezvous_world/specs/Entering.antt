@@ -1,6 +1,5 @@
 -- How a step is taken: the call that it makes, its line in the journal, and what it answers.
-use Rattle.std.specs.Prelude.{ℕ, ◌≡◌, ◌<◌, ◌≤◌, ◌^◌, ◌⊎◌, Bool, true, false, List, length, take,
-    Option, Some, None, IfSome, IfNone, is_some, OnOk, OnErr, IfErr, Result, Ok, Err}
+use Rattle.std.specs.Prelude.{ℕ, ◌≡◌, ◌<◌, ◌≤◌, ◌^◌, ◌⊎◌, Bool, true, false, List, length, take, Option, Some, None, IfSome, IfNone, is_some, OnOk, OnErr, IfErr, Result, Ok, Err}
 use Rattle.std.specs.List.{list_any}
 use Rattle.crypto_profile.specs.declared.keys.Context.{Context}
 use Rattle.endpoint_model.specs.declared.entry.Entry.{Entry}
@@ -8,22 +7,19 @@ use Rattle.endpoint_model.specs.declared.answers.Stopped.{Stopped as Stop}
 use Rattle.endpoint_laws.specs.Laws.{AreBytes}
 use Rattle.endpoint_model.specs.State.{State, at_moment}
 use Rattle.endpoint_model.specs.Due.{open_refusal}
-use Rattle.endpoint_model.specs.Event.{Call, Open as OpenCall, Cancel as CancelCall, Receive,
-    Tick as TickCall, Event}
+use Rattle.endpoint_model.specs.Event.{Call, Open as OpenCall, Cancel as CancelCall, Receive, Tick as TickCall, Event}
 use Rattle.rendezvous_world.specs.declared.bringing.Fetched.{Fetched}
 use Rattle.rendezvous_world.specs.declared.journal.JournalLine.{JournalLine}
 use Rattle.rendezvous_world.specs.declared.journal.Refused.{Refused}
 use Rattle.rendezvous_world.specs.declared.step.Step.{Step}
-use Rattle.rendezvous_world.specs.declared.step.Step.TheVariants.{End, At, Open, Cancel, Deliver,
-    Bent, Inject, Forge, Tick}
+use Rattle.rendezvous_world.specs.declared.step.Step.TheVariants.{End, At, Open, Cancel, Deliver, Bent, Inject, Forge, Tick}
 use Rattle.rendezvous_world.specs.declared.step.StepFault.{StepFault}
 use Rattle.rendezvous_world.specs.declared.step.StepFault.TheVariants.{Forged, Memory}
 use Rattle.rendezvous_world.specs.Draws.{draws_of}
 use Rattle.rendezvous_world.specs.Seen.{Seen}
 use Rattle.rendezvous_world.specs.Sent.{Sent, sent_in}
 use Rattle.rendezvous_world.specs.Datagrams.{datagram_of}
-use Rattle.rendezvous_world.specs.Faults.{step_fault, is_forged, is_forged_by, is_sent,
-    same_context}
+use Rattle.rendezvous_world.specs.Faults.{step_fault, is_forged, is_forged_by, is_sent, same_context}
 use Rattle.glare_core.specs.Calls.{where_true}
 use Rattle.rendezvous_world.specs.History.{moment_given, answer_of, bytes_or_none}
 use Rattle.rendezvous_world.specs.Stepping.{Called, Stepped, StoppedIn, Noted, called_by}
@@ -98,7 +94,7 @@ pub record IsEntering (w : Seen) (number end : ℕ) (step : Step) (brought : Opt
 pub record IsEntered (w : Seen) (number : ℕ) (step : Step) (result : Result (Unit {0}) StepFault)
     (t : Seen) : Type 0 where
   pub ok : OnOk result ((line : JournalLine) × (is_some line.stopped ≡ false) ×
-    Called w number step line t)
+      Called w number step line t)
   pub memory : IfErr result (λ fault. fault ≡ Memory)
   pub err : OnErr result ((t ≡ w) ⊎ (StoppedIn w number step t ⊎ Noted w step t))
 

@@ -1,6 +1,5 @@
 -- Why a step is refused, in the order of the reasons.
-use Rattle.std.specs.Prelude.{ℕ, ◌-◌, ◌==◌, ◌||◌, ◌&&◌, not, nat_lt, nat_le, Bool, true, false,
-    List, [], ◌∷◌, length, Option, Some, None, is_none, if◌then◌else◌}
+use Rattle.std.specs.Prelude.{ℕ, ◌-◌, ◌==◌, ◌||◌, ◌&&◌, not, nat_lt, nat_le, Bool, true, false, List, [], ◌∷◌, length, Option, Some, None, is_none, if◌then◌else◌}
 use Rattle.std.specs.List.{list_any}
 use Rattle.std.specs.Str.{bytes_eq}
 use Rattle.crypto_profile.specs.declared.keys.Context.{Context}
@@ -10,11 +9,9 @@ use Rattle.glare_core.specs.Calls.{first_that_stands, where_true}
 use Rattle.endpoint_model.specs.Event.{own_of}
 use Rattle.endpoint_laws.specs.OpensIn.{opens_in}
 use Rattle.rendezvous_world.specs.declared.step.Step.{Step}
-use Rattle.rendezvous_world.specs.declared.step.Step.TheVariants.{End, At, Open, Cancel, Deliver,
-    Bent, Inject, Forge, Tick}
+use Rattle.rendezvous_world.specs.declared.step.Step.TheVariants.{End, At, Open, Cancel, Deliver, Bent, Inject, Forge, Tick}
 use Rattle.rendezvous_world.specs.declared.step.StepFault.{StepFault}
-use Rattle.rendezvous_world.specs.declared.step.StepFault.TheVariants.{NoEnd, NoDatagram, BadStep,
-    Forged}
+use Rattle.rendezvous_world.specs.declared.step.StepFault.TheVariants.{NoEnd, NoDatagram, BadStep, Forged}
 use Rattle.rendezvous_world.specs.Seen.{EndSeen, Seen}
 use Rattle.rendezvous_world.specs.Sent.{Sent, sent_in}
 use Rattle.rendezvous_world.specs.Datagrams.{datagram_of}
@@ -57,7 +54,7 @@ is_like name cert end = bytes_eq end.name name || bytes_eq (own_of end.setup) (s
 abbrev pub is_bad : Seen → Step → Bool
 is_bad w (End name max_peers max_sessions cert) =
     list_any (is_like name cert) w.ends || nat_le 1024 (length w.ends)
-      || is_outside 1048576 max_peers || is_outside 65536 max_sessions
+    || is_outside 1048576 max_peers || is_outside 65536 max_sessions
 is_bad w (At moment) = nat_lt moment w.moment
 is_bad w (Inject end from bytes) = nat_lt 2048 (length bytes)
 is_bad w (Forge end from plain) = nat_lt 1164 (length plain)
@@ -72,7 +69,7 @@ same_context (Session ni nr fp_i fp_r sid_i sid_r to_responder) Startup = false
 same_context (Session ni nr fp_i fp_r sid_i sid_r to_responder)
     (Session mi mr hp_i hp_r tid_i tid_r towards) =
     bytes_eq ni mi && bytes_eq nr mr && bytes_eq fp_i hp_i && bytes_eq fp_r hp_r && (sid_i == tid_i)
-      && (sid_r == tid_r) && (if to_responder then towards else not towards)
+    && (sid_r == tid_r) && (if to_responder then towards else not towards)
 
 -- the datagram was sent with these bytes in this context
 abbrev pub is_sent : List ℕ → Context → Sent → Bool

@@ -4,17 +4,13 @@ use Rattle.glare_core.specs.declared.facts.Fact.TheVariants.{Started}
 use Rattle.endpoint_model.specs.declared.entry.Entry.{Entry}
 use Rattle.endpoint_model.specs.declared.entry.Entry.TheVariants.{Fact}
 use Rattle.endpoint_model.specs.declared.answers.Stopped.{Stopped as Stop}
-use Rattle.endpoint_model.specs.Event.{Call, Open as OpenCall, Cancel as CancelCall, Receive,
-    Tick as TickCall, Answer, Began, Done, NotOpened, Refused as RefusedCall, Stopped, OutOfMemory,
-    Event}
+use Rattle.endpoint_model.specs.Event.{Call, Open as OpenCall, Cancel as CancelCall, Receive, Tick as TickCall, Answer, Began, Done, NotOpened, Refused as RefusedCall, Stopped, OutOfMemory, Event}
 use Rattle.endpoint_laws.specs.History.{Happened, History}
 use Rattle.rendezvous_world.specs.declared.journal.JournalLine.{JournalLine}
 use Rattle.rendezvous_world.specs.declared.journal.Refused.{Refused}
-use Rattle.rendezvous_world.specs.declared.journal.Refused.TheVariants.{Open as OpenRefused,
-    Call as CallRefused}
+use Rattle.rendezvous_world.specs.declared.journal.Refused.TheVariants.{Open as OpenRefused, Call as CallRefused}
 use Rattle.rendezvous_world.specs.declared.step.Step.{Step}
-use Rattle.rendezvous_world.specs.declared.step.Step.TheVariants.{Open, Cancel, Deliver, Bent,
-    Inject, Forge}
+use Rattle.rendezvous_world.specs.declared.step.Step.TheVariants.{Open, Cancel, Deliver, Bent, Inject, Forge}
 use Rattle.rendezvous_world.specs.Draws.{draws_of}
 use Rattle.rendezvous_world.specs.Seen.{EndSeen, Seen, print_at}
 

@@ -1,6 +1,5 @@
 -- What the fields of a world keep.
-use Rattle.std.specs.Prelude.{ℕ, ◌≡◌, ◌+◌, ◌*◌, ◌≤◌, ◌^◌, Bool, ◌||◌, List, [], ◌∷◌, map, length,
-    Option, Some, None}
+use Rattle.std.specs.Prelude.{ℕ, ◌≡◌, ◌+◌, ◌*◌, ◌≤◌, ◌^◌, Bool, ◌||◌, List, [], ◌∷◌, map, length, Option, Some, None}
 use Rattle.std.specs.Str.{bytes_eq}
 use Rattle.sha2.specs.Sha256.{sha256}
 use Rattle.rtmfp_forms.specs.Address.{AddressParts}
@@ -16,8 +15,12 @@ use Rattle.rendezvous_world.specs.Sent.{Sent, sent_among, sent_in}
 abbrev pub end_seen : End → EndSeen
 end_seen end = record {
   name = end.name;
-  setup = record { config = end.config; cert = end.cert; secret = group_secret;
-    cookie_secret = sha256 end.cert };
+  setup = record {
+    config = end.config;
+    cert = end.cert;
+    secret = group_secret;
+    cookie_secret = sha256 end.cert;
+  };
   state = end.endpoint;
 }
 
@@ -35,8 +38,12 @@ is_like_named name print end = bytes_eq end.name name || bytes_eq end.print prin
 -- ---- sent datagrams
 
 abbrev pub sent_of : Letter → Sent
-sent_of letter = record { by = letter.by; to = letter.to; datagram = letter.datagram.now;
-    context = letter.context }
+sent_of letter = record {
+  by = letter.by;
+  to = letter.to;
+  datagram = letter.datagram.now;
+  context = letter.context;
+}
 
 abbrev pub sent_found : Option Letter → Option Sent
 sent_found None = None

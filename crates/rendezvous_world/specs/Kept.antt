@@ -8,8 +8,7 @@ use Rattle.endpoint_laws.specs.Laws.{IsSetup, AreCalls}
 use Rattle.endpoint_laws.specs.History.{log_of, IsHonest, nonces_in}
 use Rattle.rendezvous_world.specs.declared.journal.JournalLine.{JournalLine}
 use Rattle.rendezvous_world.specs.declared.step.Step.{Step}
-use Rattle.rendezvous_world.specs.declared.step.Step.TheVariants.{End, At, Open, Cancel, Deliver,
-    Bent, Inject, Forge, Tick}
+use Rattle.rendezvous_world.specs.declared.step.Step.TheVariants.{End, At, Open, Cancel, Deliver, Bent, Inject, Forge, Tick}
 use Rattle.rendezvous_world.specs.Draws.{two_numbers}
 use Rattle.rendezvous_world.specs.Seen.{EndSeen, Seen, group_secret, setup_at}
 use Rattle.rendezvous_world.specs.History.{history_of}
@@ -69,7 +68,7 @@ pub record IsOfLine (nonce : List ℕ) (lines : List JournalLine) : Type 0 where
 pub record IsWorld (w : Seen) : Type 0 where
   -- each end stands for its own log, but that it may have noted a moment which has passed
   pub stand : (who : ℕ) (end : EndSeen) → slice_get w.ends who ≡ Some end →
-    StandsUpTo w.moment end.setup (log_of who (history_of w)) end.state
+      StandsUpTo w.moment end.setup (log_of who (history_of w)) end.state
   pub given : (who : ℕ) (end : EndSeen) → slice_get w.ends who ≡ Some end → IsGiven end.setup
   -- different ends have different names and different fingerprints
   pub names : AreApart name_of w.ends

@@ -33,7 +33,7 @@ EveryWorldIsAgreed = (w : Seen) → IsWorld w → IsAgreed (setup_at w.ends) (hi
 abbrev pub EveryCallKeepsAWorld : Type 0
 EveryCallKeepsAWorld =
     (w : Seen) (number : ℕ) (step : Step) (line : JournalLine) (t : Seen) → IsWorld w →
-      AreBelow w.lines number → number < 2 ^ 32 → step_fault w step ≡ None →
+    AreBelow w.lines number → number < 2 ^ 32 → step_fault w step ≡ None →
     Called w number step line t → AreBytes (bytes_or_none line.datagram) → IsWorld t
 
 -- A datagram for which a step is refused as forged would break that the history is honest: taken
@@ -41,10 +41,10 @@ EveryCallKeepsAWorld =
 abbrev pub EveryForgedDatagramIsDishonest : Type 0
 EveryForgedDatagramIsDishonest =
     (w : Seen) (who : ℕ) (end : EndSeen) (bytes : List ℕ) (from : AddressParts) (draws : Draws) →
-      IsWorld w → slice_get w.ends who ≡ Some end →
+    IsWorld w → slice_get w.ends who ≡ Some end →
     is_forged_at w.ends who bytes (sent_in w.lines) ≡ true →
-      IsHonestCall (setup_at w.ends who) (facts_at who (history_of w)) (history_of w)
-      (Receive from bytes draws) → ⊥
+    IsHonestCall (setup_at w.ends who) (facts_at who (history_of w)) (history_of w)
+    (Receive from bytes draws) → ⊥
 
 -- ---- a whole run
 
@@ -62,5 +62,5 @@ IsSized w step = AreBytes (bytes_or_none (datagram_of (sent_in w.lines) step))
 abbrev pub EveryStepKeepsAWorld : Type 0
 EveryStepKeepsAWorld =
     (w : Seen) (number : ℕ) (step : Step) (t : Seen) → IsWorld w → AreBelow w.lines number →
-      number < 2 ^ 32 → IsSized w step → step_fault w step ≡ None →
+    number < 2 ^ 32 → IsSized w step → step_fault w step ≡ None →
     Stepped w number step t ⊎ (StoppedIn w number step t ⊎ Noted w step t) → IsWorld t

@@ -25,8 +25,12 @@ group_secret = replicate 32 0
 
 -- what an end of nobody would be given
 abbrev pub nobody : Setup
-nobody = record { config = record { max_peers = 0; max_sessions = 0; introduces = false };
-    cert = []; secret = group_secret; cookie_secret = [] }
+nobody = record {
+  config = record { max_peers = 0; max_sessions = 0; introduces = false };
+  cert = [];
+  secret = group_secret;
+  cookie_secret = [];
+}
 
 -- what the end with this number was given
 abbrev pub setup_at : List EndSeen → ℕ → Setup
@@ -43,22 +47,22 @@ print_at ends who = own_of (setup_at ends who)
 abbrev pub setup_code : Coded Config → Coded Setup
 setup_code config =
     code_by (Config × (List ℕ × (List ℕ × List ℕ)))
-      (coded× config (coded× (coded_list coded_ℕ)
-      (coded× (coded_list coded_ℕ) (coded_list coded_ℕ))))
+    (coded× config (coded× (coded_list coded_ℕ)
+    (coded× (coded_list coded_ℕ) (coded_list coded_ℕ))))
     (λ s. (s.config, (s.cert, (s.secret, s.cookie_secret))))
-      (λ p. record { config = p.0; cert = p.1.0; secret = p.1.1.0; cookie_secret = p.1.1.1 })
-      (λ _. refl)
+    (λ p. record { config = p.0; cert = p.1.0; secret = p.1.1.0; cookie_secret = p.1.1.1 })
+    (λ _. refl)
 
 abbrev pub end_code : Coded Config → Coded State → Coded EndSeen
 end_code config state =
     code_by (List ℕ ×
-      (Setup × State)) (coded× (coded_list coded_ℕ) (coded× (setup_code config) state))
+    (Setup × State)) (coded× (coded_list coded_ℕ) (coded× (setup_code config) state))
     (λ e. (e.name, (e.setup, e.state))) (λ p. record { name = p.0; setup = p.1.0; state = p.1.1 })
-      (λ _. refl)
+    (λ _. refl)
 
 abbrev pub seen_code : Coded Config → Coded State → Coded JournalLine → Coded Seen
 seen_code config state line =
     code_by (ℕ × (List EndSeen × List JournalLine))
-      (coded× coded_ℕ (coded× (coded_list (end_code config state)) (coded_list line)))
+    (coded× coded_ℕ (coded× (coded_list (end_code config state)) (coded_list line)))
     (λ w. (w.moment, (w.ends, w.lines))) (λ p. record { moment = p.0; ends = p.1.0; lines = p.1.1 })
-      (λ _. refl)
+    (λ _. refl)

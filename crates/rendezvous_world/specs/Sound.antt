@@ -30,7 +30,7 @@ pub record StandsUpTo (last : ℕ) (setup : Setup) (log : List Event) (s : State
 pub record IsSound (w : Seen) : Type 0 where
   -- each end stands for its own log, but that it may have noted a moment which has passed
   pub stand : (who : ℕ) (end : EndSeen) → slice_get w.ends who ≡ Some end →
-    StandsUpTo w.moment end.setup (log_of who (history_of w)) end.state
+      StandsUpTo w.moment end.setup (log_of who (history_of w)) end.state
   pub lawful : AreLawful (setup_at w.ends) (history_of w)
   pub honest : IsHonest (setup_at w.ends) (history_of w)
   pub fresh : IsFresh (setup_at w.ends) (history_of w)

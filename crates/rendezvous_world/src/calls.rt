@@ -2,13 +2,11 @@
 
 ghost use Rattle.std.specs.Prelude.{◌≡◌, ◌≢◌, ◌<◌, ◌≤◌, ◌^◌, [], false, length, IfSome, None, true};
 ghost use Rattle.endpoint_model.specs.Due.{open_refusal};
-ghost use Rattle.endpoint_model.specs.Event.{Cancel as CancelCall, Open as OpenCall, Receive,
-    Tick as TickCall};
+ghost use Rattle.endpoint_model.specs.Event.{Cancel as CancelCall, Open as OpenCall, Receive, Tick as TickCall};
 ghost use Rattle.endpoint_model.specs.Log.{Step as StepOf, not_taken};
 ghost use Rattle.endpoint_model.specs.State.{at_moment};
 ghost use Rattle.rendezvous_world.specs.Entering.{CallsAnEnd, IsUndone, event_by};
-ghost use Rattle.rendezvous_world.specs.History.{answer_to_cancel, answer_to_datagram,
-    answer_to_open, answer_to_tick};
+ghost use Rattle.rendezvous_world.specs.History.{answer_to_cancel, answer_to_datagram, answer_to_open, answer_to_tick};
 ghost use Rattle.rendezvous_world.specs.Stepping.{HasItsAnswer, IsDoneOrRefused};
 
 use crate::draws::draws_of;
@@ -45,8 +43,7 @@ pub(crate) fn call_end(
     requires fits { line < 2 ^ 32 }
     requires short { length bytes.old ≤ 2048 }
     requires empty { out.old.entries ≡ [] }
-    ensures event
-        { StepOf endpoint.old (event_by print.now line moment step.now bytes.old result.refused
+    ensures event { StepOf endpoint.old (event_by print.now line moment step.now bytes.old result.refused
         result.stopped out.new.entries) endpoint.new }
     ensures answer { result.undone ≡ false → HasItsAnswer step.now result.refused result.stopped }
     ensures undone { result.undone ≡ true →
@@ -76,10 +73,13 @@ fn open(
     out: &mut Outbox,
 ) -> Outcome
     requires { out.old.entries ≡ [] }
-    ensures event
-        { StepOf endpoint.old (record { moment = moment;
-        call = OpenCall print.now list.now draws.now; answer =
-        answer_to_open result.refused out.new.entries; entries = out.new.entries }) endpoint.new }
+    ensures event { StepOf endpoint.old (record {
+      moment = moment;
+      call = OpenCall print.now list.now draws.now;
+      answer =
+          answer_to_open result.refused out.new.entries;
+      entries = out.new.entries;
+    }) endpoint.new }
     ensures stopped { result.stopped ≡ None }
     ensures answer { result.undone ≡ false → IsDoneOrRefused result.refused }
     ensures refused { result.undone ≡ true → open_refusal endpoint.old print.now list.now ≡ None }
@@ -116,9 +116,12 @@ fn found_none_to_open(refusal: OpenRefusal) -> bool
 /// Gives up the attempt with this number.
 fn cancel(endpoint: &mut Endpoint, n: u64, out: &mut Outbox) -> Outcome
     requires { out.old.entries ≡ [] }
-    ensures event
-        { StepOf endpoint.old (record { moment = 0; call = CancelCall n;
-        answer = answer_to_cancel result.refused; entries = out.new.entries }) endpoint.new }
+    ensures event { StepOf endpoint.old (record {
+      moment = 0;
+      call = CancelCall n;
+      answer = answer_to_cancel result.refused;
+      entries = out.new.entries;
+    }) endpoint.new }
     ensures stopped { result.stopped ≡ None }
     ensures answer { result.undone ≡ false → IsDoneOrRefused result.refused }
     ensures undone { result.undone ≡ true → endpoint.new ≡ endpoint.old }
@@ -159,10 +162,12 @@ fn receive(
 ) -> Outcome
     requires short { length bytes.old ≤ 2048 }
     requires empty { out.old.entries ≡ [] }
-    ensures event
-        { StepOf endpoint.old (record { moment = moment;
-        call = Receive from.now bytes.old draws.now; answer = answer_to_datagram result.stopped;
-        entries = out.new.entries }) endpoint.new }
+    ensures event { StepOf endpoint.old (record {
+      moment = moment;
+      call = Receive from.now bytes.old draws.now;
+      answer = answer_to_datagram result.stopped;
+      entries = out.new.entries;
+    }) endpoint.new }
     ensures refused { result.refused ≡ None }
     ensures undone { result.undone ≡ false }
 {
@@ -183,9 +188,12 @@ fn receive(
 /// Lets an end do what is due.
 fn tick(endpoint: &mut Endpoint, moment: u64, draws: &Draws, out: &mut Outbox) -> Outcome
     requires { out.old.entries ≡ [] }
-    ensures event
-        { StepOf endpoint.old (record { moment = moment; call = TickCall draws.now;
-        answer = answer_to_tick result.stopped; entries = out.new.entries }) endpoint.new }
+    ensures event { StepOf endpoint.old (record {
+      moment = moment;
+      call = TickCall draws.now;
+      answer = answer_to_tick result.stopped;
+      entries = out.new.entries;
+    }) endpoint.new }
     ensures refused { result.refused ≡ None }
     ensures taken { IfSome result.stopped (λ stop. stop ≡ not_taken) }
     ensures undone { result.undone ≡ false }

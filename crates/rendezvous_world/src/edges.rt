@@ -2,8 +2,7 @@
 //! the contract of each states what the definitions are there that the other contracts cite. All of
 //! it is own.
 
-ghost use Rattle.std.specs.Prelude.{◌≡◌, ℕ, List, [], ◌∷◌, replicate, Option, Some, None, true,
-    false};
+ghost use Rattle.std.specs.Prelude.{◌≡◌, ℕ, List, [], ◌∷◌, replicate, Option, Some, None, true, false};
 ghost use Rattle.sha2.specs.Sha256.{sha256};
 ghost use Rattle.rtmfp_forms.specs.Address.{AddressParts};
 ghost use Rattle.endpoint_model.specs.Event.{Setup};

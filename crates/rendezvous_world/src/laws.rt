@@ -1,8 +1,7 @@
 //! What holds of every world. The functions do nothing: the contract of each is its law.
 
 ghost use Rattle.rendezvous_world.specs.Kept.{IsWorld};
-ghost use Rattle.rendezvous_world.specs.Laws.{EveryWorldIsSound, EveryWorldIsAgreed,
-    EveryCallKeepsAWorld, EveryForgedDatagramIsDishonest, EveryStepKeepsAWorld, empty_world};
+ghost use Rattle.rendezvous_world.specs.Laws.{EveryWorldIsSound, EveryWorldIsAgreed, EveryCallKeepsAWorld, EveryForgedDatagramIsDishonest, EveryStepKeepsAWorld, empty_world};
 
 /// The history of each world is lawful, honest and fresh, and each end stands for its own log, but
 /// that it may keep a later moment.

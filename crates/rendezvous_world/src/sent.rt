@@ -1,7 +1,6 @@
 //! The datagrams that ends sent, in their order over the whole run.
 
-ghost use Rattle.std.specs.Prelude.{◌≡◌, ◌-◌, ◌<◌, ◌≤◌, ℕ, IfSome, false, get_or, length, nat_lt,
-    true};
+ghost use Rattle.std.specs.Prelude.{◌≡◌, ◌-◌, ◌<◌, ◌≤◌, ℕ, IfSome, false, get_or, length, nat_lt, true};
 ghost use Rattle.std.specs.List.{AllWithin};
 ghost use Rattle.std.specs.List.Sorted.{IsPartitionedBy};
 ghost use Rattle.rendezvous_world.specs.Datagrams.{nth};

@@ -35,20 +35,17 @@ impl Model for World {
 
     ghost Value = { Seen };
 
-    ghost coded =
-        { seen_code config_type.the_row.coded endpoint_type.the_row.coded line_type.the_row.coded };
+    ghost coded = { seen_code config_type.the_row.coded endpoint_type.the_row.coded line_type.the_row.coded };
 
     ghost use Rattle.rendezvous_world.specs.Inside.{world_seen, IsKept};
 
     ghost view = { λ w. world_seen w.moment w.ends.items w.journal };
 
-    ghost invariant =
-        { λ w. IsKept w.moment w.ends.items w.named.items w.journal w.starts.items w.sent };
+    ghost invariant = { λ w. IsKept w.moment w.ends.items w.named.items w.journal w.starts.items w.sent };
 }
 
 impl World {
-    ghost use Rattle.std.specs.Prelude.{◌≡◌, ◌⊎◌, ◌<◌, ◌^◌, ◌-◌, [], IfErr, IfNone, IfSome, IsSome,
-        OnErr, OnOk, length, map, min, Err};
+    ghost use Rattle.std.specs.Prelude.{◌≡◌, ◌⊎◌, ◌<◌, ◌^◌, ◌-◌, [], IfErr, IfNone, IfSome, IsSome, OnErr, OnOk, length, map, min, Err};
     ghost use Rattle.rendezvous_world.specs.Datagrams.{nth};
     ghost use Rattle.rendezvous_world.specs.Entering.{IsDone};
     ghost use Rattle.rendezvous_world.specs.Faults.{step_fault};

@@ -1,20 +1,5 @@
 -- A list of rows, each with a number as its key and a value, as the finite map from keys to values.
-use Rattle.std.specs.Prelude.{
-  ℕ,
-  ◌<◌,
-  ◌≤◌,
-  ◌≡◌,
-  Bool,
-  true,
-  false,
-  List,
-  map,
-  length,
-  slice_index_or,
-  Option,
-  Some,
-  None,
-}
+use Rattle.std.specs.Prelude.{ℕ, ◌<◌, ◌≤◌, ◌≡◌, Bool, true, false, List, map, length, slice_index_or, Option, Some, None}
 use Rattle.std.specs.Ordering.{nat_cmp}
 use Rattle.std.specs.FinMap.{FinMap, from_entries, len}
 

@@ -3,32 +3,8 @@ use Rattle.std.specs.Prelude.{◌≡◌, ℕ, ◌==◌, if◌then◌else◌, Boo
 use Rattle.rtmfp_forms.specs.Address.{AddressParts}
 use Rattle.rtmfp_chunks.specs.declared.view.ChunkView.{ChunkView}
 use Rattle.rtmfp_chunks.specs.declared.view.ChunkView.TheVariants as view
-use Rattle.rtmfp_chunks.specs.Fields.{
-  Counted,
-  Number,
-  SessionId,
-  More,
-  OneAddress,
-  Parts,
-  Then,
-  Rest,
-  AddressList,
-  Ignored,
-  PartsSpell,
-}
-use Rattle.rtmfp_chunks.specs.Fields.{
-  Row,
-  ThenRow,
-  RestRow,
-  AddressesRow,
-  IgnoredRow,
-  CountedForm,
-  NumberForm,
-  SessionIdForm,
-  MoreForm,
-  AddressForm,
-  RowBreaks,
-}
+use Rattle.rtmfp_chunks.specs.Fields.{Counted, Number, SessionId, More, OneAddress, Parts, Then, Rest, AddressList, Ignored, PartsSpell}
+use Rattle.rtmfp_chunks.specs.Fields.{Row, ThenRow, RestRow, AddressesRow, IgnoredRow, CountedForm, NumberForm, SessionIdForm, MoreForm, AddressForm, RowBreaks}
 
 -- a chunk as contracts see it; the list of a redirect is its addresses' bytes
 pub data Chunk : Type 0 where

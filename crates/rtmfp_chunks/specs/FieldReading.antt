@@ -1,30 +1,7 @@
 -- Fields from left to right. Where one can't be read, the number of bytes from there to the end is
 -- told.
 use Rattle.std.specs.Borrow.{Bor}
-use Rattle.std.specs.Prelude.{
-  ◌≡◌,
-  ℕ,
-  ◌-◌,
-  ◌==◌,
-  zero,
-  suc,
-  Bool,
-  List,
-  [],
-  ◌∷◌,
-  length,
-  take,
-  drop,
-  Option,
-  Some,
-  None,
-  Result,
-  Ok,
-  Err,
-  nat_lt,
-  nat_le,
-  if◌then◌else◌,
-}
+use Rattle.std.specs.Prelude.{◌≡◌, ℕ, ◌-◌, ◌==◌, zero, suc, Bool, List, [], ◌∷◌, length, take, drop, Option, Some, None, Result, Ok, Err, nat_lt, nat_le, if◌then◌else◌}
 use Rattle.std.specs.Int.{w32, from_be_bytes}
 use Rattle.rtmfp_vlu.specs.declared.reading.VluFault.{VluFault}
 use Rattle.rtmfp_vlu.specs.Reading.{number_at}
@@ -33,53 +10,11 @@ use Rattle.rtmfp_forms.specs.Address.{AddressParts}
 use Rattle.rtmfp_forms.specs.AddressReading.{address_at}
 use Rattle.rtmfp_forms.specs.OptionReading.{◌>>=◌}
 use Rattle.rtmfp_chunks.specs.declared.view.ChunkView.{ChunkView}
-use Rattle.rtmfp_chunks.specs.Fields.{
-  Field,
-  Counted,
-  Number,
-  SessionId,
-  More,
-  OneAddress,
-  Parts,
-  Then,
-  Rest,
-  AddressList,
-  Ignored,
-}
-use Rattle.rtmfp_chunks.specs.Fields.{
-  Form,
-  CountedForm,
-  NumberForm,
-  SessionIdForm,
-  MoreForm,
-  AddressForm,
-  Row,
-  ThenRow,
-  RestRow,
-  AddressesRow,
-  IgnoredRow,
-}
+use Rattle.rtmfp_chunks.specs.Fields.{Field, Counted, Number, SessionId, More, OneAddress, Parts, Then, Rest, AddressList, Ignored}
+use Rattle.rtmfp_chunks.specs.Fields.{Form, CountedForm, NumberForm, SessionIdForm, MoreForm, AddressForm, Row, ThenRow, RestRow, AddressesRow, IgnoredRow}
 use Rattle.rtmfp_chunks.specs.declared.reading.ChunkFault.{ChunkFault}
 use Rattle.rtmfp_chunks.specs.declared.reading.ChunkFault.TheVariants.{Unknown, Malformed}
-use Rattle.rtmfp_chunks.specs.Chunk.{
-  Chunk,
-  IHello,
-  FIHello,
-  RHello,
-  Redirect,
-  CookieChange,
-  IIKeying,
-  RIKeying,
-  Ping,
-  PingReply,
-  Close,
-  CloseAck,
-  Fragment,
-  chunk_of,
-  kind_of,
-  parts_of,
-  row_of,
-}
+use Rattle.rtmfp_chunks.specs.Chunk.{Chunk, IHello, FIHello, RHello, Redirect, CookieChange, IIKeying, RIKeying, Ping, PingReply, Close, CloseAck, Fragment, chunk_of, kind_of, parts_of, row_of}
 
 -- what a function returned, seen by view, is what reading gives
 abbrev pub Shows : {X Y : Type 0} → (X → Y) → Result X ℕ → Result Y ℕ → Type 0

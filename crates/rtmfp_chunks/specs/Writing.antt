@@ -4,20 +4,7 @@ use Rattle.std.specs.Prelude.{ℕ, ◌^◌, ◌<◌, if◌then◌else◌, List, 
 use Rattle.std.specs.Int.{w16, w32, to_be_bytes}
 use Rattle.rtmfp_vlu.specs.Vlu.{vlu}
 use Rattle.rtmfp_forms.specs.Address.{IsAddress, address_bytes}
-use Rattle.rtmfp_chunks.specs.Fields.{
-  Field,
-  Counted,
-  Number,
-  SessionId,
-  More,
-  OneAddress,
-  Parts,
-  Then,
-  Rest,
-  AddressList,
-  Ignored,
-  AreAddresses,
-}
+use Rattle.rtmfp_chunks.specs.Fields.{Field, Counted, Number, SessionId, More, OneAddress, Parts, Then, Rest, AddressList, Ignored, AreAddresses}
 use Rattle.rtmfp_chunks.specs.Chunk.{Chunk, Redirect, kind_of, parts_of}
 
 abbrev pub field_bytes : Field → List ℕ

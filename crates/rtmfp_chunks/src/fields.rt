@@ -1,17 +1,6 @@
 //! The fields that chunks are made of, each read with what follows it. An `Err` has the number of
 //! bytes from the field that can't be read to the end.
-ghost use Rattle.rtmfp_chunks.specs.FieldReading.{
-  Shows,
-  split_of,
-  value_of,
-  number_then,
-  bytes_then,
-  counted_then,
-  id_then,
-  more_then,
-  address_then,
-  list_at,
-};
+ghost use Rattle.rtmfp_chunks.specs.FieldReading.{Shows, split_of, value_of, number_then, bytes_then, counted_then, id_then, more_then, address_then, list_at};
 
 use rtmfp_forms::{Address, read_address};
 use rtmfp_vlu::read_vlu;

@@ -1,32 +1,11 @@
 //! Chunks written into a packet.
-ghost use Rattle.std.specs.Prelude.{
-  ◌≡◌,
-  ◌+◌,
-  ◌^◌,
-  ◌<◌,
-  ◌≤◌,
-  ◌↔◌,
-  ◌++◌,
-  ◌∷◌,
-  ◌-◌,
-  length,
-  min,
-  OnOk,
-  OnErr,
-  IsErr,
-};
+ghost use Rattle.std.specs.Prelude.{◌≡◌, ◌+◌, ◌^◌, ◌<◌, ◌≤◌, ◌↔◌, ◌++◌, ◌∷◌, ◌-◌, length, min, OnOk, OnErr, IsErr};
 ghost use Rattle.std.specs.Int.{w16, to_be_bytes};
 ghost use Rattle.rtmfp_forms.specs.Address.{IsAddress};
 ghost use Rattle.rtmfp_forms.specs.Outgoing.{packet_limit};
 ghost use Rattle.rtmfp_chunks.specs.Fields.{Counted, SessionId, More, OneAddress};
 ghost use Rattle.rtmfp_chunks.specs.Chunk.{Spells, chunk_of, kind_of, parts_of};
-ghost use Rattle.rtmfp_chunks.specs.Writing.{
-  IsWritable,
-  PartsFit,
-  chunk_bytes,
-  field_bytes,
-  payload_bytes,
-};
+ghost use Rattle.rtmfp_chunks.specs.Writing.{IsWritable, PartsFit, chunk_bytes, field_bytes, payload_bytes};
 
 use crate::kinds::*;
 use crate::view::ChunkView;

@@ -61,13 +61,13 @@ NextLine P after bytes = IfSome after.source.left (λ rest.
 abbrev pub StopsBefore : (List ℕ → Type 0) → ℕ → Outside → Outside → List ℕ → Type 0
 StopsBefore P limit before after old =
     NothingFailed before after × ((bytes : List ℕ) × DoesNone limit before after old bytes ×
-      NextLine P after bytes)
+    NextLine P after bytes)
 
 -- nothing more is done, and the source failed where more was needed
 abbrev pub StopsReading : ℕ → Outside → Outside → List ℕ → Type 0
 StopsReading limit before after old =
     SourceFailed before after × (after.sink.passed ≡ after.sink.written) ×
-      ((bytes : List ℕ) × DoesNone limit before after old bytes × IsPart limit bytes)
+    ((bytes : List ℕ) × DoesNone limit before after old bytes × IsPart limit bytes)
 
 -- a part of the text of the next line is written, or nothing
 pub record DoesPart (doing : Doing) (n : ℕ) (before after : Outside) (old : List ℕ) : Type 0 where
@@ -75,7 +75,7 @@ pub record DoesPart (doing : Doing) (n : ℕ) (before after : Outside) (old : Li
   pub part : List ℕ
   pub takes : Takes (limit_of doing) before after old bytes
   pub next : (part ≡ []) ⊎ ((left : Doing) × (text : List ℕ) × (k : ℕ) × (part ≡ take k text) ×
-    NextLine (λ line. Does doing n line left text) after bytes)
+      NextLine (λ line. Does doing n line left text) after bytes)
   pub written : Appends before.sink.written after.sink.written part
   pub failed : SinkFailed before after
 
@@ -106,7 +106,7 @@ Printed (Ended (status.Forged m)) doing left n line before after faults later = 
     IsForgedLine doing n line × (after ≡ before) × (later ≡ faults)
 Printed (Ended status.SinkFault) doing left n line before after faults later =
     (text : List ℕ) × (k : ℕ) × Does doing n line left text × Appends before after (take k text) ×
-      Rose faults later
+    Rose faults later
 Printed (Ended status.Memory) doing left n line before after faults later = (after ≡ before) ×
     (later ≡ faults)
 Printed (Ended other) doing left n line before after faults later = ⊥

@@ -67,8 +67,8 @@ fn next_turn<S: Source, K: Sink>(
         (outside (seen_source (S.left source.old) (S.asked source.old) (S.faults source.old))
         (seen_sink (K.written sink.old) (K.passed sink.old) (K.faults sink.old)))
         (outside (seen_source (S.left source.new) (S.asked source.new) (S.faults source.new))
-          (seen_sink (K.written sink.new) (K.passed sink.new) (K.faults sink.new))) buffer.old.bytes
-          buffer.new.bytes }
+        (seen_sink (K.written sink.new) (K.passed sink.new) (K.faults sink.new))) buffer.old.bytes
+        buffer.new.bytes }
     ensures capacity { buffer.new.capacity ≡ buffer.old.capacity }
     ensures limit { limit_of doing.new ≡ limit_of doing.old }
     ensures next { result ≡ Turn.Went → number < 2 ^ 32 - 1 → IsNext doing.new (number + 1) }
@@ -97,8 +97,8 @@ fn close_script<S: Source, K: Sink>(buffer: &mut Buffer, source: &mut S, sink: &
         (outside (seen_source (S.left source.old) (S.asked source.old) (S.faults source.old))
         (seen_sink (K.written sink.old) (K.passed sink.old) (K.faults sink.old)))
         (outside (seen_source (S.left source.new) (S.asked source.new) (S.faults source.new))
-          (seen_sink (K.written sink.new) (K.passed sink.new) (K.faults sink.new)))
-          buffer.old.bytes }
+        (seen_sink (K.written sink.new) (K.passed sink.new) (K.faults sink.new)))
+        buffer.old.bytes }
 {
     // A line of no byte is one too many, so that one byte suffices.
     match next_line(buffer, 0, source, sink) {
@@ -124,7 +124,7 @@ pub(crate) fn run_script<S: Source, K: Sink>(
         (outside (seen_source (S.left source.old) (S.asked source.old) (S.faults source.old))
         (seen_sink (K.written sink.old) (K.passed sink.old) (K.faults sink.old)))
         (outside (seen_source (S.left source.new) (S.asked source.new) (S.faults source.new))
-          (seen_sink (K.written sink.new) (K.passed sink.new) (K.faults sink.new))) }
+        (seen_sink (K.written sink.new) (K.passed sink.new) (K.faults sink.new))) }
 {
     let Ok(mut buffer) = Buffer::new(alloc, 2 * doing.limit() + PIECE) else {
         return Status::Memory;

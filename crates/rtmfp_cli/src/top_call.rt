@@ -39,13 +39,13 @@ pub fn run<S: Source, K: Sink>(
         (outside (seen_source (S.left source.old) (S.asked source.old) (S.faults source.old))
         (seen_sink (K.written sink.old) (K.passed sink.old) (K.faults sink.old)))
         (outside (seen_source (S.left source.new) (S.asked source.new) (S.faults source.new))
-          (seen_sink (K.written sink.new) (K.passed sink.new) (K.faults sink.new))) }
+        (seen_sink (K.written sink.new) (K.passed sink.new) (K.faults sink.new))) }
     ensures replay { IsReplay words.now →
         ScriptEnds playing result
         (outside (seen_source (S.left source.old) (S.asked source.old) (S.faults source.old))
         (seen_sink (K.written sink.old) (K.passed sink.old) (K.faults sink.old)))
         (outside (seen_source (S.left source.new) (S.asked source.new) (S.faults source.new))
-          (seen_sink (K.written sink.new) (K.passed sink.new) (K.faults sink.new))) }
+        (seen_sink (K.written sink.new) (K.passed sink.new) (K.faults sink.new))) }
     ensures generate { (seed steps : ℕ) → IsGenerate words.now seed steps →
         GeneratedEnds seed steps result (seen_sink (K.written sink.old) (K.passed sink.old)
         (K.faults sink.old)) (seen_sink (K.written sink.new) (K.passed sink.new)
@@ -80,7 +80,7 @@ fn over_lines<S: Source, K: Sink>(
         (seen_source (S.left source.old) (S.asked source.old) (S.faults source.old))
         (seen_sink (K.written sink.old) (K.passed sink.old) (K.faults sink.old)))
         (outside (seen_source (S.left source.new) (S.asked source.new) (S.faults source.new))
-          (seen_sink (K.written sink.new) (K.passed sink.new) (K.faults sink.new))) }
+        (seen_sink (K.written sink.new) (K.passed sink.new) (K.faults sink.new))) }
 {
     let status = run_script(alloc, doing, source, sink);
     finish(status, sink)

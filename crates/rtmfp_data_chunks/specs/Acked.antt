@@ -1,44 +1,6 @@
 -- What an ack acknowledges above its cumulative number (RFC 7016 sections 2.3.13 and 2.3.14).
-use Rattle.std.specs.Prelude.{
-  ◌≡◌,
-  ℕ,
-  zero,
-  suc,
-  ◌+◌,
-  ◌-◌,
-  ◌*◌,
-  ◌/◌,
-  ◌%◌,
-  ◌^◌,
-  ◌<◌,
-  ◌≤◌,
-  ◌==◌,
-  ◌⊎◌,
-  ◌↔◌,
-  min,
-  Bool,
-  true,
-  List,
-  [],
-  ◌∷◌,
-  length,
-  drop,
-  get_or,
-  Result,
-  Ok,
-  Err,
-  nat_lt,
-  if◌then◌else◌,
-}
-use Rattle.rtmfp_data_chunks.specs.Chunk.{
-  DataChunk,
-  Data,
-  Next,
-  AckBitmap,
-  AckRanges,
-  Probe,
-  Exception,
-}
+use Rattle.std.specs.Prelude.{◌≡◌, ℕ, zero, suc, ◌+◌, ◌-◌, ◌*◌, ◌/◌, ◌%◌, ◌^◌, ◌<◌, ◌≤◌, ◌==◌, ◌⊎◌, ◌↔◌, min, Bool, true, List, [], ◌∷◌, length, drop, get_or, Result, Ok, Err, nat_lt, if◌then◌else◌}
+use Rattle.rtmfp_data_chunks.specs.Chunk.{DataChunk, Data, Next, AckBitmap, AckRanges, Probe, Exception}
 use Rattle.rtmfp_data_chunks.specs.Fields.{flag}
 use Rattle.rtmfp_data_chunks.specs.Acks.{PairsTell}
 use Rattle.rtmfp_vlu.specs.declared.reading.VluFault.{VluFault}

@@ -1,22 +1,6 @@
 -- What acks tell beside their cumulative number (RFC 7016 sections 2.3.13 and 2.3.14). Own: no
 -- number above 64 bits.
-use Rattle.std.specs.Prelude.{
-  ◌≡◌,
-  ℕ,
-  ◌+◌,
-  ◌-◌,
-  ◌*◌,
-  ◌^◌,
-  ◌<◌,
-  ◌≤◌,
-  ◌⊎◌,
-  List,
-  [],
-  ◌∷◌,
-  ◌++◌,
-  length,
-  get_or,
-}
+use Rattle.std.specs.Prelude.{◌≡◌, ℕ, ◌+◌, ◌-◌, ◌*◌, ◌^◌, ◌<◌, ◌≤◌, ◌⊎◌, List, [], ◌∷◌, ◌++◌, length, get_or}
 use Rattle.std.specs.Int.{bit_at}
 use Rattle.rtmfp_data_chunks.specs.Fields.{NumbersSpell, NumbersBreak}
 

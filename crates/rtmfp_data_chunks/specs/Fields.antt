@@ -1,24 +1,5 @@
 -- The fields that chunks of flows are made of.
-use Rattle.std.specs.Prelude.{
-  ◌≡◌,
-  ℕ,
-  ◌/◌,
-  ◌%◌,
-  ◌<◌,
-  ◌==◌,
-  ◌⊎◌,
-  Bool,
-  true,
-  List,
-  [],
-  ◌∷◌,
-  ◌++◌,
-  length,
-  Option,
-  Some,
-  None,
-  is_some,
-}
+use Rattle.std.specs.Prelude.{◌≡◌, ℕ, ◌/◌, ◌%◌, ◌<◌, ◌==◌, ◌⊎◌, Bool, true, List, [], ◌∷◌, ◌++◌, length, Option, Some, None, is_some}
 use Rattle.std.specs.Int.{bit_at}
 use Rattle.rtmfp_vlu.specs.Vlu.{VluSpells, IsCut, IsLarge}
 use Rattle.rtmfp_forms.specs.declared.fault.FormFault.{FormFault}

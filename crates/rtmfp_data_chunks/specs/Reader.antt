@@ -1,35 +1,5 @@
 -- The same from left to right, with the first fault that is met.
-use Rattle.std.specs.Prelude.{
-  ◌≡◌,
-  ℕ,
-  zero,
-  suc,
-  ◌+◌,
-  ◌-◌,
-  ◌/◌,
-  ◌%◌,
-  ◌^◌,
-  ◌==◌,
-  if◌then◌else◌,
-  nat_lt,
-  not,
-  min,
-  Bool,
-  true,
-  false,
-  List,
-  [],
-  ◌∷◌,
-  length,
-  drop,
-  get_or,
-  Option,
-  Some,
-  None,
-  Result,
-  Ok,
-  Err,
-}
+use Rattle.std.specs.Prelude.{◌≡◌, ℕ, zero, suc, ◌+◌, ◌-◌, ◌/◌, ◌%◌, ◌^◌, ◌==◌, if◌then◌else◌, nat_lt, not, min, Bool, true, false, List, [], ◌∷◌, length, drop, get_or, Option, Some, None, Result, Ok, Err}
 use Rattle.std.specs.Option.{option_map}
 use Rattle.rtmfp_vlu.specs.declared.reading.VluFault.{VluFault}
 use Rattle.rtmfp_vlu.specs.Reading.{number_at}
@@ -40,21 +10,8 @@ use Rattle.rtmfp_data_chunks.specs.declared.user_data.Part.{Part}
 use Rattle.rtmfp_data_chunks.specs.declared.user_data.Part.TheVariants.{Whole, Begin, End, Middle}
 use Rattle.rtmfp_data_chunks.specs.declared.user_data.Numbers.{Numbers}
 use Rattle.rtmfp_data_chunks.specs.declared.view.DataFault.{DataFault}
-use Rattle.rtmfp_data_chunks.specs.declared.view.DataFault.TheVariants.{
-  Unknown,
-  Malformed,
-  BadOffset,
-}
-use Rattle.rtmfp_data_chunks.specs.Chunk.{
-  UserParts,
-  DataChunk,
-  Data,
-  Next,
-  AckBitmap,
-  AckRanges,
-  Probe,
-  Exception,
-}
+use Rattle.rtmfp_data_chunks.specs.declared.view.DataFault.TheVariants.{Unknown, Malformed, BadOffset}
+use Rattle.rtmfp_data_chunks.specs.Chunk.{UserParts, DataChunk, Data, Next, AckBitmap, AckRanges, Probe, Exception}
 use Rattle.rtmfp_data_chunks.specs.Fields.{flag}
 
 -- what a function returned, seen by view, is what reading gives

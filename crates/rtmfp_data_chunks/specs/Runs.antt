@@ -1,26 +1,6 @@
 -- What becomes of numbers by the data chunks that a receiver takes, and which messages it hands
 -- over.
-use Rattle.std.specs.Prelude.{
-  ℕ,
-  ◌+◌,
-  ◌-◌,
-  ◌==◌,
-  if◌then◌else◌,
-  nat_le,
-  Bool,
-  true,
-  false,
-  not,
-  map,
-  List,
-  [],
-  ◌∷◌,
-  ◌++◌,
-  Option,
-  Some,
-  None,
-  length,
-}
+use Rattle.std.specs.Prelude.{ℕ, ◌+◌, ◌-◌, ◌==◌, if◌then◌else◌, nat_le, Bool, true, false, not, map, List, [], ◌∷◌, ◌++◌, Option, Some, None, length}
 use Prim.Native.Nat.{zero, suc}
 use Rattle.std.specs.Prelude.{max}
 use Rattle.std.specs.List.{filter, sum_by}

@@ -1,58 +1,12 @@
 -- What spells the chunks of flows: the fields of each, one after another.
-use Rattle.std.specs.Prelude.{
-  ◌≡◌,
-  ℕ,
-  ◌+◌,
-  ◌-◌,
-  ◌^◌,
-  ◌<◌,
-  ◌≤◌,
-  ◌==◌,
-  ◌||◌,
-  ◌⊎◌,
-  Bool,
-  true,
-  false,
-  List,
-  [],
-  ◌∷◌,
-  ◌++◌,
-  length,
-  Option,
-  Some,
-  None,
-  Result,
-  Ok,
-  Err,
-}
+use Rattle.std.specs.Prelude.{◌≡◌, ℕ, ◌+◌, ◌-◌, ◌^◌, ◌<◌, ◌≤◌, ◌==◌, ◌||◌, ◌⊎◌, Bool, true, false, List, [], ◌∷◌, ◌++◌, length, Option, Some, None, Result, Ok, Err}
 use Rattle.rtmfp_vlu.specs.Vlu.{VluSpells}
 use Rattle.rtmfp_data_chunks.specs.declared.user_data.Numbers.{Numbers}
 use Rattle.rtmfp_data_chunks.specs.declared.view.DataView.{DataView}
 use Rattle.rtmfp_data_chunks.specs.declared.view.DataFault.{DataFault}
-use Rattle.rtmfp_data_chunks.specs.declared.view.DataFault.TheVariants.{
-  Unknown,
-  Malformed,
-  BadOffset,
-}
-use Rattle.rtmfp_data_chunks.specs.Chunk.{
-  UserParts,
-  DataChunk,
-  Data,
-  Next,
-  AckBitmap,
-  AckRanges,
-  Probe,
-  Exception,
-  data_chunk,
-}
-use Rattle.rtmfp_data_chunks.specs.Fields.{
-  NumbersSpell,
-  NumbersBreak,
-  flag,
-  FlagsTell,
-  OptionsStand,
-  OptionsBreak,
-}
+use Rattle.rtmfp_data_chunks.specs.declared.view.DataFault.TheVariants.{Unknown, Malformed, BadOffset}
+use Rattle.rtmfp_data_chunks.specs.Chunk.{UserParts, DataChunk, Data, Next, AckBitmap, AckRanges, Probe, Exception, data_chunk}
+use Rattle.rtmfp_data_chunks.specs.Fields.{NumbersSpell, NumbersBreak, flag, FlagsTell, OptionsStand, OptionsBreak}
 use Rattle.rtmfp_data_chunks.specs.Acks.{BitsFit, BitsPass, PairsTell, PairsBreak}
 
 -- ---- data: flags, the flow, the number, how far the forward number is behind it, options where

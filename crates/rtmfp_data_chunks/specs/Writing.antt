@@ -1,36 +1,11 @@
 -- The one spelling of a chunk that is written: its type, the length of its payload in two bytes,
 -- and the payload, with each number and option in its shortest spelling.
-use Rattle.std.specs.Prelude.{
-  ℕ,
-  ◌+◌,
-  ◌-◌,
-  ◌*◌,
-  Bool,
-  if◌then◌else◌,
-  List,
-  [],
-  ◌∷◌,
-  ◌++◌,
-  length,
-  Option,
-  Some,
-  None,
-  is_some,
-}
+use Rattle.std.specs.Prelude.{ℕ, ◌+◌, ◌-◌, ◌*◌, Bool, if◌then◌else◌, List, [], ◌∷◌, ◌++◌, length, Option, Some, None, is_some}
 use Rattle.std.specs.Int.{to_be_bytes, w16}
 use Rattle.rtmfp_vlu.specs.Vlu.{vlu}
 use Rattle.rtmfp_forms.specs.Options.{OptionParts, options_bytes}
 use Rattle.rtmfp_data_chunks.specs.declared.user_data.Numbers.{Numbers}
-use Rattle.rtmfp_data_chunks.specs.Chunk.{
-  UserParts,
-  DataChunk,
-  Data,
-  Next,
-  AckBitmap,
-  AckRanges,
-  Probe,
-  Exception,
-}
+use Rattle.rtmfp_data_chunks.specs.Chunk.{UserParts, DataChunk, Data, Next, AckBitmap, AckRanges, Probe, Exception}
 use Rattle.rtmfp_data_chunks.specs.Fields.{part_number}
 use Rattle.rtmfp_data_chunks.specs.Acks.{BitsFit, PairsTell}
 use Rattle.rtmfp_data_chunks.specs.Spelling.{IsBehind, HasNext, Follows, kind_of}

@@ -3,14 +3,7 @@
 ghost use Rattle.std.specs.Prelude.{◌≡◌, ◌/◌, ◌%◌, ◌<◌, ◌≤◌, List, length, IfOk};
 ghost use Rattle.rtmfp_data_chunks.specs.Fields.{flag};
 ghost use Rattle.rtmfp_data_chunks.specs.Chunk.{user_parts};
-ghost use Rattle.rtmfp_data_chunks.specs.Reader.{
-  Shows,
-  number_then,
-  numbers_then,
-  options_at,
-  part_numbered,
-  user_then,
-};
+ghost use Rattle.rtmfp_data_chunks.specs.Reader.{Shows, number_then, numbers_then, options_at, part_numbered, user_then};
 
 use crate::user_data::{Numbers, Part, UserData};
 use crate::view::DataFault;

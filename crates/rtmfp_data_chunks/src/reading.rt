@@ -1,19 +1,7 @@
 //! The payload of each chunk of flows.
 ghost use Rattle.std.specs.Prelude.{◌≡◌, ◌<◌, ◌≤◌, length, IfSome};
 ghost use Rattle.rtmfp_data_chunks.specs.Chunk.{user_parts, data_chunk};
-ghost use Rattle.rtmfp_data_chunks.specs.Reader.{
-  Shows,
-  is_bad_offset,
-  data_then,
-  next_then,
-  bitmap_then,
-  ack_ranges_then,
-  probe_then,
-  exception_then,
-  data_at,
-  passing_byte,
-  pairs_then,
-};
+ghost use Rattle.rtmfp_data_chunks.specs.Reader.{Shows, is_bad_offset, data_then, next_then, bitmap_then, ack_ranges_then, probe_then, exception_then, data_at, passing_byte, pairs_then};
 
 use crate::fields::{abandons, number, three_numbers, two_numbers, user_data};
 use crate::kinds;

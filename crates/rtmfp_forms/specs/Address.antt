@@ -1,26 +1,6 @@
 -- Transport addresses (RFC 7016 section 2.1.5): a byte of flags, 4 or 16 bytes of host, 2 bytes of
 -- port. Own: the five middle bits of the flags are ignored on reading, and written as 0.
-use Rattle.std.specs.Prelude.{
-  ◌≡◌,
-  ℕ,
-  ◌+◌,
-  ◌-◌,
-  ◌%◌,
-  ◌^◌,
-  ◌<◌,
-  ◌≤◌,
-  Bool,
-  nat_le,
-  if◌then◌else◌,
-  List,
-  [],
-  ◌∷◌,
-  ◌++◌,
-  length,
-  take,
-  drop,
-  replicate,
-}
+use Rattle.std.specs.Prelude.{◌≡◌, ℕ, ◌+◌, ◌-◌, ◌%◌, ◌^◌, ◌<◌, ◌≤◌, Bool, nat_le, if◌then◌else◌, List, [], ◌∷◌, ◌++◌, length, take, drop, replicate}
 use Rattle.std.specs.Int.{w16, to_be_bytes}
 
 -- an address as contracts see it

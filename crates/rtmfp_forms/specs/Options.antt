@@ -1,20 +1,5 @@
 -- Options and lists of them (RFC 7016 sections 2.1.3 and 2.1.4).
-use Rattle.std.specs.Prelude.{
-  ◌≡◌,
-  ℕ,
-  ◌<◌,
-  ◌≤◌,
-  ◌⊎◌,
-  List,
-  [],
-  ◌∷◌,
-  ◌++◌,
-  length,
-  take,
-  Result,
-  Ok,
-  Err,
-}
+use Rattle.std.specs.Prelude.{◌≡◌, ℕ, ◌<◌, ◌≤◌, ◌⊎◌, List, [], ◌∷◌, ◌++◌, length, take, Result, Ok, Err}
 use Rattle.std.specs.List.{flat_map}
 use Rattle.rtmfp_vlu.specs.Vlu.{VluSpells, IsCut, IsLarge, vlu}
 use Rattle.rtmfp_forms.specs.declared.fault.FormFault.{FormFault}

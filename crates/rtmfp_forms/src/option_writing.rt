@@ -1,10 +1,5 @@
 ghost use Rattle.std.specs.Prelude.{◌≡◌, ◌+◌, ◌^◌, ◌<◌, ◌≤◌, ◌↔◌, ◌++◌, length, OnOk, OnErr, IsErr};
-ghost use Rattle.rtmfp_forms.specs.Options.{
-  OptionsSpell,
-  counted_bytes,
-  option_bytes,
-  options_bytes,
-};
+ghost use Rattle.rtmfp_forms.specs.Options.{OptionsSpell, counted_bytes, option_bytes, options_bytes};
 ghost use Rattle.rtmfp_forms.specs.OptionReading.{option_parts};
 ghost use Rattle.rtmfp_forms.specs.Outgoing.{packet_limit};
 

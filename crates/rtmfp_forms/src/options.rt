@@ -1,38 +1,8 @@
-ghost use Rattle.std.specs.Prelude.{
-  ◌≡◌,
-  ℕ,
-  ◌+◌,
-  ◌<◌,
-  ◌≤◌,
-  ◌↔◌,
-  ◌++◌,
-  [],
-  ◌∷◌,
-  List,
-  length,
-  take,
-  drop,
-  Option,
-  Some,
-  None,
-  Ok,
-  Err,
-  IfOk,
-  IfErr,
-};
+ghost use Rattle.std.specs.Prelude.{◌≡◌, ℕ, ◌+◌, ◌<◌, ◌≤◌, ◌↔◌, ◌++◌, [], ◌∷◌, List, length, take, drop, Option, Some, None, Ok, Err, IfOk, IfErr};
 ghost use Rattle.std.specs.Iterator.{YieldsFirstBy, item_count};
 ghost use Rattle.rtmfp_forms.specs.declared.fault.FormFault.{FormFault};
 ghost use Rattle.rtmfp_forms.specs.Options.{OptionParts, OptionsSpell, HasFault, Lists};
-ghost use Rattle.rtmfp_forms.specs.OptionReading.{
-  option_parts,
-  Shows,
-  number_of,
-  piece_of,
-  number_then,
-  counted_then,
-  piece_then,
-  options_then,
-};
+ghost use Rattle.rtmfp_forms.specs.OptionReading.{option_parts, Shows, number_of, piece_of, number_then, counted_then, piece_then, options_then};
 
 use crate::fault::FormFault;
 use rtmfp_vlu::{VluFault, read_vlu};

@@ -1,17 +1,4 @@
-ghost use Rattle.std.specs.Prelude.{
-  ◌≡◌,
-  ◌+◌,
-  ◌<◌,
-  ◌≤◌,
-  ◌↔◌,
-  ◌++◌,
-  [],
-  ◌∷◌,
-  length,
-  OnOk,
-  OnErr,
-  IsErr,
-};
+ghost use Rattle.std.specs.Prelude.{◌≡◌, ◌+◌, ◌<◌, ◌≤◌, ◌↔◌, ◌++◌, [], ◌∷◌, length, OnOk, OnErr, IsErr};
 ghost use Rattle.rtmfp_vlu.specs.Vlu.{vlu};
 ghost use Rattle.rtmfp_forms.specs.Address.{address_bytes};
 ghost use Rattle.rtmfp_forms.specs.Outgoing.{packet_limit};

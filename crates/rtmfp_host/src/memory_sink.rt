@@ -77,8 +77,7 @@ pub struct FaultySink {
 }
 
 impl FaultySink {
-    ghost use Rattle.rtmfp_host.specs.Memory.{faulty_sink_passed, faulty_sink_written, flush_plan,
-        front_count, passed_count, sink_faults, write_plan};
+    ghost use Rattle.rtmfp_host.specs.Memory.{faulty_sink_passed, faulty_sink_written, flush_plan, front_count, passed_count, sink_faults, write_plan};
 
     /// A sink that has taken nothing, and whose writes and flushes with these numbers fail. A write
     /// that fails takes at most `front` bytes.
@@ -116,8 +115,7 @@ impl FaultySink {
 }
 
 impl Sink for FaultySink {
-    ghost use Rattle.rtmfp_host.specs.Memory.{faulty_sink_passed, faulty_sink_written, flush_plan,
-        front_count, passed_count, sink_faults, write_plan};
+    ghost use Rattle.rtmfp_host.specs.Memory.{faulty_sink_passed, faulty_sink_written, flush_plan, front_count, passed_count, sink_faults, write_plan};
     ghost use Rattle.rtmfp_host.specs.Plan.{fails_now, after_call};
     ghost use Rattle.rtmfp_host.specs.Parts.{first_where};
 

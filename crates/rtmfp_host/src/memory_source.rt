@@ -80,8 +80,7 @@ pub struct FaultySource {
 }
 
 impl FaultySource {
-    ghost use Rattle.rtmfp_host.specs.Memory.{source_left, faulty_source_left, source_plan,
-        source_faults};
+    ghost use Rattle.rtmfp_host.specs.Memory.{source_left, faulty_source_left, source_plan, source_faults};
 
     /// A source that gives what `source` gives, and whose calls with these numbers fail.
     pub fn new(source: MemorySource, failing: Vec<u64>) -> FaultySource
@@ -98,8 +97,7 @@ impl FaultySource {
 }
 
 impl Source for FaultySource {
-    ghost use Rattle.rtmfp_host.specs.Memory.{faulty_source_asked, faulty_source_left, source_plan,
-        source_faults};
+    ghost use Rattle.rtmfp_host.specs.Memory.{faulty_source_asked, faulty_source_left, source_plan, source_faults};
     ghost use Rattle.rtmfp_host.specs.Plan.{fails_now, after_call};
 
     ghost left = { λ s. Some (faulty_source_left s) };

@@ -1,6 +1,5 @@
 -- Reading one line from a source, in whatever pieces it gives.
-use Rattle.std.specs.Prelude.{◌≡◌, ◌≢◌, ℕ, ◌+◌, ◌<◌, ◌≤◌, ◌⊎◌, List, [], ◌∷◌, ◌++◌, length, take,
-    drop, slice_index, Option, Some, None}
+use Rattle.std.specs.Prelude.{◌≡◌, ◌≢◌, ℕ, ◌+◌, ◌<◌, ◌≤◌, ◌⊎◌, List, [], ◌∷◌, ◌++◌, length, take, drop, slice_index, Option, Some, None}
 use Rattle.rtmfp_host.specs.Taking.{Consumes, IsAtEnd}
 use Rattle.rtmfp_lines.specs.declared.lines.Found.{Found}
 use Rattle.rtmfp_lines.specs.declared.lines.Found.TheVariants as found

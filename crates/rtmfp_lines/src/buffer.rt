@@ -21,9 +21,11 @@ impl Model for Buffer {
 
     ghost Value = { Pending };
 
-    ghost view =
-        { λ b. record { bytes = take (b.end - b.start) (drop b.start b.storage.items);
-        room = length b.storage.items - b.end; capacity = length b.storage.items } };
+    ghost view = { λ b. record {
+      bytes = take (b.end - b.start) (drop b.start b.storage.items);
+      room = length b.storage.items - b.end;
+      capacity = length b.storage.items;
+    } };
 
     ghost invariant = { λ b. (b.start ≤ b.end) × (b.end ≤ length b.storage.items) };
 }

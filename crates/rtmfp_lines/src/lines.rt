@@ -78,15 +78,14 @@ pub fn next_line<S: Source, K: Sink>(
         buffer.new.bytes }
     ensures written { Appends (K.written sink.old) (K.written sink.new) [] }
     ensures capacity { buffer.new.capacity ≡ buffer.old.capacity }
-    ensures asks
-        { Asks limit (seen_source (S.left source.old) (S.asked source.old) (S.faults source.old))
+    ensures asks { Asks limit (seen_source (S.left source.old) (S.asked source.old) (S.faults source.old))
         (seen_source (S.left source.new) (S.asked source.new) (S.faults source.new))
         buffer.old.bytes buffer.new.bytes }
     ensures faults { NextFaults result
         (outside (seen_source (S.left source.old) (S.asked source.old) (S.faults source.old))
-          (seen_sink (K.written sink.old) (K.passed sink.old) (K.faults sink.old)))
+        (seen_sink (K.written sink.old) (K.passed sink.old) (K.faults sink.old)))
         (outside (seen_source (S.left source.new) (S.asked source.new) (S.faults source.new))
-          (seen_sink (K.written sink.new) (K.passed sink.new) (K.faults sink.new))) }
+        (seen_sink (K.written sink.new) (K.passed sink.new) (K.faults sink.new))) }
 {
     let mut scanned = 0;
     'reading: loop {

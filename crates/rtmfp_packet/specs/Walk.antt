@@ -1,23 +1,5 @@
 -- The walk over the chunks of a packet.
-use Rattle.std.specs.Prelude.{
-  ℕ,
-  suc,
-  ◌+◌,
-  ◌*◌,
-  ◌==◌,
-  ◌||◌,
-  nat_le,
-  not,
-  Bool,
-  List,
-  [],
-  ◌∷◌,
-  length,
-  take,
-  drop,
-  filter,
-  if◌then◌else◌,
-}
+use Rattle.std.specs.Prelude.{ℕ, suc, ◌+◌, ◌*◌, ◌==◌, ◌||◌, nat_le, not, Bool, List, [], ◌∷◌, length, take, drop, filter, if◌then◌else◌}
 use Rattle.rtmfp_packet.specs.Spelling.{Chunk}
 
 -- what stands behind a head: chunks, and padding

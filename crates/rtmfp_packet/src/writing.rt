@@ -1,14 +1,6 @@
 //! The beginning of a plain packet that goes out.
 ghost use Rattle.std.specs.Prelude.{◌≡◌, ◌≤◌, ◌++◌, length};
-ghost use Rattle.rtmfp_packet.specs.Head.{
-  HeadSpells,
-  IsStamp,
-  head_bytes,
-  head_flags,
-  flag_value,
-  mode_number,
-  stamp_bytes,
-};
+ghost use Rattle.rtmfp_packet.specs.Head.{HeadSpells, IsStamp, head_bytes, head_flags, flag_value, mode_number, stamp_bytes};
 
 use crate::head::{Mode, PacketHead};
 use rtmfp_forms::Outgoing;

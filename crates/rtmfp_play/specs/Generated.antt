@@ -1,12 +1,9 @@
 -- The generated run: eight ends, and steps that a sequence of numbers picks.
-use Rattle.std.specs.Prelude.{ℕ, zero, suc, ◌+◌, ◌-◌, ◌*◌, ◌/◌, ◌%◌, ◌^◌, ◌==◌, ◌≡◌, ◌<◌, ◌⊎◌,
-    nat_lt, List, [], ◌∷◌, ◌++◌, length, slice_index, take, codes, replicate, Option, Some, None,
-    false, if◌then◌else◌}
+use Rattle.std.specs.Prelude.{ℕ, zero, suc, ◌+◌, ◌-◌, ◌*◌, ◌/◌, ◌%◌, ◌^◌, ◌==◌, ◌≡◌, ◌<◌, ◌⊎◌, nat_lt, List, [], ◌∷◌, ◌++◌, length, slice_index, take, codes, replicate, Option, Some, None, false, if◌then◌else◌}
 use Rattle.rtmfp_forms.specs.Address.{AddressParts}
 use Rattle.endpoint_model.specs.declared.entry.Entry.{Entry}
 use Rattle.rendezvous_world.specs.declared.step.Step.{Step}
-use Rattle.rendezvous_world.specs.declared.step.Step.TheVariants.{End, At, Open, Cancel, Deliver,
-    Tick}
+use Rattle.rendezvous_world.specs.declared.step.Step.TheVariants.{End, At, Open, Cancel, Deliver, Tick}
 use Rattle.rendezvous_world.specs.declared.journal.JournalLine.{JournalLine}
 use Rattle.rendezvous_world.specs.Seen.{Seen}
 use Rattle.rendezvous_world.specs.Datagrams.{nth}
@@ -48,8 +45,12 @@ end_step who = End (end_name who) 65536 4096 (end_cert who)
 
 -- its address: 10.0.0.1:1935 for the first
 abbrev pub end_place : ℕ → AddressParts
-end_place who = record { v6 = false; origin = 0; host = 10 ∷ 0 ∷ 0 ∷ (who + 1) ∷ replicate 12 0;
-    port = 1935 }
+end_place who = record {
+  v6 = false;
+  origin = 0;
+  host = 10 ∷ 0 ∷ 0 ∷ (who + 1) ∷ replicate 12 0;
+  port = 1935;
+}
 
 -- the end that has this address, by the last number of its host
 abbrev pub end_at : AddressParts → ℕ
@@ -78,8 +79,8 @@ delivery end number (Some (by, to)) = if nat_lt by end_count then
 abbrev pub delivery_or_tick : List Sent → ℕ → ℕ → Step
 delivery_or_tick sent end back =
     if length sent == 0 then Tick end
-      else delivery end (length sent - back % length sent)
-      (passing (nth sent (length sent - back % length sent)))
+    else delivery end (length sent - back % length sent)
+    (passing (nth sent (length sent - back % length sent)))
 
 abbrev pub picked : Seen → (operation end other back : ℕ) → Step
 picked w operation end other back =

@@ -1,6 +1,5 @@
 -- What `replay` makes of a line of a script.
-use Rattle.std.specs.Prelude.{ℕ, ◌≡◌, ◌≤◌, ◌⊎◌, List, [], map, length, position, slice_get, Option,
-    Some, None}
+use Rattle.std.specs.Prelude.{ℕ, ◌≡◌, ◌≤◌, ◌⊎◌, List, [], map, length, position, slice_get, Option, Some, None}
 use Rattle.std.specs.Str.{bytes_eq}
 use Rattle.rtmfp_text.specs.declared.names.Named.{Named}
 use Rattle.rtmfp_script.specs.declared.line.ScriptLine.{ScriptLine}
@@ -9,12 +8,10 @@ use Rattle.rtmfp_script.specs.Grammar.{IsLineOf, IsSkipped, line_limit}
 use Rattle.rendezvous_world.specs.declared.step.Step.{Step}
 use Rattle.rendezvous_world.specs.declared.step.Step.TheVariants as step
 use Rattle.rendezvous_world.specs.declared.step.StepFault.{StepFault}
-use Rattle.rendezvous_world.specs.declared.step.StepFault.TheVariants.{NoEnd, NoDatagram, BadStep,
-    Forged, Memory}
+use Rattle.rendezvous_world.specs.declared.step.StepFault.TheVariants.{NoEnd, NoDatagram, BadStep, Forged, Memory}
 use Rattle.rendezvous_world.specs.declared.journal.JournalLine.{JournalLine}
 use Rattle.rendezvous_world.specs.declared.journal.Refused.{Refused}
-use Rattle.rendezvous_world.specs.declared.journal.Refused.TheVariants.{Open as OpenRefused,
-    Call as CallRefused}
+use Rattle.rendezvous_world.specs.declared.journal.Refused.TheVariants.{Open as OpenRefused, Call as CallRefused}
 use Rattle.endpoint_laws.specs.Agreed.{IsAgreed}
 use Rattle.rendezvous_world.specs.Seen.{Seen, group_secret, setup_at}
 use Rattle.rendezvous_world.specs.History.{history_of}
@@ -133,7 +130,7 @@ IsBadStep (Some Memory) = ⊥
 pub record IsBadPlay (w : Seen) (line : List ℕ) : Type 0 where
   pub not_skipped : IsSkipped line → length line ≤ line_limit → ⊥
   pub bad : (said : ScriptLine) (step : Step) → IsLineOf line said →
-    step_said (names_of w) said ≡ Some step → IsBadStep (step_fault w step)
+      step_said (names_of w) said ≡ Some step → IsBadStep (step_fault w step)
 
 -- The line says a step that brings a datagram that nobody sent.
 pub record IsForgedPlay (w : Seen) (line : List ℕ) : Type 0 where

@@ -7,8 +7,7 @@ use Rattle.rendezvous_world.specs.declared.step.StepFault.TheVariants.{Forged as
 use Rattle.rendezvous_world.specs.Seen.{Seen}
 use Rattle.rendezvous_world.specs.Faults.{step_fault}
 use Rattle.rendezvous_world.specs.Stepping.{Stepped}
-use Rattle.rtmfp_play.specs.Play.{Plays, HistoryHolds, IsBadPlay, IsForgedPlay, IsBadStep,
-    report_since}
+use Rattle.rtmfp_play.specs.Play.{Plays, HistoryHolds, IsBadPlay, IsForgedPlay, IsBadStep, report_since}
 
 -- of line n
 abbrev pub PlayedAs : Said → Seen → ℕ → List ℕ → Seen → List ℕ → Type 0

@@ -1,12 +1,9 @@
 //! The generated run: eight ends, and steps that a sequence of numbers picks.
-ghost use Rattle.std.specs.Prelude.{◌≡◌, ◌+◌, ◌<◌, ◌≤◌, ◌^◌, ◌++◌, ◌∷◌, [], IfErr, IfOk, OnOk,
-    codes};
+ghost use Rattle.std.specs.Prelude.{◌≡◌, ◌+◌, ◌<◌, ◌≤◌, ◌^◌, ◌++◌, ◌∷◌, [], IfErr, IfOk, OnOk, codes};
 ghost use Rattle.rendezvous_world.specs.Laws.{empty_world};
 ghost use Rattle.rendezvous_world.specs.Sent.{sent_in};
 ghost use Rattle.rendezvous_world.specs.Sound.{AreBelow};
-ghost use Rattle.rtmfp_play.specs.Generated.{Begun, GeneratedEnds, Generates, StopsAtEnd,
-    StopsAtStep, delivery, delivery_or_tick, end_place, end_step, generated_step, next_number,
-    summary_of};
+ghost use Rattle.rtmfp_play.specs.Generated.{Begun, GeneratedEnds, Generates, StopsAtEnd, StopsAtStep, delivery, delivery_or_tick, end_place, end_step, generated_step, next_number, summary_of};
 ghost use Rattle.rtmfp_play.specs.Play.{HistoryHolds};
 ghost use Rattle.rtmfp_lines.specs.Outside.{seen_sink};
 ghost use Rattle.rtmfp_play.specs.Generating.{HandsOver, RunEnds, Summarizes, TakesStep};

@@ -1,8 +1,7 @@
 //! What holds of all lines of scripts, and the values of the generated run a second time. The
 //! functions do nothing: the contract of each is its law.
 ghost use Rattle.std.specs.Prelude.{◌≡◌, ◌∷◌, [], false};
-ghost use Rattle.rtmfp_play.specs.Generated.{end_at, end_cert, end_count, end_name, end_place,
-    number_after};
+ghost use Rattle.rtmfp_play.specs.Generated.{end_at, end_cert, end_count, end_name, end_place, number_after};
 ghost use Rattle.rtmfp_play.specs.Laws.{EachLineIsTold};
 
 /// A line of a script adds one line to the journal, of which it tells, or none, and then it tells

@@ -4,8 +4,7 @@ ghost use Rattle.rendezvous_world.specs.Seen.{group_secret};
 ghost use Rattle.rtmfp_report.specs.EntryText.{entries_text};
 ghost use Rattle.rendezvous_world.specs.Sent.{sent_in};
 ghost use Rattle.rendezvous_world.specs.Sound.{AreBelow};
-ghost use Rattle.rtmfp_play.specs.Play.{name_at, number_of, step_by, step_by_both, step_said,
-    told_next, told_of};
+ghost use Rattle.rtmfp_play.specs.Play.{name_at, number_of, step_by, step_by_both, step_said, told_next, told_of};
 ghost use Rattle.rtmfp_play.specs.Playing.{PlayedAs, SteppedAs};
 
 use crate::said::Said;
@@ -35,8 +34,7 @@ pub(crate) fn play_in(
     requires short { length line.now ≤ LINE_LIMIT }
     requires above { AreBelow world.old.lines number }
     requires fits { number < 2 ^ 32 }
-    ensures played
-        { IfOk result (λ said. PlayedAs said world.old number line.now world.new text.new) }
+    ensures played { IfOk result (λ said. PlayedAs said world.old number line.now world.new text.new) }
     ensures above { IfOk result (λ said. said ≡ Said.Text → AreBelow world.new.lines (number + 1)) }
 {
     text.clear();
@@ -63,8 +61,7 @@ fn take_step(
     requires keys { keys.now ≡ group_secret }
     requires above { AreBelow world.old.lines number }
     requires fits { number < 2 ^ 32 }
-    ensures stepped
-        { IfOk result (λ said. SteppedAs said world.old number step.now world.new text.old
+    ensures stepped { IfOk result (λ said. SteppedAs said world.old number step.now world.new text.old
         text.new) }
     ensures above { IfOk result (λ said. said ≡ Said.Text → AreBelow world.new.lines (number + 1)) }
 {
@@ -121,13 +118,11 @@ fn step_said(alloc: Global, ends: &[Named], said: ScriptLine) -> Result<Option<S
             cert,
         })),
         ScriptLine::At { moment } => Ok(Some(Step::At { moment })),
-        ScriptLine::Open { name, peer, candidates } => open_said(
-            alloc,
-            ends,
-            &name,
-            &peer,
-            candidates.as_slice(),
-        ),
+        ScriptLine::Open {
+            name,
+            peer,
+            candidates,
+        } => open_said(alloc, ends, &name, &peer, candidates.as_slice()),
         ScriptLine::Cancel { name, number } => Ok(cancel_said(ends, &name, number)),
         ScriptLine::Tick { name } => Ok(tick_said(ends, &name)),
         ScriptLine::Deliver { number, name, from } => Ok(deliver_said(ends, number, &name, from)),

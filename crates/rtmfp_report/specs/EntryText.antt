@@ -37,7 +37,7 @@ abbrev pub entries_text : List ℕ → List Named → ℕ → List ℕ → ℕ �
 entries_text secret ends line name sent [] = []
 entries_text secret ends line name sent (entry ∷ entries) =
     entry_text secret ends line name (counted_after sent entry) entry
-      ++ entries_text secret ends line name (counted_after sent entry) entries
+    ++ entries_text secret ends line name (counted_after sent entry) entries
 
 -- how many datagrams were sent after entries, where so many were before
 abbrev pub sent_after : ℕ → List Entry → ℕ

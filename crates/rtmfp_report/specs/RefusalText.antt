@@ -1,11 +1,9 @@
 -- The lines of calls that were refused.
 use Rattle.std.specs.Prelude.{ℕ, List, [], ◌∷◌, codes}
 use Rattle.glare_core.specs.declared.answers.StartRefusal.{StartRefusal}
-use Rattle.glare_core.specs.declared.answers.StartRefusal.TheVariants.{Opening, Open, PeersFull,
-    AttemptsSpent, OwnPrint, Memory as StartMemory}
+use Rattle.glare_core.specs.declared.answers.StartRefusal.TheVariants.{Opening, Open, PeersFull, AttemptsSpent, OwnPrint, Memory as StartMemory}
 use Rattle.endpoint_model.specs.declared.answers.OpenRefusal.{OpenRefusal}
-use Rattle.endpoint_model.specs.declared.answers.OpenRefusal.TheVariants.{Candidates, Start, SessionsFull,
-    Memory as OpenMemory}
+use Rattle.endpoint_model.specs.declared.answers.OpenRefusal.TheVariants.{Candidates, Start, SessionsFull, Memory as OpenMemory}
 use Rattle.endpoint_model.specs.declared.answers.CallRefusal.{CallRefusal}
 use Rattle.endpoint_model.specs.declared.answers.CallRefusal.TheVariants.{NoAttempt, Memory as CallMemory}
 use Rattle.rtmfp_text.specs.Words.{number_field_text, text_of}

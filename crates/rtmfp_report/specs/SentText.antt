@@ -29,4 +29,4 @@ sent_kinds secret context datagram = kinds_in (plain_of (keys_of secret context)
 unfoldable pub sent_text : List ℕ → ℕ → AddressParts → List ℕ → Context → List ℕ
 sent_text secret number to datagram context = text_of (
     number_field_text (codes "sent ") number ∷ codes " " ∷ address_text to ∷ codes " "
-      ∷ kinds_text (sent_kinds secret context datagram) ∷ [])
+    ∷ kinds_text (sent_kinds secret context datagram) ∷ [])

@@ -1,16 +1,22 @@
 -- How many things of each kind ends did, and the line that tells it.
 use Rattle.std.specs.Prelude.{ℕ, ◌+◌, List, [], ◌∷◌, codes}
 use Rattle.glare_core.specs.declared.facts.Fact.{Fact}
-use Rattle.glare_core.specs.declared.facts.Fact.TheVariants.{Started, Born, Opened, Confirmed,
-    Ended}
+use Rattle.glare_core.specs.declared.facts.Fact.TheVariants.{Started, Born, Opened, Confirmed, Ended}
 use Rattle.endpoint_model.specs.declared.entry.Entry.{Entry}
 use Rattle.endpoint_model.specs.declared.entry.Entry.TheVariants.{Fact as FactEntry, Discard, Out}
 use Rattle.rtmfp_text.specs.Words.{number_field_text, text_of}
 use Rattle.rtmfp_report.specs.declared.tally.Tally.{Tally}
 
 abbrev pub nothing_counted : Tally
-nothing_counted = record { sent = 0; started = 0; born = 0; opened = 0; confirmed = 0; ended = 0;
-    dropped = 0 }
+nothing_counted = record {
+  sent = 0;
+  started = 0;
+  born = 0;
+  opened = 0;
+  confirmed = 0;
+  ended = 0;
+  dropped = 0;
+}
 
 -- a fact counts one among those of its kind
 abbrev pub with_fact : Tally → Fact → Tally

@@ -1,7 +1,6 @@
 //! The lines of what ends did.
 ghost use Rattle.std.specs.Prelude.{◌≡◌, ◌++◌, IfOk, OnOk};
-ghost use Rattle.rtmfp_report.specs.EntryText.{counted_after, drop_text, entries_text, entry_text,
-    sent_after, told_text};
+ghost use Rattle.rtmfp_report.specs.EntryText.{counted_after, drop_text, entries_text, entry_text, sent_after, told_text};
 
 use crate::causes::push_cause;
 use crate::facts::push_fact;

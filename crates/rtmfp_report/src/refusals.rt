@@ -1,7 +1,6 @@
 //! The lines of calls that were refused.
 ghost use Rattle.std.specs.Prelude.{◌≡◌, ◌++◌, OnOk};
-ghost use Rattle.rtmfp_report.specs.RefusalText.{call_refusal_text, open_refusal_text, refused_line,
-    start_refusal_text};
+ghost use Rattle.rtmfp_report.specs.RefusalText.{call_refusal_text, open_refusal_text, refused_line, start_refusal_text};
 
 use crate::lines::push_head;
 use endpoint::{CallRefusal, OpenRefusal};

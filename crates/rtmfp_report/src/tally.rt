@@ -1,8 +1,7 @@
 //! How many things of each kind ends did, and the line that tells it.
 ghost use Rattle.std.specs.Prelude.{◌≡◌, ◌+◌, ◌++◌, List, OnOk};
 ghost use Rattle.endpoint_model.specs.declared.entry.Entry.{Entry as EntryType};
-ghost use Rattle.rtmfp_report.specs.Tally.{nothing_counted, summary_text, tally_of, with_entries,
-    with_entry, with_fact};
+ghost use Rattle.rtmfp_report.specs.Tally.{nothing_counted, summary_text, tally_of, with_entries, with_entry, with_fact};
 
 use endpoint::Entry;
 use glare_core::Fact;

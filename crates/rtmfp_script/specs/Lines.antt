@@ -1,45 +1,12 @@
 -- How a line is read, as a function.
-use Rattle.std.specs.Prelude.{
-  ℕ,
-  ◌^◌,
-  nat_le,
-  List,
-  [],
-  length,
-  codes,
-  Option,
-  Some,
-  None,
-  if◌then◌else◌,
-}
+use Rattle.std.specs.Prelude.{ℕ, ◌^◌, nat_le, List, [], length, codes, Option, Some, None, if◌then◌else◌}
 use Rattle.std.specs.Str.{bytes_eq}
 use Rattle.rtmfp_script.specs.declared.line.ScriptLine.{ScriptLine}
-use Rattle.rtmfp_script.specs.declared.line.ScriptLine.TheVariants.{
-  End,
-  At,
-  Open,
-  Cancel,
-  Tick,
-  Deliver,
-  Bent,
-  Inject,
-  Forge,
-}
+use Rattle.rtmfp_script.specs.declared.line.ScriptLine.TheVariants.{End, At, Open, Cancel, Tick, Deliver, Bent, Inject, Forge}
 use Rattle.rtmfp_script.specs.declared.line.Said.{Said}
 use Rattle.rtmfp_script.specs.declared.line.Said.TheVariants.{Nothing, Step, Outside}
 use Rattle.rtmfp_script.specs.Grammar.{IsLineOf, IsSkipped, TakesMemory, line_limit}
-use Rattle.rtmfp_script.specs.Fields.{
-  split_of,
-  name_of,
-  cert_of,
-  number_of,
-  number_below,
-  bytes_of,
-  address_of,
-  addresses_of,
-  either,
-  ◌>>=◌,
-}
+use Rattle.rtmfp_script.specs.Fields.{split_of, name_of, cert_of, number_of, number_below, bytes_of, address_of, addresses_of, either, ◌>>=◌}
 
 -- what stands behind the first word of a line
 unfoldable pub end_of : List ℕ → Option ScriptLine

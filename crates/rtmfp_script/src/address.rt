@@ -1,13 +1,6 @@
 //! Addresses.
 ghost use Rattle.std.specs.Prelude.{◌≡◌, length, slice_index, ◌==◌};
-ghost use Rattle.rtmfp_script.specs.Fields.{
-  address_at,
-  address_of,
-  addresses_of,
-  v4_of,
-  v6_address,
-  v6_of,
-};
+ghost use Rattle.rtmfp_script.specs.Fields.{address_at, address_of, addresses_of, v4_of, v6_address, v6_of};
 
 use crate::bytes::sixteen;
 use crate::fields::{number8, number16, split};

@@ -1,38 +1,9 @@
 //! The fields of a line, each read whole.
-ghost use Rattle.std.specs.Prelude.{
-  ◌≡◌,
-  ◌≤◌,
-  ◌<◌,
-  ◌^◌,
-  ◌*◌,
-  ◌%◌,
-  ◌==◌,
-  ℕ,
-  nat_le,
-  nat_lt,
-  length,
-  Some,
-  None,
-  MatchOption,
-  IfOk,
-  IfSome,
-  Ok,
-};
+ghost use Rattle.std.specs.Prelude.{◌≡◌, ◌≤◌, ◌<◌, ◌^◌, ◌*◌, ◌%◌, ◌==◌, ℕ, nat_le, nat_lt, length, Some, None, MatchOption, IfOk, IfSome, Ok};
 ghost use Rattle.std.specs.Fmt.{decimal};
 ghost use Rattle.std.specs.List.{list_all};
 ghost use Rattle.rtmfp_script.specs.Grammar.{is_name_byte};
-ghost use Rattle.rtmfp_script.specs.Fields.{
-  split_of,
-  is_name,
-  name_of,
-  is_cert,
-  cert_of,
-  with_digit,
-  number_from,
-  is_unwritten,
-  number_of,
-  number_below,
-};
+ghost use Rattle.rtmfp_script.specs.Fields.{split_of, is_name, name_of, is_cert, cert_of, with_digit, number_from, is_unwritten, number_of, number_below};
 
 use identity::Certificate;
 use memchr::memchr;

@@ -1,22 +1,7 @@
 //! Lines that are read.
 ghost use Rattle.std.specs.Prelude.{◌≡◌, ◌↔◌, IsTrue, IfErr, IfOk};
 ghost use Rattle.rtmfp_script.specs.Grammar.{IsLineOf, IsSkipped, TakesMemory};
-ghost use Rattle.rtmfp_script.specs.Lines.{
-  end_of,
-  at_of,
-  open_of,
-  open_to,
-  cancel_of,
-  tick_of,
-  deliver_of,
-  bent_of,
-  inject_of,
-  forge_of,
-  word_of,
-  step_of,
-  StepTakesMemory,
-  Says,
-};
+ghost use Rattle.rtmfp_script.specs.Lines.{end_of, at_of, open_of, open_to, cancel_of, tick_of, deliver_of, bent_of, inject_of, forge_of, word_of, step_of, StepTakesMemory, Says};
 
 use crate::address::{address, addresses};
 use crate::bytes::bytes;

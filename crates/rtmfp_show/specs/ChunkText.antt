@@ -1,28 +1,8 @@
 -- The texts of chunks.
 use Rattle.std.specs.Prelude.{ℕ, List, [], ◌∷◌, codes, map}
-use Rattle.rtmfp_chunks.specs.Chunk.{
-  Chunk,
-  IHello,
-  FIHello,
-  RHello,
-  Redirect,
-  CookieChange,
-  IIKeying,
-  RIKeying,
-  Ping,
-  PingReply,
-  Close,
-  CloseAck,
-  Fragment,
-}
+use Rattle.rtmfp_chunks.specs.Chunk.{Chunk, IHello, FIHello, RHello, Redirect, CookieChange, IIKeying, RIKeying, Ping, PingReply, Close, CloseAck, Fragment}
 use Rattle.rtmfp_chunks.specs.FieldReading.{addresses_in}
-use Rattle.rtmfp_text.specs.Words.{
-  bit_field_text,
-  field_text,
-  list_text,
-  number_field_text,
-  text_of,
-}
+use Rattle.rtmfp_text.specs.Words.{bit_field_text, field_text, list_text, number_field_text, text_of}
 use Rattle.rtmfp_text.specs.AddressText.{address_text}
 
 -- the name and the fields of a chunk

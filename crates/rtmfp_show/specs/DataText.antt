@@ -1,42 +1,12 @@
 -- The texts of the chunks of flows.
-use Rattle.std.specs.Prelude.{
-  ℕ,
-  zero,
-  suc,
-  ◌-◌,
-  Bool,
-  List,
-  [],
-  ◌∷◌,
-  map,
-  codes,
-  decimal,
-  Option,
-  Some,
-  None,
-}
+use Rattle.std.specs.Prelude.{ℕ, zero, suc, ◌-◌, Bool, List, [], ◌∷◌, map, codes, decimal, Option, Some, None}
 use Rattle.std.specs.List.{flat_map}
 use Rattle.rtmfp_forms.specs.Options.{OptionParts}
 use Rattle.rtmfp_data_chunks.specs.declared.user_data.Part.{Part}
 use Rattle.rtmfp_data_chunks.specs.declared.user_data.Part.TheVariants.{Whole, Begin, End, Middle}
-use Rattle.rtmfp_data_chunks.specs.Chunk.{
-  UserParts,
-  DataChunk,
-  Data,
-  Next,
-  AckBitmap,
-  AckRanges,
-  Probe,
-  Exception,
-}
+use Rattle.rtmfp_data_chunks.specs.Chunk.{UserParts, DataChunk, Data, Next, AckBitmap, AckRanges, Probe, Exception}
 use Rattle.rtmfp_data_chunks.specs.Acked.{spans_of_bits, spans_of_pairs}
-use Rattle.rtmfp_text.specs.Words.{
-  bit_field_text,
-  field_text,
-  list_text,
-  number_field_text,
-  text_of,
-}
+use Rattle.rtmfp_text.specs.Words.{bit_field_text, field_text, list_text, number_field_text, text_of}
 
 -- ---- user data
 

@@ -3,17 +3,7 @@ ghost use Rattle.std.specs.Prelude.{◌≡◌, ◌++◌, ◌≤◌, length, OnOk
 ghost use Rattle.rtmfp_packet.specs.Head.{mode_number};
 ghost use Rattle.rtmfp_data_chunks.specs.Spelling.{shown};
 ghost use Rattle.rtmfp_text.specs.Words.{number_text};
-ghost use Rattle.rtmfp_show.specs.ShowText.{
-  FieldsText,
-  FlowText,
-  PacketText,
-  WholeText,
-  flow_text,
-  head_text,
-  malformed_text,
-  padding_text,
-  unknown_text,
-};
+ghost use Rattle.rtmfp_show.specs.ShowText.{FieldsText, FlowText, PacketText, WholeText, flow_text, head_text, malformed_text, padding_text, unknown_text};
 ghost use Rattle.rtmfp_show.specs.ShowLine.{IsNoPacket, ShowsLine};
 ghost use Rattle.rtmfp_show.specs.Adding.{Adds, AddsChunk};
 

@@ -1,16 +1,6 @@
 //! What `show` prints of a chunk: its name and its fields.
 ghost use Rattle.std.specs.Prelude.{◌≡◌, ◌++◌, OnOk, map};
-ghost use Rattle.rtmfp_chunks.specs.Chunk.{
-  Fragment,
-  FIHello,
-  IHello,
-  IIKeying,
-  CookieChange,
-  RHello,
-  RIKeying,
-  Redirect,
-  chunk_of,
-};
+ghost use Rattle.rtmfp_chunks.specs.Chunk.{Fragment, FIHello, IHello, IIKeying, CookieChange, RHello, RIKeying, Redirect, chunk_of};
 ghost use Rattle.rtmfp_chunks.specs.FieldReading.{addresses_in};
 ghost use Rattle.rtmfp_text.specs.Words.{behind_commas, list_text};
 ghost use Rattle.rtmfp_text.specs.AddressText.{address_text};

@@ -1,19 +1,5 @@
 -- The words that texts are made of.
-use Rattle.std.specs.Prelude.{
-  ℕ,
-  Bool,
-  true,
-  false,
-  List,
-  [],
-  ◌∷◌,
-  ◌++◌,
-  codes,
-  decimal,
-  Option,
-  Some,
-  None,
-}
+use Rattle.std.specs.Prelude.{ℕ, Bool, true, false, List, [], ◌∷◌, ◌++◌, codes, decimal, Option, Some, None}
 use Rattle.hex.specs.Hex.{encode_lower}
 
 -- bytes in hexadecimal, and a hyphen for none

@@ -1,13 +1,7 @@
 //! Text that is being made: numbers, bytes in hexadecimal, and words.
 ghost use Rattle.std.specs.Prelude.{◌≡◌, ◌≤◌, ◌++◌, [], length, decimal, OnOk};
 ghost use Rattle.hex.specs.Hex.{encode_lower};
-ghost use Rattle.rtmfp_text.specs.Words.{
-  bit_field_text,
-  bit_text,
-  bytes_text,
-  field_text,
-  number_field_text,
-};
+ghost use Rattle.rtmfp_text.specs.Words.{bit_field_text, bit_text, bytes_text, field_text, number_field_text};
 
 use itoa::Buffer;
 use std::alloc::{AllocError, Global};

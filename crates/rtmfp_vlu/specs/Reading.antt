@@ -1,19 +1,5 @@
 -- The same from left to right: which number bytes begin with, and how many bytes it takes.
-use Rattle.std.specs.Prelude.{
-  ℕ,
-  zero,
-  suc,
-  ◌^◌,
-  List,
-  [],
-  ◌∷◌,
-  take,
-  Result,
-  Ok,
-  Err,
-  nat_lt,
-  if◌then◌else◌,
-}
+use Rattle.std.specs.Prelude.{ℕ, zero, suc, ◌^◌, List, [], ◌∷◌, take, Result, Ok, Err, nat_lt, if◌then◌else◌}
 use Rattle.rtmfp_vlu.specs.declared.reading.VluFault.{VluFault}
 use Rattle.rtmfp_vlu.specs.declared.reading.VluFault.TheVariants.{Short, Large}
 use Rattle.rtmfp_vlu.specs.Vlu.{value}

@@ -1,27 +1,7 @@
 -- Variable-length unsigned integers (RFC 7016 section 2.1.2): seven bits of the number in each
 -- byte, the most significant first, and the high bit set on every byte but the last. Own: at most
 -- ten bytes, and numbers below 2 ^ 64.
-use Rattle.std.specs.Prelude.{
-  ◌≡◌,
-  ◌≢◌,
-  ℕ,
-  zero,
-  suc,
-  ◌+◌,
-  ◌++◌,
-  ◌*◌,
-  ◌/◌,
-  ◌%◌,
-  ◌^◌,
-  ◌<◌,
-  ◌≤◌,
-  ◌⊎◌,
-  List,
-  [],
-  ◌∷◌,
-  length,
-  take,
-}
+use Rattle.std.specs.Prelude.{◌≡◌, ◌≢◌, ℕ, zero, suc, ◌+◌, ◌++◌, ◌*◌, ◌/◌, ◌%◌, ◌^◌, ◌<◌, ◌≤◌, ◌⊎◌, List, [], ◌∷◌, length, take}
 use Rattle.std.specs.List.{AllByRecursion}
 
 -- the low seven bits of each byte, times 128 to the power of the number of bytes after it

@@ -1,20 +1,5 @@
 -- How the words are read, as functions of their texts.
-use Rattle.std.specs.Prelude.{
-  ℕ,
-  ◌==◌,
-  nat_le,
-  Bool,
-  true,
-  false,
-  if◌then◌else◌,
-  List,
-  [],
-  ◌∷◌,
-  codes,
-  Option,
-  Some,
-  None,
-}
+use Rattle.std.specs.Prelude.{ℕ, ◌==◌, nat_le, Bool, true, false, if◌then◌else◌, List, [], ◌∷◌, codes, Option, Some, None}
 use Rattle.std.specs.Str.{bytes_eq}
 use Rattle.rtmfp_script.specs.Fields.{number_of, ◌>>=◌, either, only_if}
 use Rattle.rtmfp_words.specs.declared.option.Setting.{Setting}

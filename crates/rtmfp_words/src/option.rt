@@ -1,14 +1,7 @@
 //! The two options of `replay`.
 ghost use Rattle.std.specs.Prelude.{◌≡◌, map, string_bytes, None, Some, MatchOption};
 ghost use Rattle.rtmfp_script.specs.Fields.{number_of};
-ghost use Rattle.rtmfp_words.specs.Reading.{
-  seed_of,
-  steps_of,
-  setting_of,
-  joined_of,
-  apart_of,
-  option_of,
-};
+ghost use Rattle.rtmfp_words.specs.Reading.{seed_of, steps_of, setting_of, joined_of, apart_of, option_of};
 
 use crate::words::{behind, next_word};
 use rtmfp_script::read_number;

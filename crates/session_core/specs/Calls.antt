@@ -1,11 +1,9 @@
 -- Lists of calls on a session, and its values by such a list. Each list has the newest call first.
-use Rattle.std.specs.Prelude.{◌≡◌, ℕ, ◌+◌, ◌&&◌, List, [], ◌∷◌, Bool, true, nat_le, if◌then◌else◌,
-    Option, None, Some}
+use Rattle.std.specs.Prelude.{◌≡◌, ℕ, ◌+◌, ◌&&◌, List, [], ◌∷◌, Bool, true, nat_le, if◌then◌else◌, Option, None, Some}
 use Rattle.rtmfp_forms.specs.Address.{AddressParts}
 use Rattle.rtmfp_packet.specs.declared.head.PacketHead.{PacketHead}
 use Rattle.session_core.specs.declared.stage.Stage.{Stage}
-use Rattle.session_core.specs.declared.stage.Stage.TheVariants.{Opening, Open, NearClose, FarLinger,
-    Closed}
+use Rattle.session_core.specs.declared.stage.Stage.TheVariants.{Opening, Open, NearClose, FarLinger, Closed}
 use Rattle.session_core.specs.declared.stamps.Stamp.{Stamp}
 use Rattle.session_core.specs.declared.trips.RoundTrip.{RoundTrip}
 use Rattle.session_core.specs.declared.congestion.Congestion.{Congestion}
@@ -14,8 +12,7 @@ use Rattle.session_core.specs.Congestion.{grown, shrunk}
 use Rattle.session_core.specs.Session.{SessionState, confirmed, with_stamps, moved_to}
 use Rattle.session_core.specs.Sealed.{after_seal}
 use Rattle.session_core.specs.Hearing.{after_heard, counted}
-use Rattle.session_core.specs.Closing.{closed_near, asked_to_close, close_answered, first_due,
-    after_due, kept_alive, with_acknowledged, with_loss}
+use Rattle.session_core.specs.Closing.{closed_near, asked_to_close, close_answered, first_due, after_due, kept_alive, with_acknowledged, with_loss}
 
 -- a call on a session, of those that change it
 pub data Call : Type 0 where
@@ -98,8 +95,13 @@ pub record Course : Type 0 where
   pub keepalive : Option ℕ
 
 abbrev pub course_of : SessionState → Course
-course_of s = record { stage = s.stage; since = s.since; taken = s.taken; close_sent = s.close_sent;
-    keepalive = s.keepalive }
+course_of s = record {
+  stage = s.stage;
+  since = s.since;
+  taken = s.taken;
+  close_sent = s.close_sent;
+  keepalive = s.keepalive;
+}
 
 abbrev pub confirms : Stage → Course → Course
 confirms Opening c = record c { stage = Open }
@@ -199,4 +201,4 @@ CourseIsByTheTable = (s : SessionState) (calls : List Call) →
 abbrev pub EndsStay : Type 0
 EndsStay = (s : SessionState) (calls : List Call)
     → ((after_calls s calls).joined ≡ s.joined) × ((after_calls s calls).own ≡ s.own) ×
-      ((after_calls s calls).role ≡ s.role) × ((after_calls s calls).secret ≡ s.secret)
+    ((after_calls s calls).role ≡ s.role) × ((after_calls s calls).secret ≡ s.secret)

@@ -17,8 +17,11 @@ abbrev pub halved : ℕ → ℕ
 halved window = max (window / 2) 4380
 
 abbrev pub shrunk : Bool → Congestion → Congestion
-shrunk by_time c = record { window = if by_time then 4380
-    else halved c.window; threshold = halved c.window }
+shrunk by_time c = record {
+  window = if by_time then 4380
+      else halved c.window;
+  threshold = halved c.window;
+}
 
 -- the window is never smaller than at first, nor greater than 1,048,576
 pub record IsCongestion (c : Congestion) : Type 0 where

@@ -25,8 +25,11 @@ abbrev pub opening : ℕ → SessionState → SessionState
 opening since s = record s { stage = Opening; since = since }
 
 abbrev pub closing : ℕ → ℕ → SessionState → SessionState
-closing since close_sent s = record s { stage = NearClose; since = since;
-    close_sent = Some close_sent }
+closing since close_sent s = record s {
+  stage = NearClose;
+  since = since;
+  close_sent = Some close_sent;
+}
 
 abbrev pub lingering : ℕ → SessionState → SessionState
 lingering since s = record s { stage = FarLinger; since = since }

@@ -1,6 +1,5 @@
 -- Sealed parts heard in a session.
-use Rattle.std.specs.Prelude.{◌≡◌, ◌↔◌, ℕ, List, ◌++◌, length, take, drop, replicate, Bool, true,
-    false, not, ◌&&◌, nat_lt, if◌then◌else◌, IsTrue, Option, None, Some, is_none, Result, Ok, Err}
+use Rattle.std.specs.Prelude.{◌≡◌, ◌↔◌, ℕ, List, ◌++◌, length, take, drop, replicate, Bool, true, false, not, ◌&&◌, nat_lt, if◌then◌else◌, IsTrue, Option, None, Some, is_none, Result, Ok, Err}
 use Rattle.std.specs.Int.{w64, from_be_bytes}
 use Rattle.std.specs.Str.{bytes_eq}
 use Rattle.std.specs.declared.ops.Range.{Range}
@@ -89,14 +88,14 @@ taken_hearing s taken part = if opens_in s part then taken_after taken (count_of
 abbrev pub HearsByTaken : Type 0
 HearsByTaken = (s : SessionState) (taken part : List ℕ) → s.window ≡ kept_of taken
     → (heard_answer s part ≡ heard_by s taken part) ×
-      ((after_heard s part).window ≡ kept_of (taken_hearing s taken part))
+    ((after_heard s part).window ≡ kept_of (taken_hearing s taken part))
 
 -- a part opens exactly where it is the sealed part of a plain packet in the context towards this
 -- end
 abbrev pub OpensSomePlain : Type 0
 OpensSomePlain = (s : SessionState) (part : List ℕ)
     → IsTrue (opens_in s part) ↔ ((plain : List ℕ) ×
-      Opens s.secret (context_of s false) s.joined.near part plain)
+    Opens s.secret (context_of s false) s.joined.near part plain)
 
 -- and then its plain packet is the one that is given
 abbrev pub OpensThisPlain : Type 0

@@ -34,5 +34,5 @@ ContextsMeet = (a b : SessionState) (outward : Bool) → AreEnds a b →
 abbrev pub SealedOpensThere : Type 0
 SealedOpensThere = (a b : SessionState) (plain : List ℕ) → AreEnds a b → a.sealed < 2 ^ 64 - 1
     → (opens_in b (sealed_part a plain) ≡ true) ×
-      (plain_of (inward_keys b) (sealed_part a plain) ≡ plain) ×
-      (count_of (sealed_part a plain) ≡ a.sealed + 1)
+    (plain_of (inward_keys b) (sealed_part a plain) ≡ plain) ×
+    (count_of (sealed_part a plain) ≡ a.sealed + 1)

@@ -1,6 +1,5 @@
 -- Packets of a session sealed.
-use Rattle.std.specs.Prelude.{ℕ, ◌+◌, ◌-◌, ◌^◌, ◌==◌, List, ◌++◌, length, take, drop, replicate,
-    Bool, true, Option, None, Some, if◌then◌else◌}
+use Rattle.std.specs.Prelude.{ℕ, ◌+◌, ◌-◌, ◌^◌, ◌==◌, List, ◌++◌, length, take, drop, replicate, Bool, true, Option, None, Some, if◌then◌else◌}
 use Rattle.std.specs.Int.{w64, to_be_bytes}
 use Rattle.crypto_profile.specs.Sealing.{sealed_in}
 use Rattle.session_core.specs.Session.{SessionState, context_of}

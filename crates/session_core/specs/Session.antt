@@ -3,8 +3,7 @@ use Rattle.std.specs.Prelude.{◌≡◌, ℕ, List, [], Bool, true, false, not, 
 use Rattle.rtmfp_forms.specs.Address.{AddressParts}
 use Rattle.rtmfp_packet.specs.declared.head.PacketHead.{PacketHead}
 use Rattle.rtmfp_packet.specs.declared.head.Mode.{Mode}
-use Rattle.rtmfp_packet.specs.declared.head.Mode.TheVariants.{Initiator as FromInitiator,
-    Responder as FromResponder}
+use Rattle.rtmfp_packet.specs.declared.head.Mode.TheVariants.{Initiator as FromInitiator, Responder as FromResponder}
 use Rattle.crypto_profile.specs.declared.keys.Context.{Context}
 use Rattle.crypto_profile.specs.declared.keys.Context.TheVariants.{Session as SessionContext}
 use Rattle.crypto_profile.specs.Keys.{Keys, keys_of}
@@ -13,8 +12,7 @@ use Rattle.glare_core.specs.declared.facts.Joined.{Joined}
 use Rattle.session_core.specs.declared.stage.Role.{Role}
 use Rattle.session_core.specs.declared.stage.Role.TheVariants.{Initiator, Responder}
 use Rattle.session_core.specs.declared.stage.Stage.{Stage}
-use Rattle.session_core.specs.declared.stage.Stage.TheVariants.{Opening, Open, NearClose, FarLinger,
-    Closed}
+use Rattle.session_core.specs.declared.stage.Stage.TheVariants.{Opening, Open, NearClose, FarLinger, Closed}
 use Rattle.session_core.specs.declared.stamps.Stamp.{Stamp}
 use Rattle.session_core.specs.declared.trips.RoundTrip.{RoundTrip}
 use Rattle.session_core.specs.declared.congestion.Congestion.{Congestion}
@@ -75,18 +73,18 @@ first_stage Initiator = Open
 first_stage Responder = Opening
 
 abbrev pub new_session : Joined → List ℕ → Role → AddressParts → List ℕ → ℕ → SessionState
-new_session joined own role address secret moment = record {
+new_session joined own role address secret begun = record {
   joined = joined;
   own = own;
   role = role;
   secret = secret;
   address = address;
   stage = first_stage role;
-  since = moment;
+  since = begun;
   window = kept_of [];
   sealed = 0;
   stamp = None;
-  taken = moment;
+  taken = begun;
   keepalive = None;
   close_sent = None;
   trip = None;
@@ -132,8 +130,11 @@ head_at s moment = record {
 -- A datagram with this head was taken at a moment: its timestamp is kept, and its echo times a
 -- round trip.
 abbrev pub with_stamps : PacketHead → ℕ → SessionState → SessionState
-with_stamps head moment s = record s { stamp = stamp_after s.stamp head.stamp moment;
-    taken = moment; trip = trip_after s.trip head.echo moment }
+with_stamps head moment s = record s {
+  stamp = stamp_after s.stamp head.stamp moment;
+  taken = moment;
+  trip = trip_after s.trip head.echo moment;
+}
 
 -- ---- the address
 

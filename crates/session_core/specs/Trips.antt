@@ -1,6 +1,5 @@
 -- The times of round trips (after RFC 7016 section 3.5.2.2; the numbers are this project's own).
-use Rattle.std.specs.Prelude.{ℕ, ◌+◌, ◌-◌, ◌*◌, ◌/◌, ◌%◌, max, min, Option, None, Some, nat_lt,
-    if◌then◌else◌}
+use Rattle.std.specs.Prelude.{ℕ, ◌+◌, ◌-◌, ◌*◌, ◌/◌, ◌%◌, max, min, Option, None, Some, nat_lt, if◌then◌else◌}
 use Rattle.session_core.specs.declared.trips.RoundTrip.{RoundTrip}
 use Rattle.session_core.specs.Stamps.{tick_of}
 
@@ -20,8 +19,10 @@ apart a b = (a - b) + (b - a)
 -- the smoothed time and its variation with a sample
 abbrev pub trip_with : Option RoundTrip → ℕ → RoundTrip
 trip_with None sample = record { srtt = sample; var = sample / 2 }
-trip_with (Some t) sample = record { srtt = (7 * t.srtt + sample) / 8;
-    var = (3 * t.var + apart t.srtt sample) / 4 }
+trip_with (Some t) sample = record {
+  srtt = (7 * t.srtt + sample) / 8;
+  var = (3 * t.var + apart t.srtt sample) / 4;
+}
 
 abbrev pub trip_by : Option RoundTrip → Option ℕ → Option RoundTrip
 trip_by trip None = trip

@@ -2,32 +2,25 @@
 //! contract of each states what the definitions that the other contracts cite are there. All
 //! numbers are own but the units of a timestamp (RFC 7016 section 2.2.4).
 
-ghost use Rattle.std.specs.Prelude.{◌≡◌, ◌∷◌, ◌++◌, ◌-◌, ◌^◌, ℕ, List, [], Bool, true, false,
-    Option, Some, None, replicate, length};
+ghost use Rattle.std.specs.Prelude.{◌≡◌, ◌∷◌, ◌++◌, ◌-◌, ◌^◌, ℕ, List, [], Bool, true, false, Option, Some, None, replicate, length};
 ghost use Rattle.rtmfp_forms.specs.Address.{AddressParts};
-ghost use Rattle.rtmfp_packet.specs.declared.head.Mode.TheVariants.{Initiator as FromInitiator,
-    Responder as FromResponder};
+ghost use Rattle.rtmfp_packet.specs.declared.head.Mode.TheVariants.{Initiator as FromInitiator, Responder as FromResponder};
 ghost use Rattle.crypto_profile.specs.declared.keys.Context.TheVariants.{Session as SessionContext};
 ghost use Rattle.glare_core.specs.declared.facts.Joined.{Joined};
-ghost use Rattle.session_core.specs.declared.stage.Stage.TheVariants.{Opening, Open, NearClose,
-    FarLinger, Closed};
-ghost use Rattle.session_core.specs.declared.stage.SessionDue.TheVariants.{Unconfirmed, Idle, Over,
-    RepeatClose};
+ghost use Rattle.session_core.specs.declared.stage.Stage.TheVariants.{Opening, Open, NearClose, FarLinger, Closed};
+ghost use Rattle.session_core.specs.declared.stage.SessionDue.TheVariants.{Unconfirmed, Idle, Over, RepeatClose};
 ghost use Rattle.session_core.specs.declared.stage.Role.{Role};
 ghost use Rattle.session_core.specs.declared.stage.Role.TheVariants.{Initiator, Responder};
 ghost use Rattle.session_core.specs.declared.stamps.Stamp.{Stamp};
 ghost use Rattle.session_core.specs.declared.trips.RoundTrip.{RoundTrip};
-ghost use Rattle.session_core.specs.Session.{SessionState, context_between, head_at, new_session,
-    confirmed, first_stage, mode_of};
-ghost use Rattle.session_core.specs.Closing.{closed_near, asked_to_close, close_answered, first_due,
-    after_due, needs_keepalive, kept_alive};
+ghost use Rattle.session_core.specs.Session.{SessionState, context_between, head_at, new_session, confirmed, first_stage, mode_of};
+ghost use Rattle.session_core.specs.Closing.{closed_near, asked_to_close, close_answered, first_due, after_due, needs_keepalive, kept_alive};
 ghost use Rattle.session_core.specs.Congestion.{first_congestion, grown, shrunk};
 ghost use Rattle.session_core.specs.Stamps.{tick_of, echo_of, stamp_after};
 ghost use Rattle.session_core.specs.Trips.{sample_of, trip_with, trip_after, resend_time};
 ghost use Rattle.session_core.specs.Sealed.{number_bytes, seal_answer, after_seal};
 ghost use Rattle.session_core.specs.Hearing.{is_session_number};
-ghost use Rattle.session_core.specs.Edges.{stamp, trip, congestion, opening, closing, lingering,
-    open_since, at_stage, sealed_before, HasBegun, IsHeadOf};
+ghost use Rattle.session_core.specs.Edges.{stamp, trip, congestion, opening, closing, lingering, open_since, at_stage, sealed_before, HasBegun, IsHeadOf};
 
 /// A timestamp counts 4 ms, modulo 65,536.
 pub fn a_timestamp_counts_4_ms()

@@ -1,8 +1,7 @@
 //! What sessions keep, for callers' proofs. The functions do nothing: the contract of each is its
 //! law.
 
-ghost use Rattle.session_core.specs.Calls.{AddressIsTheLast, CourseIsByTheTable, EndsStay,
-    StampIsTheLast, TakenIsTheLast, TripIsByTheSamples, WindowIsByAcksAndLosses};
+ghost use Rattle.session_core.specs.Calls.{AddressIsTheLast, CourseIsByTheTable, EndsStay, StampIsTheLast, TakenIsTheLast, TripIsByTheSamples, WindowIsByAcksAndLosses};
 ghost use Rattle.session_core.specs.Meeting.{ContextsMeet, SealedOpensThere};
 ghost use Rattle.session_core.specs.Hearing.{HearsByTaken, OpensSomePlain, OpensThisPlain};
 

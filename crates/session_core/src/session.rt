@@ -1,19 +1,14 @@
 //! One end of a session.
 
-ghost use Rattle.std.specs.Prelude.{◌≡◌, ◌↔◌, ◌<◌, ◌^◌, IsTrue, List, ℕ, false, is_none, ◌≤◌,
-    length, IfSome};
+ghost use Rattle.std.specs.Prelude.{◌≡◌, ◌↔◌, ◌<◌, ◌^◌, IsTrue, List, ℕ, false, is_none, ◌≤◌, length, IfSome};
 ghost use Rattle.crypto_profile.specs.Sealing.{Opens};
 ghost use Rattle.glare_core.specs.Calls.{where_true};
-ghost use Rattle.session_core.specs.Session.{SessionState, context_between, context_of, first_stage,
-    new_session, is_opening, confirmed, mode_of, head_at, with_stamps, moved_to};
-ghost use Rattle.session_core.specs.Closing.{is_held, is_near_close, closed_near, asked_to_close,
-    close_answered, first_due, after_due, needs_keepalive, kept_alive, with_acknowledged,
-    with_loss};
+ghost use Rattle.session_core.specs.Session.{SessionState, context_between, context_of, first_stage, new_session, is_opening, confirmed, mode_of, head_at, with_stamps, moved_to};
+ghost use Rattle.session_core.specs.Closing.{is_held, is_near_close, closed_near, asked_to_close, close_answered, first_due, after_due, needs_keepalive, kept_alive, with_acknowledged, with_loss};
 ghost use Rattle.session_core.specs.Congestion.{IsCongestion};
 ghost use Rattle.session_core.specs.Trips.{resend_time};
 ghost use Rattle.session_core.specs.Sealed.{is_spent, seal_answer, after_seal, sealed_into};
-ghost use Rattle.session_core.specs.Hearing.{counted, opens_in, unheard, heard_answer, after_heard,
-    opened};
+ghost use Rattle.session_core.specs.Hearing.{counted, opens_in, unheard, heard_answer, after_heard, opened};
 
 use crate::congestion::{Congestion, first_congestion, grown, shrunk};
 use crate::hearing::{HEAD_LEN, Unheard, count_of, has_session_number, opens_under};
@@ -71,11 +66,24 @@ impl Model for Session {
 
     ghost Value = { SessionState };
 
-    ghost view =
-        { λ s. record { joined = s.joined; own = s.own; role = s.role; secret = s.secret;
-        address = s.address; stage = s.stage; since = s.since; window = s.window; sealed = s.sealed;
-        stamp = s.stamp; taken = s.taken; keepalive = s.keepalive; close_sent = s.close_sent; trip =
-        s.trip; congestion = s.congestion } };
+    ghost view = { λ s. record {
+      joined = s.joined;
+      own = s.own;
+      role = s.role;
+      secret = s.secret;
+      address = s.address;
+      stage = s.stage;
+      since = s.since;
+      window = s.window;
+      sealed = s.sealed;
+      stamp = s.stamp;
+      taken = s.taken;
+      keepalive = s.keepalive;
+      close_sent = s.close_sent;
+      trip =
+          s.trip;
+      congestion = s.congestion;
+    } };
 
     ghost invariant = { λ s. IsKeyed s.secret s.own s.joined s.role s.inward s.outward ×
         IsCongestion s.congestion };

@@ -1,6 +1,5 @@
 -- The attempts of an end: how one begins, goes on from hellos to keyings, and ends.
-use Rattle.std.specs.Prelude.{ℕ, ◌+◌, ◌==◌, Bool, false, nat_lt, if◌then◌else◌, List, [], ◌∷◌, ◌++◌,
-    length, Option, Some, None}
+use Rattle.std.specs.Prelude.{ℕ, ◌+◌, ◌==◌, Bool, false, nat_lt, if◌then◌else◌, List, [], ◌∷◌, ◌++◌, length, Option, Some, None}
 use Rattle.std.specs.List.{find, fold, list_any}
 use Rattle.std.specs.Str.{bytes_eq}
 use Rattle.std.specs.FinMap.{get, insert, remove, entries}
@@ -13,11 +12,9 @@ use Rattle.glare_core.specs.declared.facts.Why.TheVariants.{Cancelled}
 use Rattle.glare_core.specs.declared.facts.Fact.{Fact}
 use Rattle.glare_core.specs.declared.facts.Fact.TheVariants.{Ended}
 use Rattle.glare_core.specs.declared.facts.Held.{Held}
-use Rattle.glare_core.specs.declared.facts.Held.TheVariants.{Opening, HalfOpen, KeptAsResponder,
-    KeptAsInitiator}
+use Rattle.glare_core.specs.declared.facts.Held.TheVariants.{Opening, HalfOpen, KeptAsResponder, KeptAsInitiator}
 use Rattle.glare_core.specs.Ledger.{Ledger, held_with, noted, noted_if}
-use Rattle.glare_core.specs.Calls.{where_true, first_that_stands, started_fact, confirmed_fact,
-    ended_fact}
+use Rattle.glare_core.specs.Calls.{where_true, first_that_stands, started_fact, confirmed_fact, ended_fact}
 use Rattle.startup.specs.declared.attempt.Stage.{Stage}
 use Rattle.startup.specs.declared.attempt.Stage.TheVariants.{Hello, Keying}
 use Rattle.startup.specs.declared.answer.Answer.{Answer}
@@ -57,8 +54,10 @@ with_attempt s near a = record s { attempts = insert s.attempts near a }
 
 -- a fact noted, and the attempt with this near id forgotten
 abbrev pub without_attempt : StartupState → ℕ → Fact → StartupState
-without_attempt s near fact = record s { ledger = noted s.ledger fact;
-    attempts = remove s.attempts near }
+without_attempt s near fact = record s {
+  ledger = noted s.ledger fact;
+  attempts = remove s.attempts near;
+}
 
 -- ---- packets
 
@@ -69,8 +68,11 @@ hello_spread a to = record { to = to; plain = ihello_packet (0x01 ∷ a.peer) a.
 -- the keying of an attempt, to an address with a cookie: under the signature key, with the own
 -- certificate
 abbrev pub keying_signed : List ℕ → List ℕ → ℕ → AttemptState → AddressParts → List ℕ → Answer
-keying_signed key cert near a to cookie = record { to = to; sid = 0;
-    plain = iikeying_signed key near cookie cert a.ni a.n a.peer }
+keying_signed key cert near a to cookie = record {
+  to = to;
+  sid = 0;
+  plain = iikeying_signed key near cookie cert a.ni a.n a.peer;
+}
 
 abbrev pub keying_answer : StartupState → ℕ → AttemptState → AddressParts → List ℕ → Answer
 keying_answer s near a to cookie = keying_signed (sign_key_of s.secret) s.cert near a to cookie
@@ -105,7 +107,7 @@ abbrev pub after_begin : StartupState → List ℕ → List AddressParts → ℕ
     StartupState
 after_begin s peer candidates near ni tag moment =
     with_attempt (with_ledger s (noted s.ledger (started_fact s.ledger peer near ni))) near
-      (begun_attempt s peer candidates ni tag moment)
+    (begun_attempt s peer candidates ni tag moment)
 
 abbrev pub begin_spread : StartupState → List ℕ → List AddressParts → List ℕ → List ℕ → ℕ →
     SpreadParts

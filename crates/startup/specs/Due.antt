@@ -1,6 +1,5 @@
 -- What time makes due of the attempts: their repeats, and their ends.
-use Rattle.std.specs.Prelude.{ℕ, ◌+◌, ◌==◌, ◌||◌, Bool, nat_le, if◌then◌else◌, List, length, Option,
-    Some, None, min}
+use Rattle.std.specs.Prelude.{ℕ, ◌+◌, ◌==◌, ◌||◌, Bool, nat_le, if◌then◌else◌, List, length, Option, Some, None, min}
 use Rattle.rtmfp_forms.specs.Address.{AddressParts}
 use Rattle.crypto_profile.specs.Keys.{sign_key_of}
 use Rattle.glare_core.specs.declared.facts.Why.TheVariants.{Expired}
@@ -8,11 +7,9 @@ use Rattle.rtmfp_base.specs.Counts.{count_where}
 use Rattle.startup.specs.declared.attempt.Stage.{Stage}
 use Rattle.startup.specs.declared.attempt.Stage.TheVariants.{Hello, Keying}
 use Rattle.startup.specs.declared.answer.Due.{Due}
-use Rattle.startup.specs.declared.answer.Due.TheVariants.{Ended as EndDue, Hello as HelloDue,
-    Keying as KeyingDue}
+use Rattle.startup.specs.declared.answer.Due.TheVariants.{Ended as EndDue, Hello as HelloDue, Keying as KeyingDue}
 use Rattle.startup.specs.State.{AttemptState, StartupState}
-use Rattle.startup.specs.Attempts.{lowest, with_attempt, without_attempt, ended_attempt,
-    hello_spread, keying_signed}
+use Rattle.startup.specs.Attempts.{lowest, with_attempt, without_attempt, ended_attempt, hello_spread, keying_signed}
 
 -- how many milliseconds stand before the repeat with this number, from the last sending; the last
 -- of them stays

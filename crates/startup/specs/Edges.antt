@@ -7,8 +7,12 @@ use Rattle.startup.specs.State.{AttemptState, Attempts}
 
 -- 10.0.0.last, port 1935
 abbrev pub v4 : ℕ → ℕ → AddressParts
-v4 origin last = record { v6 = false; origin = origin; host = 10 ∷ 0 ∷ 0 ∷ last ∷ replicate 12 0;
-    port = 1935 }
+v4 origin last = record {
+  v6 = false;
+  origin = origin;
+  host = 10 ∷ 0 ∷ 0 ∷ last ∷ replicate 12 0;
+  port = 1935;
+}
 
 -- an attempt, but with these moments of its start and of its last sending, and after so many
 -- repeats

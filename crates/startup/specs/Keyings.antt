@@ -1,7 +1,6 @@
 -- The keyings that bear and open sessions: how they read, why they are discarded, and what they
 -- make.
-use Rattle.std.specs.Prelude.{ℕ, List, [], ◌∷◌, ◌+◌, ◌-◌, ◌==◌, ◌||◌, Bool, true, false, not,
-    length, drop, Option, Some, None, is_some, is_none, Result, Ok, Err, if◌then◌else◌}
+use Rattle.std.specs.Prelude.{ℕ, List, [], ◌∷◌, ◌+◌, ◌-◌, ◌==◌, ◌||◌, Bool, true, false, not, length, drop, Option, Some, None, is_some, is_none, Result, Ok, Err, if◌then◌else◌}
 use Rattle.std.specs.Str.{bytes_eq}
 use Rattle.std.specs.FinMap.{get, remove}
 use Rattle.sha2.specs.Sha256.{sha256}
@@ -9,8 +8,7 @@ use Rattle.rtmfp_vlu.specs.declared.reading.VluFault.{VluFault}
 use Rattle.rtmfp_vlu.specs.Reading.{number_at}
 use Rattle.rtmfp_forms.specs.Address.{AddressParts}
 use Rattle.rtmfp_chunks.specs.declared.reading.ChunkFault.{ChunkFault}
-use Rattle.rtmfp_chunks.specs.declared.reading.ChunkFault.TheVariants.{Unknown,
-    Malformed as BadField}
+use Rattle.rtmfp_chunks.specs.declared.reading.ChunkFault.TheVariants.{Unknown, Malformed as BadField}
 use Rattle.rtmfp_chunks.specs.Chunk.{Chunk, IIKeying, RIKeying}
 use Rattle.rtmfp_chunks.specs.FieldReading.{chunk_reading}
 use Rattle.cookies.specs.declared.CookieTest.{CookieTest}
@@ -23,19 +21,14 @@ use Rattle.glare_core.specs.declared.facts.Fact.{Fact}
 use Rattle.glare_core.specs.declared.facts.Fact.TheVariants.{Opened}
 use Rattle.glare_core.specs.declared.facts.Joined.{Joined}
 use Rattle.glare_core.specs.declared.facts.Held.{Held}
-use Rattle.glare_core.specs.declared.facts.Held.TheVariants.{Opening, HalfOpen, KeptAsResponder,
-    KeptAsInitiator}
+use Rattle.glare_core.specs.declared.facts.Held.TheVariants.{Opening, HalfOpen, KeptAsResponder, KeptAsInitiator}
 use Rattle.glare_core.specs.declared.answers.Keying.{Keying}
 use Rattle.glare_core.specs.declared.answers.HearRefusal.{HearRefusal}
-use Rattle.glare_core.specs.declared.answers.HearRefusal.TheVariants.{Stale as StaleNumber,
-    Glare as OwnPrevails, PeersFull as NoRow, SessionsFull as NoPlace, Memory as NoMemory}
+use Rattle.glare_core.specs.declared.answers.HearRefusal.TheVariants.{Stale as StaleNumber, Glare as OwnPrevails, PeersFull as NoRow, SessionsFull as NoPlace, Memory as NoMemory}
 use Rattle.glare_core.specs.Ledger.{Ledger, held_with, knows}
-use Rattle.glare_core.specs.Calls.{where_true, first_that_stands, is_born_of, hear_refusal, heard,
-    heard_noted, way_made, born_fact}
+use Rattle.glare_core.specs.Calls.{where_true, first_that_stands, is_born_of, hear_refusal, heard, heard_noted, way_made, born_fact}
 use Rattle.startup.specs.declared.cause.Cause.{Cause}
-use Rattle.startup.specs.declared.cause.Cause.TheVariants.{UnknownChunk, Malformed, NotSelected,
-    NoAttempt, WrongPeer, WrongState, BadCookie, BadSignature, WrongResponder, OwnCertificate,
-    Stale, Glare, PeersFull, SessionsFull}
+use Rattle.startup.specs.declared.cause.Cause.TheVariants.{UnknownChunk, Malformed, NotSelected, NoAttempt, WrongPeer, WrongState, BadCookie, BadSignature, WrongResponder, OwnCertificate, Stale, Glare, PeersFull, SessionsFull}
 use Rattle.startup.specs.declared.answer.Answer.{Answer}
 use Rattle.startup.specs.declared.answer.Keyed.{Keyed}
 use Rattle.startup.specs.declared.answer.Keyed.TheVariants.{Change, Again, Birth}
@@ -43,8 +36,7 @@ use Rattle.startup.specs.declared.attempt.Stage.{Stage}
 use Rattle.startup.specs.declared.attempt.Stage.TheVariants.{Hello, Keying as KeyingStage}
 use Rattle.startup.specs.declared.parts.InitiatorPart.{InitiatorPart}
 use Rattle.startup.specs.declared.parts.ResponderPart.{ResponderPart}
-use Rattle.startup.specs.Packets.{initiator_part_in, responder_part_in, is_signed, rhello_packet,
-    cookiechange_packet, rikeying_packet}
+use Rattle.startup.specs.Packets.{initiator_part_in, responder_part_in, is_signed, rhello_packet, cookiechange_packet, rikeying_packet}
 use Rattle.startup.specs.State.{AttemptState, Attempts, StartupState}
 use Rattle.startup.specs.Attempts.{wide, without_attempt}
 
@@ -101,9 +93,9 @@ abbrev pub formed_initiator : List ℕ → ℕ → List ℕ → List ℕ → Lis
 formed_initiator payload near cookie cert part sign =
     if near == 0 then Err (Malformed 0)
     else if is_some (certificate_fault cert) then
-      Err (Malformed (cert_offset payload (length cookie)))
+    Err (Malformed (cert_offset payload (length cookie)))
     else with_initiator_part (part_offset payload part sign) near cookie cert sign
-      (initiator_part_in part)
+    (initiator_part_in part)
 
 -- no other chunk has the type
 abbrev pub initiator_fields : List ℕ → Result Chunk ChunkFault → Result InitiatorKeying Cause
@@ -124,7 +116,7 @@ with_responder_part at near sign (Some part) = Ok (record { near = near; part = 
 abbrev pub formed_responder : List ℕ → ℕ → List ℕ → List ℕ → Result ResponderKeying Cause
 formed_responder payload near part sign =
     if near == 0 then Err (Malformed 0)
-      else with_responder_part (part_offset payload part sign) near sign (responder_part_in part)
+    else with_responder_part (part_offset payload part sign) near sign (responder_part_in part)
 
 abbrev pub responder_fields : List ℕ → Result Chunk ChunkFault → Result ResponderKeying Cause
 responder_fields payload (Ok (RIKeying near part sign)) = formed_responder payload near part sign
@@ -154,15 +146,22 @@ initiator_hello_cause s epd tag = first_that_stands
 
 -- what answers it: its tag, a new cookie for the address, and the own certificate
 abbrev pub initiator_hello_answer : StartupState → List ℕ → AddressParts → ℕ → Answer
-initiator_hello_answer s tag to now = record { to = to; sid = 0;
-    plain = rhello_packet tag (cookie_of s.cookie_secret to now) s.cert }
+initiator_hello_answer s tag to now = record {
+  to = to;
+  sid = 0;
+  plain = rhello_packet tag (cookie_of s.cookie_secret to now) s.cert;
+}
 
 -- ---- initiators' keyings
 
 -- what a keying says to the ledger
 abbrev pub keying_of : InitiatorKeying → Keying
-keying_of keying = record { peer = sha256 keying.cert; n = keying.part.n; ni = keying.part.ni;
-    far = keying.near }
+keying_of keying = record {
+  peer = sha256 keying.cert;
+  n = keying.part.n;
+  ni = keying.part.ni;
+  far = keying.near;
+}
 
 -- Whether it is the own certificate. Another one with the same fingerprint would count as the own
 -- one, too, since ends are named by their fingerprints; nobody knows such a pair.
@@ -219,13 +218,20 @@ iikeying_cause s payload from now full = cause_by (initiator_cause s payload fro
 -- a new cookie for the address, in place of that of the keying
 abbrev pub change_answer : StartupState → InitiatorKeying → AddressParts → ℕ → Answer
 change_answer s keying from now =
-    record { to = from; sid = keying.near; plain = cookiechange_packet keying.cookie
-      (cookie_of s.cookie_secret from now) }
+    record {
+      to = from;
+      sid = keying.near;
+      plain = cookiechange_packet keying.cookie
+          (cookie_of s.cookie_secret from now);
+    }
 
 -- the responder's keying of a session
 abbrev pub session_answer : StartupState → Joined → AddressParts → Answer
-session_answer s j from = record { to = from; sid = j.far;
-    plain = rikeying_packet s.secret j.near j.nr j.k (sha256 s.cert) j.ni }
+session_answer s j from = record {
+  to = from;
+  sid = j.far;
+  plain = rikeying_packet s.secret j.near j.nr j.k (sha256 s.cert) j.ni;
+}
 
 -- the held session that was born of this very keying
 abbrev pub repeated_session : Option Held → Keying → Option Joined
@@ -238,22 +244,29 @@ repeated_session (Some (KeptAsInitiator j)) keying = None
 -- the session that is born of a keying
 abbrev pub born_session : Ledger → Keying → ℕ → List ℕ → Joined
 born_session l keying near nr =
-    record { peer = keying.peer; n = keying.n; near = near; far = keying.far; ni = keying.ni;
-      nr = nr; k = l.started }
+    record {
+      peer = keying.peer;
+      n = keying.n;
+      near = near;
+      far = keying.far;
+      ni = keying.ni;
+      nr = nr;
+      k = l.started;
+    }
 
 abbrev pub again_or_birth : StartupState → Keying → AddressParts → ℕ → List ℕ → Option Joined →
     Keyed
 again_or_birth s keying from near nr (Some j) = Again (session_answer s j from)
 again_or_birth s keying from near nr None =
     Birth (way_made keying.peer (held_with s.ledger keying.peer))
-      (born_fact s.ledger keying near nr)
+    (born_fact s.ledger keying near nr)
     (session_answer s (born_session s.ledger keying near nr) from)
 
 abbrev pub keyed_with : StartupState → AddressParts → ℕ → ℕ → List ℕ → InitiatorKeying →
     CookieTest → Keyed
 keyed_with s from now near nr keying Current =
     again_or_birth s (keying_of keying) from near nr
-      (repeated_session (held_with s.ledger (sha256 keying.cert)) (keying_of keying))
+    (repeated_session (held_with s.ledger (sha256 keying.cert)) (keying_of keying))
 keyed_with s from now near nr keying Bad = Change (change_answer s keying from now)
 keyed_with s from now near nr keying Moved = Change (change_answer s keying from now)
 keyed_with s from now near nr keying Expired = Change (change_answer s keying from now)
@@ -294,7 +307,7 @@ abbrev pub after_keyed_with : StartupState → ℕ → List ℕ → InitiatorKey
     StartupState
 after_keyed_with s near nr keying Current =
     after_again_or_birth s (keying_of keying) near nr
-      (repeated_session (held_with s.ledger (sha256 keying.cert)) (keying_of keying))
+    (repeated_session (held_with s.ledger (sha256 keying.cert)) (keying_of keying))
 after_keyed_with s near nr keying Bad = s
 after_keyed_with s near nr keying Moved = s
 after_keyed_with s near nr keying Expired = s
@@ -364,8 +377,15 @@ rikeying_cause s near payload = cause_by (responder_cause s near payload)
 -- the session of an attempt that this keying opens
 abbrev pub opened_with : ℕ → ResponderKeying → AttemptState → Fact
 opened_with near keying a =
-    Opened (record { peer = a.peer; n = a.n; near = near; far = keying.near; ni = a.ni;
-      nr = keying.part.nr; k = keying.part.k })
+    Opened (record {
+      peer = a.peer;
+      n = a.n;
+      near = near;
+      far = keying.near;
+      ni = a.ni;
+      nr = keying.part.nr;
+      k = keying.part.k;
+    })
 
 abbrev pub opened_reading : ℕ → Option AttemptState → Result ResponderKeying Cause → Option Fact
 opened_reading near (Some a) (Ok keying) = Some (opened_with near keying a)

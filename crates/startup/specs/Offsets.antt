@@ -9,10 +9,10 @@ abbrev pub CertificateStandsThere : Type 0
 CertificateStandsThere = (id a cookie b cert others : List ℕ) → length id ≡ 4 →
     VluSpells (length cookie) a → VluSpells (length cert) b
     → let payload = id ++ (a ++ (cookie ++ (b ++ (cert ++ others)))) in
-      take (length cert) (drop (cert_offset payload (length cookie)) payload) ≡ cert
+    take (length cert) (drop (cert_offset payload (length cookie)) payload) ≡ cert
 
 -- The part stands at its offset: before the signature, with which the payload ends.
 abbrev pub PartStandsThere : Type 0
 PartStandsThere = (before part sign : List ℕ)
     → let payload = before ++ (part ++ sign) in
-      take (length part) (drop (part_offset payload part sign) payload) ≡ part
+    take (length part) (drop (part_offset payload part sign) payload) ≡ part

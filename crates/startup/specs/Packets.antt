@@ -1,7 +1,6 @@
 -- The plain packets of session startup (own profile over RFC 7016 section 2.3), and the parts of
 -- keying chunks.
-use Rattle.std.specs.Prelude.{ℕ, ◌-◌, ◌==◌, Bool, List, [], ◌∷◌, ◌++◌, length, take, drop, Option,
-    Some, None, if◌then◌else◌}
+use Rattle.std.specs.Prelude.{ℕ, ◌-◌, ◌==◌, Bool, List, [], ◌∷◌, ◌++◌, length, take, drop, Option, Some, None, if◌then◌else◌}
 use Rattle.std.specs.Int.{w64, to_be_bytes, from_be_bytes}
 use Rattle.std.specs.Str.{bytes_eq}
 use Rattle.rtmfp_chunks.specs.Chunk.{Chunk, IHello, RHello, CookieChange, IIKeying, RIKeying}
@@ -40,15 +39,22 @@ responder_part nr k responder ni = nr ++ to_be_bytes w64 k ++ responder ++ ni
 unfoldable pub initiator_part_in : List ℕ → Option InitiatorPart
 initiator_part_in bytes =
     if length bytes == 56 then
-      Some (record { ni = take 16 bytes; n = from_be_bytes w64 (take 8 (drop 16 bytes));
-      responder = drop 24 bytes }) else None
+    Some (record {
+      ni = take 16 bytes;
+      n = from_be_bytes w64 (take 8 (drop 16 bytes));
+      responder = drop 24 bytes;
+    }) else None
 
 -- what such a part of a responder says: it has 72 bytes
 unfoldable pub responder_part_in : List ℕ → Option ResponderPart
 responder_part_in bytes =
     if length bytes == 72
-    then Some (record { nr = take 16 bytes; k = from_be_bytes w64 (take 8 (drop 16 bytes));
-      responder = take 32 (drop 24 bytes); ni = drop 56 bytes })
+    then Some (record {
+      nr = take 16 bytes;
+      k = from_be_bytes w64 (take 8 (drop 16 bytes));
+      responder = take 32 (drop 24 bytes);
+      ni = drop 56 bytes;
+    })
     else None
 
 -- ---- signatures
@@ -76,14 +82,14 @@ unfoldable pub iikeying_signed : List ℕ → ℕ → List ℕ → List ℕ → 
 iikeying_signed key near cookie cert ni n peer =
     startup_packet (
     IIKeying near cookie cert (initiator_part ni n peer)
-      (signature_by key (payload_bytes (IIKeying near cookie cert (initiator_part ni n peer) []))))
+    (signature_by key (payload_bytes (IIKeying near cookie cert (initiator_part ni n peer) []))))
 
 -- the same for a responder's keying
 unfoldable pub rikeying_signed : List ℕ → ℕ → List ℕ → ℕ → List ℕ → List ℕ → List ℕ
 rikeying_signed key near nr k own ni =
     startup_packet (
     RIKeying near (responder_part nr k own ni)
-      (signature_by key (payload_bytes (RIKeying near (responder_part nr k own ni) []))))
+    (signature_by key (payload_bytes (RIKeying near (responder_part nr k own ni) []))))
 
 -- under the group secret: the own session ID, cookie and certificate, the nonce and the number of
 -- the attempt, and the fingerprint of the end that is called

@@ -6,8 +6,13 @@ use Rattle.startup.specs.declared.reading.ResponderFields.{ResponderFields}
 use Rattle.startup.specs.Keyings.{InitiatorKeying, ResponderKeying}
 
 abbrev pub initiator_of : InitiatorFields → InitiatorKeying
-initiator_of fields = record { near = fields.near; cookie = fields.cookie.now; cert = fields.cert;
-    part = fields.part; sign = fields.sign.now }
+initiator_of fields = record {
+  near = fields.near;
+  cookie = fields.cookie.now;
+  cert = fields.cert;
+  part = fields.part;
+  sign = fields.sign.now;
+}
 
 abbrev pub initiator_read : Result InitiatorFields Cause → Result InitiatorKeying Cause
 initiator_read (Ok fields) = Ok (initiator_of fields)

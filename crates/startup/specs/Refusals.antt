@@ -1,7 +1,6 @@
 -- Why a chunk of startup that an end takes would be discarded, by its type and payload: what the
 -- calls for these chunks answer, without making them.
-use Rattle.std.specs.Prelude.{ℕ, ◌-◌, ◌==◌, List, length, Option, Some, None, is_some, Result, Ok,
-    Err, if◌then◌else◌}
+use Rattle.std.specs.Prelude.{ℕ, ◌-◌, ◌==◌, List, length, Option, Some, None, is_some, Result, Ok, Err, if◌then◌else◌}
 use Rattle.rtmfp_forms.specs.Address.{AddressParts}
 use Rattle.rtmfp_chunks.specs.declared.reading.ChunkFault.{ChunkFault}
 use Rattle.rtmfp_chunks.specs.Chunk.{Chunk, RHello, CookieChange}
@@ -18,7 +17,7 @@ use Rattle.startup.specs.Keyings.{fault_cause, iikeying_cause, rikeying_cause}
 abbrev pub rhello_refusal_with : StartupState → List ℕ → List ℕ → List ℕ → List ℕ → Option Cause
 rhello_refusal_with s payload tag cookie cert =
     if is_some (certificate_fault cert) then Some (Malformed (length payload - length cert))
-      else rhello_cause s tag cookie cert
+    else rhello_cause s tag cookie cert
 
 abbrev pub rhello_refusal_reading : StartupState → List ℕ → Result Chunk ChunkFault → Option Cause
 rhello_refusal_reading s payload (Ok (RHello tag cookie cert)) =

@@ -23,8 +23,13 @@ table_of rows = table near_in attempt_in rows
 
 abbrev pub state_of : List ℕ → List ℕ → List ℕ → Ledger → List Row → StartupState
 state_of cert secret cookie_secret ledger rows =
-    record { cert = cert; secret = secret; cookie_secret = cookie_secret; ledger = ledger;
-    attempts = table_of rows }
+    record {
+      cert = cert;
+      secret = secret;
+      cookie_secret = cookie_secret;
+      ledger = ledger;
+      attempts = table_of rows;
+    }
 
 -- What is kept beside the rows is what it should be, and no two rows have one near id.
 pub record IsStartup (cert print secret sign cookie_secret : List ℕ) (ledger : Ledger)

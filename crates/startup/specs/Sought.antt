@@ -30,8 +30,8 @@ IsLowest test rows index = IsChosen (lowest test (table_of rows)) rows index
 pub record IsChanged (old : List Row) (index : ℕ) (change : AttemptState →
     AttemptState) (new : List Row) : Type 0 where
   pub table : (d : Row) →
-    table_of new ≡ insert (table_of old) (slice_index_or old index d).near
-    (change (slice_index_or old index d).attempt)
+      table_of new ≡ insert (table_of old) (slice_index_or old index d).near
+      (change (slice_index_or old index d).attempt)
   pub distinct : len (table_of new) ≡ length new
 
 -- the row at one index is gone

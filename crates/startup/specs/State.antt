@@ -53,8 +53,13 @@ pub record StartupState : Type 0 where
 
 abbrev pub new_startup : List ℕ → List ℕ → List ℕ → ℕ → StartupState
 new_startup cert secret cookie_secret max_peers =
-    record { cert = cert; secret = secret; cookie_secret = cookie_secret;
-      ledger = new_ledger (sha256 cert) max_peers 0; attempts = empty }
+    record {
+      cert = cert;
+      secret = secret;
+      cookie_secret = cookie_secret;
+      ledger = new_ledger (sha256 cert) max_peers 0;
+      attempts = empty;
+    }
 
 -- the peer of the attempt, where there is one
 abbrev pub peer_of_attempt : Option AttemptState → Option (List ℕ)
@@ -67,37 +72,51 @@ pub record IsSound (s : StartupState) : Type 0 where
   pub own : s.ledger.own ≡ sha256 s.cert
   -- each attempt is held with its peer
   pub held : (near : ℕ) (a : AttemptState) → get s.attempts near ≡ Some a →
-    held_with s.ledger a.peer ≡ Some (Opening a.n near a.ni)
+      held_with s.ledger a.peer ≡ Some (Opening a.n near a.ni)
   -- each attempt that is held is there under its near id
   pub there : (peer : List ℕ) (n near : ℕ) (ni : List ℕ) →
-    held_with s.ledger peer ≡ Some (Opening n near ni) →
-    peer_of_attempt (get s.attempts near) ≡ Some peer
+      held_with s.ledger peer ≡ Some (Opening n near ni) →
+      peer_of_attempt (get s.attempts near) ≡ Some peer
 
 -- ---- how these are stored: as the tuples of their fields
 
 abbrev pub spread_code : Coded AddressParts → Coded SpreadParts
 spread_code address =
     code_by (List AddressParts × List ℕ) (coded× (coded_list address) (coded_list coded_ℕ))
-      (λ s. (s.to, s.plain)) (λ p. record { to = p.0; plain = p.1 }) (λ _. refl)
+    (λ s. (s.to, s.plain)) (λ p. record { to = p.0; plain = p.1 }) (λ _. refl)
 
 abbrev pub attempt_code : Coded AddressParts → Coded Stage → Coded AttemptState
 attempt_code address stage =
     code_by (List ℕ × (ℕ × (List ℕ × (List ℕ × (ℕ × (List AddressParts × (Stage × (ℕ × ℕ))))))))
     (coded× (coded_list coded_ℕ) (coded× coded_ℕ
-      (coded× (coded_list coded_ℕ) (coded× (coded_list coded_ℕ)
-      (coded× coded_ℕ (coded× (coded_list address) (coded× stage (coded× coded_ℕ coded_ℕ))))))))
+    (coded× (coded_list coded_ℕ) (coded× (coded_list coded_ℕ)
+    (coded× coded_ℕ (coded× (coded_list address) (coded× stage (coded× coded_ℕ coded_ℕ))))))))
     (λ a. (a.peer, (a.n, (a.ni, (a.tag, (a.start, (a.candidates, (a.stage, (a.last, a.gap)))))))))
-    (λ p. record { peer = p.0; n = p.1.0; ni = p.1.1.0; tag = p.1.1.1.0; start = p.1.1.1.1.0;
-      candidates = p.1.1.1.1.1.0; stage = p.1.1.1.1.1.1.0; last = p.1.1.1.1.1.1.1.0; gap =
-      p.1.1.1.1.1.1.1.1 })
+    (λ p. record {
+      peer = p.0;
+      n = p.1.0;
+      ni = p.1.1.0;
+      tag = p.1.1.1.0;
+      start = p.1.1.1.1.0;
+      candidates = p.1.1.1.1.1.0;
+      stage = p.1.1.1.1.1.1.0;
+      last = p.1.1.1.1.1.1.1.0;
+      gap =
+          p.1.1.1.1.1.1.1.1;
+    })
     (λ _. refl)
 
 abbrev pub startup_code : Coded Ledger → Coded AttemptState → Coded StartupState
 startup_code ledger attempt =
     code_by (List ℕ × (List ℕ × (List ℕ × (Ledger × Attempts))))
     (coded× (coded_list coded_ℕ) (coded× (coded_list coded_ℕ)
-      (coded× (coded_list coded_ℕ) (coded× ledger (code coded_ℕ attempt)))))
+    (coded× (coded_list coded_ℕ) (coded× ledger (code coded_ℕ attempt)))))
     (λ s. (s.cert, (s.secret, (s.cookie_secret, (s.ledger, s.attempts)))))
-    (λ p. record { cert = p.0; secret = p.1.0; cookie_secret = p.1.1.0; ledger = p.1.1.1.0;
-      attempts = p.1.1.1.1 })
+    (λ p. record {
+      cert = p.0;
+      secret = p.1.0;
+      cookie_secret = p.1.1.0;
+      ledger = p.1.1.1.0;
+      attempts = p.1.1.1.1;
+    })
     (λ _. refl)

@@ -1,12 +1,9 @@
 //! What answers the hellos and the keyings of an attempt: a responder's hello, and a change of a
 //! cookie.
 
-ghost use Rattle.std.specs.Prelude.{ℕ, List, ◌≡◌, ◌≤◌, length, Option, None, Some, Err, IfSome,
-    IfNone, IfOk, IfErr, IsOk, OnErr};
+ghost use Rattle.std.specs.Prelude.{ℕ, List, ◌≡◌, ◌≤◌, length, Option, None, Some, Err, IfSome, IfNone, IfOk, IfErr, IsOk, OnErr};
 ghost use Rattle.startup.specs.State.{AttemptState};
-ghost use Rattle.startup.specs.Attempts.{lowest, has_tag, changed, rhello_cause,
-    rhello_keying, after_rhello, answer_keying, after_answer, cookie_change_cause,
-    cookie_change_keying, after_cookie_change, change_keying, after_change};
+ghost use Rattle.startup.specs.Attempts.{lowest, has_tag, changed, rhello_cause, rhello_keying, after_rhello, answer_keying, after_answer, cookie_change_cause, cookie_change_keying, after_cookie_change, change_keying, after_change};
 ghost use Rattle.startup.specs.Judging.{IsFound};
 
 use crate::answer::{Answer, KeyRefusal};
@@ -31,14 +28,11 @@ impl Startup {
         cookie: &[u8],
         cert: &[u8],
     ) -> Result<Found, Cause>
-        ensures found
-            { IfOk result (λ found. IsFound self.now found
+        ensures found { IfOk result (λ found. IsFound self.now found
             (lowest (has_tag tag.now) self.now.attempts)) }
         ensures cookie { IfOk result (λ _. length cookie.now ≤ 128) }
-        ensures none
-            { IfOk result (λ _. rhello_cause self.now tag.now cookie.now cert.now ≡ None) }
-        ensures refused
-            { IfErr result (λ cause. rhello_cause self.now tag.now cookie.now cert.now
+        ensures none { IfOk result (λ _. rhello_cause self.now tag.now cookie.now cert.now ≡ None) }
+        ensures refused { IfErr result (λ cause. rhello_cause self.now tag.now cookie.now cert.now
             ≡ Some cause) }
     {
         let print = Sha256::digest(cert);
@@ -108,10 +102,8 @@ impl Startup {
         ensures found { IfOk result (λ found. IsFound self.now found
             (changed self.now.attempts sid old.now)) }
         ensures cookie { IfOk result (λ _. length new.now ≤ 128) }
-        ensures none
-            { IfOk result (λ _. cookie_change_cause self.now sid old.now new.now ≡ None) }
-        ensures refused
-            { IfErr result (λ cause. cookie_change_cause self.now sid old.now new.now
+        ensures none { IfOk result (λ _. cookie_change_cause self.now sid old.now new.now ≡ None) }
+        ensures refused { IfErr result (λ cause. cookie_change_cause self.now sid old.now new.now
             ≡ Some cause) }
     {
         match changed_index(&self.attempts, sid, old, new) {

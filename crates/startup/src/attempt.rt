@@ -95,9 +95,17 @@ impl Model for Attempt {
 
     ghost coded = { attempt_code address_type.the_row.coded stage_type.the_row.coded };
 
-    ghost view =
-        { λ a. record { peer = a.peer; n = a.n; ni = a.ni; tag = a.tag; start = a.start;
-        candidates = take a.count a.candidates; stage = a.stage; last = a.last; gap = a.gap } };
+    ghost view = { λ a. record {
+      peer = a.peer;
+      n = a.n;
+      ni = a.ni;
+      tag = a.tag;
+      start = a.start;
+      candidates = take a.count a.candidates;
+      stage = a.stage;
+      last = a.last;
+      gap = a.gap;
+    } };
 
     ghost invariant = { λ a. a.count ≤ 16 };
 }

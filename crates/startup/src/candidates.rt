@@ -26,9 +26,7 @@ fn is_same_place(a: &Address, b: &Address) -> bool
 fn has_address(addresses: &[Address], address: &Address) -> bool
     ensures { result ≡ list_any (is_same_place address.now) addresses.now }
 {
-    addresses
-        .iter()
-        .any(|other| is_same_place(address, other))
+    addresses.iter().any(|other| is_same_place(address, other))
 }
 
 /// An address joins the first `count` of these, unless one of them is at its place; how many there

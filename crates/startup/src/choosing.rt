@@ -3,8 +3,7 @@
 ghost use Rattle.std.specs.Prelude.{◌≡◌, ◌≤◌, length, IfOk, IfErr, Some, None};
 ghost use Rattle.std.specs.FinMap.{get, len};
 ghost use Rattle.startup.specs.Rows.{table_of};
-ghost use Rattle.startup.specs.Attempts.{wide, lowest, has_tag, hello_cause, hello_cause_among,
-    changed, if_cookie, change_cause_among};
+ghost use Rattle.startup.specs.Attempts.{wide, lowest, has_tag, hello_cause, hello_cause_among, changed, if_cookie, change_cause_among};
 ghost use Rattle.startup.specs.Sought.{IsChosen};
 
 use crate::attempt::{Attempt, Row, Stage};
@@ -51,15 +50,12 @@ pub(crate) fn answered_index(
     print: &[u8; 32],
 ) -> Result<usize, Cause>
     requires { len (table_of rows.now) ≡ length rows.now }
-    ensures ok
-        { IfOk result (λ index. IsChosen (lowest (has_tag tag.now) (table_of rows.now)) rows.now
+    ensures ok { IfOk result (λ index. IsChosen (lowest (has_tag tag.now) (table_of rows.now)) rows.now
         (Some index)) }
     ensures cookie { IfOk result (λ _. length cookie.now ≤ 128) }
-    ensures cause
-        { IfOk result (λ _. hello_cause_among (table_of rows.now) tag.now cookie.now print.now
+    ensures cause { IfOk result (λ _. hello_cause_among (table_of rows.now) tag.now cookie.now print.now
         ≡ None) }
-    ensures refused
-        { IfErr result (λ cause. hello_cause_among (table_of rows.now) tag.now cookie.now print.now
+    ensures refused { IfErr result (λ cause. hello_cause_among (table_of rows.now) tag.now cookie.now print.now
         ≡ Some cause) }
 {
     match wide(tag) {
@@ -112,14 +108,12 @@ fn chosen_index(rows: &[Row], sid: u32, old: &[u8]) -> Option<usize>
 /// discarded.
 pub(crate) fn changed_index(rows: &[Row], sid: u32, old: &[u8], new: &[u8]) -> Result<usize, Cause>
     requires { len (table_of rows.now) ≡ length rows.now }
-    ensures ok
-        { IfOk result (λ index. IsChosen (changed (table_of rows.now) sid old.now) rows.now
+    ensures ok { IfOk result (λ index. IsChosen (changed (table_of rows.now) sid old.now) rows.now
         (Some index)) }
     ensures cookie { IfOk result (λ _. length new.now ≤ 128) }
     ensures cause { IfOk result (λ _. change_cause_among (table_of rows.now) sid old.now new.now
         ≡ None) }
-    ensures refused
-        { IfErr result (λ cause. change_cause_among (table_of rows.now) sid old.now new.now
+    ensures refused { IfErr result (λ cause. change_cause_among (table_of rows.now) sid old.now new.now
         ≡ Some cause) }
 {
     match wide(old) {

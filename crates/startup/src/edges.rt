@@ -2,8 +2,7 @@
 //! functions do nothing: the contract of each states what the definitions that the other contracts
 //! cite are there. All numbers are own.
 
-ghost use Rattle.std.specs.Prelude.{◌≡◌, ◌∷◌, ◌++◌, ◌+◌, ℕ, List, [], true, false, Option, Some,
-    None, Err, is_none, length, replicate};
+ghost use Rattle.std.specs.Prelude.{◌≡◌, ◌∷◌, ◌++◌, ◌+◌, ℕ, List, [], true, false, Option, Some, None, Err, is_none, length, replicate};
 ghost use Rattle.std.specs.Str.{bytes_eq};
 ghost use Rattle.std.specs.FinMap.{entries, get};
 ghost use Rattle.rtmfp_forms.specs.Address.{AddressParts};
@@ -16,25 +15,14 @@ ghost use Rattle.glare_core.specs.declared.facts.Joined.{Joined};
 ghost use Rattle.glare_core.specs.declared.facts.Why.TheVariants.{Expired as LastedTooLong};
 ghost use Rattle.startup.specs.declared.attempt.Stage.TheVariants.{Hello, Keying};
 ghost use Rattle.startup.specs.declared.cause.Cause.{Cause};
-ghost use Rattle.startup.specs.declared.cause.Cause.TheVariants.{BadCookie, BadSignature, Malformed,
-    NoAttempt, OwnCertificate, SessionsFull as CauseFull, Wide, WrongPeer, WrongResponder,
-    WrongState};
-ghost use Rattle.startup.specs.declared.answer.Due.TheVariants.{Ended as EndDue, Hello as HelloDue,
-    Keying as KeyingDue};
+ghost use Rattle.startup.specs.declared.cause.Cause.TheVariants.{BadCookie, BadSignature, Malformed, NoAttempt, OwnCertificate, SessionsFull as CauseFull, Wide, WrongPeer, WrongResponder, WrongState};
+ghost use Rattle.startup.specs.declared.answer.Due.TheVariants.{Ended as EndDue, Hello as HelloDue, Keying as KeyingDue};
 ghost use Rattle.startup.specs.State.{AttemptState, Attempts, StartupState};
-ghost use Rattle.startup.specs.Attempts.{after_answer, after_change, answered, begun_attempt,
-    change_cause_among, changed, ended_attempt, has_tag, hello_cause, hello_cause_among,
-    keying_signed, lowest, distinct_candidates, recookied, wide, with_attempt, without_attempt};
-ghost use Rattle.startup.specs.Due.{after_due_of, due_of, gap_of, is_over, is_repeat_due,
-    repeat_signed, repeated, sends};
-ghost use Rattle.startup.specs.Keyings.{InitiatorKeying, ResponderKeying, attempt_cause,
-    cert_offset, change_answer, cookie_cause, formed_initiator, formed_responder, heard_cause,
-    initiator_cause, initiator_hello_answer, is_own, keying_of, named_cause, responder_cause,
-    session_answer};
+ghost use Rattle.startup.specs.Attempts.{after_answer, after_change, answered, begun_attempt, change_cause_among, changed, ended_attempt, has_tag, hello_cause, hello_cause_among, keying_signed, lowest, distinct_candidates, recookied, wide, with_attempt, without_attempt};
+ghost use Rattle.startup.specs.Due.{after_due_of, due_of, gap_of, is_over, is_repeat_due, repeat_signed, repeated, sends};
+ghost use Rattle.startup.specs.Keyings.{InitiatorKeying, ResponderKeying, attempt_cause, cert_offset, change_answer, cookie_cause, formed_initiator, formed_responder, heard_cause, initiator_cause, initiator_hello_answer, is_own, keying_of, named_cause, responder_cause, session_answer};
 ghost use Rattle.startup.specs.Refusals.{rhello_refusal_with};
-ghost use Rattle.startup.specs.Packets.{cookiechange_packet, ihello_packet, iikeying_signed,
-    initiator_part, initiator_part_in, is_signed, responder_part, responder_part_in, rhello_packet,
-    rikeying_packet};
+ghost use Rattle.startup.specs.Packets.{cookiechange_packet, ihello_packet, iikeying_signed, initiator_part, initiator_part_in, is_signed, responder_part, responder_part_in, rhello_packet, rikeying_packet};
 ghost use Rattle.startup.specs.Edges.{v4, timed, in_hello, in_keying, AreTwo};
 
 /// What isn't answered is sent again after 1,000, 1,500, 2,250, 3,375 and 5,062 ms, and then after
@@ -95,8 +83,17 @@ pub fn a_repeat_goes_to_all_candidates()
 pub fn an_attempt_begins_with_its_hello()
     ensures begun { (s : StartupState) (peer ni tag : List ℕ) →
         begun_attempt s peer (v4 0 1 ∷ v4 2 1 ∷ []) ni tag 1000
-        ≡ record { peer = peer; n = s.ledger.started + 1; ni = ni; tag = tag; start = 1000;
-        candidates = v4 0 1 ∷ []; stage = Hello; last = 1000; gap = 0 } }
+        ≡ record {
+          peer = peer;
+          n = s.ledger.started + 1;
+          ni = ni;
+          tag = tag;
+          start = 1000;
+          candidates = v4 0 1 ∷ [];
+          stage = Hello;
+          last = 1000;
+          gap = 0;
+        } }
 {}
 
 /// An answer begins the keying stage: its gaps begin anew at 1,000 ms, and the attempt lasts as
@@ -211,8 +208,12 @@ pub fn a_part_of_an_initiator_has_56_bytes()
 pub fn a_part_of_a_responder_has_72_bytes()
     ensures fields { responder_part_in (replicate 16 1 ++ replicate 7 0 ++ 2 ∷ replicate 32 3
         ++ replicate 16 4)
-        ≡ Some (record { nr = replicate 16 1; k = 2; responder = replicate 32 3;
-        ni = replicate 16 4 }) }
+        ≡ Some (record {
+          nr = replicate 16 1;
+          k = 2;
+          responder = replicate 32 3;
+          ni = replicate 16 4;
+        }) }
     ensures short { responder_part_in (replicate 71 1) ≡ None }
     ensures long { responder_part_in (replicate 73 1) ≡ None }
     ensures spelled { responder_part (replicate 16 1) 2 (replicate 32 3) (replicate 16 4)
@@ -304,16 +305,29 @@ pub fn an_answer_needs_the_stage_the_peer_and_the_nonce()
 /// other end named.
 pub fn answers_go_where_they_are_taken()
     ensures hello { (s : StartupState) (tag : List ℕ) (to : AddressParts) (now : ℕ) →
-        initiator_hello_answer s tag to now ≡ record { to = to; sid = 0;
-        plain = rhello_packet tag (cookie_of s.cookie_secret to now) s.cert } }
+        initiator_hello_answer s tag to now ≡ record {
+          to = to;
+          sid = 0;
+          plain = rhello_packet tag (cookie_of s.cookie_secret to now) s.cert;
+        } }
     ensures keying { (key cert : List ℕ) (near : ℕ) (a : AttemptState) (to : AddressParts)
         (cookie : List ℕ) → keying_signed key cert near a to cookie
-        ≡ record { to = to; sid = 0; plain = iikeying_signed key near cookie cert a.ni a.n
-        a.peer } }
+        ≡ record {
+          to = to;
+          sid = 0;
+          plain = iikeying_signed key near cookie cert a.ni a.n
+              a.peer;
+        } }
     ensures change { (s : StartupState) (keying : InitiatorKeying) (from : AddressParts) (now : ℕ) →
-        change_answer s keying from now ≡ record { to = from; sid = keying.near;
-        plain = cookiechange_packet keying.cookie (cookie_of s.cookie_secret from now) } }
+        change_answer s keying from now ≡ record {
+          to = from;
+          sid = keying.near;
+          plain = cookiechange_packet keying.cookie (cookie_of s.cookie_secret from now);
+        } }
     ensures again { (s : StartupState) (j : Joined) (from : AddressParts) →
-        session_answer s j from ≡ record { to = from; sid = j.far;
-        plain = rikeying_packet s.secret j.near j.nr j.k (sha256 s.cert) j.ni } }
+        session_answer s j from ≡ record {
+          to = from;
+          sid = j.far;
+          plain = rikeying_packet s.secret j.near j.nr j.k (sha256 s.cert) j.ni;
+        } }
 {}

@@ -1,8 +1,7 @@
 //! What a keying is found to be before anything changes, and what it then does. Each is read, and
 //! its signature and cookie are tested, once.
 
-ghost use Rattle.std.specs.Prelude.{ℕ, List, [], ◌∷◌, Option, ◌≡◌, length, IfOk, IfErr, IfSome,
-    OnErr, IsTrue, Ok, Some, None};
+ghost use Rattle.std.specs.Prelude.{ℕ, List, [], ◌∷◌, Option, ◌≡◌, length, IfOk, IfErr, IfSome, OnErr, IsTrue, Ok, Some, None};
 ghost use Rattle.std.specs.FinMap.{get, len};
 ghost use Rattle.std.specs.Option.{option_copied};
 ghost use Rattle.sha2.specs.Sha256.{sha256};
@@ -10,9 +9,7 @@ ghost use Rattle.cookies.specs.declared.CookieTest.TheVariants.{Current};
 ghost use Rattle.cookies.specs.Cookie.{cookie_test};
 ghost use Rattle.glare_core.specs.Account.{Gave};
 ghost use Rattle.glare_core.specs.Calls.{where_true, is_born_of};
-ghost use Rattle.startup.specs.Keyings.{keying_of, is_own, heard_cause, named_cause, keyed_with,
-    after_keyed_with, needs_row_with, keyed_facts, repeated_session, iikeying_cause, is_in_hello,
-    attempt_cause, responder_cause, rikeying_cause, opened_with, after_opening};
+ghost use Rattle.startup.specs.Keyings.{keying_of, is_own, heard_cause, named_cause, keyed_with, after_keyed_with, needs_row_with, keyed_facts, repeated_session, iikeying_cause, is_in_hello, attempt_cause, responder_cause, rikeying_cause, opened_with, after_opening};
 ghost use Rattle.startup.specs.Packets.{is_signed};
 ghost use Rattle.startup.specs.Judging.{unless_cause, again_or_new, hearing, judged_initiator};
 ghost use Rattle.startup.specs.Read.{initiator_of, responder_of};
@@ -23,7 +20,7 @@ use crate::answer::{KeyRefusal, Keyed};
 use crate::attempt::{Attempt, Row, Stage};
 use crate::cause::Cause;
 use crate::choosing::wide;
-use crate::leaving::{leave_at, index_of};
+use crate::leaving::{index_of, leave_at};
 use crate::parts::is_signed;
 use crate::reading::{
     InitiatorFields, ResponderFields, read_initiator_keying, read_responder_keying,
@@ -247,8 +244,7 @@ impl Startup {
             IsTrue (needs_row_with self.old (initiator_of fields.now)
             (cookie_test self.old.cookie_secret fields.now.cookie.now from.now moment))) }
         ensures err { OnErr result (self.new ≡ self.old) }
-        ensures gave
-            { IfOk result (λ answer. Gave self.old.ledger (keyed_facts answer) self.new.ledger) }
+        ensures gave { IfOk result (λ answer. Gave self.old.ledger (keyed_facts answer) self.new.ledger) }
     {
         match hearing {
             Hearing::Change => Ok(Keyed::Change(self.change_answer(fields, from, moment))),

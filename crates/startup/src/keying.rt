@@ -1,17 +1,13 @@
 //! The keyings that bear and open sessions, and the hellos that an end answers (RFC 7016 section
 //! 3.5.1).
 
-ghost use Rattle.std.specs.Prelude.{[], ◌∷◌, ◌≡◌, ◌≢◌, ◌≤◌, length, true, false, IfOk, IfErr,
-    IfSome, IfNone, IsOkAnd, IsTrue, OnErr, Ok, Err, Some, None};
+ghost use Rattle.std.specs.Prelude.{[], ◌∷◌, ◌≡◌, ◌≢◌, ◌≤◌, length, true, false, IfOk, IfErr, IfSome, IfNone, IsOkAnd, IsTrue, OnErr, Ok, Err, Some, None};
 ghost use Rattle.std.specs.Option.{option_copied};
 ghost use Rattle.sha2.specs.Sha256.{sha256};
 ghost use Rattle.glare_core.specs.Ledger.{held_with, knows};
 ghost use Rattle.glare_core.specs.Account.{Gave};
 ghost use Rattle.glare_core.specs.Calls.{hear_refusal};
-ghost use Rattle.startup.specs.Keyings.{selects, initiator_hello_cause, initiator_hello_answer,
-    iikeying_cause, change_answer, session_answer, repeated_session, again_or_birth,
-    after_again_or_birth, keyed, after_keying, needs_row, keyed_facts, opening_id, rikeying_cause,
-    opened, after_opening};
+ghost use Rattle.startup.specs.Keyings.{selects, initiator_hello_cause, initiator_hello_answer, iikeying_cause, change_answer, session_answer, repeated_session, again_or_birth, after_again_or_birth, keyed, after_keying, needs_row, keyed_facts, opening_id, rikeying_cause, opened, after_opening};
 ghost use Rattle.startup.specs.Read.{initiator_of};
 
 use crate::answer::{Answer, KeyRefusal, Keyed};
@@ -130,8 +126,7 @@ impl Startup {
         ensures memory { IfErr result (λ refusal. (refusal ≡ KeyRefusal.Memory) ×
             (knows self.old.ledger keying.now.peer ≡ false)) }
         ensures err { OnErr result (self.new ≡ self.old) }
-        ensures gave
-            { IfOk result (λ answer. Gave self.old.ledger (keyed_facts answer) self.new.ledger) }
+        ensures gave { IfOk result (λ answer. Gave self.old.ledger (keyed_facts answer) self.new.ledger) }
     {
         let session = Joined {
             peer: keying.peer,
@@ -187,8 +182,7 @@ impl Startup {
             (IfErr result (λ refusal. (refusal ≡ KeyRefusal.Memory) ×
             IsTrue (needs_row self.old payload.now from.now moment))) }
         ensures err { OnErr result (self.new ≡ self.old) }
-        ensures gave
-            { IfOk result (λ answer. Gave self.old.ledger (keyed_facts answer) self.new.ledger) }
+        ensures gave { IfOk result (λ answer. Gave self.old.ledger (keyed_facts answer) self.new.ledger) }
     {
         let fields = match read_initiator_keying(payload) {
             Ok(fields) => fields,

@@ -6,9 +6,7 @@ ghost use Rattle.std.specs.Int.{w64, to_be_bytes};
 ghost use Rattle.rtmfp_forms.specs.Outgoing.{packet_limit};
 ghost use Rattle.rtmfp_chunks.specs.Chunk.{chunk_of, IIKeying, RIKeying};
 ghost use Rattle.rtmfp_chunks.specs.Writing.{IsWritable, payload_bytes};
-ghost use Rattle.startup.specs.Packets.{startup_packet, ihello_packet, rhello_packet,
-    cookiechange_packet, initiator_part, responder_part, signature_by, iikeying_signed,
-    rikeying_signed};
+ghost use Rattle.startup.specs.Packets.{startup_packet, ihello_packet, rhello_packet, cookiechange_packet, initiator_part, responder_part, signature_by, iikeying_signed, rikeying_signed};
 
 use crypto_profile::hmac;
 use rtmfp_chunks::{ChunkView, write_chunk};
@@ -34,11 +32,7 @@ fn packet_of(view: &ChunkView<'_>) -> Outgoing
 }
 
 /// The request to open a session (RFC 7016 section 2.3.2).
-#[tactic(
-    auto,
-    using(crate::proofs::Sizes::ihello_length),
-    unfolding(crate::specs::Packets::ihello_packet)
-)]
+#[tactic(auto, using(crate::proofs::Sizes::ihello_length), unfolding(crate::specs::Packets::ihello_packet))]
 pub(crate) fn ihello_packet(epd: &[u8], tag: &[u8]) -> Outgoing
     requires epd { length epd.now ≤ 128 }
     requires tag { length tag.now ≤ 128 }
@@ -48,11 +42,7 @@ pub(crate) fn ihello_packet(epd: &[u8], tag: &[u8]) -> Outgoing
 }
 
 /// The answer to a request (RFC 7016 section 2.3.4).
-#[tactic(
-    auto,
-    using(crate::proofs::Sizes::rhello_length),
-    unfolding(crate::specs::Packets::rhello_packet)
-)]
+#[tactic(auto, using(crate::proofs::Sizes::rhello_length), unfolding(crate::specs::Packets::rhello_packet))]
 pub(crate) fn rhello_packet(tag: &[u8], cookie: &[u8], cert: &[u8]) -> Outgoing
     requires tag { length tag.now ≤ 128 }
     requires cookie { length cookie.now ≤ 128 }
@@ -63,11 +53,7 @@ pub(crate) fn rhello_packet(tag: &[u8], cookie: &[u8], cert: &[u8]) -> Outgoing
 }
 
 /// A new cookie in place of one that isn't good any more (RFC 7016 section 2.3.6).
-#[tactic(
-    auto,
-    using(crate::proofs::Sizes::cookiechange_length),
-    unfolding(crate::specs::Packets::cookiechange_packet)
-)]
+#[tactic(auto, using(crate::proofs::Sizes::cookiechange_length), unfolding(crate::specs::Packets::cookiechange_packet))]
 pub(crate) fn cookiechange_packet(old: &[u8], new: &[u8]) -> Outgoing
     requires old { length old.now ≤ 128 }
     requires new { length new.now ≤ 128 }

@@ -2,8 +2,7 @@
 //! keyings (own profile).
 
 ghost use Rattle.std.specs.Prelude.{◌≡◌, ◌≤◌, IfSome, length};
-ghost use Rattle.startup.specs.Packets.{initiator_part, responder_part, initiator_part_in,
-    responder_part_in, is_signed_by};
+ghost use Rattle.startup.specs.Packets.{initiator_part, responder_part, initiator_part_in, responder_part_in, is_signed_by};
 
 use crypto_profile::{hmac, same_bytes};
 

@@ -2,8 +2,7 @@
 //! they carry).
 
 ghost use Rattle.std.specs.Prelude.{◌≡◌, ◌≤◌, IfOk, length, max};
-ghost use Rattle.startup.specs.Keyings.{behind_vlu, cert_offset, part_offset, fault_cause,
-    initiator_keying_in, formed_initiator, responder_keying_in, formed_responder};
+ghost use Rattle.startup.specs.Keyings.{behind_vlu, cert_offset, part_offset, fault_cause, initiator_keying_in, formed_initiator, responder_keying_in, formed_responder};
 ghost use Rattle.startup.specs.Read.{initiator_read, responder_read};
 
 use crate::cause::Cause;

@@ -1,8 +1,7 @@
 //! Why a chunk would be discarded, without taking it.
 
 ghost use Rattle.std.specs.Prelude.{◌≡◌};
-ghost use Rattle.startup.specs.Refusals.{rhello_refusal_with, rhello_refusal, cookie_change_refusal,
-    refusal};
+ghost use Rattle.startup.specs.Refusals.{rhello_refusal_with, rhello_refusal, cookie_change_refusal, refusal};
 ghost use Rattle.startup.specs.Attempts.{rhello_cause, cookie_change_cause};
 
 use crate::cause::Cause;

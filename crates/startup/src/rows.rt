@@ -7,8 +7,7 @@ ghost use Rattle.startup.specs.Rows.{near_in, attempt_in, table_of};
 ghost use Rattle.startup.specs.Attempts.{has_cookie, answered, recookied};
 ghost use Rattle.startup.specs.Due.{gap_of, is_over, is_repeat_due, repeated};
 ghost use Rattle.startup.specs.Sought.{fits, IsLowest, IsChanged, IsGone};
-ghost use Rattle.std.specs.Prelude.{ℕ, List, [], ◌∷◌, ◌++◌, Some, slice_index_or, vec_len,
-    vec_capacity};
+ghost use Rattle.std.specs.Prelude.{ℕ, List, [], ◌∷◌, ◌++◌, Some, slice_index_or, vec_len, vec_capacity};
 ghost use Rattle.glare_core.specs.declared.facts.Held.TheVariants.{Opening};
 ghost use Rattle.glare_core.specs.Ledger.{held_with, noted};
 ghost use Rattle.glare_core.specs.Calls.{MayEnd};
