@@ -26,7 +26,7 @@ IsReport names before sent [] text = text ≡ []
 IsReport names before sent (line ∷ lines) text =
     (there : ℕ) × (rest : List ℕ) × (before ≤ there) × (line.end < there) × (there ≤ length names)
     × (text ≡ told_of (take there names) sent line line.refused ++ rest) ×
-      IsReport names there (sent + count_in line) lines rest
+    IsReport names there (sent + count_in line) lines rest
 
 -- What is written of a script is the report of the journal that its lines leave: no line of the
 -- journal is left out, and nothing else is written.
@@ -46,8 +46,8 @@ AreSame (Playing w) (Playing t) = AreSameWorlds w t
 abbrev pub EachScriptHasOneRun : Type 0
 EachScriptHasOneRun =
     (n : ℕ) (doing left other : Doing) (lines : List (List ℕ)) (text words : List ℕ) →
-      Runs n doing lines left text → Runs n doing lines other words → AreSame left other ×
-      (text ≡ words)
+    Runs n doing lines left text → Runs n doing lines other words → AreSame left other ×
+    (text ≡ words)
 
 pub record Limits : Type 0 where
   pub lines : max_lines ≡ 1000000

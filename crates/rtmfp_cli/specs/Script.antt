@@ -1,12 +1,27 @@
 -- How a run over the lines of a source ends, and what it has written then.
-use Rattle.std.specs.Prelude.{◌≡◌, ℕ, ◌+◌, ◌≤◌, ◌⊎◌, List, [], ◌∷◌, ◌++◌, length, take, Option,
-    Some, IfSome}
+use Rattle.std.specs.Prelude.{
+  ◌≡◌,
+  ℕ,
+  ◌+◌,
+  ◌≤◌,
+  ◌⊎◌,
+  List,
+  [],
+  ◌∷◌,
+  ◌++◌,
+  length,
+  take,
+  Option,
+  Some,
+  IfSome,
+}
 use Rattle.std.specs.List.{AllByRecursion}
 use Rattle.rtmfp_host.specs.Writing.{Appends}
 use Rattle.rtmfp_cli.specs.declared.doing.Doing.{Doing}
 use Rattle.rtmfp_lines.specs.declared.status.Status.{Status}
 use Rattle.rtmfp_lines.specs.declared.status.Status.TheVariants as status
-use Rattle.rtmfp_lines.specs.Outside.{Outside, Settled, SinkFailed, SourceFailed, SourceSeen}
+use Rattle.rtmfp_host.specs.Seen.{SourceSeen}
+use Rattle.rtmfp_lines.specs.Outside.{Outside, Settled, SinkFailed, SourceFailed}
 use Rattle.rtmfp_lines.specs.Lines.{lines_of, whole_lines}
 use Rattle.rtmfp_cli.specs.Doing.{Does, Holds, IsBadLine, IsForgedLine, limit_of}
 
@@ -21,7 +36,7 @@ abbrev pub Runs : ℕ → Doing → List (List ℕ) → Doing → List ℕ → T
 Runs n doing [] left text = (left ≡ doing) × (text ≡ [])
 Runs n doing (line ∷ lines) left text =
     (middle : Doing) × (first : List ℕ) × (rest : List ℕ) × Does doing n line middle first ×
-      Runs (n + 1) middle lines left rest × (text ≡ first ++ rest)
+    Runs (n + 1) middle lines left rest × (text ≡ first ++ rest)
 
 -- these first lines were done, their text was written, and nothing else; what they leave holds
 pub record HasDone (doing : Doing) (before after : Outside) (lines : List (List ℕ)) : Type 0 where
@@ -45,7 +60,7 @@ abbrev pub WasNeeded : Doing → List (List ℕ) → (taken rest : List ℕ) →
 WasNeeded doing lines taken rest asked = (taken ≡ []) ⊎
     ((front : List ℕ) × (got : List ℕ) × (later : List (List ℕ))
     × (taken ≡ front ++ got) × (asked ≡ Some (got ++ rest)) × (lines ≡ whole_lines front ++ later) ×
-      AreWithin doing front)
+    AreWithin doing front)
 
 -- what was taken from the source of a script, of which these lines were done
 pub record HasTaken (doing : Doing) (script : List ℕ) (lines : List (List ℕ)) (after : SourceSeen)
@@ -112,7 +127,7 @@ pub record TakenDone (doing : Doing) (script : List ℕ) (before after : Outside
 abbrev pub IsPartOfNext : Doing → ℕ → List (List ℕ) → List ℕ → Type 0
 IsPartOfNext doing n more part =
     (part ≡ []) ⊎ ((line : List ℕ) × (later : List (List ℕ)) × (left : Doing) × (text : List ℕ) ×
-      (k : ℕ)
+    (k : ℕ)
     × (more ≡ line ∷ later) × Does doing n line left text × (part ≡ take k text))
 
 -- the text of the first lines was written, and perhaps a part of that of the next
@@ -149,7 +164,7 @@ EndsWhere P doing status.SinkFault before after = SinkFailed before after ×
     Told before (λ script. CutShort doing script before after)
 EndsWhere P doing status.SourceFault before after =
     SourceFailed before after × (after.sink.passed ≡ after.sink.written) ×
-      Told before (λ script. TakenDone doing script before after)
+    Told before (λ script. TakenDone doing script before after)
 EndsWhere P doing status.ScriptLong before after = P before after ×
     Told before (λ script. TooMany doing script before after)
 

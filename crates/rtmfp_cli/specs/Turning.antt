@@ -1,6 +1,7 @@
 -- What one turn of a run does: one line is read and done.
-use Rattle.std.specs.Prelude.{◌≡◌, ℕ, ◌≤◌, ◌⊎◌, List, [], ◌∷◌, ◌++◌, length, take, Option, IfSome}
+use Rattle.std.specs.Prelude.{◌≡◌, ℕ, ◌≤◌, ◌⊎◌, List, [], ◌∷◌, ◌++◌, length, take, IfSome}
 use Rattle.rtmfp_host.specs.Faults.{Rose}
+use Rattle.rtmfp_host.specs.Seen.{SinkSeen}
 use Rattle.rtmfp_host.specs.Taking.{Consumes, IsAtEnd}
 use Rattle.rtmfp_host.specs.Writing.{Appends}
 use Rattle.rtmfp_cli.specs.declared.doing.Doing.{Doing}
@@ -61,13 +62,13 @@ NextLine P after bytes = IfSome after.source.left (λ rest.
 abbrev pub StopsBefore : (List ℕ → Type 0) → ℕ → Outside → Outside → List ℕ → Type 0
 StopsBefore P limit before after old =
     NothingFailed before after × ((bytes : List ℕ) × DoesNone limit before after old bytes ×
-      NextLine P after bytes)
+    NextLine P after bytes)
 
 -- nothing more is done, and the source failed where more was needed
 abbrev pub StopsReading : ℕ → Outside → Outside → List ℕ → Type 0
 StopsReading limit before after old =
     SourceFailed before after × (after.sink.passed ≡ after.sink.written) ×
-      ((bytes : List ℕ) × DoesNone limit before after old bytes × IsPart limit bytes)
+    ((bytes : List ℕ) × DoesNone limit before after old bytes × IsPart limit bytes)
 
 -- a part of the text of the next line is written, or nothing
 pub record DoesPart (doing : Doing) (n : ℕ) (before after : Outside) (old : List ℕ) : Type 0 where
@@ -75,7 +76,7 @@ pub record DoesPart (doing : Doing) (n : ℕ) (before after : Outside) (old : Li
   pub part : List ℕ
   pub takes : Takes (limit_of doing) before after old bytes
   pub next : (part ≡ []) ⊎ ((left : Doing) × (text : List ℕ) × (k : ℕ) × (part ≡ take k text) ×
-    NextLine (λ line. Does doing n line left text) after bytes)
+      NextLine (λ line. Does doing n line left text) after bytes)
   pub written : Appends before.sink.written after.sink.written part
   pub failed : SinkFailed before after
 
@@ -95,21 +96,20 @@ Turned (Ended status.SourceFault) doing left n before after old new =
     StopsReading (limit_of doing) before after old
 Turned (Ended status.ScriptLong) doing left n before after old new = ⊥
 
--- what doing line n writes to the sink, and how often the sink has failed before and after it
-abbrev pub Printed : Turn → Doing → Doing → ℕ → List ℕ → (before after : Option (List ℕ)) →
-    (faults later : ℕ) → Type 0
-Printed Went doing left n line before after faults later = (text : List ℕ) ×
-    Does doing n line left text × Appends before after text × (later ≡ faults)
-Printed (Ended (status.BadScript m)) doing left n line before after faults later = (m ≡ n) ×
-    IsBadLine doing n line × (after ≡ before) × (later ≡ faults)
-Printed (Ended (status.Forged m)) doing left n line before after faults later = (m ≡ n) ×
-    IsForgedLine doing n line × (after ≡ before) × (later ≡ faults)
-Printed (Ended status.SinkFault) doing left n line before after faults later =
-    (text : List ℕ) × (k : ℕ) × Does doing n line left text × Appends before after (take k text) ×
-      Rose faults later
-Printed (Ended status.Memory) doing left n line before after faults later = (after ≡ before) ×
-    (later ≡ faults)
-Printed (Ended other) doing left n line before after faults later = ⊥
+-- what doing line n makes of the sink
+abbrev pub Printed : Turn → Doing → Doing → ℕ → List ℕ → SinkSeen → SinkSeen → Type 0
+Printed Went doing left n line before after = (text : List ℕ) × Does doing n line left text ×
+    Appends before.written after.written text × (after.faults ≡ before.faults)
+Printed (Ended (status.BadScript m)) doing left n line before after = (m ≡ n) ×
+    IsBadLine doing n line × (after.written ≡ before.written) × (after.faults ≡ before.faults)
+Printed (Ended (status.Forged m)) doing left n line before after = (m ≡ n) ×
+    IsForgedLine doing n line × (after.written ≡ before.written) × (after.faults ≡ before.faults)
+Printed (Ended status.SinkFault) doing left n line before after =
+    (text : List ℕ) × (k : ℕ) × Does doing n line left text ×
+    Appends before.written after.written (take k text) × Rose before.faults after.faults
+Printed (Ended status.Memory) doing left n line before after =
+    (after.written ≡ before.written) × (after.faults ≡ before.faults)
+Printed (Ended other) doing left n line before after = ⊥
 
 -- How a source ends of which as many lines were done as it may have. There no byte may stand.
 abbrev pub Closed : RunStatus → Outside → Outside → List ℕ → Type 0

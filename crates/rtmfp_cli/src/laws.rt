@@ -1,6 +1,10 @@
 //! What holds of all runs over lines. The functions do nothing: the contract of each is its law.
-ghost use Rattle.rtmfp_cli.specs.Laws.{EachScriptHasOneRun, EachTextIsTheReport, EveryRunHolds,
-    Limits};
+ghost use Rattle.rtmfp_cli.specs.Laws.{
+  EachScriptHasOneRun,
+  EachTextIsTheReport,
+  EveryRunHolds,
+  Limits,
+};
 
 /// No run of a script leaves two ends that keep different sessions with each other: its history is
 /// lawful, honest and fresh, and so it is agreed.

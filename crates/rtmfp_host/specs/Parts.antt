@@ -1,6 +1,20 @@
 -- What was passed on is a first part of what was taken.
-use Rattle.std.proofs.Common.{ℕ, Bool, true, false, List, [], take, drop, sym, append-nil, Option,
-    Some, None, if◌then◌else◌}
+use Rattle.std.proofs.Common.{
+  ℕ,
+  Bool,
+  true,
+  false,
+  List,
+  [],
+  take,
+  drop,
+  sym,
+  append-nil,
+  Option,
+  Some,
+  None,
+  if◌then◌else◌,
+}
 use Rattle.std.proofs.lemmas.List.{take-append-drop}
 use Rattle.rtmfp_host.specs.Writing.{IsFirstPart}
 

@@ -1,13 +1,32 @@
 -- Reading one line from a source, in whatever pieces it gives.
-use Rattle.std.specs.Prelude.{◌≡◌, ◌≢◌, ℕ, ◌+◌, ◌<◌, ◌≤◌, ◌⊎◌, List, [], ◌∷◌, ◌++◌, length, take,
-    drop, slice_index, Option, Some, None}
+use Rattle.std.specs.Prelude.{
+  ◌≡◌,
+  ◌≢◌,
+  ℕ,
+  ◌+◌,
+  ◌<◌,
+  ◌≤◌,
+  ◌⊎◌,
+  List,
+  [],
+  ◌∷◌,
+  ◌++◌,
+  length,
+  take,
+  drop,
+  slice_index,
+  Option,
+  Some,
+  None,
+}
 use Rattle.rtmfp_host.specs.Taking.{Consumes, IsAtEnd}
 use Rattle.rtmfp_lines.specs.declared.lines.Found.{Found}
 use Rattle.rtmfp_lines.specs.declared.lines.Found.TheVariants as found
 use Rattle.rtmfp_lines.specs.declared.lines.Next.{Next}
 use Rattle.rtmfp_lines.specs.declared.lines.Next.TheVariants as next
 use Rattle.rtmfp_lines.specs.Lines.{NoLf}
-use Rattle.rtmfp_lines.specs.Outside.{Outside, SourceSeen, NothingFailed, SourceFailed, SinkFailed}
+use Rattle.rtmfp_host.specs.Seen.{SourceSeen}
+use Rattle.rtmfp_lines.specs.Outside.{Outside, NothingFailed, SourceFailed, SinkFailed}
 
 -- a line of so many bytes stands in front, and its LF
 pub record StartsWithLine (limit : ℕ) (bytes : List ℕ) (len : ℕ) : Type 0 where
@@ -24,7 +43,7 @@ IsTooLong limit bytes = (limit < length bytes) × NoLf (take (limit + 1) bytes)
 abbrev pub IsPart : ℕ → List ℕ → Type 0
 IsPart limit bytes = (length bytes ≤ limit) × NoLf bytes
 
--- the first LF stands at this place, or nowhere
+-- the first LF stands at this index, or nowhere
 abbrev pub IsFirstLf : List ℕ → Option ℕ → Type 0
 IsFirstLf bytes None = NoLf bytes
 IsFirstLf bytes (Some i) = (i < length bytes) × NoLf (take i bytes) × (slice_index bytes i ≡ 10)

@@ -2,8 +2,16 @@
 use Rattle.std.specs.Prelude.{ℕ, List, [], ◌∷◌, codes, decimal}
 use Rattle.rtmfp_text.specs.Words.{text_of}
 use Rattle.rtmfp_lines.specs.declared.status.Status.{Status as RunStatus}
-use Rattle.rtmfp_lines.specs.declared.status.Status.TheVariants.{Done, Memory, BadWords, BadScript,
-    Forged, SinkFault, SourceFault, ScriptLong}
+use Rattle.rtmfp_lines.specs.declared.status.Status.TheVariants.{
+  Done,
+  Memory,
+  BadWords,
+  BadScript,
+  Forged,
+  SinkFault,
+  SourceFault,
+  ScriptLong,
+}
 
 abbrev pub status_code : RunStatus → ℕ
 status_code Done = 0

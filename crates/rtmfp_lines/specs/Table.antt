@@ -2,8 +2,16 @@
 -- on standard error.
 use Rattle.std.specs.Prelude.{◌≡◌, ℕ, List, [], ◌++◌, codes, decimal}
 use Rattle.rtmfp_lines.specs.declared.status.Status.{Status as RunStatus}
-use Rattle.rtmfp_lines.specs.declared.status.Status.TheVariants.{Done, Memory, BadWords, BadScript,
-    Forged, SinkFault, SourceFault, ScriptLong}
+use Rattle.rtmfp_lines.specs.declared.status.Status.TheVariants.{
+  Done,
+  Memory,
+  BadWords,
+  BadScript,
+  Forged,
+  SinkFault,
+  SourceFault,
+  ScriptLong,
+}
 use Rattle.rtmfp_lines.specs.Status.{complaint, status_code}
 
 abbrev pub EndsAs : RunStatus → ℕ → List ℕ → Type 0
