@@ -4,7 +4,8 @@ use Rattle.rtmfp_host.specs.Faults.{Rose}
 use Rattle.rtmfp_host.specs.Writing.{Appends}
 use Rattle.rtmfp_lines.specs.declared.status.Status.{Status as RunStatus}
 use Rattle.rtmfp_lines.specs.declared.status.Status.TheVariants as status
-use Rattle.rtmfp_lines.specs.Outside.{NothingFailed, Outside, Settled, SinkFailed, SinkSeen, outside}
+use Rattle.rtmfp_host.specs.Seen.{SinkSeen}
+use Rattle.rtmfp_lines.specs.Outside.{NothingFailed, Outside, Settled, SinkFailed, outside}
 use Rattle.rtmfp_lines.specs.Lines.{lines_of}
 use Rattle.rtmfp_lines.proofs.Streams.{appends_still}
 use Rattle.rtmfp_cli.specs.declared.doing.Doing.{Doing}

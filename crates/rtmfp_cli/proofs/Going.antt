@@ -8,7 +8,8 @@ use Rattle.rtmfp_host.specs.Writing.{Appends}
 use Rattle.rtmfp_lines.specs.declared.status.Status.{Status as RunStatus}
 use Rattle.rtmfp_lines.specs.declared.status.Status.TheVariants as status
 use Rattle.rtmfp_cli.specs.declared.script_run.Turn.TheVariants.{Ended}
-use Rattle.rtmfp_lines.specs.Outside.{NothingFailed, Outside, SinkFailed, SourceFailed, SourceSeen}
+use Rattle.rtmfp_host.specs.Seen.{SourceSeen}
+use Rattle.rtmfp_lines.specs.Outside.{NothingFailed, Outside, SinkFailed, SourceFailed}
 use Rattle.rtmfp_lines.specs.Lines.{NoLf, lines_of, whole_lines}
 use Rattle.rtmfp_lines.specs.Reading.{IsPart}
 use Rattle.rtmfp_cli.specs.declared.doing.Doing.{Doing}
@@ -354,7 +355,7 @@ stops_on Kind first doing start now after n old bytes going ahead none next fits
     record {
       lines = going.handled;
       line = line.0;
-      stops = record { more = line.1; split = known.lines ∙ ap (λ ls. going.handled ++ ls) line.2; place = omega (arith, going.count) };
+      stops = record { more = line.1; split = known.lines ∙ ap (λ ls. going.handled ++ ls) line.2; number = omega (arith, going.count) };
       within = fits;
       took = has_taken first doing start now after n old bytes script [] going.handled going ahead known (sym (append-nil going.handled));
       has = record { left = doing; text = going.text; ran = going.ran; holds = going.holds; written = appends_still start.sink.written now.sink.written after.sink.written going.text going.written none };
@@ -370,7 +371,7 @@ too_many first doing start now after old bytes going ahead none next =
     record {
       lines = going.handled;
       line = line.0;
-      stops = record { more = line.1; split = known.lines ∙ ap (λ ls. going.handled ++ ls) line.2; place = ap (λ k. k + 1) going.count };
+      stops = record { more = line.1; split = known.lines ∙ ap (λ ls. going.handled ++ ls) line.2; number = ap (λ k. k + 1) going.count };
       took = has_taken first doing start now after max_lines old bytes script [] going.handled going ahead known (sym (append-nil going.handled));
       has = done_so_far first doing start now after max_lines old going none;
     })

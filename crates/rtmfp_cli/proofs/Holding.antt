@@ -1,5 +1,5 @@
 -- What lines leave holds.
-use Rattle.std.proofs.Common.{◌≡◌, ℕ, ◌+◌, List, [], ◌∷◌, inl, inr, sym, subst}
+use Rattle.std.proofs.Common.{ℕ, ◌+◌, List, [], ◌∷◌, inl, inr, sym, subst}
 use Rattle.rendezvous_world.specs.Seen.{Seen}
 use Rattle.rendezvous_world.specs.Laws.{empty_world}
 use Rattle.rendezvous_world.proofs.Keeping.{new_world}
@@ -14,9 +14,6 @@ use Rattle.rtmfp_cli.specs.Script.{Runs}
 -- a run begins with a world that holds
 pub empty_holds : HistoryHolds empty_world
 empty_holds = record { sound = every_world_is_sound empty_world new_world; agreed = agreed empty_world new_world }
-
-pub holds_first : (w : Seen) → w ≡ empty_world → HistoryHolds w
-holds_first w e = subst HistoryHolds (sym e) empty_holds
 
 plays_holds : (w : Seen) (n : ℕ) (line : List ℕ) (t : Seen) (text : List ℕ) → HistoryHolds w → Plays w n line t text → HistoryHolds t
 plays_holds w n line t text holds plays =

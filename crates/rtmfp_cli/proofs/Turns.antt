@@ -8,7 +8,8 @@ use Rattle.rtmfp_lines.specs.declared.status.Status.{Status as RunStatus}
 use Rattle.rtmfp_lines.specs.declared.status.Status.TheVariants as status
 use Rattle.rtmfp_cli.specs.declared.script_run.Turn.{Turn}
 use Rattle.rtmfp_cli.specs.declared.script_run.Turn.TheVariants.{Went, Ended}
-use Rattle.rtmfp_lines.specs.Outside.{NothingFailed, Outside, SinkFailed, SinkSeen, SourceFailed, outside}
+use Rattle.rtmfp_host.specs.Seen.{SinkSeen}
+use Rattle.rtmfp_lines.specs.Outside.{NothingFailed, Outside, SinkFailed, SourceFailed, outside}
 use Rattle.rtmfp_lines.specs.Lines.{NoLf, lines_of}
 use Rattle.rtmfp_lines.specs.Reading.{Asks, HasRead, IsPart, StartsWithLine, IsTooLong}
 use Rattle.rtmfp_cli.specs.declared.doing.Doing.{Doing}
@@ -60,7 +61,7 @@ next_whole P None limit len bytes starts p = tt
 next_whole P (Some rest) limit len bytes starts p = (take len bytes, lines_of (drop (len + 1) bytes ++ rest), whole_line limit len bytes rest starts, p)
 
 pub line_turned : (turn : Turn) (doing left : Doing) (n limit len : ℕ) (before mid : Outside) (sink : SinkSeen) (old bytes : List ℕ) → Between (limit_of doing) before mid old bytes → NothingFailed before mid →
-    limit ≡ limit_of doing → StartsWithLine limit bytes len → Printed turn doing left n (take len bytes) mid.sink.written sink.written mid.sink.faults sink.faults → Turned turn doing left n before (outside mid.source sink) old (drop (len + 1) bytes)
+    limit ≡ limit_of doing → StartsWithLine limit bytes len → Printed turn doing left n (take len bytes) mid.sink sink → Turned turn doing left n before (outside mid.source sink) old (drop (len + 1) bytes)
 line_turned Went doing left n limit len before mid sink old bytes between still e starts printed =
     let after = outside mid.source sink in
     let whole : Takes (limit_of doing) before after old (take len bytes ++ 10 ∷ drop (len + 1) bytes) =
@@ -115,7 +116,7 @@ one_done doing left n line text lines e does =
     subst P (sym e) (left, text, [], does, (refl, refl), sym (append-nil text))
 
 pub last_done : (doing left : Doing) (n : ℕ) (before mid : Outside) (sink : SinkSeen) (old bytes : List ℕ) → Between (limit_of doing) before mid old bytes → NothingFailed before mid → IsPart (limit_of doing) bytes → bytes ≢ [] →
-    IsAtEnd mid.source.left → Printed Went doing left n bytes mid.sink.written sink.written mid.sink.faults sink.faults → DoesRest doing n before (outside mid.source sink) old
+    IsAtEnd mid.source.left → Printed Went doing left n bytes mid.sink sink → DoesRest doing n before (outside mid.source sink) old
 last_done doing left n before mid sink old bytes between still part some end printed =
     record {
       bytes = bytes;
@@ -131,7 +132,7 @@ last_done doing left n before mid sink old bytes between still part some end pri
     }
 
 pub last_turned : (s : RunStatus) (doing left : Doing) (n : ℕ) (before mid : Outside) (sink : SinkSeen) (old bytes new : List ℕ) → Between (limit_of doing) before mid old bytes → NothingFailed before mid → NoLf bytes → bytes ≢ [] →
-    IsAtEnd mid.source.left → Printed (Ended s) doing left n bytes mid.sink.written sink.written mid.sink.faults sink.faults → Turned (Ended s) doing left n before (outside mid.source sink) old new
+    IsAtEnd mid.source.left → Printed (Ended s) doing left n bytes mid.sink sink → Turned (Ended s) doing left n before (outside mid.source sink) old new
 last_turned status.Done doing left n before mid sink old bytes new between still free some end printed = absurd printed
 last_turned status.Memory doing left n before mid sink old bytes new between still free some end printed =
     (calm before mid sink still printed.1, (bytes, none_written (limit_of doing) before mid sink old bytes between printed.0))

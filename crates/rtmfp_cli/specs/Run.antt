@@ -4,7 +4,8 @@ use Rattle.rtmfp_host.specs.Faults.{Rose}
 use Rattle.rtmfp_host.specs.Writing.{Appends}
 use Rattle.rtmfp_lines.specs.declared.status.Status.{Status as RunStatus}
 use Rattle.rtmfp_lines.specs.declared.status.Status.TheVariants.{Done, Memory, BadWords, BadScript, Forged, SinkFault, SourceFault, ScriptLong}
-use Rattle.rtmfp_lines.specs.Outside.{Settled, SinkSeen}
+use Rattle.rtmfp_host.specs.Seen.{SinkSeen}
+use Rattle.rtmfp_lines.specs.Outside.{Settled}
 
 -- all that the sink held was passed on, and the status stays; or the sink failed there
 pub record PassesOn (status result : RunStatus) (before after : SinkSeen) : Type 0 where

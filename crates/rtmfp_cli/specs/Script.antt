@@ -5,7 +5,8 @@ use Rattle.rtmfp_host.specs.Writing.{Appends}
 use Rattle.rtmfp_cli.specs.declared.doing.Doing.{Doing}
 use Rattle.rtmfp_lines.specs.declared.status.Status.{Status}
 use Rattle.rtmfp_lines.specs.declared.status.Status.TheVariants as status
-use Rattle.rtmfp_lines.specs.Outside.{Outside, Settled, SinkFailed, SourceFailed, SourceSeen}
+use Rattle.rtmfp_host.specs.Seen.{SourceSeen}
+use Rattle.rtmfp_lines.specs.Outside.{Outside, Settled, SinkFailed, SourceFailed}
 use Rattle.rtmfp_lines.specs.Lines.{lines_of, whole_lines}
 use Rattle.rtmfp_cli.specs.Doing.{Does, Holds, IsBadLine, IsForgedLine, limit_of}
 

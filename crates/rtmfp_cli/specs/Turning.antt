@@ -1,6 +1,7 @@
 -- What one turn of a run does: one line is read and done.
-use Rattle.std.specs.Prelude.{◌≡◌, ℕ, ◌≤◌, ◌⊎◌, List, [], ◌∷◌, ◌++◌, length, take, Option, IfSome}
+use Rattle.std.specs.Prelude.{◌≡◌, ℕ, ◌≤◌, ◌⊎◌, List, [], ◌∷◌, ◌++◌, length, take, IfSome}
 use Rattle.rtmfp_host.specs.Faults.{Rose}
+use Rattle.rtmfp_host.specs.Seen.{SinkSeen}
 use Rattle.rtmfp_host.specs.Taking.{Consumes, IsAtEnd}
 use Rattle.rtmfp_host.specs.Writing.{Appends}
 use Rattle.rtmfp_cli.specs.declared.doing.Doing.{Doing}
@@ -95,21 +96,20 @@ Turned (Ended status.SourceFault) doing left n before after old new =
     StopsReading (limit_of doing) before after old
 Turned (Ended status.ScriptLong) doing left n before after old new = ⊥
 
--- what doing line n writes to the sink, and how often the sink has failed before and after it
-abbrev pub Printed : Turn → Doing → Doing → ℕ → List ℕ → (before after : Option (List ℕ)) →
-    (faults later : ℕ) → Type 0
-Printed Went doing left n line before after faults later = (text : List ℕ) ×
-    Does doing n line left text × Appends before after text × (later ≡ faults)
-Printed (Ended (status.BadScript m)) doing left n line before after faults later = (m ≡ n) ×
-    IsBadLine doing n line × (after ≡ before) × (later ≡ faults)
-Printed (Ended (status.Forged m)) doing left n line before after faults later = (m ≡ n) ×
-    IsForgedLine doing n line × (after ≡ before) × (later ≡ faults)
-Printed (Ended status.SinkFault) doing left n line before after faults later =
-    (text : List ℕ) × (k : ℕ) × Does doing n line left text × Appends before after (take k text) ×
-    Rose faults later
-Printed (Ended status.Memory) doing left n line before after faults later = (after ≡ before) ×
-    (later ≡ faults)
-Printed (Ended other) doing left n line before after faults later = ⊥
+-- what doing line n makes of the sink
+abbrev pub Printed : Turn → Doing → Doing → ℕ → List ℕ → SinkSeen → SinkSeen → Type 0
+Printed Went doing left n line before after = (text : List ℕ) × Does doing n line left text ×
+    Appends before.written after.written text × (after.faults ≡ before.faults)
+Printed (Ended (status.BadScript m)) doing left n line before after = (m ≡ n) ×
+    IsBadLine doing n line × (after.written ≡ before.written) × (after.faults ≡ before.faults)
+Printed (Ended (status.Forged m)) doing left n line before after = (m ≡ n) ×
+    IsForgedLine doing n line × (after.written ≡ before.written) × (after.faults ≡ before.faults)
+Printed (Ended status.SinkFault) doing left n line before after =
+    (text : List ℕ) × (k : ℕ) × Does doing n line left text ×
+    Appends before.written after.written (take k text) × Rose before.faults after.faults
+Printed (Ended status.Memory) doing left n line before after =
+    (after.written ≡ before.written) × (after.faults ≡ before.faults)
+Printed (Ended other) doing left n line before after = ⊥
 
 -- How a source ends of which as many lines were done as it may have. There no byte may stand.
 abbrev pub Closed : RunStatus → Outside → Outside → List ℕ → Type 0

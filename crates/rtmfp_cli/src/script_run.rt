@@ -1,7 +1,7 @@
 //! A run over the lines of a source: each is read, done and its text written before the next.
 ghost use Rattle.std.specs.Prelude.{◌≡◌, ◌*◌, ◌+◌, ◌-◌, ◌<◌, ◌≤◌, ◌^◌, length};
 ghost use Rattle.rtmfp_cli.specs.Doing.{Holds, IsNext, limit_of};
-ghost use Rattle.rtmfp_lines.specs.Outside.{NothingFailed, outside, seen_sink, seen_source};
+ghost use Rattle.rtmfp_lines.specs.Outside.{NothingFailed, outside};
 ghost use Rattle.rtmfp_cli.specs.Script.{EndsWhere};
 ghost use Rattle.rtmfp_cli.specs.Turning.{Closed, Printed, Turned};
 
@@ -35,8 +35,8 @@ fn do_line<K: Sink>(
 ) -> Turn
     requires fits { length line.now ≤ limit_of doing.old }
     requires next { IsNext doing.old number }
-    ensures printed { Printed result doing.old doing.new number line.now (K.written sink.old)
-        (K.written sink.new) (K.faults sink.old) (K.faults sink.new) }
+    ensures printed { Printed result doing.old doing.new number line.now
+        (K.seen sink.old) (K.seen sink.new) }
     ensures limit { limit_of doing.new ≡ limit_of doing.old }
     ensures next { result ≡ Turn.Went → number < 2 ^ 32 - 1 → IsNext doing.new (number + 1) }
 {
@@ -64,11 +64,9 @@ fn next_turn<S: Source, K: Sink>(
     requires room { 2 * limit_of doing.old < buffer.old.capacity }
     requires next { IsNext doing.old number }
     ensures turned { Turned result doing.old doing.new number
-        (outside (seen_source (S.left source.old) (S.asked source.old) (S.faults source.old))
-        (seen_sink (K.written sink.old) (K.passed sink.old) (K.faults sink.old)))
-        (outside (seen_source (S.left source.new) (S.asked source.new) (S.faults source.new))
-        (seen_sink (K.written sink.new) (K.passed sink.new) (K.faults sink.new))) buffer.old.bytes
-        buffer.new.bytes }
+        (outside (S.seen source.old) (K.seen sink.old))
+        (outside (S.seen source.new) (K.seen sink.new))
+        buffer.old.bytes buffer.new.bytes }
     ensures capacity { buffer.new.capacity ≡ buffer.old.capacity }
     ensures limit { limit_of doing.new ≡ limit_of doing.old }
     ensures next { result ≡ Turn.Went → number < 2 ^ 32 - 1 → IsNext doing.new (number + 1) }
@@ -94,10 +92,8 @@ fn next_turn<S: Source, K: Sink>(
 fn close_script<S: Source, K: Sink>(buffer: &mut Buffer, source: &mut S, sink: &mut K) -> Status
     requires { 0 < buffer.old.capacity }
     ensures { Closed result
-        (outside (seen_source (S.left source.old) (S.asked source.old) (S.faults source.old))
-        (seen_sink (K.written sink.old) (K.passed sink.old) (K.faults sink.old)))
-        (outside (seen_source (S.left source.new) (S.asked source.new) (S.faults source.new))
-        (seen_sink (K.written sink.new) (K.passed sink.new) (K.faults sink.new)))
+        (outside (S.seen source.old) (K.seen sink.old))
+        (outside (S.seen source.new) (K.seen sink.new))
         buffer.old.bytes }
 {
     // A line of no byte is one too many, so that one byte suffices.
@@ -121,10 +117,8 @@ pub(crate) fn run_script<S: Source, K: Sink>(
     requires next { IsNext doing 1 }
     requires holds { Holds doing }
     ensures { EndsWhere NothingFailed doing result
-        (outside (seen_source (S.left source.old) (S.asked source.old) (S.faults source.old))
-        (seen_sink (K.written sink.old) (K.passed sink.old) (K.faults sink.old)))
-        (outside (seen_source (S.left source.new) (S.asked source.new) (S.faults source.new))
-        (seen_sink (K.written sink.new) (K.passed sink.new) (K.faults sink.new))) }
+        (outside (S.seen source.old) (K.seen sink.old))
+        (outside (S.seen source.new) (K.seen sink.new)) }
 {
     let Ok(mut buffer) = Buffer::new(alloc, 2 * doing.limit() + PIECE) else {
         return Status::Memory;

@@ -3,7 +3,7 @@ ghost use Rattle.std.specs.Prelude.{◌≡◌, ◌↔◌, ℕ};
 ghost use Rattle.rtmfp_words.specs.Words.{IsFaulty, IsGenerate, IsReplay, IsShow};
 ghost use Rattle.rtmfp_cli.specs.Doing.{Holds, IsNext, playing, showing};
 ghost use Rattle.rtmfp_play.specs.Generated.{GeneratedEnds};
-ghost use Rattle.rtmfp_lines.specs.Outside.{outside, seen_sink, seen_source};
+ghost use Rattle.rtmfp_lines.specs.Outside.{outside};
 ghost use Rattle.rtmfp_cli.specs.Run.{Finishes, PassesOn};
 ghost use Rattle.rtmfp_cli.specs.Script.{ScriptEnds};
 
@@ -34,22 +34,14 @@ pub fn run<S: Source, K: Sink>(
     ensures nothing_read { result ≡ Status.BadWords → source.new ≡ source.old }
     ensures nothing_written { result ≡ Status.BadWords → sink.new ≡ sink.old }
 
-    ensures show { IsShow words.now →
-        ScriptEnds showing result
-        (outside (seen_source (S.left source.old) (S.asked source.old) (S.faults source.old))
-        (seen_sink (K.written sink.old) (K.passed sink.old) (K.faults sink.old)))
-        (outside (seen_source (S.left source.new) (S.asked source.new) (S.faults source.new))
-        (seen_sink (K.written sink.new) (K.passed sink.new) (K.faults sink.new))) }
-    ensures replay { IsReplay words.now →
-        ScriptEnds playing result
-        (outside (seen_source (S.left source.old) (S.asked source.old) (S.faults source.old))
-        (seen_sink (K.written sink.old) (K.passed sink.old) (K.faults sink.old)))
-        (outside (seen_source (S.left source.new) (S.asked source.new) (S.faults source.new))
-        (seen_sink (K.written sink.new) (K.passed sink.new) (K.faults sink.new))) }
+    ensures show { IsShow words.now → ScriptEnds showing result
+        (outside (S.seen source.old) (K.seen sink.old))
+        (outside (S.seen source.new) (K.seen sink.new)) }
+    ensures replay { IsReplay words.now → ScriptEnds playing result
+        (outside (S.seen source.old) (K.seen sink.old))
+        (outside (S.seen source.new) (K.seen sink.new)) }
     ensures generate { (seed steps : ℕ) → IsGenerate words.now seed steps →
-        GeneratedEnds seed steps result (seen_sink (K.written sink.old) (K.passed sink.old)
-        (K.faults sink.old)) (seen_sink (K.written sink.new) (K.passed sink.new)
-        (K.faults sink.new)) }
+        GeneratedEnds seed steps result (K.seen sink.old) (K.seen sink.new) }
 
     // A generated script needs no source.
     ensures unread { (seed steps : ℕ) → IsGenerate words.now seed steps → source.new ≡ source.old }
@@ -76,11 +68,9 @@ fn over_lines<S: Source, K: Sink>(
 ) -> Status
     requires next { IsNext doing 1 }
     requires holds { Holds doing }
-    ensures { ScriptEnds doing result (outside
-        (seen_source (S.left source.old) (S.asked source.old) (S.faults source.old))
-        (seen_sink (K.written sink.old) (K.passed sink.old) (K.faults sink.old)))
-        (outside (seen_source (S.left source.new) (S.asked source.new) (S.faults source.new))
-        (seen_sink (K.written sink.new) (K.passed sink.new) (K.faults sink.new))) }
+    ensures { ScriptEnds doing result
+        (outside (S.seen source.old) (K.seen sink.old))
+        (outside (S.seen source.new) (K.seen sink.new)) }
 {
     let status = run_script(alloc, doing, source, sink);
     finish(status, sink)
@@ -90,9 +80,7 @@ fn over_lines<S: Source, K: Sink>(
 /// were done isn't lost, however the run ended. All was passed on before the source was asked in
 /// vain.
 fn finish<K: Sink>(status: Status, sink: &mut K) -> Status
-    ensures { Finishes status result (seen_sink (K.written sink.old) (K.passed sink.old)
-        (K.faults sink.old)) (seen_sink (K.written sink.new) (K.passed sink.new)
-        (K.faults sink.new)) }
+    ensures { Finishes status result (K.seen sink.old) (K.seen sink.new) }
 {
     match status {
         Status::SinkFault => Status::SinkFault,
@@ -108,9 +96,7 @@ fn finish<K: Sink>(status: Status, sink: &mut K) -> Status
 
 /// Passes on what the sink still holds.
 fn pass_on<K: Sink>(status: Status, sink: &mut K) -> Status
-    ensures { PassesOn status result (seen_sink (K.written sink.old) (K.passed sink.old)
-        (K.faults sink.old)) (seen_sink (K.written sink.new) (K.passed sink.new)
-        (K.faults sink.new)) }
+    ensures { PassesOn status result (K.seen sink.old) (K.seen sink.new) }
 {
     match sink.flush() {
         Wrote::Done => status,

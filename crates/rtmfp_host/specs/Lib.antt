@@ -1,3 +1,4 @@
+pub mod Seen
 pub mod Faults
 pub mod Taking
 pub mod Writing

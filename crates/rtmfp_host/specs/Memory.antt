@@ -1,6 +1,7 @@
 -- What the sources and sinks in memory hold.
 use Rattle.std.specs.Prelude.{ℕ, List, drop, take, Option, Some, None, if◌then◌else◌}
 use Rattle.rtmfp_host.specs.Plan.{Planned}
+use Rattle.rtmfp_host.specs.Seen.{SinkSeen, SourceSeen}
 use Rattle.rtmfp_host.specs.declared.memory_source.MemorySource.{MemorySource}
 use Rattle.rtmfp_host.specs.declared.memory_source.FaultySource.{FaultySource}
 use Rattle.rtmfp_host.specs.declared.memory_sink.MemorySink.{MemorySink}
@@ -52,3 +53,25 @@ front_count s = s.front
 
 abbrev pub sink_faults : FaultySink → ℕ
 sink_faults s = s.faults
+
+-- ---- what is seen of each
+
+abbrev pub source_seen : MemorySource → SourceSeen
+source_seen s = record { left = Some (source_left s); asked = Some (source_asked s); faults = 0 }
+
+abbrev pub faulty_source_seen : FaultySource → SourceSeen
+faulty_source_seen s = record {
+  left = Some (faulty_source_left s);
+  asked = Some (faulty_source_asked s);
+  faults = source_faults s;
+}
+
+abbrev pub sink_seen : MemorySink → SinkSeen
+sink_seen s = record { written = sink_written s; passed = sink_written s; faults = 0 }
+
+abbrev pub faulty_sink_seen : FaultySink → SinkSeen
+faulty_sink_seen s = record {
+  written = faulty_sink_written s;
+  passed = faulty_sink_passed s;
+  faults = sink_faults s;
+}

@@ -42,16 +42,12 @@ impl MemorySink {
 }
 
 impl Sink for MemorySink {
-    ghost use Rattle.rtmfp_host.specs.Memory.{sink_written};
+    ghost use Rattle.rtmfp_host.specs.Memory.{sink_seen, sink_written};
     ghost use Rattle.rtmfp_host.specs.Parts.{first_of_all};
 
-    ghost written = { sink_written };
-
-    ghost passed = { sink_written };
+    ghost seen = { sink_seen };
 
     ghost in_order = { λ s. first_of_all (sink_written s) };
-
-    ghost faults = { λ _. 0 };
 
     fn write(&mut self, bytes: &[u8]) -> Wrote {
         self.whole = self.whole && self.bytes.extend_from_slice(bytes).is_ok();
@@ -115,17 +111,13 @@ impl FaultySink {
 }
 
 impl Sink for FaultySink {
-    ghost use Rattle.rtmfp_host.specs.Memory.{faulty_sink_passed, faulty_sink_written, flush_plan, front_count, passed_count, sink_faults, write_plan};
+    ghost use Rattle.rtmfp_host.specs.Memory.{faulty_sink_passed, faulty_sink_seen, faulty_sink_written, flush_plan, front_count, passed_count, sink_faults, write_plan};
     ghost use Rattle.rtmfp_host.specs.Plan.{fails_now, after_call};
     ghost use Rattle.rtmfp_host.specs.Parts.{first_where};
 
-    ghost written = { faulty_sink_written };
-
-    ghost passed = { faulty_sink_passed };
+    ghost seen = { faulty_sink_seen };
 
     ghost in_order = { λ s. first_where s.sink.whole s.passed s.sink.bytes.items };
-
-    ghost faults = { sink_faults };
 
     fn write(&mut self, bytes: &[u8]) -> Wrote
         ensures bytes { Writes (faulty_sink_written self.old) (faulty_sink_written self.new) result

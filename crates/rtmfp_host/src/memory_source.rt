@@ -50,13 +50,9 @@ impl MemorySource {
 }
 
 impl Source for MemorySource {
-    ghost use Rattle.rtmfp_host.specs.Memory.{source_asked, source_left};
+    ghost use Rattle.rtmfp_host.specs.Memory.{source_seen};
 
-    ghost left = { λ s. Some (source_left s) };
-
-    ghost asked = { λ s. Some (source_asked s) };
-
-    ghost faults = { λ _. 0 };
+    ghost seen = { source_seen };
 
     fn read(&mut self, buf: &mut [u8]) -> Taken {
         self.asked_at = self.at;
@@ -97,14 +93,10 @@ impl FaultySource {
 }
 
 impl Source for FaultySource {
-    ghost use Rattle.rtmfp_host.specs.Memory.{faulty_source_asked, faulty_source_left, source_plan, source_faults};
+    ghost use Rattle.rtmfp_host.specs.Memory.{faulty_source_asked, faulty_source_left, faulty_source_seen, source_plan, source_faults};
     ghost use Rattle.rtmfp_host.specs.Plan.{fails_now, after_call};
 
-    ghost left = { λ s. Some (faulty_source_left s) };
-
-    ghost asked = { λ s. Some (faulty_source_asked s) };
-
-    ghost faults = { source_faults };
+    ghost seen = { faulty_source_seen };
 
     fn read(&mut self, buf: &mut [u8]) -> Taken
         requires { 0 < length buf.old }

@@ -1,6 +1,7 @@
 //! Where bytes come from.
-ghost use Rattle.std.specs.Prelude.{◌≡◌, ◌<◌, List, ℕ, Option, length};
+ghost use Rattle.std.specs.Prelude.{◌≡◌, ◌<◌, length};
 ghost use Rattle.rtmfp_host.specs.Faults.{CountsTaken};
+ghost use Rattle.rtmfp_host.specs.Seen.{SourceSeen};
 ghost use Rattle.rtmfp_host.specs.Taking.{Takes};
 
 /// What one read gave.
@@ -16,19 +17,14 @@ pub enum Taken {
 
 /// A source of bytes (own).
 pub trait Source {
-    /// The bytes that are left, where the source tells them.
-    ghost left: { Self → Option (List ℕ) };
-
-    /// The bytes that were left before the last read, where the source tells them.
-    ghost asked: { Self → Option (List ℕ) };
-
-    /// How often the source has failed. The count stands still at the end of a `u64`.
-    ghost faults: { Self → ℕ };
+    /// The bytes that are left, and those that were left before the last read, where the source
+    /// tells them; and how often it has failed, a count that stands still at the end of a `u64`.
+    ghost seen: { Self → SourceSeen };
 
     /// Reads some bytes into the front of `buf`.
     fn read(&mut self, buf: &mut [u8]) -> Taken
         requires { 0 < length buf.old }
-        ensures bytes { Takes (left self.old) (left self.new) result buf.new }
-        ensures asked { asked self.new ≡ left self.old }
-        ensures faults { CountsTaken result (faults self.old) (faults self.new) };
+        ensures bytes { Takes (seen self.old).left (seen self.new).left result buf.new }
+        ensures asked { (seen self.new).asked ≡ (seen self.old).left }
+        ensures faults { CountsTaken result (seen self.old).faults (seen self.new).faults };
 }

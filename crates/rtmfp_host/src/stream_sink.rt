@@ -35,13 +35,9 @@ impl<W: Write + Drop> StreamSink<W> {
 }
 
 impl<W: Write + Drop> Sink for StreamSink<W> {
-    ghost written = { λ _. None };
-
-    ghost passed = { λ _. None };
+    ghost seen = { λ s. record { written = None; passed = None; faults = s.faults } };
 
     ghost in_order = { λ _. tt };
-
-    ghost faults = { λ s. s.faults };
 
     fn write(&mut self, bytes: &[u8]) -> Wrote {
         let done = self.writer.write_all(bytes).is_ok();

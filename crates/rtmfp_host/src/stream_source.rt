@@ -21,11 +21,7 @@ impl<R: Read + Drop> StreamSource<R> {
 }
 
 impl<R: Read + Drop> Source for StreamSource<R> {
-    ghost left = { λ _. None };
-
-    ghost asked = { λ _. None };
-
-    ghost faults = { λ s. s.faults };
+    ghost seen = { λ s. record { left = None; asked = None; faults = s.faults } };
 
     fn read(&mut self, buf: &mut [u8]) -> Taken {
         match self.reader.read(buf) {

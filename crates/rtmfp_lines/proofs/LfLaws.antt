@@ -43,7 +43,7 @@ pub first_lf : (bs : List ℕ) (r : Option ℕ) → IsFirstByte (is_byte 10) bs 
 first_lf bs None h = subst NoLf (take-length bs) (no_lf_from bs (length bs) (λ k lt. passes_not bs k (h k (omega arith) lt)))
 first_lf bs (Some i) h = (h.0.high, no_lf_from bs i (λ k lt. passes_not bs k (h.0.before k (omega arith) lt)), eqb-true (get_or bs i 0) 10 h.1)
 
--- what the place of the first LF says of the bytes, of which the first `scanned` have none
+-- what the index of the first LF says of the bytes, of which the first `scanned` have none
 pub found_line : (limit scanned i : ℕ) (bs : List ℕ) → NoLf (take scanned bs) → IsFirstLf (drop scanned bs) (Some i) → scanned + i ≤ limit → scanned ≤ length bs → StartsWithLine limit bs (scanned + i)
 found_line limit scanned i bs none first fits within =
     let lt : scanned + i < length bs = omega (arith, length-drop scanned bs, first.0) in

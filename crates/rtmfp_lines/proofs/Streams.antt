@@ -1,10 +1,10 @@
 -- What was taken from a source and what a sink took, over several calls.
-use Rattle.std.proofs.Common.{◌≡◌, ℕ, ◌≤◌, length, take, arith, List, [], ◌++◌, refl, sym, ap, ◌∙◌, append_assoc, append-nil, subst, Option, Some, None, inl, inr}
+use Rattle.std.proofs.Common.{◌≡◌, ℕ, ◌≤◌, length, take, arith, List, [], ◌++◌, refl, sym, ap, ◌∙◌, append_assoc, append-nil, subst, Option, Some, None, inr}
 use Rattle.std.proofs.lemmas.List.{take_at, length-append}
 use Rattle.rtmfp_host.specs.Taking.{Consumes}
 use Rattle.rtmfp_host.specs.Writing.{Appends}
 use Rattle.rtmfp_lines.specs.Pending.{Grows}
-use Rattle.rtmfp_lines.specs.Outside.{SourceSeen}
+use Rattle.rtmfp_host.specs.Seen.{SourceSeen}
 use Rattle.rtmfp_lines.specs.Reading.{Asks, HasRead, IsPart}
 
 pub consumes_none : (o : Option (List ℕ)) → Consumes o o []
@@ -33,9 +33,6 @@ appends_more (Some a) (Some b) (Some c) x y p q = q ∙ ap (λ s. s ++ y) p ∙ 
 pub appends_still : (a b c : Option (List ℕ)) (text : List ℕ) → Appends a b text → Appends b c [] → Appends a c text
 appends_still a b c text p q = let P : List ℕ → Type 0 = λ xs. Appends a c xs in subst P (append-nil text) (appends_more a b c text [] p q)
 
-pub has_read_none : (o : Option (List ℕ)) (old : List ℕ) → HasRead o o old old
-has_read_none o old = record { got = []; consumed = consumes_none o; joined = sym (append-nil old) }
-
 pub has_read_more : (a b c : Option (List ℕ)) (old mid new : List ℕ) → HasRead a b old mid → Grows b c mid new → HasRead a c old new
 has_read_more a b c old mid new p q = record {
   got = p.got ++ q.got;
@@ -43,26 +40,11 @@ has_read_more a b c old mid new p q = record {
   joined = q.joined ∙ ap (λ xs. xs ++ q.got) p.joined ∙ append_assoc old p.got q.got;
 }
 
--- nothing was taken
-pub has_read_same : (a b c : Option (List ℕ)) (old mid new : List ℕ) → HasRead a b old mid → c ≡ b → new ≡ mid → HasRead a c old new
-has_read_same a b c old mid new p e f =
-    let P : Option (List ℕ) → Type 0 = λ o. Consumes a o p.got in
-    record { got = p.got; consumed = subst P (sym e) p.consumed; joined = f ∙ p.joined }
-
-pub asks_none : (limit : ℕ) (o : SourceSeen) (bytes : List ℕ) → Asks limit o o bytes bytes
-asks_none limit o bytes = inl (record { left = refl; asked = refl; bytes = refl })
-
 -- a part of a line stood there, and a read gave more
 pub asks_more : (limit : ℕ) (before after : SourceSeen) (left : Option (List ℕ)) (old part new : List ℕ) → IsPart limit part → after.asked ≡ left → Grows left after.left part new → Asks limit before after old new
 asks_more limit before after left old part new is e grows =
     let P : Option (List ℕ) → Type 0 = λ o. Consumes o after.left grows.got in
     inr (record { part = part; got = grows.got; is_part = is; joined = grows.joined; consumed = subst P (sym e) grows.consumed })
-
--- or it gave nothing
-pub asks_in_vain : (limit : ℕ) (before after : SourceSeen) (left : Option (List ℕ)) (old part new : List ℕ) → IsPart limit part → after.asked ≡ left → after.left ≡ left → new ≡ part → Asks limit before after old new
-asks_in_vain limit before after left old part new is e same bytes =
-    let P : Option (List ℕ) → Type 0 = λ o. Consumes o after.left [] in
-    inr (record { part = part; got = []; is_part = is; joined = bytes ∙ sym (append-nil part); consumed = subst P (same ∙ sym e) (consumes_none after.left) })
 
 -- what stood there, where more stands behind it
 pub still_there : (before after : Option (List ℕ)) (xs old new : List ℕ) → xs ≡ old → Grows before after old new → take (length xs) new ≡ xs

@@ -1,29 +1,12 @@
 -- What a run sees of the outside.
-use Rattle.std.specs.Prelude.{◌≡◌, ℕ, List, Option}
+use Rattle.std.specs.Prelude.{◌≡◌}
 use Rattle.rtmfp_host.specs.Faults.{Rose}
+use Rattle.rtmfp_host.specs.Seen.{SinkSeen, SourceSeen}
 
--- of a source: the bytes that are left, those that were left before its last read, and how often it
--- has failed
-pub record SourceSeen : Type 0 where
-  pub left : Option (List ℕ)
-  pub asked : Option (List ℕ)
-  pub faults : ℕ
-
--- of a sink: the bytes that it took, those of them that it passed on, and how often it has failed
-pub record SinkSeen : Type 0 where
-  pub written : Option (List ℕ)
-  pub passed : Option (List ℕ)
-  pub faults : ℕ
-
+-- the source and the sink
 pub record Outside : Type 0 where
   pub source : SourceSeen
   pub sink : SinkSeen
-
-abbrev pub seen_source : Option (List ℕ) → Option (List ℕ) → ℕ → SourceSeen
-seen_source left asked faults = record { left = left; asked = asked; faults = faults }
-
-abbrev pub seen_sink : Option (List ℕ) → Option (List ℕ) → ℕ → SinkSeen
-seen_sink written passed faults = record { written = written; passed = passed; faults = faults }
 
 abbrev pub outside : SourceSeen → SinkSeen → Outside
 outside source sink = record { source = source; sink = sink }

@@ -6,7 +6,8 @@ use Rattle.rtmfp_lines.specs.declared.lines.Found.TheVariants as found
 use Rattle.rtmfp_lines.specs.declared.lines.Next.{Next}
 use Rattle.rtmfp_lines.specs.declared.lines.Next.TheVariants as next
 use Rattle.rtmfp_lines.specs.Lines.{NoLf}
-use Rattle.rtmfp_lines.specs.Outside.{Outside, SourceSeen, NothingFailed, SourceFailed, SinkFailed}
+use Rattle.rtmfp_host.specs.Seen.{SourceSeen}
+use Rattle.rtmfp_lines.specs.Outside.{Outside, NothingFailed, SourceFailed, SinkFailed}
 
 -- a line of so many bytes stands in front, and its LF
 pub record StartsWithLine (limit : ℕ) (bytes : List ℕ) (len : ℕ) : Type 0 where
@@ -23,7 +24,7 @@ IsTooLong limit bytes = (limit < length bytes) × NoLf (take (limit + 1) bytes)
 abbrev pub IsPart : ℕ → List ℕ → Type 0
 IsPart limit bytes = (length bytes ≤ limit) × NoLf bytes
 
--- the first LF stands at this place, or nowhere
+-- the first LF stands at this index, or nowhere
 abbrev pub IsFirstLf : List ℕ → Option ℕ → Type 0
 IsFirstLf bytes None = NoLf bytes
 IsFirstLf bytes (Some i) = (i < length bytes) × NoLf (take i bytes) × (slice_index bytes i ≡ 10)

@@ -60,7 +60,7 @@ impl Buffer {
         self.start += count;
     }
 
-    /// Moves the bytes to the front where they fit before their place, so that there is room behind
+    /// Moves the bytes to the front where they fit before their start, so that there is room behind
     /// them.
     fn compact(&mut self)
         requires { 2 * length self.old.bytes < self.old.capacity }
@@ -80,11 +80,11 @@ impl Buffer {
     /// Reads once, behind the bytes that are there.
     pub fn fill<S: Source>(&mut self, source: &mut S) -> Taken
         requires { 2 * length self.old.bytes < self.old.capacity }
-        ensures filled { Fills (S.left source.old) (S.left source.new) result self.old.bytes
-            self.new.bytes }
+        ensures filled { Fills (S.seen source.old).left (S.seen source.new).left result
+            self.old.bytes self.new.bytes }
         ensures capacity { self.new.capacity ≡ self.old.capacity }
-        ensures asked { S.asked source.new ≡ S.left source.old }
-        ensures faults { CountsTaken result (S.faults source.old) (S.faults source.new) }
+        ensures asked { (S.seen source.new).asked ≡ (S.seen source.old).left }
+        ensures faults { CountsTaken result (S.seen source.old).faults (S.seen source.new).faults }
     {
         self.compact();
         match read_behind(source, &mut self.storage, self.end) {
@@ -101,11 +101,11 @@ impl Buffer {
 /// Reads once, behind the first `end` bytes.
 fn read_behind<S: Source>(source: &mut S, bytes: &mut [u8], end: usize) -> Taken
     requires { end < length bytes.old }
-    ensures behind { ReadsBehind (S.left source.old) (S.left source.new) end result bytes.old
-        bytes.new }
+    ensures behind { ReadsBehind (S.seen source.old).left (S.seen source.new).left end result
+        bytes.old bytes.new }
     ensures length { length bytes.new ≡ length bytes.old }
-    ensures asked { S.asked source.new ≡ S.left source.old }
-    ensures faults { CountsTaken result (S.faults source.old) (S.faults source.new) }
+    ensures asked { (S.seen source.new).asked ≡ (S.seen source.old).left }
+    ensures faults { CountsTaken result (S.seen source.old).faults (S.seen source.new).faults }
 {
     let (_, room) = bytes.split_at_mut(end);
     source.read(room)

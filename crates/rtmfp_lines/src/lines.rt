@@ -2,7 +2,7 @@
 ghost use Rattle.std.specs.Prelude.{◌≡◌, ◌+◌, ◌*◌, ◌^◌, ◌<◌, ◌≤◌, [], length, take, drop};
 ghost use Rattle.rtmfp_host.specs.Writing.{Appends};
 ghost use Rattle.rtmfp_lines.specs.Lines.{NoLf};
-ghost use Rattle.rtmfp_lines.specs.Outside.{outside, seen_sink, seen_source};
+ghost use Rattle.rtmfp_lines.specs.Outside.{outside};
 ghost use Rattle.rtmfp_lines.specs.Reading.{Asks, Finds, IsFirstLf, NextFaults, ReadsLine};
 
 use crate::buffer::Buffer;
@@ -35,14 +35,14 @@ pub enum Next {
     SinkFailed,
 }
 
-/// The place of the first LF.
+/// The index of the first LF.
 fn first_lf(bytes: &[u8]) -> Option<usize>
     ensures { IsFirstLf bytes.now result }
 {
     memchr(b'\n', bytes)
 }
 
-/// The place of the first LF behind the first `scanned` bytes, counted from there.
+/// The index of the first LF behind the first `scanned` bytes, counted from there.
 fn first_lf_behind(bytes: &[u8], scanned: usize) -> Option<usize>
     requires { scanned ≤ length bytes.now }
     ensures { IsFirstLf (drop scanned bytes.now) result }
@@ -74,18 +74,15 @@ pub fn next_line<S: Source, K: Sink>(
 ) -> Next
     requires capacity { 2 * limit < buffer.old.capacity }
     requires limit { limit < 2 ^ 32 }
-    ensures read { ReadsLine limit (S.left source.old) (S.left source.new) result buffer.old.bytes
-        buffer.new.bytes }
-    ensures written { Appends (K.written sink.old) (K.written sink.new) [] }
-    ensures capacity { buffer.new.capacity ≡ buffer.old.capacity }
-    ensures asks { Asks limit (seen_source (S.left source.old) (S.asked source.old) (S.faults source.old))
-        (seen_source (S.left source.new) (S.asked source.new) (S.faults source.new))
+    ensures read { ReadsLine limit (S.seen source.old).left (S.seen source.new).left result
         buffer.old.bytes buffer.new.bytes }
+    ensures written { Appends (K.seen sink.old).written (K.seen sink.new).written [] }
+    ensures capacity { buffer.new.capacity ≡ buffer.old.capacity }
+    ensures asks { Asks limit (S.seen source.old) (S.seen source.new) buffer.old.bytes
+        buffer.new.bytes }
     ensures faults { NextFaults result
-        (outside (seen_source (S.left source.old) (S.asked source.old) (S.faults source.old))
-        (seen_sink (K.written sink.old) (K.passed sink.old) (K.faults sink.old)))
-        (outside (seen_source (S.left source.new) (S.asked source.new) (S.faults source.new))
-        (seen_sink (K.written sink.new) (K.passed sink.new) (K.faults sink.new))) }
+        (outside (S.seen source.old) (K.seen sink.old))
+        (outside (S.seen source.new) (K.seen sink.new)) }
 {
     let mut scanned = 0;
     'reading: loop {

@@ -17,7 +17,8 @@ use Rattle.rendezvous_world.specs.declared.step.StepFault.{StepFault}
 use Rattle.rendezvous_world.specs.declared.step.StepFault.TheVariants.{Forged}
 use Rattle.rtmfp_host.specs.Faults.{Rose}
 use Rattle.rtmfp_host.specs.Writing.{Appends}
-use Rattle.rtmfp_lines.specs.Outside.{Settled, SinkSeen}
+use Rattle.rtmfp_host.specs.Seen.{SinkSeen}
+use Rattle.rtmfp_lines.specs.Outside.{Settled}
 use Rattle.rtmfp_lines.specs.declared.status.Status.{Status}
 use Rattle.rtmfp_lines.specs.declared.status.Status.TheVariants as status
 use Rattle.rtmfp_play.specs.Play.{HistoryHolds, IsBadStep}

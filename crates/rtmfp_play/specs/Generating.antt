@@ -6,7 +6,8 @@ use Rattle.rendezvous_world.specs.Seen.{Seen}
 use Rattle.rendezvous_world.specs.Faults.{step_fault}
 use Rattle.rendezvous_world.specs.Sound.{AreBelow}
 use Rattle.rendezvous_world.specs.Stepping.{Stepped}
-use Rattle.rtmfp_lines.specs.Outside.{Settled, SinkSeen}
+use Rattle.rtmfp_host.specs.Seen.{SinkSeen}
+use Rattle.rtmfp_lines.specs.Outside.{Settled}
 use Rattle.rtmfp_lines.specs.declared.status.Status.{Status}
 use Rattle.rtmfp_lines.specs.declared.status.Status.TheVariants as status
 use Rattle.rtmfp_play.specs.Play.{IsBadStep}

@@ -5,7 +5,6 @@ ghost use Rattle.rendezvous_world.specs.Sent.{sent_in};
 ghost use Rattle.rendezvous_world.specs.Sound.{AreBelow};
 ghost use Rattle.rtmfp_play.specs.Generated.{Begun, GeneratedEnds, Generates, StopsAtEnd, StopsAtStep, delivery, delivery_or_tick, end_place, end_step, generated_step, next_number, summary_of};
 ghost use Rattle.rtmfp_play.specs.Play.{HistoryHolds};
-ghost use Rattle.rtmfp_lines.specs.Outside.{seen_sink};
 ghost use Rattle.rtmfp_play.specs.Generating.{HandsOver, RunEnds, Summarizes, TakesStep};
 
 use crate::play::sent_so_far;
@@ -36,8 +35,7 @@ const PAUSE: u64 = 500;
 pub fn generate<K: Sink>(alloc: Global, seed: u64, steps: u64, sink: &mut K) -> Status
     requires { steps ≤ MOST_STEPS }
     ensures { GeneratedEnds seed steps result
-        (seen_sink (K.written sink.old) (K.passed sink.old) (K.faults sink.old))
-        (seen_sink (K.written sink.new) (K.passed sink.new) (K.faults sink.new)) }
+        (K.seen sink.old) (K.seen sink.new) }
 {
     let mut world = World::new(alloc);
     if let Err(status) = begin(&mut world) {
@@ -243,8 +241,7 @@ fn holds(world: &World)
 /// Writes the line of a run that is over.
 fn write_summary<K: Sink>(alloc: Global, world: &World, steps: u64, sink: &mut K) -> Status
     ensures summary { Summarizes steps world.now result
-        (seen_sink (K.written sink.old) (K.passed sink.old) (K.faults sink.old))
-        (seen_sink (K.written sink.new) (K.passed sink.new) (K.faults sink.new)) }
+        (K.seen sink.old) (K.seen sink.new) }
     ensures holds { HistoryHolds world.now }
 {
     holds(world);
@@ -257,9 +254,7 @@ fn write_summary<K: Sink>(alloc: Global, world: &World, steps: u64, sink: &mut K
 
 /// Writes a text and passes it on.
 fn hand_over<K: Sink>(text: &[u8], sink: &mut K) -> Status
-    ensures { HandsOver text.now result (seen_sink (K.written sink.old) (K.passed sink.old)
-        (K.faults sink.old)) (seen_sink (K.written sink.new) (K.passed sink.new)
-        (K.faults sink.new)) }
+    ensures { HandsOver text.now result (K.seen sink.old) (K.seen sink.new) }
 {
     match sink.write(text) {
         Wrote::Done => match sink.flush() {

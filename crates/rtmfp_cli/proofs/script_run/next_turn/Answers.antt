@@ -1,6 +1,7 @@
 use Rattle.std.proofs.Common.{List, ℕ, take, subst, sym}
 use Rattle.rtmfp_lines.specs.Reading.{IsPart, IsTooLong}
-use Rattle.rtmfp_lines.specs.Outside.{Outside, SinkSeen, outside, seen_sink, seen_source}
+use Rattle.rtmfp_host.specs.Seen.{SinkSeen}
+use Rattle.rtmfp_lines.specs.Outside.{Outside, outside}
 use Rattle.rtmfp_cli.specs.Doing.{limit_of}
 use Rattle.rtmfp_cli.specs.Turning.{Printed, Turned}
 use Rattle.rtmfp_cli.specs.declared.script_run.Turn.TheVariants.{Went, Ended}
@@ -39,10 +40,10 @@ returns-in-Went-clause-turned g c =
     let read = c.next_line.new.source in
     let made = c.next_line.new.sink in
     let last = c.do_line.new.sink in
-    let mid = outside (seen_source (g.S.Source.left read) (g.S.Source.asked read) (g.S.Source.faults read)) (seen_sink (g.K.Sink.written made) (g.K.Sink.passed made) (g.K.Sink.faults made)) in
-    let P : List ℕ → Type 0 = λ line. Printed Went c.args.doing.now c.do_line.new.doing c.args.number line (g.K.Sink.written made) (g.K.Sink.written last) (g.K.Sink.faults made) (g.K.Sink.faults last) in
+    let mid = outside (g.S.Source.seen read) (g.K.Sink.seen made) in
+    let P : List ℕ → Type 0 = λ line. Printed Went c.args.doing.now c.do_line.new.doing c.args.number line (g.K.Sink.seen made) (g.K.Sink.seen last) in
     let Q : ℕ → Type 0 = λ limit. IsPart limit c.next_line.new.buffer.bytes in
-    last_done c.args.doing.now c.do_line.new.doing c.args.number _ mid (seen_sink (g.K.Sink.written last) (g.K.Sink.passed last) (g.K.Sink.faults last)) c.args.buffer.now.bytes c.next_line.new.buffer.bytes
+    last_done c.args.doing.now c.do_line.new.doing c.args.number _ mid (g.K.Sink.seen last) c.args.buffer.now.bytes c.next_line.new.buffer.bytes
     (between_at c.limit.result (limit_of c.args.doing.now) _ mid _ _ c.limit.ensures (record { read = e.read.0; asks = e.asks; kept = e.written })) e.faults (subst Q c.limit.ensures e.read.1.0) e.read.1.1 e.read.1.2
     (subst P c.bytes-in-Last.ensures c.in-Went.ensures.printed)
 
@@ -52,10 +53,10 @@ returns-in-Ended-clause-turned g c =
     let read = c.next_line.new.source in
     let made = c.next_line.new.sink in
     let last = c.do_line.new.sink in
-    let mid = outside (seen_source (g.S.Source.left read) (g.S.Source.asked read) (g.S.Source.faults read)) (seen_sink (g.K.Sink.written made) (g.K.Sink.passed made) (g.K.Sink.faults made)) in
+    let mid = outside (g.S.Source.seen read) (g.K.Sink.seen made) in
     let P : List ℕ → Type 0 =
-    λ line. Printed (Ended c.in-Ended.status) c.args.doing.now c.do_line.new.doing c.args.number line (g.K.Sink.written made) (g.K.Sink.written last) (g.K.Sink.faults made) (g.K.Sink.faults last) in
-    last_turned c.in-Ended.status c.args.doing.now c.do_line.new.doing c.args.number _ mid (seen_sink (g.K.Sink.written last) (g.K.Sink.passed last) (g.K.Sink.faults last)) c.args.buffer.now.bytes c.next_line.new.buffer.bytes
+    λ line. Printed (Ended c.in-Ended.status) c.args.doing.now c.do_line.new.doing c.args.number line (g.K.Sink.seen made) (g.K.Sink.seen last) in
+    last_turned c.in-Ended.status c.args.doing.now c.do_line.new.doing c.args.number _ mid (g.K.Sink.seen last) c.args.buffer.now.bytes c.next_line.new.buffer.bytes
     c.next_line.new.buffer.bytes (between_at c.limit.result (limit_of c.args.doing.now) _ mid _ _ c.limit.ensures (record { read = e.read.0; asks = e.asks; kept = e.written })) e.faults e.read.1.0.1 e.read.1.1 e.read.1.2
     (subst P c.bytes-in-Last.ensures c.in-Ended.ensures.printed)
 
@@ -66,12 +67,11 @@ returns-in-Line-clause-turned g c =
     let made = c.next_line.new.sink in
     let last = c.do_line-turn.new.sink in
     let before : Outside =
-    outside (seen_source (g.S.Source.left c.args.source.now) (g.S.Source.asked c.args.source.now) (g.S.Source.faults c.args.source.now))
-    (seen_sink (g.K.Sink.written c.args.sink.now) (g.K.Sink.passed c.args.sink.now) (g.K.Sink.faults c.args.sink.now)) in
-    let mid : Outside = outside (seen_source (g.S.Source.left read) (g.S.Source.asked read) (g.S.Source.faults read)) (seen_sink (g.K.Sink.written made) (g.K.Sink.passed made) (g.K.Sink.faults made)) in
-    let sink : SinkSeen = seen_sink (g.K.Sink.written last) (g.K.Sink.passed last) (g.K.Sink.faults last) in
+    outside (g.S.Source.seen c.args.source.now) (g.K.Sink.seen c.args.sink.now) in
+    let mid : Outside = outside (g.S.Source.seen read) (g.K.Sink.seen made) in
+    let sink : SinkSeen = g.K.Sink.seen last in
     let P : List ℕ → Type 0 =
-    λ bytes. Printed c.do_line-turn.result c.args.doing.now c.do_line-turn.new.doing c.args.number (take c.in-Line.len bytes) mid.sink.written sink.written mid.sink.faults sink.faults in
+    λ bytes. Printed c.do_line-turn.result c.args.doing.now c.do_line-turn.new.doing c.args.number (take c.in-Line.len bytes) mid.sink sink in
     let Q : List ℕ → Type 0 = λ bytes. Turned c.do_line-turn.result c.args.doing.now c.do_line-turn.new.doing c.args.number before (outside mid.source sink) c.args.buffer.now.bytes bytes in
     let between : Between (limit_of c.args.doing.now) before mid c.args.buffer.now.bytes c.next_line.new.buffer.bytes =
     between_at c.limit.result (limit_of c.args.doing.now) before mid _ _ c.limit.ensures (record { read = e.read.0; asks = e.asks; kept = e.written }) in

@@ -1,5 +1,5 @@
 use Rattle.std.proofs.Common.{◌≡◌, ◌+◌, ◌≤◌, ℕ, List, arith, subst, sym, refl}
-use Rattle.rtmfp_lines.specs.Outside.{outside, seen_sink, seen_source}
+use Rattle.rtmfp_lines.specs.Outside.{outside}
 use Rattle.rtmfp_cli.specs.Script.{max_lines}
 use Rattle.rtmfp_cli.proofs.Going.{Going, none_done, going_none, going_more, going_ends, going_closed}
 use Rattle.rtmfp_cli.proofs.script_run.run_script.Goals as goal
@@ -7,8 +7,7 @@ use Rattle.rtmfp_cli.proofs.script_run.run_script.Goals as goal
 pub loop-before-init : goal.loop-before-init
 loop-before-init g c =
     let start =
-    outside (seen_source (g.S.Source.left c.args.source.now) (g.S.Source.asked c.args.source.now) (g.S.Source.faults c.args.source.now))
-    (seen_sink (g.K.Sink.written c.args.sink.now) (g.K.Sink.passed c.args.sink.now) (g.K.Sink.faults c.args.sink.now)) in
+    outside (g.S.Source.seen c.args.source.now) (g.K.Sink.seen c.args.sink.now) in
     let P : List ℕ → Type 0 = λ bytes. Going c.args.doing c.args.doing start start 0 bytes in
     record { going = subst P (sym c.in-Ok.ensures.empty) (going_none c.args.doing start c.requires.holds); capacity = omega (arith, c.in-Ok.ensures.capacity, c.limit.ensures); next = c.requires.next }
 
@@ -32,11 +31,9 @@ pub returns : goal.returns
 returns g c =
     let all : c.loop-before.before ≡ max_lines = omega arith in
     let start =
-    outside (seen_source (g.S.Source.left c.args.source.now) (g.S.Source.asked c.args.source.now) (g.S.Source.faults c.args.source.now))
-    (seen_sink (g.K.Sink.written c.args.sink.now) (g.K.Sink.passed c.args.sink.now) (g.K.Sink.faults c.args.sink.now)) in
+    outside (g.S.Source.seen c.args.source.now) (g.K.Sink.seen c.args.sink.now) in
     let now =
-    outside (seen_source (g.S.Source.left c.loop-before.source) (g.S.Source.asked c.loop-before.source) (g.S.Source.faults c.loop-before.source))
-    (seen_sink (g.K.Sink.written c.loop-before.sink) (g.K.Sink.passed c.loop-before.sink) (g.K.Sink.faults c.loop-before.sink)) in
+    outside (g.S.Source.seen c.loop-before.source) (g.K.Sink.seen c.loop-before.sink) in
     let P : ℕ → Type 0 = λ n. Going c.args.doing c.loop-before.doing start now n c.loop-before.buffer.bytes in
     going_closed c.close_script.result c.args.doing c.loop-before.doing start now _ c.loop-before.buffer.bytes (subst P all c.loop-before.invariant.going) c.close_script.ensures
 

@@ -1,7 +1,6 @@
 use Rattle.std.proofs.Common.{◌≡◌, ℕ, Option, Some, sym, ap, ◌∙◌, subst}
 use Rattle.rtmfp_words.specs.declared.command.Command.{Command}
 use Rattle.rtmfp_words.specs.declared.command.Command.TheVariants.{Generate}
-use Rattle.rtmfp_lines.specs.Outside.{seen_sink}
 use Rattle.rtmfp_play.specs.Generated.{GeneratedEnds}
 use Rattle.rtmfp_cli.proofs.top_call.run.Goals as goal
 
@@ -19,6 +18,6 @@ returns-in-None-clause-generate g c = λ seed steps says. c.in-None.ensures.read
 pub returns-in-Some-Generate-clause-generate : goal.returns-in-Some-Generate-clause-generate
 returns-in-Some-Generate-clause-generate g c = λ seed steps says.
     picked c.read_command.result c.in-Some-Generate.seed c.in-Some-Generate.steps seed steps
-    (λ a b. GeneratedEnds a b c.generate.result (seen_sink (g.K.Sink.written c.args.sink.now) (g.K.Sink.passed c.args.sink.now) (g.K.Sink.faults c.args.sink.now))
-    (seen_sink (g.K.Sink.written c.generate.new.sink) (g.K.Sink.passed c.generate.new.sink) (g.K.Sink.faults c.generate.new.sink)))
+    (λ a b. GeneratedEnds a b c.generate.result (g.K.Sink.seen c.args.sink.now)
+    (g.K.Sink.seen c.generate.new.sink))
     (c.in-Some-Generate.is ∙ ap Some c.in-Some-Generate.field-0-is) (c.read_command.ensures.generate seed steps says) c.generate.ensures

@@ -17,5 +17,5 @@ returns-clause-behind g c =
     let old = c.args.bytes.now in
     let front : take c.args.end old ≡ c.split_at_mut-room.result.0.now = sym c.split_at_mut-room.ensures.front in
     let size : length c.read.new.buf ≡ length old - c.args.end = omega arith in
-    let P : List ℕ → Type 0 = λ xs. ReadsBehind (g.S.Source.left c.args.source.now) (g.S.Source.left c.read.new.self) c.args.end c.read.result old (xs ++ c.read.new.buf) in
+    let P : List ℕ → Type 0 = λ xs. ReadsBehind (g.S.Source.seen c.args.source.now).left (g.S.Source.seen c.read.new.self).left c.args.end c.read.result old (xs ++ c.read.new.buf) in
     subst P front (reads _ _ c.args.end c.read.result old c.read.new.buf c.requires size c.read.ensures.bytes)

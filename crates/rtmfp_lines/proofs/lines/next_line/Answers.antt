@@ -13,7 +13,7 @@ reading-preserved g c =
       none = subst NoLf (sym (still_there _ _ _ c.reading.buffer.bytes _ c.bytes-scanned.ensures c.in-Done.ensures.filled)) (subst NoLf (c.bytes.ensures ∙ sym c.bytes-scanned.ensures) c.in-More.ensures.1);
       written = search rules;
       capacity = search rules;
-      asks = asks_more _ _ _ (g.S.Source.left c.reading.source) _ c.reading.buffer.bytes _ (subst P c.bytes.ensures c.in-More.ensures) c.in-Done.ensures.asked c.in-Done.ensures.filled;
+      asks = asks_more _ _ _ (g.S.Source.seen c.reading.source).left _ c.reading.buffer.bytes _ (subst P c.bytes.ensures c.in-More.ensures) c.in-Done.ensures.asked c.in-Done.ensures.filled;
       source = search rules;
       sink = search rules;
     }
