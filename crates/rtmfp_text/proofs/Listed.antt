@@ -1,12 +1,12 @@
 -- Ends of which no two have the same name or the same fingerprint.
-use Rattle.std.proofs.Common.{◌≡◌, ℕ, zero, suc, ◌+◌, ◌<◌, ◌||◌, Bool, true, false, not, List, [], ◌∷◌, ◌++◌, length, Option, Some, None, slice_get, cond, if◌then◌else◌, refl, sym, ap, ◌∙◌, subst, arith, nat_lt}
+use Rattle.std.proofs.Common.{◌≡◌, ℕ, zero, suc, ◌+◌, ◌<◌, ◌||◌, Bool, true, false, not, List, [], ◌∷◌, ◌++◌, length, Some, None, slice_get, cond, if◌then◌else◌, refl, sym, ap, ◌∙◌, subst, arith, nat_lt}
 use Rattle.std.specs.List.{list_any, position, position_or_len}
 use Rattle.std.specs.Str.{bytes_eq}
 use Rattle.std.proofs.lemmas.Bool.{both_ways, or_from, or_parts, lt-ltb}
 use Rattle.std.proofs.lemmas.List.Folds.{list_any-append}
 use Rattle.std.proofs.lemmas.Slice.Eq.{bytes_eq-Decides}
 use Rattle.rtmfp_text.specs.declared.names.Named.{Named}
-use Rattle.rtmfp_text.specs.Names.{is_like, AreUnlike, is_called, is_called_at, peer_text}
+use Rattle.rtmfp_text.specs.Names.{is_like, AreUnlike, is_called_at, peer_text}
 
 -- ---- tests of bytes
 

@@ -11,5 +11,5 @@ mod text;
 pub use address_text::push_address;
 pub use directory::Directory;
 pub use kinds::kind_name;
-pub use names::{Name, Named, push_peer};
+pub use names::{Name, Named};
 pub use text::{Text, bit_digit};
