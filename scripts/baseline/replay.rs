@@ -1,6 +1,7 @@
 //! A plain Rust program that prints what `rtmfp replay --generate N --steps K` prints: the bar for its speed.
 //! With `--script` it prints the script of that run, and with `--report` the report of it. Without a seed it reads a
-//! script from its input, and prints the report of each line.
+//! script from its input, and prints the report of each line; with `--datagrams` alone it prints the bytes of each
+//! datagram that was sent instead, one a line, in hexadecimal.
 #[path = "replay/crypto.rs"]
 mod crypto;
 #[path = "replay/end.rs"]
@@ -220,8 +221,20 @@ fn run(seed: u64, steps: u64) -> Result<World, (StepFault, u64)> {
     Ok(world)
 }
 
-/// Does a script line by line, and prints what each did.
-fn run_script() -> io::Result<Result<(), (StepFault, u64)>> {
+/// Prints the bytes of each datagram that was sent.
+fn print_datagrams(world: &World) -> io::Result<()> {
+    let mut out = BufWriter::with_capacity(1 << 16, io::stdout().lock());
+    for sent in &world.sent {
+        for byte in sent.datagram.iter() {
+            write!(out, "{byte:02x}")?;
+        }
+        writeln!(out)?;
+    }
+    out.flush()
+}
+
+/// Does a script line by line, and prints what each did, or what was sent.
+fn run_script(prints_datagrams: bool) -> io::Result<Result<(), (StepFault, u64)>> {
     let mut out = BufWriter::with_capacity(1 << 16, io::stdout().lock());
     let mut input = io::stdin().lock();
     let (mut world, mut line, mut number, mut sent) = (World::new(), String::new(), 0, 0);
@@ -232,6 +245,7 @@ fn run_script() -> io::Result<Result<(), (StepFault, u64)>> {
             Ok(None) => {}
             Ok(Some(step)) => match world.step(number, step) {
                 Err(fault) => return out.flush().map(|()| Err((fault, number))),
+                Ok(()) if prints_datagrams => {}
                 Ok(()) => {
                     if let Some(done) = world.journal.last() {
                         report::write_line(&mut out, &world, done, &mut sent)?;
@@ -241,11 +255,16 @@ fn run_script() -> io::Result<Result<(), (StepFault, u64)>> {
         }
         line.clear();
     }
+    if prints_datagrams {
+        drop(out);
+        return print_datagrams(&world).map(Ok);
+    }
     out.flush().map(Ok)
 }
 
 enum Task {
     Script,
+    Datagrams,
     Generate { seed: u64, steps: u64, flags: HashSet<String> },
 }
 
@@ -260,6 +279,7 @@ fn task() -> Option<Task> {
             "--generate" => seed = Some(words.next()?.parse().ok()?),
             "--steps" => steps = Some(words.next()?.parse().ok().filter(|n| *n <= 100_000)?),
             "--script" | "--report" => _ = flags.insert(word),
+            "--datagrams" if seed.is_none() && steps.is_none() => return words.next().is_none().then_some(Task::Datagrams),
             _ => return None,
         }
     }
@@ -272,7 +292,8 @@ fn main() -> ExitCode {
             eprintln!("replay: bad command line");
             return ExitCode::from(2);
         }
-        Some(Task::Script) => run_script().expect("a script is read, and its report written"),
+        Some(Task::Datagrams) => run_script(true).expect("a script is read, and what was sent is written"),
+        Some(Task::Script) => run_script(false).expect("a script is read, and its report written"),
         Some(Task::Generate { seed, steps, flags }) => run(seed, steps).map(|world| {
             if flags.contains("--script") {
                 report::print_script(&world);

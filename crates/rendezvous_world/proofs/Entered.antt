@@ -1,5 +1,5 @@
 -- One more line in the journal.
-use Rattle.std.proofs.Common.{◌≡◌, ℕ, zero, suc, ◌+◌, ◌-◌, ◌<◌, ◌^◌, List, [], ◌∷◌, ◌++◌, map, set, length, get_or, Option, Some, None, is_some, Err, slice_get, refl, sym, ap, ◌∙◌, subst, arith, length-append, inl, inr, ◌⊎◌, true, false, Bool, option_map}
+use Rattle.std.proofs.Common.{◌≡◌, ℕ, zero, suc, ◌+◌, ◌-◌, ◌<◌, ◌^◌, List, [], ◌∷◌, ◌++◌, map, set, length, get_or, Option, Some, None, is_some, Err, slice_get, refl, sym, ap, ◌∙◌, subst, arith, length-append, append_assoc, inl, inr, ◌⊎◌, true, false, Bool, option_map}
 use Rattle.std.proofs.lemmas.List.{length-map, set-get_or}
 use Rattle.std.proofs.lemmas.Option.{slice_get-map, slice_get_read}
 use Rattle.endpoint_laws.specs.Laws.{AreBytes}
@@ -17,7 +17,8 @@ use Rattle.rendezvous_world.specs.declared.step.StepFault.TheVariants.{Memory}
 use Rattle.rendezvous_world.specs.declared.step.Step.{Step}
 use Rattle.rendezvous_world.specs.declared.step.Step.TheVariants.{End, At, Open, Cancel, Deliver, Bent, Inject, Forge, Tick}
 use Rattle.rendezvous_world.specs.Seen.{EndSeen, Seen, print_at}
-use Rattle.rendezvous_world.specs.Sent.{sent_among, sent_in}
+use Rattle.rendezvous_world.specs.Sent.{Sent, sent_among, sent_in}
+use Rattle.rendezvous_world.specs.Keyed.{AreKeys}
 use Rattle.rendezvous_world.specs.History.{bytes_or_none, call_of, moment_given, answer_of}
 use Rattle.rendezvous_world.specs.Stepping.{in_state, with_state, HasItsAnswer, Called, MayOpen, Noted}
 use Rattle.rendezvous_world.specs.Entering.{peer_of, call_by, event_by, IsUndone, IsEntering, IsEntered, answered}
@@ -26,6 +27,7 @@ use Rattle.rendezvous_world.specs.Inside.{end_seen, world_seen, named_of, count_
 use Rattle.rendezvous_world.proofs.Calling.{called_is_world}
 use Rattle.rendezvous_world.proofs.Growing.{noted_keeps}
 use Rattle.rendezvous_world.proofs.Finding.{test_other}
+use Rattle.rendezvous_world.proofs.Keying.{keys_grow}
 
 -- ---- one end in another state
 
@@ -66,6 +68,9 @@ print_in (e ∷ ends) (suc k) x lt is = print_in ends k x (omega (arith, lt)) is
 pub print_named : (ends : List EndSeen) (named : List Named) (k : ℕ) (x : Named) → named ≡ map named_of ends → k < length ends → x ≡ get_or named k x → x.print ≡ print_at ends k
 print_named ends named k x same lt is = print_in ends k x lt (is ∙ ap (λ (ns : List Named). get_or ns k x) same)
 
+pub named_is : (x : Named) (named seen : List Named) (peer k : ℕ) → k ≡ peer → seen ≡ named → x ≡ get_or seen k x → x ≡ get_or named peer x
+named_is x named seen peer k at same is = is ∙ ap (λ (n : ℕ). get_or seen n x) at ∙ ap (λ (ns : List Named). get_or ns peer x) same
+
 call_same : (ends : List EndSeen) (print : List ℕ) (line : ℕ) (bytes : List ℕ) (datagram : Option (List ℕ)) (step : Step) → print ≡ print_at ends (peer_of step) → bytes ≡ bytes_or_none datagram →
     call_by print line bytes step ≡ call_of ends line datagram step
 call_same ends print line bytes datagram (End name max_peers max_sessions cert) p b = refl
@@ -93,13 +98,13 @@ undone_is ends print moment (Tick end) old new p h = absurd h
 
 -- ---- sent datagrams
 
+sent_in-both : (xs ys : List JournalLine) → sent_in (xs ++ ys) ≡ sent_in xs ++ sent_in ys
+sent_in-both [] ys = refl
+sent_in-both (x ∷ xs) ys =
+    ap (λ (sent : List Sent). sent_among x.end x.out.entries ++ sent) (sent_in-both xs ys) ∙ sym (append_assoc (sent_among x.end x.out.entries) (sent_in xs) (sent_in ys))
+
 sent_in-append : (xs ys : List JournalLine) → length (sent_in (xs ++ ys)) ≡ length (sent_in xs) + length (sent_in ys)
-sent_in-append [] ys = omega arith
-sent_in-append (x ∷ xs) ys =
-    length-append (sent_among x.end x.out.entries) (sent_in (xs ++ ys))
-    ∙ ap (λ n. length (sent_among x.end x.out.entries) + n) (sent_in-append xs ys)
-    ∙ (let regroup : length (sent_among x.end x.out.entries) + (length (sent_in xs) + length (sent_in ys)) ≡ length (sent_among x.end x.out.entries) + length (sent_in xs) + length (sent_in ys) = omega arith in regroup)
-    ∙ ap (λ n. n + length (sent_in ys)) (sym (length-append (sent_among x.end x.out.entries) (sent_in xs)))
+sent_in-append xs ys = ap (λ (sent : List Sent). length sent) (sent_in-both xs ys) ∙ length-append (sent_in xs) (sent_in ys)
 
 one_sent : (line : JournalLine) → length (sent_in (line ∷ [])) ≡ count_in line
 one_sent line = length-append (sent_among line.end line.out.entries) [] ∙ (let z : count_in line + 0 ≡ count_in line = omega arith in z)
@@ -137,7 +142,7 @@ line_of number end moment step datagram refused stopped out = record {
   out = out;
 }
 
-module _ (moment : ℕ) (ends : List EndKept) (named : List Named) (lines : List JournalLine) (starts : List ℕ) (sent : ℕ) (kept : IsKept moment ends named lines starts sent)
+module _ (moment : ℕ) (ends : List EndKept) (named : List Named) (lines : List JournalLine) (starts : List ℕ) (sent : ℕ) (keyed : List ℕ) (kept : IsKept moment ends named lines starts sent keyed)
     (number end : ℕ) (step : Step) (datagram : Option (List ℕ)) (bytes : List ℕ) (entering : IsEntering (world_seen moment ends lines) number end step datagram bytes) where
   there_is : end < length ends
   there_is = omega (arith, entering.there, length-map {B = EndSeen} ends end_seen)
@@ -165,12 +170,13 @@ module _ (moment : ℕ) (ends : List EndKept) (named : List Named) (lines : List
       lines = refl;
     }
 
-    pub entered_kept : (count : ℕ) → count ≡ count_in the_line → count < 2 ^ 64 → IsKept moment after named (lines ++ the_line ∷ []) (starts ++ sent ∷ []) (sent + count)
+    pub entered_kept : (count : ℕ) → count ≡ count_in the_line → count < 2 ^ 64 → IsKept moment after named (lines ++ the_line ∷ []) (starts ++ sent ∷ []) (sent + count) keyed
     entered_kept count is fits = record {
       names = kept.names ∙ sym (named_set (map end_seen ends) end state) ∙ ap (map named_of) (sym (seen_set end ends there state did.there_is));
       begins = ap (λ (ns : List ℕ). ns ++ sent ∷ []) kept.begins ∙ ap (λ (n : ℕ). starts_after 0 lines ++ n ∷ []) (kept.total ∙ (let z : length (sent_in lines) ≡ 0 + length (sent_in lines) = omega arith in z)) ∙ sym (starts_more lines the_line 0);
       total = ap (λ (n : ℕ). n + count) kept.total ∙ ap (λ (n : ℕ). length (sent_in lines) + n) is ∙ sym (sent_more lines the_line);
       fits = omega (arith, kept.fits, fits, length-append lines (the_line ∷ []));
+      keys = subst (λ (sent : List Sent). AreKeys keyed sent) (sym (sent_in-both lines (the_line ∷ []))) (keys_grow keyed (sent_in lines) (sent_in (the_line ∷ [])) kept.keys);
       world = called_is_world (world_seen moment ends lines) number step the_line (world_seen moment after (lines ++ the_line ∷ [])) kept.world entering.above entering.fits entering.fine called
           (subst (λ (bs : List ℕ). AreBytes bs) entering.bytes entering.are_bytes);
     }
@@ -212,12 +218,13 @@ module _ (moment : ℕ) (ends : List EndKept) (named : List Named) (lines : List
       | inr both ↦ noted_keeps before step (world_seen moment without lines) kept.world (noted both.0 both.1)
     ]
 
-    pub undone_kept : IsKept moment without named lines starts sent
+    pub undone_kept : IsKept moment without named lines starts sent keyed
     undone_kept = record {
       names = kept.names ∙ sym (named_set (map end_seen ends) end state) ∙ ap (map named_of) (sym (seen_set end ends there state there_is_there));
       begins = kept.begins;
       total = kept.total;
       fits = kept.fits;
+      keys = kept.keys;
       world = world_left;
     }
 

@@ -4,13 +4,14 @@ use Rattle.std.specs.List.{AllWithin}
 use Rattle.std.specs.List.Sorted.{IsPartitionedBy}
 use Rattle.std.proofs.lemmas.Bool.Decides.{nat_tests}
 use Rattle.std.proofs.lemmas.Bool.{ltb-true, ltb-false, lt-ltb}
+use Rattle.std.proofs.lemmas.List.{get_or_default}
 use Rattle.endpoint_model.specs.declared.entry.Entry.{Entry}
 use Rattle.endpoint_model.specs.declared.entry.Entry.TheVariants.{Fact, Discard, Out}
 use Rattle.endpoint_model.specs.Added.{AreShort}
 use Rattle.rendezvous_world.specs.declared.journal.JournalLine.{JournalLine}
 use Rattle.rendezvous_world.specs.declared.sent.Letter.{Letter}
 use Rattle.rendezvous_world.specs.Datagrams.{nth}
-use Rattle.rendezvous_world.specs.Inside.{count_in, sent_found, sent_of, starts_after}
+use Rattle.rendezvous_world.specs.Inside.{IsCut, count_in, sent_found, sent_of, starts_after}
 use Rattle.rendezvous_world.specs.Sent.{Sent, sent_among, sent_in}
 
 -- ---- the nth of a list
@@ -63,6 +64,28 @@ starts_parted n lines i j d le lt e = let g = rising lines 0 i j d le lt in let 
 pub length-starts : (lines : List JournalLine) (before : ℕ) → length (starts_after before lines) ≡ length lines
 length-starts [] before = refl
 length-starts (x ∷ lines) before = ap suc (length-starts lines (before + count_in x))
+
+-- ---- a guess that is right
+
+pub below_cut : (n : ℕ) (starts : List ℕ) (count : ℕ) → IsPartitionedBy (λ (s : ℕ). nat_lt s n) starts → IsCut starts n count → AllWithin (λ (s : ℕ). nat_lt s n ≡ true) starts 0 count
+below_cut n starts count parted cut k d low high =
+    let some = cut.some in
+    let inside = cut.inside in
+    let last : get_or starts (count - 1) d ≡ get_or starts (count - 1) 0 = get_or_default starts (count - 1) d 0 (omega arith) in
+    let below = cut.below in
+    parted k (count - 1) d (omega arith) (omega arith) (lt-ltb (get_or starts (count - 1) d) n (omega (arith, last, below)))
+
+pub above_cut : (n : ℕ) (starts : List ℕ) (count : ℕ) → IsPartitionedBy (λ (s : ℕ). nat_lt s n) starts → IsCut starts n count → AllWithin (λ (s : ℕ). nat_lt s n ≡ false) starts count (length starts)
+above_cut n starts count parted cut k d low high = by (nat_lt (get_or starts k d) n) refl
+  where
+    by : (t : Bool) → nat_lt (get_or starts k d) n ≡ t → nat_lt (get_or starts k d) n ≡ false
+    by false e = e
+    by true e =
+        let inside : count < length starts = omega arith in
+        let first : get_or starts count d ≡ get_or starts count 0 = get_or_default starts count d 0 inside in
+        let above = cut.above inside in
+        let below = ltb-true (get_or starts count d) n (parted count k d low high e) in
+        absurd (omega (arith, first, above, below))
 
 -- the datagrams of a line
 abbrev pub sent_by : JournalLine → List Sent

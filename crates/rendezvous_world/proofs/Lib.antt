@@ -7,6 +7,8 @@ pub mod Noting
 pub mod Calling
 pub mod Decided
 pub mod Finding
+pub mod Chained
+pub mod Keying
 pub mod Answered
 pub mod Entered
 pub mod Growing

@@ -12,7 +12,8 @@ use Rattle.rendezvous_world.specs.declared.end.End.{End as EndKept}
 use Rattle.rendezvous_world.specs.declared.journal.JournalLine.{JournalLine}
 use Rattle.rendezvous_world.specs.declared.step.Step.TheVariants.{End}
 use Rattle.rendezvous_world.specs.Seen.{EndSeen, Seen, group_secret}
-use Rattle.rendezvous_world.specs.Sent.{Sent}
+use Rattle.rendezvous_world.specs.Sent.{Sent, sent_in}
+use Rattle.rendezvous_world.specs.Keyed.{AreKeys}
 use Rattle.rendezvous_world.specs.Faults.{is_sent, is_unsent_in, is_forged_at, is_bad}
 use Rattle.rendezvous_world.specs.Stepping.{new_setup, new_end, with_end}
 use Rattle.rendezvous_world.specs.Entering.{WasSentIn, is_same}
@@ -64,14 +65,28 @@ sent_where_named (Some c) named bytes sent only there =
 
 -- ---- another moment
 
-pub kept_moment : (moment later : ℕ) (ends : List EndKept) (named : List Named) (lines : List JournalLine) (starts : List ℕ) (sent : ℕ) → moment ≤ later → IsKept moment ends named lines starts sent →
-    IsKept later ends named lines starts sent
-kept_moment moment later ends named lines starts sent le kept = record {
+pub kept_moment : (moment later : ℕ) (ends : List EndKept) (named : List Named) (lines : List JournalLine) (starts : List ℕ) (sent : ℕ) (keyed : List ℕ) → moment ≤ later → IsKept moment ends named lines starts sent keyed →
+    IsKept later ends named lines starts sent keyed
+kept_moment moment later ends named lines starts sent keyed le kept = record {
   names = kept.names;
   begins = kept.begins;
   total = kept.total;
   fits = kept.fits;
+  keys = kept.keys;
   world = with_moment_is_world (world_seen moment ends lines) later le kept.world;
+}
+
+-- ---- more keys
+
+pub kept_keys : (moment : ℕ) (ends : List EndKept) (named : List Named) (lines : List JournalLine) (starts : List ℕ) (sent : ℕ) (keyed more : List ℕ) → IsKept moment ends named lines starts sent keyed →
+    AreKeys more (sent_in lines) → IsKept moment ends named lines starts sent more
+kept_keys moment ends named lines starts sent keyed more kept are = record {
+  names = kept.names;
+  begins = kept.begins;
+  total = kept.total;
+  fits = kept.fits;
+  keys = are;
+  world = kept.world;
 }
 
 -- ---- one more end
@@ -110,11 +125,11 @@ seen_end moment ends lines given name print cert max_peers max_sessions state is
     (mapped_more end_seen ends (end_of given max_peers max_sessions cert state)
     ∙ ap (λ (e : EndSeen). map end_seen ends ++ e ∷ []) (end_is given name print cert max_peers max_sessions state is printed begun))
 
-pub kept_end : (moment : ℕ) (ends : List EndKept) (named : List Named) (lines : List JournalLine) (starts : List ℕ) (sent : ℕ) → IsKept moment ends named lines starts sent →
+pub kept_end : (moment : ℕ) (ends : List EndKept) (named : List Named) (lines : List JournalLine) (starts : List ℕ) (sent : ℕ) (keyed : List ℕ) → IsKept moment ends named lines starts sent keyed →
     (given again name print cert : List ℕ) (max_peers max_sessions : ℕ) (state : State) → given ≡ name → again ≡ name → print ≡ sha256 cert → IsCertificate cert → state ≡ fresh (setup_with max_peers max_sessions cert print) →
     is_bad (world_seen moment ends lines) (End name max_peers max_sessions cert) ≡ false →
-    IsKept moment (ends ++ end_of given max_peers max_sessions cert state ∷ []) (named ++ record { print = print; name = again } ∷ []) lines starts sent
-kept_end moment ends named lines starts sent kept given again name print cert max_peers max_sessions state is is_again printed certified begun fine = record {
+    IsKept moment (ends ++ end_of given max_peers max_sessions cert state ∷ []) (named ++ record { print = print; name = again } ∷ []) lines starts sent keyed
+kept_end moment ends named lines starts sent keyed kept given again name print cert max_peers max_sessions state is is_again printed certified begun fine = record {
   names =
       ap (λ (ns : List Named). ns ++ record { print = print; name = again } ∷ []) kept.names
       ∙ ap (λ (p : List ℕ). map named_of (map end_seen ends) ++ record { print = p; name = again } ∷ []) printed
@@ -124,6 +139,7 @@ kept_end moment ends named lines starts sent kept given again name print cert ma
   begins = kept.begins;
   total = kept.total;
   fits = kept.fits;
+  keys = kept.keys;
   world = subst (λ (x : Seen). IsWorld x) (sym (seen_end moment ends lines given name print cert max_peers max_sessions state is printed begun))
       (with_end_is_world (world_seen moment ends lines) name cert max_peers max_sessions kept.world certified fine);
 }

@@ -14,7 +14,8 @@ use Rattle.rendezvous_world.specs.Seen.{EndSeen, Seen}
 use Rattle.rendezvous_world.specs.Faults.{is_missing, lacks_end, lacks_datagram, is_like, is_outside, is_bad, is_forged, is_forged_by, step_fault}
 use Rattle.rendezvous_world.specs.Stepping.{Stepped}
 use Rattle.rendezvous_world.specs.Sound.{AreBelow}
-use Rattle.rendezvous_world.specs.Inside.{named_of, is_like_named}
+use Rattle.rendezvous_world.specs.Inside.{named_of}
+use Rattle.rtmfp_text.specs.Names.{is_like as is_like_named}
 use Rattle.rendezvous_world.specs.Entering.{CallsAnEnd, peer_of, IsEntering, IsEntered, IsBringing, IsDone}
 
 -- ---- the first reason

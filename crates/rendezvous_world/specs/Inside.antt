@@ -1,6 +1,5 @@
 -- What the fields of a world keep.
-use Rattle.std.specs.Prelude.{ℕ, ◌≡◌, ◌+◌, ◌*◌, ◌≤◌, ◌^◌, Bool, ◌||◌, List, [], ◌∷◌, map, length, Option, Some, None}
-use Rattle.std.specs.Str.{bytes_eq}
+use Rattle.std.specs.Prelude.{ℕ, ◌≡◌, ◌+◌, ◌-◌, ◌*◌, ◌<◌, ◌≤◌, ◌^◌, List, [], ◌∷◌, map, length, get_or, Option, Some, None}
 use Rattle.sha2.specs.Sha256.{sha256}
 use Rattle.rtmfp_forms.specs.Address.{AddressParts}
 use Rattle.rtmfp_text.specs.declared.names.Named.{Named}
@@ -10,6 +9,7 @@ use Rattle.rendezvous_world.specs.declared.sent.Letter.{Letter}
 use Rattle.rendezvous_world.specs.declared.journal.JournalLine.{JournalLine}
 use Rattle.rendezvous_world.specs.Seen.{EndSeen, Seen, group_secret}
 use Rattle.rendezvous_world.specs.Kept.{IsWorld}
+use Rattle.rendezvous_world.specs.Keyed.{AreKeys}
 use Rattle.rendezvous_world.specs.Sent.{Sent, sent_among, sent_in}
 
 abbrev pub end_seen : End → EndSeen
@@ -30,10 +30,6 @@ world_seen moment ends lines = record { moment = moment; ends = map end_seen end
 -- the fingerprint and the name of an end
 abbrev pub named_of : EndSeen → Named
 named_of end = record { print = own_of end.setup; name = end.name }
-
--- an end has this name, or this fingerprint
-abbrev pub is_like_named : List ℕ → List ℕ → Named → Bool
-is_like_named name print end = bytes_eq end.name name || bytes_eq end.print print
 
 -- ---- sent datagrams
 
@@ -63,12 +59,20 @@ abbrev pub starts_after : ℕ → List JournalLine → List ℕ
 starts_after before [] = []
 starts_after before (line ∷ lines) = before ∷ starts_after (before + count_in line) lines
 
+-- So many of these numbers are below another, at least one, and the next one isn't.
+pub record IsCut (starts : List ℕ) (number count : ℕ) : Type 0 where
+  pub some : 0 < count
+  pub inside : count ≤ length starts
+  pub below : get_or starts (count - 1) 0 < number
+  pub above : count < length starts → number ≤ get_or starts count 0
+
 -- ---- all of it
 
 pub record IsKept (moment : ℕ) (ends : List End) (named : List Named) (lines : List JournalLine)
-    (starts : List ℕ) (sent : ℕ) : Type 0 where
+    (starts : List ℕ) (sent : ℕ) (keyed : List ℕ) : Type 0 where
   pub names : named ≡ map named_of (map end_seen ends)
   pub begins : starts ≡ starts_after 0 lines
   pub total : sent ≡ length (sent_in lines)
   pub fits : sent ≤ length lines * 2 ^ 64
+  pub keys : AreKeys keyed (sent_in lines)
   pub world : IsWorld (world_seen moment ends lines)

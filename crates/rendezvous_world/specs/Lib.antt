@@ -13,3 +13,4 @@ pub mod Laws
 pub mod Pairs
 pub mod Edges
 pub mod Same
+pub mod Keyed

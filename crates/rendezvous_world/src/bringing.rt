@@ -8,7 +8,7 @@ ghost use Rattle.rendezvous_world.specs.Faults.{is_forged_by};
 ghost use Rattle.rendezvous_world.specs.Sent.{sent_in};
 ghost use Rattle.rendezvous_world.specs.Sound.{AreBelow};
 
-use crate::forgery::{forge, is_sent_in, same_context};
+use crate::forgery::{forge, same_context};
 use crate::sent::find;
 use crate::step::{Step, StepFault};
 use crate::world::World;
@@ -51,7 +51,12 @@ impl World {
         requires { length room.old ≡ 1200 }
         ensures { IsFetched (nth (sent_in self.now.lines) number) result room.new }
     {
-        match find(self.journal.lines(), &self.starts, u128::from(number)) {
+        match find(
+            self.journal.lines(),
+            &self.starts,
+            &self.lines_of,
+            u128::from(number),
+        ) {
             None => None,
             Some(letter) => {
                 let length = letter.datagram.len();
@@ -89,12 +94,29 @@ impl World {
         let there = &self.ends[end];
         match there.endpoint.opens_in(bytes) {
             None => false,
-            Some(context) => !is_sent_in(self.journal.lines(), bytes, &context),
+            Some(context) => !self.was_sent(bytes, &context),
         }
     }
 
     /// Brings a datagram to an end, if it isn't forged.
     fn bring(
+        &mut self,
+        line: u64,
+        end: usize,
+        step: &Step,
+        bytes: &mut [u8],
+        known: Option<Context>,
+    ) -> Result<(), StepFault>
+        requires bringing { IsBringing self.old line end step.now bytes.old }
+        requires sent { WasSentIn known bytes.old (sent_in self.old.lines) }
+        ensures { IsDone self.old line step.now result self.new }
+    {
+        self.note_keys(&known);
+        self.bring_unforged(line, end, step, bytes, known)
+    }
+
+    /// The same, where the keys of datagrams are noted.
+    fn bring_unforged(
         &mut self,
         line: u64,
         end: usize,

@@ -11,7 +11,7 @@ ghost use Rattle.rendezvous_world.specs.Stepping.{HasItsAnswer, IsDoneOrRefused}
 
 use crate::draws::draws_of;
 use crate::journal::Refused;
-use crate::step::{Places, Step};
+use crate::step::{Addresses, Step};
 use endpoint::{CallRefusal, Draws, Endpoint, OpenRefusal, Outbox, Stopped};
 use identity::Epd;
 use rtmfp_forms::Address;
@@ -67,7 +67,7 @@ pub(crate) fn call_end(
 fn open(
     endpoint: &mut Endpoint,
     print: &[u8; 32],
-    list: &Places,
+    list: &Addresses,
     moment: u64,
     draws: &Draws,
     out: &mut Outbox,

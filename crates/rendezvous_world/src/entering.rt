@@ -1,6 +1,6 @@
 //! A step that calls an end, and its line in the journal.
 
-ghost use Rattle.std.specs.Prelude.{◌≡◌, ◌<◌, ◌++◌, ◌∷◌, [], IfOk, OnOk, vec_capacity, vec_len};
+ghost use Rattle.std.specs.Prelude.{◌≡◌, ◌<◌, ◌++◌, ◌∷◌, [], IfOk, OnOk, get_or, length, vec_capacity, vec_len};
 ghost use Rattle.rendezvous_world.specs.Entering.{IsEntered, IsEntering, answered};
 
 use crate::calls::call_end;
@@ -10,6 +10,7 @@ use crate::step::{Step, StepFault};
 use crate::world::World;
 use endpoint::Outbox;
 use rtmfp_base::{Memory, Message};
+use rtmfp_text::Named;
 use std::alloc::Global;
 
 /// How many entries of a call need no further memory for their list.
@@ -41,6 +42,36 @@ fn make_ready(
     lines.reserve(1)?;
     starts.reserve(1)?;
     Outbox::new(alloc, ROOM)
+}
+
+/// The end with this number.
+fn named_at(named: &[Named], at: usize) -> &Named
+    requires { at < length named.now }
+    ensures { result.now ≡ get_or named.now at result.now }
+{
+    &named[at]
+}
+
+/// The same entries, without memory where there are none.
+fn without_spare(alloc: Global, out: Outbox) -> Outbox
+    ensures { result.entries ≡ out.entries }
+{
+    if !out.entries().is_empty() {
+        return out;
+    }
+    match Outbox::new(alloc, 0) {
+        Ok(empty) => empty,
+        Err(_) => out,
+    }
+}
+
+/// Notes for so many datagrams that this line sent them, as far as memory is found.
+fn note_line(lines_of: &mut Vec<usize>, line: usize, count: usize) {
+    for _ in 0..count {
+        if lines_of.push(line).is_err() {
+            return;
+        }
+    }
 }
 
 /// What a step that called an end answers.
@@ -75,7 +106,7 @@ impl World {
             Ok(out) => out,
             Err(_) => return Err(StepFault::Memory),
         };
-        let print = self.named[step.peer()].print;
+        let print = named_at(self.named.as_slice(), step.peer()).print;
         let there = &mut self.ends[end];
         let outcome = call_end(
             &mut there.endpoint,
@@ -93,6 +124,7 @@ impl World {
         let count = count_among(end, out.entries());
         put(&mut self.starts, self.sent);
         self.sent += count as u128;
+        note_line(&mut self.lines_of, journal.lines.len(), count);
         put(
             &mut journal.lines,
             JournalLine {
@@ -103,7 +135,7 @@ impl World {
                 datagram,
                 refused: outcome.refused,
                 stopped: outcome.stopped,
-                out,
+                out: without_spare(self.alloc, out),
             },
         );
         answered(is_stopped)

@@ -4,12 +4,17 @@ ghost use Rattle.std.specs.Prelude.{◌≡◌, ◌+◌, length};
 ghost use Rattle.std.specs.List.{list_any};
 ghost use Rattle.crypto_profile.specs.Keys.{keys_of};
 ghost use Rattle.crypto_profile.specs.Sealing.{sealed};
-ghost use Rattle.rendezvous_world.specs.Datagrams.{forged};
+ghost use Rattle.rendezvous_world.specs.Datagrams.{forged, nth};
 ghost use Rattle.rendezvous_world.specs.Seen.{group_secret};
 ghost use Rattle.rendezvous_world.specs.Faults.{is_sent, same_context};
+ghost use Rattle.rendezvous_world.specs.Inside.{starts_after};
+ghost use Rattle.rendezvous_world.specs.Keyed.{AreKeys, is_one_sent, key_of};
 ghost use Rattle.rendezvous_world.specs.Sent.{sent_among, sent_in};
 
 use crate::journal::JournalLine;
+use crate::keyed::Keyed;
+use crate::sent::find;
+use crate::world::World;
 use crypto_profile::{Context, Keys, seal_in_place};
 use endpoint::Entry;
 use packet_scramble::scramble;
@@ -21,6 +26,11 @@ pub(crate) const GROUP_SECRET: [u8; 32] = [0; 32];
 const SEALED_AT: usize = 4;
 
 const PLAIN_AT: usize = 36;
+
+/// The bytes before those that a datagram's key is made of, and their number.
+const KEYED_AT: usize = 4;
+
+const KEY_BYTES: usize = 8;
 
 /// Whether two contexts are the same.
 pub(crate) fn same_context(a: &Context, b: &Context) -> bool
@@ -87,7 +97,7 @@ fn is_sent_among(by: usize, entries: &[Entry], bytes: &[u8], context: &Context) 
 }
 
 /// Whether a datagram was sent with these bytes in this context.
-pub(crate) fn is_sent_in(lines: &[JournalLine], bytes: &[u8], context: &Context) -> bool
+fn is_sent_in(lines: &[JournalLine], bytes: &[u8], context: &Context) -> bool
     ensures { result ≡ list_any (is_sent bytes.now context.now) (sent_in lines.now) }
 {
     let mut rest = lines;
@@ -98,6 +108,113 @@ pub(crate) fn is_sent_in(lines: &[JournalLine], bytes: &[u8], context: &Context)
         rest = others;
     }
     false
+}
+
+/// The key of a datagram: the first eight bytes behind its session ID, which are of its tag, and 0
+/// where they aren't there.
+fn key_of(datagram: &[u8]) -> u64
+    ensures { result ≡ key_of datagram.now }
+{
+    if datagram.len() < KEYED_AT + KEY_BYTES {
+        return 0;
+    }
+    let (_, part) = datagram.split_at(KEYED_AT);
+    let (front, _) = part.split_at(KEY_BYTES);
+    let mut key = [0; KEY_BYTES];
+    key.copy_from_slice(front);
+    u64::from_be_bytes(key)
+}
+
+/// Adds the keys of the datagrams that have none yet, as far as memory is found.
+fn note_keys(lines: &[JournalLine], starts: &[u128], lines_of: &[usize], keyed: &mut Keyed)
+    requires starts { starts.now ≡ starts_after 0 lines.now }
+    requires keys { AreKeys keyed.old (sent_in lines.now) }
+    ensures { AreKeys keyed.new (sent_in lines.now) }
+{
+    while let Some(letter) = find(lines, starts, lines_of, keyed.len() as u128 + 1) {
+        let Ok(()) = keyed.push(key_of(letter.datagram)) else {
+            return;
+        };
+    }
+}
+
+/// Whether the datagram with this number was sent with these bytes in this context.
+fn is_sent_as(
+    lines: &[JournalLine],
+    starts: &[u128],
+    lines_of: &[usize],
+    number: u128,
+    bytes: &[u8],
+    context: &Context,
+) -> bool
+    requires { starts.now ≡ starts_after 0 lines.now }
+    ensures { result ≡ is_one_sent bytes.now context.now (nth (sent_in lines.now) number) }
+{
+    match find(lines, starts, lines_of, number) {
+        Some(letter) => letter.datagram == bytes && same_context(&letter.context, context),
+        None => false,
+    }
+}
+
+/// The same of all datagrams, where each has its key. Only those with the same key are compared.
+fn is_sent_by_key(
+    lines: &[JournalLine],
+    starts: &[u128],
+    lines_of: &[usize],
+    keyed: &Keyed,
+    bytes: &[u8],
+    context: &Context,
+) -> bool
+    requires starts { starts.now ≡ starts_after 0 lines.now }
+    requires keys { AreKeys keyed.now (sent_in lines.now) }
+    requires all { length keyed.now ≡ length (sent_in lines.now) }
+    ensures { result ≡ list_any (is_sent bytes.now context.now) (sent_in lines.now) }
+{
+    let mut last = keyed.last(key_of(bytes));
+    while let Some(at) = last {
+        if is_sent_as(lines, starts, lines_of, at as u128 + 1, bytes, context) {
+            return true;
+        }
+        last = keyed.before(at);
+    }
+    false
+}
+
+impl World {
+    /// Adds the keys of the datagrams that have none yet, as far as memory is found. They aren't
+    /// needed where it is known in which context the datagram was sent.
+    pub(crate) fn note_keys(&mut self, known: &Option<Context>)
+        ensures { self.new ≡ self.old }
+    {
+        if known.is_some() {
+            return;
+        }
+        note_keys(
+            self.journal.lines(),
+            &self.starts,
+            &self.lines_of,
+            &mut self.keyed,
+        );
+    }
+
+    /// Whether a datagram was sent with these bytes in this context. Where some have no key, all
+    /// are compared.
+    pub(crate) fn was_sent(&self, bytes: &[u8], context: &Context) -> bool
+        ensures { result ≡ list_any (is_sent bytes.now context.now) (sent_in self.now.lines) }
+    {
+        let lines = self.journal.lines();
+        if self.keyed.len() as u128 == self.sent {
+            return is_sent_by_key(
+                lines,
+                &self.starts,
+                &self.lines_of,
+                &self.keyed,
+                bytes,
+                context,
+            );
+        }
+        is_sent_in(lines, bytes, context)
+    }
 }
 
 /// The keys of the packets that nobody sent.

@@ -11,6 +11,7 @@ mod end;
 mod entering;
 mod forgery;
 mod journal;
+mod keyed;
 pub mod laws;
 mod pairs;
 mod sent;
@@ -19,5 +20,5 @@ mod taking;
 mod world;
 
 pub use journal::{Journal, JournalLine, Refused};
-pub use step::{Places, Step, StepFault};
+pub use step::{Addresses, Step, StepFault};
 pub use world::World;

@@ -13,11 +13,11 @@ use thiserror::Error;
 
 /// Addresses, seen by contracts as their list.
 #[derive(Drop)]
-pub struct Places {
+pub struct Addresses {
     addresses: Vec<Address>,
 }
 
-impl Model for Places {
+impl Model for Addresses {
     ghost use Rattle.std.specs.Prelude.{List};
     ghost use Rattle.rtmfp_forms.specs.Address.{AddressParts};
 
@@ -26,12 +26,12 @@ impl Model for Places {
     ghost view = { λ p. p.addresses.items };
 }
 
-impl Places {
+impl Addresses {
     /// The list of addresses that are there. It takes no memory.
-    pub fn of(addresses: Vec<Address>) -> Places
+    pub fn of(addresses: Vec<Address>) -> Addresses
         ensures { result ≡ addresses.items }
     {
-        Places { addresses }
+        Addresses { addresses }
     }
 
     /// The addresses, in their order.
@@ -42,10 +42,10 @@ impl Places {
     }
 
     /// The same addresses again.
-    pub(crate) fn copy(&self, alloc: Global) -> Result<Places, Memory>
-        ensures { IfOk result (λ places. places ≡ self.now) }
+    pub(crate) fn copy(&self, alloc: Global) -> Result<Addresses, Memory>
+        ensures { IfOk result (λ list. list ≡ self.now) }
     {
-        Ok(Places {
+        Ok(Addresses {
             addresses: Vec::from_slice(alloc, self.as_slice())?,
         })
     }
@@ -71,7 +71,7 @@ pub enum Step {
     Open {
         end: usize,
         peer: usize,
-        list: Places,
+        list: Addresses,
     },
     /// An end gives up its attempt with this number.
     Cancel {

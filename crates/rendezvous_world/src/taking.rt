@@ -6,13 +6,14 @@ ghost use Rattle.identity.specs.Certificates.{IsCertificate};
 ghost use Rattle.sha2.specs.Sha256.{sha256};
 ghost use Rattle.rendezvous_world.specs.Entering.{IsDone};
 ghost use Rattle.rendezvous_world.specs.Faults.{is_missing, is_outside};
-ghost use Rattle.rendezvous_world.specs.Inside.{is_like_named, named_of};
+ghost use Rattle.rendezvous_world.specs.Inside.{named_of};
 ghost use Rattle.rendezvous_world.specs.Sound.{AreBelow};
+ghost use Rattle.rtmfp_text.specs.Names.{is_like as is_like_named};
 
 use crate::end::End;
 use crate::entering::put;
 use crate::forgery::GROUP_SECRET;
-use crate::step::{Places, Step, StepFault};
+use crate::step::{Addresses, Step, StepFault};
 use crate::world::World;
 use endpoint::{Config, Endpoint};
 use identity::Certificate;
@@ -34,20 +35,6 @@ fn is_outside(most: u32, count: u32) -> bool
     count == 0 || most < count
 }
 
-/// Whether one of the ends has this name, or this fingerprint.
-fn has_like(named: &[Named], name: &Name, print: &[u8; 32]) -> bool
-    ensures { result ≡ list_any (is_like_named name.now print.now) named.now }
-{
-    let mut rest = named;
-    while let [end, others @ ..] = rest {
-        if end.name.bytes() == name.bytes() || end.print == *print {
-            return true;
-        }
-        rest = others;
-    }
-    false
-}
-
 /// The fingerprint of a certificate.
 fn certified_print(cert: &Certificate) -> [u8; 32]
     ensures print { result ≡ sha256 cert.now }
@@ -64,7 +51,7 @@ impl World {
             || nat_le 1024 (length self.now.ends) || is_outside 1048576 max_peers
             || is_outside 65536 max_sessions) }
     {
-        has_like(self.named(), name, print)
+        self.named().has_like(name, print)
             || self.count() >= MOST_ENDS
             || is_outside(MOST_PEERS, max_peers)
             || is_outside(MOST_SESSIONS, max_sessions)
@@ -96,9 +83,13 @@ impl World {
         if self.ends.reserve(1).is_err() {
             return Err(StepFault::Memory);
         }
-        if self.named.reserve(1).is_err() {
+        let named = Named {
+            print,
+            name: name.again(),
+        };
+        let Ok(()) = self.named.push(named) else {
             return Err(StepFault::Memory);
-        }
+        };
         let config = Config {
             max_peers,
             max_sessions,
@@ -111,13 +102,6 @@ impl World {
                 config,
                 cert: *cert,
                 endpoint: Endpoint::new(self.alloc, config, *cert, GROUP_SECRET, print),
-            },
-        );
-        put(
-            &mut self.named,
-            Named {
-                print,
-                name: name.again(),
             },
         );
         Ok(())
@@ -140,7 +124,7 @@ impl World {
         line: u64,
         end: usize,
         peer: usize,
-        list: &Places,
+        list: &Addresses,
     ) -> Result<(), StepFault>
         requires above { AreBelow self.old.lines line }
         requires fits { line < 2 ^ 32 }

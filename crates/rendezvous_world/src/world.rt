@@ -2,10 +2,11 @@
 
 use crate::end::End;
 use crate::journal::Journal;
+use crate::keyed::Keyed;
 use crate::sent::find;
 use crate::step::{Step, StepFault};
 use rtmfp_forms::Address;
-use rtmfp_text::Named;
+use rtmfp_text::Directory;
 use std::alloc::Global;
 use std::marker::Model;
 
@@ -19,12 +20,17 @@ pub struct World {
     pub(crate) moment: u64,
     pub(crate) ends: Vec<End>,
     /// The fingerprints and names of the ends.
-    pub(crate) named: Vec<Named>,
+    pub(crate) named: Directory,
     pub(crate) journal: Journal,
     /// For each line of the journal, how many datagrams were sent before it.
     pub(crate) starts: Vec<u128>,
     /// How many datagrams were sent.
     pub(crate) sent: u128,
+    /// For each datagram the index of its line, as far as memory was found. An index is tested
+    /// before it is used.
+    pub(crate) lines_of: Vec<usize>,
+    /// The keys of the first datagrams that were sent.
+    pub(crate) keyed: Keyed,
 }
 
 impl Model for World {
@@ -41,7 +47,7 @@ impl Model for World {
 
     ghost view = { λ w. world_seen w.moment w.ends.items w.journal };
 
-    ghost invariant = { λ w. IsKept w.moment w.ends.items w.named.items w.journal w.starts.items w.sent };
+    ghost invariant = { λ w. IsKept w.moment w.ends.items w.named w.journal w.starts.items w.sent w.keyed };
 }
 
 impl World {
@@ -67,12 +73,14 @@ impl World {
             alloc,
             moment: 0,
             ends: Vec::new(alloc),
-            named: Vec::new(alloc),
+            named: Directory::new(alloc),
             journal: Journal {
                 lines: Vec::new(alloc),
             },
             starts: Vec::new(alloc),
             sent: 0,
+            lines_of: Vec::new(alloc),
+            keyed: Keyed::new(alloc),
         }
     }
 
@@ -151,10 +159,10 @@ impl World {
     }
 
     /// The fingerprint and the name of each end, by their numbers.
-    pub fn named(&self) -> &[Named]
+    pub fn named(&self) -> &Directory
         ensures { result.now ≡ map named_of self.now.ends }
     {
-        self.named.as_slice()
+        &self.named
     }
 
     /// How many datagrams were sent; where there are more than 2^64 - 1, that number.
@@ -169,7 +177,12 @@ impl World {
     pub fn sent(&self, number: u64) -> Option<(usize, Address)>
         ensures { result ≡ passing (nth (sent_in self.now.lines) number) }
     {
-        match find(self.journal.lines(), &self.starts, u128::from(number)) {
+        match find(
+            self.journal.lines(),
+            &self.starts,
+            &self.lines_of,
+            u128::from(number),
+        ) {
             Some(letter) => Some((letter.by, letter.to)),
             None => None,
         }

@@ -25,9 +25,9 @@ one_more seed count x v w e runs done =
 
 -- the step that ended the run
 stops : (Kind : Option StepFault → Type 0) (seed steps count x line : ℕ) (v : Seen) → count < steps → line ≡ 8 + count + 1 → x ≡ number_after (count + 1) seed → Generates seed count v → Kind (step_fault v (generated_step v x)) → StopsAtStep Kind seed steps line
-stops Kind seed steps count x line v few place e runs kind =
+stops Kind seed steps count x line v few numbered e runs kind =
     let P : ℕ → Type 0 = λ n. Kind (step_fault v (generated_step v n)) in
-    record { count = count; few = few; place = place; world = v; ran = runs; refused = subst P e kind }
+    record { count = count; few = few; numbered = numbered; world = v; ran = runs; refused = subst P e kind }
 
 pub run_ends_so : (s : Status) (seed steps count x : ℕ) (v : Seen) → count < steps → x ≡ number_after (count + 1) seed → Generates seed count v → StepEnds (8 + count + 1) (step_fault v (generated_step v x)) s →
     RunEnds (λ Kind line. StopsAtStep Kind seed steps line) s

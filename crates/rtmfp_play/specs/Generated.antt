@@ -45,8 +45,8 @@ abbrev pub end_step : ℕ → Step
 end_step who = End (end_name who) 65536 4096 (end_cert who)
 
 -- its address: 10.0.0.1:1935 for the first
-abbrev pub end_place : ℕ → AddressParts
-end_place who = record {
+abbrev pub end_address : ℕ → AddressParts
+end_address who = record {
   v6 = false;
   origin = 0;
   host = 10 ∷ 0 ∷ 0 ∷ (who + 1) ∷ replicate 12 0;
@@ -55,7 +55,7 @@ end_place who = record {
 
 -- the end that has this address, by the last number of its host
 abbrev pub end_at : AddressParts → ℕ
-end_at place = slice_index place.host 3 - 1
+end_at address = slice_index address.host 3 - 1
 
 -- ---- the sequence of numbers
 
@@ -74,7 +74,7 @@ number_after (suc count) seed = next_number (number_after count seed)
 abbrev pub delivery : ℕ → ℕ → Option (ℕ × AddressParts) → Step
 delivery end number None = Tick end
 delivery end number (Some (by, to)) = if nat_lt by end_count then
-    Deliver number (end_at to) (end_place by) else Tick end
+    Deliver number (end_at to) (end_address by) else Tick end
 
 -- one of the last 16 datagrams is delivered; where none was sent, the end does what is due
 abbrev pub delivery_or_tick : List Sent → ℕ → ℕ → Step
@@ -85,7 +85,7 @@ delivery_or_tick sent end back =
 
 abbrev pub picked : Seen → (operation end other back : ℕ) → Step
 picked w operation end other back =
-    if nat_lt operation 2 then Open end other (end_place other ∷ [])
+    if nat_lt operation 2 then Open end other (end_address other ∷ [])
     else if operation == 2 then Tick end
     else if operation == 3 then At (w.moment + 500)
     else if operation == 4 then Cancel end back
@@ -127,7 +127,7 @@ summary_of steps w = summary_text (length w.ends) steps (tally_of (all_entries w
 pub record StopsAtEnd (Kind : Option StepFault → Type 0) (line : ℕ) : Type 0 where
   pub who : ℕ
   pub few : who < end_count
-  pub place : line ≡ who + 1
+  pub numbered : line ≡ who + 1
   pub world : Seen
   pub begun : Begun who world
   pub refused : Kind (step_fault world (end_step who))
@@ -135,7 +135,7 @@ pub record StopsAtEnd (Kind : Option StepFault → Type 0) (line : ℕ) : Type 0
 pub record StopsAtStep (Kind : Option StepFault → Type 0) (seed steps line : ℕ) : Type 0 where
   pub count : ℕ
   pub few : count < steps
-  pub place : line ≡ end_count + count + 1
+  pub numbered : line ≡ end_count + count + 1
   pub world : Seen
   pub ran : Generates seed count world
   pub refused : Kind (step_fault world (generated_step world (number_after (count + 1) seed)))

@@ -42,9 +42,9 @@ step_by_both (Some end) (Some peer) step = Some (step end peer)
 abbrev pub step_said : List Named → ScriptLine → Option Step
 step_said ends (line.End name peers sessions cert) = Some (step.End name peers sessions cert)
 step_said ends (line.At moment) = Some (step.At moment)
-step_said ends (line.Open name peer places) =
+step_said ends (line.Open name peer addresses) =
     step_by_both (number_of ends name) (number_of ends peer)
-    (λ end other. step.Open end other places)
+    (λ end other. step.Open end other addresses)
 step_said ends (line.Cancel name number) = step_by (number_of ends name)
     (λ end. step.Cancel end number)
 step_said ends (line.Tick name) = step_by (number_of ends name) (λ end. step.Tick end)

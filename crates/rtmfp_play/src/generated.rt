@@ -3,13 +3,13 @@ ghost use Rattle.std.specs.Prelude.{◌≡◌, ◌+◌, ◌<◌, ◌≤◌, ◌^
 ghost use Rattle.rendezvous_world.specs.Laws.{empty_world};
 ghost use Rattle.rendezvous_world.specs.Sent.{sent_in};
 ghost use Rattle.rendezvous_world.specs.Sound.{AreBelow};
-ghost use Rattle.rtmfp_play.specs.Generated.{Begun, GeneratedEnds, Generates, StopsAtEnd, StopsAtStep, delivery, delivery_or_tick, end_place, end_step, generated_step, next_number, summary_of};
+ghost use Rattle.rtmfp_play.specs.Generated.{Begun, GeneratedEnds, Generates, StopsAtEnd, StopsAtStep, delivery, delivery_or_tick, end_address, end_step, generated_step, next_number, summary_of};
 ghost use Rattle.rtmfp_play.specs.Play.{HistoryHolds};
 ghost use Rattle.rtmfp_play.specs.Generating.{HandsOver, RunEnds, Summarizes, TakesStep};
 
 use crate::play::sent_so_far;
 use identity::Certificate;
-use rendezvous_world::{Places, Step, StepFault, World};
+use rendezvous_world::{Addresses, Step, StepFault, World};
 use rtmfp_forms::Address;
 use rtmfp_host::{Sink, Wrote};
 use rtmfp_lines::Status;
@@ -182,18 +182,18 @@ fn pause(moment: u64) -> Result<Step, AllocError>
 }
 
 /// The address of an end.
-fn end_place(who: usize) -> Address
+fn end_address(who: usize) -> Address
     requires { who < 8 }
-    ensures { result ≡ end_place who }
+    ensures { result ≡ end_address who }
 {
     Address::v4([10, 0, 0, who as u8 + 1], 1935)
 }
 
 fn open_step(alloc: Global, end: usize, peer: usize) -> Result<Step, AllocError>
     requires { peer < 8 }
-    ensures { IfOk result (λ step. step ≡ Step.Open end peer (end_place peer ∷ [])) }
+    ensures { IfOk result (λ step. step ≡ Step.Open end peer (end_address peer ∷ [])) }
 {
-    let list = Places::of(Vec::from_slice(alloc, &[end_place(peer)])?);
+    let list = Addresses::of(Vec::from_slice(alloc, &[end_address(peer)])?);
     Ok(Step::Open { end, peer, list })
 }
 
@@ -219,7 +219,7 @@ fn delivery(end: usize, number: u64, sent: Option<(usize, Address)>) -> Step
                 Step::Deliver {
                     number,
                     end: usize::from(to.host[3]).saturating_sub(1),
-                    from: end_place(by),
+                    from: end_address(by),
                 }
             } else {
                 Step::Tick { end }
@@ -276,5 +276,11 @@ fn summarize(world: &World, steps: u64, text: &mut Text) -> Result<(), AllocErro
     let Ok(kept) = u64::try_from(world.kept_pairs()) else {
         return Err(AllocError);
     };
-    push_summary(world.named().len() as u64, steps, &tally, kept, text)
+    push_summary(
+        world.named().as_slice().len() as u64,
+        steps,
+        &tally,
+        kept,
+        text,
+    )
 }

@@ -1,7 +1,7 @@
 //! What holds of all lines of scripts, and the values of the generated run a second time. The
 //! functions do nothing: the contract of each is its law.
 ghost use Rattle.std.specs.Prelude.{◌≡◌, ◌∷◌, [], false};
-ghost use Rattle.rtmfp_play.specs.Generated.{end_at, end_cert, end_count, end_name, end_place, number_after};
+ghost use Rattle.rtmfp_play.specs.Generated.{end_at, end_cert, end_count, end_name, end_address, number_after};
 ghost use Rattle.rtmfp_play.specs.Laws.{EachLineIsTold};
 
 /// A line of a script adds one line to the journal, of which it tells, or none, and then it tells
@@ -18,13 +18,13 @@ pub fn generated_values()
     ensures name { end_name 3 ≡ 101 ∷ 51 ∷ [] }
     ensures cert { end_cert 7 ≡ 103 ∷ 101 ∷ 110 ∷ 101 ∷ 114 ∷ 97 ∷ 116 ∷ 101 ∷ 100 ∷ 45 ∷ 101 ∷ 110
         ∷ 100 ∷ 45 ∷ 48 ∷ 55 ∷ 101 ∷ 55 ∷ [] }
-    ensures first { (end_place 0).host ≡ 10 ∷ 0 ∷ 0 ∷ 1 ∷ 0 ∷ 0 ∷ 0 ∷ 0 ∷ 0 ∷ 0 ∷ 0 ∷ 0 ∷ 0 ∷ 0 ∷ 0
+    ensures first { (end_address 0).host ≡ 10 ∷ 0 ∷ 0 ∷ 1 ∷ 0 ∷ 0 ∷ 0 ∷ 0 ∷ 0 ∷ 0 ∷ 0 ∷ 0 ∷ 0 ∷ 0 ∷ 0
         ∷ 0 ∷ [] }
-    ensures last { (end_place 7).host ≡ 10 ∷ 0 ∷ 0 ∷ 8 ∷ 0 ∷ 0 ∷ 0 ∷ 0 ∷ 0 ∷ 0 ∷ 0 ∷ 0 ∷ 0 ∷ 0 ∷ 0
+    ensures last { (end_address 7).host ≡ 10 ∷ 0 ∷ 0 ∷ 8 ∷ 0 ∷ 0 ∷ 0 ∷ 0 ∷ 0 ∷ 0 ∷ 0 ∷ 0 ∷ 0 ∷ 0 ∷ 0
         ∷ 0 ∷ [] }
-    ensures port { (end_place 0).port ≡ 1935 }
-    ensures family { (end_place 0).v6 ≡ false }
-    ensures back { end_at (end_place 5) ≡ 5 }
+    ensures port { (end_address 0).port ≡ 1935 }
+    ensures family { (end_address 0).v6 ≡ false }
+    ensures back { end_at (end_address 5) ≡ 5 }
     ensures seed { number_after 0 7 ≡ 7 }
     ensures next { number_after 1 1 ≡ 7806831264735756412 }
     ensures after_zero { number_after 1 0 ≡ 1442695040888963407 }

@@ -8,12 +8,12 @@ ghost use Rattle.rtmfp_play.specs.Play.{name_at, number_of, step_by, step_by_bot
 ghost use Rattle.rtmfp_play.specs.Playing.{PlayedAs, SteppedAs};
 
 use crate::said::Said;
-use rendezvous_world::{JournalLine, Places, Refused, Step, StepFault, World};
+use rendezvous_world::{Addresses, JournalLine, Refused, Step, StepFault, World};
 use rtmfp_base::Message;
 use rtmfp_forms::Address;
 use rtmfp_report::{GroupKeys, push_call_refusal, push_entries, push_open_refusal};
 use rtmfp_script::{Said as LineSaid, ScriptLine, read_line};
-use rtmfp_text::{Name, Named, Text};
+use rtmfp_text::{Directory, Name, Named, Text};
 use std::alloc::{AllocError, Global};
 
 /// The longest line of a script, in bytes without its LF.
@@ -102,7 +102,7 @@ pub fn sent_so_far(world: &World) -> Result<u64, AllocError>
 // ---- the step that a line says
 
 /// The step that a line says, among these ends; none where one that it names isn't there.
-fn step_said(alloc: Global, ends: &[Named], said: ScriptLine) -> Result<Option<Step>, AllocError>
+fn step_said(alloc: Global, ends: &Directory, said: ScriptLine) -> Result<Option<Step>, AllocError>
     ensures { IfOk result (λ step. step ≡ step_said ends.now said) }
 {
     match said {
@@ -137,59 +137,58 @@ fn step_said(alloc: Global, ends: &[Named], said: ScriptLine) -> Result<Option<S
     }
 }
 
-/// The number of the first end with this name.
-fn number_of(ends: &[Named], name: &Name) -> Option<usize>
-    ensures { result ≡ number_of ends.now name.now }
-{
-    ends.iter().position(|end| end.name.bytes() == name.bytes())
-}
-
 fn open_said(
     alloc: Global,
-    ends: &[Named],
+    ends: &Directory,
     name: &Name,
     peer: &Name,
-    places: &[Address],
+    addresses: &[Address],
 ) -> Result<Option<Step>, AllocError>
     ensures { IfOk result (λ step. step ≡ step_by_both (number_of ends.now name.now)
-        (number_of ends.now peer.now) (λ end other. Step.Open end other places.now)) }
+        (number_of ends.now peer.now) (λ end other. Step.Open end other addresses.now)) }
 {
-    let Some(end) = number_of(ends, name) else {
+    let Some(end) = ends.number_of(name) else {
         return Ok(None);
     };
-    let Some(peer) = number_of(ends, peer) else {
+    let Some(peer) = ends.number_of(peer) else {
         return Ok(None);
     };
-    let list = Places::of(Vec::from_slice(alloc, places)?);
+    let list = Addresses::of(Vec::from_slice(alloc, addresses)?);
     Ok(Some(Step::Open { end, peer, list }))
 }
 
-fn cancel_said(ends: &[Named], name: &Name, n: u64) -> Option<Step>
+fn cancel_said(ends: &Directory, name: &Name, n: u64) -> Option<Step>
     ensures { result ≡ step_by (number_of ends.now name.now) (λ end. Step.Cancel end n) }
 {
-    let end = number_of(ends, name)?;
+    let end = ends.number_of(name)?;
     Some(Step::Cancel { end, n })
 }
 
-fn tick_said(ends: &[Named], name: &Name) -> Option<Step>
+fn tick_said(ends: &Directory, name: &Name) -> Option<Step>
     ensures { result ≡ step_by (number_of ends.now name.now) (λ end. Step.Tick end) }
 {
-    let end = number_of(ends, name)?;
+    let end = ends.number_of(name)?;
     Some(Step::Tick { end })
 }
 
-fn deliver_said(ends: &[Named], number: u64, name: &Name, from: Address) -> Option<Step>
+fn deliver_said(ends: &Directory, number: u64, name: &Name, from: Address) -> Option<Step>
     ensures { result ≡ step_by (number_of ends.now name.now) (λ end. Step.Deliver number end from) }
 {
-    let end = number_of(ends, name)?;
+    let end = ends.number_of(name)?;
     Some(Step::Deliver { number, end, from })
 }
 
-fn bent_said(ends: &[Named], number: u64, place: usize, name: &Name, from: Address) -> Option<Step>
+fn bent_said(
+    ends: &Directory,
+    number: u64,
+    place: usize,
+    name: &Name,
+    from: Address,
+) -> Option<Step>
     ensures { result ≡ step_by (number_of ends.now name.now)
         (λ end. Step.Bent number place end from) }
 {
-    let end = number_of(ends, name)?;
+    let end = ends.number_of(name)?;
     Some(Step::Bent {
         number,
         place,
@@ -198,27 +197,27 @@ fn bent_said(ends: &[Named], number: u64, place: usize, name: &Name, from: Addre
     })
 }
 
-fn inject_said(ends: &[Named], name: &Name, from: Address, bytes: Message) -> Option<Step>
+fn inject_said(ends: &Directory, name: &Name, from: Address, bytes: Message) -> Option<Step>
     ensures { result ≡ step_by (number_of ends.now name.now) (λ end. Step.Inject end from bytes) }
 {
-    let end = number_of(ends, name)?;
+    let end = ends.number_of(name)?;
     Some(Step::Inject { end, from, bytes })
 }
 
-fn forge_said(ends: &[Named], name: &Name, from: Address, plain: Message) -> Option<Step>
+fn forge_said(ends: &Directory, name: &Name, from: Address, plain: Message) -> Option<Step>
     ensures { result ≡ step_by (number_of ends.now name.now) (λ end. Step.Forge end from plain) }
 {
-    let end = number_of(ends, name)?;
+    let end = ends.number_of(name)?;
     Some(Step::Forge { end, from, plain })
 }
 
 // ---- the report
 
-/// Adds what is told of the line of the journal at this place, if there is one, where so many
+/// Adds what is told of the line of the journal with this index, if there is one, where so many
 /// datagrams were sent before it.
 fn push_line(
     keys: &GroupKeys,
-    ends: &[Named],
+    ends: &Directory,
     sent: u64,
     lines: &[JournalLine],
     at: usize,
@@ -238,7 +237,7 @@ fn push_line(
 /// Adds what is told of a line of the journal.
 fn push_told(
     keys: &GroupKeys,
-    ends: &[Named],
+    ends: &Directory,
     sent: u64,
     line: &JournalLine,
     scratch: &mut Vec<u8>,
@@ -247,7 +246,7 @@ fn push_told(
     requires { keys.now ≡ group_secret }
     ensures { OnOk result (text.new ≡ text.old ++ told_of ends.now sent line.now line.now.refused) }
 {
-    let name = name_at(ends, line.end);
+    let name = name_at(ends.as_slice(), line.end);
     match &line.refused {
         Some(Refused::Open(refusal)) => push_open_refusal(line.line, &name, refusal, text),
         Some(Refused::Call(refusal)) => push_call_refusal(line.line, &name, refusal, text),
@@ -258,7 +257,7 @@ fn push_told(
 /// Adds what a call did.
 fn push_done(
     keys: &GroupKeys,
-    ends: &[Named],
+    ends: &Directory,
     name: &Name,
     sent: u64,
     line: &JournalLine,

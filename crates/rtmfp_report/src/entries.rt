@@ -8,7 +8,7 @@ use crate::group_keys::GroupKeys;
 use crate::lines::push_head;
 use crate::sent::push_sent;
 use endpoint::Entry;
-use rtmfp_text::{Name, Named, Text};
+use rtmfp_text::{Directory, Name, Text};
 use startup::Cause;
 use std::alloc::AllocError;
 
@@ -21,7 +21,7 @@ use std::alloc::AllocError;
 /// memory.
 pub fn push_entries(
     keys: &GroupKeys,
-    ends: &[Named],
+    ends: &Directory,
     line: u64,
     name: &Name,
     sent: u64,
@@ -57,7 +57,7 @@ fn count_after(sent: u64, entry: &Entry) -> Result<u64, AllocError>
 /// Adds the line of an entry.
 fn push_entry(
     keys: &GroupKeys,
-    ends: &[Named],
+    ends: &Directory,
     line: u64,
     name: &Name,
     number: u64,
@@ -77,7 +77,7 @@ fn push_entry(
 /// Adds what an entry tells. A datagram that goes out has this number.
 fn push_told(
     keys: &GroupKeys,
-    ends: &[Named],
+    ends: &Directory,
     number: u64,
     entry: &Entry,
     scratch: &mut Vec<u8>,

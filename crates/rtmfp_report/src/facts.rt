@@ -4,12 +4,12 @@ ghost use Rattle.rtmfp_report.specs.FactText.{ended_text, fact_text, joined_text
 
 use crate::nonces::push_nonce;
 use glare_core::{Fact, Joined, Why};
-use rtmfp_text::{Named, Text, push_peer};
+use rtmfp_text::{Directory, Text};
 use std::alloc::AllocError;
 
 /// Adds a fact. Its peer is called as among these ends.
 #[tactic(auto, unfolding(crate::specs::FactText::fact_text))]
-pub(crate) fn push_fact(ends: &[Named], fact: &Fact, text: &mut Text) -> Result<(), AllocError>
+pub(crate) fn push_fact(ends: &Directory, fact: &Fact, text: &mut Text) -> Result<(), AllocError>
     ensures { OnOk result (text.new ≡ text.old ++ fact_text ends.now fact.now) }
 {
     match fact {
@@ -29,7 +29,7 @@ pub(crate) fn push_fact(ends: &[Named], fact: &Fact, text: &mut Text) -> Result<
 }
 
 fn push_started(
-    ends: &[Named],
+    ends: &Directory,
     peer: &[u8; 32],
     n: u64,
     near: u64,
@@ -40,7 +40,7 @@ fn push_started(
         ++ fact_text ends.now (Fact.Started peer.now n near ni.now)) }
 {
     text.push("started peer=")?;
-    push_peer(ends, peer, text)?;
+    ends.push_peer(peer, text)?;
     text.push_number_field(" n=", n)?;
     text.push_number_field(" near=", near)?;
     text.push(" ni=")?;
@@ -48,7 +48,7 @@ fn push_started(
     Ok(())
 }
 
-fn push_born(ends: &[Named], joined: &Joined, text: &mut Text) -> Result<(), AllocError>
+fn push_born(ends: &Directory, joined: &Joined, text: &mut Text) -> Result<(), AllocError>
     ensures { OnOk result (text.new ≡ text.old ++ fact_text ends.now (Fact.Born joined.now)) }
 {
     text.push("born ")?;
@@ -56,7 +56,7 @@ fn push_born(ends: &[Named], joined: &Joined, text: &mut Text) -> Result<(), All
     Ok(())
 }
 
-fn push_opened(ends: &[Named], joined: &Joined, text: &mut Text) -> Result<(), AllocError>
+fn push_opened(ends: &Directory, joined: &Joined, text: &mut Text) -> Result<(), AllocError>
     ensures { OnOk result (text.new ≡ text.old ++ fact_text ends.now (Fact.Opened joined.now)) }
 {
     text.push("opened ")?;
@@ -65,11 +65,11 @@ fn push_opened(ends: &[Named], joined: &Joined, text: &mut Text) -> Result<(), A
 }
 
 /// Adds the values of a session. Its other end is called as among these ends.
-fn push_joined(ends: &[Named], joined: &Joined, text: &mut Text) -> Result<(), AllocError>
+fn push_joined(ends: &Directory, joined: &Joined, text: &mut Text) -> Result<(), AllocError>
     ensures { OnOk result (text.new ≡ text.old ++ joined_text ends.now joined.now) }
 {
     text.push("peer=")?;
-    push_peer(ends, &joined.peer, text)?;
+    ends.push_peer(&joined.peer, text)?;
     text.push_number_field(" n=", joined.n)?;
     text.push_number_field(" near=", u64::from(joined.near))?;
     text.push_number_field(" far=", u64::from(joined.far))?;

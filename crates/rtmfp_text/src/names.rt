@@ -84,7 +84,7 @@ pub struct Named {
 
 /// Adds the name of the end with this fingerprint, or the fingerprint in hexadecimal where none of
 /// these has it.
-pub fn push_peer(ends: &[Named], print: &[u8; 32], text: &mut Text) -> Result<(), AllocError>
+pub(crate) fn push_peer(ends: &[Named], print: &[u8; 32], text: &mut Text) -> Result<(), AllocError>
     ensures { OnOk result (text.new ≡ text.old ++ peer_text ends.now print.now) }
 {
     let mut rest = ends;

@@ -7,7 +7,7 @@ use glare_core::{Fact, Joined, StartRefusal, Why};
 use rtmfp_base::Message;
 use rtmfp_forms::Address;
 use rtmfp_report::{GroupKeys, push_entries, push_open_refusal};
-use rtmfp_text::{Name, Named, Text};
+use rtmfp_text::{Directory, Name, Named, Text};
 use startup::Cause;
 use std::alloc::Global;
 use std::test::Fail;
@@ -116,10 +116,11 @@ fn name() -> Result<Name, Fail> {
 fn report(alloc: Global, entry: Entry, text: &mut Text) -> Result<(), Fail> {
     let entries = [entry];
     let mut scratch = Vec::new(alloc);
-    let ends = [Named {
+    let mut ends = Directory::new(alloc);
+    ends.push(Named {
         print: [1; 32],
         name: name()?,
-    }];
+    })?;
     let keys = GroupKeys::of(&SECRET);
     push_entries(&keys, &ends, 1, &name()?, 0, &entries, &mut scratch, text)?;
     Ok(())

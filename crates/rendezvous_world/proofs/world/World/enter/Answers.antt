@@ -1,10 +1,11 @@
-use Rattle.std.proofs.Common.{◌≡◌, ℕ, List, ◌<◌, ◌^◌, get_or, length, sym, ap, ◌∙◌, subst, arith}
+use Rattle.std.proofs.Common.{List, ◌<◌, ◌^◌, length, sym, ap, ◌∙◌, subst, arith}
 use Rattle.endpoint_model.specs.declared.entry.Entry.{Entry}
 use Rattle.rendezvous_world.specs.Seen.{Seen}
 use Rattle.rendezvous_world.specs.Sent.{sent_among}
-use Rattle.rendezvous_world.specs.Entering.{IsEntering}
+use Rattle.endpoint_model.specs.Log.{Step as StepOf}
+use Rattle.rendezvous_world.specs.Entering.{IsEntering, peer_of, event_by}
 use Rattle.rendezvous_world.specs.Inside.{world_seen}
-use Rattle.rendezvous_world.proofs.Entered.{IsCalled, entered_kept, entered_as, undone_kept, undone_entered}
+use Rattle.rendezvous_world.proofs.Entered.{IsCalled, entered_kept, entered_as, named_is, undone_kept, undone_entered}
 use Rattle.rendezvous_world.proofs.world.World.enter.Goals as goal
 
 pub invariant_of-self-then-outcome : goal.invariant_of-self-then-outcome
@@ -13,10 +14,10 @@ invariant_of-self-then-outcome c =
     let o = c.call_end-outcome in
     let entering : IsEntering (world_seen i.moment i.ends.items i.journal) c.args.line c.args.end c.args.step c.args.datagram c.args.bytes.now =
     subst (λ (w : Seen). IsEntering w c.args.line c.args.end c.args.step c.args.datagram c.args.bytes.now) (sym c.self.view_is) c.requires in
-    let peer_is = subst (λ (k : ℕ). c.index.result.now ≡ get_or i.named.items k c.index.result.now) c.peer.ensures c.index.ensures in
+    let peer_is = named_is c.named_at.result.now i.named c.as_slice.result.now (peer_of c.args.step) c.peer.result c.peer.ensures c.as_slice.ensures c.named_at.ensures in
     rw (c.make_ready.ensures.lines, c.make_ready.ensures.starts, c.journal.view_is)
-    (undone_kept i.moment i.ends.items i.named.items i.journal i.starts.items i.sent c.self.invariant c.args.line c.args.end c.args.step c.args.datagram c.args.bytes.now entering
-    c.index_mut-there.result.now o.new.endpoint c.index.result.now c.index_mut-there.ensures.value peer_is (o.ensures.undone c.if-outcome.true))
+    (undone_kept i.moment i.ends.items i.named i.journal i.starts.items i.sent i.keyed c.self.invariant c.args.line c.args.end c.args.step c.args.datagram c.args.bytes.now entering
+    c.index_mut-there.result.now o.new.endpoint c.named_at.result.now c.index_mut-there.ensures.value peer_is (o.ensures.undone c.if-outcome.true))
 
 pub returns-then-outcome : goal.returns-then-outcome
 returns-then-outcome c =
@@ -24,9 +25,9 @@ returns-then-outcome c =
     let o = c.call_end-outcome in
     let entering : IsEntering (world_seen i.moment i.ends.items i.journal) c.args.line c.args.end c.args.step c.args.datagram c.args.bytes.now =
     subst (λ (w : Seen). IsEntering w c.args.line c.args.end c.args.step c.args.datagram c.args.bytes.now) (sym c.self.view_is) c.requires in
-    let peer_is = subst (λ (k : ℕ). c.index.result.now ≡ get_or i.named.items k c.index.result.now) c.peer.ensures c.index.ensures in
-    let entered = undone_entered i.moment i.ends.items i.named.items i.journal i.starts.items i.sent c.self.invariant c.args.line c.args.end c.args.step c.args.datagram c.args.bytes.now entering
-    c.index_mut-there.result.now o.new.endpoint c.index.result.now c.index_mut-there.ensures.value peer_is (o.ensures.undone c.if-outcome.true) in
+    let peer_is = named_is c.named_at.result.now i.named c.as_slice.result.now (peer_of c.args.step) c.peer.result c.peer.ensures c.as_slice.ensures c.named_at.ensures in
+    let entered = undone_entered i.moment i.ends.items i.named i.journal i.starts.items i.sent i.keyed c.self.invariant c.args.line c.args.end c.args.step c.args.datagram c.args.bytes.now entering
+    c.index_mut-there.result.now o.new.endpoint c.named_at.result.now c.index_mut-there.ensures.value peer_is (o.ensures.undone c.if-outcome.true) in
     rw (c.make_ready.ensures.lines, c.journal.view_is, ← c.self.view_is) entered
 
 pub invariant_of-self-2 : goal.invariant_of-self-2
@@ -35,18 +36,18 @@ invariant_of-self-2 c =
     let o = c.call_end-outcome in
     let entering : IsEntering (world_seen i.moment i.ends.items i.journal) c.args.line c.args.end c.args.step c.args.datagram c.args.bytes.now =
     subst (λ (w : Seen). IsEntering w c.args.line c.args.end c.args.step c.args.datagram c.args.bytes.now) (sym c.self.view_is) c.requires in
-    let did : IsCalled i.moment i.ends.items i.named.items c.args.line c.args.end c.args.step c.args.bytes.now o.result.refused o.result.stopped o.new.out c.index_mut-there.result.now o.new.endpoint = record {
+    let did : IsCalled i.moment i.ends.items i.named c.args.line c.args.end c.args.step c.args.bytes.now o.result.refused o.result.stopped c.without_spare.result c.index_mut-there.result.now o.new.endpoint = record {
       there_is = c.index_mut-there.ensures.value;
-      peer = c.index.result.now;
-      peer_is = subst (λ (k : ℕ). c.index.result.now ≡ get_or i.named.items k c.index.result.now) c.peer.ensures c.index.ensures;
-      event = o.ensures.event;
+      peer = c.named_at.result.now;
+      peer_is = named_is c.named_at.result.now i.named c.as_slice.result.now (peer_of c.args.step) c.peer.result c.peer.ensures c.as_slice.ensures c.named_at.ensures;
+      event = subst (λ (es : List Entry). StepOf c.index_mut-there.result.now.endpoint (event_by c.named_at.result.now.print c.args.line i.moment c.args.step c.args.bytes.now o.result.refused o.result.stopped es) o.new.endpoint) (sym c.without_spare.ensures) o.ensures.event;
       answer = o.ensures.answer c.if-outcome.false;
     } in
-    let count = c.count_among-count.ensures.value ∙ ap (λ (es : List Entry). length (sent_among c.args.end es)) c.entries.ensures.entries in
+    let count = c.count_among-count.ensures.value ∙ ap (λ (es : List Entry). length (sent_among c.args.end es)) (c.entries.ensures.entries ∙ sym c.without_spare.ensures) in
     let fits : c.count_among-count.result < 2 ^ 64 = omega arith in
     rw (c.put-2.ensures, c.put.ensures, c.make_ready.ensures.lines, c.make_ready.ensures.starts, c.journal.view_is)
-    (entered_kept i.moment i.ends.items i.named.items i.journal i.starts.items i.sent c.self.invariant c.args.line c.args.end c.args.step c.args.datagram c.args.bytes.now entering
-    o.result.refused o.result.stopped o.new.out c.index_mut-there.result.now o.new.endpoint did c.count_among-count.result count fits)
+    (entered_kept i.moment i.ends.items i.named i.journal i.starts.items i.sent i.keyed c.self.invariant c.args.line c.args.end c.args.step c.args.datagram c.args.bytes.now entering
+    o.result.refused o.result.stopped c.without_spare.result c.index_mut-there.result.now o.new.endpoint did c.count_among-count.result count fits)
 
 pub returns : goal.returns
 returns c =
@@ -54,13 +55,13 @@ returns c =
     let o = c.call_end-outcome in
     let entering : IsEntering (world_seen i.moment i.ends.items i.journal) c.args.line c.args.end c.args.step c.args.datagram c.args.bytes.now =
     subst (λ (w : Seen). IsEntering w c.args.line c.args.end c.args.step c.args.datagram c.args.bytes.now) (sym c.self.view_is) c.requires in
-    let did : IsCalled i.moment i.ends.items i.named.items c.args.line c.args.end c.args.step c.args.bytes.now o.result.refused o.result.stopped o.new.out c.index_mut-there.result.now o.new.endpoint = record {
+    let did : IsCalled i.moment i.ends.items i.named c.args.line c.args.end c.args.step c.args.bytes.now o.result.refused o.result.stopped c.without_spare.result c.index_mut-there.result.now o.new.endpoint = record {
       there_is = c.index_mut-there.ensures.value;
-      peer = c.index.result.now;
-      peer_is = subst (λ (k : ℕ). c.index.result.now ≡ get_or i.named.items k c.index.result.now) c.peer.ensures c.index.ensures;
-      event = o.ensures.event;
+      peer = c.named_at.result.now;
+      peer_is = named_is c.named_at.result.now i.named c.as_slice.result.now (peer_of c.args.step) c.peer.result c.peer.ensures c.as_slice.ensures c.named_at.ensures;
+      event = subst (λ (es : List Entry). StepOf c.index_mut-there.result.now.endpoint (event_by c.named_at.result.now.print c.args.line i.moment c.args.step c.args.bytes.now o.result.refused o.result.stopped es) o.new.endpoint) (sym c.without_spare.ensures) o.ensures.event;
       answer = o.ensures.answer c.if-outcome.false;
     } in
-    let entered = entered_as i.moment i.ends.items i.named.items i.journal i.starts.items i.sent c.self.invariant c.args.line c.args.end c.args.step c.args.datagram c.args.bytes.now entering
-    o.result.refused o.result.stopped o.new.out c.index_mut-there.result.now o.new.endpoint did c.is_some-is_stopped.result c.is_some-is_stopped.ensures in
+    let entered = entered_as i.moment i.ends.items i.named i.journal i.starts.items i.sent i.keyed c.self.invariant c.args.line c.args.end c.args.step c.args.datagram c.args.bytes.now entering
+    o.result.refused o.result.stopped c.without_spare.result c.index_mut-there.result.now o.new.endpoint did c.is_some-is_stopped.result c.is_some-is_stopped.ensures in
     rw (c.answered.ensures, c.put-2.ensures, c.make_ready.ensures.lines, c.journal.view_is, ← c.self.view_is) entered
