@@ -5,7 +5,7 @@ use Rattle.std.specs.List.{fold, list_any}
 use Rattle.std.proofs.lemmas.Bool.Decides.{nat_tests}
 use Rattle.cookies.specs.Cookie.{is_same_place}
 use Rattle.glare_core.specs.Calls.{first_that_stands, start_refusal}
-use Rattle.startup.specs.Attempts.{joined, lowest, places_of}
+use Rattle.startup.specs.Attempts.{joined, lowest, distinct_candidates}
 use Rattle.startup.specs.Due.{due, due_of, due_sends, due_sends_of, is_due}
 use Rattle.rtmfp_chunks.specs.Writing.{chunk_bytes}
 use Rattle.endpoint_model.specs.declared.answers.OpenRefusal.{OpenRefusal}
@@ -214,7 +214,7 @@ places_from places [] = omega arith
 places_from places (address ∷ candidates) =
     omega (arith, places_from (joined places address) candidates, one_more (list_any (is_same_place address) places) places address)
 
-pub few_places : (candidates : List AddressParts) → length (places_of candidates) ≤ length candidates
+pub few_places : (candidates : List AddressParts) → length (distinct_candidates candidates) ≤ length candidates
 few_places candidates = omega (arith, places_from [] candidates)
 
 -- ---- time
