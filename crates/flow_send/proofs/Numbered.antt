@@ -19,7 +19,7 @@ pub any_is : (test : Row → Bool) (n : ℕ) (rows : List Row) → list_any test
 any_is test n [] = refl
 any_is test n (r ∷ rows) = ap (λ b. test r || b) (any_is test (n + 1) rows)
 
--- a test of numbers that stands from one place to before another
+-- a test of numbers that stands from one index to before another
 abbrev pub Stands_between : (ℕ → Bool) → ℕ → ℕ → ℕ → Type 0
 Stands_between test n lo hi = (i : ℕ) → test (n + i) ≡ (nat_le lo i && nat_lt i hi)
 
@@ -110,7 +110,7 @@ most_row_between test f n (suc lo) (suc hi) (r ∷ rows) h =
     ap (λ b. max (cond b (f r) 0) (most_rows (λ k x. cond (test k) (f x) 0) (n + 1) rows)) (head_is test n (suc lo) (suc hi) h ∙ e)
     ∙ (max_zero _ ∙ most_row_between test f (n + 1) lo hi rows (tail_later test n lo hi h))
 
--- the numbers of a message, by place
+-- the numbers of a message, by index
 pub message_between : (w : Waiting) (n : ℕ) → Stands_between (has_number w) n (w.number - n) (w.number + w.count - n)
 message_between w n i = same w.number (w.number + w.count) n i
   where

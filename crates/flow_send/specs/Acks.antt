@@ -1,11 +1,39 @@
 -- What an ack tells a sending flow.
-use Rattle.std.specs.Prelude.{ℕ, ◌+◌, if◌then◌else◌, nat_le, nat_lt, max, map, not, Bool, ◌&&◌,
-    ◌||◌, List, [], ◌∷◌, Option, Some, None, length}
+use Rattle.std.specs.Prelude.{
+  ℕ,
+  ◌+◌,
+  if◌then◌else◌,
+  nat_le,
+  nat_lt,
+  max,
+  map,
+  not,
+  Bool,
+  ◌&&◌,
+  ◌||◌,
+  List,
+  [],
+  ◌∷◌,
+  Option,
+  Some,
+  None,
+  length,
+}
 use Rattle.std.specs.List.{filter, list_any}
 use Rattle.flow_send.specs.declared.state.State.TheVariants.{Lost, Acknowledged}
 use Rattle.flow_send.specs.declared.waiting.Waiting.{Waiting}
-use Rattle.flow_send.specs.Rows.{Row, is_flying, is_acknowledged, is_abandoned, is_settled, let_go,
-    map_rows, any_row, sum_rows, most_rows}
+use Rattle.flow_send.specs.Rows.{
+  Row,
+  is_flying,
+  is_acknowledged,
+  is_abandoned,
+  is_settled,
+  let_go,
+  map_rows,
+  any_row,
+  sum_rows,
+  most_rows,
+}
 use Rattle.flow_send.specs.Sender.{Sender, has_number, with_rows}
 
 -- the blocks told, all at or below a number, and stretches above it from their first to their last
@@ -43,12 +71,12 @@ abbrev pub new_bytes : Told → ℕ → List Row → ℕ
 new_bytes a n rows = sum_rows (λ k r. if is_new a k r && not (is_abandoned r.state) then
     length r.fragment.bytes else 0) n rows
 
--- the last of their places in the order of sendings
-abbrev pub new_place : Row → ℕ
-new_place r = if is_acknowledged r.state then 0 else r.place
+-- the last of their ordinals
+abbrev pub new_ordinal : Row → ℕ
+new_ordinal r = if is_acknowledged r.state then 0 else r.ordinal
 
-abbrev pub last_place : Told → ℕ → List Row → ℕ
-last_place a n rows = most_rows (λ k r. if tells a k then new_place r else 0) n rows
+abbrev pub last_ordinal : Told → ℕ → List Row → ℕ
+last_ordinal a n rows = most_rows (λ k r. if tells a k then new_ordinal r else 0) n rows
 
 abbrev pub acknowledge_row : Row → Row
 acknowledge_row r = if is_acknowledged r.state then r else let_go Acknowledged r
@@ -58,21 +86,21 @@ acknowledge a n r = if tells a n then acknowledge_row r else r
 
 -- a number in flight is lost by the third ack that newly acknowledges a number sent after it
 abbrev pub is_third : ℕ → Row → Bool
-is_third place r = is_flying r.state && nat_lt r.place place && nat_le 2 r.acks
+is_third ordinal r = is_flying r.state && nat_lt r.ordinal ordinal && nat_le 2 r.acks
 
 abbrev pub count_ack : ℕ → Row → Row
-count_ack place r =
-    if is_third place r then record r { state = Lost }
-    else if is_flying r.state && nat_lt r.place place then record r { acks = r.acks + 1 } else r
+count_ack ordinal r =
+    if is_third ordinal r then record r { state = Lost }
+    else if is_flying r.state && nat_lt r.ordinal ordinal then record r { acks = r.acks + 1 } else r
 
 abbrev pub rows_acknowledged : Told → Sender → List Row
 rows_acknowledged a s = map_rows (acknowledge a) (s.forward + 1) s.rows
 
 abbrev pub rows_told : Told → Sender → List Row
-rows_told a s = map (count_ack (last_place a (s.forward + 1) s.rows)) (rows_acknowledged a s)
+rows_told a s = map (count_ack (last_ordinal a (s.forward + 1) s.rows)) (rows_acknowledged a s)
 
 abbrev pub makes_lost : Told → Sender → Bool
-makes_lost a s = list_any (is_third (last_place a (s.forward + 1) s.rows)) (rows_acknowledged a s)
+makes_lost a s = list_any (is_third (last_ordinal a (s.forward + 1) s.rows)) (rows_acknowledged a s)
 
 -- a message waits until all its numbers are settled
 abbrev pub still_waits : ℕ → List Row → Waiting → Bool
@@ -81,5 +109,5 @@ still_waits n rows w = any_row (λ k r. has_number w k && not (is_settled r.stat
 abbrev pub told_by : Told → Sender → Sender
 told_by a s =
     let t = with_rows (rows_told a s) (filter (still_waits (s.forward + 1) (rows_told a s))
-      s.waiting) s in
+    s.waiting) s in
     record t { upto = a.upto; told = Some a.blocks }

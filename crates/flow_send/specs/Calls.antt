@@ -1,14 +1,48 @@
 -- Any calls of a sender, one after another, and what they did.
-use Rattle.std.specs.Prelude.{ℕ, ◌≡◌, ◌+◌, ◌-◌, ◌^◌, ◌<◌, ◌≤◌, ◌==◌, nat_lt, min, max, not,
-    if◌then◌else◌, Bool, true, false, ◌&&◌, ◌||◌, List, [], ◌∷◌, Option, Some, None, length}
+use Rattle.std.specs.Prelude.{
+  ℕ,
+  ◌≡◌,
+  ◌+◌,
+  ◌-◌,
+  ◌^◌,
+  ◌<◌,
+  ◌≤◌,
+  ◌==◌,
+  nat_lt,
+  min,
+  max,
+  not,
+  if◌then◌else◌,
+  Bool,
+  true,
+  false,
+  ◌&&◌,
+  ◌||◌,
+  List,
+  [],
+  ◌∷◌,
+  Option,
+  Some,
+  None,
+  length,
+}
 use Rattle.rtmfp_data_chunks.specs.Fragments.{Message}
 use Rattle.flow_send.specs.declared.state.State.{State}
 use Rattle.flow_send.specs.declared.waiting.MessageOptions.{MessageOptions}
 use Rattle.flow_send.specs.declared.waiting.Waiting.{Waiting}
 use Rattle.flow_send.specs.declared.outcome.QueueRefusal.{QueueRefusal}
 use Rattle.flow_send.specs.Rows.{Row, is_unsent, is_flying, is_lost, is_acknowledged, is_abandoned}
-use Rattle.flow_send.specs.Sender.{Sender, new_sender, next_of, queued, message_at, has_number,
-    abandoned, finished, lost_late}
+use Rattle.flow_send.specs.Sender.{
+  Sender,
+  new_sender,
+  next_of,
+  queued,
+  message_at,
+  has_number,
+  abandoned,
+  finished,
+  lost_late,
+}
 use Rattle.flow_send.specs.Choice.{Choice, Nothing, Send, Notify, choice, sent_after}
 use Rattle.flow_send.specs.Acks.{Told, tells, beyond, told_by}
 use Rattle.flow_send.specs.Flow.{queue_refusal, next_message}
@@ -23,13 +57,15 @@ pub data Call : Type 0 where
   Next : (moment resend : ℕ) → Call
   Hear : (a : Told) → Call
 
--- what a call did. A number was sent, for the first time or again; a notice told the forward number
+-- what a call did. A number was sent, for the first time or again; a notice told the forward
+-- number; a look made lost what was sent so long before
 pub data Done : Type 0 where
-  Queued : (m : Message) → Done
+  Queued : (m : Message) → (options : MessageOptions) → Done
   Abandoned : (w : Waiting) → Done
   Finished : (n : ℕ) → Done
   Sent : (n moment : ℕ) → Done
   Noticed : (n moment : ℕ) → Done
+  Looked : (moment resend : ℕ) → Done
   Heard : (a : Told) → Done
 
 -- a sender, and what its calls did, the newest first
@@ -43,8 +79,10 @@ begun first = record { sender = new_sender first; done = [] }
 -- a call that is refused does nothing
 abbrev pub queues : Sending → List ℕ → MessageOptions → Option QueueRefusal → Sending
 queues w bytes options None =
-    record { sender = queued (next_message w.sender bytes) options w.sender;
-    done = Queued (next_message w.sender bytes) ∷ w.done }
+    record {
+      sender = queued (next_message w.sender bytes) options w.sender;
+      done = Queued (next_message w.sender bytes) options ∷ w.done;
+    }
 queues w bytes options (Some refusal) = w
 
 abbrev pub abandons : Sending → ℕ → Option Waiting → Sending
@@ -57,10 +95,14 @@ finishes w (Some n) = w
 
 abbrev pub sends : Sending → ℕ → Choice → Sending
 sends w moment Nothing = w
-sends w moment (Send n r) = record { sender = sent_after moment (Send n r) w.sender;
-    done = Sent n moment ∷ w.done }
-sends w moment Notify = record { sender = sent_after moment Notify w.sender;
-    done = Noticed w.sender.forward moment ∷ w.done }
+sends w moment (Send n r) = record {
+  sender = sent_after moment (Send n r) w.sender;
+  done = Sent n moment ∷ w.done;
+}
+sends w moment Notify = record {
+  sender = sent_after moment Notify w.sender;
+  done = Noticed w.sender.forward moment ∷ w.done;
+}
 
 abbrev pub hears : Sending → Told → Option ℕ → Sending
 hears w a None = record { sender = told_by a w.sender; done = Heard a ∷ w.done }
@@ -70,7 +112,10 @@ abbrev pub calls : Sending → Call → Sending
 calls w (Queue bytes options) = queues w bytes options (queue_refusal w.sender (length bytes))
 calls w (Abandon n) = abandons w n (message_at n w.sender.waiting)
 calls w Finish = finishes w w.sender.finish
-calls w (Lose moment resend) = record { sender = lost_late moment resend w.sender; done = w.done }
+calls w (Lose moment resend) = record {
+  sender = lost_late moment resend w.sender;
+  done = Looked moment resend ∷ w.done;
+}
 calls w (Next moment resend) = sends w moment (choice moment resend w.sender)
 calls w (Hear a) = hears w a (beyond w.sender a)
 
@@ -112,8 +157,8 @@ times_sent (Sent k moment ∷ earlier) n = if k == n then times_sent earlier n +
     else times_sent earlier n
 times_sent (_ ∷ earlier) n = times_sent earlier n
 
--- the moment of the last one of number n, and its place in the order of all sendings, where counts
--- stand still at 64 bits
+-- the moment of the last one of number n, and its ordinal among all sendings, where counts stand
+-- still at 64 bits
 abbrev pub last_sending : List Done → ℕ → Option (ℕ × ℕ)
 last_sending [] n = None
 last_sending (Sent k moment ∷ earlier) n = if k == n then
@@ -179,7 +224,7 @@ pub record SentAs (done : List Done) (n : ℕ) (r : Row) : Type 0 where
   pub unsent : is_unsent r.state ≡ true → times_sent done n ≡ 0
   pub some : is_out r.state ≡ true → 1 ≤ times_sent done n
   pub resends : r.resends ≡ min (times_sent done n - 1) (2 ^ 32 - 1)
-  pub last : is_out r.state ≡ true → last_sending done n ≡ Some (r.moment, r.place)
+  pub last : is_out r.state ≡ true → last_sending done n ≡ Some (r.moment, r.ordinal)
 
 abbrev pub AllSent : List Done → ℕ → List Row → Type 0
 AllSent done n [] = Unit {0}
@@ -190,7 +235,7 @@ AllSent done n (r ∷ rows) = SentAs done n r × AllSent done (n + 1) rows
 pub record IsForward (first : ℕ) (w : Sending) : Type 0 where
   pub over : (n : ℕ) → n ≤ w.sender.forward → is_over first w.done n ≡ true
   pub next : w.sender.forward + 1 < next_of w.sender →
-    is_over first w.done (w.sender.forward + 1) ≡ false
+      is_over first w.done (w.sender.forward + 1) ≡ false
 
 pub record StandsFor (first : ℕ) (w : Sending) : Type 0 where
   pub last : TellsLast first w

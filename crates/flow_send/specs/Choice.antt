@@ -1,6 +1,28 @@
 -- Which chunk a sending flow sends next, and what its sending changes.
-use Rattle.std.specs.Prelude.{ℕ, ◌+◌, ◌-◌, ◌*◌, ◌^◌, ◌==◌, if◌then◌else◌, nat_le, nat_lt, min, max,
-    Bool, true, false, ◌&&◌, List, [], ◌∷◌, Option, Some, None, length}
+use Rattle.std.specs.Prelude.{
+  ℕ,
+  ◌+◌,
+  ◌-◌,
+  ◌*◌,
+  ◌^◌,
+  ◌==◌,
+  if◌then◌else◌,
+  nat_le,
+  nat_lt,
+  min,
+  max,
+  Bool,
+  true,
+  false,
+  ◌&&◌,
+  List,
+  [],
+  ◌∷◌,
+  Option,
+  Some,
+  None,
+  length,
+}
 use Rattle.rtmfp_data_chunks.specs.declared.user_data.Part.TheVariants.{Whole}
 use Rattle.rtmfp_data_chunks.specs.Runs.{Chunk}
 use Rattle.flow_send.specs.declared.state.State.{State}
@@ -47,7 +69,7 @@ or_else Notify other = Notify
 abbrev pub next_choice : ℕ → ℕ → Sender → Choice
 next_choice moment resend s =
     or_else (first_in is_lost (s.forward + 1) s.rows)
-      (or_else (first_in is_unsent (s.forward + 1) s.rows) (notice_due moment resend s))
+    (or_else (first_in is_unsent (s.forward + 1) s.rows) (notice_due moment resend s))
 
 -- the bytes that count for the limits. A notice, as the number of finish, counts as a fragment of
 -- no bytes
@@ -59,33 +81,57 @@ choice_bytes Notify = 0
 abbrev pub choice : ℕ → ℕ → Sender → Choice
 choice moment resend s =
     if within_limit s (choice_bytes (next_choice moment resend s)) then next_choice moment resend s
-      else Nothing
+    else Nothing
 
 -- the chunk of a choice
 abbrev pub chunk_for : Sender → Choice → Option Chunk
 chunk_for s Nothing = None
 chunk_for s (Send n r) =
-    Some (record { part = r.fragment.part; abandon = r.ends; last = r.ends; seq = n;
-    forward = s.forward; bytes = r.fragment.bytes })
+    Some (record {
+      part = r.fragment.part;
+      abandon = r.ends;
+      last = r.ends;
+      seq = n;
+      forward = s.forward;
+      bytes = r.fragment.bytes;
+    })
 chunk_for s Notify =
-    Some (record { part = Whole; abandon = true; last = false; seq = s.forward; forward = s.forward;
-    bytes = [] })
+    Some (record {
+      part = Whole;
+      abandon = true;
+      last = false;
+      seq = s.forward;
+      forward = s.forward;
+      bytes = [];
+    })
 
 -- a count stands still at its type's end
 abbrev pub count_up : ℕ → ℕ → ℕ
 count_up bits n = min (n + 1) (2 ^ bits - 1)
 
 abbrev pub sent_row : ℕ → ℕ → Row → Row
-sent_row moment place r = record r { state = Flying; moment = moment; place = place;
-    resends = if is_lost r.state then count_up 32 r.resends else r.resends; acks = 0 }
+sent_row moment ordinal r = record r {
+  state = Flying;
+  moment = moment;
+  ordinal = ordinal;
+  resends = if is_lost r.state then count_up 32 r.resends else r.resends;
+  acks = 0;
+}
 
 abbrev pub put_at : ℕ → Row → ℕ → Row → Row
 put_at n new k r = if k == n then new else r
 
 abbrev pub sent_after : ℕ → Choice → Sender → Sender
 sent_after moment Nothing s = s
-sent_after moment Notify s = record s { notice = Some moment; sent = max s.sent s.forward;
-    order = count_up 64 s.order }
+sent_after moment Notify s = record s {
+  notice = Some moment;
+  sent = max s.sent s.forward;
+  order = count_up 64 s.order;
+}
 sent_after moment (Send n r) s =
-    record s { rows = map_rows (put_at n (sent_row moment (count_up 64 s.order) r)) (s.forward + 1)
-    s.rows; sent = max s.sent n; order = count_up 64 s.order }
+    record s {
+      rows = map_rows (put_at n (sent_row moment (count_up 64 s.order) r)) (s.forward + 1)
+          s.rows;
+      sent = max s.sent n;
+      order = count_up 64 s.order;
+    }

@@ -1,14 +1,37 @@
 -- A sending flow, and what its calls answer.
-use Rattle.std.specs.Prelude.{ℕ, ◌+◌, ◌-◌, ◌^◌, if◌then◌else◌, nat_lt, not, Bool, true, false, ◌&&◌,
-    ◌||◌, List, [], ◌∷◌, Option, Some, None, length}
+use Rattle.std.specs.Prelude.{
+  ℕ,
+  ◌+◌,
+  ◌-◌,
+  ◌^◌,
+  if◌then◌else◌,
+  nat_lt,
+  not,
+  Bool,
+  true,
+  false,
+  ◌&&◌,
+  ◌||◌,
+  List,
+  [],
+  ◌∷◌,
+  Option,
+  Some,
+  None,
+  length,
+}
 use Rattle.rtmfp_vlu.specs.Vlu.{vlu}
 use Rattle.rtmfp_forms.specs.Options.{OptionParts, options_bytes}
 use Rattle.rtmfp_data_chunks.specs.Fragments.{Message, fragments_of_length}
 use Rattle.rtmfp_data_chunks.specs.Runs.{Chunk}
 use Rattle.rtmfp_data_chunks.specs.Chunk.{UserParts}
 use Rattle.flow_send.specs.declared.outcome.QueueRefusal.{QueueRefusal}
-use Rattle.flow_send.specs.declared.outcome.QueueRefusal.TheVariants.{Finished, TooLong, Backlog,
-    SequenceSpent}
+use Rattle.flow_send.specs.declared.outcome.QueueRefusal.TheVariants.{
+  Finished,
+  TooLong,
+  Backlog,
+  SequenceSpent,
+}
 use Rattle.flow_send.specs.declared.outcome.NoChunk.{NoChunk}
 use Rattle.flow_send.specs.declared.outcome.NoChunk.TheVariants as no_chunk
 use Rattle.flow_send.specs.Sender.{Sender, next_of, bytes_held, fragments_held}
@@ -48,8 +71,8 @@ queue_refusal s size =
     if is_finished s.finish then Some Finished
     else if nat_lt 1048576 size then Some (TooLong 1048576)
     else if nat_lt 2097152 (bytes_held s + size)
-      || nat_lt 65536 (fragments_held s + fragments_of_length size) then
-      Some (Backlog (bytes_held s))
+    || nat_lt 65536 (fragments_held s + fragments_of_length size) then
+    Some (Backlog (bytes_held s))
     else if nat_lt (2 ^ 64 - 2) (next_of s + fragments_of_length size - 1) then Some SequenceSpent
     else None
 
@@ -69,8 +92,16 @@ data_length flow options c = 4 + length (vlu flow) + length (vlu c.seq)
 
 -- the chunk as it is written
 abbrev pub user_data : ℕ → Option (List OptionParts) → Chunk → UserParts
-user_data flow options c = record { part = c.part; abandon = c.abandon; last = c.last; flow = flow;
-    seq = c.seq; forward = c.forward; options = options; bytes = c.bytes }
+user_data flow options c = record {
+  part = c.part;
+  abandon = c.abandon;
+  last = c.last;
+  flow = flow;
+  seq = c.seq;
+  forward = c.forward;
+  options = options;
+  bytes = c.bytes;
+}
 
 -- until a first ack the first chunk of the flow in a datagram has the options
 abbrev pub is_told : Option ℕ → Bool
@@ -88,7 +119,7 @@ abbrev pub chunk_refusal_of : Flow → Bool → ℕ → ℕ → ℕ → Choice �
 chunk_refusal_of f first room flight window o None = Some no_chunk.Nothing
 chunk_refusal_of f first room flight window o (Some c) =
     if nat_lt window (flight + choice_bytes o) then Some no_chunk.Window
-      else if_room room (data_length f.id (chunk_options f first) c)
+    else if_room room (data_length f.id (chunk_options f first) c)
 
 abbrev pub chunk_refusal : Flow → Bool → ℕ → ℕ → ℕ → Choice → Option NoChunk
 chunk_refusal f first room flight window o =

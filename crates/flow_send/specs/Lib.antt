@@ -9,3 +9,4 @@ pub mod Deadlines
 pub mod Flow
 pub mod Edges
 pub mod Calls
+pub mod Counted

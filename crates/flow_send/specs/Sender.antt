@@ -1,7 +1,28 @@
 -- What a sending flow keeps, and how its calls but those of sending and of acks change it.
 use Prim.Native.Nat.{zero, suc}
-use Rattle.std.specs.Prelude.{ℕ, ◌+◌, ◌-◌, ◌==◌, map, if◌then◌else◌, nat_le, nat_lt, Bool, false,
-    ◌&&◌, ◌||◌, List, [], ◌∷◌, ◌++◌, Option, Some, None, length, drop}
+use Rattle.std.specs.Prelude.{
+  ℕ,
+  ◌+◌,
+  ◌-◌,
+  ◌==◌,
+  map,
+  if◌then◌else◌,
+  nat_le,
+  nat_lt,
+  Bool,
+  false,
+  ◌&&◌,
+  ◌||◌,
+  List,
+  [],
+  ◌∷◌,
+  ◌++◌,
+  Option,
+  Some,
+  None,
+  length,
+  drop,
+}
 use Rattle.std.specs.Option.{is_some}
 use Rattle.std.specs.List.{sum_by}
 use Rattle.rtmfp_data_chunks.specs.declared.user_data.Part.{Part}
@@ -9,14 +30,22 @@ use Rattle.rtmfp_data_chunks.specs.Fragments.{Message, fragment_at, fragment_cou
 use Rattle.flow_send.specs.declared.state.State.TheVariants.{Unsent, Lost, Abandoned}
 use Rattle.flow_send.specs.declared.waiting.MessageOptions.{MessageOptions}
 use Rattle.flow_send.specs.declared.waiting.Waiting.{Waiting}
-use Rattle.flow_send.specs.Rows.{Row, end_row, is_flying, is_lost, is_acknowledged, let_go,
-    map_rows, any_row, settled_front}
+use Rattle.flow_send.specs.Rows.{
+  Row,
+  end_row,
+  is_flying,
+  is_lost,
+  is_acknowledged,
+  let_go,
+  map_rows,
+  any_row,
+  settled_front,
+}
 
 pub record Sender : Type 0 where
   pub forward : ℕ  -- at or below it all is acknowledged, abandoned or below the flow's first number
   pub rows : List Row  -- the numbers above it, in order
-  -- the messages that are neither abandoned nor wholly acknowledged, by rising number
-  pub waiting : List Waiting
+  pub waiting : List Waiting  -- by rising number, neither abandoned nor wholly acknowledged
   pub finish : Option ℕ
   pub sent : ℕ  -- the highest number sent
   pub upto : ℕ  -- the cumulative ack of the last ack
@@ -26,8 +55,17 @@ pub record Sender : Type 0 where
 
 -- numbers below the first one count as settled
 abbrev pub new_sender : ℕ → Sender
-new_sender first = record { forward = first - 1; rows = []; waiting = []; finish = None;
-    sent = first - 1; upto = first - 1; told = None; notice = None; order = 0 }
+new_sender first = record {
+  forward = first - 1;
+  rows = [];
+  waiting = [];
+  finish = None;
+  sent = first - 1;
+  upto = first - 1;
+  told = None;
+  notice = None;
+  order = 0;
+}
 
 -- the next number to be given
 abbrev pub next_of : Sender → ℕ
@@ -56,8 +94,15 @@ fragments_held s = sum_by (λ w. w.count) s.waiting
 
 -- queue
 abbrev pub fresh_row : Part → List ℕ → Row
-fresh_row part bytes = record { ends = false; fragment = record { part = part; bytes = bytes };
-    state = Unsent; moment = 0; place = 0; resends = 0; acks = 0 }
+fresh_row part bytes = record {
+  ends = false;
+  fragment = record { part = part; bytes = bytes };
+  state = Unsent;
+  moment = 0;
+  ordinal = 0;
+  resends = 0;
+  acks = 0;
+}
 
 abbrev pub new_row : Message → ℕ → Row
 new_row m n = fresh_row (fragment_at m n).part (fragment_at m n).bytes
@@ -67,8 +112,12 @@ rows_of m n zero = []
 rows_of m n (suc count) = new_row m n ∷ rows_of m (n + 1) count
 
 abbrev pub waiting_of : Message → MessageOptions → Waiting
-waiting_of m options = record { number = m.number; count = fragment_count m; size = length m.bytes;
-    options = options }
+waiting_of m options = record {
+  number = m.number;
+  count = fragment_count m;
+  size = length m.bytes;
+  options = options;
+}
 
 abbrev pub queued : Message → MessageOptions → Sender → Sender
 queued m options s = record s {

@@ -3,11 +3,26 @@
 
 ghost use Rattle.std.specs.Prelude.{◌≡◌, ℕ, List, [], ◌∷◌, Option, Some, None, true, false, length};
 ghost use Rattle.flow_send.specs.Rows.{Row};
-ghost use Rattle.flow_send.specs.Sender.{new_sender, finished, overdue, waits, abandoned, is_late,
-    lost_late, next_of};
+ghost use Rattle.flow_send.specs.Sender.{
+  new_sender,
+  finished,
+  overdue,
+  waits,
+  abandoned,
+  is_late,
+  lost_late,
+  next_of,
+};
 ghost use Rattle.flow_send.specs.Acks.{told, beyond, new_bytes, makes_lost, told_by};
-ghost use Rattle.flow_send.specs.Choice.{Nothing, Send, Notify, choice, within_limit, sent_after,
-    sent_row};
+ghost use Rattle.flow_send.specs.Choice.{
+  Nothing,
+  Send,
+  Notify,
+  choice,
+  within_limit,
+  sent_after,
+  sent_row,
+};
 ghost use Rattle.flow_send.specs.Flow.{queue_refusal, chunk_refusal, chunk_options, flow_options};
 ghost use Rattle.flow_send.specs.Edges.{number_in, sender_of, waiting_at, holding, flow_of};
 
@@ -32,8 +47,7 @@ pub fn queueing()
         ≡ Some QueueRefusal.Finished }
     ensures length_second { queue_refusal (holding 2097152 65536) 1048577
         ≡ Some (QueueRefusal.TooLong 1048576) }
-    ensures backlog_third
-        { queue_refusal (record (new_sender 18446744073709551615)
+    ensures backlog_third { queue_refusal (record (new_sender 18446744073709551615)
         { waiting = waiting_at 1 65536 5 None None ∷ [] }) 0 ≡ Some (QueueRefusal.Backlog 5) }
 {}
 
@@ -41,28 +55,22 @@ pub fn queueing()
 /// and at most the blocks last told times 1,024 after it. Where no number is in flight, that isn't
 /// asked.
 pub fn flow_limit()
-    ensures before_an_ack
-        { within_limit (sender_of 0 (number_in State.Flying 1 0 (1 ∷ 2 ∷ 3 ∷ 4 ∷ []) ∷ [])) 65532
+    ensures before_an_ack { within_limit (sender_of 0 (number_in State.Flying 1 0 (1 ∷ 2 ∷ 3 ∷ 4 ∷ []) ∷ [])) 65532
         ≡ true }
-    ensures beyond_it
-        { within_limit (sender_of 0 (number_in State.Flying 1 0 (1 ∷ 2 ∷ 3 ∷ 4 ∷ []) ∷ [])) 65533
+    ensures beyond_it { within_limit (sender_of 0 (number_in State.Flying 1 0 (1 ∷ 2 ∷ 3 ∷ 4 ∷ []) ∷ [])) 65533
         ≡ false }
-    ensures a_block
-        { within_limit (record (sender_of 0 (number_in State.Flying 1 0 (1 ∷ 2 ∷ 3 ∷ 4 ∷ []) ∷ []))
+    ensures a_block { within_limit (record (sender_of 0 (number_in State.Flying 1 0 (1 ∷ 2 ∷ 3 ∷ 4 ∷ []) ∷ []))
         { told = Some 1 }) 1020 ≡ true }
-    ensures beyond_a_block
-        { within_limit (record (sender_of 0 (number_in State.Flying 1 0 (1 ∷ 2 ∷ 3 ∷ 4 ∷ []) ∷ []))
+    ensures beyond_a_block { within_limit (record (sender_of 0 (number_in State.Flying 1 0 (1 ∷ 2 ∷ 3 ∷ 4 ∷ []) ∷ []))
         { told = Some 1 }) 1021 ≡ false }
-    ensures idle
-        { choice 0 1000
+    ensures idle { choice 0 1000
         (record (sender_of 0 (number_in State.Acknowledged 1 0 []
         ∷ number_in State.Unsent 0 0 (7 ∷ []) ∷ [])) { told = Some 0 })
         ≡ Send 2 (number_in State.Unsent 0 0 (7 ∷ [])) }
     ensures asked_of_no_bytes { choice 0 1000
         (record (sender_of 0 (number_in State.Flying 1 0 [] ∷ number_in State.Unsent 0 0 (7 ∷ [])
         ∷ [])) { told = Some 0 }) ≡ Nothing }
-    ensures exactly_full
-        { choice 0 1000
+    ensures exactly_full { choice 0 1000
         (record (sender_of 0 (number_in State.Flying 1 0 [] ∷ number_in State.Unsent 0 0 [] ∷ []))
         { told = Some 0 }) ≡ Send 2 (number_in State.Unsent 0 0 []) }
 {}
@@ -95,17 +103,13 @@ pub fn window_and_room()
 /// neither: where the last cumulative ack is below the forward number and no notice was sent within
 /// the resend time. What is in flight doesn't hinder it.
 pub fn next_to_send()
-    ensures lost_first
-        { choice 0 1000 (sender_of 0 (number_in State.Unsent 0 0 [] ∷ number_in State.Lost 1 0 []
+    ensures lost_first { choice 0 1000 (sender_of 0 (number_in State.Unsent 0 0 [] ∷ number_in State.Lost 1 0 []
         ∷ number_in State.Lost 2 0 [] ∷ [])) ≡ Send 2 (number_in State.Lost 1 0 []) }
-    ensures then_unsent
-        { choice 0 1000 (sender_of 0 (number_in State.Flying 1 0 [] ∷ number_in State.Unsent 0 0 []
+    ensures then_unsent { choice 0 1000 (sender_of 0 (number_in State.Flying 1 0 [] ∷ number_in State.Unsent 0 0 []
         ∷ number_in State.Unsent 0 0 [] ∷ [])) ≡ Send 2 (number_in State.Unsent 0 0 []) }
-    ensures then_a_notice
-        { choice 0 1000 (record (sender_of 5 (number_in State.Flying 1 0 [] ∷ [])) { upto = 4 })
+    ensures then_a_notice { choice 0 1000 (record (sender_of 5 (number_in State.Flying 1 0 [] ∷ [])) { upto = 4 })
         ≡ Notify }
-    ensures unsent_before_it
-        { choice 0 1000 (record (sender_of 5 (number_in State.Unsent 0 0 [] ∷ [])) { upto = 4 })
+    ensures unsent_before_it { choice 0 1000 (record (sender_of 5 (number_in State.Unsent 0 0 [] ∷ [])) { upto = 4 })
         ≡ Send 6 (number_in State.Unsent 0 0 []) }
     ensures told_already { choice 0 1000 (sender_of 5 (number_in State.Flying 1 0 [] ∷ []))
         ≡ Nothing }
@@ -116,7 +120,7 @@ pub fn next_to_send()
 {}
 
 /// A sending of a lost number counts as a resend, and a first one doesn't. Either begins the count
-/// of acks anew. The number of a notice counts as sent, and a notice has its place in the order of
+/// of acks anew. The number of a notice counts as sent, and a notice has its ordinal among all
 /// sendings.
 pub fn sendings()
     ensures resend { sent_row 70 11 (number_in State.Lost 3 2 (7 ∷ []))
@@ -126,11 +130,9 @@ pub fn sendings()
     ensures one_ack_after_a_resend { makes_lost (told 64 0 ((2, 2) ∷ []))
         (sent_after 70 (Send 1 (number_in State.Lost 3 2 []))
         (sender_of 0 (number_in State.Lost 3 2 [] ∷ number_in State.Flying 12 0 [] ∷ []))) ≡ false }
-    ensures the_number_sent
-        { (sent_after 70 (Send 3 (number_in State.Unsent 0 0 []))
+    ensures the_number_sent { (sent_after 70 (Send 3 (number_in State.Unsent 0 0 []))
         (record (sender_of 2 (number_in State.Unsent 0 0 [] ∷ [])) { sent = 2 })).sent ≡ 3 }
-    ensures a_resend_keeps_it
-        { (sent_after 70 (Send 1 (number_in State.Lost 3 0 []))
+    ensures a_resend_keeps_it { (sent_after 70 (Send 1 (number_in State.Lost 3 0 []))
         (sender_of 0 (number_in State.Lost 3 0 [] ∷ number_in State.Flying 4 0 [] ∷ []))).sent ≡ 2 }
     ensures notice { sent_after 70 Notify (record (sender_of 9 []) { sent = 8 })
         ≡ record (sender_of 9 []) { notice = Some 70; order = 11 } }
@@ -182,23 +184,23 @@ pub fn acks()
         ≡ 0 }
     ensures lower { told_by (told 3 4 []) (record (sender_of 9 []) { told = Some 64 })
         ≡ record (sender_of 9 []) { upto = 4; told = Some 3 } }
-    ensures forward
-        { (told_by (told 64 0 ((2, 2) ∷ [])) (sender_of 0
+    ensures forward { (told_by (told 64 0 ((2, 2) ∷ [])) (sender_of 0
         (number_in State.Abandoned 1 0 [] ∷ number_in State.Flying 2 0 []
         ∷ number_in State.Flying 3 0 [] ∷ []))).forward ≡ 2 }
-    ensures in_flight_still
-        { (told_by (told 64 0 ((2, 2) ∷ [])) (sender_of 0
+    ensures in_flight_still { (told_by (told 64 0 ((2, 2) ∷ [])) (sender_of 0
         (number_in State.Flying 1 0 [] ∷ number_in State.Flying 2 0 [] ∷ []))).forward ≡ 0 }
-    ensures wholly
-        { (told_by (told 64 0 ((2, 3) ∷ [])) (record
+    ensures wholly { (told_by (told 64 0 ((2, 3) ∷ [])) (record
         (sender_of 0 (number_in State.Flying 1 0 [] ∷ number_in State.Flying 2 0 []
-        ∷ number_in State.Flying 3 0 [] ∷ [])) { waiting = waiting_at 1 1 0 None None
-        ∷ waiting_at 2 2 0 None None ∷ [] })).waiting ≡ waiting_at 1 1 0 None None ∷ [] }
-    ensures not_wholly
-        { (told_by (told 64 0 ((2, 2) ∷ [])) (record
+        ∷ number_in State.Flying 3 0 [] ∷ [])) {
+          waiting = waiting_at 1 1 0 None None
+              ∷ waiting_at 2 2 0 None None ∷ [];
+        })).waiting ≡ waiting_at 1 1 0 None None ∷ [] }
+    ensures not_wholly { (told_by (told 64 0 ((2, 2) ∷ [])) (record
         (sender_of 0 (number_in State.Flying 1 0 [] ∷ number_in State.Flying 2 0 []
-        ∷ number_in State.Flying 3 0 [] ∷ [])) { waiting = waiting_at 2 2 0 None None
-        ∷ [] })).waiting ≡ waiting_at 2 2 0 None None ∷ [] }
+        ∷ number_in State.Flying 3 0 [] ∷ [])) {
+          waiting = waiting_at 2 2 0 None None
+              ∷ [];
+        })).waiting ≡ waiting_at 2 2 0 None None ∷ [] }
 {}
 
 /// A number in flight is late where the moment is its last sending and the resend time. A message
@@ -208,25 +210,19 @@ pub fn late()
     ensures not_yet { is_late 1499 500 (number_in State.Flying 1 0 []) ≡ false }
     ensures late { is_late 1500 500 (number_in State.Flying 1 0 []) ≡ true }
     ensures only_in_flight { is_late 1500 500 (number_in State.Abandoned 1 0 []) ≡ false }
-    ensures at_its_deadline
-        { overdue 50 (record (sender_of 0 (number_in State.Flying 1 0 [] ∷ []))
+    ensures at_its_deadline { overdue 50 (record (sender_of 0 (number_in State.Flying 1 0 [] ∷ []))
         { waiting = waiting_at 1 1 0 (Some 50) None ∷ [] }) ≡ None }
-    ensures after_it
-        { overdue 51 (record (sender_of 0 (number_in State.Flying 1 0 [] ∷ []))
+    ensures after_it { overdue 51 (record (sender_of 0 (number_in State.Flying 1 0 [] ∷ []))
         { waiting = waiting_at 1 1 0 (Some 50) None ∷ [] }) ≡ Some 1 }
-    ensures no_resend
-        { overdue 0 (record (sender_of 0 (number_in State.Lost 1 0 [] ∷ []))
+    ensures no_resend { overdue 0 (record (sender_of 0 (number_in State.Lost 1 0 [] ∷ []))
         { waiting = waiting_at 1 1 0 None (Some 0) ∷ [] }) ≡ Some 1 }
-    ensures one_more_resend
-        { overdue 0
+    ensures one_more_resend { overdue 0
         (record (sender_of 0 (record (number_in State.Lost 1 0 []) { resends = 1 } ∷ []))
         { waiting = waiting_at 1 1 0 None (Some 2) ∷ [] }) ≡ None }
-    ensures as_often
-        { overdue 0
+    ensures as_often { overdue 0
         (record (sender_of 0 (record (number_in State.Lost 1 0 []) { resends = 2 } ∷ []))
         { waiting = waiting_at 1 1 0 None (Some 2) ∷ [] }) ≡ Some 1 }
-    ensures in_flight_still
-        { overdue 0
+    ensures in_flight_still { overdue 0
         (record (sender_of 0 (record (number_in State.Flying 1 0 []) { resends = 2 } ∷ []))
         { waiting = waiting_at 1 1 0 None (Some 2) ∷ [] }) ≡ None }
 {}
@@ -235,16 +231,14 @@ pub fn late()
 /// forward number passes them where all below is settled. The number of the end of the flow is the
 /// next one.
 pub fn abandoning()
-    ensures abandons
-        { abandoned 2
+    ensures abandons { abandoned 2
         (record (sender_of 0 (number_in State.Flying 1 0 (7 ∷ [])
         ∷ number_in State.Flying 2 0 (7 ∷ []) ∷ number_in State.Acknowledged 3 0 [] ∷ []))
         { waiting = waiting_at 1 1 1 None None ∷ waiting_at 2 2 1 None None ∷ [] })
         ≡ record (sender_of 0 (number_in State.Flying 1 0 (7 ∷ [])
         ∷ number_in State.Abandoned 2 0 [] ∷ number_in State.Acknowledged 3 0 [] ∷ []))
         { waiting = waiting_at 1 1 1 None None ∷ [] } }
-    ensures passes
-        { (abandoned 1
+    ensures passes { (abandoned 1
         (record (sender_of 0 (number_in State.Flying 1 0 (7 ∷ [])
         ∷ number_in State.Acknowledged 2 0 [] ∷ number_in State.Flying 3 0 [] ∷ []))
         { waiting = waiting_at 1 1 1 None None ∷ [] })).forward ≡ 2 }

@@ -1,22 +1,82 @@
 //! The sender of a flow.
 
-ghost use Rattle.std.specs.Prelude.{◌≡◌, ◌≢◌, ◌+◌, ◌-◌, ◌<◌, ◌≤◌, ◌^◌, ◌∷◌, ◌++◌, [], IfOk, IsOk,
-    OnOk, OnErr, IfErr, IfSome, IfNone, List, length, Some, None, Ok, Err, nat_lt, MatchOption,
-    MatchResult, true, false, if◌then◌else◌, ◌↔◌};
+ghost use Rattle.std.specs.Prelude.{
+  ◌≡◌,
+  ◌≢◌,
+  ◌+◌,
+  ◌-◌,
+  ◌<◌,
+  ◌≤◌,
+  ◌^◌,
+  ◌∷◌,
+  ◌++◌,
+  [],
+  IfOk,
+  IsOk,
+  OnOk,
+  OnErr,
+  IfErr,
+  IfSome,
+  IfNone,
+  List,
+  length,
+  Some,
+  None,
+  Ok,
+  Err,
+  nat_lt,
+  MatchOption,
+  MatchResult,
+  true,
+  false,
+  if◌then◌else◌,
+  ◌↔◌,
+};
 ghost use Rattle.std.specs.Option.{is_some};
 ghost use Rattle.std.specs.List.{list_any};
 ghost use Rattle.rtmfp_data_chunks.specs.Fragments.{fragments_of_length};
 ghost use Rattle.rtmfp_data_chunks.specs.Taken.{chunk_of};
 ghost use Rattle.flow_send.specs.Rows.{any_row, in_flight};
-ghost use Rattle.flow_send.specs.Sender.{Sender, new_sender, next_of, queued, waits, abandoned,
-    abandoned_if, first_number, overdue, finish_by, lost_late, is_late};
+ghost use Rattle.flow_send.specs.Sender.{
+  Sender,
+  new_sender,
+  next_of,
+  queued,
+  waits,
+  abandoned,
+  abandoned_if,
+  first_number,
+  overdue,
+  finish_by,
+  lost_late,
+  is_late,
+};
 ghost use Rattle.flow_send.specs.Acks.{told, beyond, new_bytes, makes_lost, told_by};
 ghost use Rattle.flow_send.specs.Steady.{Steady, IsGreatest, IsBounded};
-ghost use Rattle.flow_send.specs.Choice.{Nothing, Notify, choice, next_choice, notice_due,
-    choice_bytes, chunk_for, within_limit, is_quiet, sent_after};
+ghost use Rattle.flow_send.specs.Choice.{
+  Nothing,
+  Notify,
+  choice,
+  next_choice,
+  notice_due,
+  choice_bytes,
+  chunk_for,
+  within_limit,
+  is_quiet,
+  sent_after,
+};
 ghost use Rattle.flow_send.specs.Picked.{picked, picked_if, IsThere};
-ghost use Rattle.flow_send.specs.Flow.{Flow, flow_options, with_sender, is_finished, queue_refusal,
-    next_message, data_length, chunk_options, chunk_refusal};
+ghost use Rattle.flow_send.specs.Flow.{
+  Flow,
+  flow_options,
+  with_sender,
+  is_finished,
+  queue_refusal,
+  next_message,
+  data_length,
+  chunk_options,
+  chunk_refusal,
+};
 
 use crate::acking::{acknowledge, greatest};
 use crate::backlog::Backlog;
@@ -70,16 +130,37 @@ impl Model for FlowSender {
 
     ghost Value = { Flow };
 
-    ghost view =
-        { λ f. record { id = f.id; options = options_in f.options.items; priority = f.priority;
-        sender = record { forward = f.forward; rows = f.rows.rows; waiting = f.waiting;
-        finish = f.finish; sent = f.sent; upto = f.upto; told = f.told; notice = f.notice; order =
-        f.order } } };
+    ghost view = { λ f. record {
+      id = f.id;
+      options = options_in f.options.items;
+      priority = f.priority;
+      sender = record {
+        forward = f.forward;
+        rows = f.rows.rows;
+        waiting = f.waiting;
+        finish = f.finish;
+        sent = f.sent;
+        upto = f.upto;
+        told = f.told;
+        notice = f.notice;
+        order =
+            f.order;
+      };
+    } };
 
     ghost invariant = { λ f.
-        Steady (record { forward = f.forward; rows = f.rows.rows; waiting = f.waiting;
-          finish = f.finish; sent = f.sent; upto = f.upto; told = f.told; notice = f.notice; order =
-          f.order })
+        Steady (record {
+          forward = f.forward;
+          rows = f.rows.rows;
+          waiting = f.waiting;
+          finish = f.finish;
+          sent = f.sent;
+          upto = f.upto;
+          told = f.told;
+          notice = f.notice;
+          order =
+              f.order;
+        })
         × OptionsSpell (options_in f.options.items) f.options.items
         × (f.finish ≡ None → 1 ≤ f.rows.room) };
 }
@@ -98,9 +179,13 @@ impl FlowSender {
         requires metadata { length metadata.now ≤ 64 }
         requires priority { priority ≤ 7 }
         requires first { 1 ≤ first }
-        ensures { IfOk result (λ f. f ≡ record { id = id;
-            options = flow_options metadata.now answers; priority = priority; sender =
-            new_sender first }) }
+        ensures { IfOk result (λ f. f ≡ record {
+          id = id;
+          options = flow_options metadata.now answers;
+          priority = priority;
+          sender =
+              new_sender first;
+        }) }
     {
         Ok(FlowSender {
             alloc,
@@ -134,8 +219,7 @@ impl FlowSender {
     /// Queues a message, and gives the number of its first fragment.
     pub fn queue(&mut self, message: &[u8], options: MessageOptions) -> Result<u64, QueueRefusal>
         ensures number { IfOk result (λ n. n ≡ next_of self.old.sender) }
-        ensures queued
-            { OnOk result (self.new ≡ with_sender self.old
+        ensures queued { OnOk result (self.new ≡ with_sender self.old
             (queued (next_message self.old.sender message.now) options self.old.sender)) }
         ensures refused { MatchOption (queue_refusal self.old.sender (length message.now))
             (IfErr result (λ e. e ≡ QueueRefusal.Memory)) (λ e. result ≡ Err e) }
@@ -161,8 +245,7 @@ impl FlowSender {
     ) -> Result<(), AllocError>
         requires allowed { queue_refusal self.old.sender (length message.now) ≡ None }
         requires number { number ≡ next_of self.old.sender }
-        ensures queued
-            { OnOk result (self.new ≡ with_sender self.old
+        ensures queued { OnOk result (self.new ≡ with_sender self.old
             (queued (next_message self.old.sender message.now) options self.old.sender)) }
         ensures err { OnErr result (self.new ≡ self.old) }
     {
@@ -351,8 +434,7 @@ impl FlowSender {
             self.old.sender.rows) }
         ensures lost { IfOk result (λ a. a.lost
             ≡ makes_lost (told blocks upto ranges.entry) self.old.sender) }
-        ensures ok
-            { OnOk result (self.new ≡ with_sender self.old
+        ensures ok { OnOk result (self.new ≡ with_sender self.old
             (told_by (told blocks upto ranges.entry) self.old.sender)) }
         ensures err { OnErr result (self.new ≡ self.old) }
     {
@@ -362,9 +444,9 @@ impl FlowSender {
         }
         let to = self.sent_rows();
         let before = self.rows.stored();
-        let place = acknowledge(&mut self.rows, self.forward, upto, &ranges);
+        let ordinal = acknowledge(&mut self.rows, self.forward, upto, &ranges);
         let bytes = before - self.rows.stored();
-        let lost = self.rows.count_acks(to, place);
+        let lost = self.rows.count_acks(to, ordinal);
         self.waiting.drop_done(&self.rows, self.forward, greatest);
         self.forward += self.rows.settle();
         self.upto = upto;
@@ -382,14 +464,12 @@ impl FlowSender {
         moment: u64,
         resend_after: u64,
     ) -> Result<Pick, NoChunk>
-        ensures refused
-            { MatchOption (chunk_refusal self.old first room flight window
+        ensures refused { MatchOption (chunk_refusal self.old first room flight window
             (choice moment resend_after self.old.sender)) (IsOk result) (λ e. result ≡ Err e) }
         ensures chunk { IfOk result (λ p. chunk_for self.new.sender (picked self.new.sender p)
             ≡ chunk_for self.old.sender (choice moment resend_after self.old.sender)) }
         ensures there { IfOk result (λ p. IsThere self.new.sender p) }
-        ensures sent
-            { OnOk result (self.new ≡ with_sender self.old
+        ensures sent { OnOk result (self.new ≡ with_sender self.old
             (sent_after moment (choice moment resend_after self.old.sender) self.old.sender)) }
         ensures err { OnErr result (self.new ≡ self.old) }
     {
@@ -567,8 +647,7 @@ impl FlowSender {
 
     fn send_row(&mut self, at: usize, moment: u64)
         requires there { at < length self.old.sender.rows }
-        requires steady
-            { Steady (sent_after moment (picked self.old.sender (Pick.Row at)) self.old.sender) }
+        requires steady { Steady (sent_after moment (picked self.old.sender (Pick.Row at)) self.old.sender) }
         ensures { self.new ≡ with_sender self.old
             (sent_after moment (picked self.old.sender (Pick.Row at)) self.old.sender) }
     {

@@ -2,8 +2,13 @@
 
 ghost use Rattle.std.specs.Prelude.{◌≡◌, ◌++◌, ◌<◌, ℕ, OnOk, IfOk};
 ghost use Rattle.std.specs.List.{flat_map};
-ghost use Rattle.rtmfp_forms.specs.Options.{OptionParts, PieceSpells, PiecesSpell, OptionsSpell,
-    option_bytes};
+ghost use Rattle.rtmfp_forms.specs.Options.{
+  OptionParts,
+  PieceSpells,
+  PiecesSpell,
+  OptionsSpell,
+  option_bytes,
+};
 ghost use Rattle.flow_send.specs.Flow.{associations, flow_options};
 
 use rtmfp_vlu::write_vlu;
@@ -29,8 +34,7 @@ pub fn spelled(alloc: Global, metadata: &[u8], answers: Option<u64>) -> Result<V
 fn put_association(bytes: &mut Vec<u8>, answers: Option<u64>) -> Result<(), AllocError>
     ensures put { OnOk result (bytes.new.items ≡ bytes.old.items
         ++ flat_map option_bytes (associations answers)) }
-    ensures spells
-        { OnOk result (PiecesSpell (associations answers)
+    ensures spells { OnOk result (PiecesSpell (associations answers)
         (flat_map option_bytes (associations answers))) }
 {
     let Some(flow) = answers else {
@@ -47,8 +51,7 @@ fn put_option(bytes: &mut Vec<u8>, kind: u8, value: &[u8]) -> Result<(), AllocEr
     requires { kind < 128 }
     ensures put { OnOk result (bytes.new.items ≡ bytes.old.items
         ++ option_bytes (record { kind = kind; value = value.now })) }
-    ensures spells
-        { OnOk result (PieceSpells (record { kind = kind; value = value.now })
+    ensures spells { OnOk result (PieceSpells (record { kind = kind; value = value.now })
         (option_bytes (record { kind = kind; value = value.now }))) }
 {
     let mut spelling = [0; 10];

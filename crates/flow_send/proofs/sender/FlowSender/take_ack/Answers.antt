@@ -12,8 +12,8 @@ use Rattle.flow_send.proofs.Steadies.{told_length, steady_told}
 use Rattle.flow_send.proofs.Tellings.{late_told, acked_bytes, counted_rows, counted_lost, told_eq}
 use Rattle.flow_send.proofs.sender.FlowSender.take_ack.Goals as goal
 
-pub acknowledge-place-requires : goal.acknowledge-place-requires
-acknowledge-place-requires c =
+pub acknowledge-ordinal-requires : goal.acknowledge-ordinal-requires
+acknowledge-ordinal-requires c =
     let i = c.self.inside in
     let s = sender i.forward i.rows.rows i.waiting i.finish i.sent i.upto i.told i.notice i.order in
     let k : Steady s = c.self.invariant.0 in
@@ -26,7 +26,7 @@ overflow_sub-bytes c =
     let k : Steady s = c.self.invariant.0 in
     let a = told c.args.blocks c.args.upto c.args.ranges in
     let g : greatest a.upto a.ranges ≤ s.sent = omega (arith, c.greatest-greatest.ensures, c.if-greatest-self.false) in
-    let e : c.acknowledge-place.new.rows.rows ≡ rows_acknowledged a s = c.acknowledge-place.ensures.rows in
+    let e : c.acknowledge-ordinal.new.rows.rows ≡ rows_acknowledged a s = c.acknowledge-ordinal.ensures.rows in
     omega (arith, c.stored-before.ensures, c.stored.ensures, acked_bytes a s.sent (s.forward + 1) s.rows k.rows, ap (λ (xs : List Row). sum_by stored_of xs) e)
 
 pub count_acks-lost-requires : goal.count_acks-lost-requires
@@ -36,7 +36,7 @@ count_acks-lost-requires c =
     let k : Steady s = c.self.invariant.0 in
     let a = told c.args.blocks c.args.upto c.args.ranges in
     let g : greatest a.upto a.ranges ≤ s.sent = omega (arith, c.greatest-greatest.ensures, c.if-greatest-self.false) in
-    let e : c.acknowledge-place.new.rows.rows ≡ rows_acknowledged a s = c.acknowledge-place.ensures.rows in
+    let e : c.acknowledge-ordinal.new.rows.rows ≡ rows_acknowledged a s = c.acknowledge-ordinal.ensures.rows in
     let n : c.sent_rows-to.result ≤ length s.rows = subst (λ (f : Flow). c.sent_rows-to.result ≤ length f.sender.rows) (sym c.self.view_is) c.sent_rows-to.ensures.inside in
     omega (arith, n, ap (λ (xs : List Row). length xs) e, map_length (acknowledge a) (s.forward + 1) s.rows)
 
@@ -47,9 +47,9 @@ drop_done-requires-clause-inside c =
     let k : Steady s = c.self.invariant.0 in
     let a = told c.args.blocks c.args.upto c.args.ranges in
     let g : greatest a.upto a.ranges ≤ s.sent = omega (arith, c.greatest-greatest.ensures, c.if-greatest-self.false) in
-    let e : c.acknowledge-place.new.rows.rows ≡ rows_acknowledged a s = c.acknowledge-place.ensures.rows in
+    let e : c.acknowledge-ordinal.new.rows.rows ≡ rows_acknowledged a s = c.acknowledge-ordinal.ensures.rows in
     let to : c.sent_rows-to.result ≡ s.sent - s.forward = c.sent_rows-to.ensures.count ∙ ap (λ (f : Flow). f.sender.sent - f.sender.forward) (sym c.self.view_is) in
-    let rows : c.count_acks-lost.new.self.rows ≡ rows_told a s = counted_rows a s c.acknowledge-place.result c.sent_rows-to.result c.acknowledge-place.new.rows.rows c.count_acks-lost.new.self.rows k g e c.acknowledge-place.ensures.place to c.count_acks-lost.ensures.rows in
+    let rows : c.count_acks-lost.new.self.rows ≡ rows_told a s = counted_rows a s c.acknowledge-ordinal.result c.sent_rows-to.result c.acknowledge-ordinal.new.rows.rows c.count_acks-lost.new.self.rows k g e c.acknowledge-ordinal.ensures.ordinal to c.count_acks-lost.ensures.rows in
     let n : length s.rows ≡ length c.count_acks-lost.new.self.rows = sym (ap (λ (xs : List Row). length xs) rows ∙ told_length a s) in
     subst (λ (j : ℕ). Line 0 (s.forward + 1 + j) s.waiting) n (line_rows s k)
 
@@ -60,9 +60,9 @@ drop_done-requires-clause-late c =
     let k : Steady s = c.self.invariant.0 in
     let a = told c.args.blocks c.args.upto c.args.ranges in
     let g : greatest a.upto a.ranges ≤ s.sent = omega (arith, c.greatest-greatest.ensures, c.if-greatest-self.false) in
-    let e : c.acknowledge-place.new.rows.rows ≡ rows_acknowledged a s = c.acknowledge-place.ensures.rows in
+    let e : c.acknowledge-ordinal.new.rows.rows ≡ rows_acknowledged a s = c.acknowledge-ordinal.ensures.rows in
     let to : c.sent_rows-to.result ≡ s.sent - s.forward = c.sent_rows-to.ensures.count ∙ ap (λ (f : Flow). f.sender.sent - f.sender.forward) (sym c.self.view_is) in
-    let rows : c.count_acks-lost.new.self.rows ≡ rows_told a s = counted_rows a s c.acknowledge-place.result c.sent_rows-to.result c.acknowledge-place.new.rows.rows c.count_acks-lost.new.self.rows k g e c.acknowledge-place.ensures.place to c.count_acks-lost.ensures.rows in
+    let rows : c.count_acks-lost.new.self.rows ≡ rows_told a s = counted_rows a s c.acknowledge-ordinal.result c.sent_rows-to.result c.acknowledge-ordinal.new.rows.rows c.count_acks-lost.new.self.rows k g e c.acknowledge-ordinal.ensures.ordinal to c.count_acks-lost.ensures.rows in
     subst (λ (xs : List Row). Late c.greatest-greatest.result (s.forward + 1) xs s.waiting) (sym rows)
     (subst (λ (j : ℕ). Late j (s.forward + 1) (rows_told a s) s.waiting) (sym c.greatest-greatest.ensures) (late_told a s (s.forward + 1 + length s.rows) (line_rows s k) k.waits))
 
@@ -73,9 +73,9 @@ overflow_add-self c =
     let k : Steady s = c.self.invariant.0 in
     let a = told c.args.blocks c.args.upto c.args.ranges in
     let g : greatest a.upto a.ranges ≤ s.sent = omega (arith, c.greatest-greatest.ensures, c.if-greatest-self.false) in
-    let e : c.acknowledge-place.new.rows.rows ≡ rows_acknowledged a s = c.acknowledge-place.ensures.rows in
+    let e : c.acknowledge-ordinal.new.rows.rows ≡ rows_acknowledged a s = c.acknowledge-ordinal.ensures.rows in
     let to : c.sent_rows-to.result ≡ s.sent - s.forward = c.sent_rows-to.ensures.count ∙ ap (λ (f : Flow). f.sender.sent - f.sender.forward) (sym c.self.view_is) in
-    let rows : c.count_acks-lost.new.self.rows ≡ rows_told a s = counted_rows a s c.acknowledge-place.result c.sent_rows-to.result c.acknowledge-place.new.rows.rows c.count_acks-lost.new.self.rows k g e c.acknowledge-place.ensures.place to c.count_acks-lost.ensures.rows in
+    let rows : c.count_acks-lost.new.self.rows ≡ rows_told a s = counted_rows a s c.acknowledge-ordinal.result c.sent_rows-to.result c.acknowledge-ordinal.new.rows.rows c.count_acks-lost.new.self.rows k g e c.acknowledge-ordinal.ensures.ordinal to c.count_acks-lost.ensures.rows in
     omega (arith, c.settle.ensures.count, front_fits c.count_acks-lost.new.self.rows, ap (λ (xs : List Row). length xs) rows, told_length a s, next_small s k)
 
 pub invariant_of-self : goal.invariant_of-self
@@ -85,13 +85,13 @@ invariant_of-self c =
     let k : Steady s = c.self.invariant.0 in
     let a = told c.args.blocks c.args.upto c.args.ranges in
     let g : greatest a.upto a.ranges ≤ s.sent = omega (arith, c.greatest-greatest.ensures, c.if-greatest-self.false) in
-    let e : c.acknowledge-place.new.rows.rows ≡ rows_acknowledged a s = c.acknowledge-place.ensures.rows in
+    let e : c.acknowledge-ordinal.new.rows.rows ≡ rows_acknowledged a s = c.acknowledge-ordinal.ensures.rows in
     let to : c.sent_rows-to.result ≡ s.sent - s.forward = c.sent_rows-to.ensures.count ∙ ap (λ (f : Flow). f.sender.sent - f.sender.forward) (sym c.self.view_is) in
-    let rows : c.count_acks-lost.new.self.rows ≡ rows_told a s = counted_rows a s c.acknowledge-place.result c.sent_rows-to.result c.acknowledge-place.new.rows.rows c.count_acks-lost.new.self.rows k g e c.acknowledge-place.ensures.place to c.count_acks-lost.ensures.rows in
+    let rows : c.count_acks-lost.new.self.rows ≡ rows_told a s = counted_rows a s c.acknowledge-ordinal.result c.sent_rows-to.result c.acknowledge-ordinal.new.rows.rows c.count_acks-lost.new.self.rows k g e c.acknowledge-ordinal.ensures.ordinal to c.count_acks-lost.ensures.rows in
     let is = told_eq a s c.count_acks-lost.new.self.rows c.settle.new.self.rows (i.forward + c.settle.result) c.drop_done.new.self rows (ap (λ j. i.forward + j) c.settle.ensures.count) c.settle.ensures.rows c.drop_done.ensures in (
       subst Steady (sym is) (steady_told s a k g),
       c.self.invariant.1,
-      λ none. let r = c.self.invariant.2 none in omega (arith, r, c.acknowledge-place.ensures.room, c.count_acks-lost.ensures.room, c.settle.ensures.room),
+      λ none. let r = c.self.invariant.2 none in omega (arith, r, c.acknowledge-ordinal.ensures.room, c.count_acks-lost.ensures.room, c.settle.ensures.room),
     )
 
 pub returns-clause-bytes : goal.returns-clause-bytes
@@ -101,7 +101,7 @@ returns-clause-bytes c =
     let k : Steady s = c.self.invariant.0 in
     let a = told c.args.blocks c.args.upto c.args.ranges in
     let g : greatest a.upto a.ranges ≤ s.sent = omega (arith, c.greatest-greatest.ensures, c.if-greatest-self.false) in
-    let e : c.acknowledge-place.new.rows.rows ≡ rows_acknowledged a s = c.acknowledge-place.ensures.rows in
+    let e : c.acknowledge-ordinal.new.rows.rows ≡ rows_acknowledged a s = c.acknowledge-ordinal.ensures.rows in
     let b : c.stored-before.result - c.stored.result ≡ new_bytes a (s.forward + 1) s.rows =
     omega (arith, c.stored-before.ensures, c.stored.ensures, acked_bytes a s.sent (s.forward + 1) s.rows k.rows, ap (λ (xs : List Row). sum_by stored_of xs) e) in
     subst (λ (f : Flow). c.stored-before.result - c.stored.result ≡ new_bytes a (f.sender.forward + 1) f.sender.rows) c.self.view_is b
@@ -113,11 +113,11 @@ returns-clause-lost c =
     let k : Steady s = c.self.invariant.0 in
     let a = told c.args.blocks c.args.upto c.args.ranges in
     let g : greatest a.upto a.ranges ≤ s.sent = omega (arith, c.greatest-greatest.ensures, c.if-greatest-self.false) in
-    let e : c.acknowledge-place.new.rows.rows ≡ rows_acknowledged a s = c.acknowledge-place.ensures.rows in
+    let e : c.acknowledge-ordinal.new.rows.rows ≡ rows_acknowledged a s = c.acknowledge-ordinal.ensures.rows in
     let to : c.sent_rows-to.result ≡ s.sent - s.forward = c.sent_rows-to.ensures.count ∙ ap (λ (f : Flow). f.sender.sent - f.sender.forward) (sym c.self.view_is) in
-    let rows : c.count_acks-lost.new.self.rows ≡ rows_told a s = counted_rows a s c.acknowledge-place.result c.sent_rows-to.result c.acknowledge-place.new.rows.rows c.count_acks-lost.new.self.rows k g e c.acknowledge-place.ensures.place to c.count_acks-lost.ensures.rows in
+    let rows : c.count_acks-lost.new.self.rows ≡ rows_told a s = counted_rows a s c.acknowledge-ordinal.result c.sent_rows-to.result c.acknowledge-ordinal.new.rows.rows c.count_acks-lost.new.self.rows k g e c.acknowledge-ordinal.ensures.ordinal to c.count_acks-lost.ensures.rows in
     subst (λ (f : Flow). c.count_acks-lost.result ≡ makes_lost a f.sender) c.self.view_is
-    (counted_lost a s c.acknowledge-place.result c.sent_rows-to.result c.acknowledge-place.new.rows.rows c.count_acks-lost.result k g e c.acknowledge-place.ensures.place to c.count_acks-lost.ensures.lost)
+    (counted_lost a s c.acknowledge-ordinal.result c.sent_rows-to.result c.acknowledge-ordinal.new.rows.rows c.count_acks-lost.result k g e c.acknowledge-ordinal.ensures.ordinal to c.count_acks-lost.ensures.lost)
 
 pub returns-clause-ok : goal.returns-clause-ok
 returns-clause-ok c =
@@ -126,9 +126,9 @@ returns-clause-ok c =
     let k : Steady s = c.self.invariant.0 in
     let a = told c.args.blocks c.args.upto c.args.ranges in
     let g : greatest a.upto a.ranges ≤ s.sent = omega (arith, c.greatest-greatest.ensures, c.if-greatest-self.false) in
-    let e : c.acknowledge-place.new.rows.rows ≡ rows_acknowledged a s = c.acknowledge-place.ensures.rows in
+    let e : c.acknowledge-ordinal.new.rows.rows ≡ rows_acknowledged a s = c.acknowledge-ordinal.ensures.rows in
     let to : c.sent_rows-to.result ≡ s.sent - s.forward = c.sent_rows-to.ensures.count ∙ ap (λ (f : Flow). f.sender.sent - f.sender.forward) (sym c.self.view_is) in
-    let rows : c.count_acks-lost.new.self.rows ≡ rows_told a s = counted_rows a s c.acknowledge-place.result c.sent_rows-to.result c.acknowledge-place.new.rows.rows c.count_acks-lost.new.self.rows k g e c.acknowledge-place.ensures.place to c.count_acks-lost.ensures.rows in
+    let rows : c.count_acks-lost.new.self.rows ≡ rows_told a s = counted_rows a s c.acknowledge-ordinal.result c.sent_rows-to.result c.acknowledge-ordinal.new.rows.rows c.count_acks-lost.new.self.rows k g e c.acknowledge-ordinal.ensures.ordinal to c.count_acks-lost.ensures.rows in
     let is = told_eq a s c.count_acks-lost.new.self.rows c.settle.new.self.rows (i.forward + c.settle.result) c.drop_done.new.self rows (ap (λ j. i.forward + j) c.settle.ensures.count) c.settle.ensures.rows c.drop_done.ensures in
     let F : Sender → Flow = λ v. record { id = i.id; options = Rattle.rtmfp_forms.specs.OptionReading.options_in i.options.items; priority = i.priority; sender = v } in
     let v : Sender = sender (i.forward + c.settle.result) c.settle.new.self.rows c.drop_done.new.self i.finish i.sent c.args.upto (Some c.args.blocks) i.notice i.order in
