@@ -342,11 +342,6 @@ neighbours_apart runs x f g s h a c =
     let n = i.1 in
     ne_eqb f g (λ e. omega (arith, e, n, m, l.1, p.0, q.0, s))
 
-pub both_first : (runs : List Run) (x b : Run) (g : ℕ) → IsSomeAnd (run_at g runs) (λ z. fits x z ≡ true) → IfSome (run_at g runs) (λ z. b ≡ joined x z) → b.first ≡ x.first
-both_first runs x b g c e =
-    let z = opens_if (run_at g runs) (λ v. fits x v ≡ true) c in
-    ap (λ (w : Run). w.first) (if_there (run_at g runs) z.0 (λ v. b ≡ joined x v) z.1 e)
-
 pub put_both : (runs : List Run) (x b : Run) (g : ℕ) → x.first ≡ x.last → InOrder 0 runs → IsFree x.first runs → IsFollowed x runs None → IsSomeAnd (run_at g runs) (λ z. fits x z ≡ true)
     → IfSome (run_at g runs) (λ z. b ≡ joined x z) → without_run g (with_run b runs) ≡ add_run x runs
 put_both runs x b g s h free a c e =

@@ -8,26 +8,54 @@ use Rattle.flow_recv.specs.Receiver.{Receiver}
 
 -- a chunk with a fragment
 abbrev pub fragment : Part → ℕ → ℕ → List ℕ → Chunk
-fragment part seq forward bytes = record { part = part; abandon = false; last = false; seq = seq;
-    forward = forward; bytes = bytes }
+fragment part seq forward bytes = record {
+  part = part;
+  abandon = false;
+  last = false;
+  seq = seq;
+  forward = forward;
+  bytes = bytes;
+}
 
 -- a chunk that gives its number up
 abbrev pub gives_up : ℕ → ℕ → Chunk
-gives_up seq forward = record { part = Whole; abandon = true; last = false; seq = seq;
-    forward = forward; bytes = [] }
+gives_up seq forward = record {
+  part = Whole;
+  abandon = true;
+  last = false;
+  seq = seq;
+  forward = forward;
+  bytes = [];
+}
 
 -- a chunk that is marked last
 abbrev pub marked_last : ℕ → Chunk
-marked_last seq = record { part = Whole; abandon = true; last = true; seq = seq; forward = 0;
-    bytes = [] }
+marked_last seq = record {
+  part = Whole;
+  abandon = true;
+  last = true;
+  seq = seq;
+  forward = 0;
+  bytes = [];
+}
 
 -- a receiver in queueing order
 abbrev pub keeping : List Span → List Run → Receiver
-keeping spans runs = record { arriving = false; spans = spans; runs = runs; last = None;
-    highest = 0 }
+keeping spans runs = record {
+  arriving = false;
+  spans = spans;
+  runs = runs;
+  last = None;
+  highest = 0;
+}
 
 -- fragments from one number to another, which begin with a begin or a whole one, and end with an
 -- end or a whole one
 abbrev pub run_of : ℕ → ℕ → Bool → Bool → List ℕ → Run
-run_of first last front rear bytes = record { first = first; last = last; front = front;
-    rear = rear; bytes = bytes }
+run_of first last front rear bytes = record {
+  first = first;
+  last = last;
+  front = front;
+  rear = rear;
+  bytes = bytes;
+}

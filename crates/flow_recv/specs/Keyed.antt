@@ -1,6 +1,31 @@
 -- The runs by the number that each begins with.
-use Rattle.std.specs.Prelude.{ℕ, ◌≡◌, ◌==◌, ◌-◌, ◌+◌, ◌<◌, ◌≤◌, nat_lt, nat_le, ◌&&◌, ◌||◌, not,
-    Bool, true, false, if◌then◌else◌, List, [], ◌∷◌, ◌++◌, Option, Some, None, IsSome, length}
+use Rattle.std.specs.Prelude.{
+  ℕ,
+  ◌≡◌,
+  ◌==◌,
+  ◌-◌,
+  ◌+◌,
+  ◌<◌,
+  ◌≤◌,
+  nat_lt,
+  nat_le,
+  ◌&&◌,
+  ◌||◌,
+  not,
+  Bool,
+  true,
+  false,
+  if◌then◌else◌,
+  List,
+  [],
+  ◌∷◌,
+  ◌++◌,
+  Option,
+  Some,
+  None,
+  IsSome,
+  length,
+}
 use Rattle.std.specs.Option.{IsSomeAnd}
 use Rattle.std.specs.Map.{keys_of, values_of}
 use Rattle.std.specs.Ordering.{nat_cmp}
@@ -42,8 +67,13 @@ emptied y = record { first = y.first; last = y.last; front = y.front; rear = y.r
 
 -- two runs and the bytes between them, joined
 abbrev pub over : Run → List ℕ → Run → Run
-over y bytes z = record { first = y.first; last = z.last; front = y.front; rear = z.rear;
-    bytes = (y.bytes ++ bytes) ++ z.bytes }
+over y bytes z = record {
+  first = y.first;
+  last = z.last;
+  front = y.front;
+  rear = z.rear;
+  bytes = (y.bytes ++ bytes) ++ z.bytes;
+}
 
 abbrev pub rear_of : Option Run → Bool
 rear_of None = false

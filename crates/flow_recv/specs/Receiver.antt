@@ -1,11 +1,42 @@
 -- What a receiving flow keeps, and how each call changes it.
-use Rattle.std.specs.Prelude.{ℕ, ◌≡◌, ◌<◌, ◌≤◌, ◌+◌, ◌-◌, ◌==◌, if◌then◌else◌, nat_le, nat_lt, min,
-    max, not, Bool, true, ◌&&◌, List, [], ◌∷◌, Option, Some, None, length}
+use Rattle.std.specs.Prelude.{
+  ℕ,
+  ◌≡◌,
+  ◌<◌,
+  ◌≤◌,
+  ◌+◌,
+  ◌-◌,
+  ◌==◌,
+  if◌then◌else◌,
+  nat_le,
+  nat_lt,
+  min,
+  max,
+  not,
+  Bool,
+  true,
+  ◌&&◌,
+  List,
+  [],
+  ◌∷◌,
+  Option,
+  Some,
+  None,
+  length,
+}
 use Rattle.std.specs.List.{filter, sum_by, list_any}
 use Rattle.rtmfp_data_chunks.specs.HandsOver.{IsIn}
 use Rattle.flow_recv.specs.declared.spans.Span.{Span}
-use Rattle.rtmfp_data_chunks.specs.Runs.{Chunk, Run, single, fits, joined, is_whole, is_dead,
-    is_ready}
+use Rattle.rtmfp_data_chunks.specs.Runs.{
+  Chunk,
+  Run,
+  single,
+  fits,
+  joined,
+  is_whole,
+  is_dead,
+  is_ready,
+}
 
 -- the spans, by rising number and apart, are the numbers that aren't missing. The runs are those
 -- that are neither dead nor handed over
@@ -21,8 +52,13 @@ span first last = record { first = first; last = last }
 
 -- number 0 is never missing
 abbrev pub fresh : Bool → Receiver
-fresh arriving = record { arriving = arriving; spans = span 0 0 ∷ []; runs = []; last = None;
-    highest = 0 }
+fresh arriving = record {
+  arriving = arriving;
+  spans = span 0 0 ∷ [];
+  runs = [];
+  last = None;
+  highest = 0;
+}
 
 abbrev pub covers : ℕ → Span → Bool
 covers n s = nat_le s.first n && nat_le n s.last
@@ -144,7 +180,7 @@ passes_buffer lowest held c =
 abbrev pub beyond_buffer : Receiver → Chunk → Option ℕ
 beyond_buffer r c =
     if lacks r.spans c.seq && nat_lt c.forward c.seq
-      && passes_buffer (end_of_first (spans_forward r c) + 1) (held_in (runs_forward r c)) c
+    && passes_buffer (end_of_first (spans_forward r c) + 1) (held_in (runs_forward r c)) c
     then Some (held_in (runs_forward r c)) else None
 
 -- whether a run may be handed over: it is whole, and in queueing order nothing below it is missing
@@ -167,5 +203,10 @@ abbrev pub next_run : Receiver → Option Run
 next_run r = first_of (may_hand r) r.runs
 
 abbrev pub handed_next : Receiver → Receiver
-handed_next r = record { arriving = r.arriving; spans = r.spans;
-    runs = without_first (may_hand r) r.runs; last = r.last; highest = r.highest }
+handed_next r = record {
+  arriving = r.arriving;
+  spans = r.spans;
+  runs = without_first (may_hand r) r.runs;
+  last = r.last;
+  highest = r.highest;
+}

@@ -2,10 +2,20 @@
 //! function that does nothing, whose contract tells the values.
 
 ghost use Rattle.std.specs.Prelude.{◌≡◌, ℕ, List, [], ◌∷◌, Option, Some, None, true, false, length};
-ghost use Rattle.rtmfp_data_chunks.specs.declared.user_data.Part.TheVariants.{Whole, Begin, Middle,
-    End};
-ghost use Rattle.flow_recv.specs.Receiver.{span, fresh, passes_buffer, beyond_buffer, taken,
-    next_run};
+ghost use Rattle.rtmfp_data_chunks.specs.declared.user_data.Part.TheVariants.{
+  Whole,
+  Begin,
+  Middle,
+  End,
+};
+ghost use Rattle.flow_recv.specs.Receiver.{
+  span,
+  fresh,
+  passes_buffer,
+  beyond_buffer,
+  taken,
+  next_run,
+};
 ghost use Rattle.flow_recv.specs.Outcome.{refusal, took};
 ghost use Rattle.flow_recv.specs.Acking.{free_blocks};
 ghost use Rattle.flow_recv.specs.Edges.{fragment, gives_up, marked_last, keeping, run_of};
@@ -65,14 +75,11 @@ pub fn buffer_test()
     ensures a_notice { beyond_buffer (fresh false) (gives_up 70000 70000) ≡ None }
     ensures a_given_up_number { beyond_buffer (fresh false) (gives_up 70000 69999) ≡ None }
     ensures a_given_up_number_too_far { beyond_buffer (fresh false) (gives_up 70000 4462) ≡ Some 0 }
-    ensures kept_run
-        { beyond_buffer (keeping (span 0 0 ∷ span 3 3 ∷ [])
+    ensures kept_run { beyond_buffer (keeping (span 0 0 ∷ span 3 3 ∷ [])
         (run_of 3 3 true false (1 ∷ 2 ∷ []) ∷ [])) (fragment Whole 70000 3 []) ≡ Some 2 }
-    ensures dropped_run
-        { beyond_buffer (keeping (span 0 0 ∷ span 3 3 ∷ [])
+    ensures dropped_run { beyond_buffer (keeping (span 0 0 ∷ span 3 3 ∷ [])
         (run_of 3 3 true false (1 ∷ 2 ∷ []) ∷ [])) (fragment Whole 70000 4 []) ≡ Some 0 }
-    ensures whole_run
-        { beyond_buffer (keeping (span 0 0 ∷ span 3 3 ∷ [])
+    ensures whole_run { beyond_buffer (keeping (span 0 0 ∷ span 3 3 ∷ [])
         (run_of 3 3 true true (1 ∷ 2 ∷ []) ∷ [])) (fragment Whole 70000 4 []) ≡ Some 2 }
     ensures full { (bytes : List ℕ) → length bytes ≡ 2097152 →
         beyond_buffer (keeping (span 0 0 ∷ span 3 3 ∷ []) (run_of 3 3 true false bytes ∷ []))
@@ -102,8 +109,7 @@ pub fn taking()
     ensures held { taken (fresh false) (fragment Whole 2 0 (7 ∷ []))
         ≡ record (keeping (span 0 0 ∷ span 2 2 ∷ []) (run_of 2 2 true true (7 ∷ []) ∷ []))
         { highest = 2 } }
-    ensures held_already
-        { taken (keeping (span 0 0 ∷ span 2 2 ∷ []) (run_of 2 2 true true (7 ∷ []) ∷ []))
+    ensures held_already { taken (keeping (span 0 0 ∷ span 2 2 ∷ []) (run_of 2 2 true true (7 ∷ []) ∷ []))
         (fragment Whole 2 0 (8 ∷ []))
         ≡ record (keeping (span 0 0 ∷ span 2 2 ∷ []) (run_of 2 2 true true (7 ∷ []) ∷ []))
         { highest = 2 } }
@@ -111,14 +117,12 @@ pub fn taking()
         (fragment Whole 5 3 (8 ∷ []))
         ≡ record (keeping (span 0 3 ∷ span 5 5 ∷ [])
         (run_of 2 2 true true (7 ∷ []) ∷ run_of 5 5 true true (8 ∷ []) ∷ [])) { highest = 5 } }
-    ensures joined
-        { taken (keeping (span 0 0 ∷ span 2 2 ∷ span 4 4 ∷ [])
+    ensures joined { taken (keeping (span 0 0 ∷ span 2 2 ∷ span 4 4 ∷ [])
         (run_of 2 2 true false (7 ∷ []) ∷ run_of 4 4 false true (9 ∷ []) ∷ []))
         (fragment Middle 3 0 (8 ∷ []))
         ≡ record (keeping (span 0 0 ∷ span 2 4 ∷ []) (run_of 2 4 true true (7 ∷ 8 ∷ 9 ∷ []) ∷ []))
         { highest = 3 } }
-    ensures dropped
-        { taken (keeping (span 0 0 ∷ span 2 2 ∷ []) (run_of 2 2 true false (7 ∷ []) ∷ []))
+    ensures dropped { taken (keeping (span 0 0 ∷ span 2 2 ∷ []) (run_of 2 2 true false (7 ∷ []) ∷ []))
         (gives_up 3 0) ≡ record (keeping (span 0 0 ∷ span 2 3 ∷ []) []) { highest = 3 } }
     ensures given_up { taken (fresh false) (gives_up 2 0)
         ≡ record (keeping (span 0 0 ∷ span 2 2 ∷ []) []) { highest = 2 } }
@@ -133,14 +137,11 @@ pub fn handing()
         ≡ None }
     ensures ready { next_run (keeping (span 0 3 ∷ []) (run_of 3 3 true true [] ∷ []))
         ≡ Some (run_of 3 3 true true []) }
-    ensures at_once
-        { next_run (record (keeping (span 0 1 ∷ span 3 3 ∷ []) (run_of 3 3 true true [] ∷ []))
+    ensures at_once { next_run (record (keeping (span 0 1 ∷ span 3 3 ∷ []) (run_of 3 3 true true [] ∷ []))
         { arriving = true }) ≡ Some (run_of 3 3 true true []) }
-    ensures not_whole
-        { next_run (record (keeping (span 0 3 ∷ []) (run_of 3 3 true false [] ∷ []))
+    ensures not_whole { next_run (record (keeping (span 0 3 ∷ []) (run_of 3 3 true false [] ∷ []))
         { arriving = true }) ≡ None }
-    ensures lowest
-        { next_run
+    ensures lowest { next_run
         (record (keeping (span 0 0 ∷ span 3 3 ∷ span 5 5 ∷ [])
         (run_of 3 3 true true [] ∷ run_of 5 5 true true [] ∷ [])) { arriving = true })
         ≡ Some (run_of 3 3 true true []) }

@@ -1,16 +1,64 @@
 //! The receiver of a flow.
 
-ghost use Rattle.std.specs.Prelude.{◌≡◌, ◌≢◌, ◌+◌, ◌-◌, ◌<◌, ◌≤◌, ◌∷◌, ◌++◌, ◌↔◌, ℕ, IfOk, IsOk,
-    IsErr, OnOk, OnErr, IfErr, MatchOption, List, length, Some, None, Ok, Err, false, true, ◌==◌,
-    ◌^◌, ◌&&◌, ◌||◌, not, nat_lt, nat_le, max, if◌then◌else◌};
+ghost use Rattle.std.specs.Prelude.{
+  ◌≡◌,
+  ◌≢◌,
+  ◌+◌,
+  ◌-◌,
+  ◌<◌,
+  ◌≤◌,
+  ◌∷◌,
+  ◌++◌,
+  ◌↔◌,
+  ℕ,
+  IfOk,
+  IsOk,
+  IsErr,
+  OnOk,
+  OnErr,
+  IfErr,
+  MatchOption,
+  List,
+  length,
+  Some,
+  None,
+  Ok,
+  Err,
+  false,
+  true,
+  ◌==◌,
+  ◌^◌,
+  ◌&&◌,
+  ◌||◌,
+  not,
+  nat_lt,
+  nat_le,
+  max,
+  if◌then◌else◌,
+};
 ghost use Rattle.std.specs.List.{filter};
 ghost use Rattle.std.specs.Option.{option_map};
 ghost use Rattle.rtmfp_data_chunks.specs.Runs.{single, message_of};
 ghost use Rattle.rtmfp_data_chunks.specs.Taken.{chunk_of};
-ghost use Rattle.flow_recv.specs.Receiver.{Receiver, Apart, fresh, span, lacks, living, held_in,
-    after_last, passes_buffer, add_run, add_span, beyond_buffer, taken, next_run, handed_next};
+ghost use Rattle.flow_recv.specs.Receiver.{
+  Receiver,
+  Apart,
+  fresh,
+  span,
+  lacks,
+  living,
+  held_in,
+  after_last,
+  passes_buffer,
+  add_run,
+  add_span,
+  beyond_buffer,
+  taken,
+  next_run,
+  handed_next,
+};
 ghost use Rattle.flow_recv.specs.Keyed.{IsFree, stays};
-ghost use Rattle.flow_recv.specs.Acking.{free_blocks, ack_head, ack_bytes, TellsStretches};
+ghost use Rattle.flow_recv.specs.Acking.{free_blocks, ack_head, ack_bytes, TellsSpans};
 ghost use Rattle.rtmfp_forms.specs.Outgoing.{packet_limit};
 ghost use Rattle.flow_recv.specs.Outcome.{refusal, took, message};
 ghost use Rattle.flow_recv.specs.Sound.{AllAlive, Sound};
@@ -54,13 +102,21 @@ impl Model for FlowReceiver {
 
     ghost Value = { Receiver };
 
-    ghost view =
-        { λ r. record { arriving = r.arriving; spans = span 0 r.through ∷ r.above; runs = r.runs;
-        last = r.last; highest = r.highest } };
+    ghost view = { λ r. record {
+      arriving = r.arriving;
+      spans = span 0 r.through ∷ r.above;
+      runs = r.runs;
+      last = r.last;
+      highest = r.highest;
+    } };
 
-    ghost invariant =
-        { λ r. Laid (record { arriving = r.arriving; spans = span 0 r.through ∷ r.above;
-        runs = r.runs; last = r.last; highest = r.highest }) r.held };
+    ghost invariant = { λ r. Laid (record {
+      arriving = r.arriving;
+      spans = span 0 r.through ∷ r.above;
+      runs = r.runs;
+      last = r.last;
+      highest = r.highest;
+    }) r.held };
 }
 
 impl FlowReceiver {
@@ -144,7 +200,7 @@ impl FlowReceiver {
     }
 
     /// Puts an ack at the end, for the flow of an id: what is free in the buffer, the number at or
-    /// below which none is missing, and as many of the stretches above it as fit. All or nothing of
+    /// below which none is missing, and as many of the spans above it as fit. All or nothing of
     /// it but these.
     pub fn ack_into(&self, flow: u64, out: &mut Outgoing) -> Result<(), NoRoom>
         ensures ok { OnOk result (out.new ≡ out.old
@@ -152,8 +208,8 @@ impl FlowReceiver {
         ensures no_room { IsErr result ↔ (packet_limit
             < length out.old + 3 + length (ack_head flow self.now)) }
         ensures err { OnErr result (out.new ≡ out.old) }
-        // What is put reads back as the receiver's stretches.
-        ensures tells { TellsStretches flow (packet_limit - length out.old - 3) self.now }
+        // What is put reads back as the receiver's spans.
+        ensures tells { TellsSpans flow (packet_limit - length out.old - 3) self.now }
     {
         let _highest = self.highest;
         let blocks = self.free_blocks();
@@ -298,8 +354,7 @@ fn admit(
     ensures spans { IfOk result (λ end. span 0 end ∷ above.new
         ≡ add_span chunk.now.seq chunk.now.seq (add_span 0 chunk.now.forward
         (span 0 through ∷ above.old))) }
-    ensures held
-        { OnOk result (runs.new ≡ (if not chunk.now.abandon && missing then
+    ensures held { OnOk result (runs.new ≡ (if not chunk.now.abandon && missing then
         add_run (single chunk.now.seq chunk.now.part chunk.now.bytes.now) runs.old else runs.old)) }
     ensures same_spans { OnErr result (above.new ≡ above.old) }
     ensures same_runs { OnErr result (runs.new ≡ runs.old) }
@@ -334,8 +389,7 @@ fn admit(
 fn hold(alloc: Global, runs: &mut HeldRuns, chunk: &UserData<'_>) -> Result<(), AllocError>
     requires order { InOrder 0 runs.old }
     requires free { IsFree chunk.now.seq runs.old }
-    ensures held
-        { OnOk result (runs.new ≡ (if not chunk.now.abandon then
+    ensures held { OnOk result (runs.new ≡ (if not chunk.now.abandon then
         add_run (single chunk.now.seq chunk.now.part chunk.now.bytes.now) runs.old else runs.old)) }
     ensures unchanged { OnErr result (runs.new ≡ runs.old) }
 {
