@@ -422,7 +422,6 @@ three_more c true e = let le = leb-true 3 c e in three (c + 1) (omega (arith, le
     three i le = grind (arith, nat_tests)
 three_more c false e = e
 
-
 lost_more : (l a b c : Bool) → l ≡ true → l ≡ (a || c) → (a ≡ true → b ≡ true) → l ≡ (b || c)
 lost_more l a true c e h m = e
 lost_more l true false c e h m = absurd (let x : false ≡ true = m refl in cc)
@@ -534,8 +533,8 @@ queues_numbers first w bytes options None g q = λ lt.
     let done : List Done = Queued m options ∷ w.done in
     let at : s.forward + 1 + length s.rows ≡ m.number = omega arith in
     counts_append first done (s.forward + 1) s.rows (rows_of m m.number (fragment_count m))
-      (plain first w.done done (s.forward + 1) s.rows (record { ordinal = λ n. refl; acks = λ n. refl; late = λ n. refl }) (q lt))
-      (subst (λ (i : ℕ). AllCounts first done i (rows_of m m.number (fragment_count m))) (sym at) (news_count first done m m.number (fragment_count m) (λ k le. never first w k g le)))
+    (plain first w.done done (s.forward + 1) s.rows (record { ordinal = λ n. refl; acks = λ n. refl; late = λ n. refl }) (q lt))
+    (subst (λ (i : ℕ). AllCounts first done i (rows_of m m.number (fragment_count m))) (sym at) (news_count first done m m.number (fragment_count m) (λ k le. never first w k g le)))
 
 finishes_numbers : (first : ℕ) (w : Sending) (o : Option ℕ) → Goes first w → Numbers first w → Numbers first (finishes w o)
 finishes_numbers first w (Some n) g q = q
@@ -544,15 +543,15 @@ finishes_numbers first w None g q = λ lt.
     let done : List Done = Finished (next_of s) ∷ w.done in
     let at : s.forward + 1 + length s.rows ≡ next_of s = omega arith in
     counts_append first done (s.forward + 1) s.rows (end_row ∷ [])
-      (plain first w.done done (s.forward + 1) s.rows (record { ordinal = λ n. refl; acks = λ n. refl; late = λ n. refl }) (q lt))
-      (fresh_counts first done (s.forward + 1 + length s.rows) end_row refl refl (never first w (s.forward + 1 + length s.rows) g (omega (arith, at))), tt)
+    (plain first w.done done (s.forward + 1) s.rows (record { ordinal = λ n. refl; acks = λ n. refl; late = λ n. refl }) (q lt))
+    (fresh_counts first done (s.forward + 1 + length s.rows) end_row refl refl (never first w (s.forward + 1 + length s.rows) g (omega (arith, at))), tt)
 
 loses_numbers : (first : ℕ) (w : Sending) (moment resend : ℕ) → Goes first w → Numbers first w → Numbers first (calls w (Lose moment resend))
 loses_numbers first w moment resend g q = λ lt.
     let s = w.sender in
     let done : List Done = Looked moment resend ∷ w.done in
     subst (AllCounts first done (s.forward + 1)) (map_plain (lost_if_late moment resend) (s.forward + 1) s.rows)
-      (counts_map first w.done done (λ k r. lost_if_late moment resend r) (s.forward + 1) s.rows (λ k r st se c. late_if first w.done moment resend k r (is_late moment resend r) refl se c) g.rows g.sent (q lt))
+    (counts_map first w.done done (λ k r. lost_if_late moment resend r) (s.forward + 1) s.rows (λ k r st se c. late_if first w.done moment resend k r (is_late moment resend r) refl se c) g.rows g.sent (q lt))
 
 up_small : (order sent : ℕ) → order ≡ min sent (2 ^ 64 - 1) → sent + 1 < 2 ^ 64 → min (order + 1) (2 ^ 64 - 1) ≡ sent + 1
 up_small order sent e lt = omega (arith, e, lt)
@@ -561,14 +560,14 @@ sends_numbers : (first : ℕ) (w : Sending) (moment : ℕ) (o : Choice) → Goes
 sends_numbers first w moment Nothing g q = q
 sends_numbers first w moment Notify g q = λ lt.
     plain first w.done (Noticed w.sender.forward moment ∷ w.done) (w.sender.forward + 1) w.sender.rows (record { ordinal = λ n. refl; acks = λ n. refl; late = λ n. refl })
-      (q (let e : sendings w.done + 1 < 2 ^ 64 = lt in omega (arith, e)))
+    (q (let e : sendings w.done + 1 < 2 ^ 64 = lt in omega (arith, e)))
 sends_numbers first w moment (Send n x) g q = λ lt.
     let s = w.sender in
     let more : sendings w.done + 1 < 2 ^ 64 = lt in
     let ordinal = count_up 64 s.order in
     let o : ordinal ≡ sendings w.done + 1 = up_small s.order (sendings w.done) g.last.order more in
     counts_map first w.done (Sent n moment ∷ w.done) (put_at n (sent_row moment ordinal x)) (s.forward + 1) s.rows
-      (λ k r st se c. put_if first w.done n moment ordinal k x r (k == n) refl o c) g.rows g.sent (q (omega (arith, more)))
+    (λ k r st se c. put_if first w.done n moment ordinal k x r (k == n) refl o c) g.rows g.sent (q (omega (arith, more)))
 
 abandons_numbers : (first : ℕ) (w : Sending) (n : ℕ) (o : Option Waiting) → message_at n w.sender.waiting ≡ o → Goes first w → Numbers first w → Numbers first (abandons w n o)
 abandons_numbers first w n None is g q = q
@@ -581,7 +580,7 @@ abandons_numbers first w n (Some x) is g q =
         let s = w.sender in
         let rows = map_rows (give_up x) (s.forward + 1) s.rows in
         dropped first (Abandoned x ∷ w.done) s.forward (settled_front rows) rows
-          (counts_map first w.done (Abandoned x ∷ w.done) (give_up x) (s.forward + 1) s.rows (λ k r st se c. give_if first w.done x k r (has_number x k) (is_acknowledged r.state) c) g.rows g.sent (q lt))
+        (counts_map first w.done (Abandoned x ∷ w.done) (give_up x) (s.forward + 1) s.rows (λ k r st se c. give_if first w.done x k r (has_number x k) (is_acknowledged r.state) c) g.rows g.sent (q lt))
 
 hears_numbers : (first : ℕ) (w : Sending) (a : Told) (o : Option ℕ) → Goes first w → Numbers first w → Numbers first (hears w a o)
 hears_numbers first w a (Some n) g q = q
@@ -591,9 +590,9 @@ hears_numbers first w a None g q = λ lt.
     let last = last_ordinal a (s.forward + 1) s.rows in
     let rows = map (count_ack last) (rows_acknowledged a s) in
     dropped first done s.forward (settled_front rows) rows
-      (subst (AllCounts first done (s.forward + 1)) (map_twice (count_ack last) (acknowledge a) (s.forward + 1) s.rows)
-        (counts_map first w.done done (λ k r. count_ack last (acknowledge a k r)) (s.forward + 1) s.rows
-          (λ k r st se c. hear_if first w.done a k last r (tells a k) (is_acknowledged r.state) refl refl (λ e. later_is first w a k r.ordinal g (q lt) c.ordinal) c) g.rows g.sent (q lt)))
+    (subst (AllCounts first done (s.forward + 1)) (map_twice (count_ack last) (acknowledge a) (s.forward + 1) s.rows)
+    (counts_map first w.done done (λ k r. count_ack last (acknowledge a k r)) (s.forward + 1) s.rows
+    (λ k r st se c. hear_if first w.done a k last r (tells a k) (is_acknowledged r.state) refl refl (λ e. later_is first w a k r.ordinal g (q lt) c.ordinal) c) g.rows g.sent (q lt)))
 
 pub call_numbers : (first : ℕ) (w : Sending) (c : Call) → Goes first w → Numbers first w → Numbers first (calls w c)
 call_numbers first w (Queue bytes options) g q = queues_numbers first w bytes options (queue_refusal w.sender (length bytes)) g q

@@ -17,3 +17,5 @@ pub mod Calling
 pub mod Waitings
 pub mod Countings
 pub mod Holding
+pub mod Orders
+pub mod Followed

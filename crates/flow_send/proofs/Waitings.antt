@@ -377,8 +377,8 @@ abandons_queues first w n (Some x) is g q =
         ∙ (ap (filter (λ y. not (y.number == n))) q.waits
         ∙ (filter_twice (is_open w.done) (λ y. not (y.number == n)) (all_queued w.done)
         ∙ filter_same (λ y. is_open w.done y && not (y.number == n)) (is_open after) (all_queued w.done) (λ y i.
-            without_if (was_abandoned w.done y.number) (all_told w.done y.number y.count) (y.number == n) (x.number == y.number) (eqb_swap x.number y.number n number)
-            ∙ ap (λ b. not (was_abandoned after y.number) && not b) (sym (told_same w.done after y.number y.count (λ k. refl))))))
+        without_if (was_abandoned w.done y.number) (all_told w.done y.number y.count) (y.number == n) (x.number == y.number) (eqb_swap x.number y.number n number)
+        ∙ ap (λ b. not (was_abandoned after y.number) && not b) (sym (told_same w.done after y.number y.count (λ k. refl))))))
 
     given_queues : Queues first (record { sender = abandoned_with (Some x) n w.sender; done = after })
     given_queues =
@@ -416,11 +416,11 @@ hears_queues first w a None g q =
       waits = ap (filter (still_waits (s.forward + 1) rows)) q.waits
           ∙ (filter_twice (is_open w.done) (still_waits (s.forward + 1) rows) (all_queued w.done)
           ∙ filter_same (λ y. is_open w.done y && still_waits (s.forward + 1) rows y) (is_open done) (all_queued w.done) (λ y i.
-              keep_if (was_abandoned w.done y.number) (all_told w.done y.number y.count) (all_told done y.number y.count) (still_waits (s.forward + 1) rows y)
-              (λ e. waits_is first done y s.forward rows stand over
-                  (let l = lies first (next_of s) y (all_queued w.done) q.line i in record { low = l.low; some = l.some; high = let h = l.high in omega (arith, h, len) })
-                  (λ k h. none_true (is_given_up w.done k) (λ f. let x : false ≡ true = sym e ∙ q.apart y i k h f in cc)))
-              (told_more w.done done y.number y.count (λ k f. or_true (tells a k) (is_told w.done k) f))));
+          keep_if (was_abandoned w.done y.number) (all_told w.done y.number y.count) (all_told done y.number y.count) (still_waits (s.forward + 1) rows y)
+          (λ e. waits_is first done y s.forward rows stand over
+          (let l = lies first (next_of s) y (all_queued w.done) q.line i in record { low = l.low; some = l.some; high = let h = l.high in omega (arith, h, len) })
+          (λ k h. none_true (is_given_up w.done k) (λ f. let x : false ≡ true = sym e ∙ q.apart y i k h f in cc)))
+          (told_more w.done done y.number y.count (λ k f. or_true (tells a k) (is_told w.done k) f))));
     }
   where
     over_heard : (l t u v : Bool) → ((l || u) || v) ≡ true → ((l || (t || u)) || v) ≡ true

@@ -1,39 +1,11 @@
 -- What an ack tells a sending flow.
-use Rattle.std.specs.Prelude.{
-  ℕ,
-  ◌+◌,
-  if◌then◌else◌,
-  nat_le,
-  nat_lt,
-  max,
-  map,
-  not,
-  Bool,
-  ◌&&◌,
-  ◌||◌,
-  List,
-  [],
-  ◌∷◌,
-  Option,
-  Some,
-  None,
-  length,
-}
+use Rattle.std.specs.Prelude.{ℕ, ◌+◌, if◌then◌else◌, nat_le, nat_lt, max, map, not, Bool, ◌&&◌}
+use Rattle.std.specs.Prelude.{◌||◌, List, [], ◌∷◌, Option, Some, None, length}
 use Rattle.std.specs.List.{filter, list_any}
 use Rattle.flow_send.specs.declared.state.State.TheVariants.{Lost, Acknowledged}
 use Rattle.flow_send.specs.declared.waiting.Waiting.{Waiting}
-use Rattle.flow_send.specs.Rows.{
-  Row,
-  is_flying,
-  is_acknowledged,
-  is_abandoned,
-  is_settled,
-  let_go,
-  map_rows,
-  any_row,
-  sum_rows,
-  most_rows,
-}
+use Rattle.flow_send.specs.Rows.{Row, is_flying, is_acknowledged, is_abandoned, is_settled, let_go}
+use Rattle.flow_send.specs.Rows.{map_rows, any_row, sum_rows, most_rows}
 use Rattle.flow_send.specs.Sender.{Sender, has_number, with_rows}
 
 -- the blocks told, all at or below a number, and stretches above it from their first to their last

@@ -1,48 +1,15 @@
 -- Any calls of a sender, one after another, and what they did.
-use Rattle.std.specs.Prelude.{
-  ℕ,
-  ◌≡◌,
-  ◌+◌,
-  ◌-◌,
-  ◌^◌,
-  ◌<◌,
-  ◌≤◌,
-  ◌==◌,
-  nat_lt,
-  min,
-  max,
-  not,
-  if◌then◌else◌,
-  Bool,
-  true,
-  false,
-  ◌&&◌,
-  ◌||◌,
-  List,
-  [],
-  ◌∷◌,
-  Option,
-  Some,
-  None,
-  length,
-}
+use Rattle.std.specs.Prelude.{ℕ, ◌≡◌, ◌+◌, ◌-◌, ◌^◌, ◌<◌, ◌≤◌, ◌==◌, nat_lt, min, max, not}
+use Rattle.std.specs.Prelude.{if◌then◌else◌, Bool, true, false, ◌&&◌, ◌||◌, List, [], ◌∷◌, Option}
+use Rattle.std.specs.Prelude.{Some, None, length}
 use Rattle.rtmfp_data_chunks.specs.Fragments.{Message}
 use Rattle.flow_send.specs.declared.state.State.{State}
 use Rattle.flow_send.specs.declared.waiting.MessageOptions.{MessageOptions}
 use Rattle.flow_send.specs.declared.waiting.Waiting.{Waiting}
 use Rattle.flow_send.specs.declared.outcome.QueueRefusal.{QueueRefusal}
 use Rattle.flow_send.specs.Rows.{Row, is_unsent, is_flying, is_lost, is_acknowledged, is_abandoned}
-use Rattle.flow_send.specs.Sender.{
-  Sender,
-  new_sender,
-  next_of,
-  queued,
-  message_at,
-  has_number,
-  abandoned,
-  finished,
-  lost_late,
-}
+use Rattle.flow_send.specs.Sender.{Sender, new_sender, next_of, queued, message_at, has_number}
+use Rattle.flow_send.specs.Sender.{abandoned, finished, lost_late}
 use Rattle.flow_send.specs.Choice.{Choice, Nothing, Send, Notify, choice, sent_after}
 use Rattle.flow_send.specs.Acks.{Told, tells, beyond, told_by}
 use Rattle.flow_send.specs.Flow.{queue_refusal, next_message}

@@ -1,44 +1,15 @@
 -- Which messages wait, which acks count against a number, and which numbers are lost, told by what
 -- was done.
 use Prim.Native.Nat.{zero, suc}
-use Rattle.std.specs.Prelude.{
-  ℕ,
-  ◌≡◌,
-  ◌+◌,
-  ◌==◌,
-  nat_le,
-  not,
-  if◌then◌else◌,
-  Bool,
-  true,
-  false,
-  ◌&&◌,
-  ◌||◌,
-  List,
-  [],
-  ◌∷◌,
-  ◌++◌,
-  Option,
-  Some,
-  None,
-}
+use Rattle.std.specs.Prelude.{ℕ, ◌≡◌, ◌+◌, ◌==◌, nat_le, not, if◌then◌else◌, Bool, true, false}
+use Rattle.std.specs.Prelude.{◌&&◌, ◌||◌, List, [], ◌∷◌, ◌++◌, Option, Some, None}
 use Rattle.std.specs.List.{filter}
 use Rattle.flow_send.specs.declared.waiting.Waiting.{Waiting}
 use Rattle.flow_send.specs.Rows.{Row, is_flying, is_lost}
 use Rattle.flow_send.specs.Sender.{waiting_of}
 use Rattle.flow_send.specs.Acks.{Told, tells}
-use Rattle.flow_send.specs.Calls.{
-  Done,
-  Queued,
-  Abandoned,
-  Sent,
-  Looked,
-  Heard,
-  last_sending,
-  is_told,
-  is_over,
-  is_out,
-}
+use Rattle.flow_send.specs.Calls.{Done, Queued, Abandoned, Sent, Looked, Heard, last_sending}
+use Rattle.flow_send.specs.Calls.{is_told, is_over, is_out}
 
 -- ---- messages
 

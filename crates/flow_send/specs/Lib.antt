@@ -4,6 +4,7 @@ pub mod Sender
 pub mod Choice
 pub mod Picked
 pub mod Acks
+pub mod Ordered
 pub mod Steady
 pub mod Deadlines
 pub mod Flow

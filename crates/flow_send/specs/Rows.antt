@@ -1,35 +1,14 @@
 -- The numbers of a sending flow above its forward number, each with its fragment and what became of
 -- it.
 use Prim.Native.Nat.{zero, suc}
-use Rattle.std.specs.Prelude.{
-  ℕ,
-  ◌+◌,
-  if◌then◌else◌,
-  max,
-  Bool,
-  true,
-  false,
-  ◌||◌,
-  List,
-  [],
-  ◌∷◌,
-  Option,
-  Some,
-  None,
-  length,
-  slice_index_or,
-}
+use Rattle.std.specs.Prelude.{ℕ, ◌+◌, if◌then◌else◌, max, Bool, true, false, ◌||◌, List, [], ◌∷◌}
+use Rattle.std.specs.Prelude.{Option, Some, None, length, slice_index_or}
 use Rattle.std.specs.List.{sum_by, list_any}
 use Rattle.rtmfp_data_chunks.specs.declared.user_data.Part.TheVariants.{Whole}
 use Rattle.rtmfp_data_chunks.specs.Fragments.{Fragment}
 use Rattle.flow_send.specs.declared.state.State.{State}
-use Rattle.flow_send.specs.declared.state.State.TheVariants.{
-  Unsent,
-  Flying,
-  Lost,
-  Acknowledged,
-  Abandoned,
-}
+use Rattle.flow_send.specs.declared.state.State.TheVariants.{Unsent, Flying, Lost, Acknowledged}
+use Rattle.flow_send.specs.declared.state.State.TheVariants.{Abandoned}
 use Rattle.flow_send.specs.declared.totals.Totals.{Totals}
 
 -- A number. ends: it is the number of finish, which has no message. moment, ordinal: of its last
@@ -204,3 +183,6 @@ front_settled (r ∷ rows) = is_settled r.state
 pub record Roomy : Type 0 where
   pub rows : List Row
   pub room : ℕ
+
+abbrev pub roomy : List Row → ℕ → Roomy
+roomy rows room = record { rows = rows; room = room }

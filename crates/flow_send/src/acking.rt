@@ -1,29 +1,10 @@
 //! What an ack does to the rows.
 
-ghost use Rattle.std.specs.Prelude.{
-  ◌≡◌,
-  ℕ,
-  ◌+◌,
-  ◌-◌,
-  ◌<◌,
-  ◌≤◌,
-  ◌^◌,
-  List,
-  length,
-  nat_le,
-  ◌&&◌,
-  if◌then◌else◌,
-};
+ghost use Rattle.std.specs.Prelude.{◌≡◌, ℕ, ◌+◌, ◌-◌, ◌<◌, ◌≤◌, ◌^◌, List, length, nat_le, ◌&&◌};
+ghost use Rattle.std.specs.Prelude.{if◌then◌else◌};
 ghost use Rattle.flow_send.specs.Rows.{map_rows, most_rows};
-ghost use Rattle.flow_send.specs.Acks.{
-  Told,
-  greatest,
-  acknowledge,
-  acknowledge_row,
-  new_ordinal,
-  last_ordinal,
-  in_range,
-};
+ghost use Rattle.flow_send.specs.Acks.{Told, told, greatest, acknowledge, acknowledge_row};
+ghost use Rattle.flow_send.specs.Acks.{new_ordinal, last_ordinal, in_range};
 
 use crate::rows::Rows;
 use rtmfp_data_chunks::AckedSpans;
@@ -59,11 +40,9 @@ fn acknowledge_stretch(rows: &mut Rows, forward: u64, first: u64, last: u64) -> 
 /// Acknowledges what an ack tells. The answer is the last ordinal of what it newly acknowledges.
 pub fn acknowledge(rows: &mut Rows, forward: u64, upto: u64, ranges: &AckedSpans<'_>) -> u64
     requires { greatest upto ranges.now < forward + 1 + length rows.old.rows }
-    ensures rows { rows.new.rows
-        ≡ map_rows (acknowledge (record { blocks = 0; upto = upto; ranges = ranges.now }))
-        (forward + 1) rows.old.rows }
-    ensures ordinal { result ≡ last_ordinal (record { blocks = 0; upto = upto; ranges = ranges.now })
-        (forward + 1) rows.old.rows }
+    ensures rows { rows.new.rows ≡ map_rows (acknowledge (told 0 upto ranges.now)) (forward + 1)
+        rows.old.rows }
+    ensures ordinal { result ≡ last_ordinal (told 0 upto ranges.now) (forward + 1) rows.old.rows }
     ensures room { rows.new.room ≡ rows.old.room }
 {
     let mut ordinal = acknowledge_stretch(rows, forward, 0, upto);

@@ -1,37 +1,11 @@
 //! The messages of a flow that are neither abandoned nor wholly acknowledged, by rising number.
 
-ghost use Rattle.std.specs.Prelude.{
-  ◌≡◌,
-  ◌+◌,
-  ◌-◌,
-  ◌<◌,
-  ◌≤◌,
-  ◌^◌,
-  ◌∷◌,
-  ◌++◌,
-  [],
-  OnOk,
-  OnErr,
-  List,
-  ℕ,
-  length,
-  slice_get,
-  slice_index_or,
-  Some,
-  None,
-  true,
-};
+ghost use Rattle.std.specs.Prelude.{◌≡◌, ◌+◌, ◌-◌, ◌<◌, ◌≤◌, ◌^◌, ◌∷◌, ◌++◌, [], OnOk, OnErr, List};
+ghost use Rattle.std.specs.Prelude.{ℕ, length, slice_get, slice_index_or, Some, None, true};
 ghost use Rattle.std.specs.List.{sum_by, filter, remove};
 ghost use Rattle.std.specs.VecDeque.{deque_len};
-ghost use Rattle.flow_send.specs.Sender.{
-  message_at,
-  without_message,
-  first_number,
-  is_past,
-  is_spent,
-  is_overdue,
-  first_overdue,
-};
+ghost use Rattle.flow_send.specs.Sender.{message_at, without_message, first_number, is_past};
+ghost use Rattle.flow_send.specs.Sender.{is_spent, is_overdue, first_overdue};
 ghost use Rattle.flow_send.specs.Acks.{still_waits};
 ghost use Rattle.flow_send.specs.Deadlines.{NoneBefore, Reach};
 ghost use Rattle.flow_send.specs.Steady.{Line, Late};

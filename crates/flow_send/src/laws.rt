@@ -6,16 +6,8 @@ ghost use Rattle.rtmfp_data_chunks.specs.Runs.{Chunk};
 ghost use Rattle.rtmfp_data_chunks.specs.Chunk.{Data};
 ghost use Rattle.rtmfp_data_chunks.specs.Writing.{data_bytes};
 ghost use Rattle.flow_send.specs.Flow.{data_length, user_data};
-ghost use Rattle.flow_send.specs.Calls.{
-  Call,
-  begun,
-  all_calls,
-  sendings,
-  TellsLast,
-  AllStand,
-  AllSent,
-  IsForward,
-};
+ghost use Rattle.flow_send.specs.Calls.{Call, begun, all_calls, sendings, TellsLast, AllStand};
+ghost use Rattle.flow_send.specs.Calls.{AllSent, IsForward};
 ghost use Rattle.flow_send.specs.Counted.{all_open, AllCount};
 
 /// Room counts a chunk with the bytes that it has as a written data chunk.

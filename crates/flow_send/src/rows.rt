@@ -1,58 +1,18 @@
 //! The numbers of a sending flow above its forward number.
 
-ghost use Rattle.std.specs.Prelude.{
-  ◌≡◌,
-  ◌+◌,
-  ◌-◌,
-  ◌<◌,
-  ◌≤◌,
-  ◌^◌,
-  ◌∷◌,
-  ◌++◌,
-  [],
-  IfOk,
-  OnOk,
-  OnErr,
-  IfSome,
-  IfNone,
-  List,
-  length,
-  slice_set,
-  drop,
-  map,
-  max,
-  not,
-  true,
-  false,
-  MatchOption,
-  Some,
-  None,
-  position,
-};
+ghost use Rattle.std.specs.Prelude.{◌≡◌, ◌+◌, ◌-◌, ◌<◌, ◌≤◌, ◌^◌, ◌∷◌, ◌++◌, [], IfOk, OnOk, OnErr};
+ghost use Rattle.std.specs.Prelude.{IfSome, IfNone, List, length, slice_set, drop, map, max, not};
+ghost use Rattle.std.specs.Prelude.{true, false, MatchOption, Some, None, position};
 ghost use Rattle.std.specs.List.{sum_by, list_any};
 ghost use Rattle.std.specs.VecDeque.{deque_len, deque_capacity};
-ghost use Rattle.flow_send.specs.Rows.{
-  Row,
-  row_at,
-  stored_of,
-  totals_of,
-  in_flight,
-  any_flying,
-  between,
-  any_between,
-  most_between,
-  settled_front,
-  front_settled,
-  first_index,
-  is_lost,
-  is_unsent,
-  is_settled,
-  is_acknowledged,
-  lost_of,
-};
+ghost use Rattle.flow_send.specs.Rows.{Row, row_at, stored_of, totals_of, in_flight, any_flying};
+ghost use Rattle.flow_send.specs.Rows.{between, any_between, most_between, settled_front};
+ghost use Rattle.flow_send.specs.Rows.{front_settled, first_index, is_lost, is_unsent, is_settled};
+ghost use Rattle.flow_send.specs.Rows.{is_acknowledged, lost_of};
 ghost use Rattle.flow_send.specs.Sender.{give_up_row, lost_if_late, is_late, is_spent_row};
 ghost use Rattle.flow_send.specs.Choice.{sent_row};
 ghost use Rattle.flow_send.specs.Acks.{acknowledge_row, new_ordinal, count_ack, is_third};
+ghost use Rattle.flow_send.specs.Ordered.{count_sent};
 
 use crate::row::HeldRow;
 use crate::state::State;
@@ -72,11 +32,11 @@ pub struct Rows {
 impl Model for Rows {
     ghost use Rattle.std.specs.Prelude.{◌≡◌, ◌-◌};
     ghost use Rattle.std.specs.VecDeque.{deque_len, deque_capacity};
-    ghost use Rattle.flow_send.specs.Rows.{Roomy, totals_of};
+    ghost use Rattle.flow_send.specs.Rows.{Roomy, roomy, totals_of};
 
     ghost Value = { Roomy };
 
-    ghost view = { λ q. record { rows = q.rows.items; room = deque_capacity q.rows - deque_len q.rows } };
+    ghost view = { λ q. roomy q.rows.items (deque_capacity q.rows - deque_len q.rows) };
 
     ghost invariant = { λ q. q.totals ≡ totals_of q.rows.items };
 }
@@ -232,6 +192,18 @@ impl Rows {
         self.totals = self.totals.moved(before, after);
     }
 
+    /// Counts it against a row whose last sending has this ordinal.
+    pub fn count_sent(&mut self, at: usize, ordinal: u64, sent: u64)
+        requires { at < length self.old.rows }
+        ensures rows { self.new.rows ≡ slice_set self.old.rows at
+            (count_sent ordinal sent (row_at self.old.rows at)) }
+        ensures room { self.new.room ≡ self.old.room }
+    {
+        if self.rows[at].ordinal() == sent {
+            self.count_ack_at(at, ordinal);
+        }
+    }
+
     /// Whether an ack of the sending with an ordinal makes a row lost.
     fn is_third(&self, at: usize, ordinal: u64) -> bool
         requires { at < length self.now.rows }
@@ -314,6 +286,13 @@ impl Rows {
         ensures { result ≡ any_flying self.now.rows }
     {
         self.totals.flying > 0
+    }
+
+    /// How many rows are lost.
+    pub fn lost(&self) -> u64
+        ensures { result ≡ sum_by lost_of self.now.rows }
+    {
+        self.totals.lost
     }
 
     /// Whether a row is lost.
