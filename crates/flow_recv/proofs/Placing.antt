@@ -124,11 +124,6 @@ not_following x runs f h b n = λ y i. unfit (fits x y) (λ e.
 
 -- ---- a fragment that is added
 
-low_none : (n low : ℕ) (runs : List Run) → n < low → InOrder low runs → run_at n runs ≡ None
-low_none n low [] lt h = refl
-low_none n low (y ∷ later) lt h =
-    ap (λ t. cond t (Some y) (run_at n later)) (ne_eqb y.first n (λ e. omega (arith, e, lt, h.0))) ∙ low_none n (y.last + 1) later (omega (arith, lt, h.0, h.1)) h.2
-
 -- a run below the fragment that doesn't fit is passed
 passed : (x y : Run) (later : List Run) → fits y x ≡ false → y.last < x.first → add_run x (y ∷ later) ≡ y ∷ add_run x later
 passed x y later f lt = rw (f, lt-ltb y.last x.first lt) refl

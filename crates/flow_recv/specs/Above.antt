@@ -1,22 +1,6 @@
 -- The spans above the first one, as a map has them: from their first numbers to their last ones.
-use Rattle.std.specs.Prelude.{
-  ℕ,
-  ◌≡◌,
-  ◌+◌,
-  ◌^◌,
-  ◌<◌,
-  ◌≤◌,
-  ◌==◌,
-  nat_le,
-  nat_lt,
-  if◌then◌else◌,
-  List,
-  [],
-  ◌∷◌,
-  Option,
-  Some,
-  None,
-}
+use Rattle.std.specs.Prelude.{ℕ, ◌≡◌, ◌+◌, ◌^◌, ◌<◌, ◌≤◌, ◌==◌, nat_le, nat_lt, if◌then◌else◌, List}
+use Rattle.std.specs.Prelude.{[], ◌∷◌, Option, Some, None}
 use Rattle.std.specs.Option.{unwrap_or}
 use Rattle.flow_recv.specs.declared.spans.Span.{Span}
 use Rattle.flow_recv.specs.declared.spans.Spot.{Spot}

@@ -1,19 +1,7 @@
 //! Bytes that grow at both ends.
 
-ghost use Rattle.std.specs.Prelude.{
-  ◌≡◌,
-  ◌+◌,
-  ◌≤◌,
-  ◌++◌,
-  [],
-  IfOk,
-  OnOk,
-  OnErr,
-  length,
-  take,
-  drop,
-  replicate,
-};
+ghost use Rattle.std.specs.Prelude.{◌≡◌, ◌+◌, ◌≤◌, ◌++◌, [], IfOk, OnOk, OnErr, length, take, drop};
+ghost use Rattle.std.specs.Prelude.{replicate};
 
 use std::alloc::{AllocError, Global};
 use std::marker::Model;

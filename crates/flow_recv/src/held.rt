@@ -1,25 +1,7 @@
 //! The runs of a flow as a map, by the number that each begins with.
 
-ghost use Rattle.std.specs.Prelude.{
-  ◌≡◌,
-  ℕ,
-  ◌<◌,
-  ◌≤◌,
-  ◌+◌,
-  ◌∷◌,
-  [],
-  IfOk,
-  IfSome,
-  IsSome,
-  OnOk,
-  OnErr,
-  List,
-  true,
-  false,
-  ◌==◌,
-  if◌then◌else◌,
-  ◌&&◌,
-};
+ghost use Rattle.std.specs.Prelude.{◌≡◌, ℕ, ◌<◌, ◌≤◌, ◌+◌, ◌∷◌, [], IfOk, IfSome, IsSome, OnOk};
+ghost use Rattle.std.specs.Prelude.{OnErr, List, true, false, ◌==◌, if◌then◌else◌, ◌&&◌};
 ghost use Rattle.std.specs.Option.{option_copied, IsSomeAnd};
 ghost use Rattle.std.specs.Map.{remove_entry};
 ghost use Rattle.std.specs.Ordering.{nat_cmp};
@@ -27,20 +9,9 @@ ghost use Rattle.std.specs.BTreeMap.{get, is_at, IsOrdered};
 ghost use Rattle.std.specs.BTreeSet.{insert_key};
 ghost use Rattle.rtmfp_data_chunks.specs.Runs.{single, joined, fits, is_whole};
 ghost use Rattle.flow_recv.specs.Receiver.{first_of, without_first};
-ghost use Rattle.flow_recv.specs.Keyed.{
-  AllWhole,
-  run_at,
-  without_run,
-  with_run,
-  changed_run,
-  changed_entry,
-  front_of,
-  rear_of,
-  emptied,
-  over,
-  IsFirstFrom,
-  IsLastBelow,
-};
+ghost use Rattle.flow_recv.specs.Keyed.{AllWhole, run_at, without_run, with_run, changed_run};
+ghost use Rattle.flow_recv.specs.Keyed.{changed_entry, front_of, rear_of, emptied, over};
+ghost use Rattle.flow_recv.specs.Keyed.{IsFirstFrom, IsLastBelow};
 
 use crate::run::{HeldRun, has_rear};
 use rtmfp_data_chunks::Part;

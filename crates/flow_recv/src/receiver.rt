@@ -1,62 +1,16 @@
 //! The receiver of a flow.
 
-ghost use Rattle.std.specs.Prelude.{
-  ◌≡◌,
-  ◌≢◌,
-  ◌+◌,
-  ◌-◌,
-  ◌<◌,
-  ◌≤◌,
-  ◌∷◌,
-  ◌++◌,
-  ◌↔◌,
-  ℕ,
-  IfOk,
-  IsOk,
-  IsErr,
-  OnOk,
-  OnErr,
-  IfErr,
-  MatchOption,
-  List,
-  length,
-  Some,
-  None,
-  Ok,
-  Err,
-  false,
-  true,
-  ◌==◌,
-  ◌^◌,
-  ◌&&◌,
-  ◌||◌,
-  not,
-  nat_lt,
-  nat_le,
-  max,
-  if◌then◌else◌,
-};
+ghost use Rattle.std.specs.Prelude.{◌≡◌, ◌≢◌, ◌+◌, ◌-◌, ◌<◌, ◌≤◌, ◌∷◌, ◌++◌, ◌↔◌, ℕ, IfOk, IsOk};
+ghost use Rattle.std.specs.Prelude.{IsErr, OnOk, OnErr, IfErr, MatchOption, List, length, Some};
+ghost use Rattle.std.specs.Prelude.{None, Ok, Err, false, true, ◌==◌, ◌^◌, ◌&&◌, ◌||◌, not, nat_lt};
+ghost use Rattle.std.specs.Prelude.{nat_le, max, if◌then◌else◌};
 ghost use Rattle.std.specs.List.{filter};
 ghost use Rattle.std.specs.Option.{option_map};
 ghost use Rattle.rtmfp_data_chunks.specs.Runs.{single, message_of};
 ghost use Rattle.rtmfp_data_chunks.specs.Taken.{chunk_of};
-ghost use Rattle.flow_recv.specs.Receiver.{
-  Receiver,
-  Apart,
-  fresh,
-  span,
-  lacks,
-  living,
-  held_in,
-  after_last,
-  passes_buffer,
-  add_run,
-  add_span,
-  beyond_buffer,
-  taken,
-  next_run,
-  handed_next,
-};
+ghost use Rattle.flow_recv.specs.Receiver.{Receiver, Apart, fresh, span, lacks, living, held_in};
+ghost use Rattle.flow_recv.specs.Receiver.{after_last, passes_buffer, add_run, add_span};
+ghost use Rattle.flow_recv.specs.Receiver.{beyond_buffer, taken, next_run, handed_next};
 ghost use Rattle.flow_recv.specs.Keyed.{IsFree, stays};
 ghost use Rattle.flow_recv.specs.Acking.{free_blocks, ack_head, ack_bytes, TellsSpans};
 ghost use Rattle.rtmfp_forms.specs.Outgoing.{packet_limit};

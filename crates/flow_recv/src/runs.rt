@@ -1,54 +1,16 @@
 //! The runs of a flow: how a fragment joins them, which are dropped, and which is next.
 
-ghost use Rattle.std.specs.Prelude.{
-  ◌≡◌,
-  ℕ,
-  ◌+◌,
-  ◌<◌,
-  ◌≤◌,
-  ◌^◌,
-  ◌∷◌,
-  [],
-  IfOk,
-  IfSome,
-  IsSome,
-  OnOk,
-  OnErr,
-  List,
-  length,
-  not,
-  ◌||◌,
-  ◌==◌,
-  None,
-  true,
-};
+ghost use Rattle.std.specs.Prelude.{◌≡◌, ℕ, ◌+◌, ◌<◌, ◌≤◌, ◌^◌, ◌∷◌, [], IfOk, IfSome, IsSome};
+ghost use Rattle.std.specs.Prelude.{OnOk, OnErr, List, length, not, ◌||◌, ◌==◌, None, true};
 ghost use Rattle.std.specs.List.{filter};
 ghost use Rattle.std.specs.Option.{IsSomeAnd};
 ghost use Rattle.rtmfp_data_chunks.specs.Runs.{fits, joined, single};
 ghost use Rattle.flow_recv.specs.Order.{InOrder, AllOpen};
-ghost use Rattle.flow_recv.specs.Keyed.{
-  run_at,
-  IsFree,
-  IsFollowed,
-  IsFollowing,
-  is_between,
-  stays,
-  stays_at,
-  dead_bytes,
-  Reaches,
-  followed_at,
-  following_at,
-  ready_at,
-};
-ghost use Rattle.flow_recv.specs.Receiver.{
-  Apart,
-  held_in,
-  add_run,
-  span,
-  hands,
-  first_of,
-  without_first,
-};
+ghost use Rattle.flow_recv.specs.Keyed.{run_at, IsFree, IsFollowed, IsFollowing, is_between, stays};
+ghost use Rattle.flow_recv.specs.Keyed.{stays_at, dead_bytes, Reaches, followed_at, following_at};
+ghost use Rattle.flow_recv.specs.Keyed.{ready_at};
+ghost use Rattle.flow_recv.specs.Receiver.{Apart, held_in, add_run, span, hands, first_of};
+ghost use Rattle.flow_recv.specs.Receiver.{without_first};
 
 use crate::above::Above;
 use crate::held::HeldRuns;
