@@ -76,14 +76,6 @@ pub none_late : (moment resend : ℕ) (rows : List Row) → list_any (is_late mo
 none_late moment resend [] = refl
 none_late moment resend (r ∷ rows) = ap (λ b. b || list_any (is_late moment resend) (map (lost_if_late moment resend) rows)) (late_once_if moment resend r (is_late moment resend r) refl) ∙ none_late moment resend rows
 
--- where no message waits, nothing is abandoned
-nothing_if : (s : Sender) (n : ℕ) (o : Option Waiting) → is_some o ≡ false → abandoned_with o n s ≡ s
-nothing_if s n None e = refl
-nothing_if s n (Some w) e = absurd cc
-
-pub nothing_abandoned : (s : Sender) (n : ℕ) → waits s n ≡ false → abandoned n s ≡ s
-nothing_abandoned s n e = nothing_if s n (message_at n s.waiting) e
-
 -- up to the highest number sent none is unsent
 index_none_if : (n : ℕ) (o : Option ℕ) (b : Bool) → b ≡ false → cond b (Some n) o ≡ o
 index_none_if n o true e = absurd cc

@@ -13,7 +13,7 @@ use Rattle.flow_send.specs.declared.waiting.Waiting.{Waiting}
 use Rattle.flow_send.specs.Rows.{Row, end_row, is_unsent, is_flying, is_lost, is_acknowledged, is_settled, let_go, map_rows, settled_front}
 use Rattle.flow_send.specs.Sender.{Sender, new_sender, next_of, with_rows, bytes_held, fragments_held, new_row, rows_of, waiting_of, queued, has_number, message_at, without_message, give_up, give_up_row, abandoned_with, finished, is_late, lost_if_late, lost_late}
 use Rattle.flow_send.specs.Choice.{Choice, Nothing, Send, Notify, first_in, or_else, is_quiet, next_choice, within_limit, choice_bytes, choice, count_up, sent_row, put_at, sent_after}
-use Rattle.flow_send.specs.Acks.{Told, in_range, tells, greatest, acknowledge, acknowledge_row, is_third, count_ack, last_ordinal, rows_acknowledged, rows_told, still_waits, told_by}
+use Rattle.flow_send.specs.Acks.{Told, in_span, tells, greatest, acknowledge, acknowledge_row, is_third, count_ack, last_ordinal, rows_acknowledged, rows_told, still_waits, told_by}
 use Rattle.flow_send.specs.Steady.{is_fresh, RowOk, AllOk, Line, AllWait, line_end, end_of, IsLast, AllShort, IsBounded, Steady}
 use Rattle.flow_send.proofs.Fronts.{front_dropped, front_append, news_front, front_map, front_put}
 use Rattle.flow_send.proofs.Numbered.{map_length, map_is}
@@ -410,37 +410,37 @@ steady_sent s moment resend (Send n r) e k = elim (chosen s moment resend n r e)
 ]
 
 -- take_ack
-new_told : (upto n : ℕ) (ranges : List (ℕ × ℕ)) → upto ≤ greatest upto ranges
+new_told : (upto n : ℕ) (spans : List (ℕ × ℕ)) → upto ≤ greatest upto spans
 new_told upto n [] = omega arith
-new_told upto n (p ∷ ranges) = omega (arith, new_told (max upto p.1) n ranges)
+new_told upto n (p ∷ spans) = omega (arith, new_told (max upto p.1) n spans)
 
-greatest_rises : (a b : ℕ) (ranges : List (ℕ × ℕ)) → a ≤ b → greatest a ranges ≤ greatest b ranges
+greatest_rises : (a b : ℕ) (spans : List (ℕ × ℕ)) → a ≤ b → greatest a spans ≤ greatest b spans
 greatest_rises a b [] le = le
-greatest_rises a b (p ∷ ranges) le = greatest_rises (max a p.1) (max b p.1) ranges (omega (arith, le))
+greatest_rises a b (p ∷ spans) le = greatest_rises (max a p.1) (max b p.1) spans (omega (arith, le))
 
-ranges_below : (upto n : ℕ) (ranges : List (ℕ × ℕ)) → list_any (in_range n) ranges ≡ true → n ≤ greatest upto ranges
+ranges_below : (upto n : ℕ) (spans : List (ℕ × ℕ)) → list_any (in_span n) spans ≡ true → n ≤ greatest upto spans
 ranges_below upto n [] e = absurd cc
-ranges_below upto n (p ∷ ranges) e = below_if upto n p ranges (in_range n p) refl e (ranges_below (max upto p.1) n ranges)
+ranges_below upto n (p ∷ spans) e = below_if upto n p spans (in_span n p) refl e (ranges_below (max upto p.1) n spans)
   where
-    below_if : (upto n : ℕ) (p : ℕ × ℕ) (ranges : List (ℕ × ℕ)) (t : Bool) → in_range n p ≡ t → (t || list_any (in_range n) ranges) ≡ true → (list_any (in_range n) ranges ≡ true → n ≤ greatest (max upto p.1) ranges) → n ≤ greatest (max upto p.1) ranges
-    below_if upto n p ranges true f e ih =
+    below_if : (upto n : ℕ) (p : ℕ × ℕ) (spans : List (ℕ × ℕ)) (t : Bool) → in_span n p ≡ t → (t || list_any (in_span n) spans) ≡ true → (list_any (in_span n) spans ≡ true → n ≤ greatest (max upto p.1) spans) → n ≤ greatest (max upto p.1) spans
+    below_if upto n p spans true f e ih =
         let q = and_true (nat_le p.0 n) (nat_le n p.1) f in
-        omega (arith, leb-true n p.1 q.1, new_told (max upto p.1) n ranges)
-    below_if upto n p ranges false f e ih = ih e
+        omega (arith, leb-true n p.1 q.1, new_told (max upto p.1) n spans)
+    below_if upto n p spans false f e ih = ih e
 
 -- what an ack tells isn't above the greatest number that it tells
-pub told_below : (a : Told) (n : ℕ) → tells a n ≡ true → n ≤ greatest a.upto a.ranges
+pub told_below : (a : Told) (n : ℕ) → tells a n ≡ true → n ≤ greatest a.upto a.spans
 told_below a n e = below_if (nat_le n a.upto) refl e
   where
-    below_if : (t : Bool) → nat_le n a.upto ≡ t → (t || list_any (in_range n) a.ranges) ≡ true → n ≤ greatest a.upto a.ranges
-    below_if true f e = omega (arith, leb-true n a.upto f, new_told a.upto n a.ranges)
-    below_if false f e = ranges_below a.upto n a.ranges e
+    below_if : (t : Bool) → nat_le n a.upto ≡ t → (t || list_any (in_span n) a.spans) ≡ true → n ≤ greatest a.upto a.spans
+    below_if true f e = omega (arith, leb-true n a.upto f, new_told a.upto n a.spans)
+    below_if false f e = ranges_below a.upto n a.spans e
 
 ack_ok_if : (sent k : ℕ) (r : Row) (t : Bool) → is_acknowledged r.state ≡ t → k ≤ sent → RowOk sent k r → RowOk sent k (cond t r (let_go Acknowledged r))
 ack_ok_if sent k r true e le o = o
 ack_ok_if sent k r false e le o = record { old = λ l. refl; fresh = λ lt. absurd (omega (arith, le, lt)); empty = λ x. absurd cc; short = omega arith }
 
-ack_ok : (a : Told) (sent k : ℕ) (r : Row) (t : Bool) → tells a k ≡ t → greatest a.upto a.ranges ≤ sent → RowOk sent k r → RowOk sent k (cond t (acknowledge_row r) r)
+ack_ok : (a : Told) (sent k : ℕ) (r : Row) (t : Bool) → tells a k ≡ t → greatest a.upto a.spans ≤ sent → RowOk sent k r → RowOk sent k (cond t (acknowledge_row r) r)
 ack_ok a sent k r true e le o = let b = told_below a k e in ack_ok_if sent k r (is_acknowledged r.state) refl (omega (arith, b, le)) o
 ack_ok a sent k r false e le o = o
 
@@ -457,7 +457,7 @@ told_length a s =
     let ordinal = last_ordinal a (s.forward + 1) s.rows in
     ap (λ (xs : List Row). length xs) (map_is (count_ack ordinal) (s.forward + 1) (rows_acknowledged a s)) ∙ (map_length (λ k r. count_ack ordinal r) (s.forward + 1) (rows_acknowledged a s) ∙ map_length (acknowledge a) (s.forward + 1) s.rows)
 
-pub acked_ok : (a : Told) (s : Sender) → Steady s → greatest a.upto a.ranges ≤ s.sent → AllOk s.sent (s.forward + 1) (rows_acknowledged a s)
+pub acked_ok : (a : Told) (s : Sender) → Steady s → greatest a.upto a.spans ≤ s.sent → AllOk s.sent (s.forward + 1) (rows_acknowledged a s)
 acked_ok a s k le = ok_map s.sent (s.forward + 1) (acknowledge a) s.rows (λ i r o. ack_ok a s.sent i r (tells a i) refl le o) k.rows
 
 pub count_settled : (ordinal : ℕ) (r : Row) → is_settled (count_ack ordinal r).state ≡ is_settled r.state
@@ -468,7 +468,7 @@ count_settled ordinal r = count_if ordinal r (is_third ordinal r) (is_flying r.s
     count_if ordinal r false true e = refl
     count_if ordinal r false false e = refl
 
-pub told_ok : (a : Told) (s : Sender) → Steady s → greatest a.upto a.ranges ≤ s.sent → AllOk s.sent (s.forward + 1) (rows_told a s)
+pub told_ok : (a : Told) (s : Sender) → Steady s → greatest a.upto a.spans ≤ s.sent → AllOk s.sent (s.forward + 1) (rows_told a s)
 told_ok a s k le =
     let at = s.forward + 1 in
     let ordinal = last_ordinal a at s.rows in
@@ -476,7 +476,7 @@ told_ok a s k le =
     subst (λ (xs : List Row). AllOk s.sent at xs) (sym (map_is (count_ack ordinal) at (rows_acknowledged a s)))
     (ok_map s.sent at (λ i r. count_ack ordinal r) (rows_acknowledged a s) (λ i r o. count_ok ordinal s.sent i r (is_third ordinal r) (is_flying r.state && nat_lt r.ordinal ordinal) refl o) acked)
 
-pub steady_told : (s : Sender) (a : Told) → Steady s → greatest a.upto a.ranges ≤ s.sent → Steady (told_by a s)
+pub steady_told : (s : Sender) (a : Told) → Steady s → greatest a.upto a.spans ≤ s.sent → Steady (told_by a s)
 steady_told s a k le =
     let at = s.forward + 1 in
     let rows = rows_told a s in

@@ -24,14 +24,6 @@ pub moved_set : (rows : List Row) (at : ℕ) (y : Row) → at < length rows → 
 moved_set rows at y lt =
     totals_eq _ _ _ _ _ _ _ _ (swap_is flight_of rows at y lt) (swap_is flying_of rows at y lt) (swap_is stored_of rows at y lt) (swap_is lost_of rows at y lt)
 
-pub within_all : (rows : List Row) (at : ℕ) → at < length rows → IsWithin (row_totals (row_at rows at)) (totals_of rows)
-within_all rows at lt = record {
-  flight = get_or-le-sum_by flight_of rows at end_row lt;
-  flying = get_or-le-sum_by flying_of rows at end_row lt;
-  stored = get_or-le-sum_by stored_of rows at end_row lt;
-  lost = get_or-le-sum_by lost_of rows at end_row lt;
-}
-
 cond_le : (b : Bool) (n : ℕ) → cond b n 0 ≤ n
 cond_le true n = let e : n ≤ n = omega arith in e
 cond_le false n = let e : 0 ≤ n = omega arith in e

@@ -8,22 +8,22 @@ use Rattle.flow_send.specs.Rows.{Row, is_flying, is_acknowledged, is_abandoned, 
 use Rattle.flow_send.specs.Rows.{map_rows, any_row, sum_rows, most_rows}
 use Rattle.flow_send.specs.Sender.{Sender, has_number, with_rows}
 
--- the blocks told, all at or below a number, and stretches above it from their first to their last
+-- the blocks told, all at or below a number, and spans above it from their first to their last
 -- number
 pub record Told : Type 0 where
   pub blocks : ℕ
   pub upto : ℕ
-  pub ranges : List (ℕ × ℕ)
+  pub spans : List (ℕ × ℕ)
 
 abbrev pub told : ℕ → ℕ → List (ℕ × ℕ) → Told
-told blocks upto ranges = record { blocks = blocks; upto = upto; ranges = ranges }
+told blocks upto spans = record { blocks = blocks; upto = upto; spans = spans }
 
 -- the ack acknowledges number n
-abbrev pub in_range : ℕ → ℕ × ℕ → Bool
-in_range n p = nat_le p.0 n && nat_le n p.1
+abbrev pub in_span : ℕ → ℕ × ℕ → Bool
+in_span n p = nat_le p.0 n && nat_le n p.1
 
 abbrev pub tells : Told → ℕ → Bool
-tells a n = nat_le n a.upto || list_any (in_range n) a.ranges
+tells a n = nat_le n a.upto || list_any (in_span n) a.spans
 
 -- the greatest number that it acknowledges
 abbrev pub greatest : ℕ → List (ℕ × ℕ) → ℕ
@@ -31,7 +31,7 @@ greatest upto [] = upto
 greatest upto (p ∷ later) = greatest (max upto p.1) later
 
 abbrev pub beyond : Sender → Told → Option ℕ
-beyond s a = if nat_lt s.sent (greatest a.upto a.ranges) then Some (greatest a.upto a.ranges)
+beyond s a = if nat_lt s.sent (greatest a.upto a.spans) then Some (greatest a.upto a.spans)
     else None
 
 -- it newly acknowledges a number above the forward number

@@ -2,21 +2,31 @@
 -- was done.
 use Prim.Native.Nat.{zero, suc}
 use Rattle.std.specs.Prelude.{ℕ, ◌≡◌, ◌+◌, ◌==◌, nat_le, not, if◌then◌else◌, Bool, true, false}
-use Rattle.std.specs.Prelude.{◌&&◌, ◌||◌, List, [], ◌∷◌, ◌++◌, Option, Some, None}
+use Rattle.std.specs.Prelude.{◌&&◌, ◌||◌, List, [], ◌∷◌, ◌++◌, Option, Some, None, length}
 use Rattle.std.specs.List.{filter}
+use Rattle.rtmfp_data_chunks.specs.Fragments.{Message, fragment_count}
+use Rattle.flow_send.specs.declared.waiting.MessageOptions.{MessageOptions}
 use Rattle.flow_send.specs.declared.waiting.Waiting.{Waiting}
 use Rattle.flow_send.specs.Rows.{Row, is_flying, is_lost}
-use Rattle.flow_send.specs.Sender.{waiting_of}
 use Rattle.flow_send.specs.Acks.{Told, tells}
 use Rattle.flow_send.specs.Calls.{Done, Queued, Abandoned, Sent, Looked, Heard, last_sending}
 use Rattle.flow_send.specs.Calls.{is_told, is_over, is_out}
 
 -- ---- messages
 
+-- a message as it waits: its number, its fragments, its bytes and its options
+abbrev pub as_queued : Message → MessageOptions → Waiting
+as_queued m options = record {
+  number = m.number;
+  count = fragment_count m;
+  size = length m.bytes;
+  options = options;
+}
+
 -- the messages that were queued, in their order
 abbrev pub all_queued : List Done → List Waiting
 all_queued [] = []
-all_queued (Queued m options ∷ earlier) = all_queued earlier ++ waiting_of m options ∷ []
+all_queued (Queued m options ∷ earlier) = all_queued earlier ++ as_queued m options ∷ []
 all_queued (_ ∷ earlier) = all_queued earlier
 
 -- the message that begins at number n was abandoned

@@ -375,31 +375,31 @@ impl FlowSender {
     }
 
     /// Takes an ack: the blocks of 1,024 bytes that the receiver has free, the number at or below
-    /// which all is acknowledged, and the stretches above it.
+    /// which all is acknowledged, and the spans above it.
     pub fn take_ack(
         &mut self,
         blocks: u64,
         upto: u64,
-        ranges: AckedSpans<'_>,
+        spans: AckedSpans<'_>,
     ) -> Result<Acked, AckFault>
-        ensures beyond { MatchOption (beyond self.old.sender (told blocks upto ranges.entry))
+        ensures beyond { MatchOption (beyond self.old.sender (told blocks upto spans.entry))
             (IsOk result) (λ n. result ≡ Err (AckFault.AckBeyond n)) }
         ensures bytes { IfOk result (λ a. a.bytes
-            ≡ new_bytes (told blocks upto ranges.entry) (self.old.sender.forward + 1)
+            ≡ new_bytes (told blocks upto spans.entry) (self.old.sender.forward + 1)
             self.old.sender.rows) }
         ensures lost { IfOk result (λ a. a.lost
-            ≡ makes_lost (told blocks upto ranges.entry) self.old.sender) }
+            ≡ makes_lost (told blocks upto spans.entry) self.old.sender) }
         ensures ok { OnOk result (self.new ≡ with_sender self.old
-            (told_by (told blocks upto ranges.entry) self.old.sender)) }
+            (told_by (told blocks upto spans.entry) self.old.sender)) }
         ensures err { OnErr result (self.new ≡ self.old) }
     {
-        let greatest = greatest(upto, &ranges);
+        let greatest = greatest(upto, &spans);
         if greatest > self.sent {
             return Err(AckFault::AckBeyond(greatest));
         }
         let to = self.sent_rows();
         let before = self.rows.stored();
-        let ordinal = acknowledge(&mut self.rows, self.forward, upto, &ranges);
+        let ordinal = acknowledge(&mut self.rows, self.forward, upto, &spans);
         let bytes = before - self.rows.stored();
         let lost = self
             .sendings
