@@ -12,9 +12,9 @@ use Rattle.flow_send.specs.declared.waiting.Waiting.{Waiting}
 use Rattle.flow_send.specs.Rows.{Row, end_row, is_acknowledged, is_settled, is_flying, is_lost, is_unsent, let_go, map_rows, settled_front}
 use Rattle.flow_send.specs.Sender.{Sender, new_sender, next_of, with_rows, new_row, rows_of, waiting_of, queued, has_number, message_at, without_message, waits, give_up, give_up_row, first_number, overdue, abandoned_with, abandoned, finished, is_late, lost_if_late, lost_late}
 use Rattle.flow_send.specs.Choice.{Choice, Nothing, Send, Notify, first_in, within_limit, choice_bytes, or_else, is_quiet, next_choice, choice, chunk_for, count_up, sent_row, put_at, sent_after}
-use Rattle.flow_send.specs.Acks.{Told, in_range, tells, acknowledge, acknowledge_row, is_third, count_ack, last_ordinal, rows_acknowledged, rows_told, still_waits, told_by}
+use Rattle.flow_send.specs.Acks.{Told, in_span, tells, acknowledge, acknowledge_row, is_third, count_ack, last_ordinal, rows_acknowledged, rows_told, still_waits, told_by}
 use Rattle.rtmfp_data_chunks.specs.HandsOver.{IsIn}
-use Rattle.flow_exchange.specs.Exchange.{Ack, InRanges, Acknowledges, World, start, Queued, Abandoned as Gave_up, Finished, Sent, Heard, after, IsAbandoned, IsAcknowledged, IsSettled, Tells, Fragment_of, Notice, End_of, MaySend}
+use Rattle.flow_exchange.specs.Exchange.{Ack, InSpans, Acknowledges, World, start, Queued, Abandoned as Gave_up, Finished, Sent, Heard, after, IsAbandoned, IsAcknowledged, IsSettled, Tells, Fragment_of, Notice, End_of, MaySend}
 use Rattle.flow_exchange.specs.Sending.{Act, Queues, Abandons, AbandonsFirst, AbandonsOverdue, Finishes, Loses, Sends, Hears, Sending, begun, queues, finishes, abandons, abandons_one, sends, ack_of, acts, all_acts, SpeaksTrue}
 use Rattle.flow_exchange.proofs.Fragments.{Laid, found, found_still}
 
@@ -451,15 +451,15 @@ or_cases : (a b : Bool) → (a || b) ≡ true → (a ≡ true) ⊎ (b ≡ true)
 or_cases true b e = inl refl
 or_cases false b e = inr e
 
-in_ranges : (n : ℕ) (ranges : List (ℕ × ℕ)) → list_any (in_range n) ranges ≡ true → InRanges n ranges
-in_ranges n [] e = absurd cc
-in_ranges n (p ∷ ranges) e = elim (or_cases (nat_le p.0 n && nat_le n p.1) (list_any (in_range n) ranges) e) [
+in_spans : (n : ℕ) (spans : List (ℕ × ℕ)) → list_any (in_span n) spans ≡ true → InSpans n spans
+in_spans n [] e = absurd cc
+in_spans n (p ∷ spans) e = elim (or_cases (nat_le p.0 n && nat_le n p.1) (list_any (in_span n) spans) e) [
   | inl a ↦ let b = and_cases (nat_le p.0 n) (nat_le n p.1) a in inl (leb-true p.0 n b.0, leb-true n p.1 b.1)
-  | inr a ↦ inr (in_ranges n ranges a)
+  | inr a ↦ inr (in_spans n spans a)
 ]
 
 tells_true : (a : Told) (n : ℕ) → tells a n ≡ true → Acknowledges (ack_of a) n
-tells_true a n e = elim (or_cases (nat_le n a.upto) (list_any (in_range n) a.ranges) e) [ inl x ↦ inl (leb-true n a.upto x) | inr x ↦ inr (in_ranges n a.ranges x) ]
+tells_true a n e = elim (or_cases (nat_le n a.upto) (list_any (in_span n) a.spans) e) [ inl x ↦ inl (leb-true n a.upto x) | inr x ↦ inr (in_spans n a.spans x) ]
 
 acked_row_if : (w : World) (a : Told) (n : ℕ) (r : Row) (t : Bool) → IsIn (ack_of a) w.heard → tells a n ≡ true → Stands w n r → Stands w n (cond t r (let_go Acknowledged r))
 acked_row_if w a n r true i e s = s

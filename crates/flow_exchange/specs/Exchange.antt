@@ -1,24 +1,24 @@
 -- One sender and one receiver over a network that loses, repeats and reorders.
-use Rattle.std.specs.Prelude.{ℕ, ◌≡◌, ◌≢◌, ◌<◌, ◌≤◌, ◌⊎◌, Bool, true, false, List, [], ◌∷◌, ◌++◌,
-    Option, Some, None, length, slice_get, map}
+use Rattle.std.specs.Prelude.{ℕ, ◌≡◌, ◌≢◌, ◌<◌, ◌≤◌, ◌⊎◌, Bool, true, false, List, [], ◌∷◌, ◌++◌}
+use Rattle.std.specs.Prelude.{Option, Some, None, length, slice_get, map}
 use Rattle.std.specs.List.{filter}
 use Rattle.rtmfp_data_chunks.specs.Fragments.{Message, Spans, fragment_of, next_number}
-use Rattle.rtmfp_data_chunks.specs.Runs.{Chunk, Missing, number_of, handed_in_order, runs_of,
-    is_whole, message_of, has_number}
+use Rattle.rtmfp_data_chunks.specs.Runs.{Chunk, Missing, number_of, handed_in_order, runs_of}
+use Rattle.rtmfp_data_chunks.specs.Runs.{is_whole, message_of, has_number}
 use Rattle.rtmfp_data_chunks.specs.HandsOver.{IsIn}
 
--- an ack: all at or below a number, and stretches above
+-- an ack: all at or below a number, and spans above
 pub record Ack : Type 0 where
   pub upto : ℕ
-  pub ranges : List (ℕ × ℕ)
+  pub spans : List (ℕ × ℕ)
 
-abbrev pub InRanges : ℕ → List (ℕ × ℕ) → Type 0
-InRanges n [] = ⊥
-InRanges n (r ∷ rs) = ((r.0 ≤ n) × (n ≤ r.1)) ⊎ InRanges n rs
+abbrev pub InSpans : ℕ → List (ℕ × ℕ) → Type 0
+InSpans n [] = ⊥
+InSpans n (r ∷ rs) = ((r.0 ≤ n) × (n ≤ r.1)) ⊎ InSpans n rs
 
 -- the ack acknowledges number n
 abbrev pub Acknowledges : Ack → ℕ → Type 0
-Acknowledges a n = (n ≤ a.upto) ⊎ InRanges n a.ranges
+Acknowledges a n = (n ≤ a.upto) ⊎ InSpans n a.spans
 
 -- what has happened so far, each list with the newest first but for the messages handed
 pub record World : Type 0 where
@@ -33,8 +33,17 @@ pub record World : Type 0 where
   pub handed : List Message
 
 abbrev pub start : ℕ → World
-start first = record { first = first; queued = []; abandoned = []; finish = None; sent = [];
-    taken = []; told = []; heard = []; handed = [] }
+start first = record {
+  first = first;
+  queued = [];
+  abandoned = [];
+  finish = None;
+  sent = [];
+  taken = [];
+  told = [];
+  heard = [];
+  handed = [];
+}
 
 -- what may happen. A loss is a chunk or an ack that is never taken; a refused one too
 pub data Event : Type 0 where
@@ -77,11 +86,11 @@ IsSettled w n = (n < w.first) ⊎ IsAbandoned w.queued w.abandoned n ⊎ IsAckno
 -- a chunk has the fragment of its number, or is the notice of the forward number, or the end
 pub data Tells (queued : List Message) (finish : Option ℕ) (c : Chunk) : Type 0 where
   Fragment_of : c.abandon ≡ false → c.forward < c.seq →
-    fragment_of queued c.seq ≡ Some (record { part = c.part; bytes = c.bytes }) →
-    Tells queued finish c
+      fragment_of queued c.seq ≡ Some (record { part = c.part; bytes = c.bytes }) →
+      Tells queued finish c
   Notice : c.abandon ≡ true → c.seq ≡ c.forward → Tells queued finish c
   End_of : c.abandon ≡ true → c.last ≡ true → c.forward < c.seq → finish ≡ Some c.seq →
-    Tells queued finish c
+      Tells queued finish c
 
 pub record MaySend (w : World) (c : Chunk) : Type 0 where
   pub tells : Tells w.queued w.finish c

@@ -1,16 +1,18 @@
 -- Any calls of a receiver, one after another.
-use Rattle.std.specs.Prelude.{ℕ, ◌≡◌, ◌+◌, ◌<◌, ◌≤◌, nat_lt, if◌then◌else◌, not, ◌&&◌, ◌||◌, ◌==◌,
-    Bool, true, false, List, [], ◌∷◌, ◌++◌, Option, Some, None, length, slice_get}
+use Rattle.std.specs.Prelude.{ℕ, ◌≡◌, ◌+◌, ◌<◌, ◌≤◌, nat_lt, if◌then◌else◌, not, ◌&&◌, ◌||◌, ◌==◌}
+use Rattle.std.specs.Prelude.{Bool, true, false, List, [], ◌∷◌, ◌++◌, Option, Some, None, length}
+use Rattle.std.specs.Prelude.{slice_get}
 use Rattle.std.specs.Option.{option_map}
 use Rattle.rtmfp_data_chunks.specs.Fragments.{Message}
 use Rattle.rtmfp_data_chunks.specs.HandsOver.{IsIn}
 use Rattle.rtmfp_data_chunks.specs.declared.user_data.Part.TheVariants.{Whole}
-use Rattle.rtmfp_data_chunks.specs.Runs.{Chunk, Run, is_whole, has_number, highest, missing_of,
-    through_of, runs_of, bytes_held, message_of, handed_in_order}
+use Rattle.rtmfp_data_chunks.specs.Runs.{Chunk, Run, is_whole, has_number, highest, missing_of}
+use Rattle.rtmfp_data_chunks.specs.Runs.{through_of, runs_of, bytes_held, message_of}
+use Rattle.rtmfp_data_chunks.specs.Runs.{handed_in_order}
 use Rattle.flow_recv.specs.declared.outcome.FlowRefusal.{FlowRefusal}
 use Rattle.flow_recv.specs.declared.outcome.FlowRefusal.TheVariants.{AfterFinal, BeyondBuffer}
-use Rattle.flow_recv.specs.Receiver.{Receiver, fresh, taken, next_run, handed_next, held_in,
-    through_in}
+use Rattle.flow_recv.specs.Receiver.{Receiver, fresh, taken, next_run, handed_next, held_in}
+use Rattle.flow_recv.specs.Receiver.{through_in}
 use Rattle.flow_recv.specs.Outcome.{refusal}
 use Rattle.flow_exchange.specs.Stands.{last_of}
 
@@ -30,12 +32,18 @@ at_first arriving = record { receiver = fresh arriving; chunks = []; handed = []
 
 abbrev pub hands_over : Receiving → Option Run → Receiving
 hands_over w None = w
-hands_over w (Some y) = record { receiver = handed_next w.receiver; chunks = w.chunks;
-    handed = w.handed ++ message_of y ∷ [] }
+hands_over w (Some y) = record {
+  receiver = handed_next w.receiver;
+  chunks = w.chunks;
+  handed = w.handed ++ message_of y ∷ [];
+}
 
 abbrev pub calls : Receiving → Call → Receiving
-calls w (Takes c) = record { receiver = taken w.receiver c; chunks = c ∷ w.chunks;
-    handed = w.handed }
+calls w (Takes c) = record {
+  receiver = taken w.receiver c;
+  chunks = c ∷ w.chunks;
+  handed = w.handed;
+}
 calls w Hands = hands_over w (next_run w.receiver)
 
 abbrev pub all_calls : Receiving → List Call → Receiving
@@ -57,7 +65,7 @@ pub record HandsInOrder (w : Receiving) : Type 0 where
   pub rest : List Message
   pub begins : w.handed ++ rest ≡ handed_in_order w.chunks
   pub next : option_map message_of (next_run w.receiver)
-    ≡ slice_get (handed_in_order w.chunks) (length w.handed)
+      ≡ slice_get (handed_in_order w.chunks) (length w.handed)
 
 -- where no message is next, in arrival order each whole run was handed over
 abbrev pub AllHanded : Receiving → Type 0
@@ -89,8 +97,14 @@ passes_last None top c = if c.last && nat_lt c.seq top then Some top else None
 
 -- the chunk's forward number, taken alone
 abbrev pub forward_alone : Chunk → Chunk
-forward_alone c = record { part = Whole; abandon = true; last = false; seq = c.forward;
-    forward = c.forward; bytes = [] }
+forward_alone c = record {
+  part = Whole;
+  abandon = true;
+  last = false;
+  seq = c.forward;
+  forward = c.forward;
+  bytes = [];
+}
 
 -- the bytes of a chunk that count
 abbrev pub own_bytes : Chunk → ℕ
@@ -109,8 +123,8 @@ abbrev pub full_by : List Chunk → List Message → Chunk → Option ℕ
 full_by chunks handed c =
     let given = forward_alone c ∷ chunks in
     if missing_of chunks c.seq && nat_lt c.forward c.seq
-      && is_full (through_of given) (bytes_held given handed) c then Some (bytes_held given handed)
-      else None
+    && is_full (through_of given) (bytes_held given handed) c then Some (bytes_held given handed)
+    else None
 
 abbrev pub refusal_with : Option ℕ → Option ℕ → Option FlowRefusal
 refusal_with (Some n) full = Some (AfterFinal n)

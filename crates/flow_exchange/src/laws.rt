@@ -5,8 +5,8 @@ ghost use Rattle.rtmfp_data_chunks.specs.HandsOver.{HandsOver, HandsOnce};
 ghost use Rattle.flow_exchange.specs.Pair.{Happening, exchanged, pair};
 ghost use Rattle.flow_exchange.specs.Sending.{Act, all_acts, begun, SpeaksTrue};
 ghost use Rattle.flow_exchange.specs.Stands.{StandsFor};
-ghost use Rattle.flow_exchange.specs.Receiving.{Call, AllProper, all_calls, at_first, HandsInOrder,
-    AllHanded, HandsLowest, Counts, RefusesBy};
+ghost use Rattle.flow_exchange.specs.Receiving.{Call, AllProper, all_calls, at_first, HandsInOrder};
+ghost use Rattle.flow_exchange.specs.Receiving.{AllHanded, HandsLowest, Counts, RefusesBy};
 
 /// Whatever chunks a receiver takes and however often it hands over, what it keeps stands for them.
 /// In queueing order it hands over what is to be handed over, one message after another. In arrival
@@ -16,8 +16,8 @@ ghost use Rattle.flow_exchange.specs.Receiving.{Call, AllProper, all_calls, at_f
 pub fn receiving()
     ensures stands { (arriving : Bool) (events : List Call) → AllProper events
         → StandsFor (all_calls (at_first arriving) events).receiver
-            (all_calls (at_first arriving) events).chunks
-            (all_calls (at_first arriving) events).handed }
+        (all_calls (at_first arriving) events).chunks
+        (all_calls (at_first arriving) events).handed }
     ensures in_order { (events : List Call) → AllProper events →
         HandsInOrder (all_calls (at_first false) events) }
     ensures arriving { (events : List Call) → AllProper events →
@@ -45,9 +45,9 @@ pub fn sending()
 pub fn exchange()
     ensures in_order { (first : ℕ) (events : List Happening) → 1 ≤ first
         → HandsOver (exchanged (pair first false) events).world.queued
-            (exchanged (pair first false) events).world.abandoned
-            (exchanged (pair first false) events).world.handed }
+        (exchanged (pair first false) events).world.abandoned
+        (exchanged (pair first false) events).world.handed }
     ensures arriving { (first : ℕ) (events : List Happening) → 1 ≤ first
         → HandsOnce (exchanged (pair first true) events).world.queued
-            (exchanged (pair first true) events).world.handed }
+        (exchanged (pair first true) events).world.handed }
 {}
