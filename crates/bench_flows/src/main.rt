@@ -6,8 +6,11 @@
 //! receiver take the odd numbers of so many, and then the even ones. `halves COUNT` has one in
 //! arrival order take the beginnings of messages of two fragments, so many fragments in all, and
 //! then their ends, each of which makes a message ready. `passed COUNT` has one take the same
-//! beginnings, and then forward numbers that pass them, one after another. The answer is the word,
-//! how many chunks were sent, and how many messages were handed over.
+//! beginnings, and then forward numbers that pass them, one after another. `descending COUNT` has
+//! one take the fragments of one message, so many of 32 bytes, the last one first, and `joined
+//! COUNT` in pairs from the last one on, each pair the lower one first, so that the upper one joins
+//! two runs. The answer is the word, how many chunks were sent, and how many messages were handed
+//! over.
 #![tactic(auto)]
 
 ghost use Rattle.std.specs.Prelude.{◌≡◌, ◌+◌, ◌<◌, ◌≤◌, false, true, length};
@@ -99,6 +102,12 @@ fn moved_by(
     }
     if word == "passed" {
         return passed(rt, size);
+    }
+    if word == "descending" {
+        return descending(rt, size);
+    }
+    if word == "joined" {
+        return joined(rt, size);
     }
     let job = Job {
         size: size.min(1_048_576) as usize,
@@ -282,6 +291,60 @@ fn passed(rt: &impl AllocGlobal, count: u64) -> Result<Moved, Memory> {
         chunks: 2 * half,
         handed: hand_over(&mut to),
     })
+}
+
+/// A receiver takes the fragments of one message, the last one first.
+fn descending(rt: &impl AllocGlobal, count: u64) -> Result<Moved, Memory> {
+    let mut to = FlowReceiver::new(rt.alloc(), 0);
+    let count = count.min(65_534);
+    for at in 0..count {
+        take_piece(&mut to, count - at, count);
+    }
+    Ok(Moved {
+        queued: 0,
+        chunks: count,
+        handed: hand_over(&mut to),
+    })
+}
+
+/// A receiver takes the fragments of one message in pairs, the last pair first, and of each pair
+/// the lower one first.
+fn joined(rt: &impl AllocGlobal, count: u64) -> Result<Moved, Memory> {
+    let mut to = FlowReceiver::new(rt.alloc(), 0);
+    let half = count.min(65_534) / 2;
+    for at in 0..half {
+        take_piece(&mut to, 2 * (half - at) - 1, 2 * half);
+        take_piece(&mut to, 2 * (half - at), 2 * half);
+    }
+    Ok(Moved {
+        queued: 0,
+        chunks: 2 * half,
+        handed: hand_over(&mut to),
+    })
+}
+
+/// Takes one of so many fragments of a message that begins at 1.
+fn take_piece(to: &mut FlowReceiver, seq: u64, count: u64)
+    requires { 1 ≤ seq }
+{
+    let part = if seq == 1 {
+        Part::Begin
+    } else if seq == count {
+        Part::End
+    } else {
+        Part::Middle
+    };
+    let chunk = UserData {
+        part,
+        abandon: false,
+        last: false,
+        flow: FLOW,
+        seq,
+        forward: 0,
+        options: None,
+        bytes: &[0x55; 32],
+    };
+    let _ = to.take(&chunk);
 }
 
 /// A chunk that tells a forward number alone.

@@ -165,9 +165,6 @@ after_dropped l1 l2 h q w z s o l f k =
     let first : l2 (w.last + 1) ≡ false = not_missing l1 l2 (w.last + 1) s.mono (ap l1 p.0 ∙ o.known_first) in
     (dead_rear l2 (joined w z) lost.0 (not_missing l1 l2 (z.last + 1) s.mono lost.1), dead_rear l2 w p.1 first)
 
-next_if_false : (v z : Run) (ys : List Run) (t : Bool) → fits v z ≡ false → join_next v (z ∷ ys) ≡ v ∷ z ∷ ys
-next_if_false v z ys t e = ap (λ u. cond u (joined v z ∷ ys) (v ∷ z ∷ ys)) e
-
 -- the new run and those behind it
 next_kept_if : (l1 l2 h : ℕ → Bool) (q : ℕ) (w v z : Run) (zs : List Run) (t u : Bool) → Setting l1 l2 h q → AllOld l1 h q (z ∷ zs) → Sorted (z ∷ zs) → q < z.first
     → w.last ≡ q → v.last ≡ q → fits w z ≡ fits v z → Match l2 h w v → fits v z ≡ t → kept l1 h z ≡ u

@@ -96,7 +96,7 @@ found_still first m qs n f laid e =
     let l = located qs n f e in
     found first (m ∷ qs) l.message n laid (inr l.was_queued) l.spans ∙ ap (λ x. Some x) (sym l.is)
 
--- what the part of a fragment tells of its place
+-- what the part of a fragment tells of its ordinal
 pub part_whole : (count k : ℕ) → part_of count k ≡ Whole → k < count → (k ≡ 0) × (count ≡ 1)
 part_whole count k e lt = grind (arith, nat_tests)
 

@@ -8,7 +8,7 @@ use Rattle.rtmfp_data_chunks.specs.Runs.{Number, Missing, Held, GivenUp, Run, ha
 use Rattle.flow_recv.specs.Receiver.{join_next, join_before, add_run}
 use Rattle.rtmfp_data_chunks.specs.HandsOver.{IsIn}
 use Rattle.flow_exchange.proofs.Wholes.{IsHeld, in_either}
-use Rattle.flow_exchange.proofs.Stretches.{stretch_is}
+use Rattle.flow_exchange.proofs.Longest.{longest_is}
 use Rattle.flow_exchange.proofs.Ready.{RunOf, run_of}
 
 -- both are not held, or they are alike
@@ -38,11 +38,11 @@ ending_same : (o : Option Run) (v w : Number) → SameHeld v w → run_ending o 
 ending_same None v w h = refl
 ending_same (Some y) v w h = ap (λ x. cond x [] (y ∷ [])) (on_same v w y h)
 
-pub stretch_same : (s r : ℕ → Number) (n : ℕ) → ((k : ℕ) → k ≤ n → SameHeld (s k) (r k)) → run_up_to r n ≡ run_up_to s n
+pub longest_same : (s r : ℕ → Number) (n : ℕ) → ((k : ℕ) → k ≤ n → SameHeld (s k) (r k)) → run_up_to r n ≡ run_up_to s n
 unfolding run_up_to
-stretch_same s r zero h = refl
-stretch_same s r (suc n) h =
-    ap (λ x. run_with (r (suc n)) (suc n) x) (stretch_same s r n (λ k l. h k (omega arith))) ∙ sym (with_same (s (suc n)) (r (suc n)) (suc n) (run_up_to s n) (h (suc n) (omega arith)))
+longest_same s r zero h = refl
+longest_same s r (suc n) h =
+    ap (λ x. run_with (r (suc n)) (suc n) x) (longest_same s r n (λ k l. h k (omega arith))) ∙ sym (with_same (s (suc n)) (r (suc n)) (suc n) (run_up_to s n) (h (suc n) (omega arith)))
 
 -- the same numbers held: the same runs
 pub runs_same : (s r : ℕ → Number) (n : ℕ) → ((k : ℕ) → SameHeld (s k) (r k)) → runs_to r n ≡ runs_to s n
@@ -50,9 +50,9 @@ unfolding runs_to
 runs_same s r zero h = refl
 runs_same s r (suc n) h =
     ap (λ x. x ++ run_ending (run_up_to r (suc n)) (r (suc (suc n)))) (runs_same s r n h)
-    ∙ ap (λ x. runs_to s n ++ x) (ap (λ x. run_ending x (r (suc (suc n)))) (stretch_same s r (suc n) (λ k l. h k)) ∙ sym (ending_same (run_up_to s (suc n)) (s (suc (suc n))) (r (suc (suc n))) (h (suc (suc n)))))
+    ∙ ap (λ x. runs_to s n ++ x) (ap (λ x. run_ending x (r (suc (suc n)))) (longest_same s r (suc n) (λ k l. h k)) ∙ sym (ending_same (run_up_to s (suc n)) (s (suc (suc n))) (r (suc (suc n))) (h (suc (suc n)))))
 
--- a stretch that comes after another, joined to it where it fits
+-- a run that comes after another, joined to it where it fits
 abbrev pub follow : Run → Run → Run
 follow x z = cond (fits x z) (joined x z) z
 
@@ -137,49 +137,49 @@ pub record Grown (s r : ℕ → Number) (q : ℕ) (p : Part) (b : List ℕ) : Ty
   pub is : r q ≡ Held p b
   pub others : (k : ℕ) → (k ≡ q → ⊥) → SameHeld (s k) (r k)
 
--- the stretch that ends at the new number
-abbrev pub new_stretch : (ℕ → Number) → ℕ → Part → List ℕ → Run
-new_stretch s q p b = before (run_up_to s (q - 1)) (single q p b)
+-- the run that ends at the new number
+abbrev pub new_longest : (ℕ → Number) → ℕ → Part → List ℕ → Run
+new_longest s q p b = before (run_up_to s (q - 1)) (single q p b)
 
-stretch_at : (s : ℕ → Number) (n k : ℕ) → n ≡ suc k → run_up_to s n ≡ run_with (s n) n (run_up_to s k)
+longest_at : (s : ℕ → Number) (n k : ℕ) → n ≡ suc k → run_up_to s n ≡ run_with (s n) n (run_up_to s k)
 unfolding run_up_to
-stretch_at s n k e = rw e refl
+longest_at s n k e = rw e refl
 
-pub stretch_new : (s r : ℕ → Number) (q : ℕ) (p : Part) (b : List ℕ) → Grown s r q p b → run_up_to r q ≡ Some (new_stretch s q p b)
-stretch_new s r q p b g =
+pub longest_new : (s r : ℕ → Number) (q : ℕ) (p : Part) (b : List ℕ) → Grown s r q p b → run_up_to r q ≡ Some (new_longest s q p b)
+longest_new s r q p b g =
     let e : q ≡ suc (q - 1) = omega (arith, g.above) in
-    stretch_at r q (q - 1) e
+    longest_at r q (q - 1) e
     ∙ (ap (λ v. run_with v q (run_up_to r (q - 1))) g.is
-    ∙ (held_with p b q (run_up_to r (q - 1)) ∙ ap (λ o. Some (before o (single q p b))) (stretch_same s r (q - 1) (λ k l. g.others k (λ x. omega (arith, x, l, g.above))))))
+    ∙ (held_with p b q (run_up_to r (q - 1)) ∙ ap (λ o. Some (before o (single q p b))) (longest_same s r (q - 1) (λ k l. g.others k (λ x. omega (arith, x, l, g.above))))))
 
 before_last : (o : Option Run) (x : Run) → (before o x).last ≡ x.last
 before_last None x = refl
 before_last (Some y) x = follow_last_if y x (fits y x)
 
-stretch_none : (s : ℕ → Number) (q : ℕ) → 0 < q → (IsHeld (s q) → ⊥) → run_up_to s q ≡ None
-stretch_none s q lt h = let e : q ≡ suc (q - 1) = omega (arith, lt) in stretch_at s q (q - 1) e ∙ none_with (s q) q (run_up_to s (q - 1)) h
+longest_none : (s : ℕ → Number) (q : ℕ) → 0 < q → (IsHeld (s q) → ⊥) → run_up_to s q ≡ None
+longest_none s q lt h = let e : q ≡ suc (q - 1) = omega (arith, lt) in longest_at s q (q - 1) e ∙ none_with (s q) q (run_up_to s (q - 1)) h
 
--- the stretches beyond it: joined to it where they begin right after it and fit
-pub stretch_beyond : (s r : ℕ → Number) (q : ℕ) (p : Part) (b : List ℕ) (d : ℕ) → Grown s r q p b
-    → run_up_to r (suc (q + d)) ≡ option_map (follow (new_stretch s q p b)) (run_up_to s (suc (q + d)))
+-- the runs beyond it: joined to it where they begin right after it and fit
+pub longest_beyond : (s r : ℕ → Number) (q : ℕ) (p : Part) (b : List ℕ) (d : ℕ) → Grown s r q p b
+    → run_up_to r (suc (q + d)) ≡ option_map (follow (new_longest s q p b)) (run_up_to s (suc (q + d)))
 unfolding run_up_to
-stretch_beyond s r q p b zero g =
-    let x = new_stretch s q p b in
+longest_beyond s r q p b zero g =
+    let x = new_longest s q p b in
     let z : q + 0 ≡ q = omega arith in
     let v = r (suc (q + 0)) in
     let alike = g.others (suc (q + 0)) (λ e. omega (arith, e)) in
     ap (λ k. run_with v (suc (q + 0)) (run_up_to r k)) z
-    ∙ (ap (λ o. run_with v (suc (q + 0)) o) (stretch_new s r q p b g)
+    ∙ (ap (λ o. run_with v (suc (q + 0)) o) (longest_new s r q p b g)
     ∙ (next_first v (suc (q + 0)) x
     ∙ (ap (option_map (follow x)) (sym (with_same (s (suc (q + 0))) v (suc (q + 0)) None alike))
-    ∙ ap (λ o. option_map (follow x) (run_with (s (suc (q + 0))) (suc (q + 0)) o)) (sym (ap (run_up_to s) z ∙ stretch_none s q g.above g.was)))))
-stretch_beyond s r q p b (suc d) g =
-    let x = new_stretch s q p b in
+    ∙ ap (λ o. option_map (follow x) (run_with (s (suc (q + 0))) (suc (q + 0)) o)) (sym (ap (run_up_to s) z ∙ longest_none s q g.above g.was)))))
+longest_beyond s r q p b (suc d) g =
+    let x = new_longest s q p b in
     let z : q + suc d ≡ suc (q + d) = omega arith in
     let n = q + suc d in
     let v = r (suc n) in
     let alike = g.others (suc n) (λ e. omega (arith, e)) in
-    let ih = stretch_beyond s r q p b d g in
+    let ih = longest_beyond s r q p b d g in
     let last : x.last ≡ q = before_last (run_up_to s (q - 1)) (single q p b) in
     ap (λ k. run_with v (suc n) (run_up_to r k)) z
     ∙ (ap (λ o. run_with v (suc n) o) ih
@@ -209,20 +209,20 @@ ending_follow x None v = refl
 ending_follow x (Some y) v = ap (λ t. cond t [] (follow x y ∷ [])) (on_follow x y v) ∙ ending_if x y (goes_on y v)
 
 -- the later runs, with the first joined where it fits
-pub later_follows : (s r : ℕ → Number) (q : ℕ) (p : Part) (b : List ℕ) (d : ℕ) → Grown s r q p b → later r q d ≡ map (follow (new_stretch s q p b)) (later s q d)
+pub later_follows : (s r : ℕ → Number) (q : ℕ) (p : Part) (b : List ℕ) (d : ℕ) → Grown s r q p b → later r q d ≡ map (follow (new_longest s q p b)) (later s q d)
 unfolding later
 later_follows s r q p b zero g = refl
 later_follows s r q p b (suc d) g =
-    let x = new_stretch s q p b in
+    let x = new_longest s q p b in
     let n = suc (q + d) in
     let end = run_ending (run_up_to s n) (s (suc n)) in
     let e : run_ending (run_up_to r n) (r (suc n)) ≡ map (follow x) end =
-    ap (λ o. run_ending o (r (suc n))) (stretch_beyond s r q p b d g)
+    ap (λ o. run_ending o (r (suc n))) (longest_beyond s r q p b d g)
     ∙ (ending_follow x (run_up_to s n) (r (suc n)) ∙ ap (map (follow x)) (sym (ending_same (run_up_to s n) (s (suc n)) (r (suc n)) (g.others (suc n) (λ k. omega (arith, k)))))) in
     ap (λ xs. xs ++ run_ending (run_up_to r n) (r (suc n))) (later_follows s r q p b d g)
     ∙ (ap (λ xs. map (follow x) (later s q d) ++ xs) e ∙ sym (map-append (follow x) (later s q d) end))
 
--- where a stretch begins
+-- where a run begins
 pub record FrontOf (s : ℕ → Number) (y : Run) : Type 0 where
   pub part : Part
   pub bytes : List ℕ
@@ -248,7 +248,7 @@ unfolding run_up_to
 front_of s zero y e = absurd cc
 front_of s (suc n) y e = front_with s (suc n) (s (suc n)) (run_up_to s n) y refl (λ x. front_of s n x) e
 
--- inside a stretch each part of it goes on
+-- inside a run each part of it goes on
 pub record Inner (s : ℕ → Number) (k : ℕ) : Type 0 where
   pub run : Run
   pub is : run_up_to s k ≡ Some run
@@ -277,7 +277,7 @@ inner_with s n k (Held p b) None w e oe ih f low high =
     let z : single (suc n) p b ≡ w = cc in
     absurd (omega (arith, low, high, ap (λ (y : Run). y.first) z))
 inner_with s n k (Held p b) (Some x) w e oe ih f low high =
-    inner_if s n k p b x w (fits x (single (suc n) p b)) e oe (stretch_is s n x oe).last (ih x refl) refl f low high
+    inner_if s n k p b x w (fits x (single (suc n) p b)) e oe (longest_is s n x oe).last (ih x refl) refl f low high
 
 pub inner : (s : ℕ → Number) (n k : ℕ) (w : Run) → run_up_to s n ≡ Some w → w.first ≤ k → k < n → Inner s k
 unfolding run_up_to
@@ -299,13 +299,13 @@ beyond_one : (s : ℕ → Number) (q n : ℕ) (o : Option Run) (z : Run) → (Is
 beyond_one s q n None z not lt e h = absurd h
 beyond_one s q n (Some y) z not lt e h =
     let r = ending_is y z (goes_on y (s (suc n))) h in
-    let o = stretch_is s n y e in
+    let o = longest_is s n y e in
     let high : q < y.first = elim (cases_lt q y.first) [ inl l ↦ l | inr l ↦ absurd (not (o.held q l (omega (arith, lt)))) ] in
     subst (λ (w : Run). Beyond s q w) (sym r.1) (
     record {
       run = record {
-        stretches = ap (run_up_to s) o.last ∙ e;
-        of = stretch_is s y.last y (ap (run_up_to s) o.last ∙ e);
+        longest = ap (run_up_to s) o.last ∙ e;
+        of = longest_is s y.last y (ap (run_up_to s) o.last ∙ e);
         low = omega arith;
         stops = ap (λ k. goes_on y (s (suc k))) o.last ∙ r.0;
       };
@@ -327,10 +327,10 @@ pub data First (s : ℕ → Number) (q d : ℕ) : Type 0 where
   Pending : (y : Run) → run_up_to s (suc (q + d)) ≡ Some y → y.first ≡ suc q → later s q d ≡ [] → First s q d
   Ended : (z : Run) → (zs : List Run) → later s q d ≡ z ∷ zs → z.first ≡ suc q → ((w : Run) → IsIn w zs → suc q < w.first) → First s q d
 
-stretch_held : (s : ℕ → Number) (n : ℕ) (v : Number) (o : Option Run) → s (suc n) ≡ v → IsHeld v → (y : Run) × (run_with v (suc n) o ≡ Some y)
-stretch_held s n Missing o e h = absurd h
-stretch_held s n GivenUp o e h = absurd h
-stretch_held s n (Held p b) o e h = (before o (single (suc n) p b), held_with p b (suc n) o)
+longest_held : (s : ℕ → Number) (n : ℕ) (v : Number) (o : Option Run) → s (suc n) ≡ v → IsHeld v → (y : Run) × (run_with v (suc n) o ≡ Some y)
+longest_held s n Missing o e h = absurd h
+longest_held s n GivenUp o e h = absurd h
+longest_held s n (Held p b) o e h = (before o (single (suc n) p b), held_with p b (suc n) o)
 
 joined_on : (v : Number) (n : ℕ) (y : Run) → y.last ≡ n → goes_on y v ≡ true → (w : Run) × (run_with v (suc n) (Some y) ≡ Some w) × (w.first ≡ y.first)
 joined_on Missing n y l e = absurd cc
@@ -345,7 +345,7 @@ pending_more : (s : ℕ → Number) (q d : ℕ) (y : Run) (t : Bool) → (IsHeld
 unfolding later run_up_to
 pending_more s q d y true not e f none g =
     let n = suc (q + d) in
-    let j = joined_on (s (suc n)) n y (stretch_is s n y e).last g in
+    let j = joined_on (s (suc n)) n y (longest_is s n y e).last g in
     let z : q + suc d ≡ suc (q + d) = omega arith in
     let up : run_up_to s (suc (q + suc d)) ≡ Some j.0 = ap (λ k. run_up_to s (suc k)) z ∙ (ap (run_with (s (suc n)) (suc n)) e ∙ j.1) in
     let l : later s q (suc d) ≡ [] = ap (λ xs. xs ++ run_ending (run_up_to s n) (s (suc n))) none ∙ (ap (λ o. run_ending o (s (suc n))) e ∙ ap (λ u. cond u [] (y ∷ [])) g) in
@@ -363,7 +363,7 @@ ended_new s q n z o w bz fz lt e not qn h =
       | inr l ↦
           let last : run_up_to s n ≡ Some w = last_of o w e h in
           let i = inner s n z.last w last (omega (arith, l, bw.high, fz, bz.run.of.low)) lt in
-          let same : z ≡ i.run = let k : Some z ≡ Some i.run = sym bz.run.stretches ∙ i.is in cc in
+          let same : z ≡ i.run = let k : Some z ≡ Some i.run = sym bz.run.longest ∙ i.is in cc in
           absurd (let x : false ≡ true = sym bz.run.stops ∙ (ap (λ y. goes_on y (s (suc z.last))) same ∙ i.on) in cc)
     ]
   where
@@ -395,9 +395,9 @@ pub first_run : (s : ℕ → Number) (q d : ℕ) → 0 < q → (IsHeld (s q) →
 unfolding later run_up_to
 first_run s q zero pos not held =
     let z : q + 0 ≡ q = omega arith in
-    let r = stretch_held s q (s (suc q)) (run_up_to s q) refl held in
+    let r = longest_held s q (s (suc q)) (run_up_to s q) refl held in
     let e : run_up_to s (suc (q + 0)) ≡ Some r.0 = ap (λ k. run_up_to s (suc k)) z ∙ r.1 in
-    let o = stretch_is s (suc (q + 0)) r.0 e in
+    let o = longest_is s (suc (q + 0)) r.0 e in
     let high : q < r.0.first = elim (cases_lt q r.0.first) [ inl l ↦ l | inr l ↦ absurd (not (o.held q l (omega arith))) ] in
     Pending r.0 e (omega (arith, high, o.low)) refl
 first_run s q (suc d) pos not held = elim (first_run s q d pos not held) [
@@ -405,7 +405,7 @@ first_run s q (suc d) pos not held = elim (first_run s q d pos not held) [
   | Ended z zs e f others ↦ ended_more s q d z zs not e f others (later_low s q d z (subst (λ (xs : List Run). IsIn z xs) (sym e) (inl refl)))
 ]
 
--- what follows the new stretch
+-- what follows the new run
 on_is_fits : (x z : Run) (v : Number) (p : Part) (b : List ℕ) → v ≡ Held p b → z.first ≡ x.last + 1 → z.front ≡ has_front p → goes_on x v ≡ fits x z
 on_is_fits x z v p b e f g =
     ap (goes_on x) e
@@ -439,7 +439,7 @@ after_new s q d x last pos not stop = elim (held_or (s (suc q))) [
   | inl held ↦ elim (first_run s q d pos not held) [
     | Pending y e f none ↦
         absurd (
-        let o = stretch_is s (suc (q + d)) y e in
+        let o = longest_is s (suc (q + d)) y e in
         stop (o.held (suc (q + d)) o.low (omega arith))
         )
     | Ended z zs e f others ↦
@@ -496,7 +496,7 @@ same_below s r q zero p b g lt = refl
 same_below s r q (suc n) p b g lt =
     ap (λ x. x ++ run_ending (run_up_to r (suc n)) (r (suc (suc n)))) (same_below s r q n p b g (omega arith))
     ∙ ap (λ x. runs_to s n ++ x) (
-    ap (λ o. run_ending o (r (suc (suc n)))) (stretch_same s r (suc n) (λ k l. g.others k (λ e. omega (arith, e, l, lt))))
+    ap (λ o. run_ending o (r (suc (suc n)))) (longest_same s r (suc n) (λ k l. g.others k (λ e. omega (arith, e, l, lt))))
     ∙ sym (ending_same (run_up_to s (suc n)) (s (suc (suc n))) (r (suc (suc n))) (g.others (suc (suc n)) (λ e. omega (arith, e, lt))))
     )
 
@@ -525,11 +525,11 @@ at_new s r (suc n) p b ys g k =
     let x = single (suc m) p b in
     let e = run_ending (run_up_to s m) (s (suc m)) in
     let low : (a : Run) → IsIn a (runs_to s n) → a.last + 1 < x.first = λ a h. omega (arith, (run_of s n a h).low) in
-    let o : run_up_to r m ≡ run_up_to s m = stretch_same s r m (λ i l. g.others i (λ z. omega (arith, z, l))) in
+    let o : run_up_to r m ≡ run_up_to s m = longest_same s r m (λ i l. g.others i (λ z. omega (arith, z, l))) in
     let below : runs_to r n ≡ runs_to s n = same_below s r (suc m) n p b g (omega arith) in
     ap (add_run x) (append_assoc (runs_to s n) e ys)
     ∙ (add_over x (runs_to s n) (e ++ ys) low
-    ∙ (ap (λ zs. runs_to s n ++ zs) (last_before (run_up_to s m) m p b (s (suc m)) ys (λ y f. (stretch_is s m y f).last) g.was k)
+    ∙ (ap (λ zs. runs_to s n ++ zs) (last_before (run_up_to s m) m p b (s (suc m)) ys (λ y f. (longest_is s m y f).last) g.was k)
     ∙ (sym (append_assoc (runs_to s n) (run_ending (run_up_to s m) (Held p b)) (join_next (before (run_up_to s m) x) ys))
     ∙ ap (λ zs. zs ++ join_next (before (run_up_to s m) x) ys) (
     ap (λ zs. zs ++ run_ending (run_up_to s m) (Held p b)) (sym below)
@@ -545,18 +545,18 @@ runs_grow s r m d p b g stop =
     let x0 = single q p b in
     let e : q - 1 ≡ m = omega arith in
     let x : Run = before (run_up_to s m) x0 in
-    let xs : new_stretch s q p b ≡ x = ap (λ k. before (run_up_to s k) x0) e in
+    let xs : new_longest s q p b ≡ x = ap (λ k. before (run_up_to s k) x0) e in
     let ys = later s q d in
     let behind : (a : Run) → IsIn a ys → (x0.first < a.first) × (a.first ≤ a.last) = λ a h. let z = beyond s q d a g.was h in (z.high, z.run.of.low) in
     let k = add_before x0 ys behind in
     let last : x.last ≡ q = before_last (run_up_to s m) x0 in
-    let none : run_ending (run_up_to s q) (s (suc q)) ≡ [] = empty_end (run_up_to s q) (s (suc q)) (stretch_none s q (omega arith) g.was) in
+    let none : run_ending (run_up_to s q) (s (suc q)) ≡ [] = empty_end (run_up_to s q) (s (suc q)) (longest_none s q (omega arith) g.was) in
     let old : runs_to s q ≡ runs_to s m = ap (λ zs. runs_to s m ++ zs) none ∙ append-nil (runs_to s m) in
     let right : add_run x0 (runs_to s (q + d)) ≡ runs_to r m ++ join_next x ys =
     ap (add_run x0) (split s q d ∙ ap (λ zs. zs ++ ys) old) ∙ at_new s r m p b ys g k in
     let joined_next : join_next x ys ≡ run_ending (Some x) (s (suc q)) ++ map (follow x) ys = after_new s q d x last (omega arith) g.was stop in
     let new : runs_to r q ≡ runs_to r m ++ run_ending (Some x) (s (suc q)) =
-    ap (λ o. runs_to r m ++ run_ending o (r (suc q))) (stretch_new s r q p b g ∙ ap (λ z. Some z) xs)
+    ap (λ o. runs_to r m ++ run_ending o (r (suc q))) (longest_new s r q p b g ∙ ap (λ z. Some z) xs)
     ∙ ap (λ zs. runs_to r m ++ zs) (sym (ending_same (Some x) (s (suc q)) (r (suc q)) (g.others (suc q) (λ z. omega (arith, z))))) in
     let follows : later r q d ≡ map (follow x) ys = later_follows s r q p b d g ∙ ap (λ z. map (follow z) ys) xs in
     split r q d

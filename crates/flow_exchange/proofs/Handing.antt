@@ -11,7 +11,7 @@ use Rattle.rtmfp_data_chunks.specs.HandsOver.{IsIn, Differ, HandsOver, HandsOnce
 use Rattle.flow_exchange.specs.Exchange.{World, start, Event, Queued, Abandoned, Finished, Sent, Taken, Told, Heard, Handed, after, May, IsRun, run}
 use Rattle.flow_exchange.proofs.Runs.{whole_is}
 use Rattle.flow_exchange.proofs.Wholes.{in_either, from_wholes, hands_over}
-use Rattle.flow_exchange.proofs.Stretches.{wholes_are}
+use Rattle.flow_exchange.proofs.Longest.{wholes_are}
 use Rattle.flow_exchange.proofs.Ready.{through_low, through_none, through_greatest, zero_known, handed_is}
 use Rattle.flow_exchange.proofs.Kept.{Kept, kept_start, kept_step, stays, still_known, gone_is_abandoned}
 
@@ -154,15 +154,5 @@ arriving_step w (Handed m) k may = record {
   differ = differ_push w.handed m k.differ (λ x h e. no_number m.number w.handed x may.1 h e);
 }
 
-arriving_run : (w : World) (es : List Event) → Arriving w → IsRun true w es → Arriving (run w es)
-arriving_run w [] k r = k
-arriving_run w (e ∷ es) k r = arriving_run (after w e) es (arriving_step w e k r.0) r.1
-
 pub arriving_start : (first : ℕ) → 1 ≤ first → Arriving (start first)
 arriving_start first one = record { kept = kept_start first one; handed = λ m h. absurd h; differ = tt }
-
-pub as_they_arrive : (first : ℕ) (es : List Event) → 1 ≤ first → IsRun true (start first) es
-    → HandsOnce (run (start first) es).queued (run (start first) es).handed
-as_they_arrive first es one r =
-    let k = arriving_run (start first) es (arriving_start first one) r in
-    record { differ = k.differ; were_queued = k.handed }

@@ -2,7 +2,7 @@ pub mod Fragments
 pub mod Ends
 pub mod Runs
 pub mod Wholes
-pub mod Stretches
+pub mod Longest
 pub mod Kept
 pub mod Ready
 pub mod Handing

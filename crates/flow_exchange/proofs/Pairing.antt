@@ -12,7 +12,7 @@ use Rattle.flow_send.specs.Sender.{Sender, next_of, waits, first_number, overdue
 use Rattle.flow_send.specs.Choice.{choice, chunk_for}
 use Rattle.flow_send.specs.Acks.{told_by, greatest}
 use Rattle.rtmfp_data_chunks.specs.HandsOver.{IsIn, HandsOver, HandsOnce}
-use Rattle.flow_exchange.specs.Exchange.{Ack, InRanges, Acknowledges, World, start, Event, Queued, Abandoned, Finished, Sent, Taken, Told as Ack_sent, Heard, Handed, after, Fragment_of, Notice, End_of, MaySend, May, IsNext}
+use Rattle.flow_exchange.specs.Exchange.{Ack, InSpans, Acknowledges, World, start, Event, Queued, Abandoned, Finished, Sent, Taken, Told as Ack_sent, Heard, Handed, after, Fragment_of, Notice, End_of, MaySend, May, IsNext}
 use Rattle.flow_exchange.specs.Sending.{queues, finishes, abandons, abandons_one, sends}
 use Rattle.flow_recv.specs.Acking.{later_spans}
 use Rattle.flow_exchange.specs.Pair.{Happening, Queues, Abandons, AbandonsFirst, AbandonsOverdue, Finishes, Loses, Sends, Takes, Hands, Acks, Hears, Pair, pair, sender_of, with_sender, refuses, takes, hands_next, span_pair, ack_by, hears, happens, exchanged}
@@ -223,7 +223,7 @@ or_true : (a b : Bool) → b ≡ true → (a || b) ≡ true
 or_true true b e = refl
 or_true false b e = e
 
-known_range : (spans : List Span) (k n : ℕ) → InRanges n (map span_pair (take k spans)) → knows spans n ≡ true
+known_range : (spans : List Span) (k n : ℕ) → InSpans n (map span_pair (take k spans)) → knows spans n ≡ true
 known_range spans zero n h = absurd h
 known_range [] (suc k) n h = absurd h
 known_range (s ∷ spans) (suc k) n (inl e) =
@@ -232,7 +232,7 @@ known_range (s ∷ spans) (suc k) n (inl e) =
     (rw (a, b) refl)
 known_range (s ∷ spans) (suc k) n (inr h) = or_true (covers n s) (knows spans n) (known_range spans k n h)
 
-known_told : (spans : List Span) (k n : ℕ) → FromZero spans → (n ≤ end_of_first spans) ⊎ InRanges n (map span_pair (take k (later_spans spans))) → knows spans n ≡ true
+known_told : (spans : List Span) (k n : ℕ) → FromZero spans → (n ≤ end_of_first spans) ⊎ InSpans n (map span_pair (take k (later_spans spans))) → knows spans n ≡ true
 known_told [] k n z h = absurd z
 known_told (s ∷ later) k n z (inl le) = known_first s later n z le
 known_told (s ∷ later) k n z (inr h) = or_true (covers n s) (knows later n) (known_range later k n h)
@@ -255,11 +255,11 @@ acks_linked arriving p pairs l =
     }
 
 hears_if : (arriving : Bool) (p : Pair) (blocks : ℕ) (a : Ack) (t : Bool) → IsIn a p.world.told → Linked arriving p
-    → Linked arriving (cond t p (record { sender = told_by (record { blocks = blocks; upto = a.upto; ranges = a.ranges }) p.sender; receiver = p.receiver; world = after p.world (Heard a) }))
+    → Linked arriving (cond t p (record { sender = told_by (record { blocks = blocks; upto = a.upto; spans = a.spans }) p.sender; receiver = p.receiver; world = after p.world (Heard a) }))
 hears_if arriving p blocks a true i l = l
 hears_if arriving p blocks a false i l = record {
   order = l.order;
-  speaks = heard_speaks p.sender p.world (record { blocks = blocks; upto = a.upto; ranges = a.ranges }) l.speaks;
+  speaks = heard_speaks p.sender p.world (record { blocks = blocks; upto = a.upto; spans = a.spans }) l.speaks;
   stood = l.stood;
   proper = l.proper;
   sent = l.sent;
@@ -268,7 +268,7 @@ hears_if arriving p blocks a false i l = record {
 
 hears_linked : (arriving : Bool) (p : Pair) (k blocks : ℕ) (o : Option Ack) → slice_get p.world.told k ≡ o → Linked arriving p → Linked arriving (hears p blocks o)
 hears_linked arriving p k blocks None e l = l
-hears_linked arriving p k blocks (Some a) e l = hears_if arriving p blocks a (nat_lt p.sender.sent (greatest a.upto a.ranges)) (get_in p.world.told k a e) l
+hears_linked arriving p k blocks (Some a) e l = hears_if arriving p blocks a (nat_lt p.sender.sent (greatest a.upto a.spans)) (get_in p.world.told k a e) l
 
 linked_step : (arriving : Bool) (p : Pair) (e : Happening) → Linked arriving p → Linked arriving (happens p e)
 linked_step arriving p (Queues bytes options) l = queues_linked arriving p bytes options p.sender.finish refl l

@@ -9,7 +9,7 @@ use Rattle.rtmfp_data_chunks.specs.Runs.{Chunk, Number, Missing, Held, GivenUp, 
 use Rattle.rtmfp_data_chunks.specs.HandsOver.{IsIn}
 use Rattle.flow_exchange.proofs.Ends.{wholes_to}
 use Rattle.flow_exchange.proofs.Wholes.{IsHeld, in_either}
-use Rattle.flow_exchange.proofs.Stretches.{StretchOf, stretch_is, wholes_are}
+use Rattle.flow_exchange.proofs.Longest.{LongestOf, longest_is, wholes_are}
 use Rattle.flow_exchange.proofs.Kept.{still_known}
 
 -- the greatest number at or below which none is missing
@@ -76,8 +76,8 @@ missing_or GivenUp = inr (λ e. cc)
 
 -- what a run is
 pub record RunOf (s : ℕ → Number) (n : ℕ) (y : Run) : Type 0 where
-  pub stretches : run_up_to s y.last ≡ Some y
-  pub of : StretchOf s y.last y
+  pub longest : run_up_to s y.last ≡ Some y
+  pub of : LongestOf s y.last y
   pub low : y.last ≤ n
   pub stops : goes_on y (s (suc y.last)) ≡ false
 
@@ -90,18 +90,18 @@ run_ending_of : (s : ℕ → Number) (n : ℕ) (o : Option Run) (z : Run) → ru
 run_ending_of s n None z e h = absurd h
 run_ending_of s n (Some y) z e h =
     let r = ending_of y z (goes_on y (s (suc n))) h in
-    let o = stretch_is s n y e in
+    let o = longest_is s n y e in
     subst (λ (x : Run). RunOf s n x) (sym r.1) (
     record {
-      stretches = ap (run_up_to s) o.last ∙ e;
-      of = stretch_is s y.last y (ap (run_up_to s) o.last ∙ e);
+      longest = ap (run_up_to s) o.last ∙ e;
+      of = longest_is s y.last y (ap (run_up_to s) o.last ∙ e);
       low = omega (arith, o.last);
       stops = ap (λ x. goes_on y (s (suc x))) o.last ∙ r.0;
     }
     )
 
 run_low : (s : ℕ → Number) (n m : ℕ) (y : Run) → n ≤ m → RunOf s n y → RunOf s m y
-run_low s n m y le r = record { stretches = r.stretches; of = r.of; low = omega (arith, r.low, le); stops = r.stops }
+run_low s n m y le r = record { longest = r.longest; of = r.of; low = omega (arith, r.low, le); stops = r.stops }
 
 pub run_of : (s : ℕ → Number) (n : ℕ) (y : Run) → IsIn y (runs_to s n) → RunOf s n y
 unfolding runs_to
@@ -144,7 +144,7 @@ held_not_missing GivenUp h e = h
 none_ending : (s : ℕ → Number) (t n : ℕ) (o : Option Run) (next : Number) → run_up_to s n ≡ o → t < n → s (suc t) ≡ Missing → filter (is_ready t) (run_ending o next) ≡ []
 none_ending s t n None next e lt miss = refl
 none_ending s t n (Some y) next e lt miss =
-    let o = stretch_is s n y e in
+    let o = longest_is s n y e in
     let high : t < y.first = elim (cases_lt t y.first) [ inl l ↦ l | inr l ↦ absurd (held_not_missing (s (suc t)) (o.held (suc t) (omega (arith, l)) (omega arith)) miss) ] in
     none_of t y (goes_on y next) (not_ready_if y t (is_whole y) (lt-leb y.first t high))
 

@@ -12,9 +12,9 @@ use Rattle.flow_send.specs.declared.waiting.Waiting.{Waiting}
 use Rattle.flow_send.specs.Rows.{Row, end_row, is_acknowledged, is_settled, is_flying, is_lost, is_unsent, let_go, map_rows, settled_front}
 use Rattle.flow_send.specs.Sender.{Sender, new_sender, next_of, with_rows, new_row, rows_of, waiting_of, queued, has_number, message_at, without_message, waits, give_up, give_up_row, first_number, overdue, abandoned_with, abandoned, finished, is_late, lost_if_late, lost_late}
 use Rattle.flow_send.specs.Choice.{Choice, Nothing, Send, Notify, first_in, within_limit, choice_bytes, or_else, is_quiet, next_choice, choice, chunk_for, count_up, sent_row, put_at, sent_after}
-use Rattle.flow_send.specs.Acks.{Told, in_range, tells, acknowledge, acknowledge_row, is_third, count_ack, last_place, rows_acknowledged, rows_told, still_waits, told_by}
+use Rattle.flow_send.specs.Acks.{Told, in_span, tells, acknowledge, acknowledge_row, is_third, count_ack, last_ordinal, rows_acknowledged, rows_told, still_waits, told_by}
 use Rattle.rtmfp_data_chunks.specs.HandsOver.{IsIn}
-use Rattle.flow_exchange.specs.Exchange.{Ack, InRanges, Acknowledges, World, start, Queued, Abandoned as Gave_up, Finished, Sent, Heard, after, IsAbandoned, IsAcknowledged, IsSettled, Tells, Fragment_of, Notice, End_of, MaySend}
+use Rattle.flow_exchange.specs.Exchange.{Ack, InSpans, Acknowledges, World, start, Queued, Abandoned as Gave_up, Finished, Sent, Heard, after, IsAbandoned, IsAcknowledged, IsSettled, Tells, Fragment_of, Notice, End_of, MaySend}
 use Rattle.flow_exchange.specs.Sending.{Act, Queues, Abandons, AbandonsFirst, AbandonsOverdue, Finishes, Loses, Sends, Hears, Sending, begun, queues, finishes, abandons, abandons_one, sends, ack_of, acts, all_acts, SpeaksTrue}
 use Rattle.flow_exchange.proofs.Fragments.{Laid, found, found_still}
 
@@ -433,8 +433,8 @@ put_if : (w : World) (n k : ℕ) (new x : Row) (t : Bool) → (k == n) ≡ t →
 put_if w n k new x true e s h = subst (λ (i : ℕ). Stands w i new) (sym (eqb-true k n e)) s
 put_if w n k new x false e s h = h
 
-sent_stands : (w : World) (n moment place : ℕ) (r : Row) → is_settled r.state ≡ false → Stands w n r → Stands w n (sent_row moment place r)
-sent_stands w n moment place r o s = record { fragment = λ e f. s.fragment e o; end = s.end; acked = λ e. absurd cc; given_up = λ e. absurd cc }
+sent_stands : (w : World) (n moment ordinal : ℕ) (r : Row) → is_settled r.state ≡ false → Stands w n r → Stands w n (sent_row moment ordinal r)
+sent_stands w n moment ordinal r o s = record { fragment = λ e f. s.fragment e o; end = s.end; acked = λ e. absurd cc; given_up = λ e. absurd cc }
 
 sent_with : (s : Sender) (w : World) (moment resend : ℕ) (o : Choice) → Speaks s w → choice moment resend s ≡ o → Speaks (sent_after moment o s) w
 sent_with s w moment resend Nothing k e = k
@@ -451,15 +451,15 @@ or_cases : (a b : Bool) → (a || b) ≡ true → (a ≡ true) ⊎ (b ≡ true)
 or_cases true b e = inl refl
 or_cases false b e = inr e
 
-in_ranges : (n : ℕ) (ranges : List (ℕ × ℕ)) → list_any (in_range n) ranges ≡ true → InRanges n ranges
-in_ranges n [] e = absurd cc
-in_ranges n (p ∷ ranges) e = elim (or_cases (nat_le p.0 n && nat_le n p.1) (list_any (in_range n) ranges) e) [
+in_spans : (n : ℕ) (spans : List (ℕ × ℕ)) → list_any (in_span n) spans ≡ true → InSpans n spans
+in_spans n [] e = absurd cc
+in_spans n (p ∷ spans) e = elim (or_cases (nat_le p.0 n && nat_le n p.1) (list_any (in_span n) spans) e) [
   | inl a ↦ let b = and_cases (nat_le p.0 n) (nat_le n p.1) a in inl (leb-true p.0 n b.0, leb-true n p.1 b.1)
-  | inr a ↦ inr (in_ranges n ranges a)
+  | inr a ↦ inr (in_spans n spans a)
 ]
 
 tells_true : (a : Told) (n : ℕ) → tells a n ≡ true → Acknowledges (ack_of a) n
-tells_true a n e = elim (or_cases (nat_le n a.upto) (list_any (in_range n) a.ranges) e) [ inl x ↦ inl (leb-true n a.upto x) | inr x ↦ inr (in_ranges n a.ranges x) ]
+tells_true a n e = elim (or_cases (nat_le n a.upto) (list_any (in_span n) a.spans) e) [ inl x ↦ inl (leb-true n a.upto x) | inr x ↦ inr (in_spans n a.spans x) ]
 
 acked_row_if : (w : World) (a : Told) (n : ℕ) (r : Row) (t : Bool) → IsIn (ack_of a) w.heard → tells a n ≡ true → Stands w n r → Stands w n (cond t r (let_go Acknowledged r))
 acked_row_if w a n r true i e s = s
@@ -477,10 +477,10 @@ acked_if w a n r false i e s = s
 counted_stands : (w : World) (n acks : ℕ) (r : Row) → Stands w n r → Stands w n (record r { acks = acks })
 counted_stands w n acks r s = record { fragment = s.fragment; end = s.end; acked = s.acked; given_up = s.given_up }
 
-count_if : (w : World) (n place : ℕ) (r : Row) (t u : Bool) → is_third place r ≡ t → Stands w n r → Stands w n (cond t (record r { state = Lost }) (cond u (record r { acks = r.acks + 1 }) r))
-count_if w n place r true u e s = open_stands w n r Lost refl (flying_open r.state ((and_cases (is_flying r.state) (nat_lt r.place place) ((and_cases (is_flying r.state && nat_lt r.place place) (nat_le 2 r.acks) e).0)).0)) s
-count_if w n place r false true e s = counted_stands w n (r.acks + 1) r s
-count_if w n place r false false e s = s
+count_if : (w : World) (n ordinal : ℕ) (r : Row) (t u : Bool) → is_third ordinal r ≡ t → Stands w n r → Stands w n (cond t (record r { state = Lost }) (cond u (record r { acks = r.acks + 1 }) r))
+count_if w n ordinal r true u e s = open_stands w n r Lost refl (flying_open r.state ((and_cases (is_flying r.state) (nat_lt r.ordinal ordinal) ((and_cases (is_flying r.state && nat_lt r.ordinal ordinal) (nat_le 2 r.acks) e).0)).0)) s
+count_if w n ordinal r false true e s = counted_stands w n (r.acks + 1) r s
+count_if w n ordinal r false false e s = s
 
 await_filter_if : (w : World) (y : Waiting) (less : List Waiting) (t : Bool) → Awaits w y → AllAwait w less → AllAwait w (cond t (y ∷ less) less)
 await_filter_if w y less true a h = (a, h)
@@ -496,12 +496,12 @@ heard_speaks s w a k =
     let g : Goes w v = record { first = refl; fragments = λ i f e. e; queued = λ x i. i; abandoned = λ j i. i; heard = λ b i. inr i; finish = λ j e. e } in
     let kv = goes_on s w v k g k.laid refl refl in
     let at = s.forward + 1 in
-    let place = last_place a at s.rows in
+    let ordinal = last_ordinal a at s.rows in
     let first = rows_acknowledged a s in
     let acked = all_map v (acknowledge a) at s.rows (λ n r h. acked_if v a n r (tells a n) (inl refl) refl h) kv.rows in
     let rows = rows_told a s in
-    let all = all_plain v (count_ack place) at first (λ n r h. count_if v n place r (is_third place r) (is_flying r.state && nat_lt r.place place) refl h) acked in
-    let length_is = plain_length (count_ack place) first ∙ map_length (acknowledge a) at s.rows in
+    let all = all_plain v (count_ack ordinal) at first (λ n r h. count_if v n ordinal r (is_third ordinal r) (is_flying r.state && nat_lt r.ordinal ordinal) refl h) acked in
+    let length_is = plain_length (count_ack ordinal) first ∙ map_length (acknowledge a) at s.rows in
     let m = moved s v rows (filter (still_waits at rows) s.waiting) kv length_is all (await_filter v (still_waits at rows) s.waiting kv.waiting) in
     record { laid = m.laid; finish = m.finish; awaits = m.awaits; settled = m.settled; rows = m.rows; waiting = m.waiting }
 

@@ -92,7 +92,7 @@ sorted_runs s (suc n) = sorted_push (runs_to s n) (run_ending (run_up_to s (suc 
       | inl l ↦ l
       | inr l ↦
           let i = inner s (suc n) y.last z e l (omega (arith, ry.low)) in
-          let same : y ≡ i.run = let p : Some y ≡ Some i.run = sym ry.stretches ∙ i.is in cc in
+          let same : y ≡ i.run = let p : Some y ≡ Some i.run = sym ry.longest ∙ i.is in cc in
           absurd (let x : false ≡ true = sym ry.stops ∙ (ap (λ w. goes_on w (s (suc y.last))) same ∙ i.on) in cc)
     ]
     )
@@ -119,9 +119,6 @@ old_runs chunks handed q hs miss y h =
     not_not : (b : Bool) → not b ≡ false → b ≡ true
     not_not true e = refl
     not_not false e = absurd cc
-
-number_known : (c : Chunk) (earlier : List Chunk) (n : ℕ) → is_missing (number_of earlier n) ≡ false → is_missing (number_of (c ∷ earlier) n) ≡ false
-number_known c earlier n e = missing_after c earlier n ∙ ap (λ x. x && not ((n == c.seq) || nat_le n c.forward)) e
 
 missing_before : (c : Chunk) (earlier : List Chunk) (n : ℕ) → missing_of (c ∷ earlier) n ≡ true → missing_of earlier n ≡ true
 missing_before c earlier n e = before_if (missing_of earlier n) (not ((n == c.seq) || nat_le n c.forward)) (sym (missing_after c earlier n) ∙ e)

@@ -1,22 +1,24 @@
 -- One sender and one receiver over a network that loses, repeats and reorders.
-use Rattle.std.specs.Prelude.{ℕ, ◌≡◌, ◌≢◌, ◌<◌, ◌≤◌, ◌⊎◌, Bool, true, false, List, [], ◌∷◌, ◌++◌, Option, Some, None, length, slice_get, map}
+use Rattle.std.specs.Prelude.{ℕ, ◌≡◌, ◌≢◌, ◌<◌, ◌≤◌, ◌⊎◌, Bool, true, false, List, [], ◌∷◌, ◌++◌}
+use Rattle.std.specs.Prelude.{Option, Some, None, length, slice_get, map}
 use Rattle.std.specs.List.{filter}
 use Rattle.rtmfp_data_chunks.specs.Fragments.{Message, Spans, fragment_of, next_number}
-use Rattle.rtmfp_data_chunks.specs.Runs.{Chunk, Missing, number_of, handed_in_order, runs_of, is_whole, message_of, has_number}
+use Rattle.rtmfp_data_chunks.specs.Runs.{Chunk, Missing, number_of, handed_in_order, runs_of}
+use Rattle.rtmfp_data_chunks.specs.Runs.{is_whole, message_of, has_number}
 use Rattle.rtmfp_data_chunks.specs.HandsOver.{IsIn}
 
--- an ack: all at or below a number, and stretches above
+-- an ack: all at or below a number, and spans above
 pub record Ack : Type 0 where
   pub upto : ℕ
-  pub ranges : List (ℕ × ℕ)
+  pub spans : List (ℕ × ℕ)
 
-abbrev pub InRanges : ℕ → List (ℕ × ℕ) → Type 0
-InRanges n [] = ⊥
-InRanges n (r ∷ rs) = ((r.0 ≤ n) × (n ≤ r.1)) ⊎ InRanges n rs
+abbrev pub InSpans : ℕ → List (ℕ × ℕ) → Type 0
+InSpans n [] = ⊥
+InSpans n (r ∷ rs) = ((r.0 ≤ n) × (n ≤ r.1)) ⊎ InSpans n rs
 
 -- the ack acknowledges number n
 abbrev pub Acknowledges : Ack → ℕ → Type 0
-Acknowledges a n = (n ≤ a.upto) ⊎ InRanges n a.ranges
+Acknowledges a n = (n ≤ a.upto) ⊎ InSpans n a.spans
 
 -- what has happened so far, each list with the newest first but for the messages handed
 pub record World : Type 0 where

@@ -1,16 +1,19 @@
 -- One sender and one receiver, over a network that loses, repeats and reorders. Every list of
 -- events is allowed.
-use Rattle.std.specs.Prelude.{ℕ, ◌||◌, if◌then◌else◌, nat_lt, Bool, List, [], ◌∷◌, map, take, Option, Some, None, slice_get}
+use Rattle.std.specs.Prelude.{ℕ, ◌||◌, if◌then◌else◌, nat_lt, Bool, List, [], ◌∷◌, map, take}
+use Rattle.std.specs.Prelude.{Option, Some, None, slice_get}
 use Rattle.std.specs.Option.{is_some}
 use Rattle.flow_recv.specs.declared.spans.Span.{Span}
 use Rattle.rtmfp_data_chunks.specs.Runs.{Chunk, Run, message_of}
 use Rattle.flow_recv.specs.Acking.{later_spans}
-use Rattle.flow_recv.specs.Receiver.{Receiver, fresh, taken, after_final, beyond_buffer, end_of_first, next_run, handed_next}
+use Rattle.flow_recv.specs.Receiver.{Receiver, fresh, taken, after_final, beyond_buffer}
+use Rattle.flow_recv.specs.Receiver.{end_of_first, next_run, handed_next}
 use Rattle.flow_send.specs.declared.waiting.MessageOptions.{MessageOptions}
 use Rattle.flow_send.specs.Sender.{Sender, new_sender, first_number, overdue, lost_late}
 use Rattle.flow_send.specs.Choice.{choice, chunk_for}
 use Rattle.flow_send.specs.Acks.{greatest, told_by}
-use Rattle.flow_exchange.specs.Exchange.{Ack, World, start, Taken, Told as Ack_sent, Heard, Handed, after}
+use Rattle.flow_exchange.specs.Exchange.{Ack, World, start, Taken, Told as Ack_sent, Heard, Handed}
+use Rattle.flow_exchange.specs.Exchange.{after}
 use Rattle.flow_exchange.specs.Sending.{Sending, queues, finishes, abandons_one, sends}
 
 -- Takes and Hears name a chunk or an ack that was ever sent, so that each may come again, late or
@@ -75,16 +78,16 @@ span_pair s = (s.first, s.last)
 abbrev pub ack_by : Receiver → ℕ → Ack
 ack_by r pairs = record {
   upto = end_of_first r.spans;
-  ranges = map span_pair (take pairs (later_spans r.spans));
+  spans = map span_pair (take pairs (later_spans r.spans));
 }
 
 -- an ack beyond the highest number sent is refused
 abbrev pub hears : Pair → ℕ → Option Ack → Pair
 hears p blocks None = p
 hears p blocks (Some a) =
-    if nat_lt p.sender.sent (greatest a.upto a.ranges) then p
+    if nat_lt p.sender.sent (greatest a.upto a.spans) then p
     else record {
-      sender = told_by (record { blocks = blocks; upto = a.upto; ranges = a.ranges })
+      sender = told_by (record { blocks = blocks; upto = a.upto; spans = a.spans })
           p.sender;
       receiver = p.receiver;
       world = after p.world (Heard a);

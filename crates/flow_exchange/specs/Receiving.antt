@@ -1,13 +1,18 @@
 -- Any calls of a receiver, one after another.
-use Rattle.std.specs.Prelude.{ℕ, ◌≡◌, ◌+◌, ◌<◌, ◌≤◌, nat_lt, if◌then◌else◌, not, ◌&&◌, ◌||◌, ◌==◌, Bool, true, false, List, [], ◌∷◌, ◌++◌, Option, Some, None, length, slice_get}
+use Rattle.std.specs.Prelude.{ℕ, ◌≡◌, ◌+◌, ◌<◌, ◌≤◌, nat_lt, if◌then◌else◌, not, ◌&&◌, ◌||◌, ◌==◌}
+use Rattle.std.specs.Prelude.{Bool, true, false, List, [], ◌∷◌, ◌++◌, Option, Some, None, length}
+use Rattle.std.specs.Prelude.{slice_get}
 use Rattle.std.specs.Option.{option_map}
 use Rattle.rtmfp_data_chunks.specs.Fragments.{Message}
 use Rattle.rtmfp_data_chunks.specs.HandsOver.{IsIn}
 use Rattle.rtmfp_data_chunks.specs.declared.user_data.Part.TheVariants.{Whole}
-use Rattle.rtmfp_data_chunks.specs.Runs.{Chunk, Run, is_whole, has_number, highest, missing_of, through_of, runs_of, bytes_held, message_of, handed_in_order}
+use Rattle.rtmfp_data_chunks.specs.Runs.{Chunk, Run, is_whole, has_number, highest, missing_of}
+use Rattle.rtmfp_data_chunks.specs.Runs.{through_of, runs_of, bytes_held, message_of}
+use Rattle.rtmfp_data_chunks.specs.Runs.{handed_in_order}
 use Rattle.flow_recv.specs.declared.outcome.FlowRefusal.{FlowRefusal}
 use Rattle.flow_recv.specs.declared.outcome.FlowRefusal.TheVariants.{AfterFinal, BeyondBuffer}
-use Rattle.flow_recv.specs.Receiver.{Receiver, fresh, taken, next_run, handed_next, held_in, through_in}
+use Rattle.flow_recv.specs.Receiver.{Receiver, fresh, taken, next_run, handed_next, held_in}
+use Rattle.flow_recv.specs.Receiver.{through_in}
 use Rattle.flow_recv.specs.Outcome.{refusal}
 use Rattle.flow_exchange.specs.Stands.{last_of}
 

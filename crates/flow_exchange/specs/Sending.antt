@@ -2,10 +2,12 @@
 use Rattle.std.specs.Prelude.{ℕ, ◌≡◌, Bool, true, false, List, [], ◌∷◌, Option, Some, None}
 use Rattle.rtmfp_data_chunks.specs.Runs.{Chunk}
 use Rattle.flow_send.specs.declared.waiting.MessageOptions.{MessageOptions}
-use Rattle.flow_send.specs.Sender.{Sender, new_sender, next_of, queued, waits, abandoned, first_number, overdue, finished, lost_late}
+use Rattle.flow_send.specs.Sender.{Sender, new_sender, next_of, queued, waits, abandoned}
+use Rattle.flow_send.specs.Sender.{first_number, overdue, finished, lost_late}
 use Rattle.flow_send.specs.Choice.{Choice, choice, chunk_for, sent_after}
 use Rattle.flow_send.specs.Acks.{Told, told_by}
-use Rattle.flow_exchange.specs.Exchange.{Ack, World, start, Queued, Abandoned, Finished, Sent, Heard, after, MaySend}
+use Rattle.flow_exchange.specs.Exchange.{Ack, World, start, Queued, Abandoned, Finished, Sent}
+use Rattle.flow_exchange.specs.Exchange.{Heard, after, MaySend}
 
 pub data Act : Type 0 where
   Queues : (bytes : List ℕ) → (options : MessageOptions) → Act
@@ -57,7 +59,7 @@ sends w moment chosen (Some c) = record {
 }
 
 abbrev pub ack_of : Told → Ack
-ack_of a = record { upto = a.upto; ranges = a.ranges }
+ack_of a = record { upto = a.upto; spans = a.spans }
 
 abbrev pub acts : Sending → Act → Sending
 acts w (Queues bytes options) = queues w bytes options w.sender.finish

@@ -5,7 +5,8 @@ ghost use Rattle.rtmfp_data_chunks.specs.HandsOver.{HandsOver, HandsOnce};
 ghost use Rattle.flow_exchange.specs.Pair.{Happening, exchanged, pair};
 ghost use Rattle.flow_exchange.specs.Sending.{Act, all_acts, begun, SpeaksTrue};
 ghost use Rattle.flow_exchange.specs.Stands.{StandsFor};
-ghost use Rattle.flow_exchange.specs.Receiving.{Call, AllProper, all_calls, at_first, HandsInOrder, AllHanded, HandsLowest, Counts, RefusesBy};
+ghost use Rattle.flow_exchange.specs.Receiving.{Call, AllProper, all_calls, at_first, HandsInOrder};
+ghost use Rattle.flow_exchange.specs.Receiving.{AllHanded, HandsLowest, Counts, RefusesBy};
 
 /// Whatever chunks a receiver takes and however often it hands over, what it keeps stands for them.
 /// In queueing order it hands over what is to be handed over, one message after another. In arrival

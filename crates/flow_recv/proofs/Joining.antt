@@ -1,4 +1,4 @@
--- What an answer passes on, and elements by their places.
+-- What an answer passes on, and elements by their indices.
 use Rattle.std.proofs.Common.{◌≡◌, ℕ, zero, suc, ◌<◌, true, false, List, [], ◌∷◌, length, get_or, refl, arith}
 use Rattle.std.specs.Prelude.{Result, Ok, Err, OnOk, OnErr}
 use Rattle.std.specs.Result.{is_ok}
@@ -19,8 +19,3 @@ from_ok (Err v) e h = absurd cc
 pub from_err : {T E : Type 0} {P : Type 0} (r : Result T E) → false ≡ is_ok r → OnErr r P → P
 from_err (Ok v) e h = absurd cc
 from_err (Err v) e h = h
-
-pub any_default : {X : Type 0} (xs : List X) (at : ℕ) (d e : X) → at < length xs → get_or xs at d ≡ get_or xs at e
-any_default [] at d e lt = absurd (omega arith)
-any_default (x ∷ xs) zero d e lt = refl
-any_default (x ∷ xs) (suc at) d e lt = any_default xs at d e (omega arith)

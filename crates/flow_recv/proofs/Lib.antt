@@ -19,6 +19,7 @@ pub mod Spots
 pub mod Keeping
 pub mod Finding
 pub mod Placing
+pub mod Putting
 pub mod Walking
 pub mod Passing
 pub mod Wholes

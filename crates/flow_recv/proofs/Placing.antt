@@ -124,11 +124,6 @@ not_following x runs f h b n = λ y i. unfit (fits x y) (λ e.
 
 -- ---- a fragment that is added
 
-low_none : (n low : ℕ) (runs : List Run) → n < low → InOrder low runs → run_at n runs ≡ None
-low_none n low [] lt h = refl
-low_none n low (y ∷ later) lt h =
-    ap (λ t. cond t (Some y) (run_at n later)) (ne_eqb y.first n (λ e. omega (arith, e, lt, h.0))) ∙ low_none n (y.last + 1) later (omega (arith, lt, h.0, h.1)) h.2
-
 -- a run below the fragment that doesn't fit is passed
 passed : (x y : Run) (later : List Run) → fits y x ≡ false → y.last < x.first → add_run x (y ∷ later) ≡ y ∷ add_run x later
 passed x y later f lt = rw (f, lt-ltb y.last x.first lt) refl
@@ -341,11 +336,6 @@ neighbours_apart runs x f g s h a c =
     let q = fits_parts x z.0 z.2 in
     let n = i.1 in
     ne_eqb f g (λ e. omega (arith, e, n, m, l.1, p.0, q.0, s))
-
-pub both_first : (runs : List Run) (x b : Run) (g : ℕ) → IsSomeAnd (run_at g runs) (λ z. fits x z ≡ true) → IfSome (run_at g runs) (λ z. b ≡ joined x z) → b.first ≡ x.first
-both_first runs x b g c e =
-    let z = opens_if (run_at g runs) (λ v. fits x v ≡ true) c in
-    ap (λ (w : Run). w.first) (if_there (run_at g runs) z.0 (λ v. b ≡ joined x v) z.1 e)
 
 pub put_both : (runs : List Run) (x b : Run) (g : ℕ) → x.first ≡ x.last → InOrder 0 runs → IsFree x.first runs → IsFollowed x runs None → IsSomeAnd (run_at g runs) (λ z. fits x z ≡ true)
     → IfSome (run_at g runs) (λ z. b ≡ joined x z) → without_run g (with_run b runs) ≡ add_run x runs

@@ -8,7 +8,7 @@ use Rattle.rtmfp_data_chunks.specs.Fields.{NumbersSpell}
 use Rattle.rtmfp_data_chunks.specs.Runs.{Chunk}
 use Rattle.flow_recv.specs.declared.spans.Span.{Span}
 use Rattle.flow_recv.specs.Receiver.{Receiver, Apart, span, covers, knows, spans_after, taken}
-use Rattle.flow_recv.specs.Acking.{pair_bytes, pairs_in, stretches_in}
+use Rattle.flow_recv.specs.Acking.{pair_bytes, pairs_in, spans_in}
 use Rattle.flow_recv.proofs.Knowing.{Formed, lacks_after}
 use Rattle.flow_recv.proofs.Pairs.{next_span}
 
@@ -29,13 +29,13 @@ pair_spells after s up fit =
     append_nil (x ∷ xs) = ap (λ ys. x ∷ ys) (append_nil xs)
 
 tell_if : (room after : ℕ) (s : Span) (later : List Span) (t : Bool) → after + 1 < s.first → s.first ≤ s.last → s.last < 2 ^ 64
-    → PairsTell s.last (stretches_in (room - length (pair_bytes after s)) s.last later) (pairs_in (room - length (pair_bytes after s)) s.last later)
-    → PairsTell after (cond t [] ((s.first, s.last) ∷ stretches_in (room - length (pair_bytes after s)) s.last later)) (cond t [] (pair_bytes after s ++ pairs_in (room - length (pair_bytes after s)) s.last later))
+    → PairsTell s.last (spans_in (room - length (pair_bytes after s)) s.last later) (pairs_in (room - length (pair_bytes after s)) s.last later)
+    → PairsTell after (cond t [] ((s.first, s.last) ∷ spans_in (room - length (pair_bytes after s)) s.last later)) (cond t [] (pair_bytes after s ++ pairs_in (room - length (pair_bytes after s)) s.last later))
 tell_if room after s later true lo up fit ih = refl
 tell_if room after s later false lo up fit ih =
     (pair_bytes after s, pairs_in (room - length (pair_bytes after s)) s.last later, refl, omega (arith, lo), up, fit, pair_spells after s up fit, ih)
 
-pub pairs_tell : (room after : ℕ) (above : List Span) → Apart (span 0 after ∷ above) → AllFit above → PairsTell after (stretches_in room after above) (pairs_in room after above)
+pub pairs_tell : (room after : ℕ) (above : List Span) → Apart (span 0 after ∷ above) → AllFit above → PairsTell after (spans_in room after above) (pairs_in room after above)
 pairs_tell room after [] a f = refl
 pairs_tell room after (s ∷ later) a f =
     let n = next_span after s later a in

@@ -1,5 +1,6 @@
 -- The spans above the first one, as a map has them: from their first numbers to their last ones.
-use Rattle.std.specs.Prelude.{ℕ, ◌≡◌, ◌+◌, ◌^◌, ◌<◌, ◌≤◌, ◌==◌, nat_le, nat_lt, if◌then◌else◌, List, [], ◌∷◌, Option, Some, None}
+use Rattle.std.specs.Prelude.{ℕ, ◌≡◌, ◌+◌, ◌^◌, ◌<◌, ◌≤◌, ◌==◌, nat_le, nat_lt, if◌then◌else◌, List}
+use Rattle.std.specs.Prelude.{[], ◌∷◌, Option, Some, None}
 use Rattle.std.specs.Option.{unwrap_or}
 use Rattle.flow_recv.specs.declared.spans.Span.{Span}
 use Rattle.flow_recv.specs.declared.spans.Spot.{Spot}
@@ -38,7 +39,7 @@ with_end n last [] = []
 with_end n last (s ∷ later) = if n == s.first then span s.first last ∷ later
     else s ∷ with_end n last later
 
--- with a number as a span of its own, at its place
+-- with a number as a span of its own, in its order
 abbrev pub with_number : ℕ → List Span → List Span
 with_number n [] = span n n ∷ []
 with_number n (s ∷ later) =

@@ -21,12 +21,12 @@ pairs_in room after (s ∷ later) =
     if nat_lt room (length (pair_bytes after s)) then []
     else pair_bytes after s ++ pairs_in (room - length (pair_bytes after s)) s.last later
 
--- the stretches of these pairs, each by its first and its last number
-abbrev pub stretches_in : ℕ → ℕ → List Span → List (ℕ × ℕ)
-stretches_in room after [] = []
-stretches_in room after (s ∷ later) =
+-- the spans of these pairs, each by its first and its last number
+abbrev pub spans_in : ℕ → ℕ → List Span → List (ℕ × ℕ)
+spans_in room after [] = []
+spans_in room after (s ∷ later) =
     if nat_lt room (length (pair_bytes after s)) then []
-    else (s.first, s.last) ∷ stretches_in (room - length (pair_bytes after s)) s.last later
+    else (s.first, s.last) ∷ spans_in (room - length (pair_bytes after s)) s.last later
 
 abbrev pub later_spans : List Span → List Span
 later_spans [] = []
@@ -40,11 +40,11 @@ abbrev pub ack_payload : ℕ → ℕ → Receiver → List ℕ
 ack_payload flow room r = ack_head flow r ++ pairs_in (room - length (ack_head flow r))
     (through_in r) (later_spans r.spans)
 
--- the pairs of an ack in so many bytes tell of the receiver's stretches above the first, as many of
+-- the pairs of an ack in so many bytes tell of the receiver's spans above the first, as many of
 -- them as fit
-abbrev pub TellsStretches : ℕ → ℕ → Receiver → Type 0
-TellsStretches flow room r =
-    PairsTell (through_in r) (stretches_in (room - length (ack_head flow r)) (through_in r)
+abbrev pub TellsSpans : ℕ → ℕ → Receiver → Type 0
+TellsSpans flow room r =
+    PairsTell (through_in r) (spans_in (room - length (ack_head flow r)) (through_in r)
     (later_spans r.spans)) (pairs_in (room - length (ack_head flow r)) (through_in r)
     (later_spans r.spans))
 

@@ -1,9 +1,11 @@
 -- What a receiving flow keeps, and how each call changes it.
-use Rattle.std.specs.Prelude.{ℕ, ◌≡◌, ◌<◌, ◌≤◌, ◌+◌, ◌-◌, ◌==◌, if◌then◌else◌, nat_le, nat_lt, min, max, not, Bool, true, ◌&&◌, List, [], ◌∷◌, Option, Some, None, length}
+use Rattle.std.specs.Prelude.{ℕ, ◌≡◌, ◌<◌, ◌≤◌, ◌+◌, ◌-◌, ◌==◌, if◌then◌else◌, nat_le, nat_lt, min}
+use Rattle.std.specs.Prelude.{max, not, Bool, true, ◌&&◌, List, [], ◌∷◌, Option, Some, None, length}
 use Rattle.std.specs.List.{filter, sum_by, list_any}
 use Rattle.rtmfp_data_chunks.specs.HandsOver.{IsIn}
 use Rattle.flow_recv.specs.declared.spans.Span.{Span}
-use Rattle.rtmfp_data_chunks.specs.Runs.{Chunk, Run, single, fits, joined, is_whole, is_dead, is_ready}
+use Rattle.rtmfp_data_chunks.specs.Runs.{Chunk, Run, single, fits, joined, is_whole, is_dead}
+use Rattle.rtmfp_data_chunks.specs.Runs.{is_ready}
 
 -- the spans, by rising number and apart, are the numbers that aren't missing. The runs are those
 -- that are neither dead nor handed over

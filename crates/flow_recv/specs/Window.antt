@@ -1,7 +1,8 @@
 -- How far beyond the lowest missing number a receiver goes.
 use Rattle.std.specs.Prelude.{ℕ, ◌≡◌, ◌+◌, ◌≤◌, true, None}
 use Rattle.rtmfp_data_chunks.specs.Runs.{Chunk}
-use Rattle.flow_recv.specs.Receiver.{Receiver, Apart, FromZero, knows, end_of_first, beyond_buffer, taken}
+use Rattle.flow_recv.specs.Receiver.{Receiver, Apart, FromZero, knows, end_of_first, beyond_buffer}
+use Rattle.flow_recv.specs.Receiver.{taken}
 
 -- each number that isn't missing is at most 65,536 above the lowest missing one
 abbrev pub IsWithin : Receiver → Type 0

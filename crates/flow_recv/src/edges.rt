@@ -2,11 +2,14 @@
 //! function that does nothing, whose contract tells the values.
 
 ghost use Rattle.std.specs.Prelude.{◌≡◌, ℕ, List, [], ◌∷◌, Option, Some, None, true, false, length};
-ghost use Rattle.rtmfp_data_chunks.specs.declared.user_data.Part.TheVariants.{Whole, Begin, Middle, End};
-ghost use Rattle.flow_recv.specs.Receiver.{span, fresh, passes_buffer, beyond_buffer, taken, next_run};
+ghost use Rattle.rtmfp_data_chunks.specs.declared.user_data.Part.TheVariants.{Whole, Begin, Middle};
+ghost use Rattle.rtmfp_data_chunks.specs.declared.user_data.Part.TheVariants.{End};
+ghost use Rattle.flow_recv.specs.Receiver.{span, fresh, passes_buffer, beyond_buffer, taken};
+ghost use Rattle.flow_recv.specs.Receiver.{next_run};
 ghost use Rattle.flow_recv.specs.Outcome.{refusal, took};
 ghost use Rattle.flow_recv.specs.Acking.{free_blocks};
-ghost use Rattle.flow_recv.specs.Edges.{fragment, gives_up, marked_last, keeping, run_of};
+ghost use Rattle.flow_recv.specs.Edges.{fragment, gives_up, marked_last, keeping, run_of, two_held};
+ghost use Rattle.flow_recv.specs.Edges.{two_open, up_to, arriving};
 
 use crate::outcome::{FlowRefusal, Took};
 
@@ -95,23 +98,17 @@ pub fn taking()
     ensures again { took (keeping (span 0 1 ∷ []) []) (fragment Whole 1 0 []) ≡ Took.Again }
     ensures forward_only { took (keeping (span 0 1 ∷ []) []) (gives_up 1 1) ≡ Took.ForwardOnly }
     ensures held { taken (fresh false) (fragment Whole 2 0 (7 ∷ []))
-        ≡ record (keeping (span 0 0 ∷ span 2 2 ∷ []) (run_of 2 2 true true (7 ∷ []) ∷ []))
-        { highest = 2 } }
-    ensures held_already { taken (keeping (span 0 0 ∷ span 2 2 ∷ []) (run_of 2 2 true true (7 ∷ []) ∷ []))
-        (fragment Whole 2 0 (8 ∷ []))
-        ≡ record (keeping (span 0 0 ∷ span 2 2 ∷ []) (run_of 2 2 true true (7 ∷ []) ∷ []))
-        { highest = 2 } }
-    ensures stays { taken (keeping (span 0 0 ∷ span 2 2 ∷ []) (run_of 2 2 true true (7 ∷ []) ∷ []))
-        (fragment Whole 5 3 (8 ∷ []))
-        ≡ record (keeping (span 0 3 ∷ span 5 5 ∷ [])
-        (run_of 2 2 true true (7 ∷ []) ∷ run_of 5 5 true true (8 ∷ []) ∷ [])) { highest = 5 } }
-    ensures joined { taken (keeping (span 0 0 ∷ span 2 2 ∷ span 4 4 ∷ [])
-        (run_of 2 2 true false (7 ∷ []) ∷ run_of 4 4 false true (9 ∷ []) ∷ []))
-        (fragment Middle 3 0 (8 ∷ []))
-        ≡ record (keeping (span 0 0 ∷ span 2 4 ∷ []) (run_of 2 4 true true (7 ∷ 8 ∷ 9 ∷ []) ∷ []))
-        { highest = 3 } }
-    ensures dropped { taken (keeping (span 0 0 ∷ span 2 2 ∷ []) (run_of 2 2 true false (7 ∷ []) ∷ []))
-        (gives_up 3 0) ≡ record (keeping (span 0 0 ∷ span 2 3 ∷ []) []) { highest = 3 } }
+        ≡ up_to 2 (two_held true) }
+    ensures held_already { taken (two_held true) (fragment Whole 2 0 (8 ∷ []))
+        ≡ up_to 2 (two_held true) }
+    ensures stays { taken (two_held true) (fragment Whole 5 3 (8 ∷ []))
+        ≡ up_to 5 (keeping (span 0 3 ∷ span 5 5 ∷ [])
+        (run_of 2 2 true true (7 ∷ []) ∷ run_of 5 5 true true (8 ∷ []) ∷ [])) }
+    ensures joined { taken two_open (fragment Middle 3 0 (8 ∷ []))
+        ≡ up_to 3 (keeping (span 0 0 ∷ span 2 4 ∷ [])
+        (run_of 2 4 true true (7 ∷ 8 ∷ 9 ∷ []) ∷ [])) }
+    ensures dropped { taken (two_held false) (gives_up 3 0)
+        ≡ up_to 3 (keeping (span 0 0 ∷ span 2 3 ∷ []) []) }
     ensures given_up { taken (fresh false) (gives_up 2 0)
         ≡ record (keeping (span 0 0 ∷ span 2 2 ∷ []) []) { highest = 2 } }
     ensures last { taken (fresh false) (marked_last 1)
@@ -125,12 +122,12 @@ pub fn handing()
         ≡ None }
     ensures ready { next_run (keeping (span 0 3 ∷ []) (run_of 3 3 true true [] ∷ []))
         ≡ Some (run_of 3 3 true true []) }
-    ensures at_once { next_run (record (keeping (span 0 1 ∷ span 3 3 ∷ []) (run_of 3 3 true true [] ∷ []))
-        { arriving = true }) ≡ Some (run_of 3 3 true true []) }
-    ensures not_whole { next_run (record (keeping (span 0 3 ∷ []) (run_of 3 3 true false [] ∷ []))
-        { arriving = true }) ≡ None }
-    ensures lowest { next_run
-        (record (keeping (span 0 0 ∷ span 3 3 ∷ span 5 5 ∷ [])
-        (run_of 3 3 true true [] ∷ run_of 5 5 true true [] ∷ [])) { arriving = true })
+    ensures at_once { next_run
+        (arriving (keeping (span 0 1 ∷ span 3 3 ∷ []) (run_of 3 3 true true [] ∷ [])))
+        ≡ Some (run_of 3 3 true true []) }
+    ensures not_whole { next_run
+        (arriving (keeping (span 0 3 ∷ []) (run_of 3 3 true false [] ∷ []))) ≡ None }
+    ensures lowest { next_run (arriving (keeping (span 0 0 ∷ span 3 3 ∷ span 5 5 ∷ [])
+        (run_of 3 3 true true [] ∷ run_of 5 5 true true [] ∷ [])))
         ≡ Some (run_of 3 3 true true []) }
 {}

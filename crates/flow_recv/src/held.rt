@@ -1,6 +1,7 @@
 //! The runs of a flow as a map, by the number that each begins with.
 
-ghost use Rattle.std.specs.Prelude.{◌≡◌, ℕ, ◌<◌, ◌≤◌, ◌+◌, ◌∷◌, [], IfOk, IfSome, IsSome, OnOk, OnErr, List, true, false, ◌==◌, if◌then◌else◌, ◌&&◌};
+ghost use Rattle.std.specs.Prelude.{◌≡◌, ℕ, ◌<◌, ◌≤◌, ◌+◌, ◌∷◌, [], IfOk, IfSome, IsSome, OnOk};
+ghost use Rattle.std.specs.Prelude.{OnErr, List, true, false, ◌==◌, if◌then◌else◌, ◌&&◌};
 ghost use Rattle.std.specs.Option.{option_copied, IsSomeAnd};
 ghost use Rattle.std.specs.Map.{remove_entry};
 ghost use Rattle.std.specs.Ordering.{nat_cmp};
@@ -8,7 +9,9 @@ ghost use Rattle.std.specs.BTreeMap.{get, is_at, IsOrdered};
 ghost use Rattle.std.specs.BTreeSet.{insert_key};
 ghost use Rattle.rtmfp_data_chunks.specs.Runs.{single, joined, fits, is_whole};
 ghost use Rattle.flow_recv.specs.Receiver.{first_of, without_first};
-ghost use Rattle.flow_recv.specs.Keyed.{AllWhole, run_at, without_run, with_run, changed_run, changed_entry, front_of, rear_of, emptied, over, IsFirstFrom, IsLastBelow};
+ghost use Rattle.flow_recv.specs.Keyed.{AllWhole, run_at, without_run, with_run, changed_run};
+ghost use Rattle.flow_recv.specs.Keyed.{changed_entry, front_of, rear_of, emptied, over};
+ghost use Rattle.flow_recv.specs.Keyed.{IsFirstFrom, IsLastBelow};
 
 use crate::run::{HeldRun, has_rear};
 use rtmfp_data_chunks::Part;
@@ -253,16 +256,18 @@ fn put_back_at(map: &mut BTreeMap<u64, HeldRun>, first: u64, run: HeldRun)
 /// Appends a fragment and a later run to the run that begins with a number.
 fn append_both_at(
     map: &mut BTreeMap<u64, HeldRun>,
+    alloc: Global,
     first: u64,
     bytes: &[u8],
-    later: &HeldRun,
+    later: &mut HeldRun,
 ) -> Result<(), AllocError>
     ensures appended { OnOk result (map.new.entries
-        ≡ changed_entry (λ y. over y bytes.now later.now) first map.old.entries) }
+        ≡ changed_entry (λ y. over y bytes.now later.old) first map.old.entries) }
     ensures unchanged { OnErr result (map.new.entries ≡ map.old.entries) }
+    ensures later { OnErr result (later.new ≡ later.old) }
 {
     match map.get_mut(&first) {
-        Some(run) => run.append_both(bytes, later),
+        Some(run) => run.append_both(alloc, bytes, later),
         None => Ok(()),
     }
 }
@@ -284,10 +289,10 @@ fn join_at(
     ensures ordered { OnOk result (IsOrdered nat_cmp map.new) }
     ensures unchanged { OnErr result (map.new.entries ≡ map.old.entries) }
 {
-    let Some(run) = take_out_at(map, alloc, later) else {
+    let Some(mut run) = take_out_at(map, alloc, later) else {
         return Err(AllocError);
     };
-    match append_both_at(map, first, bytes, &run) {
+    match append_both_at(map, alloc, first, bytes, &mut run) {
         Ok(()) => {
             map.remove(&later);
             Ok(())

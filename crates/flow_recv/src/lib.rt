@@ -4,6 +4,7 @@
 
 mod above;
 mod acking;
+mod bytes;
 pub mod edges;
 mod held;
 mod outcome;

@@ -1,13 +1,18 @@
 //! The receiver of a flow.
 
-ghost use Rattle.std.specs.Prelude.{◌≡◌, ◌≢◌, ◌+◌, ◌-◌, ◌<◌, ◌≤◌, ◌∷◌, ◌++◌, ◌↔◌, ℕ, IfOk, IsOk, IsErr, OnOk, OnErr, IfErr, MatchOption, List, length, Some, None, Ok, Err, false, true, ◌==◌, ◌^◌, ◌&&◌, ◌||◌, not, nat_lt, nat_le, max, if◌then◌else◌};
+ghost use Rattle.std.specs.Prelude.{◌≡◌, ◌≢◌, ◌+◌, ◌-◌, ◌<◌, ◌≤◌, ◌∷◌, ◌++◌, ◌↔◌, ℕ, IfOk, IsOk};
+ghost use Rattle.std.specs.Prelude.{IsErr, OnOk, OnErr, IfErr, MatchOption, List, length, Some};
+ghost use Rattle.std.specs.Prelude.{None, Ok, Err, false, true, ◌==◌, ◌^◌, ◌&&◌, ◌||◌, not, nat_lt};
+ghost use Rattle.std.specs.Prelude.{nat_le, max, if◌then◌else◌};
 ghost use Rattle.std.specs.List.{filter};
 ghost use Rattle.std.specs.Option.{option_map};
 ghost use Rattle.rtmfp_data_chunks.specs.Runs.{single, message_of};
 ghost use Rattle.rtmfp_data_chunks.specs.Taken.{chunk_of};
-ghost use Rattle.flow_recv.specs.Receiver.{Receiver, Apart, fresh, span, lacks, living, held_in, after_last, passes_buffer, add_run, add_span, beyond_buffer, taken, next_run, handed_next};
+ghost use Rattle.flow_recv.specs.Receiver.{Receiver, Apart, fresh, span, lacks, living, held_in};
+ghost use Rattle.flow_recv.specs.Receiver.{after_last, passes_buffer, add_run, add_span};
+ghost use Rattle.flow_recv.specs.Receiver.{beyond_buffer, taken, next_run, handed_next};
 ghost use Rattle.flow_recv.specs.Keyed.{IsFree, stays};
-ghost use Rattle.flow_recv.specs.Acking.{free_blocks, ack_head, ack_bytes, TellsStretches};
+ghost use Rattle.flow_recv.specs.Acking.{free_blocks, ack_head, ack_bytes, TellsSpans};
 ghost use Rattle.rtmfp_forms.specs.Outgoing.{packet_limit};
 ghost use Rattle.flow_recv.specs.Outcome.{refusal, took, message};
 ghost use Rattle.flow_recv.specs.Sound.{AllAlive, Sound};
@@ -149,7 +154,7 @@ impl FlowReceiver {
     }
 
     /// Puts an ack at the end, for the flow of an id: what is free in the buffer, the number at or
-    /// below which none is missing, and as many of the stretches above it as fit. All or nothing of
+    /// below which none is missing, and as many of the spans above it as fit. All or nothing of
     /// it but these.
     pub fn ack_into(&self, flow: u64, out: &mut Outgoing) -> Result<(), NoRoom>
         ensures ok { OnOk result (out.new ≡ out.old
@@ -157,8 +162,8 @@ impl FlowReceiver {
         ensures no_room { IsErr result ↔ (packet_limit
             < length out.old + 3 + length (ack_head flow self.now)) }
         ensures err { OnErr result (out.new ≡ out.old) }
-        // What is put reads back as the receiver's stretches.
-        ensures tells { TellsStretches flow (packet_limit - length out.old - 3) self.now }
+        // What is put reads back as the receiver's spans.
+        ensures tells { TellsSpans flow (packet_limit - length out.old - 3) self.now }
     {
         let _highest = self.highest;
         let blocks = self.free_blocks();

@@ -1,11 +1,13 @@
-//! A run: a stretch of held fragments that fit, with its bytes.
+//! A run: successive held fragments that fit, with their bytes.
 
-ghost use Rattle.std.specs.Prelude.{◌≡◌, ◌+◌, ◌<◌, ◌≤◌, ◌^◌, ◌∷◌, [], IfOk, OnOk, OnErr, List, ◌++◌, length, false};
+ghost use Rattle.std.specs.Prelude.{◌≡◌, ◌+◌, ◌<◌, ◌≤◌, ◌^◌, ◌∷◌, [], IfOk, OnOk, OnErr, List};
+ghost use Rattle.std.specs.Prelude.{◌++◌, length, false};
 ghost use Rattle.rtmfp_data_chunks.specs.Runs.{fits, joined, single, is_whole, has_front, has_rear};
 ghost use Rattle.flow_recv.specs.Receiver.{Apart, is_alive, span, lacks, hands};
 ghost use Rattle.flow_recv.specs.Keyed.{is_between, emptied, over};
 
 use crate::above::Above;
+use crate::bytes::HeldBytes;
 use crate::spans::lacks;
 use rtmfp_data_chunks::Part;
 use std::alloc::{AllocError, Global};
@@ -20,7 +22,7 @@ pub struct HeldRun {
     last: u64,
     front: bool,
     rear: bool,
-    bytes: Vec<u8>,
+    bytes: HeldBytes,
 }
 
 impl Model for HeldRun {
@@ -33,7 +35,7 @@ impl Model for HeldRun {
       last = y.last;
       front = y.front;
       rear = y.rear;
-      bytes = y.bytes.items;
+      bytes = y.bytes;
     } };
 }
 
@@ -72,29 +74,7 @@ impl HeldRun {
             last: number,
             front: has_front(part),
             rear: has_rear(part),
-            bytes: Vec::from_slice(alloc, bytes)?,
-        })
-    }
-
-    /// The run of one fragment and the run that follows it and fits.
-    pub fn single_before(
-        alloc: Global,
-        number: u64,
-        part: Part,
-        bytes: &[u8],
-        later: &HeldRun,
-    ) -> Result<HeldRun, AllocError>
-        ensures { IfOk result (λ y. y ≡ joined (single number part bytes.now) later.now) }
-    {
-        let mut both = Vec::with_capacity(alloc, bytes.len().saturating_add(later.bytes.len()))?;
-        both.extend_from_slice(bytes)?;
-        both.extend_from_slice(&later.bytes)?;
-        Ok(HeldRun {
-            first: number,
-            last: later.last,
-            front: has_front(part),
-            rear: later.rear,
-            bytes: both,
+            bytes: HeldBytes::from_slice(alloc, bytes)?,
         })
     }
 
@@ -117,7 +97,7 @@ impl HeldRun {
         ensures joined { OnOk result (self.new ≡ joined self.old (single number part bytes.now)) }
         ensures unchanged { OnErr result (self.new ≡ self.old) }
     {
-        self.bytes.extend_from_slice(bytes)?;
+        self.bytes.append(bytes)?;
         self.last = number;
         self.rear = has_rear(part);
         Ok(())
@@ -128,7 +108,7 @@ impl HeldRun {
         ensures out { result ≡ self.old }
         ensures left { self.new ≡ emptied self.old }
     {
-        let bytes = mem::replace(&mut self.bytes, Vec::new(alloc));
+        let bytes = mem::replace(&mut self.bytes, HeldBytes::new(alloc));
         HeldRun {
             first: self.first,
             last: self.last,
@@ -138,15 +118,19 @@ impl HeldRun {
         }
     }
 
-    /// Joins a fragment and the run that follows it to the rear.
-    pub fn append_both(&mut self, bytes: &[u8], later: &HeldRun) -> Result<(), AllocError>
-        ensures joined { OnOk result (self.new ≡ over self.old bytes.now later.now) }
+    /// Joins a fragment and the run that follows it to the rear. The shorter run's bytes are moved
+    /// to the longer one's.
+    pub fn append_both(
+        &mut self,
+        alloc: Global,
+        bytes: &[u8],
+        later: &mut HeldRun,
+    ) -> Result<(), AllocError>
+        ensures joined { OnOk result (self.new ≡ over self.old bytes.now later.old) }
         ensures unchanged { OnErr result (self.new ≡ self.old) }
+        ensures later { OnErr result (later.new ≡ later.old) }
     {
-        self.bytes
-            .reserve(bytes.len().saturating_add(later.bytes.len()))?;
-        self.bytes.extend_from_slice(bytes)?;
-        self.bytes.extend_from_slice(&later.bytes)?;
+        join_bytes(alloc, &mut self.bytes, bytes, &mut later.bytes)?;
         self.last = later.last;
         self.rear = later.rear;
         Ok(())
@@ -196,7 +180,7 @@ impl HeldRun {
     pub fn into_bytes(self) -> Vec<u8>
         ensures { result.items ≡ self.bytes }
     {
-        self.bytes
+        self.bytes.into_vec()
     }
 
     /// Whether it has one of the numbers between two, or lies directly before or after one.
@@ -214,4 +198,23 @@ impl HeldRun {
         (self.front || lacks(through, above, u128::from(self.first.saturating_sub(1))))
             && (self.rear || lacks(through, above, u128::from(self.last) + 1))
     }
+}
+
+/// Puts a piece and later bytes behind bytes.
+fn join_bytes(
+    alloc: Global,
+    bytes: &mut HeldBytes,
+    piece: &[u8],
+    later: &mut HeldBytes,
+) -> Result<(), AllocError>
+    ensures joined { OnOk result (bytes.new ≡ (bytes.old ++ piece.now) ++ later.old) }
+    ensures unchanged { OnErr result (bytes.new ≡ bytes.old) }
+    ensures later { OnErr result (later.new ≡ later.old) }
+{
+    if later.len() <= bytes.len() {
+        return bytes.append_both(piece, later.as_slice());
+    }
+    later.prepend_both(alloc, bytes.as_slice(), piece)?;
+    mem::swap(bytes, later);
+    Ok(())
 }

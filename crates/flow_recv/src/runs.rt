@@ -1,12 +1,16 @@
 //! The runs of a flow: how a fragment joins them, which are dropped, and which is next.
 
-ghost use Rattle.std.specs.Prelude.{◌≡◌, ℕ, ◌+◌, ◌<◌, ◌≤◌, ◌^◌, ◌∷◌, [], IfOk, IfSome, IsSome, OnOk, OnErr, List, length, not, ◌||◌, ◌==◌, None, true};
+ghost use Rattle.std.specs.Prelude.{◌≡◌, ℕ, ◌+◌, ◌<◌, ◌≤◌, ◌^◌, ◌∷◌, [], IfOk, IfSome, IsSome};
+ghost use Rattle.std.specs.Prelude.{OnOk, OnErr, List, length, not, ◌||◌, ◌==◌, None, true};
 ghost use Rattle.std.specs.List.{filter};
 ghost use Rattle.std.specs.Option.{IsSomeAnd};
 ghost use Rattle.rtmfp_data_chunks.specs.Runs.{fits, joined, single};
 ghost use Rattle.flow_recv.specs.Order.{InOrder, AllOpen};
-ghost use Rattle.flow_recv.specs.Keyed.{run_at, IsFree, IsFollowed, IsFollowing, is_between, stays, stays_at, dead_bytes, Reaches, followed_at, following_at, ready_at};
-ghost use Rattle.flow_recv.specs.Receiver.{Apart, held_in, add_run, span, hands, first_of, without_first};
+ghost use Rattle.flow_recv.specs.Keyed.{run_at, IsFree, IsFollowed, IsFollowing, is_between, stays};
+ghost use Rattle.flow_recv.specs.Keyed.{stays_at, dead_bytes, Reaches, followed_at, following_at};
+ghost use Rattle.flow_recv.specs.Keyed.{ready_at};
+ghost use Rattle.flow_recv.specs.Receiver.{Apart, held_in, add_run, span, hands, first_of};
+ghost use Rattle.flow_recv.specs.Receiver.{without_first};
 
 use crate::above::Above;
 use crate::held::HeldRuns;
@@ -62,24 +66,6 @@ fn follows_at(runs: &HeldRuns, first: u64, number: u64, part: Part) -> bool
     }
 }
 
-/// A fragment and the run that begins with a number.
-fn before(
-    alloc: Global,
-    runs: &HeldRuns,
-    later: u64,
-    number: u64,
-    part: Part,
-    bytes: &[u8],
-) -> Result<HeldRun, AllocError>
-    ensures { IfOk result (λ x. IfSome (run_at later runs.now) (λ z. x
-        ≡ joined (single number part bytes.now) z)) }
-{
-    match runs.at(later) {
-        Some(run) => HeldRun::single_before(alloc, number, part, bytes, run),
-        None => HeldRun::single(alloc, number, part, bytes),
-    }
-}
-
 /// Joins a fragment to the run that it follows and fits, and both to the run after it where that
 /// one fits.
 fn extend(
@@ -119,9 +105,12 @@ fn put(
     let Some(later) = following(runs, number, part) else {
         return runs.insert(HeldRun::single(alloc, number, part, bytes)?);
     };
-    runs.insert(before(alloc, runs, later, number, part, bytes)?)?;
-    runs.remove(later);
-    Ok(())
+    runs.insert(HeldRun::single(alloc, number, part, bytes)?)?;
+    if runs.join(alloc, number, later, &[]).is_ok() {
+        return Ok(());
+    }
+    runs.remove(number);
+    Err(AllocError)
 }
 
 /// Adds a fragment whose number no run has, and joins it to the runs that it fits. One that follows

@@ -1,7 +1,7 @@
--- Rows from one place to before another, changed one after another.
+-- Rows from one index to before another, changed one after another.
 use Rattle.std.proofs.Common.{◌≡◌, ℕ, zero, suc, ◌+◌, ◌<◌, ◌≤◌, max, cond, Bool, true, false, ◌||◌, Option, Some, None, List, [], ◌∷◌, length, set, drop, refl, ap, sym, ◌∙◌, arith}
 use Rattle.flow_send.specs.declared.state.State.{State}
-use Rattle.flow_send.specs.Rows.{Row, first_place, front_settled, settled_front, is_settled, row_at, between, any_between, most_between}
+use Rattle.flow_send.specs.Rows.{Row, first_index, front_settled, settled_front, is_settled, row_at, between, any_between, most_between}
 
 pub between_length : (f : Row → Row) (lo hi : ℕ) (rows : List Row) → length (between f lo hi rows) ≡ length rows
 between_length f lo hi [] = refl
@@ -87,30 +87,14 @@ most_suc f (suc lo) (suc at) (r ∷ rows) le lt = most_suc f lo at rows (omega a
 pub most_step : (f : Row → ℕ) (lo at : ℕ) (rows : List Row) → lo ≤ at → at < length rows → most_between f lo (at + 1) rows ≡ max (most_between f lo at rows) (f (row_at rows at))
 most_step f lo at rows le lt = let n : at + 1 ≡ suc at = omega arith in ap (λ i. most_between f lo i rows) n ∙ most_suc f lo at rows le lt
 
--- the first place from one on
-place_if : (n : ℕ) (o : Option ℕ) (b : Bool) → b ≡ false → cond b (Some n) o ≡ o
-place_if n o true e = absurd cc
-place_if n o false e = refl
-
-pub place_next : (test : State → Bool) (n at : ℕ) (rows : List Row) → at < length rows → test (row_at rows at).state ≡ false → first_place test n (drop at rows) ≡ first_place test (n + 1) (drop (at + 1) rows)
-place_next test n at [] lt e = absurd (omega arith)
-place_next test n zero (r ∷ rows) lt e = place_if n (first_place test (n + 1) rows) (test r.state) e
-place_next test n (suc at) (r ∷ rows) lt e = let k : suc at + 1 ≡ suc (at + 1) = omega arith in place_next test n at rows (omega arith) e ∙ ap (λ i. first_place test (n + 1) (drop i (r ∷ rows))) (sym k)
-
 found_if : (n : ℕ) (o : Option ℕ) (b : Bool) → b ≡ true → cond b (Some n) o ≡ Some n
 found_if n o true e = refl
 found_if n o false e = absurd cc
 
-pub place_found : (test : State → Bool) (n at : ℕ) (rows : List Row) → at < length rows → test (row_at rows at).state ≡ true → first_place test n (drop at rows) ≡ Some n
-place_found test n at [] lt e = absurd (omega arith)
-place_found test n zero (r ∷ rows) lt e = found_if n (first_place test (n + 1) rows) (test r.state) e
-place_found test n (suc at) (r ∷ rows) lt e = place_found test n at rows (omega arith) e
-
-pub place_end : (test : State → Bool) (n at : ℕ) (rows : List Row) → length rows ≤ at → first_place test n (drop at rows) ≡ None
-place_end test n zero [] le = refl
-place_end test n (suc at) [] le = refl
-place_end test n zero (r ∷ rows) le = absurd (omega arith)
-place_end test n (suc at) (r ∷ rows) le = place_end test n at rows (omega arith)
+pub index_found : (test : State → Bool) (n at : ℕ) (rows : List Row) → at < length rows → test (row_at rows at).state ≡ true → first_index test n (drop at rows) ≡ Some n
+index_found test n at [] lt e = absurd (omega arith)
+index_found test n zero (r ∷ rows) lt e = found_if n (first_index test (n + 1) rows) (test r.state) e
+index_found test n (suc at) (r ∷ rows) lt e = index_found test n at rows (omega arith) e
 
 -- one more row is taken from the front
 front_if : (b : Bool) (n : ℕ) → b ≡ true → cond b (n + 1) 0 ≡ n + 1
@@ -124,10 +108,6 @@ front_next (r ∷ rows) e = front_if (is_settled r.state) (settled_front rows) e
 none_if : (b : Bool) (n : ℕ) → b ≡ false → cond b (n + 1) 0 ≡ 0
 none_if true n e = absurd cc
 none_if false n e = refl
-
-pub front_end : (rows : List Row) → front_settled rows ≡ false → settled_front rows ≡ 0
-front_end [] e = refl
-front_end (r ∷ rows) e = none_if (is_settled r.state) (settled_front rows) e
 
 pub drop_next : (at : ℕ) (rows : List Row) → drop 1 (drop at rows) ≡ drop (at + 1) rows
 drop_next zero [] = refl

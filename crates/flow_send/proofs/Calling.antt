@@ -1,5 +1,5 @@
 -- A sender stands for what its calls did.
-use Rattle.std.proofs.Common.{◌≡◌, ℕ, ◌+◌, ◌-◌, ◌^◌, ◌<◌, ◌≤◌, ◌==◌, nat_lt, min, max, not, cond, Bool, true, false, ◌&&◌, ◌||◌, List, [], ◌∷◌, ◌++◌, length, drop, Option, Some, None, refl, ap, sym, ◌∙◌, subst, arith, inl, inr, ◌⊎◌, length-append}
+use Rattle.std.proofs.Common.{◌≡◌, ℕ, ◌+◌, ◌-◌, ◌^◌, ◌<◌, ◌≤◌, ◌==◌, nat_lt, min, max, not, cond, map, Bool, true, false, ◌&&◌, ◌||◌, List, [], ◌∷◌, ◌++◌, length, drop, Option, Some, None, refl, ap, sym, ◌∙◌, subst, arith, inl, inr, ◌⊎◌, length-append}
 use Rattle.std.specs.List.{filter}
 use Rattle.std.proofs.lemmas.Bool.{cases_lt, eqb-true, leb-true, ltb-true, ltb-false, lt-ltb}
 use Rattle.rtmfp_data_chunks.specs.Fragments.{Message, fragment_count}
@@ -12,7 +12,7 @@ use Rattle.flow_send.specs.Choice.{Choice, Nothing, Send, Notify, choice, sent_a
 use Rattle.flow_send.specs.Acks.{Told, tells, greatest, beyond, rows_told, still_waits, told_by}
 use Rattle.flow_send.specs.Flow.{queue_refusal, next_message}
 use Rattle.flow_send.specs.Steady.{Steady}
-use Rattle.flow_send.specs.Calls.{Call, Queue, Abandon, Finish, Lose, Next, Hear, Done, Queued, Abandoned, Finished, Sent, Noticed, Heard, Sending, begun, queues, abandons, finishes, sends, hears, calls, all_calls, is_told, is_given_up, is_over, sendings, times_sent, TellsLast, Stands, AllStand, AllSent, IsForward, StandsFor}
+use Rattle.flow_send.specs.Calls.{Call, Queue, Abandon, Finish, Lose, Next, Hear, Done, Queued, Abandoned, Finished, Sent, Noticed, Looked, Heard, Sending, begun, queues, abandons, finishes, sends, hears, calls, all_calls, is_told, is_given_up, is_over, sendings, times_sent, TellsLast, Stands, AllStand, AllSent, IsForward, StandsFor}
 use Rattle.flow_send.proofs.Numbered.{map_length}
 use Rattle.flow_send.proofs.Keeping.{line_inside_at}
 use Rattle.flow_send.proofs.Ends.{inside_rows, next_unfinished}
@@ -49,7 +49,7 @@ stands_for first w g = record {
   forward = record { over = g.over; next = λ lt. next_open first w.done (w.sender.forward + 1) w.sender.rows g.low g.steady.front lt g.rows };
 }
 
-never : (first : ℕ) (w : Sending) (n : ℕ) → Goes first w → next_of w.sender ≤ n → times_sent w.done n ≡ 0
+pub never : (first : ℕ) (w : Sending) (n : ℕ) → Goes first w → next_of w.sender ≤ n → times_sent w.done n ≡ 0
 never first w n g le = elim (cases_lt 0 (times_sent w.done n)) [ inl lt ↦ absurd (let h = g.few n (omega (arith, lt)) in omega (arith, h, le)) | inr z ↦ omega (arith, z) ]
 
 counts : (order sendings most : ℕ) → order ≡ min sendings most → min (order + 1) most ≡ min (sendings + 1) most
@@ -59,7 +59,7 @@ counts order sendings most e = omega (arith, e)
 kept : (first : ℕ) (before after : List Done) → Same before after → ((n : ℕ) → is_over first before n ≡ true → is_over first after n ≡ true)
 kept first before after s n e = over_more first before after n (λ x. s.told n ∙ x) (λ x. s.given n ∙ x) e
 
-begun_goes : (first : ℕ) → 1 ≤ first → first < 2 ^ 64 → Goes first (begun first)
+pub begun_goes : (first : ℕ) → 1 ≤ first → first < 2 ^ 64 → Goes first (begun first)
 begun_goes first one fits = record {
   steady = steady_new first one fits;
   low = omega (arith, one);
@@ -78,7 +78,7 @@ queues_goes first w bytes options None is g =
     let s = w.sender in
     let m : Message = next_message s bytes in
     let a = allowed s (length bytes) is in
-    let done : List Done = Queued m ∷ w.done in
+    let done : List Done = Queued m options ∷ w.done in
     let same : Same w.done done = record { told = λ n. refl; given = λ n. refl } in
     let more = rows_of m m.number (fragment_count m) in
     let at : s.forward + 1 + length s.rows ≡ m.number = omega arith in
@@ -124,9 +124,11 @@ plain_length : (f : Row → Row) (rows : List Row) → length (Rattle.std.specs.
 plain_length f [] = refl
 plain_length f (r ∷ rows) = ap Prim.Native.Nat.suc (plain_length f rows)
 
-loses_goes : (first : ℕ) (w : Sending) (moment resend : ℕ) → Goes first w → Goes first (record { sender = lost_late moment resend w.sender; done = w.done })
+loses_goes : (first : ℕ) (w : Sending) (moment resend : ℕ) → Goes first w → Goes first (calls w (Lose moment resend))
 loses_goes first w moment resend g =
     let s = w.sender in
+    let done : List Done = Looked moment resend ∷ w.done in
+    let same : Same w.done done = record { told = λ n. refl; given = λ n. refl } in
     let len = plain_length (Rattle.flow_send.specs.Sender.lost_if_late moment resend) s.rows in
     record {
       steady = steady_lost s moment resend g.steady;
@@ -134,10 +136,11 @@ loses_goes first w moment resend g =
       told = λ n e. omega (arith, g.told n e, len);
       given = λ n e. omega (arith, g.given n e, len);
       last = record { upto = g.last.upto; blocks = g.last.blocks; sent = g.last.sent; notice = g.last.notice; finish = g.last.finish; order = g.last.order };
-      over = g.over;
-      rows = late_stands w.done moment resend (s.forward + 1) s.rows g.rows;
+      over = λ n le. kept first w.done done same n (g.over n le);
+      rows = all_same w.done done (s.forward + 1) (map (Rattle.flow_send.specs.Sender.lost_if_late moment resend) s.rows) same (late_stands w.done moment resend (s.forward + 1) s.rows g.rows);
       few = λ n le. let h = g.few n le in omega (arith, h, len);
-      sent = sent_plain w.done (Rattle.flow_send.specs.Sender.lost_if_late moment resend) (s.forward + 1) s.rows (late_keeps moment resend) g.sent;
+      sent = all_sent_same w.done done (s.forward + 1) (map (Rattle.flow_send.specs.Sender.lost_if_late moment resend) s.rows) (record { times = λ n. refl; last = λ n. refl })
+          (sent_plain w.done (Rattle.flow_send.specs.Sender.lost_if_late moment resend) (s.forward + 1) s.rows (late_keeps moment resend) g.sent);
     }
 
 sends_goes : (first : ℕ) (w : Sending) (moment resend : ℕ) (o : Choice) → choice moment resend w.sender ≡ o → Goes first w → Goes first (sends w moment o)
@@ -161,8 +164,8 @@ sends_goes first w moment resend (Send n r) is g =
     let s = w.sender in
     let done : List Done = Sent n moment ∷ w.done in
     let same : Same w.done done = record { told = λ k. refl; given = λ k. refl } in
-    let place = count_up 64 s.order in
-    let len = map_length (put_at n (sent_row moment place r)) (s.forward + 1) s.rows in
+    let ordinal = count_up 64 s.order in
+    let len = map_length (put_at n (sent_row moment ordinal r)) (s.forward + 1) s.rows in
     let old = all_same w.done done (s.forward + 1) s.rows same g.rows in
     record {
       steady = steady_sent s moment resend (Send n r) is g.steady;
@@ -172,13 +175,13 @@ sends_goes first w moment resend (Send n r) is g =
       last = record { upto = g.last.upto; blocks = g.last.blocks; sent = ap (λ x. max x n) g.last.sent; notice = g.last.notice; finish = g.last.finish; order = counts s.order (sendings w.done) (2 ^ 64 - 1) g.last.order };
       over = λ k le. kept first w.done done same k (g.over k le);
       rows = elim (chosen s moment resend n r is) [
-        | inl f ↦ put_stands done is_lost (s.forward + 1) n moment place r s.rows lost_open old f
-        | inr f ↦ put_stands done is_unsent (s.forward + 1) n moment place r s.rows unsent_open old f
+        | inl f ↦ put_stands done is_lost (s.forward + 1) n moment ordinal r s.rows lost_open old f
+        | inr f ↦ put_stands done is_unsent (s.forward + 1) n moment ordinal r s.rows unsent_open old f
       ];
       few = λ k le. few_if (n == k) k refl le;
       sent = elim (chosen s moment resend n r is) [
-        | inl f ↦ put_sent w.done is_lost (s.forward + 1) n moment place r s.rows (λ u e d. absurd (let x : true ≡ false = sym e ∙ d in cc)) counted g.sent f
-        | inr f ↦ put_sent w.done is_unsent (s.forward + 1) n moment place r s.rows (λ u e d. e) counted g.sent f
+        | inl f ↦ put_sent w.done is_lost (s.forward + 1) n moment ordinal r s.rows (λ u e d. absurd (let x : true ≡ false = sym e ∙ d in cc)) counted g.sent f
+        | inr f ↦ put_sent w.done is_unsent (s.forward + 1) n moment ordinal r s.rows (λ u e d. e) counted g.sent f
       ];
     }
   where
@@ -256,13 +259,13 @@ hears_goes first w a (Some n) is g = g
 hears_goes first w a None is g =
     let s = w.sender in
     let done : List Done = Heard a ∷ w.done in
-    let most = greatest a.upto a.ranges in
+    let most = greatest a.upto a.spans in
     let le : most ≤ s.sent = ltb-false s.sent most (none_beyond (nat_lt s.sent most) most is) in
     let rows = rows_told a s in
     let waiting = filter (still_waits (s.forward + 1) rows) s.waiting in
     let next = next_with rows waiting s (told_length a s) in
     let over : (k : ℕ) → k ≤ s.forward → is_over first done k ≡ true = λ k l. over_more first w.done done k (λ e. or_right (tells a k) (is_told w.done k) e) (λ e. e) (g.over k l) in
-    let p = passed first done s.forward rows over (told_stands w.done a (Rattle.flow_send.specs.Acks.last_place a (s.forward + 1) s.rows) (s.forward + 1) s.rows g.rows) in
+    let p = passed first done s.forward rows over (told_stands w.done a (Rattle.flow_send.specs.Acks.last_ordinal a (s.forward + 1) s.rows) (s.forward + 1) s.rows g.rows) in
     record {
       steady = steady_told s a g.steady le;
       low = omega (arith, g.low);
@@ -277,11 +280,11 @@ hears_goes first w a None is g =
       few = λ k l. let h = g.few k l in omega (arith, h, next);
       sent = dropped done s.forward (settled_front rows) rows
           (all_sent_same w.done done (s.forward + 1) rows (record { times = λ k. refl; last = λ k. refl })
-          (sent_plain w.done (Rattle.flow_send.specs.Acks.count_ack (Rattle.flow_send.specs.Acks.last_place a (s.forward + 1) s.rows)) (s.forward + 1) (Rattle.flow_send.specs.Acks.rows_acknowledged a s) (count_keeps (Rattle.flow_send.specs.Acks.last_place a (s.forward + 1) s.rows))
+          (sent_plain w.done (Rattle.flow_send.specs.Acks.count_ack (Rattle.flow_send.specs.Acks.last_ordinal a (s.forward + 1) s.rows)) (s.forward + 1) (Rattle.flow_send.specs.Acks.rows_acknowledged a s) (count_keeps (Rattle.flow_send.specs.Acks.last_ordinal a (s.forward + 1) s.rows))
           (sent_map w.done (Rattle.flow_send.specs.Acks.acknowledge a) (s.forward + 1) s.rows (ack_keeps a) g.sent)));
     }
 
-call_goes : (first : ℕ) (w : Sending) (c : Call) → Goes first w → Goes first (calls w c)
+pub call_goes : (first : ℕ) (w : Sending) (c : Call) → Goes first w → Goes first (calls w c)
 call_goes first w (Queue bytes options) g = queues_goes first w bytes options (queue_refusal w.sender (length bytes)) refl g
 call_goes first w (Abandon n) g = abandons_goes first w n (message_at n w.sender.waiting) refl g
 call_goes first w Finish g = finishes_goes first w w.sender.finish refl g

@@ -1,10 +1,10 @@
--- Which row is sent, by its place.
+-- Which row is sent, by its index.
 use Rattle.std.proofs.Common.{◌≡◌, ℕ, zero, suc, ◌+◌, ◌<◌, cond, Bool, true, false, List, [], ◌∷◌, length, Option, Some, None, refl, ap, sym, ◌∙◌, subst, arith, eq-eqb}
 use Rattle.std.specs.Prelude.{slice_set}
 use Rattle.std.proofs.lemmas.List.{get_or-set_same}
 use Rattle.std.proofs.lemmas.Bool.{ne_eqb}
 use Rattle.flow_send.specs.declared.state.State.{State}
-use Rattle.flow_send.specs.Rows.{Row, row_at, end_row, map_rows, first_place, is_lost, is_unsent}
+use Rattle.flow_send.specs.Rows.{Row, row_at, end_row, map_rows, first_index, is_lost, is_unsent}
 use Rattle.flow_send.specs.Sender.{Sender}
 use Rattle.flow_send.specs.declared.pick.Pick.{Pick}
 use Rattle.flow_send.specs.declared.pick.Pick.TheVariants as pick
@@ -21,11 +21,11 @@ abbrev one_on : Option ℕ → Option ℕ
 one_on None = None
 one_on (Some at) = Some (suc at)
 
-place_on : (test : State → Bool) (n : ℕ) (rows : List Row) → first_place test (n + 1) rows ≡ one_on (first_place test n rows)
-place_on test n [] = refl
-place_on test n (r ∷ rows) = on_if (test r.state) (place_on test (n + 1) rows)
+index_on : (test : State → Bool) (n : ℕ) (rows : List Row) → first_index test (n + 1) rows ≡ one_on (first_index test n rows)
+index_on test n [] = refl
+index_on test n (r ∷ rows) = on_if (test r.state) (index_on test (n + 1) rows)
   where
-    on_if : (t : Bool) → first_place test (n + 1 + 1) rows ≡ one_on (first_place test (n + 1) rows) → cond t (Some (n + 1)) (first_place test (n + 1 + 1) rows) ≡ one_on (cond t (Some n) (first_place test (n + 1) rows))
+    on_if : (t : Bool) → first_index test (n + 1 + 1) rows ≡ one_on (first_index test (n + 1) rows) → cond t (Some (n + 1)) (first_index test (n + 1 + 1) rows) ≡ one_on (cond t (Some n) (first_index test (n + 1) rows))
     on_if true h = let e : n + 1 ≡ suc n = omega arith in ap (λ k. Some k) e
     on_if false h = h
 
@@ -33,13 +33,13 @@ send_on : (n : ℕ) (r : Row) (rows : List Row) (o : Option ℕ) → send_of (n 
 send_on n r rows None = refl
 send_on n r rows (Some at) = let e : n + 1 + at ≡ n + suc at = omega arith in ap (λ k. Send k (row_at rows at)) e
 
-pub first_in_is : (test : State → Bool) (n : ℕ) (rows : List Row) → first_in test n rows ≡ send_of n rows (first_place test 0 rows)
+pub first_in_is : (test : State → Bool) (n : ℕ) (rows : List Row) → first_in test n rows ≡ send_of n rows (first_index test 0 rows)
 first_in_is test n [] = refl
 first_in_is test n (r ∷ rows) = in_if (test r.state) (first_in_is test (n + 1) rows)
   where
-    in_if : (t : Bool) → first_in test (n + 1) rows ≡ send_of (n + 1) rows (first_place test 0 rows) → cond t (Send n r) (first_in test (n + 1) rows) ≡ send_of n (r ∷ rows) (cond t (Some 0) (first_place test 1 rows))
+    in_if : (t : Bool) → first_in test (n + 1) rows ≡ send_of (n + 1) rows (first_index test 0 rows) → cond t (Send n r) (first_in test (n + 1) rows) ≡ send_of n (r ∷ rows) (cond t (Some 0) (first_index test 1 rows))
     in_if true h = let e : n ≡ n + 0 = omega arith in ap (λ k. Send k r) e
-    in_if false h = h ∙ (send_on n r rows (first_place test 0 rows) ∙ ap (send_of n (r ∷ rows)) (sym (place_on test 0 rows)))
+    in_if false h = h ∙ (send_on n r rows (first_index test 0 rows) ∙ ap (send_of n (r ∷ rows)) (sym (index_on test 0 rows)))
 
 abbrev AtRow : List Row → Option ℕ → Type 0
 AtRow rows None = Unit {0}
@@ -49,16 +49,16 @@ at_on : (r : Row) (rows : List Row) (o : Option ℕ) → AtRow rows o → AtRow 
 at_on r rows None h = tt
 at_on r rows (Some at) h = omega (arith, h)
 
-there : (test : State → Bool) (rows : List Row) → AtRow rows (first_place test 0 rows)
+there : (test : State → Bool) (rows : List Row) → AtRow rows (first_index test 0 rows)
 there test [] = tt
 there test (r ∷ rows) = there_if (test r.state) (there test rows)
   where
-    there_if : (t : Bool) → AtRow rows (first_place test 0 rows) → AtRow (r ∷ rows) (cond t (Some 0) (first_place test 1 rows))
+    there_if : (t : Bool) → AtRow rows (first_index test 0 rows) → AtRow (r ∷ rows) (cond t (Some 0) (first_index test 1 rows))
     there_if true h = omega arith
-    there_if false h = subst (AtRow (r ∷ rows)) (sym (place_on test 0 rows)) (at_on r rows (first_place test 0 rows) h)
+    there_if false h = subst (AtRow (r ∷ rows)) (sym (index_on test 0 rows)) (at_on r rows (first_index test 0 rows) h)
 
-pub place_there : (test : State → Bool) (rows : List Row) (at : ℕ) → first_place test 0 rows ≡ Some at → at < length rows
-place_there test rows at e = subst (AtRow rows) e (there test rows)
+pub index_there : (test : State → Bool) (rows : List Row) (at : ℕ) → first_index test 0 rows ≡ Some at → at < length rows
+index_there test rows at e = subst (AtRow rows) e (there test rows)
 
 -- the row of one number changed
 put_none : (m n : ℕ) (new : Row) (rows : List Row) → m < n → map_rows (put_at m new) n rows ≡ rows
@@ -73,16 +73,16 @@ put_is n (suc at) new (r ∷ rows) lt =
     rw (ne_eqb n (n + suc at) (λ f. absurd (omega (arith, f)))) (ap (λ (rs : List Row). r ∷ rs) (ap (λ k. map_rows (put_at k new) (n + 1) rows) e ∙ put_is (n + 1) at new rows (omega (arith, lt))))
 
 -- the next choice
-pub next_lost : (s : Sender) (moment resend at : ℕ) → first_place is_lost 0 s.rows ≡ Some at → next_choice moment resend s ≡ Send (s.forward + 1 + at) (row_at s.rows at)
+pub next_lost : (s : Sender) (moment resend at : ℕ) → first_index is_lost 0 s.rows ≡ Some at → next_choice moment resend s ≡ Send (s.forward + 1 + at) (row_at s.rows at)
 next_lost s moment resend at e =
     ap (λ o. or_else o (or_else (first_in is_unsent (s.forward + 1) s.rows) (notice_due moment resend s))) (first_in_is is_lost (s.forward + 1) s.rows ∙ ap (send_of (s.forward + 1) s.rows) e)
 
-pub next_unsent : (s : Sender) (moment resend at : ℕ) → first_place is_lost 0 s.rows ≡ None → first_place is_unsent 0 s.rows ≡ Some at → next_choice moment resend s ≡ Send (s.forward + 1 + at) (row_at s.rows at)
+pub next_unsent : (s : Sender) (moment resend at : ℕ) → first_index is_lost 0 s.rows ≡ None → first_index is_unsent 0 s.rows ≡ Some at → next_choice moment resend s ≡ Send (s.forward + 1 + at) (row_at s.rows at)
 next_unsent s moment resend at none e =
     ap (λ o. or_else o (or_else (first_in is_unsent (s.forward + 1) s.rows) (notice_due moment resend s))) (first_in_is is_lost (s.forward + 1) s.rows ∙ ap (send_of (s.forward + 1) s.rows) none)
     ∙ ap (λ o. or_else o (notice_due moment resend s)) (first_in_is is_unsent (s.forward + 1) s.rows ∙ ap (send_of (s.forward + 1) s.rows) e)
 
-pub next_notice : (s : Sender) (moment resend : ℕ) → first_place is_lost 0 s.rows ≡ None → first_place is_unsent 0 s.rows ≡ None → next_choice moment resend s ≡ notice_due moment resend s
+pub next_notice : (s : Sender) (moment resend : ℕ) → first_index is_lost 0 s.rows ≡ None → first_index is_unsent 0 s.rows ≡ None → next_choice moment resend s ≡ notice_due moment resend s
 next_notice s moment resend none also =
     ap (λ o. or_else o (or_else (first_in is_unsent (s.forward + 1) s.rows) (notice_due moment resend s))) (first_in_is is_lost (s.forward + 1) s.rows ∙ ap (send_of (s.forward + 1) s.rows) none)
     ∙ ap (λ o. or_else o (notice_due moment resend s)) (first_in_is is_unsent (s.forward + 1) s.rows ∙ ap (send_of (s.forward + 1) s.rows) also)

@@ -36,13 +36,6 @@ waits_map g n [] w h = refl
 waits_map g n (r ∷ rows) w h =
     or_eq _ _ _ _ (waits_at (has_number w n) (is_settled (g n r).state) (is_settled r.state) (λ e. h n r (omega arith) e)) (waits_map g (n + 1) rows w (λ k x le e. h k x (omega (arith, le)) e))
 
--- rows in which what is settled is as before, row by row
-abbrev pub SameSettled : ℕ → List Row → List Row → Type 0
-SameSettled n [] [] = Unit {0}
-SameSettled n [] (y ∷ ys) = ⊥
-SameSettled n (x ∷ xs) [] = ⊥
-SameSettled n (x ∷ xs) (y ∷ ys) = (is_settled x.state ≡ is_settled y.state) × SameSettled (n + 1) xs ys
-
 waits_front_if : (b s : Bool) (c d : Bool) → s ≡ true → c ≡ d → ((b && not s) || c) ≡ d
 waits_front_if true true c d e f = f
 waits_front_if false true c d e f = f

@@ -14,3 +14,8 @@ pub mod Quiet
 pub mod Standings
 pub mod Resends
 pub mod Calling
+pub mod Waitings
+pub mod Countings
+pub mod Holding
+pub mod Orders
+pub mod Followed

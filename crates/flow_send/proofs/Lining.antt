@@ -1,4 +1,4 @@
--- Messages in a line, place by place.
+-- Messages in a line, index by index.
 use Rattle.std.proofs.Common.{◌≡◌, ℕ, zero, suc, ◌+◌, ◌<◌, ◌≤◌, ◌==◌, cond, Bool, true, false, List, [], ◌∷◌, ◌++◌, length, get_or, take, drop, slice_get, Option, Some, refl, ap, sym, ◌∙◌, subst, arith}
 use Rattle.std.specs.List.{filter, remove}
 use Rattle.std.proofs.Common.{eq-eqb}
@@ -61,7 +61,7 @@ late_here g n at rows w [] h lt e f = absurd (omega arith)
 late_here g n zero rows w (x ∷ ws) h lt e f = h.0 (omega (arith, f, ap (λ (y : Waiting). y.number) e))
 late_here g n (suc at) rows w (x ∷ ws) h lt e f = late_here g n at rows w ws h (omega arith) e f
 
--- a filter, place by place
+-- a filter, index by index
 kept_if : (p : Waiting → Bool) (x : Waiting) (ws : List Waiting) (t : Bool) → t ≡ true → cond t (x ∷ filter p ws) (filter p ws) ≡ x ∷ filter p ws
 kept_if p x ws true e = refl
 kept_if p x ws false e = absurd cc

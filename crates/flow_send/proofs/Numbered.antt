@@ -15,11 +15,7 @@ pub map_is : (f : Row → Row) (n : ℕ) (rows : List Row) → map f rows ≡ ma
 map_is f n [] = refl
 map_is f n (r ∷ rows) = ap (λ xs. f r ∷ xs) (map_is f (n + 1) rows)
 
-pub any_is : (test : Row → Bool) (n : ℕ) (rows : List Row) → list_any test rows ≡ any_row (λ k r. test r) n rows
-any_is test n [] = refl
-any_is test n (r ∷ rows) = ap (λ b. test r || b) (any_is test (n + 1) rows)
-
--- a test of numbers that stands from one place to before another
+-- a test of numbers that stands from one index to before another
 abbrev pub Stands_between : (ℕ → Bool) → ℕ → ℕ → ℕ → Type 0
 Stands_between test n lo hi = (i : ℕ) → test (n + i) ≡ (nat_le lo i && nat_lt i hi)
 
@@ -110,15 +106,12 @@ most_row_between test f n (suc lo) (suc hi) (r ∷ rows) h =
     ap (λ b. max (cond b (f r) 0) (most_rows (λ k x. cond (test k) (f x) 0) (n + 1) rows)) (head_is test n (suc lo) (suc hi) h ∙ e)
     ∙ (max_zero _ ∙ most_row_between test f (n + 1) lo hi rows (tail_later test n lo hi h))
 
--- the numbers of a message, by place
+-- the numbers of a message, by index
 pub message_between : (w : Waiting) (n : ℕ) → Stands_between (has_number w) n (w.number - n) (w.number + w.count - n)
 message_between w n i = same w.number (w.number + w.count) n i
   where
     same : (a b n i : ℕ) → (nat_le a (n + i) && nat_lt (n + i) b) ≡ (nat_le (a - n) i && nat_lt i (b - n))
     same a b n i = grind (arith, nat_tests)
 
-pub range_between : (first last n : ℕ) → Stands_between (λ k. nat_le first k && nat_le k last) n (first - n) (last + 1 - n)
-range_between first last n i = grind (arith, nat_tests)
-
-pub low_between : (upto n : ℕ) → Stands_between (λ k. nat_le k upto) n 0 (upto + 1 - n)
-low_between upto n i = grind (arith, nat_tests)
+pub span_between : (first last n : ℕ) → Stands_between (λ k. nat_le first k && nat_le k last) n (first - n) (last + 1 - n)
+span_between first last n i = grind (arith, nat_tests)

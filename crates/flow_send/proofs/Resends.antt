@@ -42,7 +42,7 @@ sent_drop done n (suc d) (r ∷ rows) a = let e : n + 1 + d ≡ n + suc d = omeg
 -- a row that keeps its sendings, and comes out of no state in which it wasn't
 pub record Keeps (r x : Row) : Type 0 where
   pub moment : x.moment ≡ r.moment
-  pub place : x.place ≡ r.place
+  pub ordinal : x.ordinal ≡ r.ordinal
   pub resends : x.resends ≡ r.resends
   pub unsent : is_unsent x.state ≡ true → is_unsent r.state ≡ true
   pub out : is_out x.state ≡ true → is_out r.state ≡ true
@@ -55,7 +55,7 @@ kept done n r x k s = record {
   unsent = λ u. s.unsent (k.unsent u);
   some = λ o. s.some (k.out o);
   resends = k.resends ∙ s.resends;
-  last = λ o. pair_same x.moment r.moment x.place r.place (last_sending done n) k.moment k.place (s.last (k.out o));
+  last = λ o. pair_same x.moment r.moment x.ordinal r.ordinal (last_sending done n) k.moment k.ordinal (s.last (k.out o));
 }
 
 pub sent_map : (done : List Done) (f : ℕ → Row → Row) (n : ℕ) (rows : List Row) → ((k : ℕ) (r : Row) → Keeps r (f k r)) → AllSent done n rows → AllSent done n (map_rows f n rows)
@@ -79,13 +79,13 @@ end_sent done n e = record { unsent = λ x. e; some = λ o. absurd cc; resends =
 
 -- the changes of rows that keep their sendings
 same : (r : Row) → Keeps r r
-same r = record { moment = refl; place = refl; resends = refl; unsent = λ e. e; out = λ e. e }
+same r = record { moment = refl; ordinal = refl; resends = refl; unsent = λ e. e; out = λ e. e }
 
 gone : (r : Row) → Keeps r (let_go Given_up r)
-gone r = record { moment = refl; place = refl; resends = refl; unsent = λ e. absurd cc; out = λ e. absurd cc }
+gone r = record { moment = refl; ordinal = refl; resends = refl; unsent = λ e. absurd cc; out = λ e. absurd cc }
 
 acked : (r : Row) → Keeps r (let_go Acknowledged r)
-acked r = record { moment = refl; place = refl; resends = refl; unsent = λ e. absurd cc; out = λ e. absurd cc }
+acked r = record { moment = refl; ordinal = refl; resends = refl; unsent = λ e. absurd cc; out = λ e. absurd cc }
 
 flying_out : (t : State) → is_flying t ≡ true → is_out t ≡ true
 flying_out Unsent e = absurd cc
@@ -95,10 +95,10 @@ flying_out Acknowledged e = absurd cc
 flying_out Given_up e = absurd cc
 
 lost : (r : Row) → is_flying r.state ≡ true → Keeps r (record r { state = Lost })
-lost r e = record { moment = refl; place = refl; resends = refl; unsent = λ u. absurd cc; out = λ o. flying_out r.state e }
+lost r e = record { moment = refl; ordinal = refl; resends = refl; unsent = λ u. absurd cc; out = λ o. flying_out r.state e }
 
 counted : (acks : ℕ) (r : Row) → Keeps r (record r { acks = acks })
-counted acks r = record { moment = refl; place = refl; resends = refl; unsent = λ u. u; out = λ o. o }
+counted acks r = record { moment = refl; ordinal = refl; resends = refl; unsent = λ u. u; out = λ o. o }
 
 and_true : (a b : Bool) → (a && b) ≡ true → (a ≡ true) × (b ≡ true)
 and_true true b e = (refl, e)
@@ -127,13 +127,13 @@ ack_if r false u = same r
 pub ack_keeps : (a : Told) (k : ℕ) (r : Row) → Keeps r (acknowledge a k r)
 ack_keeps a k r = ack_if r (tells a k) (is_acknowledged r.state)
 
-count_if : (place : ℕ) (r : Row) (t u : Bool) → is_third place r ≡ t → Keeps r (cond t (record r { state = Lost }) (cond u (record r { acks = r.acks + 1 }) r))
-count_if place r true u e = lost r ((and_true (is_flying r.state) (nat_lt r.place place) ((and_true (is_flying r.state && nat_lt r.place place) (nat_le 2 r.acks) e).0)).0)
-count_if place r false true e = counted (r.acks + 1) r
-count_if place r false false e = same r
+count_if : (ordinal : ℕ) (r : Row) (t u : Bool) → is_third ordinal r ≡ t → Keeps r (cond t (record r { state = Lost }) (cond u (record r { acks = r.acks + 1 }) r))
+count_if ordinal r true u e = lost r ((and_true (is_flying r.state) (nat_lt r.ordinal ordinal) ((and_true (is_flying r.state && nat_lt r.ordinal ordinal) (nat_le 2 r.acks) e).0)).0)
+count_if ordinal r false true e = counted (r.acks + 1) r
+count_if ordinal r false false e = same r
 
-pub count_keeps : (place : ℕ) (r : Row) → Keeps r (count_ack place r)
-count_keeps place r = count_if place r (is_third place r) (is_flying r.state && nat_lt r.place place) refl
+pub count_keeps : (ordinal : ℕ) (r : Row) → Keeps r (count_ack ordinal r)
+count_keeps ordinal r = count_if ordinal r (is_third ordinal r) (is_flying r.state && nat_lt r.ordinal ordinal) refl
 
 -- a sending
 other_times : (done : List Done) (n moment k : ℕ) → (n ≡ k → ⊥) → times_sent (Sent n moment ∷ done) k ≡ times_sent done k
@@ -175,8 +175,8 @@ resends_if done n r true e s h = up_lost r.resends (times_sent done n) (2 ^ 32 -
     lost_out Given_up e = absurd cc
 resends_if done n r false e s h = up_first r.resends (times_sent done n) (2 ^ 32 - 1) s.resends (s.unsent (h e))
 
-sent_here : (done : List Done) (n moment place : ℕ) (r : Row) → place ≡ min (sendings done + 1) (2 ^ 64 - 1) → (is_lost r.state ≡ false → is_unsent r.state ≡ true) → SentAs done n r → SentAs (Sent n moment ∷ done) n (sent_row moment place r)
-sent_here done n moment place r p h s =
+sent_here : (done : List Done) (n moment ordinal : ℕ) (r : Row) → ordinal ≡ min (sendings done + 1) (2 ^ 64 - 1) → (is_lost r.state ≡ false → is_unsent r.state ≡ true) → SentAs done n r → SentAs (Sent n moment ∷ done) n (sent_row moment ordinal r)
+sent_here done n moment ordinal r p h s =
     let one = eq-eqb n n refl in
     let t : times_sent (Sent n moment ∷ done) n ≡ times_sent done n + 1 = ap (λ b. cond b (times_sent done n + 1) (times_sent done n)) one in
     record {
@@ -189,22 +189,22 @@ sent_here done n moment place r p h s =
 send_eq : (a n : ℕ) (b r : Row) → Send a b ≡ Send n r → (a ≡ n) × (b ≡ r)
 send_eq a n b r e = (cc, cc)
 
-pub put_sent : (done : List Done) (test : State → Bool) (at n moment place : ℕ) (r : Row) (rows : List Row) → ((u : State) → test u ≡ true → is_lost u ≡ false → is_unsent u ≡ true) → place ≡ min (sendings done + 1) (2 ^ 64 - 1) → AllSent done at rows
-    → first_in test at rows ≡ Send n r → AllSent (Sent n moment ∷ done) at (map_rows (put_at n (sent_row moment place r)) at rows)
-put_sent done test at n moment place r [] o p a e = absurd cc
-put_sent done test at n moment place r (x ∷ rows) o p a e = put_if done test at n moment place r x rows (test x.state) refl o p a (put_sent done test (at + 1) n moment place r rows o p a.1) (found_low test (at + 1) n r rows) e
+pub put_sent : (done : List Done) (test : State → Bool) (at n moment ordinal : ℕ) (r : Row) (rows : List Row) → ((u : State) → test u ≡ true → is_lost u ≡ false → is_unsent u ≡ true) → ordinal ≡ min (sendings done + 1) (2 ^ 64 - 1) → AllSent done at rows
+    → first_in test at rows ≡ Send n r → AllSent (Sent n moment ∷ done) at (map_rows (put_at n (sent_row moment ordinal r)) at rows)
+put_sent done test at n moment ordinal r [] o p a e = absurd cc
+put_sent done test at n moment ordinal r (x ∷ rows) o p a e = put_if done test at n moment ordinal r x rows (test x.state) refl o p a (put_sent done test (at + 1) n moment ordinal r rows o p a.1) (found_low test (at + 1) n r rows) e
   where
-    put_if : (done : List Done) (test : State → Bool) (at n moment place : ℕ) (r x : Row) (rows : List Row) (t : Bool) → test x.state ≡ t → ((u : State) → test u ≡ true → is_lost u ≡ false → is_unsent u ≡ true) → place ≡ min (sendings done + 1) (2 ^ 64 - 1)
+    put_if : (done : List Done) (test : State → Bool) (at n moment ordinal : ℕ) (r x : Row) (rows : List Row) (t : Bool) → test x.state ≡ t → ((u : State) → test u ≡ true → is_lost u ≡ false → is_unsent u ≡ true) → ordinal ≡ min (sendings done + 1) (2 ^ 64 - 1)
         → AllSent done at (x ∷ rows)
-        → (first_in test (at + 1) rows ≡ Send n r → AllSent (Sent n moment ∷ done) (at + 1) (map_rows (put_at n (sent_row moment place r)) (at + 1) rows))
+        → (first_in test (at + 1) rows ≡ Send n r → AllSent (Sent n moment ∷ done) (at + 1) (map_rows (put_at n (sent_row moment ordinal r)) (at + 1) rows))
         → (first_in test (at + 1) rows ≡ Send n r → (at + 1 ≤ n) × (n < at + 1 + length rows) × (test r.state ≡ true))
-        → cond t (Send at x) (first_in test (at + 1) rows) ≡ Send n r → AllSent (Sent n moment ∷ done) at (map_rows (put_at n (sent_row moment place r)) at (x ∷ rows))
-    put_if done test at n moment place r x rows true f o p a ih low e =
+        → cond t (Send at x) (first_in test (at + 1) rows) ≡ Send n r → AllSent (Sent n moment ∷ done) at (map_rows (put_at n (sent_row moment ordinal r)) at (x ∷ rows))
+    put_if done test at n moment ordinal r x rows true f o p a ih low e =
         let q = send_eq at n x r e in
-        let one : SentAs (Sent at moment ∷ done) at (sent_row moment place x) = sent_here done at moment place x p (o x.state f) a.0 in
-        let two : SentAs (Sent n moment ∷ done) at (sent_row moment place x) = subst (λ (i : ℕ). SentAs (Sent i moment ∷ done) at (sent_row moment place x)) q.0 one in
-        let three : SentAs (Sent n moment ∷ done) at (sent_row moment place r) = subst (λ (y : Row). SentAs (Sent n moment ∷ done) at (sent_row moment place y)) q.1 two in
-        subst (λ (xs : List Row). AllSent (Sent n moment ∷ done) at xs) (sym (put_here n at (sent_row moment place r) x rows q.0)) (three, others_sent done n moment (at + 1) rows (omega (arith, q.0)) a.1)
-    put_if done test at n moment place r x rows false f o p a ih low e =
+        let one : SentAs (Sent at moment ∷ done) at (sent_row moment ordinal x) = sent_here done at moment ordinal x p (o x.state f) a.0 in
+        let two : SentAs (Sent n moment ∷ done) at (sent_row moment ordinal x) = subst (λ (i : ℕ). SentAs (Sent i moment ∷ done) at (sent_row moment ordinal x)) q.0 one in
+        let three : SentAs (Sent n moment ∷ done) at (sent_row moment ordinal r) = subst (λ (y : Row). SentAs (Sent n moment ∷ done) at (sent_row moment ordinal y)) q.1 two in
+        subst (λ (xs : List Row). AllSent (Sent n moment ∷ done) at xs) (sym (put_here n at (sent_row moment ordinal r) x rows q.0)) (three, others_sent done n moment (at + 1) rows (omega (arith, q.0)) a.1)
+    put_if done test at n moment ordinal r x rows false f o p a ih low e =
         let l = low e in
-        subst (λ (xs : List Row). AllSent (Sent n moment ∷ done) at xs) (sym (put_before n at (sent_row moment place r) x rows (omega (arith, l.0)))) (other_sent done n moment at x (λ q. omega (arith, q, l.0)) a.0, ih e)
+        subst (λ (xs : List Row). AllSent (Sent n moment ∷ done) at xs) (sym (put_before n at (sent_row moment ordinal r) x rows (omega (arith, l.0)))) (other_sent done n moment at x (λ q. omega (arith, q, l.0)) a.0, ih e)

@@ -6,7 +6,7 @@ use Rattle.std.specs.Option.{is_some}
 use Rattle.flow_send.specs.declared.state.State.{State}
 use Rattle.flow_send.specs.declared.state.State.TheVariants.{Unsent, Flying, Lost, Acknowledged, Abandoned}
 use Rattle.flow_send.specs.declared.waiting.Waiting.{Waiting}
-use Rattle.flow_send.specs.Rows.{Row, is_flying, is_unsent, between, any_between, first_place}
+use Rattle.flow_send.specs.Rows.{Row, is_flying, is_unsent, between, any_between, first_index}
 use Rattle.flow_send.specs.Sender.{Sender, is_late, lost_if_late, message_at, abandoned_with, abandoned, waits}
 use Rattle.flow_send.specs.Acks.{is_third, count_ack}
 use Rattle.flow_send.specs.Steady.{is_fresh, AllOk}
@@ -57,14 +57,14 @@ late_flies moment resend = record {
   fails = λ r e. and_first (is_flying r.state) (nat_le (r.moment + resend) moment) e;
 }
 
-pub third_flies : (place : ℕ) → OnlyFlying (count_ack place) (is_third place)
-third_flies place = record {
+pub third_flies : (ordinal : ℕ) → OnlyFlying (count_ack ordinal) (is_third ordinal)
+third_flies ordinal = record {
   same = λ r e.
-      let a = and_first (is_flying r.state) (nat_lt r.place place) e in
-      let b = and_first (is_flying r.state && nat_lt r.place place) (nat_le 2 r.acks) a in
-      pick_second (is_third place r) (record r { state = Lost }) (cond (is_flying r.state && nat_lt r.place place) (record r { acks = r.acks + 1 }) r) b
-      ∙ pick_second (is_flying r.state && nat_lt r.place place) (record r { acks = r.acks + 1 }) r a;
-  fails = λ r e. and_first (is_flying r.state && nat_lt r.place place) (nat_le 2 r.acks) (and_first (is_flying r.state) (nat_lt r.place place) e);
+      let a = and_first (is_flying r.state) (nat_lt r.ordinal ordinal) e in
+      let b = and_first (is_flying r.state && nat_lt r.ordinal ordinal) (nat_le 2 r.acks) a in
+      pick_second (is_third ordinal r) (record r { state = Lost }) (cond (is_flying r.state && nat_lt r.ordinal ordinal) (record r { acks = r.acks + 1 }) r) b
+      ∙ pick_second (is_flying r.state && nat_lt r.ordinal ordinal) (record r { acks = r.acks + 1 }) r a;
+  fails = λ r e. and_first (is_flying r.state && nat_lt r.ordinal ordinal) (nat_le 2 r.acks) (and_first (is_flying r.state) (nat_lt r.ordinal ordinal) e);
 }
 
 -- none is late any more
@@ -76,29 +76,21 @@ pub none_late : (moment resend : ℕ) (rows : List Row) → list_any (is_late mo
 none_late moment resend [] = refl
 none_late moment resend (r ∷ rows) = ap (λ b. b || list_any (is_late moment resend) (map (lost_if_late moment resend) rows)) (late_once_if moment resend r (is_late moment resend r) refl) ∙ none_late moment resend rows
 
--- where no message waits, nothing is abandoned
-nothing_if : (s : Sender) (n : ℕ) (o : Option Waiting) → is_some o ≡ false → abandoned_with o n s ≡ s
-nothing_if s n None e = refl
-nothing_if s n (Some w) e = absurd cc
-
-pub nothing_abandoned : (s : Sender) (n : ℕ) → waits s n ≡ false → abandoned n s ≡ s
-nothing_abandoned s n e = nothing_if s n (message_at n s.waiting) e
-
 -- up to the highest number sent none is unsent
-place_none_if : (n : ℕ) (o : Option ℕ) (b : Bool) → b ≡ false → cond b (Some n) o ≡ o
-place_none_if n o true e = absurd cc
-place_none_if n o false e = refl
+index_none_if : (n : ℕ) (o : Option ℕ) (b : Bool) → b ≡ false → cond b (Some n) o ≡ o
+index_none_if n o true e = absurd cc
+index_none_if n o false e = refl
 
-pub unsent_from : (sent n at i : ℕ) (rows : List Row) → n + at ≡ sent + 1 → AllOk sent n rows → first_place is_unsent i rows ≡ first_place is_unsent (i + at) (drop at rows)
-unsent_from sent n zero i rows e a = let k : i + 0 ≡ i = omega arith in ap (λ j. first_place is_unsent j rows) (sym k)
+pub unsent_from : (sent n at i : ℕ) (rows : List Row) → n + at ≡ sent + 1 → AllOk sent n rows → first_index is_unsent i rows ≡ first_index is_unsent (i + at) (drop at rows)
+unsent_from sent n zero i rows e a = let k : i + 0 ≡ i = omega arith in ap (λ j. first_index is_unsent j rows) (sym k)
 unsent_from sent n (suc at) i [] e a = refl
 unsent_from sent n (suc at) i (r ∷ rows) e a =
     let k : i + 1 + at ≡ i + suc at = omega arith in
-    place_none_if i (first_place is_unsent (i + 1) rows) (is_unsent r.state) (a.0.old (omega (arith, e)))
-    ∙ (unsent_from sent (n + 1) at (i + 1) rows (omega (arith, e)) a.1 ∙ ap (λ j. first_place is_unsent j (drop at rows)) k)
+    index_none_if i (first_index is_unsent (i + 1) rows) (is_unsent r.state) (a.0.old (omega (arith, e)))
+    ∙ (unsent_from sent (n + 1) at (i + 1) rows (omega (arith, e)) a.1 ∙ ap (λ j. first_index is_unsent j (drop at rows)) k)
 
-pub unsent_sent : (sent forward at : ℕ) (rows : List Row) → at ≡ sent - forward → AllOk sent (forward + 1) rows → first_place is_unsent 0 rows ≡ first_place is_unsent at (drop at rows)
+pub unsent_sent : (sent forward at : ℕ) (rows : List Row) → at ≡ sent - forward → AllOk sent (forward + 1) rows → first_index is_unsent 0 rows ≡ first_index is_unsent at (drop at rows)
 unsent_sent sent forward at rows e a = elim (cases_lt sent forward) [
   | inl lt ↦ let n : at ≡ 0 = omega (arith, e, lt) in rw n refl
-  | inr le ↦ let n : 0 + at ≡ at = omega arith in unsent_from sent (forward + 1) at 0 rows (omega (arith, e, le)) a ∙ ap (λ k. first_place is_unsent k (drop at rows)) n
+  | inr le ↦ let n : 0 + at ≡ at = omega arith in unsent_from sent (forward + 1) at 0 rows (omega (arith, e, le)) a ∙ ap (λ k. first_index is_unsent k (drop at rows)) n
 ]

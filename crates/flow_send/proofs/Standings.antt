@@ -99,22 +99,22 @@ late_stands done moment resend n rows a = all_plain done (lost_if_late moment re
 send_eq : (a n : ℕ) (b r : Row) → Send a b ≡ Send n r → (a ≡ n) × (b ≡ r)
 send_eq a n b r e = (cc, cc)
 
-pub put_stands : (done : List Done) (test : State → Bool) (at n moment place : ℕ) (r : Row) (rows : List Row) → ((u : State) → test u ≡ true → IsOpen u) → AllStand done at rows → first_in test at rows ≡ Send n r
-    → AllStand done at (map_rows (put_at n (sent_row moment place r)) at rows)
-put_stands done test at n moment place r [] o a e = absurd cc
-put_stands done test at n moment place r (x ∷ rows) o a e = put_if done test at n moment place r x rows (test x.state) refl o a (put_stands done test (at + 1) n moment place r rows o a.1) (found_low test (at + 1) n r rows) e
+pub put_stands : (done : List Done) (test : State → Bool) (at n moment ordinal : ℕ) (r : Row) (rows : List Row) → ((u : State) → test u ≡ true → IsOpen u) → AllStand done at rows → first_in test at rows ≡ Send n r
+    → AllStand done at (map_rows (put_at n (sent_row moment ordinal r)) at rows)
+put_stands done test at n moment ordinal r [] o a e = absurd cc
+put_stands done test at n moment ordinal r (x ∷ rows) o a e = put_if done test at n moment ordinal r x rows (test x.state) refl o a (put_stands done test (at + 1) n moment ordinal r rows o a.1) (found_low test (at + 1) n r rows) e
   where
-    put_if : (done : List Done) (test : State → Bool) (at n moment place : ℕ) (r x : Row) (rows : List Row) (t : Bool) → test x.state ≡ t → ((u : State) → test u ≡ true → IsOpen u) → AllStand done at (x ∷ rows)
-        → (first_in test (at + 1) rows ≡ Send n r → AllStand done (at + 1) (map_rows (put_at n (sent_row moment place r)) (at + 1) rows))
+    put_if : (done : List Done) (test : State → Bool) (at n moment ordinal : ℕ) (r x : Row) (rows : List Row) (t : Bool) → test x.state ≡ t → ((u : State) → test u ≡ true → IsOpen u) → AllStand done at (x ∷ rows)
+        → (first_in test (at + 1) rows ≡ Send n r → AllStand done (at + 1) (map_rows (put_at n (sent_row moment ordinal r)) (at + 1) rows))
         → (first_in test (at + 1) rows ≡ Send n r → (at + 1 ≤ n) × (n < at + 1 + length rows) × (test r.state ≡ true))
-        → cond t (Send at x) (first_in test (at + 1) rows) ≡ Send n r → AllStand done at (map_rows (put_at n (sent_row moment place r)) at (x ∷ rows))
-    put_if done test at n moment place r x rows true f o a ih low e =
+        → cond t (Send at x) (first_in test (at + 1) rows) ≡ Send n r → AllStand done at (map_rows (put_at n (sent_row moment ordinal r)) at (x ∷ rows))
+    put_if done test at n moment ordinal r x rows true f o a ih low e =
         let p = send_eq at n x r e in
-        let one : Stands done at (sent_row moment place r) = changed done at x (sent_row moment place r) (o x.state f) (refl, refl) a.0 in
-        subst (λ (xs : List Row). AllStand done at xs) (sym (put_here n at (sent_row moment place r) x rows p.0)) (one, a.1)
-    put_if done test at n moment place r x rows false f o a ih low e =
+        let one : Stands done at (sent_row moment ordinal r) = changed done at x (sent_row moment ordinal r) (o x.state f) (refl, refl) a.0 in
+        subst (λ (xs : List Row). AllStand done at xs) (sym (put_here n at (sent_row moment ordinal r) x rows p.0)) (one, a.1)
+    put_if done test at n moment ordinal r x rows false f o a ih low e =
         let l = low e in
-        subst (λ (xs : List Row). AllStand done at xs) (sym (put_before n at (sent_row moment place r) x rows (omega (arith, l.0)))) (a.0, ih e)
+        subst (λ (xs : List Row). AllStand done at xs) (sym (put_before n at (sent_row moment ordinal r) x rows (omega (arith, l.0)))) (a.0, ih e)
 
 -- abandon
 give_if : (done : List Done) (x : Waiting) (n : ℕ) (r : Row) (t u : Bool) → has_number x n ≡ t → is_acknowledged r.state ≡ u → Stands done n r
@@ -159,14 +159,14 @@ ack_if done a n r false u e f s = record {
   abandoned = s.abandoned ∙ ap (λ b. is_given_up done n && not (b || is_told done n)) (sym e);
 }
 
-count_if : (done : List Done) (n place : ℕ) (r : Row) (t u : Bool) → is_third place r ≡ t → Stands done n r → Stands done n (cond t (record r { state = Lost }) (cond u (record r { acks = r.acks + 1 }) r))
-count_if done n place r true u e s = changed done n r (record r { state = Lost }) (flying_open r.state ((and_true (is_flying r.state) (nat_lt r.place place) ((and_true (is_flying r.state && nat_lt r.place place) (nat_le 2 r.acks) e).0)).0)) (refl, refl) s
-count_if done n place r false true e s = record { acknowledged = s.acknowledged; abandoned = s.abandoned }
-count_if done n place r false false e s = s
+count_if : (done : List Done) (n ordinal : ℕ) (r : Row) (t u : Bool) → is_third ordinal r ≡ t → Stands done n r → Stands done n (cond t (record r { state = Lost }) (cond u (record r { acks = r.acks + 1 }) r))
+count_if done n ordinal r true u e s = changed done n r (record r { state = Lost }) (flying_open r.state ((and_true (is_flying r.state) (nat_lt r.ordinal ordinal) ((and_true (is_flying r.state && nat_lt r.ordinal ordinal) (nat_le 2 r.acks) e).0)).0)) (refl, refl) s
+count_if done n ordinal r false true e s = record { acknowledged = s.acknowledged; abandoned = s.abandoned }
+count_if done n ordinal r false false e s = s
 
-pub told_stands : (done : List Done) (a : Told) (place n : ℕ) (rows : List Row) → AllStand done n rows → AllStand (Heard a ∷ done) n (map (count_ack place) (map_rows (acknowledge a) n rows))
-told_stands done a place n rows h =
-    all_plain (Heard a ∷ done) (count_ack place) n (map_rows (acknowledge a) n rows) (λ k r s. count_if (Heard a ∷ done) k place r (is_third place r) (is_flying r.state && nat_lt r.place place) refl s)
+pub told_stands : (done : List Done) (a : Told) (ordinal n : ℕ) (rows : List Row) → AllStand done n rows → AllStand (Heard a ∷ done) n (map (count_ack ordinal) (map_rows (acknowledge a) n rows))
+told_stands done a ordinal n rows h =
+    all_plain (Heard a ∷ done) (count_ack ordinal) n (map_rows (acknowledge a) n rows) (λ k r s. count_if (Heard a ∷ done) k ordinal r (is_third ordinal r) (is_flying r.state && nat_lt r.ordinal ordinal) refl s)
     (all_map done (Heard a ∷ done) (acknowledge a) n rows (λ k r s. ack_if done a k r (tells a k) (is_acknowledged r.state) refl refl s) h)
 
 -- the front is over

@@ -13,7 +13,7 @@ use Rattle.flow_send.specs.declared.waiting.Waiting.{Waiting}
 use Rattle.flow_send.specs.Rows.{Row, end_row, is_unsent, is_flying, is_lost, is_acknowledged, is_settled, let_go, map_rows, settled_front}
 use Rattle.flow_send.specs.Sender.{Sender, new_sender, next_of, with_rows, bytes_held, fragments_held, new_row, rows_of, waiting_of, queued, has_number, message_at, without_message, give_up, give_up_row, abandoned_with, finished, is_late, lost_if_late, lost_late}
 use Rattle.flow_send.specs.Choice.{Choice, Nothing, Send, Notify, first_in, or_else, is_quiet, next_choice, within_limit, choice_bytes, choice, count_up, sent_row, put_at, sent_after}
-use Rattle.flow_send.specs.Acks.{Told, in_range, tells, greatest, acknowledge, acknowledge_row, is_third, count_ack, last_place, rows_acknowledged, rows_told, still_waits, told_by}
+use Rattle.flow_send.specs.Acks.{Told, in_span, tells, greatest, acknowledge, acknowledge_row, is_third, count_ack, last_ordinal, rows_acknowledged, rows_told, still_waits, told_by}
 use Rattle.flow_send.specs.Steady.{is_fresh, RowOk, AllOk, Line, AllWait, line_end, end_of, IsLast, AllShort, IsBounded, Steady}
 use Rattle.flow_send.proofs.Fronts.{front_dropped, front_append, news_front, front_map, front_put}
 use Rattle.flow_send.proofs.Numbered.{map_length, map_is}
@@ -275,26 +275,26 @@ found_low test at n r (x ∷ rows) e = low_if test at n r x rows (test x.state) 
         (omega (arith, p.0), omega (arith, p.0), ap (λ (y : Row). test y.state) (sym p.1) ∙ f)
     low_if test at n r x rows false f ih e = let l = ih e in (omega (arith, l.0), omega (arith, l.1), l.2)
 
-sent_here : (more n moment place : ℕ) (r : Row) → n ≤ more → length r.fragment.bytes ≤ 1000 → RowOk more n (sent_row moment place r)
-sent_here more n moment place r le few = record { old = λ l. refl; fresh = λ lt. absurd (omega (arith, le, lt)); empty = λ e. absurd cc; short = few }
+sent_here : (more n moment ordinal : ℕ) (r : Row) → n ≤ more → length r.fragment.bytes ≤ 1000 → RowOk more n (sent_row moment ordinal r)
+sent_here more n moment ordinal r le few = record { old = λ l. refl; fresh = λ lt. absurd (omega (arith, le, lt)); empty = λ e. absurd cc; short = few }
 
-sent_all : (test : State → Bool) (sent at n moment place : ℕ) (r : Row) (rows : List Row) → ((y : Row) → test y.state ≡ false → (n ≤ sent) ⊎ (is_unsent y.state ≡ false)) → AllOk sent at rows → first_in test at rows ≡ Send n r
-    → AllOk (max sent n) at (map_rows (put_at n (sent_row moment place r)) at rows)
-sent_all test sent at n moment place r [] h a e = absurd cc
-sent_all test sent at n moment place r (x ∷ rows) h a e = all_if test sent at n moment place r x rows (test x.state) refl h a (sent_all test sent (at + 1) n moment place r rows h a.1) (found_low test (at + 1) n r rows) e
+sent_all : (test : State → Bool) (sent at n moment ordinal : ℕ) (r : Row) (rows : List Row) → ((y : Row) → test y.state ≡ false → (n ≤ sent) ⊎ (is_unsent y.state ≡ false)) → AllOk sent at rows → first_in test at rows ≡ Send n r
+    → AllOk (max sent n) at (map_rows (put_at n (sent_row moment ordinal r)) at rows)
+sent_all test sent at n moment ordinal r [] h a e = absurd cc
+sent_all test sent at n moment ordinal r (x ∷ rows) h a e = all_if test sent at n moment ordinal r x rows (test x.state) refl h a (sent_all test sent (at + 1) n moment ordinal r rows h a.1) (found_low test (at + 1) n r rows) e
   where
-    all_if : (test : State → Bool) (sent at n moment place : ℕ) (r x : Row) (rows : List Row) (t : Bool) → test x.state ≡ t → ((y : Row) → test y.state ≡ false → (n ≤ sent) ⊎ (is_unsent y.state ≡ false)) → AllOk sent at (x ∷ rows)
-        → (first_in test (at + 1) rows ≡ Send n r → AllOk (max sent n) (at + 1) (map_rows (put_at n (sent_row moment place r)) (at + 1) rows))
+    all_if : (test : State → Bool) (sent at n moment ordinal : ℕ) (r x : Row) (rows : List Row) (t : Bool) → test x.state ≡ t → ((y : Row) → test y.state ≡ false → (n ≤ sent) ⊎ (is_unsent y.state ≡ false)) → AllOk sent at (x ∷ rows)
+        → (first_in test (at + 1) rows ≡ Send n r → AllOk (max sent n) (at + 1) (map_rows (put_at n (sent_row moment ordinal r)) (at + 1) rows))
         → (first_in test (at + 1) rows ≡ Send n r → (at + 1 ≤ n) × (n < at + 1 + length rows) × (test r.state ≡ true))
-        → cond t (Send at x) (first_in test (at + 1) rows) ≡ Send n r → AllOk (max sent n) at (map_rows (put_at n (sent_row moment place r)) at (x ∷ rows))
-    all_if test sent at n moment place r x rows true f h a ih low e =
+        → cond t (Send at x) (first_in test (at + 1) rows) ≡ Send n r → AllOk (max sent n) at (map_rows (put_at n (sent_row moment ordinal r)) at (x ∷ rows))
+    all_if test sent at n moment ordinal r x rows true f h a ih low e =
         let p = send_eq at n x r e in
-        let one : RowOk (max sent n) at (sent_row moment place r) = sent_here (max sent n) at moment place r (omega (arith, p.0)) (subst (λ (y : Row). length y.fragment.bytes ≤ 1000) p.1 a.0.short) in
-        subst (λ (xs : List Row). AllOk (max sent n) at xs) (sym (put_here n at (sent_row moment place r) x rows p.0)) (one, raise_all sent n (at + 1) rows (omega (arith, p.0)) a.1)
-    all_if test sent at n moment place r x rows false f h a ih low e =
+        let one : RowOk (max sent n) at (sent_row moment ordinal r) = sent_here (max sent n) at moment ordinal r (omega (arith, p.0)) (subst (λ (y : Row). length y.fragment.bytes ≤ 1000) p.1 a.0.short) in
+        subst (λ (xs : List Row). AllOk (max sent n) at xs) (sym (put_here n at (sent_row moment ordinal r) x rows p.0)) (one, raise_all sent n (at + 1) rows (omega (arith, p.0)) a.1)
+    all_if test sent at n moment ordinal r x rows false f h a ih low e =
         let l = low e in
         let one : RowOk (max sent n) at x = raise_ok sent (max sent n) at x (omega arith) (λ g k. elim (h x f) [ inl le ↦ absurd (omega (arith, le, g, k, l.0)) | inr u ↦ u ]) a.0 in
-        subst (λ (xs : List Row). AllOk (max sent n) at xs) (sym (put_before n at (sent_row moment place r) x rows (omega (arith, l.0)))) (one, ih e)
+        subst (λ (xs : List Row). AllOk (max sent n) at xs) (sym (put_before n at (sent_row moment ordinal r) x rows (omega (arith, l.0)))) (one, ih e)
 
 -- the row that is sent isn't settled before or after
 waits_sent : (test : State → Bool) (at n : ℕ) (new r : Row) (rows : List Row) (w : Waiting) → is_settled new.state ≡ is_settled r.state → first_in test at rows ≡ Send n r → still_waits at (map_rows (put_at n new) at rows) w ≡ still_waits at rows w
@@ -410,73 +410,73 @@ steady_sent s moment resend (Send n r) e k = elim (chosen s moment resend n r e)
 ]
 
 -- take_ack
-new_told : (upto n : ℕ) (ranges : List (ℕ × ℕ)) → upto ≤ greatest upto ranges
+new_told : (upto n : ℕ) (spans : List (ℕ × ℕ)) → upto ≤ greatest upto spans
 new_told upto n [] = omega arith
-new_told upto n (p ∷ ranges) = omega (arith, new_told (max upto p.1) n ranges)
+new_told upto n (p ∷ spans) = omega (arith, new_told (max upto p.1) n spans)
 
-greatest_rises : (a b : ℕ) (ranges : List (ℕ × ℕ)) → a ≤ b → greatest a ranges ≤ greatest b ranges
+greatest_rises : (a b : ℕ) (spans : List (ℕ × ℕ)) → a ≤ b → greatest a spans ≤ greatest b spans
 greatest_rises a b [] le = le
-greatest_rises a b (p ∷ ranges) le = greatest_rises (max a p.1) (max b p.1) ranges (omega (arith, le))
+greatest_rises a b (p ∷ spans) le = greatest_rises (max a p.1) (max b p.1) spans (omega (arith, le))
 
-ranges_below : (upto n : ℕ) (ranges : List (ℕ × ℕ)) → list_any (in_range n) ranges ≡ true → n ≤ greatest upto ranges
+ranges_below : (upto n : ℕ) (spans : List (ℕ × ℕ)) → list_any (in_span n) spans ≡ true → n ≤ greatest upto spans
 ranges_below upto n [] e = absurd cc
-ranges_below upto n (p ∷ ranges) e = below_if upto n p ranges (in_range n p) refl e (ranges_below (max upto p.1) n ranges)
+ranges_below upto n (p ∷ spans) e = below_if upto n p spans (in_span n p) refl e (ranges_below (max upto p.1) n spans)
   where
-    below_if : (upto n : ℕ) (p : ℕ × ℕ) (ranges : List (ℕ × ℕ)) (t : Bool) → in_range n p ≡ t → (t || list_any (in_range n) ranges) ≡ true → (list_any (in_range n) ranges ≡ true → n ≤ greatest (max upto p.1) ranges) → n ≤ greatest (max upto p.1) ranges
-    below_if upto n p ranges true f e ih =
+    below_if : (upto n : ℕ) (p : ℕ × ℕ) (spans : List (ℕ × ℕ)) (t : Bool) → in_span n p ≡ t → (t || list_any (in_span n) spans) ≡ true → (list_any (in_span n) spans ≡ true → n ≤ greatest (max upto p.1) spans) → n ≤ greatest (max upto p.1) spans
+    below_if upto n p spans true f e ih =
         let q = and_true (nat_le p.0 n) (nat_le n p.1) f in
-        omega (arith, leb-true n p.1 q.1, new_told (max upto p.1) n ranges)
-    below_if upto n p ranges false f e ih = ih e
+        omega (arith, leb-true n p.1 q.1, new_told (max upto p.1) n spans)
+    below_if upto n p spans false f e ih = ih e
 
 -- what an ack tells isn't above the greatest number that it tells
-pub told_below : (a : Told) (n : ℕ) → tells a n ≡ true → n ≤ greatest a.upto a.ranges
+pub told_below : (a : Told) (n : ℕ) → tells a n ≡ true → n ≤ greatest a.upto a.spans
 told_below a n e = below_if (nat_le n a.upto) refl e
   where
-    below_if : (t : Bool) → nat_le n a.upto ≡ t → (t || list_any (in_range n) a.ranges) ≡ true → n ≤ greatest a.upto a.ranges
-    below_if true f e = omega (arith, leb-true n a.upto f, new_told a.upto n a.ranges)
-    below_if false f e = ranges_below a.upto n a.ranges e
+    below_if : (t : Bool) → nat_le n a.upto ≡ t → (t || list_any (in_span n) a.spans) ≡ true → n ≤ greatest a.upto a.spans
+    below_if true f e = omega (arith, leb-true n a.upto f, new_told a.upto n a.spans)
+    below_if false f e = ranges_below a.upto n a.spans e
 
 ack_ok_if : (sent k : ℕ) (r : Row) (t : Bool) → is_acknowledged r.state ≡ t → k ≤ sent → RowOk sent k r → RowOk sent k (cond t r (let_go Acknowledged r))
 ack_ok_if sent k r true e le o = o
 ack_ok_if sent k r false e le o = record { old = λ l. refl; fresh = λ lt. absurd (omega (arith, le, lt)); empty = λ x. absurd cc; short = omega arith }
 
-ack_ok : (a : Told) (sent k : ℕ) (r : Row) (t : Bool) → tells a k ≡ t → greatest a.upto a.ranges ≤ sent → RowOk sent k r → RowOk sent k (cond t (acknowledge_row r) r)
+ack_ok : (a : Told) (sent k : ℕ) (r : Row) (t : Bool) → tells a k ≡ t → greatest a.upto a.spans ≤ sent → RowOk sent k r → RowOk sent k (cond t (acknowledge_row r) r)
 ack_ok a sent k r true e le o = let b = told_below a k e in ack_ok_if sent k r (is_acknowledged r.state) refl (omega (arith, b, le)) o
 ack_ok a sent k r false e le o = o
 
 counted_ok : (sent k acks : ℕ) (r : Row) → RowOk sent k r → RowOk sent k (record r { acks = acks })
 counted_ok sent k acks r o = record { old = o.old; fresh = o.fresh; empty = o.empty; short = o.short }
 
-count_ok : (place sent k : ℕ) (r : Row) (t u : Bool) → is_third place r ≡ t → RowOk sent k r → RowOk sent k (cond t (record r { state = Lost }) (cond u (record r { acks = r.acks + 1 }) r))
-count_ok place sent k r true u e o = lose_ok sent k r ((and_true (is_flying r.state) (nat_lt r.place place) ((and_true (is_flying r.state && nat_lt r.place place) (nat_le 2 r.acks) e).0)).0) o
-count_ok place sent k r false true e o = counted_ok sent k (r.acks + 1) r o
-count_ok place sent k r false false e o = o
+count_ok : (ordinal sent k : ℕ) (r : Row) (t u : Bool) → is_third ordinal r ≡ t → RowOk sent k r → RowOk sent k (cond t (record r { state = Lost }) (cond u (record r { acks = r.acks + 1 }) r))
+count_ok ordinal sent k r true u e o = lose_ok sent k r ((and_true (is_flying r.state) (nat_lt r.ordinal ordinal) ((and_true (is_flying r.state && nat_lt r.ordinal ordinal) (nat_le 2 r.acks) e).0)).0) o
+count_ok ordinal sent k r false true e o = counted_ok sent k (r.acks + 1) r o
+count_ok ordinal sent k r false false e o = o
 
 pub told_length : (a : Told) (s : Sender) → length (rows_told a s) ≡ length s.rows
 told_length a s =
-    let place = last_place a (s.forward + 1) s.rows in
-    ap (λ (xs : List Row). length xs) (map_is (count_ack place) (s.forward + 1) (rows_acknowledged a s)) ∙ (map_length (λ k r. count_ack place r) (s.forward + 1) (rows_acknowledged a s) ∙ map_length (acknowledge a) (s.forward + 1) s.rows)
+    let ordinal = last_ordinal a (s.forward + 1) s.rows in
+    ap (λ (xs : List Row). length xs) (map_is (count_ack ordinal) (s.forward + 1) (rows_acknowledged a s)) ∙ (map_length (λ k r. count_ack ordinal r) (s.forward + 1) (rows_acknowledged a s) ∙ map_length (acknowledge a) (s.forward + 1) s.rows)
 
-pub acked_ok : (a : Told) (s : Sender) → Steady s → greatest a.upto a.ranges ≤ s.sent → AllOk s.sent (s.forward + 1) (rows_acknowledged a s)
+pub acked_ok : (a : Told) (s : Sender) → Steady s → greatest a.upto a.spans ≤ s.sent → AllOk s.sent (s.forward + 1) (rows_acknowledged a s)
 acked_ok a s k le = ok_map s.sent (s.forward + 1) (acknowledge a) s.rows (λ i r o. ack_ok a s.sent i r (tells a i) refl le o) k.rows
 
-pub count_settled : (place : ℕ) (r : Row) → is_settled (count_ack place r).state ≡ is_settled r.state
-count_settled place r = count_if place r (is_third place r) (is_flying r.state && nat_lt r.place place) refl
+pub count_settled : (ordinal : ℕ) (r : Row) → is_settled (count_ack ordinal r).state ≡ is_settled r.state
+count_settled ordinal r = count_if ordinal r (is_third ordinal r) (is_flying r.state && nat_lt r.ordinal ordinal) refl
   where
-    count_if : (place : ℕ) (r : Row) (t u : Bool) → is_third place r ≡ t → is_settled (cond t (record r { state = Lost }) (cond u (record r { acks = r.acks + 1 }) r)).state ≡ is_settled r.state
-    count_if place r true u e = sym ((flying_old r.state ((and_true (is_flying r.state) (nat_lt r.place place) ((and_true (is_flying r.state && nat_lt r.place place) (nat_le 2 r.acks) e).0)).0)).1)
-    count_if place r false true e = refl
-    count_if place r false false e = refl
+    count_if : (ordinal : ℕ) (r : Row) (t u : Bool) → is_third ordinal r ≡ t → is_settled (cond t (record r { state = Lost }) (cond u (record r { acks = r.acks + 1 }) r)).state ≡ is_settled r.state
+    count_if ordinal r true u e = sym ((flying_old r.state ((and_true (is_flying r.state) (nat_lt r.ordinal ordinal) ((and_true (is_flying r.state && nat_lt r.ordinal ordinal) (nat_le 2 r.acks) e).0)).0)).1)
+    count_if ordinal r false true e = refl
+    count_if ordinal r false false e = refl
 
-pub told_ok : (a : Told) (s : Sender) → Steady s → greatest a.upto a.ranges ≤ s.sent → AllOk s.sent (s.forward + 1) (rows_told a s)
+pub told_ok : (a : Told) (s : Sender) → Steady s → greatest a.upto a.spans ≤ s.sent → AllOk s.sent (s.forward + 1) (rows_told a s)
 told_ok a s k le =
     let at = s.forward + 1 in
-    let place = last_place a at s.rows in
+    let ordinal = last_ordinal a at s.rows in
     let acked = ok_map s.sent at (acknowledge a) s.rows (λ i r o. ack_ok a s.sent i r (tells a i) refl le o) k.rows in
-    subst (λ (xs : List Row). AllOk s.sent at xs) (sym (map_is (count_ack place) at (rows_acknowledged a s)))
-    (ok_map s.sent at (λ i r. count_ack place r) (rows_acknowledged a s) (λ i r o. count_ok place s.sent i r (is_third place r) (is_flying r.state && nat_lt r.place place) refl o) acked)
+    subst (λ (xs : List Row). AllOk s.sent at xs) (sym (map_is (count_ack ordinal) at (rows_acknowledged a s)))
+    (ok_map s.sent at (λ i r. count_ack ordinal r) (rows_acknowledged a s) (λ i r o. count_ok ordinal s.sent i r (is_third ordinal r) (is_flying r.state && nat_lt r.ordinal ordinal) refl o) acked)
 
-pub steady_told : (s : Sender) (a : Told) → Steady s → greatest a.upto a.ranges ≤ s.sent → Steady (told_by a s)
+pub steady_told : (s : Sender) (a : Told) → Steady s → greatest a.upto a.spans ≤ s.sent → Steady (told_by a s)
 steady_told s a k le =
     let at = s.forward + 1 in
     let rows = rows_told a s in

@@ -5,7 +5,7 @@ use Rattle.std.proofs.lemmas.List.Sums.{sum_by-cons, sum_by-set, get_or-le-sum_b
 use Rattle.std.proofs.lemmas.Bool.{lt-ltb}
 use Rattle.flow_send.specs.declared.state.State.TheVariants.{Lost}
 use Rattle.flow_send.specs.declared.totals.Totals.{Totals}
-use Rattle.flow_send.specs.Rows.{Row, first_place, any_between, any_flying, is_flying, is_lost, end_row, row_at, flight_of, flying_of, stored_of, lost_of, totals_of, row_totals}
+use Rattle.flow_send.specs.Rows.{Row, first_index, any_between, any_flying, is_flying, is_lost, end_row, row_at, flight_of, flying_of, stored_of, lost_of, totals_of, row_totals}
 use Rattle.flow_send.specs.Sender.{lost_if_late, is_late, is_spent_row}
 use Rattle.flow_send.specs.Acks.{count_ack, is_third}
 use Rattle.flow_send.specs.Moved.{moved, IsWithin, Fit}
@@ -23,14 +23,6 @@ totals_eq a b c d e f g h p q r s =
 pub moved_set : (rows : List Row) (at : ℕ) (y : Row) → at < length rows → moved (totals_of rows) (row_totals (row_at rows at)) (row_totals y) ≡ totals_of (set rows at y)
 moved_set rows at y lt =
     totals_eq _ _ _ _ _ _ _ _ (swap_is flight_of rows at y lt) (swap_is flying_of rows at y lt) (swap_is stored_of rows at y lt) (swap_is lost_of rows at y lt)
-
-pub within_all : (rows : List Row) (at : ℕ) → at < length rows → IsWithin (row_totals (row_at rows at)) (totals_of rows)
-within_all rows at lt = record {
-  flight = get_or-le-sum_by flight_of rows at end_row lt;
-  flying = get_or-le-sum_by flying_of rows at end_row lt;
-  stored = get_or-le-sum_by stored_of rows at end_row lt;
-  lost = get_or-le-sum_by lost_of rows at end_row lt;
-}
 
 cond_le : (b : Bool) (n : ℕ) → cond b n 0 ≤ n
 cond_le true n = let e : n ≤ n = omega arith in e
@@ -86,8 +78,8 @@ count_if r true u = refl
 count_if r false true = refl
 count_if r false false = refl
 
-pub count_stored : (place : ℕ) (r : Row) → stored_of (count_ack place r) ≡ stored_of r
-count_stored place r = count_if r (is_third place r) (is_flying r.state && nat_lt r.place place)
+pub count_stored : (ordinal : ℕ) (r : Row) → stored_of (count_ack ordinal r) ≡ stored_of r
+count_stored ordinal r = count_if r (is_third ordinal r) (is_flying r.state && nat_lt r.ordinal ordinal)
 
 lost_if : (r : Row) (t : Bool) → stored_of (cond t (record r { state = Lost }) r) ≡ stored_of r
 lost_if r true = refl
@@ -101,15 +93,15 @@ pub zero_if : (b : Bool) (n : ℕ) → cond b 1 0 + n ≡ 0 → (b ≡ false) ×
 zero_if true n e = absurd (omega (arith, e))
 zero_if false n e = (refl, omega (arith, e))
 
-place_none_if : (n : ℕ) (o : Option ℕ) (b : Bool) → b ≡ false → o ≡ None → cond b (Some n) o ≡ None
-place_none_if n o true e f = absurd cc
-place_none_if n o false e f = f
+index_none_if : (n : ℕ) (o : Option ℕ) (b : Bool) → b ≡ false → o ≡ None → cond b (Some n) o ≡ None
+index_none_if n o true e f = absurd cc
+index_none_if n o false e f = f
 
-pub none_lost : (n : ℕ) (rows : List Row) → sum_by lost_of rows ≡ 0 → first_place is_lost n rows ≡ None
+pub none_lost : (n : ℕ) (rows : List Row) → sum_by lost_of rows ≡ 0 → first_index is_lost n rows ≡ None
 none_lost n [] e = refl
 none_lost n (r ∷ rows) e =
     let z = zero_if (is_lost r.state) (sum_by lost_of rows) (sym (sum_by-cons lost_of r rows) ∙ e) in
-    place_none_if n (first_place is_lost (n + 1) rows) (is_lost r.state) z.0 (none_lost (n + 1) rows z.1)
+    index_none_if n (first_index is_lost (n + 1) rows) (is_lost r.state) z.0 (none_lost (n + 1) rows z.1)
 
 any_flying_if : (b : Bool) (n : ℕ) (a : Bool) → nat_lt 0 n ≡ a → nat_lt 0 (cond b 1 0 + n) ≡ (b || a)
 any_flying_if true n a e = let lt : 0 < 1 + n = omega arith in lt-ltb 0 (1 + n) lt

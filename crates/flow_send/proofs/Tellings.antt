@@ -1,4 +1,4 @@
--- What an ack tells, stretch by stretch.
+-- What an ack tells, span by span.
 use Rattle.std.proofs.Common.{◌≡◌, ℕ, ◌+◌, ◌-◌, ◌<◌, ◌≤◌, nat_le, nat_lt, max, min, cond, not, Bool, true, false, ◌&&◌, ◌||◌, List, [], ◌∷◌, Some, length, drop, refl, ap, sym, ◌∙◌, arith, inl, inr}
 use Rattle.std.specs.List.{list_any, sum_by, filter}
 use Rattle.std.proofs.lemmas.Bool.{cases_lt, leb-true}
@@ -8,21 +8,21 @@ use Rattle.flow_send.specs.declared.state.State.TheVariants.{Acknowledged}
 use Rattle.flow_send.specs.declared.waiting.Waiting.{Waiting}
 use Rattle.flow_send.specs.Rows.{Row, is_acknowledged, is_abandoned, is_settled, let_go, map_rows, most_rows, stored_of, settled_front, between, any_between, most_between}
 use Rattle.flow_send.specs.Sender.{Sender, has_number}
-use Rattle.flow_send.specs.Acks.{Told, in_range, tells, greatest, new_bytes, new_place, last_place, acknowledge, acknowledge_row, count_ack, is_third, rows_acknowledged, rows_told, makes_lost, still_waits, told_by}
+use Rattle.flow_send.specs.Acks.{Told, in_span, tells, greatest, new_bytes, new_ordinal, last_ordinal, acknowledge, acknowledge_row, count_ack, is_third, rows_acknowledged, rows_told, makes_lost, still_waits, told_by}
 use Rattle.flow_send.specs.Steady.{AllOk, Line, AllWait, Late, Steady}
 use Rattle.flow_send.proofs.Between.{between_none, most_none}
-use Rattle.flow_send.proofs.Numbered.{map_between, most_row_between, range_between, map_is}
+use Rattle.flow_send.proofs.Numbered.{map_between, most_row_between, span_between, map_is}
 use Rattle.flow_send.proofs.Keeping.{waits_map}
 use Rattle.flow_send.proofs.Steadies.{count_settled, told_below, acked_ok}
 use Rattle.flow_send.proofs.Sendings.{map_sent, any_sent, third_flies}
 use Rattle.flow_send.proofs.Ends.{sender, settle_eq}
 
--- what the numbers of some stretches change, and the last place of what they newly acknowledge
+-- what the numbers of some spans change, and the last ordinal of what they newly acknowledge
 abbrev pub acknowledge_by : List (ℕ × ℕ) → ℕ → Row → Row
-acknowledge_by ranges k r = cond (list_any (in_range k) ranges) (acknowledge_row r) r
+acknowledge_by spans k r = cond (list_any (in_span k) spans) (acknowledge_row r) r
 
 abbrev pub last_by : List (ℕ × ℕ) → ℕ → List Row → ℕ
-last_by ranges n rows = most_rows (λ k r. cond (list_any (in_range k) ranges) (new_place r) 0) n rows
+last_by spans n rows = most_rows (λ k r. cond (list_any (in_span k) spans) (new_ordinal r) 0) n rows
 
 twice_if : (r : Row) (t : Bool) → is_acknowledged r.state ≡ t → acknowledge_row (cond t r (let_go Acknowledged r)) ≡ cond t r (let_go Acknowledged r)
 twice_if r true e = ap (λ b. cond b r (let_go Acknowledged r)) e
@@ -31,11 +31,11 @@ twice_if r false e = refl
 twice : (r : Row) → acknowledge_row (acknowledge_row r) ≡ acknowledge_row r
 twice r = twice_if r (is_acknowledged r.state) refl
 
-gone_if : (r : Row) (t : Bool) → is_acknowledged r.state ≡ t → new_place (cond t r (let_go Acknowledged r)) ≡ 0
-gone_if r true e = ap (λ b. cond b 0 r.place) e
+gone_if : (r : Row) (t : Bool) → is_acknowledged r.state ≡ t → new_ordinal (cond t r (let_go Acknowledged r)) ≡ 0
+gone_if r true e = ap (λ b. cond b 0 r.ordinal) e
 gone_if r false e = refl
 
-gone : (r : Row) → new_place (acknowledge_row r) ≡ 0
+gone : (r : Row) → new_ordinal (acknowledge_row r) ≡ 0
 gone r = gone_if r (is_acknowledged r.state) refl
 
 split_row : (a b : Bool) (r : Row) → cond (a || b) (acknowledge_row r) r ≡ cond b (acknowledge_row (cond a (acknowledge_row r) r)) (cond a (acknowledge_row r) r)
@@ -43,11 +43,11 @@ split_row true true r = sym (twice r)
 split_row true false r = refl
 split_row false b r = refl
 
-split_place : (a b : Bool) (r : Row) → cond (a || b) (new_place r) 0 ≡ max (cond a (new_place r) 0) (cond b (new_place (cond a (acknowledge_row r) r)) 0)
-split_place true true r = let g = gone r in omega (arith, g)
-split_place true false r = let e : new_place r ≡ max (new_place r) 0 = omega arith in e
-split_place false true r = let e : new_place r ≡ max 0 (new_place r) = omega arith in e
-split_place false false r = let e : 0 ≡ max 0 0 = omega arith in e
+split_ordinal : (a b : Bool) (r : Row) → cond (a || b) (new_ordinal r) 0 ≡ max (cond a (new_ordinal r) 0) (cond b (new_ordinal (cond a (acknowledge_row r) r)) 0)
+split_ordinal true true r = let g = gone r in omega (arith, g)
+split_ordinal true false r = let e : new_ordinal r ≡ max (new_ordinal r) 0 = omega arith in e
+split_ordinal false true r = let e : new_ordinal r ≡ max 0 (new_ordinal r) = omega arith in e
+split_ordinal false false r = let e : 0 ≡ max 0 0 = omega arith in e
 
 -- two tests, one after the other
 pub split_rows : (a b : ℕ → Bool) (n : ℕ) (rows : List Row) → map_rows (λ k r. cond (a k || b k) (acknowledge_row r) r) n rows ≡ map_rows (λ k r. cond (b k) (acknowledge_row r) r) n (map_rows (λ k r. cond (a k) (acknowledge_row r) r) n rows)
@@ -59,12 +59,12 @@ split_rows a b n (r ∷ rows) =
 max_swap : (a b c d : ℕ) → max (max a b) (max c d) ≡ max (max a c) (max b d)
 max_swap a b c d = omega arith
 
-pub split_most : (a b : ℕ → Bool) (n : ℕ) (rows : List Row) → most_rows (λ k r. cond (a k || b k) (new_place r) 0) n rows
-    ≡ max (most_rows (λ k r. cond (a k) (new_place r) 0) n rows) (most_rows (λ k r. cond (b k) (new_place r) 0) n (map_rows (λ k r. cond (a k) (acknowledge_row r) r) n rows))
+pub split_most : (a b : ℕ → Bool) (n : ℕ) (rows : List Row) → most_rows (λ k r. cond (a k || b k) (new_ordinal r) 0) n rows
+    ≡ max (most_rows (λ k r. cond (a k) (new_ordinal r) 0) n rows) (most_rows (λ k r. cond (b k) (new_ordinal r) 0) n (map_rows (λ k r. cond (a k) (acknowledge_row r) r) n rows))
 split_most a b n [] = let e : 0 ≡ max 0 0 = omega arith in e
 split_most a b n (r ∷ rows) =
-    ap (λ x. max x (most_rows (λ k y. cond (a k || b k) (new_place y) 0) (n + 1) rows)) (split_place (a n) (b n) r)
-    ∙ (ap (λ x. max (max (cond (a n) (new_place r) 0) (cond (b n) (new_place (cond (a n) (acknowledge_row r) r)) 0)) x) (split_most a b (n + 1) rows) ∙ max_swap _ _ _ _)
+    ap (λ x. max x (most_rows (λ k y. cond (a k || b k) (new_ordinal y) 0) (n + 1) rows)) (split_ordinal (a n) (b n) r)
+    ∙ (ap (λ x. max (max (cond (a n) (new_ordinal r) 0) (cond (b n) (new_ordinal (cond (a n) (acknowledge_row r) r)) 0)) x) (split_most a b (n + 1) rows) ∙ max_swap _ _ _ _)
 
 none_rows : (n : ℕ) (rows : List Row) → map_rows (acknowledge_by []) n rows ≡ rows
 none_rows n [] = refl
@@ -74,56 +74,56 @@ none_most : (n : ℕ) (rows : List Row) → last_by [] n rows ≡ 0
 none_most n [] = refl
 none_most n (r ∷ rows) = let m = none_most (n + 1) rows in omega (arith, m)
 
-pub end_rows : (ranges : List (ℕ × ℕ)) (n : ℕ) (rows all : List Row) → ranges ≡ [] → map_rows (acknowledge_by ranges) n rows ≡ all → rows ≡ all
-end_rows ranges n rows all e f = sym (ap (λ (xs : List (ℕ × ℕ)). map_rows (acknowledge_by xs) n rows) e ∙ none_rows n rows) ∙ f
+pub end_rows : (spans : List (ℕ × ℕ)) (n : ℕ) (rows all : List Row) → spans ≡ [] → map_rows (acknowledge_by spans) n rows ≡ all → rows ≡ all
+end_rows spans n rows all e f = sym (ap (λ (xs : List (ℕ × ℕ)). map_rows (acknowledge_by xs) n rows) e ∙ none_rows n rows) ∙ f
 
-pub end_most : (ranges : List (ℕ × ℕ)) (n place all : ℕ) (rows : List Row) → ranges ≡ [] → max place (last_by ranges n rows) ≡ all → place ≡ all
-end_most ranges n place all rows e f = let m = ap (λ (xs : List (ℕ × ℕ)). last_by xs n rows) e ∙ none_most n rows in omega (arith, m, f)
+pub end_most : (spans : List (ℕ × ℕ)) (n ordinal all : ℕ) (rows : List Row) → spans ≡ [] → max ordinal (last_by spans n rows) ≡ all → ordinal ≡ all
+end_most spans n ordinal all rows e f = let m = ap (λ (xs : List (ℕ × ℕ)). last_by xs n rows) e ∙ none_most n rows in omega (arith, m, f)
 
--- one stretch
-low_is : (upto k : ℕ) → in_range k (0, upto) ≡ nat_le k upto
+-- one span
+low_is : (upto k : ℕ) → in_span k (0, upto) ≡ nat_le k upto
 low_is upto k = grind (arith, nat_tests)
 
-pub first_rows : (upto : ℕ) (ranges : List (ℕ × ℕ)) (n : ℕ) (rows once : List Row) → once ≡ map_rows (λ k r. cond (in_range k (0, upto)) (acknowledge_row r) r) n rows
-    → map_rows (acknowledge_by ranges) n once ≡ map_rows (acknowledge (record { blocks = 0; upto = upto; ranges = ranges })) n rows
-first_rows upto ranges n rows once e =
-    ap (λ (xs : List Row). map_rows (acknowledge_by ranges) n xs) e ∙ (sym (split_rows (λ k. in_range k (0, upto)) (λ k. list_any (in_range k) ranges) n rows) ∙ all_low n rows)
+pub first_rows : (upto : ℕ) (spans : List (ℕ × ℕ)) (n : ℕ) (rows once : List Row) → once ≡ map_rows (λ k r. cond (in_span k (0, upto)) (acknowledge_row r) r) n rows
+    → map_rows (acknowledge_by spans) n once ≡ map_rows (acknowledge (record { blocks = 0; upto = upto; spans = spans })) n rows
+first_rows upto spans n rows once e =
+    ap (λ (xs : List Row). map_rows (acknowledge_by spans) n xs) e ∙ (sym (split_rows (λ k. in_span k (0, upto)) (λ k. list_any (in_span k) spans) n rows) ∙ all_low n rows)
   where
-    all_low : (n : ℕ) (rows : List Row) → map_rows (λ k r. cond (in_range k (0, upto) || list_any (in_range k) ranges) (acknowledge_row r) r) n rows ≡ map_rows (acknowledge (record { blocks = 0; upto = upto; ranges = ranges })) n rows
+    all_low : (n : ℕ) (rows : List Row) → map_rows (λ k r. cond (in_span k (0, upto) || list_any (in_span k) spans) (acknowledge_row r) r) n rows ≡ map_rows (acknowledge (record { blocks = 0; upto = upto; spans = spans })) n rows
     all_low n [] = refl
     all_low n (r ∷ rows) =
-        ap (λ b. cond (b || list_any (in_range n) ranges) (acknowledge_row r) r ∷ map_rows (λ k x. cond (in_range k (0, upto) || list_any (in_range k) ranges) (acknowledge_row x) x) (n + 1) rows) (low_is upto n)
-        ∙ ap (λ xs. cond (nat_le n upto || list_any (in_range n) ranges) (acknowledge_row r) r ∷ xs) (all_low (n + 1) rows)
+        ap (λ b. cond (b || list_any (in_span n) spans) (acknowledge_row r) r ∷ map_rows (λ k x. cond (in_span k (0, upto) || list_any (in_span k) spans) (acknowledge_row x) x) (n + 1) rows) (low_is upto n)
+        ∙ ap (λ xs. cond (nat_le n upto || list_any (in_span n) spans) (acknowledge_row r) r ∷ xs) (all_low (n + 1) rows)
 
-pub first_most : (upto : ℕ) (ranges : List (ℕ × ℕ)) (n place : ℕ) (rows once : List Row) → once ≡ map_rows (λ k r. cond (in_range k (0, upto)) (acknowledge_row r) r) n rows
-    → place ≡ most_rows (λ k r. cond (in_range k (0, upto)) (new_place r) 0) n rows
-    → max place (last_by ranges n once) ≡ last_place (record { blocks = 0; upto = upto; ranges = ranges }) n rows
-first_most upto ranges n place rows once e f =
-    ap (λ x. max x (last_by ranges n once)) f ∙ (ap (λ (xs : List Row). max (most_rows (λ k r. cond (in_range k (0, upto)) (new_place r) 0) n rows) (last_by ranges n xs)) e
-    ∙ (sym (split_most (λ k. in_range k (0, upto)) (λ k. list_any (in_range k) ranges) n rows) ∙ all_low n rows))
+pub first_most : (upto : ℕ) (spans : List (ℕ × ℕ)) (n ordinal : ℕ) (rows once : List Row) → once ≡ map_rows (λ k r. cond (in_span k (0, upto)) (acknowledge_row r) r) n rows
+    → ordinal ≡ most_rows (λ k r. cond (in_span k (0, upto)) (new_ordinal r) 0) n rows
+    → max ordinal (last_by spans n once) ≡ last_ordinal (record { blocks = 0; upto = upto; spans = spans }) n rows
+first_most upto spans n ordinal rows once e f =
+    ap (λ x. max x (last_by spans n once)) f ∙ (ap (λ (xs : List Row). max (most_rows (λ k r. cond (in_span k (0, upto)) (new_ordinal r) 0) n rows) (last_by spans n xs)) e
+    ∙ (sym (split_most (λ k. in_span k (0, upto)) (λ k. list_any (in_span k) spans) n rows) ∙ all_low n rows))
   where
-    all_low : (n : ℕ) (rows : List Row) → most_rows (λ k r. cond (in_range k (0, upto) || list_any (in_range k) ranges) (new_place r) 0) n rows ≡ last_place (record { blocks = 0; upto = upto; ranges = ranges }) n rows
+    all_low : (n : ℕ) (rows : List Row) → most_rows (λ k r. cond (in_span k (0, upto) || list_any (in_span k) spans) (new_ordinal r) 0) n rows ≡ last_ordinal (record { blocks = 0; upto = upto; spans = spans }) n rows
     all_low n [] = refl
     all_low n (r ∷ rows) =
-        ap (λ b. max (cond (b || list_any (in_range n) ranges) (new_place r) 0) (most_rows (λ k x. cond (in_range k (0, upto) || list_any (in_range k) ranges) (new_place x) 0) (n + 1) rows)) (low_is upto n)
-        ∙ ap (λ i. max (cond (nat_le n upto || list_any (in_range n) ranges) (new_place r) 0) i) (all_low (n + 1) rows)
+        ap (λ b. max (cond (b || list_any (in_span n) spans) (new_ordinal r) 0) (most_rows (λ k x. cond (in_span k (0, upto) || list_any (in_span k) spans) (new_ordinal x) 0) (n + 1) rows)) (low_is upto n)
+        ∙ ap (λ i. max (cond (nat_le n upto || list_any (in_span n) spans) (new_ordinal r) 0) i) (all_low (n + 1) rows)
 
-pub next_rows : (left later : List (ℕ × ℕ)) (p : ℕ × ℕ) (n : ℕ) (rows once all : List Row) → left ≡ p ∷ later → once ≡ map_rows (λ k r. cond (in_range k p) (acknowledge_row r) r) n rows
+pub next_rows : (left later : List (ℕ × ℕ)) (p : ℕ × ℕ) (n : ℕ) (rows once all : List Row) → left ≡ p ∷ later → once ≡ map_rows (λ k r. cond (in_span k p) (acknowledge_row r) r) n rows
     → map_rows (acknowledge_by left) n rows ≡ all → map_rows (acknowledge_by later) n once ≡ all
 next_rows left later p n rows once all e f g =
-    ap (λ (xs : List Row). map_rows (acknowledge_by later) n xs) f ∙ (sym (split_rows (λ k. in_range k p) (λ k. list_any (in_range k) later) n rows)
+    ap (λ (xs : List Row). map_rows (acknowledge_by later) n xs) f ∙ (sym (split_rows (λ k. in_span k p) (λ k. list_any (in_span k) later) n rows)
     ∙ (sym (ap (λ (xs : List (ℕ × ℕ)). map_rows (acknowledge_by xs) n rows) e) ∙ g))
 
-pub next_most : (left later : List (ℕ × ℕ)) (p : ℕ × ℕ) (n place more all : ℕ) (rows once : List Row) → left ≡ p ∷ later → once ≡ map_rows (λ k r. cond (in_range k p) (acknowledge_row r) r) n rows
-    → more ≡ most_rows (λ k r. cond (in_range k p) (new_place r) 0) n rows
-    → max place (last_by left n rows) ≡ all → max (max place more) (last_by later n once) ≡ all
-next_most left later p n place more all rows once e f h g =
-    let s = split_most (λ k. in_range k p) (λ k. list_any (in_range k) later) n rows in
+pub next_most : (left later : List (ℕ × ℕ)) (p : ℕ × ℕ) (n ordinal more all : ℕ) (rows once : List Row) → left ≡ p ∷ later → once ≡ map_rows (λ k r. cond (in_span k p) (acknowledge_row r) r) n rows
+    → more ≡ most_rows (λ k r. cond (in_span k p) (new_ordinal r) 0) n rows
+    → max ordinal (last_by left n rows) ≡ all → max (max ordinal more) (last_by later n once) ≡ all
+next_most left later p n ordinal more all rows once e f h g =
+    let s = split_most (λ k. in_span k p) (λ k. list_any (in_span k) later) n rows in
     let a = ap (λ (xs : List (ℕ × ℕ)). last_by xs n rows) e in
     let b = ap (λ (xs : List Row). last_by later n xs) f in
     omega (arith, s, a, b, h, g)
 
--- a stretch by places
+-- a span by indices
 between_least : (f : Row → Row) (lo hi : ℕ) (rows : List Row) → between f (min lo hi) hi rows ≡ between f lo hi rows
 between_least f lo hi rows = elim (cases_lt hi lo) [
   | inl lt ↦ between_none f (min lo hi) hi rows (omega arith) ∙ sym (between_none f lo hi rows (omega arith))
@@ -136,30 +136,30 @@ most_least f lo hi rows = elim (cases_lt hi lo) [
   | inr le ↦ let e : min lo hi ≡ lo = omega arith in ap (λ i. most_between f i hi rows) e
 ]
 
-pub stretch_rows : (first last forward from to : ℕ) (rows : List Row) → from ≡ min (first - (forward + 1)) (last - forward) → to ≡ last - forward
-    → between acknowledge_row from to rows ≡ map_rows (λ k r. cond (in_range k (first, last)) (acknowledge_row r) r) (forward + 1) rows
-stretch_rows first last forward from to rows e f =
+pub span_rows : (first last forward from to : ℕ) (rows : List Row) → from ≡ min (first - (forward + 1)) (last - forward) → to ≡ last - forward
+    → between acknowledge_row from to rows ≡ map_rows (λ k r. cond (in_span k (first, last)) (acknowledge_row r) r) (forward + 1) rows
+span_rows first last forward from to rows e f =
     let g : last - forward ≡ last + 1 - (forward + 1) = omega arith in
     ap (λ i. between acknowledge_row i to rows) e ∙ (ap (λ i. between acknowledge_row (min (first - (forward + 1)) (last - forward)) i rows) f
     ∙ (between_least acknowledge_row (first - (forward + 1)) (last - forward) rows ∙ (ap (λ i. between acknowledge_row (first - (forward + 1)) i rows) g
-    ∙ sym (map_between (λ k. in_range k (first, last)) acknowledge_row (forward + 1) (first - (forward + 1)) (last + 1 - (forward + 1)) rows (range_between first last (forward + 1))))))
+    ∙ sym (map_between (λ k. in_span k (first, last)) acknowledge_row (forward + 1) (first - (forward + 1)) (last + 1 - (forward + 1)) rows (span_between first last (forward + 1))))))
 
-pub stretch_most : (first last forward from to : ℕ) (rows : List Row) → from ≡ min (first - (forward + 1)) (last - forward) → to ≡ last - forward
-    → most_between new_place from to rows ≡ most_rows (λ k r. cond (in_range k (first, last)) (new_place r) 0) (forward + 1) rows
-stretch_most first last forward from to rows e f =
+pub span_most : (first last forward from to : ℕ) (rows : List Row) → from ≡ min (first - (forward + 1)) (last - forward) → to ≡ last - forward
+    → most_between new_ordinal from to rows ≡ most_rows (λ k r. cond (in_span k (first, last)) (new_ordinal r) 0) (forward + 1) rows
+span_most first last forward from to rows e f =
     let g : last - forward ≡ last + 1 - (forward + 1) = omega arith in
-    ap (λ i. most_between new_place i to rows) e ∙ (ap (λ i. most_between new_place (min (first - (forward + 1)) (last - forward)) i rows) f
-    ∙ (most_least new_place (first - (forward + 1)) (last - forward) rows ∙ (ap (λ i. most_between new_place (first - (forward + 1)) i rows) g
-    ∙ sym (most_row_between (λ k. in_range k (first, last)) new_place (forward + 1) (first - (forward + 1)) (last + 1 - (forward + 1)) rows (range_between first last (forward + 1))))))
+    ap (λ i. most_between new_ordinal i to rows) e ∙ (ap (λ i. most_between new_ordinal (min (first - (forward + 1)) (last - forward)) i rows) f
+    ∙ (most_least new_ordinal (first - (forward + 1)) (last - forward) rows ∙ (ap (λ i. most_between new_ordinal (first - (forward + 1)) i rows) g
+    ∙ sym (most_row_between (λ k. in_span k (first, last)) new_ordinal (forward + 1) (first - (forward + 1)) (last + 1 - (forward + 1)) rows (span_between first last (forward + 1))))))
 
 -- the greatest
-pub greatest_rises : (a b : ℕ) (ranges : List (ℕ × ℕ)) → a ≤ b → greatest a ranges ≤ greatest b ranges
+pub greatest_rises : (a b : ℕ) (spans : List (ℕ × ℕ)) → a ≤ b → greatest a spans ≤ greatest b spans
 greatest_rises a b [] le = le
-greatest_rises a b (p ∷ ranges) le = greatest_rises (max a p.1) (max b p.1) ranges (omega (arith, le))
+greatest_rises a b (p ∷ spans) le = greatest_rises (max a p.1) (max b p.1) spans (omega (arith, le))
 
-pub greatest_least : (upto : ℕ) (ranges : List (ℕ × ℕ)) → upto ≤ greatest upto ranges
+pub greatest_least : (upto : ℕ) (spans : List (ℕ × ℕ)) → upto ≤ greatest upto spans
 greatest_least upto [] = omega arith
-greatest_least upto (p ∷ ranges) = omega (arith, greatest_least (max upto p.1) ranges)
+greatest_least upto (p ∷ spans) = omega (arith, greatest_least (max upto p.1) spans)
 
 pub greatest_next : (left later : List (ℕ × ℕ)) (p : ℕ × ℕ) (m : ℕ) → left ≡ p ∷ later → greatest 0 left < m → (p.1 < m) × (greatest 0 later < m)
 greatest_next left later p m e lt =
@@ -189,13 +189,13 @@ above_if : (a : Told) (g k : ℕ) (r : Row) (t : Bool) → tells a k ≡ t → (
 above_if a g k r true e h lt = absurd (omega (arith, h e, lt))
 above_if a g k r false e h lt = refl
 
-told_waits : (a : Told) (s : Sender) (w : Waiting) → greatest a.upto a.ranges < w.number → still_waits (s.forward + 1) (rows_told a s) w ≡ still_waits (s.forward + 1) s.rows w
+told_waits : (a : Told) (s : Sender) (w : Waiting) → greatest a.upto a.spans < w.number → still_waits (s.forward + 1) (rows_told a s) w ≡ still_waits (s.forward + 1) s.rows w
 told_waits a s w lt =
     let n = s.forward + 1 in
-    let place = last_place a n s.rows in
-    let g = greatest a.upto a.ranges in
-    ap (λ (xs : List Row). still_waits n xs w) (map_is (count_ack place) n (rows_acknowledged a s))
-    ∙ (waits_map (λ k r. count_ack place r) n (rows_acknowledged a s) w (λ k r le e. count_settled place r)
+    let ordinal = last_ordinal a n s.rows in
+    let g = greatest a.upto a.spans in
+    ap (λ (xs : List Row). still_waits n xs w) (map_is (count_ack ordinal) n (rows_acknowledged a s))
+    ∙ (waits_map (λ k r. count_ack ordinal r) n (rows_acknowledged a s) w (λ k r le e. count_settled ordinal r)
     ∙ waits_map (acknowledge a) n s.rows w (λ k r le e. above_if a g k r (tells a k) refl (told_below a k) (omega (arith, lt, low_of w k e))))
   where
     first_true : (a b : Bool) → (a && b) ≡ true → a ≡ true
@@ -214,22 +214,22 @@ late_from n g low high rows later [] h l a = tt
 late_from n g low high rows later (w ∷ ws) h l a =
     (λ lt. (h w lt ∙ a.0, all_above n g (w.number + w.count) high rows later ws h (omega (arith, lt)) l.2 a.1), late_from n g (w.number + w.count) high rows later ws h l.2 a.1)
 
-pub late_told : (a : Told) (s : Sender) (high : ℕ) → Line 0 high s.waiting → AllWait (s.forward + 1) s.rows s.waiting → Late (greatest a.upto a.ranges) (s.forward + 1) (rows_told a s) s.waiting
-late_told a s high l k = late_from (s.forward + 1) (greatest a.upto a.ranges) 0 high s.rows (rows_told a s) s.waiting (told_waits a s) l k
+pub late_told : (a : Told) (s : Sender) (high : ℕ) → Line 0 high s.waiting → AllWait (s.forward + 1) s.rows s.waiting → Late (greatest a.upto a.spans) (s.forward + 1) (rows_told a s) s.waiting
+late_told a s high l k = late_from (s.forward + 1) (greatest a.upto a.spans) 0 high s.rows (rows_told a s) s.waiting (told_waits a s) l k
 
 -- what the code leaves of the rows is what the ack leaves
-pub counted_rows : (a : Told) (s : Sender) (place to : ℕ) (once rows : List Row) → Steady s → greatest a.upto a.ranges ≤ s.sent → once ≡ rows_acknowledged a s → place ≡ last_place a (s.forward + 1) s.rows → to ≡ s.sent - s.forward
-    → rows ≡ between (count_ack place) 0 to once → rows ≡ rows_told a s
-counted_rows a s place to once rows k le e f g h =
-    let lp = last_place a (s.forward + 1) s.rows in
+pub counted_rows : (a : Told) (s : Sender) (ordinal to : ℕ) (once rows : List Row) → Steady s → greatest a.upto a.spans ≤ s.sent → once ≡ rows_acknowledged a s → ordinal ≡ last_ordinal a (s.forward + 1) s.rows → to ≡ s.sent - s.forward
+    → rows ≡ between (count_ack ordinal) 0 to once → rows ≡ rows_told a s
+counted_rows a s ordinal to once rows k le e f g h =
+    let lp = last_ordinal a (s.forward + 1) s.rows in
     let hi : to ≡ s.sent + 1 - (s.forward + 1) = omega (arith, g) in
     h ∙ (ap (λ i. between (count_ack i) 0 to once) f ∙ (ap (λ (xs : List Row). between (count_ack lp) 0 to xs) e
     ∙ sym (map_sent (count_ack lp) (is_third lp) s.sent (s.forward + 1) to (rows_acknowledged a s) (third_flies lp) hi (acked_ok a s k le))))
 
-pub counted_lost : (a : Told) (s : Sender) (place to : ℕ) (once : List Row) (lost : Bool) → Steady s → greatest a.upto a.ranges ≤ s.sent → once ≡ rows_acknowledged a s → place ≡ last_place a (s.forward + 1) s.rows → to ≡ s.sent - s.forward
-    → lost ≡ any_between (is_third place) 0 to once → lost ≡ makes_lost a s
-counted_lost a s place to once lost k le e f g h =
-    let lp = last_place a (s.forward + 1) s.rows in
+pub counted_lost : (a : Told) (s : Sender) (ordinal to : ℕ) (once : List Row) (lost : Bool) → Steady s → greatest a.upto a.spans ≤ s.sent → once ≡ rows_acknowledged a s → ordinal ≡ last_ordinal a (s.forward + 1) s.rows → to ≡ s.sent - s.forward
+    → lost ≡ any_between (is_third ordinal) 0 to once → lost ≡ makes_lost a s
+counted_lost a s ordinal to once lost k le e f g h =
+    let lp = last_ordinal a (s.forward + 1) s.rows in
     let hi : to ≡ s.sent + 1 - (s.forward + 1) = omega (arith, g) in
     h ∙ (ap (λ i. any_between (is_third i) 0 to once) f ∙ (ap (λ (xs : List Row). any_between (is_third lp) 0 to xs) e
     ∙ sym (any_sent (count_ack lp) (is_third lp) s.sent (s.forward + 1) to (rows_acknowledged a s) (third_flies lp) hi (acked_ok a s k le))))

@@ -1,27 +1,29 @@
 -- What an ack tells a sending flow.
-use Rattle.std.specs.Prelude.{ℕ, ◌+◌, if◌then◌else◌, nat_le, nat_lt, max, map, not, Bool, ◌&&◌, ◌||◌, List, [], ◌∷◌, Option, Some, None, length}
+use Rattle.std.specs.Prelude.{ℕ, ◌+◌, if◌then◌else◌, nat_le, nat_lt, max, map, not, Bool, ◌&&◌}
+use Rattle.std.specs.Prelude.{◌||◌, List, [], ◌∷◌, Option, Some, None, length}
 use Rattle.std.specs.List.{filter, list_any}
 use Rattle.flow_send.specs.declared.state.State.TheVariants.{Lost, Acknowledged}
 use Rattle.flow_send.specs.declared.waiting.Waiting.{Waiting}
-use Rattle.flow_send.specs.Rows.{Row, is_flying, is_acknowledged, is_abandoned, is_settled, let_go, map_rows, any_row, sum_rows, most_rows}
+use Rattle.flow_send.specs.Rows.{Row, is_flying, is_acknowledged, is_abandoned, is_settled, let_go}
+use Rattle.flow_send.specs.Rows.{map_rows, any_row, sum_rows, most_rows}
 use Rattle.flow_send.specs.Sender.{Sender, has_number, with_rows}
 
--- the blocks told, all at or below a number, and stretches above it from their first to their last
+-- the blocks told, all at or below a number, and spans above it from their first to their last
 -- number
 pub record Told : Type 0 where
   pub blocks : ℕ
   pub upto : ℕ
-  pub ranges : List (ℕ × ℕ)
+  pub spans : List (ℕ × ℕ)
 
 abbrev pub told : ℕ → ℕ → List (ℕ × ℕ) → Told
-told blocks upto ranges = record { blocks = blocks; upto = upto; ranges = ranges }
+told blocks upto spans = record { blocks = blocks; upto = upto; spans = spans }
 
 -- the ack acknowledges number n
-abbrev pub in_range : ℕ → ℕ × ℕ → Bool
-in_range n p = nat_le p.0 n && nat_le n p.1
+abbrev pub in_span : ℕ → ℕ × ℕ → Bool
+in_span n p = nat_le p.0 n && nat_le n p.1
 
 abbrev pub tells : Told → ℕ → Bool
-tells a n = nat_le n a.upto || list_any (in_range n) a.ranges
+tells a n = nat_le n a.upto || list_any (in_span n) a.spans
 
 -- the greatest number that it acknowledges
 abbrev pub greatest : ℕ → List (ℕ × ℕ) → ℕ
@@ -29,7 +31,7 @@ greatest upto [] = upto
 greatest upto (p ∷ later) = greatest (max upto p.1) later
 
 abbrev pub beyond : Sender → Told → Option ℕ
-beyond s a = if nat_lt s.sent (greatest a.upto a.ranges) then Some (greatest a.upto a.ranges)
+beyond s a = if nat_lt s.sent (greatest a.upto a.spans) then Some (greatest a.upto a.spans)
     else None
 
 -- it newly acknowledges a number above the forward number
@@ -41,12 +43,12 @@ abbrev pub new_bytes : Told → ℕ → List Row → ℕ
 new_bytes a n rows = sum_rows (λ k r. if is_new a k r && not (is_abandoned r.state) then
     length r.fragment.bytes else 0) n rows
 
--- the last of their places in the order of sendings
-abbrev pub new_place : Row → ℕ
-new_place r = if is_acknowledged r.state then 0 else r.place
+-- the last of their ordinals
+abbrev pub new_ordinal : Row → ℕ
+new_ordinal r = if is_acknowledged r.state then 0 else r.ordinal
 
-abbrev pub last_place : Told → ℕ → List Row → ℕ
-last_place a n rows = most_rows (λ k r. if tells a k then new_place r else 0) n rows
+abbrev pub last_ordinal : Told → ℕ → List Row → ℕ
+last_ordinal a n rows = most_rows (λ k r. if tells a k then new_ordinal r else 0) n rows
 
 abbrev pub acknowledge_row : Row → Row
 acknowledge_row r = if is_acknowledged r.state then r else let_go Acknowledged r
@@ -56,21 +58,21 @@ acknowledge a n r = if tells a n then acknowledge_row r else r
 
 -- a number in flight is lost by the third ack that newly acknowledges a number sent after it
 abbrev pub is_third : ℕ → Row → Bool
-is_third place r = is_flying r.state && nat_lt r.place place && nat_le 2 r.acks
+is_third ordinal r = is_flying r.state && nat_lt r.ordinal ordinal && nat_le 2 r.acks
 
 abbrev pub count_ack : ℕ → Row → Row
-count_ack place r =
-    if is_third place r then record r { state = Lost }
-    else if is_flying r.state && nat_lt r.place place then record r { acks = r.acks + 1 } else r
+count_ack ordinal r =
+    if is_third ordinal r then record r { state = Lost }
+    else if is_flying r.state && nat_lt r.ordinal ordinal then record r { acks = r.acks + 1 } else r
 
 abbrev pub rows_acknowledged : Told → Sender → List Row
 rows_acknowledged a s = map_rows (acknowledge a) (s.forward + 1) s.rows
 
 abbrev pub rows_told : Told → Sender → List Row
-rows_told a s = map (count_ack (last_place a (s.forward + 1) s.rows)) (rows_acknowledged a s)
+rows_told a s = map (count_ack (last_ordinal a (s.forward + 1) s.rows)) (rows_acknowledged a s)
 
 abbrev pub makes_lost : Told → Sender → Bool
-makes_lost a s = list_any (is_third (last_place a (s.forward + 1) s.rows)) (rows_acknowledged a s)
+makes_lost a s = list_any (is_third (last_ordinal a (s.forward + 1) s.rows)) (rows_acknowledged a s)
 
 -- a message waits until all its numbers are settled
 abbrev pub still_waits : ℕ → List Row → Waiting → Bool

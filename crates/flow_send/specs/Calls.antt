@@ -1,12 +1,15 @@
 -- Any calls of a sender, one after another, and what they did.
-use Rattle.std.specs.Prelude.{ℕ, ◌≡◌, ◌+◌, ◌-◌, ◌^◌, ◌<◌, ◌≤◌, ◌==◌, nat_lt, min, max, not, if◌then◌else◌, Bool, true, false, ◌&&◌, ◌||◌, List, [], ◌∷◌, Option, Some, None, length}
+use Rattle.std.specs.Prelude.{ℕ, ◌≡◌, ◌+◌, ◌-◌, ◌^◌, ◌<◌, ◌≤◌, ◌==◌, nat_lt, min, max, not}
+use Rattle.std.specs.Prelude.{if◌then◌else◌, Bool, true, false, ◌&&◌, ◌||◌, List, [], ◌∷◌, Option}
+use Rattle.std.specs.Prelude.{Some, None, length}
 use Rattle.rtmfp_data_chunks.specs.Fragments.{Message}
 use Rattle.flow_send.specs.declared.state.State.{State}
 use Rattle.flow_send.specs.declared.waiting.MessageOptions.{MessageOptions}
 use Rattle.flow_send.specs.declared.waiting.Waiting.{Waiting}
 use Rattle.flow_send.specs.declared.outcome.QueueRefusal.{QueueRefusal}
 use Rattle.flow_send.specs.Rows.{Row, is_unsent, is_flying, is_lost, is_acknowledged, is_abandoned}
-use Rattle.flow_send.specs.Sender.{Sender, new_sender, next_of, queued, message_at, has_number, abandoned, finished, lost_late}
+use Rattle.flow_send.specs.Sender.{Sender, new_sender, next_of, queued, message_at, has_number}
+use Rattle.flow_send.specs.Sender.{abandoned, finished, lost_late}
 use Rattle.flow_send.specs.Choice.{Choice, Nothing, Send, Notify, choice, sent_after}
 use Rattle.flow_send.specs.Acks.{Told, tells, beyond, told_by}
 use Rattle.flow_send.specs.Flow.{queue_refusal, next_message}
@@ -21,13 +24,15 @@ pub data Call : Type 0 where
   Next : (moment resend : ℕ) → Call
   Hear : (a : Told) → Call
 
--- what a call did. A number was sent, for the first time or again; a notice told the forward number
+-- what a call did. A number was sent, for the first time or again; a notice told the forward
+-- number; a look made lost what was sent so long before
 pub data Done : Type 0 where
-  Queued : (m : Message) → Done
+  Queued : (m : Message) → (options : MessageOptions) → Done
   Abandoned : (w : Waiting) → Done
   Finished : (n : ℕ) → Done
   Sent : (n moment : ℕ) → Done
   Noticed : (n moment : ℕ) → Done
+  Looked : (moment resend : ℕ) → Done
   Heard : (a : Told) → Done
 
 -- a sender, and what its calls did, the newest first
@@ -43,7 +48,7 @@ abbrev pub queues : Sending → List ℕ → MessageOptions → Option QueueRefu
 queues w bytes options None =
     record {
       sender = queued (next_message w.sender bytes) options w.sender;
-      done = Queued (next_message w.sender bytes) ∷ w.done;
+      done = Queued (next_message w.sender bytes) options ∷ w.done;
     }
 queues w bytes options (Some refusal) = w
 
@@ -74,7 +79,10 @@ abbrev pub calls : Sending → Call → Sending
 calls w (Queue bytes options) = queues w bytes options (queue_refusal w.sender (length bytes))
 calls w (Abandon n) = abandons w n (message_at n w.sender.waiting)
 calls w Finish = finishes w w.sender.finish
-calls w (Lose moment resend) = record { sender = lost_late moment resend w.sender; done = w.done }
+calls w (Lose moment resend) = record {
+  sender = lost_late moment resend w.sender;
+  done = Looked moment resend ∷ w.done;
+}
 calls w (Next moment resend) = sends w moment (choice moment resend w.sender)
 calls w (Hear a) = hears w a (beyond w.sender a)
 
@@ -116,8 +124,8 @@ times_sent (Sent k moment ∷ earlier) n = if k == n then times_sent earlier n +
     else times_sent earlier n
 times_sent (_ ∷ earlier) n = times_sent earlier n
 
--- the moment of the last one of number n, and its place in the order of all sendings, where counts
--- stand still at 64 bits
+-- the moment of the last one of number n, and its ordinal among all sendings, where counts stand
+-- still at 64 bits
 abbrev pub last_sending : List Done → ℕ → Option (ℕ × ℕ)
 last_sending [] n = None
 last_sending (Sent k moment ∷ earlier) n = if k == n then
@@ -183,7 +191,7 @@ pub record SentAs (done : List Done) (n : ℕ) (r : Row) : Type 0 where
   pub unsent : is_unsent r.state ≡ true → times_sent done n ≡ 0
   pub some : is_out r.state ≡ true → 1 ≤ times_sent done n
   pub resends : r.resends ≡ min (times_sent done n - 1) (2 ^ 32 - 1)
-  pub last : is_out r.state ≡ true → last_sending done n ≡ Some (r.moment, r.place)
+  pub last : is_out r.state ≡ true → last_sending done n ≡ Some (r.moment, r.ordinal)
 
 abbrev pub AllSent : List Done → ℕ → List Row → Type 0
 AllSent done n [] = Unit {0}

@@ -1,5 +1,6 @@
 -- Which chunk a sending flow sends next, and what its sending changes.
-use Rattle.std.specs.Prelude.{ℕ, ◌+◌, ◌-◌, ◌*◌, ◌^◌, ◌==◌, if◌then◌else◌, nat_le, nat_lt, min, max, Bool, true, false, ◌&&◌, List, [], ◌∷◌, Option, Some, None, length}
+use Rattle.std.specs.Prelude.{ℕ, ◌+◌, ◌-◌, ◌*◌, ◌^◌, ◌==◌, if◌then◌else◌, nat_le, nat_lt, min, max}
+use Rattle.std.specs.Prelude.{Bool, true, false, ◌&&◌, List, [], ◌∷◌, Option, Some, None, length}
 use Rattle.rtmfp_data_chunks.specs.declared.user_data.Part.TheVariants.{Whole}
 use Rattle.rtmfp_data_chunks.specs.Runs.{Chunk}
 use Rattle.flow_send.specs.declared.state.State.{State}
@@ -87,10 +88,10 @@ abbrev pub count_up : ℕ → ℕ → ℕ
 count_up bits n = min (n + 1) (2 ^ bits - 1)
 
 abbrev pub sent_row : ℕ → ℕ → Row → Row
-sent_row moment place r = record r {
+sent_row moment ordinal r = record r {
   state = Flying;
   moment = moment;
-  place = place;
+  ordinal = ordinal;
   resends = if is_lost r.state then count_up 32 r.resends else r.resends;
   acks = 0;
 }

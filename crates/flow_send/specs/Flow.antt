@@ -1,12 +1,14 @@
 -- A sending flow, and what its calls answer.
-use Rattle.std.specs.Prelude.{ℕ, ◌+◌, ◌-◌, ◌^◌, if◌then◌else◌, nat_lt, not, Bool, true, false, ◌&&◌, ◌||◌, List, [], ◌∷◌, Option, Some, None, length}
+use Rattle.std.specs.Prelude.{ℕ, ◌+◌, ◌-◌, ◌^◌, if◌then◌else◌, nat_lt, not, Bool, true, false, ◌&&◌}
+use Rattle.std.specs.Prelude.{◌||◌, List, [], ◌∷◌, Option, Some, None, length}
 use Rattle.rtmfp_vlu.specs.Vlu.{vlu}
 use Rattle.rtmfp_forms.specs.Options.{OptionParts, options_bytes}
 use Rattle.rtmfp_data_chunks.specs.Fragments.{Message, fragments_of_length}
 use Rattle.rtmfp_data_chunks.specs.Runs.{Chunk}
 use Rattle.rtmfp_data_chunks.specs.Chunk.{UserParts}
 use Rattle.flow_send.specs.declared.outcome.QueueRefusal.{QueueRefusal}
-use Rattle.flow_send.specs.declared.outcome.QueueRefusal.TheVariants.{Finished, TooLong, Backlog, SequenceSpent}
+use Rattle.flow_send.specs.declared.outcome.QueueRefusal.TheVariants.{Finished, TooLong, Backlog}
+use Rattle.flow_send.specs.declared.outcome.QueueRefusal.TheVariants.{SequenceSpent}
 use Rattle.flow_send.specs.declared.outcome.NoChunk.{NoChunk}
 use Rattle.flow_send.specs.declared.outcome.NoChunk.TheVariants as no_chunk
 use Rattle.flow_send.specs.Sender.{Sender, next_of, bytes_held, fragments_held}

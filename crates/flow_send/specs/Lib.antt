@@ -4,8 +4,10 @@ pub mod Sender
 pub mod Choice
 pub mod Picked
 pub mod Acks
+pub mod Ordered
 pub mod Steady
 pub mod Deadlines
 pub mod Flow
 pub mod Edges
 pub mod Calls
+pub mod Counted

@@ -1,4 +1,4 @@
--- Choices by the places of rows.
+-- Choices by the indices of rows.
 use Rattle.std.specs.Prelude.{◌+◌, ◌<◌, Option, Some, None, length}
 use Rattle.flow_send.specs.declared.pick.Pick.{Pick}
 use Rattle.flow_send.specs.declared.pick.Pick.TheVariants as pick

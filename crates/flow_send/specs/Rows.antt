@@ -1,24 +1,26 @@
 -- The numbers of a sending flow above its forward number, each with its fragment and what became of
 -- it.
 use Prim.Native.Nat.{zero, suc}
-use Rattle.std.specs.Prelude.{ℕ, ◌+◌, if◌then◌else◌, max, Bool, true, false, ◌||◌, List, [], ◌∷◌, Option, Some, None, length, slice_index_or}
+use Rattle.std.specs.Prelude.{ℕ, ◌+◌, if◌then◌else◌, max, Bool, true, false, ◌||◌, List, [], ◌∷◌}
+use Rattle.std.specs.Prelude.{Option, Some, None, length, slice_index_or}
 use Rattle.std.specs.List.{sum_by, list_any}
 use Rattle.rtmfp_data_chunks.specs.declared.user_data.Part.TheVariants.{Whole}
 use Rattle.rtmfp_data_chunks.specs.Fragments.{Fragment}
 use Rattle.flow_send.specs.declared.state.State.{State}
-use Rattle.flow_send.specs.declared.state.State.TheVariants.{Unsent, Flying, Lost, Acknowledged, Abandoned}
+use Rattle.flow_send.specs.declared.state.State.TheVariants.{Unsent, Flying, Lost, Acknowledged}
+use Rattle.flow_send.specs.declared.state.State.TheVariants.{Abandoned}
 use Rattle.flow_send.specs.declared.totals.Totals.{Totals}
 
--- A number. ends: it is the number of finish, which has no message. moment, place: of its last
--- sending, the place being that in the order of all sendings of the flow. resends: how often it was
--- sent again. acks: those counted against it since its last sending. A number that is acknowledged
--- or abandoned holds no bytes any more.
+-- A number. ends: it is the number of finish, which has no message. moment, ordinal: of its last
+-- sending, the ordinal being its position in the order of all sendings of the flow. resends: how
+-- often it was sent again. acks: those counted against it since its last sending. A number that is
+-- acknowledged or abandoned holds no bytes any more.
 pub record Row : Type 0 where
   pub ends : Bool
   pub fragment : Fragment
   pub state : State
   pub moment : ℕ
-  pub place : ℕ
+  pub ordinal : ℕ
   pub resends : ℕ
   pub acks : ℕ
 
@@ -73,7 +75,7 @@ end_row = record {
   fragment = record { part = Whole; bytes = [] };
   state = Unsent;
   moment = 0;
-  place = 0;
+  ordinal = 0;
   resends = 0;
   acks = 0;
 }
@@ -140,11 +142,11 @@ abbrev pub settled_front : List Row → ℕ
 settled_front [] = 0
 settled_front (r ∷ rows) = if is_settled r.state then settled_front rows + 1 else 0
 
--- the row at a place
+-- the row at an index
 abbrev pub row_at : List Row → ℕ → Row
 row_at rows at = slice_index_or rows at end_row
 
--- the rows from one place to before another, changed
+-- the rows from one index to before another, changed
 abbrev pub between : (Row → Row) → ℕ → ℕ → List Row → List Row
 between f lo hi [] = []
 between f zero zero (r ∷ rows) = r ∷ rows
@@ -168,16 +170,19 @@ most_between f zero (suc hi) (r ∷ rows) = max (f r) (most_between f zero hi ro
 most_between f (suc lo) zero (r ∷ rows) = 0
 most_between f (suc lo) (suc hi) (r ∷ rows) = most_between f lo hi rows
 
--- the first place, from n on, of a row whose state passes a test
-abbrev pub first_place : (State → Bool) → ℕ → List Row → Option ℕ
-first_place test n [] = None
-first_place test n (r ∷ rows) = if test r.state then Some n else first_place test (n + 1) rows
+-- the first index, from n on, of a row whose state passes a test
+abbrev pub first_index : (State → Bool) → ℕ → List Row → Option ℕ
+first_index test n [] = None
+first_index test n (r ∷ rows) = if test r.state then Some n else first_index test (n + 1) rows
 
 abbrev pub front_settled : List Row → Bool
 front_settled [] = false
 front_settled (r ∷ rows) = is_settled r.state
 
 -- rows, and for how many more there is room
-pub record Places : Type 0 where
+pub record Roomy : Type 0 where
   pub rows : List Row
   pub room : ℕ
+
+abbrev pub roomy : List Row → ℕ → Roomy
+roomy rows room = record { rows = rows; room = room }

@@ -1,6 +1,7 @@
 -- What a sending flow keeps, and how its calls but those of sending and of acks change it.
 use Prim.Native.Nat.{zero, suc}
-use Rattle.std.specs.Prelude.{ℕ, ◌+◌, ◌-◌, ◌==◌, map, if◌then◌else◌, nat_le, nat_lt, Bool, false, ◌&&◌, ◌||◌, List, [], ◌∷◌, ◌++◌, Option, Some, None, length, drop}
+use Rattle.std.specs.Prelude.{ℕ, ◌+◌, ◌-◌, ◌==◌, map, if◌then◌else◌, nat_le, nat_lt, Bool, false}
+use Rattle.std.specs.Prelude.{◌&&◌, ◌||◌, List, [], ◌∷◌, ◌++◌, Option, Some, None, length, drop}
 use Rattle.std.specs.Option.{is_some}
 use Rattle.std.specs.List.{sum_by}
 use Rattle.rtmfp_data_chunks.specs.declared.user_data.Part.{Part}
@@ -8,13 +9,13 @@ use Rattle.rtmfp_data_chunks.specs.Fragments.{Message, fragment_at, fragment_cou
 use Rattle.flow_send.specs.declared.state.State.TheVariants.{Unsent, Lost, Abandoned}
 use Rattle.flow_send.specs.declared.waiting.MessageOptions.{MessageOptions}
 use Rattle.flow_send.specs.declared.waiting.Waiting.{Waiting}
-use Rattle.flow_send.specs.Rows.{Row, end_row, is_flying, is_lost, is_acknowledged, let_go, map_rows, any_row, settled_front}
+use Rattle.flow_send.specs.Rows.{Row, end_row, is_flying, is_lost, is_acknowledged, let_go}
+use Rattle.flow_send.specs.Rows.{map_rows, any_row, settled_front}
 
 pub record Sender : Type 0 where
   pub forward : ℕ  -- at or below it all is acknowledged, abandoned or below the flow's first number
   pub rows : List Row  -- the numbers above it, in order
-  -- the messages that are neither abandoned nor wholly acknowledged, by rising number
-  pub waiting : List Waiting
+  pub waiting : List Waiting  -- by rising number, neither abandoned nor wholly acknowledged
   pub finish : Option ℕ
   pub sent : ℕ  -- the highest number sent
   pub upto : ℕ  -- the cumulative ack of the last ack
@@ -68,7 +69,7 @@ fresh_row part bytes = record {
   fragment = record { part = part; bytes = bytes };
   state = Unsent;
   moment = 0;
-  place = 0;
+  ordinal = 0;
   resends = 0;
   acks = 0;
 }

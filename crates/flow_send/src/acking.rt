@@ -1,18 +1,20 @@
 //! What an ack does to the rows.
 
-ghost use Rattle.std.specs.Prelude.{◌≡◌, ℕ, ◌+◌, ◌-◌, ◌<◌, ◌≤◌, ◌^◌, List, length, nat_le, ◌&&◌, if◌then◌else◌};
+ghost use Rattle.std.specs.Prelude.{◌≡◌, ℕ, ◌+◌, ◌-◌, ◌<◌, ◌≤◌, ◌^◌, List, length, nat_le, ◌&&◌};
+ghost use Rattle.std.specs.Prelude.{if◌then◌else◌};
 ghost use Rattle.flow_send.specs.Rows.{map_rows, most_rows};
-ghost use Rattle.flow_send.specs.Acks.{Told, greatest, acknowledge, acknowledge_row, new_place, last_place, in_range};
+ghost use Rattle.flow_send.specs.Acks.{Told, told, greatest, acknowledge, acknowledge_row};
+ghost use Rattle.flow_send.specs.Acks.{new_ordinal, last_ordinal, in_span};
 
 use crate::rows::Rows;
 use rtmfp_data_chunks::AckedSpans;
 
 /// The greatest number that an ack acknowledges.
-pub fn greatest(upto: u64, ranges: &AckedSpans<'_>) -> u64
-    ensures { result ≡ greatest upto ranges.now }
+pub fn greatest(upto: u64, spans: &AckedSpans<'_>) -> u64
+    ensures { result ≡ greatest upto spans.now }
 {
     let mut most = upto;
-    let mut left = ranges.iter();
+    let mut left = spans.iter();
     while let Some((_, last)) = left.next() {
         most = if last > most { last } else { most };
     }
@@ -20,12 +22,12 @@ pub fn greatest(upto: u64, ranges: &AckedSpans<'_>) -> u64
 }
 
 /// Acknowledges the numbers from the first through the last, of rows above a forward number. The
-/// answer is the last place, in the order of sendings, of those that weren't acknowledged before.
-fn acknowledge_stretch(rows: &mut Rows, forward: u64, first: u64, last: u64) -> u64
+/// answer is the last ordinal of those that weren't acknowledged before.
+fn acknowledge_span(rows: &mut Rows, forward: u64, first: u64, last: u64) -> u64
     requires { last < forward + 1 + length rows.old.rows }
-    ensures rows { rows.new.rows ≡ map_rows (λ k r. if in_range k (first, last) then
+    ensures rows { rows.new.rows ≡ map_rows (λ k r. if in_span k (first, last) then
         acknowledge_row r else r) (forward + 1) rows.old.rows }
-    ensures place { result ≡ most_rows (λ k r. if in_range k (first, last) then new_place r
+    ensures ordinal { result ≡ most_rows (λ k r. if in_span k (first, last) then new_ordinal r
         else 0) (forward + 1) rows.old.rows }
     ensures room { rows.new.room ≡ rows.old.room }
 {
@@ -35,21 +37,19 @@ fn acknowledge_stretch(rows: &mut Rows, forward: u64, first: u64, last: u64) -> 
     rows.acknowledge(from.min(to) as usize, to as usize)
 }
 
-/// Acknowledges what an ack tells. The answer is the last place of what it newly acknowledges.
-pub fn acknowledge(rows: &mut Rows, forward: u64, upto: u64, ranges: &AckedSpans<'_>) -> u64
-    requires { greatest upto ranges.now < forward + 1 + length rows.old.rows }
-    ensures rows { rows.new.rows
-        ≡ map_rows (acknowledge (record { blocks = 0; upto = upto; ranges = ranges.now }))
-        (forward + 1) rows.old.rows }
-    ensures place { result ≡ last_place (record { blocks = 0; upto = upto; ranges = ranges.now })
-        (forward + 1) rows.old.rows }
+/// Acknowledges what an ack tells. The answer is the last ordinal of what it newly acknowledges.
+pub fn acknowledge(rows: &mut Rows, forward: u64, upto: u64, spans: &AckedSpans<'_>) -> u64
+    requires { greatest upto spans.now < forward + 1 + length rows.old.rows }
+    ensures rows { rows.new.rows ≡ map_rows (acknowledge (told 0 upto spans.now)) (forward + 1)
+        rows.old.rows }
+    ensures ordinal { result ≡ last_ordinal (told 0 upto spans.now) (forward + 1) rows.old.rows }
     ensures room { rows.new.room ≡ rows.old.room }
 {
-    let mut place = acknowledge_stretch(rows, forward, 0, upto);
-    let mut left = ranges.iter();
+    let mut ordinal = acknowledge_span(rows, forward, 0, upto);
+    let mut left = spans.iter();
     while let Some((first, last)) = left.next() {
-        let more = acknowledge_stretch(rows, forward, first, last);
-        place = if more > place { more } else { place };
+        let more = acknowledge_span(rows, forward, first, last);
+        ordinal = if more > ordinal { more } else { ordinal };
     }
-    place
+    ordinal
 }

@@ -1,9 +1,11 @@
 //! The messages of a flow that are neither abandoned nor wholly acknowledged, by rising number.
 
-ghost use Rattle.std.specs.Prelude.{◌≡◌, ◌+◌, ◌-◌, ◌<◌, ◌≤◌, ◌^◌, ◌∷◌, ◌++◌, [], OnOk, OnErr, List, ℕ, length, slice_get, slice_index_or, Some, None, true};
+ghost use Rattle.std.specs.Prelude.{◌≡◌, ◌+◌, ◌-◌, ◌<◌, ◌≤◌, ◌^◌, ◌∷◌, ◌++◌, [], OnOk, OnErr, List};
+ghost use Rattle.std.specs.Prelude.{ℕ, length, slice_get, slice_index_or, Some, None, true};
 ghost use Rattle.std.specs.List.{sum_by, filter, remove};
 ghost use Rattle.std.specs.VecDeque.{deque_len};
-ghost use Rattle.flow_send.specs.Sender.{message_at, without_message, first_number, is_past, is_spent, is_overdue, first_overdue};
+ghost use Rattle.flow_send.specs.Sender.{message_at, without_message, first_number, is_past};
+ghost use Rattle.flow_send.specs.Sender.{is_spent, is_overdue, first_overdue};
 ghost use Rattle.flow_send.specs.Acks.{still_waits};
 ghost use Rattle.flow_send.specs.Deadlines.{NoneBefore, Reach};
 ghost use Rattle.flow_send.specs.Steady.{Line, Late};
@@ -14,7 +16,7 @@ use std::alloc::{AllocError, Global};
 use std::collections::VecDeque;
 use std::marker::Model;
 
-/// Takes away the message at a place. Those before it move up, of which there are few where
+/// Takes away the message at an index. Those before it move up, of which there are few where
 /// messages are acknowledged.
 fn take_out(messages: &mut VecDeque<Waiting>, at: usize)
     requires { at < deque_len messages.old }
@@ -116,7 +118,7 @@ impl Backlog {
         (self.soonest, self.limited)
     }
 
-    fn place_of(&self, number: u64) -> usize
+    fn index_of(&self, number: u64) -> usize
         ensures found { message_at number self.now ≡ slice_get self.now result }
         ensures others { without_message number self.now ≡ remove self.now result }
     {
@@ -143,14 +145,14 @@ impl Backlog {
     pub fn find(&self, number: u64) -> Option<Waiting>
         ensures { result ≡ message_at number self.now }
     {
-        self.messages.get(self.place_of(number)).copied()
+        self.messages.get(self.index_of(number)).copied()
     }
 
     /// Takes away the message that begins at a number.
     pub fn remove(&mut self, number: u64)
         ensures { self.new ≡ without_message number self.old }
     {
-        let at = self.place_of(number);
+        let at = self.index_of(number);
         self.remove_at(at);
     }
 

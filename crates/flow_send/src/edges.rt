@@ -3,14 +3,17 @@
 
 ghost use Rattle.std.specs.Prelude.{◌≡◌, ℕ, List, [], ◌∷◌, Option, Some, None, true, false, length};
 ghost use Rattle.flow_send.specs.Rows.{Row};
-ghost use Rattle.flow_send.specs.Sender.{new_sender, finished, overdue, waits, abandoned, is_late, lost_late, next_of};
+ghost use Rattle.flow_send.specs.Sender.{new_sender, finished, overdue, waits, abandoned, is_late};
+ghost use Rattle.flow_send.specs.Sender.{lost_late, next_of};
 ghost use Rattle.flow_send.specs.Acks.{told, beyond, new_bytes, makes_lost, told_by};
-ghost use Rattle.flow_send.specs.Choice.{Nothing, Send, Notify, choice, within_limit, sent_after, sent_row};
+ghost use Rattle.flow_send.specs.Choice.{Nothing, Send, Notify, choice, within_limit, sent_after};
+ghost use Rattle.flow_send.specs.Choice.{sent_row};
 ghost use Rattle.flow_send.specs.Flow.{queue_refusal, chunk_refusal, chunk_options, flow_options};
-ghost use Rattle.flow_send.specs.Edges.{number_in, sender_of, waiting_at, holding, flow_of};
+ghost use Rattle.flow_send.specs.Edges.{unsent, flying, lost, acked, given_up, resent, sender_of};
+ghost use Rattle.flow_send.specs.Edges.{numbers, three, with_blocks, acked_up_to, with_waiting};
+ghost use Rattle.flow_send.specs.Edges.{waiting_at, holding, flow_of};
 
 use crate::outcome::{NoChunk, QueueRefusal};
-use crate::state::State;
 
 /// A message has at most 1,048,576 bytes, 2,097,152 bytes and 65,536 fragments are held, and the
 /// last number is 2^64 - 2. Of several refusals the first in their order is told.
@@ -38,24 +41,21 @@ pub fn queueing()
 /// and at most the blocks last told times 1,024 after it. Where no number is in flight, that isn't
 /// asked.
 pub fn flow_limit()
-    ensures before_an_ack { within_limit (sender_of 0 (number_in State.Flying 1 0 (1 ∷ 2 ∷ 3 ∷ 4 ∷ []) ∷ [])) 65532
+    ensures before_an_ack { within_limit (numbers (flying 1 0 (1 ∷ 2 ∷ 3 ∷ 4 ∷ []) ∷ [])) 65532
         ≡ true }
-    ensures beyond_it { within_limit (sender_of 0 (number_in State.Flying 1 0 (1 ∷ 2 ∷ 3 ∷ 4 ∷ []) ∷ [])) 65533
+    ensures beyond_it { within_limit (numbers (flying 1 0 (1 ∷ 2 ∷ 3 ∷ 4 ∷ []) ∷ [])) 65533
         ≡ false }
-    ensures a_block { within_limit (record (sender_of 0 (number_in State.Flying 1 0 (1 ∷ 2 ∷ 3 ∷ 4 ∷ []) ∷ []))
-        { told = Some 1 }) 1020 ≡ true }
-    ensures beyond_a_block { within_limit (record (sender_of 0 (number_in State.Flying 1 0 (1 ∷ 2 ∷ 3 ∷ 4 ∷ []) ∷ []))
-        { told = Some 1 }) 1021 ≡ false }
+    ensures a_block { within_limit
+        (with_blocks 1 (numbers (flying 1 0 (1 ∷ 2 ∷ 3 ∷ 4 ∷ []) ∷ []))) 1020 ≡ true }
+    ensures beyond_a_block { within_limit
+        (with_blocks 1 (numbers (flying 1 0 (1 ∷ 2 ∷ 3 ∷ 4 ∷ []) ∷ []))) 1021 ≡ false }
     ensures idle { choice 0 1000
-        (record (sender_of 0 (number_in State.Acknowledged 1 0 []
-        ∷ number_in State.Unsent 0 0 (7 ∷ []) ∷ [])) { told = Some 0 })
-        ≡ Send 2 (number_in State.Unsent 0 0 (7 ∷ [])) }
+        (with_blocks 0 (numbers (acked 1 0 [] ∷ unsent 0 0 (7 ∷ []) ∷ [])))
+        ≡ Send 2 (unsent 0 0 (7 ∷ [])) }
     ensures asked_of_no_bytes { choice 0 1000
-        (record (sender_of 0 (number_in State.Flying 1 0 [] ∷ number_in State.Unsent 0 0 (7 ∷ [])
-        ∷ [])) { told = Some 0 }) ≡ Nothing }
+        (with_blocks 0 (numbers (flying 1 0 [] ∷ unsent 0 0 (7 ∷ []) ∷ []))) ≡ Nothing }
     ensures exactly_full { choice 0 1000
-        (record (sender_of 0 (number_in State.Flying 1 0 [] ∷ number_in State.Unsent 0 0 [] ∷ []))
-        { told = Some 0 }) ≡ Send 2 (number_in State.Unsent 0 0 []) }
+        (with_blocks 0 (numbers (flying 1 0 [] ∷ unsent 0 0 [] ∷ []))) ≡ Send 2 (unsent 0 0 []) }
 {}
 
 /// What is in flight and the fragment fill the session's window at most. Room counts the type, the
@@ -64,13 +64,13 @@ pub fn flow_limit()
 #[tactic(auto, unfolding(rtmfp_vlu::specs::Vlu::vlu, rtmfp_vlu::specs::Vlu::groups_before))]
 pub fn window_and_room()
     ensures full { chunk_refusal (flow_of (sender_of 200 [])) false 12 996 1000
-        (Send 201 (number_in State.Unsent 0 0 (1 ∷ 2 ∷ 3 ∷ 4 ∷ []))) ≡ None }
+        (Send 201 (unsent 0 0 (1 ∷ 2 ∷ 3 ∷ 4 ∷ []))) ≡ None }
     ensures too_full { chunk_refusal (flow_of (sender_of 200 [])) false 12 997 1000
-        (Send 201 (number_in State.Unsent 0 0 (1 ∷ 2 ∷ 3 ∷ 4 ∷ []))) ≡ Some NoChunk.Window }
+        (Send 201 (unsent 0 0 (1 ∷ 2 ∷ 3 ∷ 4 ∷ []))) ≡ Some NoChunk.Window }
     ensures no_room { chunk_refusal (flow_of (sender_of 200 [])) false 11 996 1000
-        (Send 201 (number_in State.Unsent 0 0 (1 ∷ 2 ∷ 3 ∷ 4 ∷ []))) ≡ Some NoChunk.Room }
+        (Send 201 (unsent 0 0 (1 ∷ 2 ∷ 3 ∷ 4 ∷ []))) ≡ Some NoChunk.Room }
     ensures window_first { chunk_refusal (flow_of (sender_of 200 [])) false 11 997 1000
-        (Send 201 (number_in State.Unsent 0 0 (1 ∷ 2 ∷ 3 ∷ 4 ∷ []))) ≡ Some NoChunk.Window }
+        (Send 201 (unsent 0 0 (1 ∷ 2 ∷ 3 ∷ 4 ∷ []))) ≡ Some NoChunk.Window }
     ensures notice { chunk_refusal (flow_of (sender_of 200 [])) false 8 1000 1000 Notify ≡ None }
     ensures nothing { chunk_refusal (flow_of (sender_of 200 [])) false 8 1000 1000 Nothing
         ≡ Some NoChunk.Nothing }
@@ -86,16 +86,15 @@ pub fn window_and_room()
 /// neither: where the last cumulative ack is below the forward number and no notice was sent within
 /// the resend time. What is in flight doesn't hinder it.
 pub fn next_to_send()
-    ensures lost_first { choice 0 1000 (sender_of 0 (number_in State.Unsent 0 0 [] ∷ number_in State.Lost 1 0 []
-        ∷ number_in State.Lost 2 0 [] ∷ [])) ≡ Send 2 (number_in State.Lost 1 0 []) }
-    ensures then_unsent { choice 0 1000 (sender_of 0 (number_in State.Flying 1 0 [] ∷ number_in State.Unsent 0 0 []
-        ∷ number_in State.Unsent 0 0 [] ∷ [])) ≡ Send 2 (number_in State.Unsent 0 0 []) }
-    ensures then_a_notice { choice 0 1000 (record (sender_of 5 (number_in State.Flying 1 0 [] ∷ [])) { upto = 4 })
+    ensures lost_first { choice 0 1000
+        (numbers (unsent 0 0 [] ∷ lost 1 0 [] ∷ lost 2 0 [] ∷ [])) ≡ Send 2 (lost 1 0 []) }
+    ensures then_unsent { choice 0 1000
+        (numbers (flying 1 0 [] ∷ unsent 0 0 [] ∷ unsent 0 0 [] ∷ [])) ≡ Send 2 (unsent 0 0 []) }
+    ensures then_a_notice { choice 0 1000 (acked_up_to 4 (sender_of 5 (flying 1 0 [] ∷ [])))
         ≡ Notify }
-    ensures unsent_before_it { choice 0 1000 (record (sender_of 5 (number_in State.Unsent 0 0 [] ∷ [])) { upto = 4 })
-        ≡ Send 6 (number_in State.Unsent 0 0 []) }
-    ensures told_already { choice 0 1000 (sender_of 5 (number_in State.Flying 1 0 [] ∷ []))
-        ≡ Nothing }
+    ensures unsent_before_it { choice 0 1000 (acked_up_to 4 (sender_of 5 (unsent 0 0 [] ∷ [])))
+        ≡ Send 6 (unsent 0 0 []) }
+    ensures told_already { choice 0 1000 (sender_of 5 (flying 1 0 [] ∷ [])) ≡ Nothing }
     ensures too_soon { choice 1499 500 (record (sender_of 5 []) { upto = 4; notice = Some 1000 })
         ≡ Nothing }
     ensures again { choice 1500 500 (record (sender_of 5 []) { upto = 4; notice = Some 1000 })
@@ -103,20 +102,20 @@ pub fn next_to_send()
 {}
 
 /// A sending of a lost number counts as a resend, and a first one doesn't. Either begins the count
-/// of acks anew. The number of a notice counts as sent, and a notice has its place in the order of
+/// of acks anew. The number of a notice counts as sent, and a notice has its ordinal among all
 /// sendings.
 pub fn sendings()
-    ensures resend { sent_row 70 11 (number_in State.Lost 3 2 (7 ∷ []))
-        ≡ record (number_in State.Flying 11 0 (7 ∷ [])) { moment = 70; resends = 1 } }
-    ensures first_sending { sent_row 70 11 (number_in State.Unsent 0 0 (7 ∷ []))
-        ≡ record (number_in State.Flying 11 0 (7 ∷ [])) { moment = 70 } }
+    ensures resend { sent_row 70 11 (lost 3 2 (7 ∷ []))
+        ≡ record (flying 11 0 (7 ∷ [])) { moment = 70; resends = 1 } }
+    ensures first_sending { sent_row 70 11 (unsent 0 0 (7 ∷ []))
+        ≡ record (flying 11 0 (7 ∷ [])) { moment = 70 } }
     ensures one_ack_after_a_resend { makes_lost (told 64 0 ((2, 2) ∷ []))
-        (sent_after 70 (Send 1 (number_in State.Lost 3 2 []))
-        (sender_of 0 (number_in State.Lost 3 2 [] ∷ number_in State.Flying 12 0 [] ∷ []))) ≡ false }
-    ensures the_number_sent { (sent_after 70 (Send 3 (number_in State.Unsent 0 0 []))
-        (record (sender_of 2 (number_in State.Unsent 0 0 [] ∷ [])) { sent = 2 })).sent ≡ 3 }
-    ensures a_resend_keeps_it { (sent_after 70 (Send 1 (number_in State.Lost 3 0 []))
-        (sender_of 0 (number_in State.Lost 3 0 [] ∷ number_in State.Flying 4 0 [] ∷ []))).sent ≡ 2 }
+        (sent_after 70 (Send 1 (lost 3 2 [])) (numbers (lost 3 2 [] ∷ flying 12 0 [] ∷ [])))
+        ≡ false }
+    ensures the_number_sent { (sent_after 70 (Send 3 (unsent 0 0 []))
+        (record (sender_of 2 (unsent 0 0 [] ∷ [])) { sent = 2 })).sent ≡ 3 }
+    ensures a_resend_keeps_it { (sent_after 70 (Send 1 (lost 3 0 []))
+        (numbers (lost 3 0 [] ∷ flying 4 0 [] ∷ []))).sent ≡ 2 }
     ensures notice { sent_after 70 Notify (record (sender_of 9 []) { sent = 8 })
         ≡ record (sender_of 9 []) { notice = Some 70; order = 11 } }
     ensures ack_of_a_notice { beyond (sent_after 70 Notify (record (sender_of 9 []) { sent = 8 }))
@@ -132,82 +131,71 @@ pub fn sendings()
 /// forward number don't.
 pub fn three_acks()
     ensures third { makes_lost (told 64 0 ((2, 2) ∷ []))
-        (sender_of 0 (number_in State.Flying 1 2 [] ∷ number_in State.Flying 2 0 [] ∷ [])) ≡ true }
+        (numbers (flying 1 2 [] ∷ flying 2 0 [] ∷ [])) ≡ true }
     ensures second { makes_lost (told 64 0 ((2, 2) ∷ []))
-        (sender_of 0 (number_in State.Flying 1 1 [] ∷ number_in State.Flying 2 0 [] ∷ [])) ≡ false }
+        (numbers (flying 1 1 [] ∷ flying 2 0 [] ∷ [])) ≡ false }
     ensures second_is_counted { told_by (told 64 0 ((2, 2) ∷ []))
-        (sender_of 0 (number_in State.Flying 1 1 [] ∷ number_in State.Flying 2 0 [] ∷ []))
-        ≡ record (sender_of 0 (number_in State.Flying 1 2 [] ∷ number_in State.Acknowledged 2 0 []
-        ∷ [])) { told = Some 64 } }
+        (numbers (flying 1 1 [] ∷ flying 2 0 [] ∷ []))
+        ≡ with_blocks 64 (numbers (flying 1 2 [] ∷ acked 2 0 [] ∷ [])) }
     ensures sent_before { makes_lost (told 64 1 [])
-        (sender_of 0 (number_in State.Flying 1 0 [] ∷ number_in State.Flying 2 2 [] ∷ [])) ≡ false }
+        (numbers (flying 1 0 [] ∷ flying 2 2 [] ∷ [])) ≡ false }
     ensures newly { makes_lost (told 64 0 ((2, 2) ∷ []))
-        (sender_of 0 (number_in State.Flying 1 2 [] ∷ number_in State.Acknowledged 2 0 [] ∷ []))
-        ≡ false }
+        (numbers (flying 1 2 [] ∷ acked 2 0 [] ∷ [])) ≡ false }
     ensures abandoned_one { makes_lost (told 64 0 ((2, 2) ∷ []))
-        (sender_of 0 (number_in State.Flying 1 2 [] ∷ number_in State.Abandoned 2 0 [] ∷ []))
-        ≡ true }
+        (numbers (flying 1 2 [] ∷ given_up 2 0 [] ∷ [])) ≡ true }
     ensures abandoned_unsent { makes_lost (told 64 0 ((2, 2) ∷ []))
-        (sender_of 0 (number_in State.Flying 1 2 [] ∷ number_in State.Abandoned 0 0 [] ∷ []))
-        ≡ false }
+        (numbers (flying 1 2 [] ∷ given_up 0 0 [] ∷ [])) ≡ false }
     ensures below_the_forward_number { makes_lost (told 64 5 [])
-        (record (sender_of 5 (number_in State.Flying 1 2 [] ∷ [])) { upto = 0 }) ≡ false }
+        (acked_up_to 0 (sender_of 5 (flying 1 2 [] ∷ []))) ≡ false }
     ensures only_in_flight { makes_lost (told 64 0 ((2, 2) ∷ []))
-        (sender_of 0 (number_in State.Lost 1 2 [] ∷ number_in State.Flying 2 0 [] ∷ [])) ≡ false }
+        (numbers (lost 1 2 [] ∷ flying 2 0 [] ∷ [])) ≡ false }
 {}
 
 /// An ack gives the bytes of the numbers that it newly acknowledges, but for the abandoned ones.
 /// The values of the last ack count, also where those of an earlier one are higher.
 pub fn acks()
     ensures bytes { new_bytes (told 64 1 ((3, 4) ∷ [])) 1
-        (number_in State.Flying 1 0 (1 ∷ []) ∷ number_in State.Flying 2 0 (1 ∷ 2 ∷ [])
-        ∷ number_in State.Acknowledged 3 0 (1 ∷ 2 ∷ 3 ∷ [])
-        ∷ number_in State.Lost 4 0 (1 ∷ 2 ∷ 3 ∷ 4 ∷ []) ∷ []) ≡ 5 }
-    ensures abandoned_one { new_bytes (told 64 1 []) 1 (number_in State.Abandoned 1 0 (1 ∷ []) ∷ [])
-        ≡ 0 }
-    ensures lower { told_by (told 3 4 []) (record (sender_of 9 []) { told = Some 64 })
+        (flying 1 0 (1 ∷ []) ∷ flying 2 0 (1 ∷ 2 ∷ []) ∷ acked 3 0 (1 ∷ 2 ∷ 3 ∷ [])
+        ∷ lost 4 0 (1 ∷ 2 ∷ 3 ∷ 4 ∷ []) ∷ []) ≡ 5 }
+    ensures abandoned_one { new_bytes (told 64 1 []) 1 (given_up 1 0 (1 ∷ []) ∷ []) ≡ 0 }
+    ensures lower { told_by (told 3 4 []) (with_blocks 64 (sender_of 9 []))
         ≡ record (sender_of 9 []) { upto = 4; told = Some 3 } }
-    ensures forward { (told_by (told 64 0 ((2, 2) ∷ [])) (sender_of 0
-        (number_in State.Abandoned 1 0 [] ∷ number_in State.Flying 2 0 []
-        ∷ number_in State.Flying 3 0 [] ∷ []))).forward ≡ 2 }
-    ensures in_flight_still { (told_by (told 64 0 ((2, 2) ∷ [])) (sender_of 0
-        (number_in State.Flying 1 0 [] ∷ number_in State.Flying 2 0 [] ∷ []))).forward ≡ 0 }
-    ensures wholly { (told_by (told 64 0 ((2, 3) ∷ [])) (record
-        (sender_of 0 (number_in State.Flying 1 0 [] ∷ number_in State.Flying 2 0 []
-        ∷ number_in State.Flying 3 0 [] ∷ [])) {
-          waiting = waiting_at 1 1 0 None None
-              ∷ waiting_at 2 2 0 None None ∷ [];
-        })).waiting ≡ waiting_at 1 1 0 None None ∷ [] }
-    ensures not_wholly { (told_by (told 64 0 ((2, 2) ∷ [])) (record
-        (sender_of 0 (number_in State.Flying 1 0 [] ∷ number_in State.Flying 2 0 []
-        ∷ number_in State.Flying 3 0 [] ∷ [])) {
-          waiting = waiting_at 2 2 0 None None
-              ∷ [];
-        })).waiting ≡ waiting_at 2 2 0 None None ∷ [] }
+    ensures forward { (told_by (told 64 0 ((2, 2) ∷ []))
+        (numbers (given_up 1 0 [] ∷ flying 2 0 [] ∷ flying 3 0 [] ∷ []))).forward ≡ 2 }
+    ensures in_flight_still { (told_by (told 64 0 ((2, 2) ∷ []))
+        (numbers (flying 1 0 [] ∷ flying 2 0 [] ∷ []))).forward ≡ 0 }
+    ensures wholly { (told_by (told 64 0 ((2, 3) ∷ []))
+        (with_waiting (waiting_at 1 1 0 None None ∷ waiting_at 2 2 0 None None ∷ []) three)).waiting
+        ≡ waiting_at 1 1 0 None None ∷ [] }
+    ensures not_wholly { (told_by (told 64 0 ((2, 2) ∷ []))
+        (with_waiting (waiting_at 2 2 0 None None ∷ []) three)).waiting
+        ≡ waiting_at 2 2 0 None None ∷ [] }
 {}
 
 /// A number in flight is late where the moment is its last sending and the resend time. A message
 /// is overdue after its deadline, and where a lost fragment was sent again as often as its limit
 /// allows.
 pub fn late()
-    ensures not_yet { is_late 1499 500 (number_in State.Flying 1 0 []) ≡ false }
-    ensures late { is_late 1500 500 (number_in State.Flying 1 0 []) ≡ true }
-    ensures only_in_flight { is_late 1500 500 (number_in State.Abandoned 1 0 []) ≡ false }
-    ensures at_its_deadline { overdue 50 (record (sender_of 0 (number_in State.Flying 1 0 [] ∷ []))
-        { waiting = waiting_at 1 1 0 (Some 50) None ∷ [] }) ≡ None }
-    ensures after_it { overdue 51 (record (sender_of 0 (number_in State.Flying 1 0 [] ∷ []))
-        { waiting = waiting_at 1 1 0 (Some 50) None ∷ [] }) ≡ Some 1 }
-    ensures no_resend { overdue 0 (record (sender_of 0 (number_in State.Lost 1 0 [] ∷ []))
-        { waiting = waiting_at 1 1 0 None (Some 0) ∷ [] }) ≡ Some 1 }
+    ensures not_yet { is_late 1499 500 (flying 1 0 []) ≡ false }
+    ensures late { is_late 1500 500 (flying 1 0 []) ≡ true }
+    ensures only_in_flight { is_late 1500 500 (given_up 1 0 []) ≡ false }
+    ensures at_its_deadline { overdue 50
+        (with_waiting (waiting_at 1 1 0 (Some 50) None ∷ []) (numbers (flying 1 0 [] ∷ [])))
+        ≡ None }
+    ensures after_it { overdue 51
+        (with_waiting (waiting_at 1 1 0 (Some 50) None ∷ []) (numbers (flying 1 0 [] ∷ [])))
+        ≡ Some 1 }
+    ensures no_resend { overdue 0
+        (with_waiting (waiting_at 1 1 0 None (Some 0) ∷ []) (numbers (lost 1 0 [] ∷ [])))
+        ≡ Some 1 }
     ensures one_more_resend { overdue 0
-        (record (sender_of 0 (record (number_in State.Lost 1 0 []) { resends = 1 } ∷ []))
-        { waiting = waiting_at 1 1 0 None (Some 2) ∷ [] }) ≡ None }
+        (with_waiting (waiting_at 1 1 0 None (Some 2) ∷ []) (numbers (resent 1 (lost 1 0 []) ∷ [])))
+        ≡ None }
     ensures as_often { overdue 0
-        (record (sender_of 0 (record (number_in State.Lost 1 0 []) { resends = 2 } ∷ []))
-        { waiting = waiting_at 1 1 0 None (Some 2) ∷ [] }) ≡ Some 1 }
-    ensures in_flight_still { overdue 0
-        (record (sender_of 0 (record (number_in State.Flying 1 0 []) { resends = 2 } ∷ []))
-        { waiting = waiting_at 1 1 0 None (Some 2) ∷ [] }) ≡ None }
+        (with_waiting (waiting_at 1 1 0 None (Some 2) ∷ []) (numbers (resent 2 (lost 1 0 []) ∷ [])))
+        ≡ Some 1 }
+    ensures in_flight_still { overdue 0 (with_waiting (waiting_at 1 1 0 None (Some 2) ∷ [])
+        (numbers (resent 2 (flying 1 0 []) ∷ []))) ≡ None }
 {}
 
 /// An abandoned message leaves the flight with its numbers that aren't acknowledged, and the
@@ -215,17 +203,13 @@ pub fn late()
 /// next one.
 pub fn abandoning()
     ensures abandons { abandoned 2
-        (record (sender_of 0 (number_in State.Flying 1 0 (7 ∷ [])
-        ∷ number_in State.Flying 2 0 (7 ∷ []) ∷ number_in State.Acknowledged 3 0 [] ∷ []))
-        { waiting = waiting_at 1 1 1 None None ∷ waiting_at 2 2 1 None None ∷ [] })
-        ≡ record (sender_of 0 (number_in State.Flying 1 0 (7 ∷ [])
-        ∷ number_in State.Abandoned 2 0 [] ∷ number_in State.Acknowledged 3 0 [] ∷ []))
-        { waiting = waiting_at 1 1 1 None None ∷ [] } }
-    ensures passes { (abandoned 1
-        (record (sender_of 0 (number_in State.Flying 1 0 (7 ∷ [])
-        ∷ number_in State.Acknowledged 2 0 [] ∷ number_in State.Flying 3 0 [] ∷ []))
-        { waiting = waiting_at 1 1 1 None None ∷ [] })).forward ≡ 2 }
-    ensures inside { waits (record (sender_of 0 []) { waiting = waiting_at 1 2 0 None None ∷ [] }) 2
+        (with_waiting (waiting_at 1 1 1 None None ∷ waiting_at 2 2 1 None None ∷ [])
+        (numbers (flying 1 0 (7 ∷ []) ∷ flying 2 0 (7 ∷ []) ∷ acked 3 0 [] ∷ [])))
+        ≡ with_waiting (waiting_at 1 1 1 None None ∷ [])
+        (numbers (flying 1 0 (7 ∷ []) ∷ given_up 2 0 [] ∷ acked 3 0 [] ∷ [])) }
+    ensures passes { (abandoned 1 (with_waiting (waiting_at 1 1 1 None None ∷ [])
+        (numbers (flying 1 0 (7 ∷ []) ∷ acked 2 0 [] ∷ flying 3 0 [] ∷ [])))).forward ≡ 2 }
+    ensures inside { waits (with_waiting (waiting_at 1 2 0 None None ∷ []) (sender_of 0 [])) 2
         ≡ false }
     ensures end { next_of (finished (new_sender 7)) ≡ 8 }
 {}

@@ -1,6 +1,6 @@
 //! Which chunk a sender sends.
 
-/// A fragment, by the place of its row, or a notice of the forward number.
+/// A fragment, by the index of its row, or a notice of the forward number.
 #[derive(Clone, Copy, Debug, PartialEq, Eq)]
 pub enum Pick {
     Row(usize),

@@ -2,7 +2,8 @@
 
 ghost use Rattle.std.specs.Prelude.{◌≡◌, ◌+◌, ◌<◌, ◌≤◌, IfOk, length, true, false};
 ghost use Rattle.flow_send.specs.Rows.{let_go, end_row, row_totals, is_settled, is_flying};
-ghost use Rattle.flow_send.specs.Sender.{lost_if_late, is_late, give_up_row, is_spent_row, fresh_row};
+ghost use Rattle.flow_send.specs.Sender.{lost_if_late, is_late, give_up_row, is_spent_row};
+ghost use Rattle.flow_send.specs.Sender.{fresh_row};
 ghost use Rattle.flow_send.specs.Choice.{sent_row};
 ghost use Rattle.flow_send.specs.Acks.{acknowledge_row, count_ack, is_third};
 
@@ -20,7 +21,7 @@ pub struct HeldRow {
     bytes: Vec<u8>,
     state: State,
     moment: u64,
-    place: u64,
+    ordinal: u64,
     resends: u32,
     acks: u8,
 }
@@ -35,7 +36,7 @@ impl Model for HeldRow {
       fragment = record { part = r.part; bytes = r.bytes.items };
       state = r.state;
       moment = r.moment;
-      place = r.place;
+      ordinal = r.ordinal;
       resends = r.resends;
       acks = r.acks;
     } };
@@ -52,7 +53,7 @@ impl HeldRow {
             bytes: Vec::from_slice(alloc, bytes)?,
             state: State::Unsent,
             moment: 0,
-            place: 0,
+            ordinal: 0,
             resends: 0,
             acks: 0,
         })
@@ -68,7 +69,7 @@ impl HeldRow {
             bytes: Vec::new(alloc),
             state: State::Unsent,
             moment: 0,
-            place: 0,
+            ordinal: 0,
             resends: 0,
             acks: 0,
         }
@@ -98,10 +99,10 @@ impl HeldRow {
         self.state
     }
 
-    pub fn place(&self) -> u64
-        ensures { result ≡ self.now.place }
+    pub fn ordinal(&self) -> u64
+        ensures { result ≡ self.now.ordinal }
     {
-        self.place
+        self.ordinal
     }
 
     /// What it gives to the sums.
@@ -145,15 +146,15 @@ impl HeldRow {
     }
 
     /// It is sent, again where it was lost.
-    pub fn send(&mut self, moment: u64, place: u64)
-        ensures { self.new ≡ sent_row moment place self.old }
+    pub fn send(&mut self, moment: u64, ordinal: u64)
+        ensures { self.new ≡ sent_row moment ordinal self.old }
     {
         if self.state == State::Lost {
             self.resends = self.resends.saturating_add(1);
         }
         self.state = State::Flying;
         self.moment = moment;
-        self.place = place;
+        self.ordinal = ordinal;
         self.acks = 0;
     }
 
@@ -179,19 +180,19 @@ impl HeldRow {
         self.state == State::Lost && limit <= self.resends
     }
 
-    /// Whether an ack that newly acknowledges the sending at a place makes it lost, by being the
-    /// third.
-    pub fn is_third(&self, place: u64) -> bool
-        ensures { result ≡ is_third place self.now }
+    /// Whether an ack that newly acknowledges the sending with an ordinal makes it lost, by being
+    /// the third.
+    pub fn is_third(&self, ordinal: u64) -> bool
+        ensures { result ≡ is_third ordinal self.now }
     {
-        self.state == State::Flying && self.place < place && 2 <= self.acks
+        self.state == State::Flying && self.ordinal < ordinal && 2 <= self.acks
     }
 
-    /// Counts an ack that newly acknowledges the sending at a place.
-    pub fn count_ack(&mut self, place: u64)
-        ensures { self.new ≡ count_ack place self.old }
+    /// Counts an ack that newly acknowledges the sending with an ordinal.
+    pub fn count_ack(&mut self, ordinal: u64)
+        ensures { self.new ≡ count_ack ordinal self.old }
     {
-        if self.state == State::Flying && self.place < place {
+        if self.state == State::Flying && self.ordinal < ordinal {
             if self.acks < 2 {
                 self.acks += 1;
             } else {

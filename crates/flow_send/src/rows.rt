@@ -1,12 +1,18 @@
 //! The numbers of a sending flow above its forward number.
 
-ghost use Rattle.std.specs.Prelude.{◌≡◌, ◌+◌, ◌-◌, ◌<◌, ◌≤◌, ◌^◌, ◌∷◌, ◌++◌, [], IfOk, OnOk, OnErr, IfSome, IfNone, List, length, slice_set, drop, map, max, not, true, false, MatchOption, Some, None, position};
+ghost use Rattle.std.specs.Prelude.{◌≡◌, ◌+◌, ◌-◌, ◌<◌, ◌≤◌, ◌^◌, ◌∷◌, ◌++◌, [], IfOk, OnOk, OnErr};
+ghost use Rattle.std.specs.Prelude.{IfSome, IfNone, List, length, slice_set, drop, map, max, not};
+ghost use Rattle.std.specs.Prelude.{true, false, MatchOption, Some, None, position};
 ghost use Rattle.std.specs.List.{sum_by, list_any};
 ghost use Rattle.std.specs.VecDeque.{deque_len, deque_capacity};
-ghost use Rattle.flow_send.specs.Rows.{Row, row_at, stored_of, totals_of, in_flight, any_flying, between, any_between, most_between, settled_front, front_settled, first_place, is_lost, is_unsent, is_settled, is_acknowledged, lost_of};
+ghost use Rattle.flow_send.specs.Rows.{Row, row_at, stored_of, totals_of, in_flight, any_flying};
+ghost use Rattle.flow_send.specs.Rows.{between, any_between, most_between, settled_front};
+ghost use Rattle.flow_send.specs.Rows.{front_settled, first_index, is_lost, is_unsent, is_settled};
+ghost use Rattle.flow_send.specs.Rows.{is_acknowledged, lost_of};
 ghost use Rattle.flow_send.specs.Sender.{give_up_row, lost_if_late, is_late, is_spent_row};
 ghost use Rattle.flow_send.specs.Choice.{sent_row};
-ghost use Rattle.flow_send.specs.Acks.{acknowledge_row, new_place, count_ack, is_third};
+ghost use Rattle.flow_send.specs.Acks.{acknowledge_row, new_ordinal, count_ack, is_third};
+ghost use Rattle.flow_send.specs.Ordered.{count_sent};
 
 use crate::row::HeldRow;
 use crate::state::State;
@@ -26,11 +32,11 @@ pub struct Rows {
 impl Model for Rows {
     ghost use Rattle.std.specs.Prelude.{◌≡◌, ◌-◌};
     ghost use Rattle.std.specs.VecDeque.{deque_len, deque_capacity};
-    ghost use Rattle.flow_send.specs.Rows.{Places, totals_of};
+    ghost use Rattle.flow_send.specs.Rows.{Roomy, roomy, totals_of};
 
-    ghost Value = { Places };
+    ghost Value = { Roomy };
 
-    ghost view = { λ q. record { rows = q.rows.items; room = deque_capacity q.rows - deque_len q.rows } };
+    ghost view = { λ q. roomy q.rows.items (deque_capacity q.rows - deque_len q.rows) };
 
     ghost invariant = { λ q. q.totals ≡ totals_of q.rows.items };
 }
@@ -113,7 +119,7 @@ impl Rows {
         self.totals = self.totals.moved(before, after);
     }
 
-    /// Abandons the rows from one place to before another that aren't acknowledged.
+    /// Abandons the rows from one index to before another that aren't acknowledged.
     pub fn give_up(&mut self, from: usize, to: usize)
         requires order { from ≤ to }
         requires inside { to ≤ length self.old.rows }
@@ -141,39 +147,39 @@ impl Rows {
         self.totals = self.totals.moved(before, after);
     }
 
-    /// The place of the last sending of a row that isn't acknowledged, else 0.
-    fn new_place(&self, at: usize) -> u64
+    /// The ordinal of the last sending of a row that isn't acknowledged, else 0.
+    fn new_ordinal(&self, at: usize) -> u64
         requires { at < length self.now.rows }
-        ensures { result ≡ new_place (row_at self.now.rows at) }
+        ensures { result ≡ new_ordinal (row_at self.now.rows at) }
     {
         let row = &self.rows[at];
         if row.state() == State::Acknowledged {
             return 0;
         }
-        row.place()
+        row.ordinal()
     }
 
-    /// Acknowledges the rows from one place to before another. The answer is the last place, in the
-    /// order of sendings, of those that weren't acknowledged before.
+    /// Acknowledges the rows from one index to before another. The answer is the last ordinal of
+    /// those that weren't acknowledged before.
     pub fn acknowledge(&mut self, from: usize, to: usize) -> u64
         requires order { from ≤ to }
         requires inside { to ≤ length self.old.rows }
         ensures rows { self.new.rows ≡ between acknowledge_row from to self.old.rows }
         ensures room { self.new.room ≡ self.old.room }
-        ensures place { result ≡ most_between new_place from to self.old.rows }
+        ensures ordinal { result ≡ most_between new_ordinal from to self.old.rows }
     {
-        let mut place: u64 = 0;
+        let mut ordinal: u64 = 0;
         for at in from..to {
-            place = place.max(self.new_place(at));
+            ordinal = ordinal.max(self.new_ordinal(at));
             self.acknowledge_at(at);
         }
-        place
+        ordinal
     }
 
-    fn count_ack_at(&mut self, at: usize, place: u64)
+    fn count_ack_at(&mut self, at: usize, ordinal: u64)
         requires { at < length self.old.rows }
         ensures rows { self.new.rows ≡ slice_set self.old.rows at
-            (count_ack place (row_at self.old.rows at)) }
+            (count_ack ordinal (row_at self.old.rows at)) }
         ensures room { self.new.room ≡ self.old.room }
     {
         if !self.rows[at].state().is_flying() {
@@ -181,31 +187,43 @@ impl Rows {
         }
         let row = &mut self.rows[at];
         let before = row.totals();
-        row.count_ack(place);
+        row.count_ack(ordinal);
         let after = row.totals();
         self.totals = self.totals.moved(before, after);
     }
 
-    /// Whether an ack of the sending at a place makes a row lost.
-    fn is_third(&self, at: usize, place: u64) -> bool
-        requires { at < length self.now.rows }
-        ensures { result ≡ is_third place (row_at self.now.rows at) }
+    /// Counts it against a row whose last sending has this ordinal.
+    pub fn count_sent(&mut self, at: usize, ordinal: u64, sent: u64)
+        requires { at < length self.old.rows }
+        ensures rows { self.new.rows ≡ slice_set self.old.rows at
+            (count_sent ordinal sent (row_at self.old.rows at)) }
+        ensures room { self.new.room ≡ self.old.room }
     {
-        self.rows[at].is_third(place)
+        if self.rows[at].ordinal() == sent {
+            self.count_ack_at(at, ordinal);
+        }
     }
 
-    /// Counts an ack of the sending at a place against the rows before a place. True where it makes
-    /// one lost.
-    pub fn count_acks(&mut self, to: usize, place: u64) -> bool
+    /// Whether an ack of the sending with an ordinal makes a row lost.
+    fn is_third(&self, at: usize, ordinal: u64) -> bool
+        requires { at < length self.now.rows }
+        ensures { result ≡ is_third ordinal (row_at self.now.rows at) }
+    {
+        self.rows[at].is_third(ordinal)
+    }
+
+    /// Counts an ack of the sending with an ordinal against the rows before an index. True where it
+    /// makes one lost.
+    pub fn count_acks(&mut self, to: usize, ordinal: u64) -> bool
         requires { to ≤ length self.old.rows }
-        ensures rows { self.new.rows ≡ between (count_ack place) 0 to self.old.rows }
+        ensures rows { self.new.rows ≡ between (count_ack ordinal) 0 to self.old.rows }
         ensures room { self.new.room ≡ self.old.room }
-        ensures lost { result ≡ any_between (is_third place) 0 to self.old.rows }
+        ensures lost { result ≡ any_between (is_third ordinal) 0 to self.old.rows }
     {
         let mut lost = false;
         for at in 0..to {
-            lost |= self.is_third(at, place);
-            self.count_ack_at(at, place);
+            lost |= self.is_third(at, ordinal);
+            self.count_ack_at(at, ordinal);
         }
         lost
     }
@@ -233,7 +251,7 @@ impl Rows {
         self.rows[at].is_late(moment, resend_after)
     }
 
-    /// Marks as lost the rows before a place that are late. True where there is one.
+    /// Marks as lost the rows before an index that are late. True where there is one.
     pub fn lose_late(&mut self, to: usize, moment: u64, resend_after: u64) -> bool
         requires { to ≤ length self.old.rows }
         ensures rows { self.new.rows ≡ between (lost_if_late moment resend_after) 0 to
@@ -250,15 +268,15 @@ impl Rows {
     }
 
     /// A row is sent.
-    pub fn send(&mut self, at: usize, moment: u64, place: u64)
+    pub fn send(&mut self, at: usize, moment: u64, ordinal: u64)
         requires { at < length self.old.rows }
         ensures rows { self.new.rows ≡ slice_set self.old.rows at
-            (sent_row moment place (row_at self.old.rows at)) }
+            (sent_row moment ordinal (row_at self.old.rows at)) }
         ensures room { self.new.room ≡ self.old.room }
     {
         let row = &mut self.rows[at];
         let before = row.totals();
-        row.send(moment, place);
+        row.send(moment, ordinal);
         let after = row.totals();
         self.totals = self.totals.moved(before, after);
     }
@@ -268,6 +286,13 @@ impl Rows {
         ensures { result ≡ any_flying self.now.rows }
     {
         self.totals.flying > 0
+    }
+
+    /// How many rows are lost.
+    pub fn lost(&self) -> u64
+        ensures { result ≡ sum_by lost_of self.now.rows }
+    {
+        self.totals.lost
     }
 
     /// Whether a row is lost.
@@ -284,7 +309,7 @@ impl Rows {
         &self.rows[at]
     }
 
-    /// Whether a row from one place to before another isn't settled.
+    /// Whether a row from one index to before another isn't settled.
     pub fn waits(&self, from: usize, to: usize) -> bool
         requires order { from ≤ to }
         requires inside { to ≤ length self.now.rows }
@@ -298,7 +323,7 @@ impl Rows {
         false
     }
 
-    /// Whether a lost row from one place to before another was sent again as often as a limit
+    /// Whether a lost row from one index to before another was sent again as often as a limit
     /// allows.
     pub fn is_spent(&self, from: usize, to: usize, limit: u32) -> bool
         requires order { from ≤ to }
@@ -316,9 +341,9 @@ impl Rows {
         false
     }
 
-    /// The place of the first lost row.
+    /// The index of the first lost row.
     pub fn first_lost(&self) -> Option<usize>
-        ensures { result ≡ first_place is_lost 0 self.now.rows }
+        ensures { result ≡ first_index is_lost 0 self.now.rows }
     {
         if self.totals.lost == 0 {
             return None;
@@ -331,11 +356,11 @@ impl Rows {
         None
     }
 
-    /// The place of the first unsent row, where none before a place is unsent.
+    /// The index of the first unsent row, where none before an index is unsent.
     pub fn first_unsent(&self, from: usize) -> Option<usize>
-        requires { first_place is_unsent 0 self.now.rows
-            ≡ first_place is_unsent from (drop from self.now.rows) }
-        ensures { result ≡ first_place is_unsent 0 self.now.rows }
+        requires { first_index is_unsent 0 self.now.rows
+            ≡ first_index is_unsent from (drop from self.now.rows) }
+        ensures { result ≡ first_index is_unsent 0 self.now.rows }
     {
         for at in from..self.rows.len() {
             if self.rows[at].state() == State::Unsent {

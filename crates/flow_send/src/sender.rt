@@ -1,21 +1,30 @@
 //! The sender of a flow.
 
-ghost use Rattle.std.specs.Prelude.{◌≡◌, ◌≢◌, ◌+◌, ◌-◌, ◌<◌, ◌≤◌, ◌^◌, ◌∷◌, ◌++◌, [], IfOk, IsOk, OnOk, OnErr, IfErr, IfSome, IfNone, List, length, Some, None, Ok, Err, nat_lt, MatchOption, MatchResult, true, false, if◌then◌else◌, ◌↔◌};
+ghost use Rattle.std.specs.Prelude.{◌≡◌, ◌≢◌, ◌+◌, ◌-◌, ◌<◌, ◌≤◌, ◌^◌, ◌∷◌, ◌++◌, [], IfOk, IsOk};
+ghost use Rattle.std.specs.Prelude.{OnOk, OnErr, IfErr, IfSome, IfNone, List, length, Some, None};
+ghost use Rattle.std.specs.Prelude.{Ok, Err, nat_lt, MatchOption, MatchResult, true, false};
+ghost use Rattle.std.specs.Prelude.{if◌then◌else◌, ◌↔◌};
 ghost use Rattle.std.specs.Option.{is_some};
 ghost use Rattle.std.specs.List.{list_any};
 ghost use Rattle.rtmfp_data_chunks.specs.Fragments.{fragments_of_length};
 ghost use Rattle.rtmfp_data_chunks.specs.Taken.{chunk_of};
 ghost use Rattle.flow_send.specs.Rows.{any_row, in_flight};
-ghost use Rattle.flow_send.specs.Sender.{Sender, new_sender, next_of, queued, waits, abandoned, abandoned_if, first_number, overdue, finish_by, lost_late, is_late};
+ghost use Rattle.flow_send.specs.Sender.{Sender, new_sender, next_of, queued, waits, abandoned};
+ghost use Rattle.flow_send.specs.Sender.{abandoned_if, first_number, overdue, finish_by, lost_late};
+ghost use Rattle.flow_send.specs.Sender.{is_late};
 ghost use Rattle.flow_send.specs.Acks.{told, beyond, new_bytes, makes_lost, told_by};
 ghost use Rattle.flow_send.specs.Steady.{Steady, IsGreatest, IsBounded};
-ghost use Rattle.flow_send.specs.Choice.{Nothing, Notify, choice, next_choice, notice_due, choice_bytes, chunk_for, within_limit, is_quiet, sent_after};
+ghost use Rattle.flow_send.specs.Choice.{Nothing, Notify, choice, next_choice, notice_due};
+ghost use Rattle.flow_send.specs.Choice.{choice_bytes, chunk_for, within_limit, is_quiet};
+ghost use Rattle.flow_send.specs.Choice.{sent_after};
 ghost use Rattle.flow_send.specs.Picked.{picked, picked_if, IsThere};
-ghost use Rattle.flow_send.specs.Flow.{Flow, flow_options, with_sender, is_finished, queue_refusal, next_message, data_length, chunk_options, chunk_refusal};
+ghost use Rattle.flow_send.specs.Flow.{Flow, flow_options, with_sender, is_finished, queue_refusal};
+ghost use Rattle.flow_send.specs.Flow.{next_message, data_length, chunk_options, chunk_refusal};
 
 use crate::acking::{acknowledge, greatest};
 use crate::backlog::Backlog;
 use crate::fragments::{cut, fragments_of};
+use crate::ordered::Sendings;
 use crate::outcome::{AckFault, Acked, NoChunk, NotQueued, QueueRefusal};
 use crate::pick::Pick;
 use crate::row::HeldRow;
@@ -47,6 +56,7 @@ pub struct FlowSender {
     priority: u8,
     forward: u64,
     rows: Rows,
+    sendings: Sendings,
     waiting: Backlog,
     finish: Option<u64>,
     sent: u64,
@@ -57,10 +67,11 @@ pub struct FlowSender {
 }
 
 impl Model for FlowSender {
-    ghost use Rattle.std.specs.Prelude.{◌≡◌, ◌≤◌, None};
+    ghost use Rattle.std.specs.Prelude.{◌≡◌, ◌≤◌, ◌+◌, None};
     ghost use Rattle.rtmfp_forms.specs.Options.{OptionsSpell};
     ghost use Rattle.rtmfp_forms.specs.OptionReading.{options_in};
     ghost use Rattle.flow_send.specs.Steady.{Steady};
+    ghost use Rattle.flow_send.specs.Ordered.{Follows};
     ghost use Rattle.flow_send.specs.Flow.{Flow};
 
     ghost Value = { Flow };
@@ -97,7 +108,8 @@ impl Model for FlowSender {
               f.order;
         })
         × OptionsSpell (options_in f.options.items) f.options.items
-        × (f.finish ≡ None → 1 ≤ f.rows.room) };
+        × (f.finish ≡ None → 1 ≤ f.rows.room)
+        × Follows f.sendings (f.forward + 1) f.rows.rows };
 }
 
 impl FlowSender {
@@ -129,6 +141,7 @@ impl FlowSender {
             priority,
             forward: first - 1,
             rows: Rows::new(alloc)?,
+            sendings: Sendings::new(alloc),
             waiting: Backlog::new(alloc),
             finish: None,
             sent: first - 1,
@@ -191,6 +204,13 @@ impl FlowSender {
         }
         let fragments = cut(self.alloc, message, count)?;
         self.rows.reserve(fragments.len() + 1)?;
+        // A number that is sent again has two sendings among those since the oldest one in flight.
+        self.sendings.reserve(
+            self.rows
+                .len()
+                .saturating_add(fragments.len())
+                .saturating_mul(2),
+        )?;
         self.waiting.push(Waiting {
             number,
             count,
@@ -355,33 +375,36 @@ impl FlowSender {
     }
 
     /// Takes an ack: the blocks of 1,024 bytes that the receiver has free, the number at or below
-    /// which all is acknowledged, and the stretches above it.
+    /// which all is acknowledged, and the spans above it.
     pub fn take_ack(
         &mut self,
         blocks: u64,
         upto: u64,
-        ranges: AckedSpans<'_>,
+        spans: AckedSpans<'_>,
     ) -> Result<Acked, AckFault>
-        ensures beyond { MatchOption (beyond self.old.sender (told blocks upto ranges.entry))
+        ensures beyond { MatchOption (beyond self.old.sender (told blocks upto spans.entry))
             (IsOk result) (λ n. result ≡ Err (AckFault.AckBeyond n)) }
         ensures bytes { IfOk result (λ a. a.bytes
-            ≡ new_bytes (told blocks upto ranges.entry) (self.old.sender.forward + 1)
+            ≡ new_bytes (told blocks upto spans.entry) (self.old.sender.forward + 1)
             self.old.sender.rows) }
         ensures lost { IfOk result (λ a. a.lost
-            ≡ makes_lost (told blocks upto ranges.entry) self.old.sender) }
+            ≡ makes_lost (told blocks upto spans.entry) self.old.sender) }
         ensures ok { OnOk result (self.new ≡ with_sender self.old
-            (told_by (told blocks upto ranges.entry) self.old.sender)) }
+            (told_by (told blocks upto spans.entry) self.old.sender)) }
         ensures err { OnErr result (self.new ≡ self.old) }
     {
-        let greatest = greatest(upto, &ranges);
+        let greatest = greatest(upto, &spans);
         if greatest > self.sent {
             return Err(AckFault::AckBeyond(greatest));
         }
         let to = self.sent_rows();
         let before = self.rows.stored();
-        let place = acknowledge(&mut self.rows, self.forward, upto, &ranges);
+        let ordinal = acknowledge(&mut self.rows, self.forward, upto, &spans);
         let bytes = before - self.rows.stored();
-        let lost = self.rows.count_acks(to, place);
+        let lost = self
+            .sendings
+            .count_acks(&mut self.rows, self.forward, to, ordinal);
+        self.sendings.prune(&self.rows, self.forward);
         self.waiting.drop_done(&self.rows, self.forward, greatest);
         self.forward += self.rows.settle();
         self.upto = upto;
@@ -582,13 +605,15 @@ impl FlowSender {
 
     fn send_row(&mut self, at: usize, moment: u64)
         requires there { at < length self.old.sender.rows }
-        requires steady { Steady (sent_after moment (picked self.old.sender (Pick.Row at)) self.old.sender) }
+        requires steady { Steady
+            (sent_after moment (picked self.old.sender (Pick.Row at)) self.old.sender) }
         ensures { self.new ≡ with_sender self.old
             (sent_after moment (picked self.old.sender (Pick.Row at)) self.old.sender) }
     {
         let number = self.forward + 1 + at as u64;
         self.order = self.order.saturating_add(1);
         self.rows.send(at, moment, self.order);
+        self.sendings.push(self.order, number);
         self.sent = self.sent.max(number);
     }
 

@@ -2,7 +2,8 @@
 
 ghost use Rattle.std.specs.Prelude.{◌≡◌, ◌++◌, ◌<◌, ℕ, OnOk, IfOk};
 ghost use Rattle.std.specs.List.{flat_map};
-ghost use Rattle.rtmfp_forms.specs.Options.{OptionParts, PieceSpells, PiecesSpell, OptionsSpell, option_bytes};
+ghost use Rattle.rtmfp_forms.specs.Options.{OptionParts, PieceSpells, PiecesSpell, OptionsSpell};
+ghost use Rattle.rtmfp_forms.specs.Options.{option_bytes};
 ghost use Rattle.flow_send.specs.Flow.{associations, flow_options};
 
 use rtmfp_vlu::write_vlu;

@@ -21,7 +21,7 @@ impl Totals {
         lost: 0,
     };
 
-    /// The sums with those of one row in the place of what it gave before.
+    /// The sums with those of one row in exchange for what it gave before.
     pub fn moved(self, before: Totals, after: Totals) -> Totals
         requires within { IsWithin before self }
         requires fits { Fit (moved self before after) }

@@ -18,4 +18,4 @@ pub returns-in-Err-clause-unchanged : goal.returns-in-Err-clause-unchanged
 returns-in-Err-clause-unchanged c =
     let es = c.args.map.now.entries in
     let z = c.in-Some.run' in
-    c.put_back_at.ensures ∙ (ap (changed_entry (λ y. z) c.args.later) (c.in-Err.ensures.unchanged ∙ c.in-Some.ensures.left) ∙ put_back z emptied c.args.later es (sym c.in-Some.ensures.run))
+    c.put_back_at.ensures ∙ (ap (λ (v : Run). changed_entry (λ y. v) c.args.later c.append_both_at.new.map.entries) c.in-Err.ensures.later ∙ ap (changed_entry (λ y. z) c.args.later) (c.in-Err.ensures.unchanged ∙ c.in-Some.ensures.left) ∙ put_back z emptied c.args.later es (sym c.in-Some.ensures.run))

@@ -1,8 +1,11 @@
-use Rattle.std.proofs.Common.{refl, ap, ◌∙◌}
-use Rattle.rtmfp_data_chunks.specs.Runs.{Run, single}
-use Rattle.flow_recv.specs.Keyed.{run_at, with_run, without_run}
-use Rattle.flow_recv.proofs.Joining.{on_ok}
-use Rattle.flow_recv.proofs.Placing.{puts_one, put_both, free_none, both_first}
+use Rattle.std.proofs.Common.{refl, ap, sym, subst, ◌∙◌, ◌≡◌, List, [], None, false}
+use Rattle.std.specs.Prelude.{IsSome, IfSome}
+use Rattle.std.specs.Option.{IsSomeAnd}
+use Rattle.rtmfp_data_chunks.specs.Runs.{Run, single, is_whole}
+use Rattle.flow_recv.specs.Keyed.{run_at, with_run, without_run, changed_run, over}
+use Rattle.flow_recv.proofs.Joining.{on_ok, from_ok, from_err}
+use Rattle.flow_recv.proofs.Placing.{puts_one, free_none}
+use Rattle.flow_recv.proofs.Putting.{apart_after, still_open, still_there, put_joined, without_new}
 use Rattle.flow_recv.proofs.runs.put.Goals as goal
 
 pub insert-requires : goal.insert-requires
@@ -14,12 +17,35 @@ returns-in_default-clause-added c =
     on_ok c.insert.result (λ j. j ∙ (ap (λ (x : Run). with_run x c.args.runs.now) c.in_ok-single.ensures ∙ puts_one 0 c.args.runs.now one c.requires.order c.requires.free c.requires.apart c.in_default.ensures)) c.insert.ensures.added
 
 pub insert-requires-2 : goal.insert-requires-2
-insert-requires-2 c =
-    let one = single c.args.number c.args.part c.args.bytes.now in
-    ap (λ n. run_at n c.args.runs.now) (both_first c.args.runs.now one c.in_ok-before.field-0 c.in-Some.later c.in-Some.ensures c.in_ok-before.ensures) ∙ free_none c.args.number 0 c.args.runs.now c.requires.order c.requires.free
+insert-requires-2 c = ap (λ (x : Run). run_at x.first c.args.runs.now) c.in_ok-single-2.ensures ∙ free_none c.args.number 0 c.args.runs.now c.requires.order c.requires.free
 
-pub returns-clause-added : goal.returns-clause-added
-returns-clause-added c =
+pub join-requires-clause-apart : goal.join-requires-clause-apart
+join-requires-clause-apart c = apart_after c.args.runs.now (single c.args.number c.args.part []) c.in-Some.later refl c.in-Some.ensures
+
+pub join-requires-clause-open : goal.join-requires-clause-open
+join-requires-clause-open c =
     let one = single c.args.number c.args.part c.args.bytes.now in
-    c.remove.ensures.rest
-    ∙ (ap (without_run c.in-Some.later) c.in_ok-insert.ensures.added ∙ put_both c.args.runs.now one c.in_ok-before.field-0 c.in-Some.later refl c.requires.order c.requires.free c.requires.apart c.in-Some.ensures c.in_ok-before.ensures)
+    let at = c.in_ok-insert.ensures.added ∙ ap (λ (x : Run). with_run x c.args.runs.now) c.in_ok-single-2.ensures in
+    subst (λ (xs : List Run). IfSome (run_at c.args.number xs) (λ y. is_whole y ≡ false)) (sym at)
+    (still_open c.args.runs.now one c.in-Some.later (free_none c.args.number 0 c.args.runs.now c.requires.order c.requires.free) c.in-Some.ensures)
+
+pub join-requires-clause-there : goal.join-requires-clause-there
+join-requires-clause-there c =
+    let one = single c.args.number c.args.part c.args.bytes.now in
+    let at = c.in_ok-insert.ensures.added ∙ ap (λ (x : Run). with_run x c.args.runs.now) c.in_ok-single-2.ensures in
+    subst (λ (xs : List Run). IsSome (run_at c.in-Some.later xs)) (sym at) (still_there c.args.runs.now one c.in-Some.later refl c.in-Some.ensures)
+
+pub returns-then-is_ok-clause-added : goal.returns-then-is_ok-clause-added
+returns-then-is_ok-clause-added c =
+    let one = single c.args.number c.args.part c.args.bytes.now in
+    let at = c.in_ok-insert.ensures.added ∙ ap (λ (x : Run). with_run x c.args.runs.now) c.in_ok-single-2.ensures in
+    put_joined c.args.runs.now c.join.new.self one c.in-Some.later refl c.requires.order c.requires.free (free_none c.args.number 0 c.args.runs.now c.requires.order c.requires.free) c.requires.apart c.in-Some.ensures
+    (subst (λ (xs : List Run). IsSomeAnd (run_at c.in-Some.later xs) (λ z. c.join.new.self ≡ without_run c.in-Some.later (changed_run (λ y. over y [] z) c.args.number xs))) at
+    (from_ok c.join.result c.if-is_ok.ensures.value c.join.ensures.joined))
+
+pub returns-clause-unchanged : goal.returns-clause-unchanged
+returns-clause-unchanged c =
+    let one = single c.args.number c.args.part c.args.bytes.now in
+    let at = c.in_ok-insert.ensures.added ∙ ap (λ (x : Run). with_run x c.args.runs.now) c.in_ok-single-2.ensures in
+    c.remove.ensures.rest ∙ (ap (without_run c.args.number) (from_err c.join.result c.if-is_ok.ensures.value c.join.ensures.unchanged ∙ at)
+    ∙ without_new one c.args.runs.now (free_none c.args.number 0 c.args.runs.now c.requires.order c.requires.free))

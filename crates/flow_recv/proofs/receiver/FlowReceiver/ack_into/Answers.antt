@@ -3,7 +3,7 @@ use Rattle.rtmfp_vlu.specs.Vlu.{vlu}
 use Rattle.std.specs.Int.{to_be_bytes, w16}
 use Rattle.rtmfp_forms.specs.Outgoing.{packet_limit}
 use Rattle.flow_recv.specs.Receiver.{Receiver, span, held_in}
-use Rattle.flow_recv.specs.Acking.{free_blocks, pairs_in, ack_head, ack_payload, ack_bytes, TellsStretches}
+use Rattle.flow_recv.specs.Acking.{free_blocks, pairs_in, ack_head, ack_payload, ack_bytes, TellsSpans}
 use Rattle.flow_recv.proofs.receiver.FlowReceiver.ack_into.Goals as goal
 use Rattle.flow_recv.proofs.Knowing.{apart_formed}
 use Rattle.flow_recv.proofs.Telling.{pairs_tell, all_fit}
@@ -53,7 +53,7 @@ returns-clause-tells c =
     let a = c.self.invariant.sound.apart in
     let top : i.highest < 2 ^ 64 = omega arith in
     let fit = all_fit i.highest r.spans top (apart_formed r.spans a) c.self.invariant.top in
-    subst (λ (x : Receiver). TellsStretches c.args.flow (packet_limit - length o - 3) x) c.self.view_is (pairs_tell (packet_limit - length o - 3 - length (ack_head c.args.flow r)) i.through i.above a fit.1)
+    subst (λ (x : Receiver). TellsSpans c.args.flow (packet_limit - length o - 3) x) c.self.view_is (pairs_tell (packet_limit - length o - 3 - length (ack_head c.args.flow r)) i.through i.above a fit.1)
 
 pub returns-then-room-head-clause-tells : goal.returns-then-room-head-clause-tells
 returns-then-room-head-clause-tells c =
@@ -63,4 +63,4 @@ returns-then-room-head-clause-tells c =
     let a = c.self.invariant.sound.apart in
     let top : i.highest < 2 ^ 64 = omega arith in
     let fit = all_fit i.highest r.spans top (apart_formed r.spans a) c.self.invariant.top in
-    subst (λ (x : Receiver). TellsStretches c.args.flow (packet_limit - length o - 3) x) c.self.view_is (pairs_tell (packet_limit - length o - 3 - length (ack_head c.args.flow r)) i.through i.above a fit.1)
+    subst (λ (x : Receiver). TellsSpans c.args.flow (packet_limit - length o - 3) x) c.self.view_is (pairs_tell (packet_limit - length o - 3 - length (ack_head c.args.flow r)) i.through i.above a fit.1)

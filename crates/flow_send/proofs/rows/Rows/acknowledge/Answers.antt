@@ -1,5 +1,5 @@
 use Rattle.std.proofs.Common.{◌≡◌, ◌<◌, ◌≤◌, length, refl, ap, sym, ◌∙◌, arith}
-use Rattle.flow_send.specs.Acks.{acknowledge_row, new_place}
+use Rattle.flow_send.specs.Acks.{acknowledge_row, new_ordinal}
 use Rattle.flow_send.specs.Rows.{Row, most_between, row_at}
 use Rattle.std.proofs.Common.{max, List}
 use Rattle.flow_send.specs.Rows.{between}
@@ -7,10 +7,10 @@ use Rattle.flow_send.proofs.Between.{between_none, between_length, between_step,
 use Rattle.flow_send.proofs.rows.Rows.acknowledge.Goals as goal
 
 pub loop-at-init : goal.loop-at-init
-loop-at-init c = record { rows = sym (between_none acknowledge_row c.args.from c.args.from c.args.self.now.rows (omega arith)); room = refl; place = sym (most_none new_place c.args.from c.args.from c.args.self.now.rows (omega arith)) }
+loop-at-init c = record { rows = sym (between_none acknowledge_row c.args.from c.args.from c.args.self.now.rows (omega arith)); room = refl; ordinal = sym (most_none new_ordinal c.args.from c.args.from c.args.self.now.rows (omega arith)) }
 
-pub new_place-requires : goal.new_place-requires
-new_place-requires c = omega (arith, ap length c.loop-at.invariant.rows, between_length acknowledge_row c.args.from c.loop-at.at c.args.self.now.rows)
+pub new_ordinal-requires : goal.new_ordinal-requires
+new_ordinal-requires c = omega (arith, ap length c.loop-at.invariant.rows, between_length acknowledge_row c.args.from c.loop-at.at c.args.self.now.rows)
 
 pub acknowledge_at-requires : goal.acknowledge_at-requires
 acknowledge_at-requires c = omega (arith, ap length c.loop-at.invariant.rows, between_length acknowledge_row c.args.from c.loop-at.at c.args.self.now.rows)
@@ -24,14 +24,14 @@ loop-at-preserved c =
     record {
       rows = c.acknowledge_at.ensures.rows ∙ between_step acknowledge_row c.args.from at rows c.loop-at.self.rows le lt c.loop-at.invariant.rows;
       room = c.acknowledge_at.ensures.room ∙ c.loop-at.invariant.room;
-      place =
+      ordinal =
           let same : row_at c.loop-at.self.rows at ≡ row_at rows at = ap (λ (xs : List Row). row_at xs at) c.loop-at.invariant.rows ∙ between_get acknowledge_row c.args.from at at rows (omega arith) in
-          let a : c.max-place.result ≡ max c.loop-at.place c.new_place.result = c.max-place.ensures in
-          a ∙ (ap (λ i. max i c.new_place.result) c.loop-at.invariant.place ∙ (ap (λ i. max (most_between new_place c.args.from at rows) i) (c.new_place.ensures ∙ ap new_place same) ∙ sym (most_step new_place c.args.from at rows le lt)));
+          let a : c.max-ordinal.result ≡ max c.loop-at.ordinal c.new_ordinal.result = c.max-ordinal.ensures in
+          a ∙ (ap (λ i. max i c.new_ordinal.result) c.loop-at.invariant.ordinal ∙ (ap (λ i. max (most_between new_ordinal c.args.from at rows) i) (c.new_ordinal.ensures ∙ ap new_ordinal same) ∙ sym (most_step new_ordinal c.args.from at rows le lt)));
     }
 
 pub returns-clause-rows : goal.returns-clause-rows
 returns-clause-rows c = let e : c.loop-at.at ≡ c.args.to = omega arith in c.loop-at.invariant.rows ∙ ap (λ i. between acknowledge_row c.args.from i c.args.self.now.rows) e
 
-pub returns-clause-place : goal.returns-clause-place
-returns-clause-place c = let e : c.loop-at.at ≡ c.args.to = omega arith in c.loop-at.invariant.place ∙ ap (λ i. most_between new_place c.args.from i c.args.self.now.rows) e
+pub returns-clause-ordinal : goal.returns-clause-ordinal
+returns-clause-ordinal c = let e : c.loop-at.at ≡ c.args.to = omega arith in c.loop-at.invariant.ordinal ∙ ap (λ i. most_between new_ordinal c.args.from i c.args.self.now.rows) e

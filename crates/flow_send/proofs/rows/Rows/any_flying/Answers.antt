@@ -1,9 +1,9 @@
 use Rattle.std.proofs.Common.{nat_lt, ap, ◌∙◌}
 use Rattle.flow_send.specs.declared.totals.Totals.{Totals}
-use Rattle.flow_send.specs.Rows.{Places, any_flying}
+use Rattle.flow_send.specs.Rows.{Roomy, any_flying}
 use Rattle.flow_send.proofs.Summing.{any_flying_is}
 use Rattle.flow_send.proofs.rows.Rows.any_flying.Goals as goal
 
 pub returns : goal.returns
 returns c =
-    ap (λ (t : Totals). nat_lt 0 t.flying) c.self.invariant ∙ (any_flying_is c.self.inside.rows.items ∙ ap (λ (p : Places). any_flying p.rows) c.self.view_is)
+    ap (λ (t : Totals). nat_lt 0 t.flying) c.self.invariant ∙ (any_flying_is c.self.inside.rows.items ∙ ap (λ (p : Roomy). any_flying p.rows) c.self.view_is)

@@ -2,7 +2,7 @@ use Rattle.std.proofs.Common.{◌≡◌, ◌+◌, ◌<◌, ◌^◌, length, ap, 
 use Rattle.std.specs.List.{sum_by}
 use Rattle.flow_send.specs.declared.totals.Totals.{Totals}
 use Rattle.flow_send.specs.Moved.{moved, Fit}
-use Rattle.flow_send.specs.Rows.{Places, stored_of, totals_of, row_totals}
+use Rattle.flow_send.specs.Rows.{Roomy, stored_of, totals_of, row_totals}
 use Rattle.flow_send.proofs.Summing.{push_fits}
 use Rattle.flow_send.proofs.rows.Rows.push.Goals as goal
 
@@ -11,6 +11,6 @@ moved-self-inside-requires-clause-fits c =
     let i = c.self.inside in
     let none : Totals = record { flight = 0; flying = 0; stored = 0; lost = 0 } in
     let n : length i.rows.items + 1 < 2 ^ 64 = omega (arith, i.rows.ok, i.rows.small) in
-    let fits : sum_by stored_of i.rows.items + stored_of c.args.row < 2 ^ 64 = subst (λ (p : Places). sum_by stored_of p.rows + stored_of c.args.row < 2 ^ 64) (sym c.self.view_is) c.requires.fits in
+    let fits : sum_by stored_of i.rows.items + stored_of c.args.row < 2 ^ 64 = subst (λ (p : Roomy). sum_by stored_of p.rows + stored_of c.args.row < 2 ^ 64) (sym c.self.view_is) c.requires.fits in
     let m : moved i.totals none c.totals-added.result ≡ moved (totals_of i.rows.items) none (row_totals c.args.row) = ap (λ (t : Totals). moved t none c.totals-added.result) c.self.invariant ∙ ap (λ (t : Totals). moved (totals_of i.rows.items) none t) c.totals-added.ensures in
     subst Fit (sym m) (push_fits i.rows.items c.args.row fits n)

@@ -7,6 +7,7 @@ use Rattle.flow_send.specs.Flow.{Flow, with_sender}
 use Rattle.flow_send.proofs.Ends.{sender}
 use Rattle.flow_send.proofs.Sendings.{map_sent, any_sent, late_flies, none_late}
 use Rattle.flow_send.proofs.Steadies.{steady_lost}
+use Rattle.flow_send.proofs.Followed.{lost_on}
 use Rattle.flow_send.proofs.sender.FlowSender.find_lost.Goals as goal
 
 abbrev At : goal.After-lose_late → Sender
@@ -31,6 +32,7 @@ invariant_of-self c =
       subst Steady (sym is) (steady_lost s c.args.moment c.args.resend_after c.self.invariant.0),
       c.self.invariant.1,
       λ none. let a = c.self.invariant.2 none in omega (arith, a, c.lose_late.ensures.room),
+      lost_on i.sendings c.args.moment c.args.resend_after (i.forward + 1) i.rows.rows c.lose_late.new.self.rows (rows_are c) c.self.invariant.3,
     )
 
 pub returns-clause-late : goal.returns-clause-late

@@ -1,10 +1,11 @@
-use Rattle.std.proofs.Common.{◌≡◌, ℕ, List, [], ◌∷◌, ◌++◌, Some, None, ap, sym, ◌∙◌, subst, rules}
+use Rattle.std.proofs.Common.{◌≡◌, ℕ, ◌+◌, List, [], ◌∷◌, ◌++◌, Some, None, ap, sym, ◌∙◌, subst, rules}
 use Rattle.flow_send.specs.Rows.{Row, end_row}
 use Rattle.flow_send.specs.Sender.{Sender, next_of, finished}
 use Rattle.flow_send.specs.Steady.{Steady}
 use Rattle.flow_send.specs.Flow.{Flow}
 use Rattle.flow_send.proofs.Ends.{sender, next_unfinished}
 use Rattle.flow_send.proofs.Steadies.{steady_finished}
+use Rattle.flow_send.proofs.Followed.{ended}
 use Rattle.flow_send.proofs.sender.FlowSender.finish.Goals as goal
 
 pub invariant_of-self : goal.invariant_of-self
@@ -20,4 +21,5 @@ invariant_of-self c =
       subst Steady (sym is) (steady_finished s steady none (next_unfinished s steady none)),
       c.self.invariant.1,
       λ e. absurd cc,
+      ended i.sendings (i.forward + 1) i.rows.rows c.push.new.self.rows rows c.self.invariant.3,
     )

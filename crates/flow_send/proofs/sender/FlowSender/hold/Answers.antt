@@ -1,4 +1,4 @@
-use Rattle.std.proofs.Common.{◌≡◌, ℕ, List, [], ◌∷◌, ◌++◌, length, None, ap, sym, ◌∙◌, subst, arith}
+use Rattle.std.proofs.Common.{◌≡◌, ℕ, ◌+◌, List, [], ◌∷◌, ◌++◌, length, None, ap, sym, ◌∙◌, subst, arith}
 use Rattle.std.specs.List.{sum_by}
 use Rattle.rtmfp_data_chunks.specs.Fragments.{Message, fragments_of_length}
 use Rattle.rtmfp_forms.specs.OptionReading.{options_in}
@@ -10,6 +10,7 @@ use Rattle.flow_send.specs.Flow.{Flow, queue_refusal, next_message, with_sender}
 use Rattle.flow_send.proofs.Ends.{sender}
 use Rattle.flow_send.proofs.Steadies.{steady_queued}
 use Rattle.flow_send.proofs.Queuings.{rows_stored, allowed}
+use Rattle.flow_send.proofs.Followed.{held}
 use Rattle.flow_send.proofs.sender.FlowSender.hold.Goals as goal
 use Rattle.flow_send.proofs.sender.FlowSender.hold.Goals.{After-append}
 
@@ -40,6 +41,9 @@ after c =
     ap (λ (rs : List Row). sender i.forward rs c.push.new.self i.finish i.sent i.upto i.told i.notice i.order) rows
     ∙ ap (λ (ws : List Waiting). sender i.forward (i.rows.rows ++ rows_of m m.number (fragments_of_length (length c.args.message.now))) ws i.finish i.sent i.upto i.told i.notice i.order) waiting
 
+rows_after : (c : After-append) → let m = next_message (At c) c.args.message.now in c.append.new.self.rows ≡ c.self.inside.rows.rows ++ rows_of m m.number (fragments_of_length (length c.args.message.now))
+rows_after c = ap (λ (t : Sender). t.rows) (after c)
+
 pub invariant_of-self-2 : goal.invariant_of-self-2
 invariant_of-self-2 c =
     let s = At c in
@@ -47,6 +51,7 @@ invariant_of-self-2 c =
       subst Steady (sym (after c)) (steady_queued s c.args.message.now c.args.options c.self.invariant.0 a.unfinished a.bytes a.fragments a.numbers),
       c.self.invariant.1,
       λ none. omega (arith, c.append.ensures.room, c.in_ok-reserve.ensures.room, c.len.ensures),
+      held c.self.inside.sendings c.reserve-2.new.self (c.self.inside.forward + 1) c.self.inside.rows.rows c.append.new.self.rows (next_message s c.args.message.now) (fragments_of_length (length c.args.message.now)) c.reserve-2.ensures (rows_after c) c.self.invariant.3,
     )
 
 pub returns-clause-queued : goal.returns-clause-queued

@@ -4,7 +4,7 @@ use Rattle.flow_send.specs.Choice.{Send, Notify, Nothing, notice_due, next_choic
 use Rattle.flow_send.specs.Flow.{Flow}
 use Rattle.flow_send.proofs.Ends.{sender}
 use Rattle.flow_send.proofs.Sendings.{unsent_sent}
-use Rattle.flow_send.proofs.Chosen.{place_there, next_lost, next_unsent, next_notice}
+use Rattle.flow_send.proofs.Chosen.{index_there, next_lost, next_unsent, next_notice}
 use Rattle.flow_send.proofs.sender.FlowSender.next_pick.Goals as goal
 
 pub returns-in-Some-clause-picked : goal.returns-in-Some-clause-picked
@@ -16,7 +16,7 @@ returns-in-Some-clause-picked c =
 
 pub returns-in-Some-clause-there : goal.returns-in-Some-clause-there
 returns-in-Some-clause-there c =
-    subst (λ (f : Flow). c.in-Some.at < length f.sender.rows) c.self.view_is (place_there is_lost c.self.inside.rows.rows c.in-Some.at (sym c.first_lost.ensures ∙ c.in-Some.is))
+    subst (λ (f : Flow). c.in-Some.at < length f.sender.rows) c.self.view_is (index_there is_lost c.self.inside.rows.rows c.in-Some.at (sym c.first_lost.ensures ∙ c.in-Some.is))
 
 pub first_unsent-requires : goal.first_unsent-requires
 first_unsent-requires c =
@@ -33,7 +33,7 @@ returns-in-Some-first_unsent-clause-picked c =
 
 pub returns-in-Some-first_unsent-clause-there : goal.returns-in-Some-first_unsent-clause-there
 returns-in-Some-first_unsent-clause-there c =
-    subst (λ (f : Flow). c.in-Some-first_unsent.at < length f.sender.rows) c.self.view_is (place_there is_unsent c.self.inside.rows.rows c.in-Some-first_unsent.at (sym c.first_unsent.ensures ∙ c.in-Some-first_unsent.is))
+    subst (λ (f : Flow). c.in-Some-first_unsent.at < length f.sender.rows) c.self.view_is (index_there is_unsent c.self.inside.rows.rows c.in-Some-first_unsent.at (sym c.first_unsent.ensures ∙ c.in-Some-first_unsent.is))
 
 pub returns-then-notice_due-clause-picked : goal.returns-then-notice_due-clause-picked
 returns-then-notice_due-clause-picked c =

@@ -9,6 +9,7 @@ use Rattle.flow_send.specs.Picked.{picked}
 use Rattle.flow_send.specs.Flow.{Flow, with_sender}
 use Rattle.flow_send.proofs.Ends.{sender}
 use Rattle.flow_send.proofs.Chosen.{put_is}
+use Rattle.flow_send.proofs.Followed.{sent_on}
 use Rattle.flow_send.proofs.sender.FlowSender.send_row.Goals as goal
 
 abbrev At : goal.After-self-2-1 → Sender
@@ -35,6 +36,7 @@ invariant_of-self c =
       subst Steady (sym (after c)) steady,
       c.self.invariant.1,
       λ none. let a = c.self.invariant.2 none in omega (arith, a, c.send.ensures.room),
+      sent_on c.self.inside.sendings c.push.new.self c.saturating_add-self-inside.result (c.self.inside.forward + 1) c.args.at c.args.moment c.self.inside.rows.rows c.send.new.self.rows (subst (λ (f : Flow). c.args.at < length f.sender.rows) (sym c.self.view_is) c.requires.there) c.push.ensures c.send.ensures.rows c.self.invariant.3,
     )
 
 pub returns : goal.returns

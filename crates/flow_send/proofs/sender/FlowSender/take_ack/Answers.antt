@@ -2,18 +2,19 @@ use Rattle.std.proofs.Common.{◌≡◌, ℕ, ◌+◌, ◌-◌, ◌≤◌, List,
 use Rattle.std.specs.List.{sum_by}
 use Rattle.flow_send.specs.Rows.{Row, stored_of}
 use Rattle.flow_send.specs.Sender.{Sender}
-use Rattle.flow_send.specs.Acks.{told, greatest, acknowledge, new_bytes, rows_acknowledged, rows_told, makes_lost, told_by}
+use Rattle.flow_send.specs.Acks.{told, last_ordinal, greatest, acknowledge, new_bytes, rows_acknowledged, rows_told, makes_lost, told_by}
 use Rattle.flow_send.specs.Steady.{Steady, Line, Late}
 use Rattle.flow_send.specs.Flow.{Flow, with_sender}
 use Rattle.flow_send.proofs.Ends.{sender, line_rows, next_small}
 use Rattle.flow_send.proofs.Keeping.{front_fits}
 use Rattle.flow_send.proofs.Numbered.{map_length}
 use Rattle.flow_send.proofs.Steadies.{told_length, steady_told}
+use Rattle.flow_send.proofs.Followed.{acked_on, told_on, settled_on}
 use Rattle.flow_send.proofs.Tellings.{late_told, acked_bytes, counted_rows, counted_lost, told_eq}
 use Rattle.flow_send.proofs.sender.FlowSender.take_ack.Goals as goal
 
-pub acknowledge-place-requires : goal.acknowledge-place-requires
-acknowledge-place-requires c =
+pub acknowledge-ordinal-requires : goal.acknowledge-ordinal-requires
+acknowledge-ordinal-requires c =
     let i = c.self.inside in
     let s = sender i.forward i.rows.rows i.waiting i.finish i.sent i.upto i.told i.notice i.order in
     let k : Steady s = c.self.invariant.0 in
@@ -24,33 +25,40 @@ overflow_sub-bytes c =
     let i = c.self.inside in
     let s = sender i.forward i.rows.rows i.waiting i.finish i.sent i.upto i.told i.notice i.order in
     let k : Steady s = c.self.invariant.0 in
-    let a = told c.args.blocks c.args.upto c.args.ranges in
-    let g : greatest a.upto a.ranges ≤ s.sent = omega (arith, c.greatest-greatest.ensures, c.if-greatest-self.false) in
-    let e : c.acknowledge-place.new.rows.rows ≡ rows_acknowledged a s = c.acknowledge-place.ensures.rows in
+    let a = told c.args.blocks c.args.upto c.args.spans in
+    let g : greatest a.upto a.spans ≤ s.sent = omega (arith, c.greatest-greatest.ensures, c.if-greatest-self.false) in
+    let e : c.acknowledge-ordinal.new.rows.rows ≡ rows_acknowledged a s = c.acknowledge-ordinal.ensures.rows in
     omega (arith, c.stored-before.ensures, c.stored.ensures, acked_bytes a s.sent (s.forward + 1) s.rows k.rows, ap (λ (xs : List Row). sum_by stored_of xs) e)
 
-pub count_acks-lost-requires : goal.count_acks-lost-requires
-count_acks-lost-requires c =
+pub count_acks-lost-requires-clause-inside : goal.count_acks-lost-requires-clause-inside
+count_acks-lost-requires-clause-inside c =
     let i = c.self.inside in
     let s = sender i.forward i.rows.rows i.waiting i.finish i.sent i.upto i.told i.notice i.order in
     let k : Steady s = c.self.invariant.0 in
-    let a = told c.args.blocks c.args.upto c.args.ranges in
-    let g : greatest a.upto a.ranges ≤ s.sent = omega (arith, c.greatest-greatest.ensures, c.if-greatest-self.false) in
-    let e : c.acknowledge-place.new.rows.rows ≡ rows_acknowledged a s = c.acknowledge-place.ensures.rows in
+    let a = told c.args.blocks c.args.upto c.args.spans in
+    let g : greatest a.upto a.spans ≤ s.sent = omega (arith, c.greatest-greatest.ensures, c.if-greatest-self.false) in
+    let e : c.acknowledge-ordinal.new.rows.rows ≡ rows_acknowledged a s = c.acknowledge-ordinal.ensures.rows in
     let n : c.sent_rows-to.result ≤ length s.rows = subst (λ (f : Flow). c.sent_rows-to.result ≤ length f.sender.rows) (sym c.self.view_is) c.sent_rows-to.ensures.inside in
     omega (arith, n, ap (λ (xs : List Row). length xs) e, map_length (acknowledge a) (s.forward + 1) s.rows)
+
+pub count_acks-lost-requires-clause-follows : goal.count_acks-lost-requires-clause-follows
+count_acks-lost-requires-clause-follows c =
+    let i = c.self.inside in
+    let s = sender i.forward i.rows.rows i.waiting i.finish i.sent i.upto i.told i.notice i.order in
+    let a = told c.args.blocks c.args.upto c.args.spans in
+    acked_on i.sendings a (i.forward + 1) i.rows.rows c.acknowledge-ordinal.new.rows.rows c.acknowledge-ordinal.ensures.rows c.self.invariant.3
 
 pub drop_done-requires-clause-inside : goal.drop_done-requires-clause-inside
 drop_done-requires-clause-inside c =
     let i = c.self.inside in
     let s = sender i.forward i.rows.rows i.waiting i.finish i.sent i.upto i.told i.notice i.order in
     let k : Steady s = c.self.invariant.0 in
-    let a = told c.args.blocks c.args.upto c.args.ranges in
-    let g : greatest a.upto a.ranges ≤ s.sent = omega (arith, c.greatest-greatest.ensures, c.if-greatest-self.false) in
-    let e : c.acknowledge-place.new.rows.rows ≡ rows_acknowledged a s = c.acknowledge-place.ensures.rows in
+    let a = told c.args.blocks c.args.upto c.args.spans in
+    let g : greatest a.upto a.spans ≤ s.sent = omega (arith, c.greatest-greatest.ensures, c.if-greatest-self.false) in
+    let e : c.acknowledge-ordinal.new.rows.rows ≡ rows_acknowledged a s = c.acknowledge-ordinal.ensures.rows in
     let to : c.sent_rows-to.result ≡ s.sent - s.forward = c.sent_rows-to.ensures.count ∙ ap (λ (f : Flow). f.sender.sent - f.sender.forward) (sym c.self.view_is) in
-    let rows : c.count_acks-lost.new.self.rows ≡ rows_told a s = counted_rows a s c.acknowledge-place.result c.sent_rows-to.result c.acknowledge-place.new.rows.rows c.count_acks-lost.new.self.rows k g e c.acknowledge-place.ensures.place to c.count_acks-lost.ensures.rows in
-    let n : length s.rows ≡ length c.count_acks-lost.new.self.rows = sym (ap (λ (xs : List Row). length xs) rows ∙ told_length a s) in
+    let rows : c.count_acks-lost.new.rows.rows ≡ rows_told a s = counted_rows a s c.acknowledge-ordinal.result c.sent_rows-to.result c.acknowledge-ordinal.new.rows.rows c.count_acks-lost.new.rows.rows k g e c.acknowledge-ordinal.ensures.ordinal to c.count_acks-lost.ensures.rows in
+    let n : length s.rows ≡ length c.count_acks-lost.new.rows.rows = sym (ap (λ (xs : List Row). length xs) rows ∙ told_length a s) in
     subst (λ (j : ℕ). Line 0 (s.forward + 1 + j) s.waiting) n (line_rows s k)
 
 pub drop_done-requires-clause-late : goal.drop_done-requires-clause-late
@@ -58,11 +66,11 @@ drop_done-requires-clause-late c =
     let i = c.self.inside in
     let s = sender i.forward i.rows.rows i.waiting i.finish i.sent i.upto i.told i.notice i.order in
     let k : Steady s = c.self.invariant.0 in
-    let a = told c.args.blocks c.args.upto c.args.ranges in
-    let g : greatest a.upto a.ranges ≤ s.sent = omega (arith, c.greatest-greatest.ensures, c.if-greatest-self.false) in
-    let e : c.acknowledge-place.new.rows.rows ≡ rows_acknowledged a s = c.acknowledge-place.ensures.rows in
+    let a = told c.args.blocks c.args.upto c.args.spans in
+    let g : greatest a.upto a.spans ≤ s.sent = omega (arith, c.greatest-greatest.ensures, c.if-greatest-self.false) in
+    let e : c.acknowledge-ordinal.new.rows.rows ≡ rows_acknowledged a s = c.acknowledge-ordinal.ensures.rows in
     let to : c.sent_rows-to.result ≡ s.sent - s.forward = c.sent_rows-to.ensures.count ∙ ap (λ (f : Flow). f.sender.sent - f.sender.forward) (sym c.self.view_is) in
-    let rows : c.count_acks-lost.new.self.rows ≡ rows_told a s = counted_rows a s c.acknowledge-place.result c.sent_rows-to.result c.acknowledge-place.new.rows.rows c.count_acks-lost.new.self.rows k g e c.acknowledge-place.ensures.place to c.count_acks-lost.ensures.rows in
+    let rows : c.count_acks-lost.new.rows.rows ≡ rows_told a s = counted_rows a s c.acknowledge-ordinal.result c.sent_rows-to.result c.acknowledge-ordinal.new.rows.rows c.count_acks-lost.new.rows.rows k g e c.acknowledge-ordinal.ensures.ordinal to c.count_acks-lost.ensures.rows in
     subst (λ (xs : List Row). Late c.greatest-greatest.result (s.forward + 1) xs s.waiting) (sym rows)
     (subst (λ (j : ℕ). Late j (s.forward + 1) (rows_told a s) s.waiting) (sym c.greatest-greatest.ensures) (late_told a s (s.forward + 1 + length s.rows) (line_rows s k) k.waits))
 
@@ -71,27 +79,29 @@ overflow_add-self c =
     let i = c.self.inside in
     let s = sender i.forward i.rows.rows i.waiting i.finish i.sent i.upto i.told i.notice i.order in
     let k : Steady s = c.self.invariant.0 in
-    let a = told c.args.blocks c.args.upto c.args.ranges in
-    let g : greatest a.upto a.ranges ≤ s.sent = omega (arith, c.greatest-greatest.ensures, c.if-greatest-self.false) in
-    let e : c.acknowledge-place.new.rows.rows ≡ rows_acknowledged a s = c.acknowledge-place.ensures.rows in
+    let a = told c.args.blocks c.args.upto c.args.spans in
+    let g : greatest a.upto a.spans ≤ s.sent = omega (arith, c.greatest-greatest.ensures, c.if-greatest-self.false) in
+    let e : c.acknowledge-ordinal.new.rows.rows ≡ rows_acknowledged a s = c.acknowledge-ordinal.ensures.rows in
     let to : c.sent_rows-to.result ≡ s.sent - s.forward = c.sent_rows-to.ensures.count ∙ ap (λ (f : Flow). f.sender.sent - f.sender.forward) (sym c.self.view_is) in
-    let rows : c.count_acks-lost.new.self.rows ≡ rows_told a s = counted_rows a s c.acknowledge-place.result c.sent_rows-to.result c.acknowledge-place.new.rows.rows c.count_acks-lost.new.self.rows k g e c.acknowledge-place.ensures.place to c.count_acks-lost.ensures.rows in
-    omega (arith, c.settle.ensures.count, front_fits c.count_acks-lost.new.self.rows, ap (λ (xs : List Row). length xs) rows, told_length a s, next_small s k)
+    let rows : c.count_acks-lost.new.rows.rows ≡ rows_told a s = counted_rows a s c.acknowledge-ordinal.result c.sent_rows-to.result c.acknowledge-ordinal.new.rows.rows c.count_acks-lost.new.rows.rows k g e c.acknowledge-ordinal.ensures.ordinal to c.count_acks-lost.ensures.rows in
+    omega (arith, c.settle.ensures.count, front_fits c.count_acks-lost.new.rows.rows, ap (λ (xs : List Row). length xs) rows, told_length a s, next_small s k)
 
 pub invariant_of-self : goal.invariant_of-self
 invariant_of-self c =
     let i = c.self.inside in
     let s = sender i.forward i.rows.rows i.waiting i.finish i.sent i.upto i.told i.notice i.order in
     let k : Steady s = c.self.invariant.0 in
-    let a = told c.args.blocks c.args.upto c.args.ranges in
-    let g : greatest a.upto a.ranges ≤ s.sent = omega (arith, c.greatest-greatest.ensures, c.if-greatest-self.false) in
-    let e : c.acknowledge-place.new.rows.rows ≡ rows_acknowledged a s = c.acknowledge-place.ensures.rows in
+    let a = told c.args.blocks c.args.upto c.args.spans in
+    let g : greatest a.upto a.spans ≤ s.sent = omega (arith, c.greatest-greatest.ensures, c.if-greatest-self.false) in
+    let e : c.acknowledge-ordinal.new.rows.rows ≡ rows_acknowledged a s = c.acknowledge-ordinal.ensures.rows in
     let to : c.sent_rows-to.result ≡ s.sent - s.forward = c.sent_rows-to.ensures.count ∙ ap (λ (f : Flow). f.sender.sent - f.sender.forward) (sym c.self.view_is) in
-    let rows : c.count_acks-lost.new.self.rows ≡ rows_told a s = counted_rows a s c.acknowledge-place.result c.sent_rows-to.result c.acknowledge-place.new.rows.rows c.count_acks-lost.new.self.rows k g e c.acknowledge-place.ensures.place to c.count_acks-lost.ensures.rows in
-    let is = told_eq a s c.count_acks-lost.new.self.rows c.settle.new.self.rows (i.forward + c.settle.result) c.drop_done.new.self rows (ap (λ j. i.forward + j) c.settle.ensures.count) c.settle.ensures.rows c.drop_done.ensures in (
+    let rows : c.count_acks-lost.new.rows.rows ≡ rows_told a s = counted_rows a s c.acknowledge-ordinal.result c.sent_rows-to.result c.acknowledge-ordinal.new.rows.rows c.count_acks-lost.new.rows.rows k g e c.acknowledge-ordinal.ensures.ordinal to c.count_acks-lost.ensures.rows in
+    let is = told_eq a s c.count_acks-lost.new.rows.rows c.settle.new.self.rows (i.forward + c.settle.result) c.drop_done.new.self rows (ap (λ j. i.forward + j) c.settle.ensures.count) c.settle.ensures.rows c.drop_done.ensures in (
       subst Steady (sym is) (steady_told s a k g),
       c.self.invariant.1,
-      λ none. let r = c.self.invariant.2 none in omega (arith, r, c.acknowledge-place.ensures.room, c.count_acks-lost.ensures.room, c.settle.ensures.room),
+      λ none. let r = c.self.invariant.2 none in omega (arith, r, c.acknowledge-ordinal.ensures.room, c.count_acks-lost.ensures.room, c.settle.ensures.room),
+      settled_on c.prune.new.self i.forward c.settle.result c.count_acks-lost.new.rows.rows c.settle.new.self.rows c.settle.ensures.count c.settle.ensures.rows
+          (c.prune.ensures (told_on i.sendings a (last_ordinal a (s.forward + 1) s.rows) (i.forward + 1) i.rows.rows c.count_acks-lost.new.rows.rows rows c.self.invariant.3)),
     )
 
 pub returns-clause-bytes : goal.returns-clause-bytes
@@ -99,9 +109,9 @@ returns-clause-bytes c =
     let i = c.self.inside in
     let s = sender i.forward i.rows.rows i.waiting i.finish i.sent i.upto i.told i.notice i.order in
     let k : Steady s = c.self.invariant.0 in
-    let a = told c.args.blocks c.args.upto c.args.ranges in
-    let g : greatest a.upto a.ranges ≤ s.sent = omega (arith, c.greatest-greatest.ensures, c.if-greatest-self.false) in
-    let e : c.acknowledge-place.new.rows.rows ≡ rows_acknowledged a s = c.acknowledge-place.ensures.rows in
+    let a = told c.args.blocks c.args.upto c.args.spans in
+    let g : greatest a.upto a.spans ≤ s.sent = omega (arith, c.greatest-greatest.ensures, c.if-greatest-self.false) in
+    let e : c.acknowledge-ordinal.new.rows.rows ≡ rows_acknowledged a s = c.acknowledge-ordinal.ensures.rows in
     let b : c.stored-before.result - c.stored.result ≡ new_bytes a (s.forward + 1) s.rows =
     omega (arith, c.stored-before.ensures, c.stored.ensures, acked_bytes a s.sent (s.forward + 1) s.rows k.rows, ap (λ (xs : List Row). sum_by stored_of xs) e) in
     subst (λ (f : Flow). c.stored-before.result - c.stored.result ≡ new_bytes a (f.sender.forward + 1) f.sender.rows) c.self.view_is b
@@ -111,25 +121,25 @@ returns-clause-lost c =
     let i = c.self.inside in
     let s = sender i.forward i.rows.rows i.waiting i.finish i.sent i.upto i.told i.notice i.order in
     let k : Steady s = c.self.invariant.0 in
-    let a = told c.args.blocks c.args.upto c.args.ranges in
-    let g : greatest a.upto a.ranges ≤ s.sent = omega (arith, c.greatest-greatest.ensures, c.if-greatest-self.false) in
-    let e : c.acknowledge-place.new.rows.rows ≡ rows_acknowledged a s = c.acknowledge-place.ensures.rows in
+    let a = told c.args.blocks c.args.upto c.args.spans in
+    let g : greatest a.upto a.spans ≤ s.sent = omega (arith, c.greatest-greatest.ensures, c.if-greatest-self.false) in
+    let e : c.acknowledge-ordinal.new.rows.rows ≡ rows_acknowledged a s = c.acknowledge-ordinal.ensures.rows in
     let to : c.sent_rows-to.result ≡ s.sent - s.forward = c.sent_rows-to.ensures.count ∙ ap (λ (f : Flow). f.sender.sent - f.sender.forward) (sym c.self.view_is) in
-    let rows : c.count_acks-lost.new.self.rows ≡ rows_told a s = counted_rows a s c.acknowledge-place.result c.sent_rows-to.result c.acknowledge-place.new.rows.rows c.count_acks-lost.new.self.rows k g e c.acknowledge-place.ensures.place to c.count_acks-lost.ensures.rows in
+    let rows : c.count_acks-lost.new.rows.rows ≡ rows_told a s = counted_rows a s c.acknowledge-ordinal.result c.sent_rows-to.result c.acknowledge-ordinal.new.rows.rows c.count_acks-lost.new.rows.rows k g e c.acknowledge-ordinal.ensures.ordinal to c.count_acks-lost.ensures.rows in
     subst (λ (f : Flow). c.count_acks-lost.result ≡ makes_lost a f.sender) c.self.view_is
-    (counted_lost a s c.acknowledge-place.result c.sent_rows-to.result c.acknowledge-place.new.rows.rows c.count_acks-lost.result k g e c.acknowledge-place.ensures.place to c.count_acks-lost.ensures.lost)
+    (counted_lost a s c.acknowledge-ordinal.result c.sent_rows-to.result c.acknowledge-ordinal.new.rows.rows c.count_acks-lost.result k g e c.acknowledge-ordinal.ensures.ordinal to c.count_acks-lost.ensures.lost)
 
 pub returns-clause-ok : goal.returns-clause-ok
 returns-clause-ok c =
     let i = c.self.inside in
     let s = sender i.forward i.rows.rows i.waiting i.finish i.sent i.upto i.told i.notice i.order in
     let k : Steady s = c.self.invariant.0 in
-    let a = told c.args.blocks c.args.upto c.args.ranges in
-    let g : greatest a.upto a.ranges ≤ s.sent = omega (arith, c.greatest-greatest.ensures, c.if-greatest-self.false) in
-    let e : c.acknowledge-place.new.rows.rows ≡ rows_acknowledged a s = c.acknowledge-place.ensures.rows in
+    let a = told c.args.blocks c.args.upto c.args.spans in
+    let g : greatest a.upto a.spans ≤ s.sent = omega (arith, c.greatest-greatest.ensures, c.if-greatest-self.false) in
+    let e : c.acknowledge-ordinal.new.rows.rows ≡ rows_acknowledged a s = c.acknowledge-ordinal.ensures.rows in
     let to : c.sent_rows-to.result ≡ s.sent - s.forward = c.sent_rows-to.ensures.count ∙ ap (λ (f : Flow). f.sender.sent - f.sender.forward) (sym c.self.view_is) in
-    let rows : c.count_acks-lost.new.self.rows ≡ rows_told a s = counted_rows a s c.acknowledge-place.result c.sent_rows-to.result c.acknowledge-place.new.rows.rows c.count_acks-lost.new.self.rows k g e c.acknowledge-place.ensures.place to c.count_acks-lost.ensures.rows in
-    let is = told_eq a s c.count_acks-lost.new.self.rows c.settle.new.self.rows (i.forward + c.settle.result) c.drop_done.new.self rows (ap (λ j. i.forward + j) c.settle.ensures.count) c.settle.ensures.rows c.drop_done.ensures in
+    let rows : c.count_acks-lost.new.rows.rows ≡ rows_told a s = counted_rows a s c.acknowledge-ordinal.result c.sent_rows-to.result c.acknowledge-ordinal.new.rows.rows c.count_acks-lost.new.rows.rows k g e c.acknowledge-ordinal.ensures.ordinal to c.count_acks-lost.ensures.rows in
+    let is = told_eq a s c.count_acks-lost.new.rows.rows c.settle.new.self.rows (i.forward + c.settle.result) c.drop_done.new.self rows (ap (λ j. i.forward + j) c.settle.ensures.count) c.settle.ensures.rows c.drop_done.ensures in
     let F : Sender → Flow = λ v. record { id = i.id; options = Rattle.rtmfp_forms.specs.OptionReading.options_in i.options.items; priority = i.priority; sender = v } in
     let v : Sender = sender (i.forward + c.settle.result) c.settle.new.self.rows c.drop_done.new.self i.finish i.sent c.args.upto (Some c.args.blocks) i.notice i.order in
     subst (λ (f : Flow). F v ≡ with_sender f (told_by a f.sender)) c.self.view_is (ap F is)

@@ -1,7 +1,7 @@
 use Rattle.std.proofs.Common.{◌≡◌, ◌<◌, ◌≤◌, List, length, get_or, ap, ◌∙◌, arith}
 use Rattle.flow_send.specs.declared.waiting.Waiting.{Waiting}
 use Rattle.flow_send.proofs.Lining.{message_here, without_here, message_end}
-use Rattle.flow_send.proofs.backlog.Backlog.place_of.Goals as goal
+use Rattle.flow_send.proofs.backlog.Backlog.index_of.Goals as goal
 
 pub returns-else-index-number-clause-found : goal.returns-else-index-number-clause-found
 returns-else-index-number-clause-found c =

@@ -1,6 +1,6 @@
 use Rattle.std.proofs.Common.{◌≡◌, ◌-◌, ◌≤◌, ◌++◌, take, drop, length}
 use Rattle.flow_send.specs.Sender.{message_at, without_message}
-use Rattle.flow_send.proofs.backlog.Backlog.place_of.Given as goal
+use Rattle.flow_send.proofs.backlog.Backlog.index_of.Given as goal
 
 abbrev pub invariant-loop-at : goal.invariant-loop-at
 invariant-loop-at l = record {

@@ -1,4 +1,4 @@
--- Runs as longest stretches: what they hold, and that the whole ones are those found number by number.
+-- Runs as the longest ones: what they hold, and that the whole ones are those found number by number.
 use Rattle.std.proofs.Common.{◌≡◌, ℕ, zero, suc, ◌+◌, ◌<◌, ◌≤◌, cond, Bool, true, false, List, ◌++◌, map, Option, Some, None, refl, ap, sym, ◌∙◌, subst, arith, inl, inr}
 use Rattle.std.specs.Option.{option_to_list}
 use Rattle.std.specs.List.{filter}
@@ -12,15 +12,15 @@ use Rattle.rtmfp_data_chunks.specs.Runs.{Number, Missing, Held, GivenUp, Run, si
 use Rattle.flow_exchange.proofs.Ends.{open_with, open_at, whole_with, whole_at, wholes_to}
 use Rattle.flow_exchange.proofs.Wholes.{IsHeld}
 
--- whether two stretches one after the other fit
+-- whether two runs one after the other fit
 pub fits_next : (a b : Run) → a.last + 1 ≡ b.first → fits a b ≡ (cond a.rear false (cond b.front false true))
 fits_next a b e = rw (eq-eqb (a.last + 1) b.first e) refl
 
 abbrev pub with_parts : ℕ → ℕ → Bool → Bool → List ℕ → Run
 with_parts first last front rear bytes = record { first = first; last = last; front = front; rear = rear; bytes = bytes }
 
--- what a stretch that ends at n holds
-pub record StretchOf (s : ℕ → Number) (n : ℕ) (y : Run) : Type 0 where
+-- what a run that ends at n holds
+pub record LongestOf (s : ℕ → Number) (n : ℕ) (y : Run) : Type 0 where
   pub last : y.last ≡ n
   pub low : y.first ≤ n
   pub above : 0 < y.first
@@ -29,8 +29,8 @@ pub record StretchOf (s : ℕ → Number) (n : ℕ) (y : Run) : Type 0 where
 held_is : (v : Number) (p : Part) (b : List ℕ) → v ≡ Held p b → IsHeld v
 held_is v p b e = subst IsHeld (sym e) tt
 
-stretch_single : (s : ℕ → Number) (n : ℕ) (p : Part) (b : List ℕ) (y : Run) → s (suc n) ≡ Held p b → single (suc n) p b ≡ y → StretchOf s (suc n) y
-stretch_single s n p b y e f = subst (λ (x : Run). StretchOf s (suc n) x) f (
+longest_single : (s : ℕ → Number) (n : ℕ) (p : Part) (b : List ℕ) (y : Run) → s (suc n) ≡ Held p b → single (suc n) p b ≡ y → LongestOf s (suc n) y
+longest_single s n p b y e f = subst (λ (x : Run). LongestOf s (suc n) x) f (
     record {
       last = refl;
       low = omega arith;
@@ -39,8 +39,8 @@ stretch_single s n p b y e f = subst (λ (x : Run). StretchOf s (suc n) x) f (
     }
     )
 
-stretch_joined : (s : ℕ → Number) (n : ℕ) (p : Part) (b : List ℕ) (x y : Run) → s (suc n) ≡ Held p b → StretchOf s n x → joined x (single (suc n) p b) ≡ y → StretchOf s (suc n) y
-stretch_joined s n p b x y e o f = subst (λ (z : Run). StretchOf s (suc n) z) f (
+longest_joined : (s : ℕ → Number) (n : ℕ) (p : Part) (b : List ℕ) (x y : Run) → s (suc n) ≡ Held p b → LongestOf s n x → joined x (single (suc n) p b) ≡ y → LongestOf s (suc n) y
+longest_joined s n p b x y e o f = subst (λ (z : Run). LongestOf s (suc n) z) f (
     record {
       last = refl;
       low = omega (arith, o.low);
@@ -53,22 +53,22 @@ stretch_joined s n p b x y e o f = subst (λ (z : Run). StretchOf s (suc n) z) f
     }
     )
 
-stretch_is_if : (s : ℕ → Number) (n : ℕ) (p : Part) (b : List ℕ) (x y : Run) (t : Bool) → s (suc n) ≡ Held p b → StretchOf s n x
-    → cond t (Some (joined x (single (suc n) p b))) (Some (single (suc n) p b)) ≡ Some y → StretchOf s (suc n) y
-stretch_is_if s n p b x y true e o f = stretch_joined s n p b x y e o cc
-stretch_is_if s n p b x y false e o f = stretch_single s n p b y e cc
+longest_is_if : (s : ℕ → Number) (n : ℕ) (p : Part) (b : List ℕ) (x y : Run) (t : Bool) → s (suc n) ≡ Held p b → LongestOf s n x
+    → cond t (Some (joined x (single (suc n) p b))) (Some (single (suc n) p b)) ≡ Some y → LongestOf s (suc n) y
+longest_is_if s n p b x y true e o f = longest_joined s n p b x y e o cc
+longest_is_if s n p b x y false e o f = longest_single s n p b y e cc
 
-stretch_is_with : (s : ℕ → Number) (n : ℕ) (v : Number) (before : Option Run) (y : Run) → s (suc n) ≡ v → ((x : Run) → before ≡ Some x → StretchOf s n x)
-    → run_with v (suc n) before ≡ Some y → StretchOf s (suc n) y
-stretch_is_with s n Missing before y e ih f = absurd cc
-stretch_is_with s n GivenUp before y e ih f = absurd cc
-stretch_is_with s n (Held p b) None y e ih f = stretch_single s n p b y e cc
-stretch_is_with s n (Held p b) (Some x) y e ih f = stretch_is_if s n p b x y (fits x (single (suc n) p b)) e (ih x refl) f
+longest_is_with : (s : ℕ → Number) (n : ℕ) (v : Number) (before : Option Run) (y : Run) → s (suc n) ≡ v → ((x : Run) → before ≡ Some x → LongestOf s n x)
+    → run_with v (suc n) before ≡ Some y → LongestOf s (suc n) y
+longest_is_with s n Missing before y e ih f = absurd cc
+longest_is_with s n GivenUp before y e ih f = absurd cc
+longest_is_with s n (Held p b) None y e ih f = longest_single s n p b y e cc
+longest_is_with s n (Held p b) (Some x) y e ih f = longest_is_if s n p b x y (fits x (single (suc n) p b)) e (ih x refl) f
 
-pub stretch_is : (s : ℕ → Number) (n : ℕ) (y : Run) → run_up_to s n ≡ Some y → StretchOf s n y
+pub longest_is : (s : ℕ → Number) (n : ℕ) (y : Run) → run_up_to s n ≡ Some y → LongestOf s n y
 unfolding run_up_to
-stretch_is s zero y e = absurd cc
-stretch_is s (suc n) y e = stretch_is_with s n (s (suc n)) (run_up_to s n) y refl (λ x. stretch_is s n x) e
+longest_is s zero y e = absurd cc
+longest_is s (suc n) y e = longest_is_with s n (s (suc n)) (run_up_to s n) y refl (λ x. longest_is s n x) e
 
 abbrev pub if_open : Bool → Bool → Message → Option Message
 if_open true true m = None
@@ -88,7 +88,7 @@ abbrev pub whole_of : Option Run → Option Message
 whole_of None = None
 whole_of (Some y) = if_whole y.front y.rear (message_of y)
 
--- a stretch and one more number, by the parts
+-- a run and one more number, by the parts
 open_join : (n first last : ℕ) (front rear : Bool) (bytes : List ℕ) (p : Part) (b : List ℕ) → last + 1 ≡ n
     → open_with (Held p b) n (if_open front rear (record { number = first; bytes = bytes })) ≡ open_of (run_with (Held p b) n (Some (with_parts first last front rear bytes)))
 open_join n first last true true bytes Whole b e = rw (eq-eqb (last + 1) n e) refl
@@ -151,19 +151,19 @@ whole_step n GivenUp before e = refl
 whole_step n (Held p b) None e = whole_alone (suc n) p b
 whole_step n (Held p b) (Some y) e = whole_join (suc n) y.first y.last y.front y.rear y.bytes p b (omega (arith, e y refl))
 
-pub open_is_stretch : (s : ℕ → Number) (n : ℕ) → open_at s n ≡ open_of (run_up_to s n)
+pub open_is_longest : (s : ℕ → Number) (n : ℕ) → open_at s n ≡ open_of (run_up_to s n)
 unfolding open_at run_up_to
-open_is_stretch s zero = refl
-open_is_stretch s (suc n) =
-    ap (λ x. open_with (s (suc n)) (suc n) x) (open_is_stretch s n) ∙ open_step n (s (suc n)) (run_up_to s n) (λ y e. (stretch_is s n y e).last)
+open_is_longest s zero = refl
+open_is_longest s (suc n) =
+    ap (λ x. open_with (s (suc n)) (suc n) x) (open_is_longest s n) ∙ open_step n (s (suc n)) (run_up_to s n) (λ y e. (longest_is s n y e).last)
 
-pub whole_is_stretch : (s : ℕ → Number) (n : ℕ) → whole_at s n ≡ whole_of (run_up_to s n)
+pub whole_is_longest : (s : ℕ → Number) (n : ℕ) → whole_at s n ≡ whole_of (run_up_to s n)
 unfolding whole_at run_up_to
-whole_is_stretch s zero = refl
-whole_is_stretch s (suc n) =
-    ap (λ x. whole_with (s (suc n)) (suc n) x) (open_is_stretch s n) ∙ whole_step n (s (suc n)) (run_up_to s n) (λ y e. (stretch_is s n y e).last)
+whole_is_longest s zero = refl
+whole_is_longest s (suc n) =
+    ap (λ x. whole_with (s (suc n)) (suc n) x) (open_is_longest s n) ∙ whole_step n (s (suc n)) (run_up_to s n) (λ y e. (longest_is s n y e).last)
 
--- a whole stretch is a run
+-- a whole run is a run
 goes_if : (y : Run) (b : Bool) → y.rear ≡ true → cond b (cond y.rear false (cond false false true)) false ≡ false
 goes_if y true e = rw e refl
 goes_if y false e = refl
@@ -183,12 +183,12 @@ ending : (o : Option Run) (v : Number) → option_to_list (whole_of o) ≡ map m
 ending None v = refl
 ending (Some y) v = ending_parts y.front y.rear y v refl refl
 
--- the whole runs, found number by number or as longest stretches
+-- the whole runs, found number by number or as the longest ones
 pub wholes_are : (s : ℕ → Number) (t : ℕ) → wholes_to s t ≡ map message_of (filter is_whole (runs_to s t))
 unfolding wholes_to runs_to
 wholes_are s zero = refl
 wholes_are s (suc t) =
     ap (λ x. x ++ option_to_list (whole_at s (suc t))) (wholes_are s t)
-    ∙ (ap (λ x. map message_of (filter is_whole (runs_to s t)) ++ x) (ap option_to_list (whole_is_stretch s (suc t)) ∙ ending (run_up_to s (suc t)) (s (suc (suc t))))
+    ∙ (ap (λ x. map message_of (filter is_whole (runs_to s t)) ++ x) (ap option_to_list (whole_is_longest s (suc t)) ∙ ending (run_up_to s (suc t)) (s (suc (suc t))))
     ∙ (sym (map-append message_of (filter is_whole (runs_to s t)) (filter is_whole (run_ending (run_up_to s (suc t)) (s (suc (suc t))))))
     ∙ ap (map message_of) (sym (filter-append is_whole (runs_to s t) (run_ending (run_up_to s (suc t)) (s (suc (suc t))))))))
