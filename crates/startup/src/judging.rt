@@ -1,15 +1,18 @@
 //! What a keying is found to be before anything changes, and what it then does. Each is read, and
 //! its signature and cookie are tested, once.
 
-ghost use Rattle.std.specs.Prelude.{ℕ, List, [], ◌∷◌, Option, ◌≡◌, length, IfOk, IfErr, IfSome, OnErr, IsTrue, Ok, Some, None};
+ghost use Rattle.std.specs.Prelude.{ℕ, [], ◌∷◌, Option, ◌≡◌, length, IfOk, IfErr, OnErr, IsTrue,
+    Ok, Some, None};
 ghost use Rattle.std.specs.FinMap.{get, len};
 ghost use Rattle.std.specs.Option.{option_copied};
 ghost use Rattle.sha2.specs.Sha256.{sha256};
 ghost use Rattle.cookies.specs.declared.CookieTest.TheVariants.{Current};
-ghost use Rattle.cookies.specs.Cookie.{cookie_test};
 ghost use Rattle.glare_core.specs.Account.{Gave};
 ghost use Rattle.glare_core.specs.Calls.{where_true, is_born_of};
-ghost use Rattle.startup.specs.Keyings.{keying_of, is_own, heard_cause, named_cause, keyed_with, after_keyed_with, needs_row_with, keyed_facts, repeated_session, iikeying_cause, is_in_hello, attempt_cause, responder_cause, rikeying_cause, opened_with, after_opening};
+ghost use Rattle.startup.specs.Keyings.{initiator_keying_in, responder_keying_in, keying_of, is_own,
+    heard_cause, named_cause, keyed, after_keying, needs_row, keyed_facts, repeated_session,
+    iikeying_cause, is_in_hello, attempt_cause, responder_cause, rikeying_cause, opened,
+    after_opening};
 ghost use Rattle.startup.specs.Packets.{is_signed};
 ghost use Rattle.startup.specs.Judging.{unless_cause, again_or_new, hearing, judged_initiator};
 ghost use Rattle.startup.specs.Read.{initiator_of, responder_of};
@@ -233,16 +236,17 @@ impl Startup {
         near: u32,
         nr: [u8; 16],
     ) -> Result<Keyed, KeyRefusal>
-        requires { (payload : List ℕ) × ((full : Option ℕ) × (judged_initiator self.old payload
-            from.now moment full (initiator_of fields.now) ≡ Ok hearing.now)) }
-        ensures ok { IfOk result (λ answer. (answer ≡ keyed_with self.old from.now moment near nr
-            (initiator_of fields.now)
-            (cookie_test self.old.cookie_secret fields.now.cookie.now from.now moment)) ×
-            (self.new ≡ after_keyed_with self.old near nr (initiator_of fields.now)
-            (cookie_test self.old.cookie_secret fields.now.cookie.now from.now moment))) }
-        ensures memory { IfErr result (λ refusal. (refusal ≡ KeyRefusal.Memory) ×
-            IsTrue (needs_row_with self.old (initiator_of fields.now)
-            (cookie_test self.old.cookie_secret fields.now.cookie.now from.now moment))) }
+        requires reads
+            { initiator_keying_in fields.now.payload.now ≡ Ok (initiator_of fields.now) }
+        requires judged { (full : Option ℕ) × (judged_initiator self.old fields.now.payload.now
+            from.now moment full (initiator_of fields.now) ≡ Ok hearing.now) }
+        ensures ok
+            { IfOk result (λ answer. (keyed self.old fields.now.payload.now from.now moment near nr
+            ≡ Some answer) ×
+            (self.new ≡ after_keying self.old fields.now.payload.now from.now moment near nr)) }
+        ensures memory
+            { IfErr result (λ refusal. (refusal ≡ KeyRefusal.Memory) ×
+            IsTrue (needs_row self.old fields.now.payload.now from.now moment)) }
         ensures err { OnErr result (self.new ≡ self.old) }
         ensures gave { IfOk result (λ answer. Gave self.old.ledger (keyed_facts answer) self.new.ledger) }
     {
@@ -302,9 +306,10 @@ impl Startup {
         peer: &[u8; 32],
         fields: &ResponderFields<'_>,
     ) -> Fact
-        requires { peer_of_attempt (get self.old.attempts near) ≡ Some peer.now }
-        ensures fact { IfSome (get self.old.attempts near) (λ a. result
-            ≡ opened_with near (responder_of fields.now) a) }
+        requires reads
+            { responder_keying_in fields.now.payload.now ≡ Ok (responder_of fields.now) }
+        requires peer { peer_of_attempt (get self.old.attempts near) ≡ Some peer.now }
+        ensures fact { opened self.old near fields.now.payload.now ≡ Some result }
         ensures after { self.new ≡ after_opening self.old near result }
         ensures gave { Gave self.old.ledger (result ∷ []) self.new.ledger }
     {

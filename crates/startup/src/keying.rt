@@ -61,15 +61,24 @@ impl Startup {
         ensures refused { IfSome (initiator_hello_cause self.now epd.now tag.now) (λ cause. result
             ≡ Err cause) }
     {
-        if let Some(cause) = self.initiator_hello_cause(epd, tag) {
-            return Err(cause);
+        match self.initiator_hello_cause(epd, tag) {
+            Some(cause) => Err(cause),
+            None => Ok(self.apply_hello(tag, to, moment)),
         }
+    }
+
+    /// The own hello with this tag for an address, where no cause keeps it from being sent. It
+    /// takes no memory.
+    pub fn apply_hello(&self, tag: &[u8], to: &Address, moment: u64) -> Answer
+        requires { length tag.now ≤ 128 }
+        ensures { result ≡ initiator_hello_answer self.now tag.now to.now moment }
+    {
         let cookie = self.cookies.make(to, moment);
-        Ok(Answer {
+        Answer {
             to: *to,
             sid: 0,
             plain: rhello_packet(tag, cookie.bytes(), self.cert.bytes()),
-        })
+        }
     }
 
     /// A new cookie for the address, in place of that of the keying.

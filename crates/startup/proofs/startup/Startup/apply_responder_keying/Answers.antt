@@ -14,6 +14,6 @@ invariant_of-self c =
       sign_is = c.self.invariant.sign_is;
       distinct = c.leave_at.ensures.distinct;
       sound = opened_is_kept_sound s c.args.near c.args.peer.now (responder_of c.args.fields.now) c.in-Some.fact c.answer.new.self (table_of c.leave_at.new.rows.items)
-          c.self.invariant.sound (ap (λ (t : StartupState). peer_of_attempt (get t.attempts c.args.near)) c.self.view_is ∙ c.requires)
+          c.self.invariant.sound (ap (λ (t : StartupState). peer_of_attempt (get t.attempts c.args.near)) c.self.view_is ∙ c.requires.peer)
           c.in-Some.ensures.fact c.in-Some.ensures.ledger c.leave_at.ensures.table;
     }
