@@ -51,7 +51,7 @@ unheard_by opens new part =
 abbrev pub unheard : SessionState → List ℕ → Option Unheard
 unheard s part = unheard_by (opens_in s part) (is_new (kept_answer s.window (count_of part))) part
 
--- the place of the plain packet, or why it wasn't heard
+-- where the plain packet stands, or why it wasn't heard
 abbrev pub answered : Option Unheard → List ℕ → Result (Range ℕ) Unheard
 answered None part = Ok (record { start = 32; end = length part })
 answered (Some why) part = Err why

@@ -24,8 +24,8 @@ fn seal_part(keys: &Keys, sid: u32, number: [u8; 16], plain: &[u8], part: &mut [
     requires { length part.old ≡ 32 + length plain.now }
     ensures { part.new ≡ sealed keys.now sid number plain.now }
 {
-    let (_, place) = part.split_at_mut(HEAD_LEN);
-    place.copy_from_slice(plain);
+    let (_, packet) = part.split_at_mut(HEAD_LEN);
+    packet.copy_from_slice(plain);
     seal_in_place(keys, sid, number, part);
 }
 

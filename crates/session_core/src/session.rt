@@ -218,8 +218,8 @@ impl Session {
         self.opens(sealed) && self.window.answer(count_of(sealed)).is_ok()
     }
 
-    /// Hears a sealed part: it opens it in place, takes its number, and gives the place of the
-    /// plain packet.
+    /// Hears a sealed part: it opens it in place, takes its number, and gives where the plain
+    /// packet stands.
     ///
     /// Of the session the numbers taken change alone. The buffer stays as it was after Short and
     /// BadTag, and has the plain packet after Repeated.
@@ -237,8 +237,8 @@ impl Session {
         let count = count_of(sealed);
         match open_in_place(&self.inward, self.joined.near, sealed) {
             Err(_) => Err(Unheard::BadTag),
-            Ok(place) => match self.window.take(count) {
-                Ok(()) => Ok(place),
+            Ok(range) => match self.window.take(count) {
+                Ok(()) => Ok(range),
                 Err(_) => Err(Unheard::Repeated),
             },
         }

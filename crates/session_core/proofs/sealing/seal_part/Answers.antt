@@ -5,7 +5,7 @@ use Rattle.session_core.proofs.sealing.seal_part.Goals as goal
 
 pub returns : goal.returns
 returns c =
-    let front : List ℕ = c.split_at_mut-place.result.0.now in
+    let front : List ℕ = c.split_at_mut-packet.result.0.now in
     let back : List ℕ = c.copy_from_slice.new.self in
     c.seal_in_place.ensures
-    ∙ ap (sealed c.args.keys.now c.args.sid c.args.number) (drop_at front back 32 c.split_at_mut-place.ensures.front_len ∙ c.copy_from_slice.ensures.after)
+    ∙ ap (sealed c.args.keys.now c.args.sid c.args.number) (drop_at front back 32 c.split_at_mut-packet.ensures.front_len ∙ c.copy_from_slice.ensures.after)
