@@ -22,7 +22,7 @@ use Rattle.startup.specs.Packets.{is_signed}
 use Rattle.startup.specs.Attempts.{wide}
 use Rattle.startup.specs.Keyings.{InitiatorKeying, cookie_cause, named_cause, keying_of, repeated_session, initiator_cause, change_answer, session_answer, again_or_birth, after_again_or_birth, keyed_with, after_keyed_with, needs_row_with}
 use Rattle.startup.specs.Judging.{unless_cause, again_or_new, hearing, judged_initiator}
-use Rattle.startup.proofs.Uncaused.{IsHeard, no_cause_is_heard, no_cause_is_narrow}
+use Rattle.startup.proofs.Uncaused.{IsHeard, no_cause_is_heard}
 
 -- ---- what was found, where no cause stands
 pub uncaused : {A : Type 0} (found x : A) (o : Option Cause) → unless_cause found o ≡ Ok x → o ≡ None

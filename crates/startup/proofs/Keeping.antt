@@ -147,21 +147,6 @@ after_end_is_sound s peer why sound = ended_by s peer why (held_with s.ledger pe
 
 -- ---- the calls
 
-after_end_of_is_sound : (s : StartupState) (e : Option (ℕ × AttemptState)) (why : Why) (test : AttemptState → Bool) → lowest test s.attempts ≡ e → IsSound s → IsSound (after_end_of s e why)
-after_end_of_is_sound s None why test is sound = sound
-after_end_of_is_sound s (Some e) why test is sound = end_is_sound s e why sound (lowest_is_there test s.attempts e is)
-
-pub after_cancel_is_sound : (s : StartupState) (n : ℕ) → IsSound s → IsSound (after_cancel s n)
-after_cancel_is_sound s n sound = after_end_of_is_sound s (lowest (has_number n) s.attempts) Cancelled (has_number n) refl sound
-
-after_answer_is_sound : (s : StartupState) (e : Option (ℕ × AttemptState)) (from : AddressParts) (cookie : List ℕ) (moment : ℕ) (test : AttemptState → Bool) →
-    lowest test s.attempts ≡ e → IsSound s → IsSound (after_answer s e from cookie moment)
-after_answer_is_sound s None from cookie moment test is sound = sound
-after_answer_is_sound s (Some e) from cookie moment test is sound = changed_is_sound s e.0 e.1 (answered e.1 from cookie moment) sound (lowest_is_there test s.attempts e is) refl refl refl
-
-pub after_rhello_is_sound : (s : StartupState) (tag cookie : List ℕ) (from : AddressParts) (moment : ℕ) → IsSound s → IsSound (after_rhello s tag cookie from moment)
-after_rhello_is_sound s tag cookie from moment sound = after_answer_is_sound s (lowest (has_tag tag) s.attempts) from cookie moment (has_tag tag) refl sound
-
 record IsWithCookie (cookie : List ℕ) (near : ℕ) (o : Option AttemptState) (e : ℕ × AttemptState) : Type 0 where
   near_is : e.0 ≡ near
   found : o ≡ Some e.1
@@ -185,13 +170,6 @@ either_one : {A : Type 0} (b : Bool) (x y z : A) → (if b then x else y) ≡ z 
 either_one true x y z e = inl e
 either_one false x y z e = inr e
 
--- The attempt whose cookie is replaced is there, and has the old one.
-pub changed_is_there : (attempts : Attempts) (sid : ℕ) (old : List ℕ) (e : ℕ × AttemptState) → changed attempts sid old ≡ Some e → get attempts e.0 ≡ Some e.1
-changed_is_there attempts sid old e is = elim (either_one (sid == 0) (lowest (has_cookie old) attempts) (if_cookie old sid (get attempts sid)) (Some e) is) [
-  | inl first ↦ lowest_is_there (has_cookie old) attempts e first
-  | inr at ↦ let found = if_cookie_is old sid (get attempts sid) e at in ap (get attempts) found.near_is ∙ found.found
-]
-
 pub changed_has_cookie : (attempts : Attempts) (sid : ℕ) (old : List ℕ) (e : ℕ × AttemptState) → changed attempts sid old ≡ Some e → has_cookie old e.1 ≡ true
 changed_has_cookie attempts sid old e is = elim (either_one (sid == 0) (lowest (has_cookie old) attempts) (if_cookie old sid (get attempts sid)) (Some e) is) [
   | inl first ↦ lowest_passes (has_cookie old) attempts e first
@@ -213,21 +191,3 @@ session_is_held (Some (Opening n near ni)) e = absurd (let clash : false ≡ tru
 session_is_held (Some (HalfOpen j)) e = refl
 session_is_held (Some (KeptAsResponder j)) e = refl
 session_is_held (Some (KeptAsInitiator j)) e = refl
-
-after_change_is_sound : (s : StartupState) (e : Option (ℕ × AttemptState)) (sid : ℕ) (old cookie : List ℕ) (moment : ℕ) → changed s.attempts sid old ≡ e → IsSound s → IsSound (after_change s e cookie moment)
-after_change_is_sound s None sid old cookie moment is sound = sound
-after_change_is_sound s (Some e) sid old cookie moment is sound = changed_is_sound s e.0 e.1 (recookied e.1 cookie moment) sound (changed_is_there s.attempts sid old e is) refl refl refl
-
-pub after_cookie_change_is_sound : (s : StartupState) (sid : ℕ) (old new : List ℕ) (moment : ℕ) → IsSound s → IsSound (after_cookie_change s sid old new moment)
-after_cookie_change_is_sound s sid old new moment sound = after_change_is_sound s (changed s.attempts sid old) sid old new moment refl sound
-
-due_by : (s : StartupState) (moment : ℕ) (e : ℕ × AttemptState) (b : Bool) → is_over moment e.1 ≡ b → get s.attempts e.0 ≡ Some e.1 → IsSound s → IsSound (after_due_of s moment (Some e))
-due_by s moment e true is at sound = rw is (end_is_sound s e Expired sound at)
-due_by s moment e false is at sound = rw is (changed_is_sound s e.0 e.1 (repeated e.1 moment) sound at refl refl refl)
-
-after_due_of_is_sound : (s : StartupState) (moment : ℕ) (e : Option (ℕ × AttemptState)) → lowest (is_due moment) s.attempts ≡ e → IsSound s → IsSound (after_due_of s moment e)
-after_due_of_is_sound s moment None is sound = sound
-after_due_of_is_sound s moment (Some e) is sound = due_by s moment e (is_over moment e.1) refl (lowest_is_there (is_due moment) s.attempts e is) sound
-
-pub after_due_is_sound : (s : StartupState) (moment : ℕ) → IsSound s → IsSound (after_due s moment)
-after_due_is_sound s moment sound = after_due_of_is_sound s moment (lowest (is_due moment) s.attempts) refl sound

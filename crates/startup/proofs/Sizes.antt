@@ -18,10 +18,6 @@ counted_length : (bytes : List ℕ) (most : ℕ) → length bytes ≤ most → m
 counted_length bytes most short few =
     omega (arith, length-append (vlu (length bytes)) bytes, (length-vlu_within (length bytes) (omega arith)).1)
 
--- the payload is what stands after them
-pub payload_after_head : (chunk : Chunk) → drop 4 (startup_packet chunk) ≡ payload_bytes chunk
-payload_after_head chunk = refl
-
 two : (a b : List ℕ) (m n : ℕ) → length a ≤ m → length b ≤ n → length (a ++ b) ≤ m + n
 two a b m n p q = omega (arith, length-append a b)
 

@@ -193,23 +193,6 @@ keyed_by_is_sound s keying near nr None is sound =
     subst (λ (h : Heard). IsSound (record s { ledger = heard_noted s.ledger h; attempts = without s.attempts (opening_id (held_with s.ledger keying.peer)) }))
     (sym (birth_heard s.ledger keying near nr (not_repeated (held_with s.ledger keying.peer) keying is))) (birth_is_sound s keying near nr sound)
 
-tested_is_sound : (s : StartupState) (near : ℕ) (nr : List ℕ) (keying : InitiatorKeying) (test : CookieTest) → IsSound s → IsSound (after_keyed_with s near nr keying test)
-tested_is_sound s near nr keying Current sound =
-    keyed_by_is_sound s (keying_of keying) near nr (repeated_session (held_with s.ledger (sha256 keying.cert)) (keying_of keying)) refl sound
-tested_is_sound s near nr keying Bad sound = sound
-tested_is_sound s near nr keying Moved sound = sound
-tested_is_sound s near nr keying Expired sound = sound
-
-read_is_sound : (s : StartupState) (from : AddressParts) (now near : ℕ) (nr : List ℕ) (reading : Result InitiatorKeying Cause) → IsSound s
-    → IsSound (after_keyed_reading s from now near nr reading)
-read_is_sound s from now near nr (Ok keying) sound = tested_is_sound s near nr keying (cookie_test s.cookie_secret keying.cookie from now) sound
-read_is_sound s from now near nr (Err cause) sound = sound
-
--- The attempts and the ledger name the same things after an initiator's keying.
-pub after_keying_is_sound : (s : StartupState) (payload : List ℕ) (from : AddressParts) (now near : ℕ) (nr : List ℕ) → IsSound s
-    → IsSound (after_keying s payload from now near nr)
-after_keying_is_sound s payload from now near nr sound = read_is_sound s from now near nr (initiator_keying_in payload) sound
-
 -- ---- what a responder's keying leaves
 
 -- They do after the opening of an attempt.

@@ -125,10 +125,3 @@ no_cause_is_heard s payload from now full keying none current =
     let signed : Option Cause = where_true (not (is_signed s.secret payload keying.sign)) BadSignature in
     let tested : Option Cause = cookie_cause (cookie_test s.cookie_secret keying.cookie from now) (named_cause s keying full) in
     named s full keying (sym (ap (λ t. cookie_cause t (named_cause s keying full)) current) ∙ third_none signed (wide keying.cookie) tested none)
-
-pub no_cause_is_narrow : (s : StartupState) (payload : List ℕ) (from : AddressParts) (now : ℕ) (full : Option ℕ) (keying : InitiatorKeying)
-    → initiator_cause s payload from now full keying ≡ None → wide keying.cookie ≡ None
-no_cause_is_narrow s payload from now full keying none =
-    let signed : Option Cause = where_true (not (is_signed s.secret payload keying.sign)) BadSignature in
-    let tested : Option Cause = cookie_cause (cookie_test s.cookie_secret keying.cookie from now) (named_cause s keying full) in
-    second_none signed (wide keying.cookie) tested none

@@ -1,9 +1,13 @@
 //! What answers the hellos and the keyings of an attempt: a responder's hello, and a change of a
 //! cookie.
 
-ghost use Rattle.std.specs.Prelude.{ℕ, List, ◌≡◌, ◌≤◌, length, Option, None, Some, Err, IfSome, IfNone, IfOk, IfErr, IsOk, OnErr};
+ghost use Rattle.std.specs.Prelude.{ℕ, List, ◌≡◌, ◌≤◌, length, Option, None, Some, Err, IfSome};
+ghost use Rattle.std.specs.Prelude.{IfNone, IfOk, IfErr, IsOk, OnErr};
 ghost use Rattle.startup.specs.State.{AttemptState};
-ghost use Rattle.startup.specs.Attempts.{lowest, has_tag, changed, rhello_cause, rhello_keying, after_rhello, answer_keying, after_answer, cookie_change_cause, cookie_change_keying, after_cookie_change, change_keying, after_change};
+ghost use Rattle.startup.specs.Attempts.{lowest, has_tag, changed, rhello_cause, rhello_keying};
+ghost use Rattle.startup.specs.Attempts.{after_rhello, answer_keying, after_answer};
+ghost use Rattle.startup.specs.Attempts.{cookie_change_cause, cookie_change_keying};
+ghost use Rattle.startup.specs.Attempts.{after_cookie_change, change_keying, after_change};
 ghost use Rattle.startup.specs.Judging.{IsFound};
 
 use crate::answer::{Answer, KeyRefusal};

@@ -26,11 +26,14 @@ fn holds_session(peers: &Peers, peer: &[u8; 32]) -> bool
 }
 
 impl Startup {
-    ghost use Rattle.std.specs.Prelude.{◌≡◌, ◌≢◌, ◌≤◌, length, None, Some, Err, IfSome, IfNone, IfOk, IfErr, OnErr};
+    ghost use Rattle.std.specs.Prelude.{◌≡◌, ◌≢◌, ◌≤◌, length, None, Some, Err, IfSome, IfNone};
+    ghost use Rattle.std.specs.Prelude.{IfOk, IfErr, OnErr};
     ghost use Rattle.std.specs.FinMap.{get};
     ghost use Rattle.glare_core.specs.Ledger.{held_with};
     ghost use Rattle.glare_core.specs.Calls.{start_refusal, started_fact, MayEnd};
-    ghost use Rattle.startup.specs.Attempts.{begin_spread, after_begin, cancel_fact, after_cancel, confirm_fact, after_confirm, end_fact, after_end, session_in};
+    ghost use Rattle.startup.specs.Attempts.{begin_spread, after_begin, cancel_fact, after_cancel};
+    ghost use Rattle.startup.specs.Attempts.{confirm_fact, after_confirm, end_fact, after_end};
+    ghost use Rattle.startup.specs.Attempts.{session_in};
 
     /// Begins an attempt towards the end that the discriminator names, under a near id that isn't 0
     /// and that no held attempt has, with 1 to 16 candidate addresses; candidates at the same place

@@ -1,18 +1,19 @@
 //! What a keying is found to be before anything changes, and what it then does. Each is read, and
 //! its signature and cookie are tested, once.
 
-ghost use Rattle.std.specs.Prelude.{ℕ, [], ◌∷◌, Option, ◌≡◌, length, IfOk, IfErr, OnErr, IsTrue,
-    Ok, Some, None};
+ghost use Rattle.std.specs.Prelude.{ℕ, [], ◌∷◌, Option, ◌≡◌, length, IfOk, IfErr, OnErr, IsTrue};
+ghost use Rattle.std.specs.Prelude.{Ok, Some, None};
 ghost use Rattle.std.specs.FinMap.{get, len};
 ghost use Rattle.std.specs.Option.{option_copied};
 ghost use Rattle.sha2.specs.Sha256.{sha256};
 ghost use Rattle.cookies.specs.declared.CookieTest.TheVariants.{Current};
 ghost use Rattle.glare_core.specs.Account.{Gave};
 ghost use Rattle.glare_core.specs.Calls.{where_true, is_born_of};
-ghost use Rattle.startup.specs.Keyings.{initiator_keying_in, responder_keying_in, keying_of, is_own,
-    heard_cause, named_cause, keyed, after_keying, needs_row, keyed_facts, repeated_session,
-    iikeying_cause, is_in_hello, attempt_cause, responder_cause, rikeying_cause, opened,
-    after_opening};
+ghost use Rattle.startup.specs.Keyings.{initiator_keying_in, responder_keying_in, keying_of};
+ghost use Rattle.startup.specs.Keyings.{is_own, heard_cause, named_cause, keyed, after_keying};
+ghost use Rattle.startup.specs.Keyings.{needs_row, keyed_facts, repeated_session, iikeying_cause};
+ghost use Rattle.startup.specs.Keyings.{is_in_hello, attempt_cause, responder_cause};
+ghost use Rattle.startup.specs.Keyings.{rikeying_cause, opened, after_opening};
 ghost use Rattle.startup.specs.Packets.{is_signed};
 ghost use Rattle.startup.specs.Judging.{unless_cause, again_or_new, hearing, judged_initiator};
 ghost use Rattle.startup.specs.Read.{initiator_of, responder_of};

@@ -1,13 +1,18 @@
 //! The keyings that bear and open sessions, and the hellos that an end answers (RFC 7016 section
 //! 3.5.1).
 
-ghost use Rattle.std.specs.Prelude.{[], ◌∷◌, ◌≡◌, ◌≢◌, ◌≤◌, length, true, false, IfOk, IfErr, IfSome, IfNone, IsOkAnd, IsTrue, OnErr, Ok, Err, Some, None};
+ghost use Rattle.std.specs.Prelude.{[], ◌∷◌, ◌≡◌, ◌≢◌, ◌≤◌, length, true, false, IfOk, IfErr};
+ghost use Rattle.std.specs.Prelude.{IfSome, IfNone, IsOkAnd, IsTrue, OnErr, Ok, Err, Some, None};
 ghost use Rattle.std.specs.Option.{option_copied};
 ghost use Rattle.sha2.specs.Sha256.{sha256};
 ghost use Rattle.glare_core.specs.Ledger.{held_with, knows};
 ghost use Rattle.glare_core.specs.Account.{Gave};
 ghost use Rattle.glare_core.specs.Calls.{hear_refusal};
-ghost use Rattle.startup.specs.Keyings.{selects, initiator_hello_cause, initiator_hello_answer, iikeying_cause, change_answer, session_answer, repeated_session, again_or_birth, after_again_or_birth, keyed, after_keying, needs_row, keyed_facts, opening_id, rikeying_cause, opened, after_opening};
+ghost use Rattle.startup.specs.Keyings.{selects, initiator_hello_cause, initiator_hello_answer};
+ghost use Rattle.startup.specs.Keyings.{iikeying_cause, change_answer, session_answer};
+ghost use Rattle.startup.specs.Keyings.{repeated_session, again_or_birth, after_again_or_birth};
+ghost use Rattle.startup.specs.Keyings.{keyed, after_keying, needs_row, keyed_facts, opening_id};
+ghost use Rattle.startup.specs.Keyings.{rikeying_cause, opened, after_opening};
 ghost use Rattle.startup.specs.Read.{initiator_of};
 
 use crate::answer::{Answer, KeyRefusal, Keyed};

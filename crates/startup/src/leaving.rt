@@ -1,6 +1,7 @@
 //! How an attempt leaves the rows.
 
-ghost use Rattle.std.specs.Prelude.{ℕ, ◌≡◌, ◌==◌, ◌<◌, IsSome, Some, length, position, slice_index_or};
+ghost use Rattle.std.specs.Prelude.{ℕ, ◌≡◌, ◌==◌, ◌<◌, IsSome, Some, length, position};
+ghost use Rattle.std.specs.Prelude.{slice_index_or};
 ghost use Rattle.std.specs.FinMap.{get, len, remove};
 ghost use Rattle.startup.specs.declared.attempt.Row.{Row};
 ghost use Rattle.startup.specs.State.{AttemptState};

@@ -2,7 +2,9 @@
 //! they carry).
 
 ghost use Rattle.std.specs.Prelude.{◌≡◌, ◌≤◌, IfOk, length, max};
-ghost use Rattle.startup.specs.Keyings.{behind_vlu, cert_offset, part_offset, fault_cause, initiator_keying_in, formed_initiator, responder_keying_in, formed_responder};
+ghost use Rattle.startup.specs.Keyings.{behind_vlu, cert_offset, part_offset, fault_cause};
+ghost use Rattle.startup.specs.Keyings.{initiator_keying_in, formed_initiator, responder_keying_in};
+ghost use Rattle.startup.specs.Keyings.{formed_responder};
 ghost use Rattle.startup.specs.Read.{initiator_read, responder_read};
 
 use crate::cause::Cause;
