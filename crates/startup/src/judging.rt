@@ -237,16 +237,13 @@ impl Startup {
         near: u32,
         nr: [u8; 16],
     ) -> Result<Keyed, KeyRefusal>
-        requires reads
-            { initiator_keying_in fields.now.payload.now ≡ Ok (initiator_of fields.now) }
+        requires reads { initiator_keying_in fields.now.payload.now ≡ Ok (initiator_of fields.now) }
         requires judged { (full : Option ℕ) × (judged_initiator self.old fields.now.payload.now
             from.now moment full (initiator_of fields.now) ≡ Ok hearing.now) }
-        ensures ok
-            { IfOk result (λ answer. (keyed self.old fields.now.payload.now from.now moment near nr
+        ensures ok { IfOk result (λ answer. (keyed self.old fields.now.payload.now from.now moment near nr
             ≡ Some answer) ×
             (self.new ≡ after_keying self.old fields.now.payload.now from.now moment near nr)) }
-        ensures memory
-            { IfErr result (λ refusal. (refusal ≡ KeyRefusal.Memory) ×
+        ensures memory { IfErr result (λ refusal. (refusal ≡ KeyRefusal.Memory) ×
             IsTrue (needs_row self.old fields.now.payload.now from.now moment)) }
         ensures err { OnErr result (self.new ≡ self.old) }
         ensures gave { IfOk result (λ answer. Gave self.old.ledger (keyed_facts answer) self.new.ledger) }
@@ -307,8 +304,7 @@ impl Startup {
         peer: &[u8; 32],
         fields: &ResponderFields<'_>,
     ) -> Fact
-        requires reads
-            { responder_keying_in fields.now.payload.now ≡ Ok (responder_of fields.now) }
+        requires reads { responder_keying_in fields.now.payload.now ≡ Ok (responder_of fields.now) }
         requires peer { peer_of_attempt (get self.old.attempts near) ≡ Some peer.now }
         ensures fact { opened self.old near fields.now.payload.now ≡ Some result }
         ensures after { self.new ≡ after_opening self.old near result }
