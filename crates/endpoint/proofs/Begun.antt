@@ -5,7 +5,7 @@ use Rattle.std.specs.List.{fold, list_any}
 use Rattle.std.proofs.lemmas.Bool.Decides.{nat_tests}
 use Rattle.cookies.specs.Cookie.{is_same_place}
 use Rattle.glare_core.specs.Calls.{first_that_stands, start_refusal}
-use Rattle.startup.specs.Attempts.{joined, lowest, places_of}
+use Rattle.startup.specs.Attempts.{joined, lowest, distinct_candidates}
 use Rattle.startup.specs.Due.{due, due_of, due_sends, due_sends_of, is_due}
 use Rattle.rtmfp_chunks.specs.Writing.{chunk_bytes}
 use Rattle.endpoint_model.specs.declared.answers.OpenRefusal.{OpenRefusal}
@@ -30,7 +30,7 @@ use Rattle.endpoint.specs.Kept.{IsEndpoint, table_of, state_of}
 use Rattle.endpoint_model.specs.Sending.{sent_in_session}
 use Rattle.endpoint_model.specs.State.{State, Did, Done, nothing, then_do, after_entries, uses, is_used, is_free, full, free_from, with_startup, with_sessions}
 use Rattle.endpoint_model.proofs.Ids.{free_from_is_free}
-use Rattle.endpoint_model.proofs.Steps.{done_nothing, done_still, then_nothing, then_then, joined as steps_joined}
+use Rattle.endpoint_model.proofs.Steps.{done_nothing, then_nothing, then_then, joined as steps_joined}
 use Rattle.endpoint.proofs.Constants.{IsSameEnd, end_stays, keying_keeps, opening_keeps}
 
 -- ---- what an outbox got
@@ -150,10 +150,6 @@ pub no_cause : (there : Bool) (cause : Option Cause) → (if there then cause el
 no_cause true cause e = e
 no_cause false cause e = absurd (cc)
 
-pub when_none : {P : Type 0} (cause : Option Cause) → cause ≡ None → IfNone cause P → P
-when_none None e h = h
-when_none (Some cause) e h = absurd (cc)
-
 some_place : (candidates start place : Option OpenRefusal) → first_that_stands (candidates ∷ start ∷ place ∷ []) ≡ None → place ≡ None
 some_place None None None e = refl
 some_place None None (Some refusal) e = absurd (cc)
@@ -214,7 +210,7 @@ places_from places [] = omega arith
 places_from places (address ∷ candidates) =
     omega (arith, places_from (joined places address) candidates, one_more (list_any (is_same_place address) places) places address)
 
-pub few_places : (candidates : List AddressParts) → length (places_of candidates) ≤ length candidates
+pub few_places : (candidates : List AddressParts) → length (distinct_candidates candidates) ≤ length candidates
 few_places candidates = omega (arith, places_from [] candidates)
 
 -- ---- time

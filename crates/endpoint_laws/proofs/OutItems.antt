@@ -22,7 +22,7 @@ use Rattle.startup.specs.declared.attempt.Stage.{Stage}
 use Rattle.startup.specs.declared.attempt.Stage.TheVariants.{Hello, Keying}
 use Rattle.startup.specs.Packets.{ihello_packet}
 use Rattle.startup.specs.State.{AttemptState, Attempts, StartupState}
-use Rattle.startup.specs.Attempts.{lowest, has_number, with_attempt, without_attempt, ended_attempt, end_of, after_end_of, keying_answer, begun_attempt, places_of, confirm_fact, after_confirm}
+use Rattle.startup.specs.Attempts.{lowest, has_number, with_attempt, without_attempt, ended_attempt, end_of, after_end_of, keying_answer, begun_attempt, distinct_candidates, confirm_fact, after_confirm}
 use Rattle.crypto_profile.specs.Keys.{sign_key_of}
 use Rattle.startup.specs.Due.{repeat_signed, is_due, is_over, repeated, repeat_of, due_of, after_due_of}
 use Rattle.session_core.specs.Session.{SessionState, is_opening, confirmed, with_stamps}
@@ -129,7 +129,7 @@ meets_opening setup now call past s sent tied peer candidates draws peer_len non
     let fact : Fact = started_fact s.startup.ledger peer near draws.nonce in
     let begun : Sent setup (stamped now (FactEntry fact) ∷ past) s = sent_fact setup past s now fact sent (peer_len, small, omega arith) in
     meets_after setup now call past (FactEntry fact ∷ []) _ (tt, tt)
-    (meets_each setup now call (ihello_packet (0x01 ∷ peer) draws.tag) (λ p. ihello_may setup p 0 (0x01 ∷ peer) draws.tag (omega arith) (omega arith)) (places_of candidates)
+    (meets_each setup now call (ihello_packet (0x01 ∷ peer) draws.tag) (λ p. ihello_may setup p 0 (0x01 ∷ peer) draws.tag (omega arith) (omega arith)) (distinct_candidates candidates)
     (stamped now (FactEntry fact) ∷ past) _
     record { numbered = begun.numbered; sized = begun.sized; short = short_put s.startup.attempts near a sent.short (record { tag = omega arith; cookie = tt }) }
     tied.secret tied.own)
