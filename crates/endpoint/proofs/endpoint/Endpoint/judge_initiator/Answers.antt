@@ -1,4 +1,4 @@
-use Rattle.std.proofs.Common.{◌≡◌, sym, ap, ◌∙◌}
+use Rattle.std.proofs.Common.{◌≡◌, sym, ap, ◌∙◌, rules}
 use Rattle.startup.specs.Keyings.{InitiatorKeying}
 use Rattle.startup.specs.Read.{initiator_of, initiator_read}
 use Rattle.startup.specs.Judging.{judged_initiator}
@@ -22,3 +22,7 @@ returns-in-Err-judge_initiator_keying-clause-refused c =
     (sym c.takes.ensures ∙ c.if-not-takes.false) c.if-walk.false (sym c.read_initiator_keying.ensures.fields ∙ ap initiator_read c.in-Ok.is)
     (sym (c.judge_initiator_keying.ensures ∙ (λ i. judged_initiator (c.self.view_is i).startup (c.in-Ok.ensures.payload i) c.args.from.now (c.self.view_is i).moment (c.full.ensures i) read))
     ∙ c.in-Err-judge_initiator_keying.is)
+
+-- so that a wrong body is refused fast
+pub returns-then-walk-clause-refused : goal.returns-then-walk-clause-refused
+returns-then-walk-clause-refused c = search rules
