@@ -30,7 +30,7 @@ use Rattle.endpoint.specs.Kept.{IsEndpoint, table_of, state_of}
 use Rattle.endpoint_model.specs.Sending.{sent_in_session}
 use Rattle.endpoint_model.specs.State.{State, Did, Done, nothing, then_do, after_entries, uses, is_used, is_free, full, free_from, with_startup, with_sessions}
 use Rattle.endpoint_model.proofs.Ids.{free_from_is_free}
-use Rattle.endpoint_model.proofs.Steps.{done_nothing, done_still, then_nothing, then_then, joined as steps_joined}
+use Rattle.endpoint_model.proofs.Steps.{done_nothing, then_nothing, then_then, joined as steps_joined}
 use Rattle.endpoint.proofs.Constants.{IsSameEnd, end_stays, keying_keeps, opening_keeps}
 
 -- ---- what an outbox got
@@ -149,10 +149,6 @@ kept_opening config secret print keys s t rows new near fact is t_is distinct =
 pub no_cause : (there : Bool) (cause : Option Cause) → (if there then cause else Some NoAttempt) ≡ None → cause ≡ None
 no_cause true cause e = e
 no_cause false cause e = absurd (cc)
-
-pub when_none : {P : Type 0} (cause : Option Cause) → cause ≡ None → IfNone cause P → P
-when_none None e h = h
-when_none (Some cause) e h = absurd (cc)
 
 some_place : (candidates start place : Option OpenRefusal) → first_that_stands (candidates ∷ start ∷ place ∷ []) ≡ None → place ≡ None
 some_place None None None e = refl

@@ -1,10 +1,14 @@
 //! Keyings that bear and open sessions.
 
-ghost use Rattle.std.specs.Prelude.{◌≡◌, ◌+◌, ◌++◌, ◌<◌, ◌≤◌, None, OnErr, OnOk, length, vec_len, vec_capacity};
-ghost use Rattle.std.specs.FinMap.{len};
-ghost use Rattle.startup.specs.Keyings.{iikeying_cause};
-ghost use Rattle.endpoint_model.specs.Due.{initiator_keyed, responder_keyed, sessions_born, sessions_opened, without_ended};
-ghost use Rattle.endpoint_model.specs.Causes.{responder_keying_cause};
+ghost use Rattle.std.specs.Prelude.{◌≡◌, ◌+◌, ◌++◌, ◌<◌, ◌≤◌, Ok, OnErr, OnOk, Some, length};
+ghost use Rattle.std.specs.Prelude.{vec_len, vec_capacity};
+ghost use Rattle.std.specs.FinMap.{get, len};
+ghost use Rattle.startup.specs.State.{peer_of_attempt};
+ghost use Rattle.startup.specs.Keyings.{initiator_keying_in, responder_keying_in};
+ghost use Rattle.startup.specs.Read.{initiator_of, responder_of};
+ghost use Rattle.startup.specs.Judging.{judged_initiator};
+ghost use Rattle.endpoint_model.specs.Due.{initiator_keyed, responder_keyed, sessions_born};
+ghost use Rattle.endpoint_model.specs.Due.{sessions_opened, without_ended};
 ghost use Rattle.endpoint.specs.Kept.{table_of};
 ghost use Rattle.endpoint_model.specs.State.{Done, fact_entries, full, nothing};
 
@@ -17,32 +21,33 @@ use glare_core::Fact;
 use rtmfp_chunks::ChunkView;
 use rtmfp_forms::Address;
 use session_core::{Role, Session};
-use startup::Keyed;
+use startup::{Hearing, InitiatorFields, Keyed, ResponderFields};
 use std::alloc::AllocError;
 
 impl Endpoint {
-    /// Takes an initiator's keying that nothing refuses, which came from an address.
+    /// Hears an initiator's keying that was found to be this, which came from an address.
     pub(crate) fn initiator_keyed(
         &mut self,
+        fields: &InitiatorFields<'_>,
+        hearing: &Hearing,
         from: &Address,
         draws: &Draws,
-        payload: &[u8],
         out: &mut Outbox,
     ) -> Result<(), AllocError>
-        requires { iikeying_cause self.old.startup payload.now from.now self.old.moment
-            (full self.old) ≡ None }
-        ensures ok { OnOk result (Done (initiator_keyed self.old from.now draws.now payload.now) self.new
-            out.old out.new) }
+        requires reads { initiator_keying_in fields.now.payload.now ≡ Ok (initiator_of fields.now) }
+        requires judged { judged_initiator self.old.startup fields.now.payload.now from.now
+            self.old.moment (full self.old) (initiator_of fields.now) ≡ Ok hearing.now }
+        ensures ok { OnOk result (Done (initiator_keyed self.old from.now draws.now fields.now.payload.now)
+            self.new out.old out.new) }
         ensures err { OnErr result (Done (nothing self.old) self.new out.old out.new) }
     {
         let near = self.free_from(draws.word);
-        let full = self.full();
         let blank = blank(self.alloc)?;
         out.make_room(3)?;
         self.sessions.reserve(1)?;
         match self
             .startup
-            .initiator_keying(payload, from, self.moment, near, draws.nonce, full)
+            .apply_initiator_keying(fields, hearing, from, self.moment, near, draws.nonce)
         {
             Ok(Keyed::Change(answer)) => {
                 self.send_answer(blank, &answer, out);
@@ -77,39 +82,37 @@ impl Endpoint {
         }
     }
 
-    /// Takes a responder's keying that nothing refuses, which came from an address under the
-    /// session ID of an attempt.
+    /// Takes a responder's keying that opens the attempt with this session ID, which is one with
+    /// this peer; it came from an address.
     pub(crate) fn responder_keyed(
         &mut self,
         near: u32,
+        fields: &ResponderFields<'_>,
+        peer: &[u8; 32],
         from: &Address,
-        payload: &[u8],
         out: &mut Outbox,
     ) -> Result<(), AllocError>
-        requires { responder_keying_cause self.old near payload.now ≡ None }
-        ensures ok { OnOk result (Done (responder_keyed self.old near from.now payload.now) self.new
-            out.old out.new) }
+        requires reads { responder_keying_in fields.now.payload.now ≡ Ok (responder_of fields.now) }
+        requires peer { peer_of_attempt (get self.old.startup.attempts near) ≡ Some peer.now }
+        ensures ok { OnOk result (Done (responder_keyed self.old near from.now fields.now.payload.now)
+            self.new out.old out.new) }
         ensures err { OnErr result (Done (nothing self.old) self.new out.old out.new) }
     {
         let blank = blank(self.alloc)?;
         out.make_room(2)?;
         self.sessions.reserve(1)?;
-        match self.startup.responder_keying(near, payload) {
-            Ok(fact) => {
-                keep_opened(
-                    &mut self.sessions,
-                    &fact,
-                    &self.print,
-                    from,
-                    &self.secret,
-                    self.moment,
-                );
-                out.add(Entry::Fact(fact));
-                self.send_in_session(blank, near, from, &ChunkView::Ping { bytes: &[] }, out);
-                Ok(())
-            }
-            Err(_) => unreachable!(),
-        }
+        let fact = self.startup.apply_responder_keying(near, peer, fields);
+        keep_opened(
+            &mut self.sessions,
+            &fact,
+            &self.print,
+            from,
+            &self.secret,
+            self.moment,
+        );
+        out.add(Entry::Fact(fact));
+        self.send_in_session(blank, near, from, &ChunkView::Ping { bytes: &[] }, out);
+        Ok(())
     }
 }
 

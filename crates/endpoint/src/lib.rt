@@ -6,6 +6,7 @@ mod attempts;
 mod chunks;
 mod contexts;
 mod endpoint;
+mod judging;
 mod kept_sessions;
 mod keyings;
 mod kinds;

@@ -11,8 +11,8 @@ ghost use Rattle.endpoint_model.specs.Log.{Extends, IsStop, IsTaken, not_taken, 
 ghost use Rattle.endpoint_model.specs.State.{Done, at_moment, nothing};
 
 use crate::admission::{PLAIN_AT, SEALED_AT, fault_number, has_mode};
-use crate::chunks::IIKEYING;
 use crate::endpoint::Endpoint;
+use crate::judging::IIKEYING;
 use crate::keyings::add_fact;
 use crate::outbox::Outbox;
 use crate::sessions::place_of;

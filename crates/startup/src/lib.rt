@@ -28,7 +28,6 @@ pub use answer::{Answer, Due, KeyRefusal, Keyed, Spread};
 pub use cause::Cause;
 pub use judging::Hearing;
 pub use leaving::Found;
-pub use looking::keying_fault;
 pub use parts::{InitiatorPart, ResponderPart};
 pub use reading::{InitiatorFields, ResponderFields, read_initiator_keying, read_responder_keying};
 pub use startup::Startup;

@@ -4,13 +4,10 @@ ghost use Rattle.std.specs.Prelude.{◌≡◌, ◌<◌, ◌^◌, is_some, length
 ghost use Rattle.std.specs.FinMap.{contains_key, len};
 ghost use Rattle.startup.specs.Rows.{table_of};
 ghost use Rattle.startup.specs.Due.{due_sends, due_sends_of, is_due, sends};
-ghost use Rattle.startup.specs.Keyings.{keying_fault};
 ghost use Rattle.startup.specs.Attempts.{cancel_fact, has_number, lowest};
 
 use crate::attempt::{Attempt, Row, Stage};
-use crate::cause::Cause;
 use crate::leaving::index_of;
-use crate::reading::{IIKEYING, RIKEYING, read_initiator_keying, read_responder_keying};
 use crate::rows::{Sought, is_over, lowest};
 use crate::startup::Startup;
 use rtmfp_forms::Address;
@@ -95,21 +92,4 @@ fn candidates(attempt: &Attempt) -> &[Address]
     ensures { result.now ≡ attempt.now.candidates }
 {
     &attempt.candidates[..attempt.count]
-}
-
-/// Why the fields or the forms of a keying's payload, of either type, can't be read.
-pub fn keying_fault(kind: u8, payload: &[u8]) -> Option<Cause>
-    ensures { result ≡ keying_fault kind payload.now }
-{
-    match kind {
-        IIKEYING => match read_initiator_keying(payload) {
-            Ok(_) => None,
-            Err(cause) => Some(cause),
-        },
-        RIKEYING => match read_responder_keying(payload) {
-            Ok(_) => None,
-            Err(cause) => Some(cause),
-        },
-        _ => None,
-    }
 }

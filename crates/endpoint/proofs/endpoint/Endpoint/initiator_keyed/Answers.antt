@@ -15,30 +15,30 @@ use Rattle.endpoint.proofs.endpoint.Endpoint.initiator_keyed.Goals as goal
 
 pub invariant_of-self-in-Ok-Change : goal.invariant_of-self-in-Ok-Change
 invariant_of-self-in-Ok-Change c =
-    kept_keying c.self.inside.config c.self.inside.secret c.self.inside.print c.self.inside.keys c.self.inside.startup c.initiator_keying.new.self c.self.inside.sessions.items c.reserve.new.self.items
-    c.args.payload.now c.args.from.now c.self.inside.moment c.free_from-near.result c.args.draws.now.nonce c.self.invariant c.in-Ok-Change.ensures.ok.1
+    kept_keying c.self.inside.config c.self.inside.secret c.self.inside.print c.self.inside.keys c.self.inside.startup c.apply_initiator_keying.new.self c.self.inside.sessions.items c.reserve.new.self.items
+    c.args.fields.now.payload.now c.args.from.now c.self.inside.moment c.free_from-near.result c.args.draws.now.nonce c.self.invariant c.in-Ok-Change.ensures.ok.1
     (subst (λ (rows : List SessionState). len (table_of rows) ≡ length rows) (sym c.reserve.ensures.items) c.self.invariant.distinct)
 
 pub invariant_of-self-in-Ok-Again : goal.invariant_of-self-in-Ok-Again
 invariant_of-self-in-Ok-Again c =
-    kept_keying c.self.inside.config c.self.inside.secret c.self.inside.print c.self.inside.keys c.self.inside.startup c.initiator_keying.new.self c.self.inside.sessions.items c.reserve.new.self.items
-    c.args.payload.now c.args.from.now c.self.inside.moment c.free_from-near.result c.args.draws.now.nonce c.self.invariant c.in-Ok-Again.ensures.ok.1
+    kept_keying c.self.inside.config c.self.inside.secret c.self.inside.print c.self.inside.keys c.self.inside.startup c.apply_initiator_keying.new.self c.self.inside.sessions.items c.reserve.new.self.items
+    c.args.fields.now.payload.now c.args.from.now c.self.inside.moment c.free_from-near.result c.args.draws.now.nonce c.self.invariant c.in-Ok-Again.ensures.ok.1
     (subst (λ (rows : List SessionState). len (table_of rows) ≡ length rows) (sym c.reserve.ensures.items) c.self.invariant.distinct)
 
 pub invariant_of-self-in-Ok-Birth : goal.invariant_of-self-in-Ok-Birth
 invariant_of-self-in-Ok-Birth c =
-    kept_keying c.self.inside.config c.self.inside.secret c.self.inside.print c.self.inside.keys c.self.inside.startup c.initiator_keying.new.self c.self.inside.sessions.items c.keep_born.new.sessions.items
-    c.args.payload.now c.args.from.now c.self.inside.moment c.free_from-near.result c.args.draws.now.nonce c.self.invariant c.in-Ok-Birth.ensures.ok.1 c.keep_born.ensures.distinct
+    kept_keying c.self.inside.config c.self.inside.secret c.self.inside.print c.self.inside.keys c.self.inside.startup c.apply_initiator_keying.new.self c.self.inside.sessions.items c.keep_born.new.sessions.items
+    c.args.fields.now.payload.now c.args.from.now c.self.inside.moment c.free_from-near.result c.args.draws.now.nonce c.self.invariant c.in-Ok-Birth.ensures.ok.1 c.keep_born.ensures.distinct
 
 pub returns-in-Ok-Birth-clause-ok : goal.returns-in-Ok-Birth-clause-ok
 returns-in-Ok-Birth-clause-ok c =
     let v : State = state_of c.self.inside.config c.self.inside.moment c.self.inside.sealed c.self.inside.startup c.self.inside.sessions.items in
-    let t : State = state_of c.self.inside.config c.self.inside.moment c.self.inside.sealed c.initiator_keying.new.self c.reserve.new.self.items in
+    let t : State = state_of c.self.inside.config c.self.inside.moment c.self.inside.sealed c.apply_initiator_keying.new.self c.reserve.new.self.items in
     let k : Keyed = Birth c.in-Ok-Birth.ended c.in-Ok-Birth.born c.in-Ok-Birth.answer in
-    let kept : IsEndpoint c.self.inside.config c.self.inside.secret c.self.inside.print c.self.inside.keys c.initiator_keying.new.self c.keep_born.new.sessions.items =
-    kept_keying c.self.inside.config c.self.inside.secret c.self.inside.print c.self.inside.keys c.self.inside.startup c.initiator_keying.new.self c.self.inside.sessions.items c.keep_born.new.sessions.items
-    c.args.payload.now c.args.from.now c.self.inside.moment c.free_from-near.result c.args.draws.now.nonce c.self.invariant c.in-Ok-Birth.ensures.ok.1 c.keep_born.ensures.distinct in
-    let is : keyed c.self.inside.startup c.args.payload.now c.args.from.now c.self.inside.moment c.free_from-near.result c.args.draws.now.nonce ≡ Some k =
+    let kept : IsEndpoint c.self.inside.config c.self.inside.secret c.self.inside.print c.self.inside.keys c.apply_initiator_keying.new.self c.keep_born.new.sessions.items =
+    kept_keying c.self.inside.config c.self.inside.secret c.self.inside.print c.self.inside.keys c.self.inside.startup c.apply_initiator_keying.new.self c.self.inside.sessions.items c.keep_born.new.sessions.items
+    c.args.fields.now.payload.now c.args.from.now c.self.inside.moment c.free_from-near.result c.args.draws.now.nonce c.self.invariant c.in-Ok-Birth.ensures.ok.1 c.keep_born.ensures.distinct in
+    let is : keyed c.self.inside.startup c.args.fields.now.payload.now c.args.from.now c.self.inside.moment c.free_from-near.result c.args.draws.now.nonce ≡ Some k =
     c.in-Ok-Birth.ensures.ok.0 ∙ ap (λ (x : Keyed). Some x) c.in-Ok-Birth.field-0-is in
     let entries : List Entry = fact_entries c.in-Ok-Birth.ended ++ FactEntry c.in-Ok-Birth.born ∷ [] in
     let added : IsAdded c.args.out.now c.add.new.self entries =
@@ -46,14 +46,14 @@ returns-in-Ok-Birth-clause-ok c =
     (c.add_fact.ensures.entries ∙ ap (λ xs. xs ++ fact_entries c.in-Ok-Birth.ended) c.make_room.ensures.entries)
     (omega (arith, c.add_fact.ensures.free, c.make_room.ensures.free)) (c.add_fact.ensures.room ∙ c.make_room.ensures.room)
     c.add.ensures.entries c.add.ensures.free c.add.ensures.room in
-    let put = startup_put c.self.inside.config c.self.inside.moment c.self.inside.sealed c.self.inside.startup c.initiator_keying.new.self
-    (after_keying c.self.inside.startup c.args.payload.now c.args.from.now c.self.inside.moment c.free_from-near.result c.args.draws.now.nonce)
+    let put = startup_put c.self.inside.config c.self.inside.moment c.self.inside.sealed c.self.inside.startup c.apply_initiator_keying.new.self
+    (after_keying c.self.inside.startup c.args.fields.now.payload.now c.args.from.now c.self.inside.moment c.free_from-near.result c.args.draws.now.nonce)
     c.self.inside.sessions.items c.reserve.new.self.items c.reserve.ensures.items c.in-Ok-Birth.ensures.ok.1 in
-    let bore = born_state c.self.inside.config c.self.inside.moment c.self.inside.sealed c.initiator_keying.new.self c.reserve.new.self.items c.keep_born.new.sessions.items
+    let bore = born_state c.self.inside.config c.self.inside.moment c.self.inside.sealed c.apply_initiator_keying.new.self c.reserve.new.self.items c.keep_born.new.sessions.items
     c.in-Ok-Birth.ended c.in-Ok-Birth.born c.args.from.now c.self.inside.print c.self.inside.secret kept.print_is kept.secret_is c.keep_born.ensures.table in
     let sent : Done (sent_answer (with_born t c.in-Ok-Birth.ended c.in-Ok-Birth.born c.args.from.now) c.in-Ok-Birth.answer) c.send_answer-in-Ok-Birth.new.self c.add.new.self c.send_answer-in-Ok-Birth.new.out =
     subst (λ (u : State). Done (sent_answer u c.in-Ok-Birth.answer) c.send_answer-in-Ok-Birth.new.self c.add.new.self c.send_answer-in-Ok-Birth.new.out) bore c.send_answer-in-Ok-Birth.ensures in
-    subst (λ (s : State). Done (initiator_keyed s c.args.from.now c.args.draws.now c.args.payload.now) c.send_answer-in-Ok-Birth.new.self c.args.out.now c.send_answer-in-Ok-Birth.new.out) c.self.view_is
-    (keyed_so v t c.args.from.now c.args.draws.now c.args.payload.now c.free_from-near.result k c.send_answer-in-Ok-Birth.new.self c.args.out.now c.send_answer-in-Ok-Birth.new.out
+    subst (λ (s : State). Done (initiator_keyed s c.args.from.now c.args.draws.now c.args.fields.now.payload.now) c.send_answer-in-Ok-Birth.new.self c.args.out.now c.send_answer-in-Ok-Birth.new.out) c.self.view_is
+    (keyed_so v t c.args.from.now c.args.draws.now c.args.fields.now.payload.now c.free_from-near.result k c.send_answer-in-Ok-Birth.new.self c.args.out.now c.send_answer-in-Ok-Birth.new.out
     (c.free_from-near.ensures ∙ ap (λ (s : State). free_from s c.args.draws.now.word) (sym c.self.view_is)) is put
     (added_first entries (sent_answer (with_born t c.in-Ok-Birth.ended c.in-Ok-Birth.born c.args.from.now) c.in-Ok-Birth.answer) c.send_answer-in-Ok-Birth.new.self c.args.out.now c.add.new.self c.send_answer-in-Ok-Birth.new.out added sent))

@@ -1,39 +1,35 @@
 use Rattle.std.proofs.Common.{◌≡◌, ◌++◌, ◌∷◌, [], Some, None, ap, ◌∙◌, subst, arith}
-use Rattle.std.specs.FinMap.{contains_key}
 use Rattle.rtmfp_chunks.specs.Chunk.{Ping}
-use Rattle.startup.specs.Keyings.{rikeying_cause, opened, after_opening}
 use Rattle.rtmfp_chunks.specs.Writing.{chunk_bytes}
+use Rattle.startup.specs.Keyings.{opened, after_opening}
 use Rattle.endpoint_model.specs.declared.entry.Entry.TheVariants.{Fact as FactEntry}
 use Rattle.endpoint_model.specs.Due.{responder_keyed, with_opened}
-use Rattle.endpoint_model.specs.Causes.{responder_keying_cause}
 use Rattle.endpoint.specs.Kept.{IsEndpoint, state_of}
 use Rattle.endpoint_model.specs.Sending.{sent_in_session}
 use Rattle.endpoint_model.specs.State.{State, Done, with_startup}
-use Rattle.endpoint.proofs.Begun.{kept_opening, no_cause, when_none, startup_put, opened_state, opened_so, added_first, IsAdded}
+use Rattle.endpoint.proofs.Begun.{kept_opening, startup_put, opened_state, opened_so, added_first, IsAdded}
 use Rattle.endpoint.proofs.endpoint.Endpoint.responder_keyed.Goals as goal
 
 pub returns-clause-ok : goal.returns-clause-ok
 returns-clause-ok c =
     let v : State = state_of c.self.inside.config c.self.inside.moment c.self.inside.sealed c.self.inside.startup c.self.inside.sessions.items in
-    let none : rikeying_cause c.self.inside.startup c.args.near c.args.payload.now ≡ None =
-    no_cause (contains_key c.self.inside.startup.attempts c.args.near) (rikeying_cause c.self.inside.startup c.args.near c.args.payload.now)
-    (ap (λ (s : State). responder_keying_cause s c.args.near c.args.payload.now) c.self.view_is ∙ c.requires) in
-    let h : (opened c.self.inside.startup c.args.near c.args.payload.now ≡ Some c.in-Ok.fact) × (c.responder_keying.new.self ≡ after_opening c.self.inside.startup c.args.near c.in-Ok.fact) =
-    when_none (rikeying_cause c.self.inside.startup c.args.near c.args.payload.now) none c.in-Ok.ensures.ok in
-    let t : State = state_of c.self.inside.config c.self.inside.moment c.self.inside.sealed c.responder_keying.new.self c.keep_opened.new.sessions.items in
-    let u : State = state_of c.self.inside.config c.self.inside.moment c.self.inside.sealed c.responder_keying.new.self c.reserve.new.self.items in
-    let kept : IsEndpoint c.self.inside.config c.self.inside.secret c.self.inside.print c.self.inside.keys c.responder_keying.new.self c.keep_opened.new.sessions.items =
-    kept_opening c.self.inside.config c.self.inside.secret c.self.inside.print c.self.inside.keys c.self.inside.startup c.responder_keying.new.self c.self.inside.sessions.items c.keep_opened.new.sessions.items
-    c.args.near c.in-Ok.fact c.self.invariant h.1 c.keep_opened.ensures.distinct in
-    let put : u ≡ with_startup v (after_opening c.self.inside.startup c.args.near c.in-Ok.fact) =
-    startup_put c.self.inside.config c.self.inside.moment c.self.inside.sealed c.self.inside.startup c.responder_keying.new.self
-    (after_opening c.self.inside.startup c.args.near c.in-Ok.fact) c.self.inside.sessions.items c.reserve.new.self.items c.reserve.ensures.items h.1 in
-    let opens : t ≡ with_opened u c.args.near c.in-Ok.fact c.args.from.now =
-    opened_state c.self.inside.config c.self.inside.moment c.self.inside.sealed c.responder_keying.new.self c.self.inside.startup c.reserve.new.self.items c.keep_opened.new.sessions.items
-    c.args.near c.in-Ok.fact c.args.from.now c.args.payload.now c.self.inside.print c.self.inside.secret h.0 kept.print_is kept.secret_is c.keep_opened.ensures.table in
-    let added : IsAdded c.args.out.now c.add.new.self (FactEntry c.in-Ok.fact ∷ []) =
-    record { entries_are = c.add.ensures.entries ∙ ap (λ xs. xs ++ FactEntry c.in-Ok.fact ∷ []) c.make_room.ensures.entries; free = omega (arith, c.add.ensures.free, c.make_room.ensures.free); room = c.add.ensures.room ∙ c.make_room.ensures.room } in
-    subst (λ (s : State). Done (responder_keyed s c.args.near c.args.from.now c.args.payload.now) c.send_in_session.new.self c.args.out.now c.send_in_session.new.out) c.self.view_is
-    (opened_so v t c.args.near c.args.from.now c.args.payload.now c.in-Ok.fact c.send_in_session.new.self c.args.out.now c.send_in_session.new.out h.0
-    (opens ∙ ap (λ (s : State). with_opened s c.args.near c.in-Ok.fact c.args.from.now) put)
-    (added_first (FactEntry c.in-Ok.fact ∷ []) (sent_in_session t c.args.near c.args.from.now (chunk_bytes (Ping []))) c.send_in_session.new.self c.args.out.now c.add.new.self c.send_in_session.new.out added c.send_in_session.ensures))
+    let h : (opened c.self.inside.startup c.args.near c.args.fields.now.payload.now ≡ Some c.apply_responder_keying-fact.result) ×
+    (c.apply_responder_keying-fact.new.self ≡ after_opening c.self.inside.startup c.args.near c.apply_responder_keying-fact.result) =
+    (c.apply_responder_keying-fact.ensures.fact, c.apply_responder_keying-fact.ensures.after) in
+    let t : State = state_of c.self.inside.config c.self.inside.moment c.self.inside.sealed c.apply_responder_keying-fact.new.self c.keep_opened.new.sessions.items in
+    let u : State = state_of c.self.inside.config c.self.inside.moment c.self.inside.sealed c.apply_responder_keying-fact.new.self c.reserve.new.self.items in
+    let kept : IsEndpoint c.self.inside.config c.self.inside.secret c.self.inside.print c.self.inside.keys c.apply_responder_keying-fact.new.self c.keep_opened.new.sessions.items =
+    kept_opening c.self.inside.config c.self.inside.secret c.self.inside.print c.self.inside.keys c.self.inside.startup c.apply_responder_keying-fact.new.self c.self.inside.sessions.items c.keep_opened.new.sessions.items
+    c.args.near c.apply_responder_keying-fact.result c.self.invariant h.1 c.keep_opened.ensures.distinct in
+    let put : u ≡ with_startup v (after_opening c.self.inside.startup c.args.near c.apply_responder_keying-fact.result) =
+    startup_put c.self.inside.config c.self.inside.moment c.self.inside.sealed c.self.inside.startup c.apply_responder_keying-fact.new.self
+    (after_opening c.self.inside.startup c.args.near c.apply_responder_keying-fact.result) c.self.inside.sessions.items c.reserve.new.self.items c.reserve.ensures.items h.1 in
+    let opens : t ≡ with_opened u c.args.near c.apply_responder_keying-fact.result c.args.from.now =
+    opened_state c.self.inside.config c.self.inside.moment c.self.inside.sealed c.apply_responder_keying-fact.new.self c.self.inside.startup c.reserve.new.self.items c.keep_opened.new.sessions.items
+    c.args.near c.apply_responder_keying-fact.result c.args.from.now c.args.fields.now.payload.now c.self.inside.print c.self.inside.secret h.0 kept.print_is kept.secret_is c.keep_opened.ensures.table in
+    let added : IsAdded c.args.out.now c.add.new.self (FactEntry c.apply_responder_keying-fact.result ∷ []) =
+    record { entries_are = c.add.ensures.entries ∙ ap (λ xs. xs ++ FactEntry c.apply_responder_keying-fact.result ∷ []) c.make_room.ensures.entries; free = omega (arith, c.add.ensures.free, c.make_room.ensures.free); room = c.add.ensures.room ∙ c.make_room.ensures.room } in
+    subst (λ (s : State). Done (responder_keyed s c.args.near c.args.from.now c.args.fields.now.payload.now) c.send_in_session.new.self c.args.out.now c.send_in_session.new.out) c.self.view_is
+    (opened_so v t c.args.near c.args.from.now c.args.fields.now.payload.now c.apply_responder_keying-fact.result c.send_in_session.new.self c.args.out.now c.send_in_session.new.out h.0
+    (opens ∙ ap (λ (s : State). with_opened s c.args.near c.apply_responder_keying-fact.result c.args.from.now) put)
+    (added_first (FactEntry c.apply_responder_keying-fact.result ∷ []) (sent_in_session t c.args.near c.args.from.now (chunk_bytes (Ping []))) c.send_in_session.new.self c.args.out.now c.add.new.self c.send_in_session.new.out added c.send_in_session.ensures))

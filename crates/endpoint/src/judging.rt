@@ -1,0 +1,344 @@
+//! One look at a chunk: why it is discarded, or what it would do. Nothing changes here, and no
+//! memory is taken.
+
+ghost use Rattle.std.specs.Prelude.{◌≡◌, IfErr, IfOk, None, Ok, Some, length, nat_lt};
+ghost use Rattle.glare_core.specs.Calls.{where_true};
+ghost use Rattle.rtmfp_forms.specs.Address.{AddressParts};
+ghost use Rattle.rtmfp_chunks.specs.Chunk.{chunk_of, kind_of};
+ghost use Rattle.rtmfp_chunks.specs.FieldReading.{chunk_reading};
+ghost use Rattle.rtmfp_packet.specs.Chunks.{shown};
+ghost use Rattle.startup.specs.Keyings.{keying_fault};
+ghost use Rattle.endpoint_model.specs.Admission.{sid_at};
+ghost use Rattle.endpoint_model.specs.Due.{effect, initiator_keyed, read_done, responder_keyed};
+ghost use Rattle.endpoint_model.specs.Causes.{chunk_cause, initiator_keying_cause, is_known};
+ghost use Rattle.endpoint_model.specs.Causes.{read_cause, read_fault, responder_keying_cause};
+ghost use Rattle.endpoint_model.specs.Causes.{takes, view_fault};
+ghost use Rattle.endpoint.specs.Judging.{known_cause, Stands};
+
+use crate::endpoint::Endpoint;
+use endpoint_model::{Place, Walk};
+use identity::Certificate;
+use rtmfp_chunks::{ChunkFault, ChunkView, read_chunk};
+use rtmfp_forms::Address;
+use rtmfp_packet::RawChunk;
+use startup::{
+    Cause, Hearing, InitiatorFields, ResponderFields, read_initiator_keying, read_responder_keying,
+};
+
+/// The types of chunks (RFC 7016 section 2.3).
+const IHELLO: u8 = 0x30;
+
+const FIHELLO: u8 = 0x0f;
+
+const RHELLO: u8 = 0x70;
+
+const COOKIE_CHANGE: u8 = 0x79;
+
+pub(crate) const IIKEYING: u8 = 0x38;
+
+const RIKEYING: u8 = 0x78;
+
+const PING: u8 = 0x01;
+
+const PING_REPLY: u8 = 0x41;
+
+const FRAGMENT: u8 = 0x7f;
+
+/// The most bytes of a ping that is answered (own).
+const PING_LIMIT: usize = 1024;
+
+/// A chunk that isn't discarded, as it was read, with what was found of it.
+#[derive(Drop)]
+pub(crate) enum Verdict<'a> {
+    /// The hello of an initiator with this tag, which is answered to an address.
+    Hello {
+        tag: &'a [u8],
+        to: Address,
+    },
+    /// The hello of a responder, which answers an attempt.
+    ResponderHello {
+        tag: &'a [u8],
+        cookie: &'a [u8],
+        cert: &'a [u8],
+    },
+    /// A change of the cookie of an attempt.
+    CookieChange {
+        old: &'a [u8],
+        new: &'a [u8],
+    },
+    /// The keying of an initiator, and what hearing it would be.
+    InitiatorKeying {
+        fields: InitiatorFields<'a>,
+        hearing: Hearing,
+    },
+    /// The keying of a responder, and the peer of the attempt that it opens.
+    ResponderKeying {
+        fields: ResponderFields<'a>,
+        peer: [u8; 32],
+    },
+    /// A ping, which is answered.
+    Ping {
+        bytes: &'a [u8],
+    },
+    /// A chunk that does nothing, as an answer to a ping.
+    Quiet,
+}
+
+/// Whether an end reads chunks of this type.
+fn is_known(kind: u8) -> bool
+    ensures { result ≡ is_known kind }
+{
+    kind == IHELLO
+        || kind == FIHELLO
+        || kind == RHELLO
+        || kind == COOKIE_CHANGE
+        || kind == IIKEYING
+        || kind == RIKEYING
+        || kind == PING
+        || kind == PING_REPLY
+        || kind == FRAGMENT
+}
+
+/// Whether a place takes chunks of this type.
+fn takes(place: Place, kind: u8) -> bool
+    ensures { result ≡ takes place kind }
+{
+    match place {
+        Place::Startup => {
+            kind == IHELLO || kind == RHELLO || kind == COOKIE_CHANGE || kind == IIKEYING
+        }
+        Place::Attempt(_) => kind == COOKIE_CHANGE || kind == RIKEYING,
+        Place::Session(_) => kind == FIHELLO || kind == PING || kind == PING_REPLY,
+    }
+}
+
+/// The session ID of a place.
+pub(crate) fn sid_at(place: Place) -> u32
+    ensures { result ≡ sid_at place }
+{
+    match place {
+        Place::Startup => 0,
+        Place::Attempt(near) => near,
+        Place::Session(near) => near,
+    }
+}
+
+/// Why the certificate of a responder's hello, which ends a payload of this length, isn't one.
+fn view_fault(len: usize, view: &ChunkView<'_>) -> Option<Cause>
+    ensures { result ≡ view_fault len (chunk_of view.now) }
+{
+    match view {
+        ChunkView::RHello { cert, .. } => match Certificate::read(cert) {
+            Ok(_) => None,
+            Err(_) => Some(Cause::Malformed(len.saturating_sub(cert.len()) as u64)),
+        },
+        _ => None,
+    }
+}
+
+/// The fields of a chunk that is no keying, or why one of them or its certificate can't be read.
+fn read_formed(kind: u8, payload: &[u8]) -> Result<ChunkView<'_>, Cause>
+    ensures reads { IfOk result (λ view. chunk_reading kind payload.now ≡ Ok (chunk_of view)) }
+    ensures kind { IfOk result (λ view. kind_of (chunk_of view) ≡ kind) }
+    ensures none { IfOk result (λ _. read_fault (length payload.now) (chunk_reading kind payload.now)
+        ≡ None) }
+    ensures refused { IfErr result (λ cause. read_fault (length payload.now) (chunk_reading kind payload.now)
+        ≡ Some cause) }
+{
+    match read_chunk(kind, payload) {
+        Ok(view) => match view_fault(payload.len(), &view) {
+            Some(cause) => Err(cause),
+            None => Ok(view),
+        },
+        Err(ChunkFault::Malformed(at)) => Err(Cause::Malformed(at as u64)),
+        Err(ChunkFault::Unknown(kind)) => Err(Cause::UnknownChunk(kind)),
+    }
+}
+
+/// A ping that is too long to be answered.
+fn ping_cause(bytes: &[u8]) -> Option<Cause>
+    ensures { result ≡ where_true (nat_lt 1024 (length bytes.now)) (Cause.Wide (length bytes.now)) }
+{
+    if bytes.len() > PING_LIMIT {
+        Some(Cause::Wide(bytes.len() as u64))
+    } else {
+        None
+    }
+}
+
+impl Endpoint {
+    /// What a chunk does that is no keying, or why it is discarded.
+    fn judge_view<'a>(
+        &self,
+        place: Place,
+        from: &Address,
+        view: ChunkView<'a>,
+    ) -> Result<Verdict<'a>, Cause>
+        ensures ok { IfOk result (Stands self.now place from.now
+            (λ _. read_done self.now place from.now (Ok (chunk_of view.entry)))) }
+        ensures none { IfOk result (λ _. read_cause self.now place (Ok (chunk_of view.entry)) ≡ None) }
+        ensures refused { IfErr result (λ cause. read_cause self.now place (Ok (chunk_of view.entry))
+            ≡ Some cause) }
+        ensures quiet { kind_of (chunk_of view.entry) ≡ 0x41 →
+            IfOk result (λ verdict. verdict ≡ Verdict.Quiet) }
+    {
+        match view {
+            ChunkView::IHello { epd, tag } => {
+                match self.startup.initiator_hello_cause(epd, tag) {
+                    Some(cause) => Err(cause),
+                    None => Ok(Verdict::Hello { tag, to: *from }),
+                }
+            }
+            ChunkView::FIHello { epd, reply, tag } => {
+                match self.startup.initiator_hello_cause(epd, tag) {
+                    Some(cause) => Err(cause),
+                    None => Ok(Verdict::Hello { tag, to: reply }),
+                }
+            }
+            ChunkView::RHello { tag, cookie, cert } => {
+                match self.startup.judge_responder_hello(tag, cookie, cert) {
+                    Ok(_) => Ok(Verdict::ResponderHello { tag, cookie, cert }),
+                    Err(cause) => Err(cause),
+                }
+            }
+            ChunkView::CookieChange { old, new } => {
+                match self.startup.judge_cookie_change(sid_at(place), old, new) {
+                    Ok(_) => Ok(Verdict::CookieChange { old, new }),
+                    Err(cause) => Err(cause),
+                }
+            }
+            ChunkView::Ping { bytes } => match ping_cause(bytes) {
+                Some(cause) => Err(cause),
+                None => Ok(Verdict::Ping { bytes }),
+            },
+            _ => Ok(Verdict::Quiet),
+        }
+    }
+
+    /// What an initiator's keying does, or why it is discarded.
+    fn judge_initiator<'a>(
+        &self,
+        place: Place,
+        walk: Walk,
+        from: &Address,
+        payload: &'a [u8],
+    ) -> Result<Verdict<'a>, Cause>
+        ensures ok { IfOk result (Stands self.now place from.now
+            (λ draws. initiator_keyed self.now from.now draws payload.now)) }
+        ensures none { IfOk result (λ _. known_cause place 0x38 (keying_fault 0x38 payload.now)
+            (initiator_keying_cause self.now walk from.now payload.now) ≡ None) }
+        ensures refused { IfErr result (λ cause. known_cause place 0x38 (keying_fault 0x38 payload.now)
+            (initiator_keying_cause self.now walk from.now payload.now) ≡ Some cause) }
+    {
+        let fields = match read_initiator_keying(payload) {
+            Ok(fields) => fields,
+            Err(cause) => return Err(cause),
+        };
+        if !takes(place, IIKEYING) {
+            return Err(Cause::WrongPlace);
+        }
+        if walk.keyed {
+            return Err(Cause::SecondKeying);
+        }
+        match self
+            .startup
+            .judge_initiator_keying(&fields, from, self.moment, self.full())
+        {
+            Ok(hearing) => Ok(Verdict::InitiatorKeying { fields, hearing }),
+            Err(cause) => Err(cause),
+        }
+    }
+
+    /// What a responder's keying does, or why it is discarded. Once its session is open the attempt
+    /// isn't there any more.
+    fn judge_responder<'a>(&self, place: Place, payload: &'a [u8]) -> Result<Verdict<'a>, Cause>
+        ensures ok { IfOk result (λ verdict. (from : AddressParts) → Stands self.now place from
+            (λ _. responder_keyed self.now (sid_at place) from payload.now) verdict) }
+        ensures none { IfOk result (λ _. known_cause place 0x78 (keying_fault 0x78 payload.now)
+            (responder_keying_cause self.now (sid_at place) payload.now) ≡ None) }
+        ensures refused { IfErr result (λ cause. known_cause place 0x78 (keying_fault 0x78 payload.now)
+            (responder_keying_cause self.now (sid_at place) payload.now) ≡ Some cause) }
+    {
+        let fields = match read_responder_keying(payload) {
+            Ok(fields) => fields,
+            Err(cause) => return Err(cause),
+        };
+        if !takes(place, RIKEYING) {
+            return Err(Cause::WrongPlace);
+        }
+        let near = sid_at(place);
+        if !self.startup.has_attempt(near) {
+            return Err(Cause::NoAttempt);
+        }
+        match self.startup.judge_responder_keying(near, &fields) {
+            Ok(peer) => Ok(Verdict::ResponderKeying { fields, peer }),
+            Err(cause) => Err(cause),
+        }
+    }
+
+    /// What a chunk of a known type does that is no keying, or why it is discarded.
+    fn judge_other<'a>(
+        &self,
+        place: Place,
+        from: &Address,
+        chunk: &RawChunk<'a>,
+    ) -> Result<Verdict<'a>, Cause>
+        ensures ok { IfOk result (Stands self.now place from.now (λ _. read_done self.now place
+            from.now (chunk_reading chunk.now.kind chunk.now.payload.now))) }
+        ensures none { IfOk result (λ _. known_cause place chunk.now.kind
+            (read_fault (length chunk.now.payload.now)
+            (chunk_reading chunk.now.kind chunk.now.payload.now))
+            (read_cause self.now place (chunk_reading chunk.now.kind chunk.now.payload.now))
+            ≡ None) }
+        ensures refused { IfErr result (λ cause. known_cause place chunk.now.kind
+            (read_fault (length chunk.now.payload.now)
+            (chunk_reading chunk.now.kind chunk.now.payload.now))
+            (read_cause self.now place (chunk_reading chunk.now.kind chunk.now.payload.now))
+            ≡ Some cause) }
+        ensures quiet { chunk.now.kind ≡ 0x41 →
+            IfOk result (λ verdict. verdict ≡ Verdict.Quiet) }
+    {
+        let view = match read_formed(chunk.kind, chunk.payload) {
+            Ok(view) => view,
+            Err(cause) => return Err(cause),
+        };
+        if chunk.kind == FRAGMENT {
+            return Err(Cause::Fragment);
+        }
+        if !takes(place, chunk.kind) {
+            return Err(Cause::WrongPlace);
+        }
+        self.judge_view(place, from, view)
+    }
+
+    /// What a chunk does, which came from an address after the walk over those before it; or why it
+    /// is discarded.
+    pub(crate) fn judge<'a>(
+        &self,
+        place: Place,
+        walk: Walk,
+        from: &Address,
+        chunk: &RawChunk<'a>,
+    ) -> Result<Verdict<'a>, Cause>
+        ensures ok { IfOk result (Stands self.now place from.now
+            (λ draws. effect self.now place from.now draws (shown chunk.now))) }
+        ensures none { IfOk result (λ _. chunk_cause self.now place walk from.now
+            (shown chunk.now) ≡ None) }
+        ensures refused { IfErr result (λ cause. chunk_cause self.now place walk from.now
+            (shown chunk.now) ≡ Some cause) }
+        // An answer to a ping does nothing.
+        ensures quiet { chunk.now.kind ≡ 0x41 →
+            IfOk result (λ verdict. verdict ≡ Verdict.Quiet) }
+    {
+        if !is_known(chunk.kind) {
+            return Err(Cause::UnknownChunk(chunk.kind));
+        }
+        if chunk.kind == IIKEYING {
+            return self.judge_initiator(place, walk, from, chunk.payload);
+        }
+        if chunk.kind == RIKEYING {
+            return self.judge_responder(place, chunk.payload);
+        }
+        self.judge_other(place, from, chunk)
+    }
+}
