@@ -23,56 +23,11 @@ use Rattle.rendezvous_world.specs.Draws.{draws_of}
 use Rattle.rendezvous_world.specs.Entering.{event_by}
 use Rattle.rendezvous_world.specs.History.{number_started, answer_to_datagram}
 
--- An event with all that an outbox has, where it had nothing before.
-all_added : (s t : State) (moment : ℕ) (call : Call) (answer : Answer) (before after : List Entry) → before ≡ [] → StepOf s (event moment call answer before after) t →
-    StepOf s (record { moment = moment; call = call; answer = answer; entries = after }) t
-all_added s t moment call answer before after empty step =
-    subst (λ (es : List Entry). Answers (at_moment s moment) call answer es t) (ap (λ (b : List Entry). drop (length b) after) empty) step
-
 -- the number of an attempt is that of its Started
 number_of : (s t : State) (peer : List ℕ) (candidates : List AddressParts) (draws : Draws) (n : ℕ) (before after : Added) → before.entries ≡ [] →
     n ≡ s.startup.ledger.started + 1 → Done (opening s peer candidates draws) t before after → n ≡ number_started after.entries
 number_of s t peer candidates draws n before after empty number done =
     number ∙ sym (ap number_started (done.entries ∙ ap (λ (es : List Entry). es ++ (opening s peer candidates draws).entries) empty))
-
-pub opened_event : (s t : State) (moment : ℕ) (peer : List ℕ) (candidates : List AddressParts) (draws : Draws) (r : Result ℕ OpenRefusal) (n : ℕ) (before after : Added) → before.entries ≡ [] → r ≡ Ok n →
-    IfOk r (λ n. n ≡ s.startup.ledger.started + 1) → OnOk r (Done (opening (at_moment s moment) peer candidates draws) t before after) →
-    IfSome (open_refusal (at_moment s moment) peer candidates) (λ refusal. r ≡ Err refusal) →
-    IfNone (open_refusal (at_moment s moment) peer candidates) (IfErr r (λ refusal. refusal ≡ NoMemoryToOpen)) → OnErr r (Done (nothing (at_moment s moment)) t before after) →
-    StepOf s (record { moment = moment; call = Open peer candidates draws; answer = Began (number_started after.entries); entries = after.entries }) t
-opened_event s t moment peer candidates draws (Err refusal) n before after empty is number ok refused memory err = absurd (cc)
-opened_event s t moment peer candidates draws (Ok m) n before after empty is number ok refused memory err =
-    let same : m ≡ number_started after.entries = number_of (at_moment s moment) t peer candidates draws m before after empty number ok in
-    subst (λ (k : ℕ). Answers (at_moment s moment) (Open peer candidates draws) (Began k) after.entries t) same
-    (all_added s t moment (Open peer candidates draws) (Began m) before.entries after.entries empty (open_steps s t moment peer candidates draws (Ok m) before after number ok refused memory err))
-
-pub unopened_event : (s t : State) (moment : ℕ) (peer : List ℕ) (candidates : List AddressParts) (draws : Draws) (r : Result ℕ OpenRefusal) (refusal : OpenRefusal) (before after : Added) → before.entries ≡ [] → r ≡ Err refusal →
-    IfOk r (λ n. n ≡ s.startup.ledger.started + 1) → OnOk r (Done (opening (at_moment s moment) peer candidates draws) t before after) →
-    IfSome (open_refusal (at_moment s moment) peer candidates) (λ x. r ≡ Err x) →
-    IfNone (open_refusal (at_moment s moment) peer candidates) (IfErr r (λ x. x ≡ NoMemoryToOpen)) → OnErr r (Done (nothing (at_moment s moment)) t before after) →
-    StepOf s (record { moment = moment; call = Open peer candidates draws; answer = answer_of_open r; entries = after.entries }) t
-unopened_event s t moment peer candidates draws r refusal before after empty is number ok refused memory err =
-    all_added s t moment (Open peer candidates draws) (answer_of_open r) before.entries after.entries empty (open_steps s t moment peer candidates draws r before after number ok refused memory err)
-
-pub cancel_event_of : (s t : State) (n : ℕ) (r : Result (Unit {0}) CallRefusal) (before after : Added) → before.entries ≡ [] →
-    OnOk r (Done (cancelling s n) t before after) → IfNone (cancel_fact s.startup n) (r ≡ Err NoAttempt) →
-    IfSome (cancel_fact s.startup n) (λ _. IfErr r (λ refusal. refusal ≡ NoMemory)) → OnErr r (Done (nothing s) t before after) →
-    StepOf s (record { moment = 0; call = Cancel n; answer = answer_of_cancel r; entries = after.entries }) t
-cancel_event_of s t n r before after empty ok refused memory err =
-    all_added s t 0 (Cancel n) (answer_of_cancel r) before.entries after.entries empty (cancel_steps s t n r before after ok refused memory err)
-
-pub tick_event_of : (s t : State) (moment : ℕ) (draws : Draws) (r : Result (Unit {0}) Memory) (before after : Added) → before.entries ≡ [] →
-    (count : ℕ) × Done (ticks count (at_moment s moment)) t before after → OnOk r (first_due t ≡ None) →
-    StepOf s (record { moment = moment; call = Tick draws; answer = answer_of_tick r; entries = after.entries }) t
-tick_event_of s t moment draws r before after empty some all =
-    all_added s t moment (Tick draws) (answer_of_tick r) before.entries after.entries empty (tick_steps s t moment draws r before after some all)
-
-pub receive_event_of : (s t : State) (moment : ℕ) (from : AddressParts) (datagram : List ℕ) (draws : Draws) (r : Result (Unit {0}) Stop) (before after : Added) → before.entries ≡ [] →
-    OnOk r (Done (received from draws (admission (at_moment s moment) datagram)) t before after) → IfErr r (λ stop. IsStop (admission (at_moment s moment) datagram) stop) →
-    IfErr r (λ stop. Done (stopped (at_moment s moment) from draws (admission (at_moment s moment) datagram) stop) t before after) →
-    StepOf s (record { moment = moment; call = Receive from datagram draws; answer = answer_of_receive r; entries = after.entries }) t
-receive_event_of s t moment from datagram draws r before after empty ok stop stopped =
-    all_added s t moment (Receive from datagram draws) (answer_of_receive r) before.entries after.entries empty (receive_steps s t moment from datagram draws r before after ok stop stopped)
 
 -- the event of a step that brings a datagram
 pub brought : (s t : State) (print : List ℕ) (line moment : ℕ) (step brings : Step) (from : AddressParts) (bytes : List ℕ) (draws : Draws) (refused : Option Refused) (stopped : Option Stop) (entries : List Entry) →

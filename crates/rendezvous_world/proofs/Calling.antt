@@ -349,8 +349,3 @@ called_may w number step line t is below small may called bytes =
 pub called_is_world : (w : Seen) (number : ℕ) (step : Step) (line : JournalLine) (t : Seen) → IsWorld w → AreBelow w.lines number → number < 2 ^ 32 → step_fault w step ≡ None → Called w number step line t →
     AreBytes (bytes_or_none line.datagram) → IsWorld t
 called_is_world w number step line t is below small none called bytes = called_may w number step line t is below small (may_step w step none) called bytes
-
--- a datagram or a tick that found no memory
-pub stopped_is_world : (w : Seen) (number : ℕ) (step : Step) (t : Seen) → IsWorld w → AreBelow w.lines number → number < 2 ^ 32 → step_fault w step ≡ None → (stopped : StoppedIn w number step t) →
-    AreBytes (bytes_or_none stopped.line.datagram) → IsWorld t
-stopped_is_world w number step t is below small none stopped bytes = called_is_world w number step stopped.line t is below small none stopped.called bytes

@@ -20,9 +20,6 @@ pub nth_none : {A : Type 0} (xs : List A) → nth xs 0 ≡ None
 nth_none [] = refl
 nth_none (x ∷ xs) = refl
 
-test_zero : {A : Type 0} (n : ℕ) (x y : A) → n ≡ 0 → (if n == 0 then x else y) ≡ x
-test_zero n x y h = grind (arith, nat_tests)
-
 pub test_other : {A : Type 0} (n m : ℕ) (x y : A) → n ≢ m → (if n == m then x else y) ≡ y
 test_other n m x y h = grind (arith, nat_tests)
 
@@ -122,9 +119,6 @@ before_first lines starts n is none =
 
 pub behind_within : (lines : List JournalLine) (starts : List ℕ) (behind : ℕ) → starts ≡ starts_after 0 lines → behind ≤ length starts → behind ≤ length lines
 behind_within lines starts behind is le = omega (arith, ap (λ (ss : List ℕ). length ss) is, length-starts lines 0)
-
-pub start_below : (starts : List ℕ) (n behind d : ℕ) → (behind ≡ 0 → ⊥) → AllWithin (λ (s : ℕ). nat_lt s n ≡ true) starts 0 behind → get_or starts (behind - 1) d < n
-start_below starts n behind d some before = ltb-true _ n (before (behind - 1) d (omega arith) (omega (arith, some)))
 
 pub found_at : (lines : List JournalLine) (starts : List ℕ) (n behind : ℕ) (line : JournalLine) → starts ≡ starts_after 0 lines → behind ≤ length starts → (behind ≡ 0 → ⊥) →
     AllWithin (λ (s : ℕ). nat_lt s n ≡ true) starts 0 behind → AllWithin (λ (s : ℕ). nat_lt s n ≡ false) starts behind (length starts) →

@@ -24,11 +24,6 @@ first_fault : (a b c d : Bool) → a ≡ true → first_that_stands (where_true 
 first_fault true b c d e = refl
 first_fault false b c d e = absurd (cc)
 
-second_fault : (a b c d : Bool) → a ≡ false → b ≡ true → first_that_stands (where_true a NoEnd ∷ where_true b NoDatagram ∷ where_true c BadStep ∷ where_true d Forged ∷ []) ≡ Some NoDatagram
-second_fault true b c d e f = absurd (cc)
-second_fault false true c d e f = refl
-second_fault false false c d e f = absurd (cc)
-
 third_fault : (a b c d : Bool) → a ≡ false → b ≡ false → c ≡ true → first_that_stands (where_true a NoEnd ∷ where_true b NoDatagram ∷ where_true c BadStep ∷ where_true d Forged ∷ []) ≡ Some BadStep
 third_fault true b c d e f g = absurd (cc)
 third_fault false true c d e f g = absurd (cc)
@@ -53,9 +48,6 @@ module _ (w : Seen) (number : ℕ) (step : Step) where
 
   pub lacking_done : lacks_end w step ≡ true → IsDone w number step (Err NoEnd) w
   lacking_done e = fault_done NoEnd (first_fault (lacks_end w step) (lacks_datagram w step) (is_bad w step) (is_forged w step) e)
-
-  pub absent_done : lacks_end w step ≡ false → lacks_datagram w step ≡ true → IsDone w number step (Err NoDatagram) w
-  absent_done e f = fault_done NoDatagram (second_fault (lacks_end w step) (lacks_datagram w step) (is_bad w step) (is_forged w step) e f)
 
   pub bad_done : lacks_end w step ≡ false → lacks_datagram w step ≡ false → is_bad w step ≡ true → IsDone w number step (Err BadStep) w
   bad_done e f g = fault_done BadStep (third_fault (lacks_end w step) (lacks_datagram w step) (is_bad w step) (is_forged w step) e f g)

@@ -21,12 +21,6 @@ bad_is o fault e bad = subst (λ (q : Option StepFault). IsBadStep q) (sym e) ba
 pub no_end : (o : Option StepFault) (r : Result (Unit {0}) StepFault) (P : Type 0) → r ≡ Err NoEnd → IfSome o (λ f. (r ≡ Err f) × P) → IfNone o (IfErr r (λ f. f ≡ Memory)) → IsBadStep o
 no_end o r P e some none = bad_is o NoEnd (fault_is o r NoEnd P e (λ x. cc) some none) tt
 
-pub no_datagram : (o : Option StepFault) (r : Result (Unit {0}) StepFault) (P : Type 0) → r ≡ Err NoDatagram → IfSome o (λ f. (r ≡ Err f) × P) → IfNone o (IfErr r (λ f. f ≡ Memory)) → IsBadStep o
-no_datagram o r P e some none = bad_is o NoDatagram (fault_is o r NoDatagram P e (λ x. cc) some none) tt
-
-pub bad_step : (o : Option StepFault) (r : Result (Unit {0}) StepFault) (P : Type 0) → r ≡ Err BadStep → IfSome o (λ f. (r ≡ Err f) × P) → IfNone o (IfErr r (λ f. f ≡ Memory)) → IsBadStep o
-bad_step o r P e some none = bad_is o BadStep (fault_is o r BadStep P e (λ x. cc) some none) tt
-
 pub forged : (o : Option StepFault) (r : Result (Unit {0}) StepFault) (P : Type 0) → r ≡ Err Forged → IfSome o (λ f. (r ≡ Err f) × P) → IfNone o (IfErr r (λ f. f ≡ Memory)) → o ≡ Some Forged
 forged o r P e some none = fault_is o r Forged P e (λ x. cc) some none
 
