@@ -112,8 +112,8 @@ one_receive s from datagram draws answer other xs ys t r p q h k = absurd h
 
 one_tick : (s : State) (draws : Draws) (a b : Answer) (xs ys : List Entry) (t r : State) → IsWhole a → IsWhole b → Answers s (TickCall draws) a xs t → Answers s (TickCall draws) b ys r → SameAnswer a b xs ys t r
 one_tick s draws Done Done xs ys t r p q h k =
-    let e : due (ticks h.0.0 s).state.startup (ticks h.0.0 s).state.moment ≡ None = subst (λ (x : State). due x.startup x.moment ≡ None) h.0.1.state h.1 in
-    let f : due (ticks k.0.0 s).state.startup (ticks k.0.0 s).state.moment ≡ None = subst (λ (x : State). due x.startup x.moment ≡ None) k.0.1.state k.1 in
+    let e : first_due (ticks h.0.0 s).state ≡ None = subst (λ (x : State). first_due x ≡ None) h.0.1.state h.1 in
+    let f : first_due (ticks k.0.0 s).state ≡ None = subst (λ (x : State). first_due x ≡ None) k.0.1.state k.1 in
     same_did Done Done (ticks h.0.0 s) (ticks k.0.0 s) xs ys t r refl (ticks_same h.0.0 k.0.0 s e f) h.0.1 k.0.1
 one_tick s draws Done OutOfMemory xs ys t r p q h k = absurd q
 one_tick s draws Done other xs ys t r p q h k = absurd k
