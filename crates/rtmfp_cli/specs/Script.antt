@@ -62,7 +62,7 @@ pub record HasTaken (doing : Doing) (script : List ℕ) (lines : List (List ℕ)
 pub record StopsAt (script : List ℕ) (n : ℕ) (lines : List (List ℕ)) (line : List ℕ) : Type 0 where
   pub more : List (List ℕ)
   pub split : lines_of script ≡ lines ++ line ∷ more
-  pub place : length lines + 1 ≡ n
+  pub number : length lines + 1 ≡ n
 
 -- all lines were done, and the source was read to its end
 pub record AllDone (doing : Doing) (script : List ℕ) (before after : Outside) : Type 0 where
