@@ -165,6 +165,9 @@ fn receives(
     let mut out = outbox(alloc)?;
     let mut bytes = Vec::from_slice(alloc, datagram)?;
     let datagram = bytes.as_mut_slice();
+    if datagram.len() > 2048 {
+        return Err(Fail::from("a datagram that no end is given"));
+    }
     match end.receive(address(from), moment, datagram, &draws(drawn), &mut out) {
         Ok(()) => added(alloc, &out),
         Err(_) => Err(Fail::from("a datagram found no memory")),
@@ -202,6 +205,9 @@ fn cancels(alloc: Global, end: &mut Endpoint, n: u64) -> Result<Added, Fail> {
 
 /// In which context a datagram opens at an end.
 fn context_name(end: &Endpoint, datagram: &[u8]) -> &'static str {
+    if datagram.len() > 2048 {
+        return "too long";
+    }
     match end.opens_in(datagram) {
         Some(Context::Startup) => "startup",
         Some(Context::Session { .. }) => "session",

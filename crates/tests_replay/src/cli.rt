@@ -303,12 +303,16 @@ open b a 10.0.0.1:1935\n\
 ];
 
 #[test]
+fn runs_that_meet_faults_end_so(rt: HostRuntime) -> Result<(), Fail> {
+    let wrong = first_wrong(rt.alloc(), &FAULTS)?;
+    assert!(rt; wrong.is_none());
+    Ok(())
+}
+
+#[test]
 fn runs_end_so(rt: HostRuntime) -> Result<(), Fail> {
-    let wrong = (
-        first_wrong(rt.alloc(), &FAULTS)?,
-        first_wrong(rt.alloc(), &ENDS)?,
-    );
-    assert_eq!(rt; wrong, (None, None));
+    let wrong = first_wrong(rt.alloc(), &ENDS)?;
+    assert!(rt; wrong.is_none());
     Ok(())
 }
 

@@ -149,10 +149,12 @@ fn why_lines(alloc: Global) -> Result<Text, Fail> {
 
 /// A datagram of this plain packet, sealed in the startup context, goes out.
 fn out(alloc: Global, plain: &[u8; 7]) -> Result<Entry, Fail> {
-    let mut datagram = [0; 43];
-    datagram[36..].copy_from_slice(plain);
+    let mut part = [0; 39];
+    part[32..].copy_from_slice(plain);
     let keys = Keys::of(&SECRET, &Context::Startup);
-    seal_in_place(&keys, 3, [9; 16], &mut datagram[4..]);
+    seal_in_place(&keys, 3, [9; 16], &mut part);
+    let mut datagram = [0; 43];
+    datagram[4..].copy_from_slice(&part);
     sent(alloc, &datagram)
 }
 
