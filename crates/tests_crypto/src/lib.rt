@@ -4,10 +4,10 @@
 #![tactic(auto)]
 
 #[cfg(test)]
+mod keying;
+#[cfg(test)]
 mod lines;
 #[cfg(test)]
 mod profile;
 #[cfg(test)]
 mod session;
-#[cfg(test)]
-mod startup;
