@@ -50,13 +50,13 @@ pub(crate) fn answered_index(
     print: &[u8; 32],
 ) -> Result<usize, Cause>
     requires { len (table_of rows.now) ≡ length rows.now }
-    ensures ok { IfOk result (λ index. IsChosen (lowest (has_tag tag.now) (table_of rows.now)) rows.now
-        (Some index)) }
+    ensures ok { IfOk result (λ i. IsChosen (lowest (has_tag tag.now) (table_of rows.now)) rows.now
+        (Some i)) }
     ensures cookie { IfOk result (λ _. length cookie.now ≤ 128) }
     ensures cause { IfOk result (λ _. hello_cause_among (table_of rows.now) tag.now cookie.now print.now
         ≡ None) }
-    ensures refused { IfErr result (λ cause. hello_cause_among (table_of rows.now) tag.now cookie.now print.now
-        ≡ Some cause) }
+    ensures refused { IfErr result (λ e. hello_cause_among (table_of rows.now) tag.now cookie.now print.now
+        ≡ Some e) }
 {
     match wide(tag) {
         Some(cause) => return Err(cause),
@@ -113,8 +113,8 @@ pub(crate) fn changed_index(rows: &[Row], sid: u32, old: &[u8], new: &[u8]) -> R
     ensures cookie { IfOk result (λ _. length new.now ≤ 128) }
     ensures cause { IfOk result (λ _. change_cause_among (table_of rows.now) sid old.now new.now
         ≡ None) }
-    ensures refused { IfErr result (λ cause. change_cause_among (table_of rows.now) sid old.now new.now
-        ≡ Some cause) }
+    ensures refused { IfErr result (λ e. change_cause_among (table_of rows.now) sid old.now new.now
+        ≡ Some e) }
 {
     match wide(old) {
         Some(cause) => return Err(cause),

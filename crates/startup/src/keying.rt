@@ -140,7 +140,7 @@ impl Startup {
         ensures memory { IfErr result (λ refusal. (refusal ≡ KeyRefusal.Memory) ×
             (knows self.old.ledger keying.now.peer ≡ false)) }
         ensures err { OnErr result (self.new ≡ self.old) }
-        ensures gave { IfOk result (λ answer. Gave self.old.ledger (keyed_facts answer) self.new.ledger) }
+        ensures gave { IfOk result (λ a. Gave self.old.ledger (keyed_facts a) self.new.ledger) }
     {
         let session = Joined {
             peer: keying.peer,
@@ -196,7 +196,7 @@ impl Startup {
             (IfErr result (λ refusal. (refusal ≡ KeyRefusal.Memory) ×
             IsTrue (needs_row self.old payload.now from.now moment))) }
         ensures err { OnErr result (self.new ≡ self.old) }
-        ensures gave { IfOk result (λ answer. Gave self.old.ledger (keyed_facts answer) self.new.ledger) }
+        ensures gave { IfOk result (λ a. Gave self.old.ledger (keyed_facts a) self.new.ledger) }
     {
         let fields = match read_initiator_keying(payload) {
             Ok(fields) => fields,

@@ -10,14 +10,9 @@ ghost use Rattle.startup.specs.Read.{initiator_read, responder_read};
 use crate::cause::Cause;
 use crate::parts::{InitiatorPart, ResponderPart, read_initiator_part, read_responder_part};
 use identity::Certificate;
+use rtmfp_chunks::kinds::{IIKEYING, RIKEYING};
 use rtmfp_chunks::{ChunkFault, ChunkView, read_chunk};
 use rtmfp_vlu::read_vlu;
-
-/// The type of an initiator's keying.
-pub(crate) const IIKEYING: u8 = 0x38;
-
-/// The type of a responder's keying.
-pub(crate) const RIKEYING: u8 = 0x78;
 
 /// The bytes of a session ID.
 const ID_LEN: usize = 4;

@@ -6,17 +6,12 @@ ghost use Rattle.startup.specs.Attempts.{rhello_cause, cookie_change_cause};
 
 use crate::cause::Cause;
 use crate::choosing::{answered_index, changed_index};
-use crate::reading::{IIKEYING, RIKEYING, fault_cause};
+use crate::reading::fault_cause;
 use crate::startup::Startup;
 use identity::Certificate;
+use rtmfp_chunks::kinds::{COOKIE_CHANGE, IIKEYING, RHELLO, RIKEYING};
 use rtmfp_chunks::{ChunkView, read_chunk};
 use rtmfp_forms::Address;
-
-/// The type of a responder's hello.
-const RHELLO: u8 = 0x70;
-
-/// The type of a change of a cookie.
-const COOKIE_CHANGE: u8 = 0x79;
 
 impl Startup {
     /// The cause with which `responder_hello`, `cookie_change`, `initiator_keying` or

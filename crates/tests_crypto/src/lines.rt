@@ -6,7 +6,10 @@ use std::test::Fail;
 /// Adds a line.
 pub(crate) fn put(alloc: Global, name: &str, bytes: &[u8], lines: &mut String) -> Result<(), Fail> {
     let digits = hex::encode(alloc, bytes)?;
-    lines.push_str(format!(in alloc; "{name} {digits}\n")?.as_str())?;
+    lines.push_str(name)?;
+    lines.push_str(" ")?;
+    lines.push_str(digits.as_str())?;
+    lines.push_str("\n")?;
     Ok(())
 }
 
