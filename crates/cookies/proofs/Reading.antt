@@ -1,17 +1,18 @@
 -- A cookie reads back as what it was made of, and a test's answer is right.
-use Rattle.std.proofs.Common.{◌≡◌, ℕ, ◌+◌, ◌*◌, ◌<◌, ◌^◌, Bool, true, false, ◌&&◌, if◌then◌else◌, ◌==◌, nat_lt, List, length, take, drop, get_or, Option, Some, None, Result, Ok, Err, refl, sym, ap, ◌∙◌, subst, inl, inr, arith}
+use Rattle.std.proofs.Common.{◌≡◌, ℕ, ◌+◌, ◌*◌, ◌<◌, ◌^◌, Bool, true, false, if◌then◌else◌, nat_lt, List, length, take, drop, get_or, Option, Some, None, Result, Ok, Err, refl, sym, ap, ◌∙◌, subst, inl, inr, arith}
 use Rattle.std.specs.Str.{bytes_eq}
-use Rattle.std.proofs.lemmas.Bool.{cases_lt, eq-eqb, eqb-true, ltb-true, ltb-false}
+use Rattle.std.proofs.lemmas.Bool.{cases_lt, ltb-true, ltb-false}
 use Rattle.std.proofs.lemmas.List.{drop_all, get_or-drop, get_or-take, get_or_past, length-take}
 use Rattle.std.proofs.lemmas.Nat.{from_be_bytes-to_be_bytes_8}
 use Rattle.std.proofs.lemmas.Slice.Eq.{bytes_eq-Decides}
 use Rattle.rtmfp_forms.specs.declared.fault.FormFault.{FormFault}
-use Rattle.rtmfp_forms.specs.Address.{AddressParts, IsAddress, SamePlace, address_bytes}
+use Rattle.rtmfp_forms.specs.Address.{AddressParts, IsAddress, address_bytes, is_same_place}
 use Rattle.rtmfp_forms.specs.AddressReading.{address_at}
 use Rattle.rtmfp_forms.proofs.Addresses.{address_again, address_bytes-spell, address_takes}
+use Rattle.rtmfp_forms.proofs.Places.{place_same, same_place}
 use Rattle.crypto_profile.specs.Hmac.{hmac}
 use Rattle.cookies.specs.declared.CookieTest.TheVariants.{Moved, Expired, Current}
-use Rattle.cookies.specs.Cookie.{AreBytes, observed, cookie_body, cookie_of, IsCookieOf, IsAnswer, is_same_family, is_same_place, moment_of, cookie_found, cookie_read, test_of, TellsOnePlaceAndMoment, TestIsRight}
+use Rattle.cookies.specs.Cookie.{AreBytes, observed, cookie_body, cookie_of, IsCookieOf, IsAnswer, moment_of, cookie_found, cookie_read, test_of, TellsOnePlaceAndMoment, TestIsRight}
 use Rattle.cookies.proofs.Making.{observed-IsAddress}
 
 -- ---- a cookie reads back
@@ -108,44 +109,6 @@ found_is secret bytes (Ok found) a m fits e some =
 pub read_is : (secret bytes : List ℕ) (a : AddressParts) (m : ℕ) → Below bytes → cookie_read secret bytes ≡ Some (a, m) → IsCookieOf secret a m bytes
 unfolding cookie_read
 read_is secret bytes a m fits some = found_is secret bytes (address_at (drop 8 bytes)) a m fits refl some
-
--- ---- places
-
-family_same : (v w : Bool) → is_same_family v w ≡ true → v ≡ w
-family_same true w e = sym e
-family_same false true e = cc
-family_same false false e = refl
-
-same_family : (v w : Bool) → v ≡ w → is_same_family v w ≡ true
-same_family true w e = sym e
-same_family false true e = cc
-same_family false false e = refl
-
-first_true : (a b : Bool) → (a && b) ≡ true → a ≡ true
-first_true true b e = refl
-first_true false b e = e
-
-second_true : (a b : Bool) → (a && b) ≡ true → b ≡ true
-second_true true b e = e
-second_true false b e = cc
-
-both_true : (a b : Bool) → a ≡ true → b ≡ true → (a && b) ≡ true
-both_true true b p q = q
-both_true false b p q = p
-
-pub place_same : (a b : AddressParts) → is_same_place a b ≡ true → SamePlace a b
-place_same a b e =
-    let rest = second_true (is_same_family a.v6 b.v6) (bytes_eq a.host b.host && (a.port == b.port)) e in
-    record {
-      family = family_same a.v6 b.v6 (first_true (is_same_family a.v6 b.v6) (bytes_eq a.host b.host && (a.port == b.port)) e);
-      host = (bytes_eq-Decides a.host b.host).0 (first_true (bytes_eq a.host b.host) (a.port == b.port) rest);
-      port = eqb-true a.port b.port (second_true (bytes_eq a.host b.host) (a.port == b.port) rest);
-    }
-
-pub same_place : (a b : AddressParts) → SamePlace a b → is_same_place a b ≡ true
-same_place a b same =
-    both_true (is_same_family a.v6 b.v6) (bytes_eq a.host b.host && (a.port == b.port)) (same_family a.v6 b.v6 same.family)
-    (both_true (bytes_eq a.host b.host) (a.port == b.port) (same_is_true a.host b.host same.host) (eq-eqb a.port b.port same.port))
 
 -- ---- answers
 

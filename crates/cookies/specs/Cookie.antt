@@ -1,10 +1,10 @@
 -- An address cookie: the moment of its issue, the address that it was made for, and a tag of both
 -- under a secret of its maker.
-use Rattle.std.specs.Prelude.{◌≡◌, ◌==◌, ℕ, ◌+◌, ◌<◌, ◌≤◌, ◌^◌, Bool, true, false, not, ◌&&◌, if◌then◌else◌, nat_lt, List, ◌++◌, take, drop, Option, Some, None, Result, Ok, Err, All}
+use Rattle.std.specs.Prelude.{◌≡◌, ℕ, ◌+◌, ◌<◌, ◌≤◌, ◌^◌, if◌then◌else◌, nat_lt, List, ◌++◌, take, drop, Option, Some, None, Result, Ok, Err, All}
 use Rattle.std.specs.Int.{w64, to_be_bytes, from_be_bytes}
 use Rattle.std.specs.Str.{bytes_eq}
 use Rattle.rtmfp_forms.specs.declared.fault.FormFault.{FormFault}
-use Rattle.rtmfp_forms.specs.Address.{AddressParts, IsAddress, SamePlace, address_bytes}
+use Rattle.rtmfp_forms.specs.Address.{AddressParts, IsAddress, SamePlace, address_bytes, is_same_place}
 use Rattle.rtmfp_forms.specs.AddressReading.{address_at}
 use Rattle.crypto_profile.specs.Hmac.{hmac}
 use Rattle.cookies.specs.declared.CookieTest.{CookieTest}
@@ -51,13 +51,6 @@ IsAnswer secret bytes from now Current =
     SamePlace address from × (now ≤ moment + 95000)
 
 -- the same as a function
-
-abbrev pub is_same_family : Bool → Bool → Bool
-is_same_family true v6 = v6
-is_same_family false v6 = not v6
-
-abbrev pub is_same_place : AddressParts → AddressParts → Bool
-is_same_place a b = is_same_family a.v6 b.v6 && (bytes_eq a.host b.host && (a.port == b.port))
 
 -- of a cookie for an address that was issued at a moment
 abbrev pub good_cookie_test : AddressParts → ℕ → AddressParts → ℕ → CookieTest

@@ -1,5 +1,5 @@
 -- Short names for the addresses at which the rules' edges are stated.
-use Rattle.std.specs.Prelude.{ℕ, [], ◌∷◌, ◌++◌, true, false, replicate}
+use Rattle.std.specs.Prelude.{ℕ, ◌∷◌, true, false, replicate}
 use Rattle.rtmfp_forms.specs.Address.{AddressParts}
 
 -- 10.0.0.last, port 1935

@@ -2,10 +2,10 @@
 //! the contract of each states what the definitions that the other contracts cite are there.
 
 ghost use Rattle.std.specs.Prelude.{◌≡◌, ◌∷◌, ◌++◌, ℕ, List, [], true, false, None, replicate, take};
-ghost use Rattle.rtmfp_forms.specs.Address.{AddressParts};
+ghost use Rattle.rtmfp_forms.specs.Address.{AddressParts, is_same_place};
 ghost use Rattle.crypto_profile.specs.Hmac.{hmac};
 ghost use Rattle.cookies.specs.declared.CookieTest.TheVariants.{Bad, Moved, Expired, Current};
-ghost use Rattle.cookies.specs.Cookie.{cookie_body, cookie_of, good_cookie_test, is_same_place, test_of};
+ghost use Rattle.cookies.specs.Cookie.{cookie_body, cookie_of, good_cookie_test, test_of};
 ghost use Rattle.cookies.specs.Edges.{v4, v6};
 
 /// A cookie is the moment, the address with origin 2 whatever its own is, and 16 bytes of the HMAC

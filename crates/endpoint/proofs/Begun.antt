@@ -3,14 +3,13 @@ use Rattle.std.proofs.Common.{◌^◌, zero, suc, nat_le, is_some, ◌≡◌, �
 use Rattle.std.specs.FinMap.{len, get, contains_key}
 use Rattle.std.specs.List.{fold, list_any}
 use Rattle.std.proofs.lemmas.Bool.Decides.{nat_tests}
-use Rattle.cookies.specs.Cookie.{is_same_place}
 use Rattle.glare_core.specs.Calls.{first_that_stands, start_refusal}
 use Rattle.startup.specs.Attempts.{joined, lowest, distinct_candidates}
 use Rattle.startup.specs.Due.{due, due_of, due_sends, due_sends_of, is_due}
 use Rattle.rtmfp_chunks.specs.Writing.{chunk_bytes}
 use Rattle.endpoint_model.specs.declared.answers.OpenRefusal.{OpenRefusal}
 use Rattle.crypto_profile.specs.Keys.{Keys}
-use Rattle.rtmfp_forms.specs.Address.{AddressParts}
+use Rattle.rtmfp_forms.specs.Address.{AddressParts, is_same_place}
 use Rattle.rtmfp_chunks.specs.Chunk.{Ping}
 use Rattle.glare_core.specs.declared.facts.Fact.{Fact}
 use Rattle.glare_core.specs.declared.facts.Fact.TheVariants.{Started, Born, Opened, Confirmed, Ended}

@@ -13,12 +13,13 @@ use Rattle.sha2.specs.Sha256.{sha256}
 use Rattle.sha2.proofs.Facts256.{length-sha256}
 use Rattle.crypto_profile.specs.Hmac.{hmac}
 use Rattle.crypto_profile.specs.Keys.{sign_key_of}
-use Rattle.rtmfp_forms.specs.Address.{AddressParts}
+use Rattle.rtmfp_forms.specs.Address.{AddressParts, is_same_place}
+use Rattle.rtmfp_forms.proofs.Places.{same_place}
 use Rattle.rtmfp_chunks.specs.Chunk.{IIKeying, Spells}
 use Rattle.rtmfp_chunks.proofs.ReadingLaws.{reading_is}
 use Rattle.cookies.specs.declared.CookieTest.TheVariants.{Moved, Expired, Current}
-use Rattle.cookies.specs.Cookie.{IsAnswer, observed, is_same_place, test_of, cookie_test}
-use Rattle.cookies.proofs.Reading.{cookie_back, same_place}
+use Rattle.cookies.specs.Cookie.{IsAnswer, observed, test_of, cookie_test}
+use Rattle.cookies.proofs.Reading.{cookie_back}
 use Rattle.identity.specs.Order.{Prevails, is_above}
 use Rattle.identity.proofs.Above.{never_both}
 use Rattle.identity.specs.declared.cert.CertFault.TheVariants.{Short, LongName, NotAscii}

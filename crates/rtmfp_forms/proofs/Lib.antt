@@ -2,3 +2,4 @@ pub mod Addresses
 pub mod Pieces
 pub mod Lists
 pub mod Respelling
+pub mod Places

@@ -1,7 +1,8 @@
 -- Transport addresses (RFC 7016 section 2.1.5): a byte of flags, 4 or 16 bytes of host, 2 bytes of
 -- port. Own: the five middle bits of the flags are ignored on reading, and written as 0.
-use Rattle.std.specs.Prelude.{◌≡◌, ℕ, ◌+◌, ◌-◌, ◌%◌, ◌^◌, ◌<◌, ◌≤◌, Bool, nat_le, if◌then◌else◌, List, [], ◌∷◌, ◌++◌, length, take, drop, replicate}
+use Rattle.std.specs.Prelude.{◌≡◌, ◌==◌, ℕ, ◌+◌, ◌-◌, ◌%◌, ◌^◌, ◌<◌, ◌≤◌, Bool, true, false, not, ◌&&◌, nat_le, if◌then◌else◌, List, [], ◌∷◌, ◌++◌, length, take, drop, replicate}
 use Rattle.std.specs.Int.{w16, to_be_bytes}
+use Rattle.std.specs.Str.{bytes_eq}
 
 -- an address as contracts see it
 pub record AddressParts : Type 0 where
@@ -26,6 +27,15 @@ pub record SamePlace (a b : AddressParts) : Type 0 where
   pub family : a.v6 ≡ b.v6
   pub host : a.host ≡ b.host
   pub port : a.port ≡ b.port
+
+-- the same as a function
+
+abbrev pub is_same_family : Bool → Bool → Bool
+is_same_family true v6 = v6
+is_same_family false v6 = not v6
+
+abbrev pub is_same_place : AddressParts → AddressParts → Bool
+is_same_place a b = is_same_family a.v6 b.v6 && (bytes_eq a.host b.host && (a.port == b.port))
 
 -- the bytes spell the address: the highest bit of the flags says IPv6, and the lowest two are the
 -- origin

@@ -5,8 +5,7 @@ use Rattle.std.specs.Str.{bytes_eq}
 use Rattle.std.specs.FinMap.{get, insert, remove, entries}
 use Rattle.sha2.specs.Sha256.{sha256}
 use Rattle.crypto_profile.specs.Keys.{sign_key_of}
-use Rattle.rtmfp_forms.specs.Address.{AddressParts}
-use Rattle.cookies.specs.Cookie.{is_same_place}
+use Rattle.rtmfp_forms.specs.Address.{AddressParts, is_same_place}
 use Rattle.glare_core.specs.declared.facts.Why.{Why}
 use Rattle.glare_core.specs.declared.facts.Why.TheVariants.{Cancelled}
 use Rattle.glare_core.specs.declared.facts.Fact.{Fact}

@@ -2,7 +2,7 @@
 
 ghost use Rattle.std.specs.Prelude.{◌≡◌, ◌<◌, ◌≤◌, ◌+◌, length, take};
 ghost use Rattle.std.specs.List.{list_any};
-ghost use Rattle.cookies.specs.Cookie.{is_same_place};
+ghost use Rattle.rtmfp_forms.specs.Address.{is_same_place};
 ghost use Rattle.startup.specs.Attempts.{joined, distinct_candidates};
 
 use crate::attempt::CANDIDATES;
