@@ -4,76 +4,112 @@ ghost use Rattle.std.specs.Prelude.{◌<◌};
 
 use rtmfp_cli::{Status, run};
 use rtmfp_host::{FaultySink, FaultySource, MemorySink, MemorySource};
-use std::alloc::Global;
+use std::alloc::{AllocError, Global};
 use std::test::Fail;
 
-/// Calls that are to fail, and how many bytes a write that fails takes.
-#[derive(Clone, Copy)]
-struct Faults {
-    reads: &'static [u64],
-    writes: &'static [u64],
-    flushes: &'static [u64],
-    front: usize,
-}
-
-const SOUND: Faults = Faults {
-    reads: &[],
-    writes: &[],
-    flushes: &[],
-    front: 0,
-};
-
-/// A command over an input, which comes in pieces; how it ends, what it has written, and how many
-/// bytes of that it has passed on.
-#[derive(Clone, Copy)]
-struct Row {
-    words: &'static str,
-    input: &'static str,
-    piece: usize,
-    faults: Faults,
-    status: Status,
-    written: &'static str,
-    passed: usize,
-}
-
-/// A run of `show` over an empty line, which comes in one piece.
-const SHOW: Row = Row {
-    words: "show",
-    input: "\n",
-    piece: 4096,
-    faults: SOUND,
-    status: Status::Done,
-    written: "bad empty\n",
-    passed: 10,
-};
+/// Rows: how a run ends, its words, the call that is to fail, its input, what it has written, and
+/// how many bytes of that it has passed on. In the texts `~` stands for the end of a line and `^`
+/// for a carriage return, and `forge` for the script and the text below. The input comes one byte
+/// at a time where the third field says so. A write that fails takes so many of its bytes.
+///
+/// `done`: a last line without an end is done, too. `flush 2` is the flush before the read that
+/// finds the end, and `flush 3` the last one. The text before a bad line is passed on, and where
+/// that fails it is the sink's fault. A read that fails isn't tried again; the text so far is passed
+/// on before it. The datagram that is injected was made apart from this program: a plain packet
+/// that opens, and that nobody sent. The lines of generated runs are what the plain program of
+/// `scripts/baseline` prints, which was written apart from this one.
+const ROWS: &str = "done|show|-|~|bad empty~|10
+sink-fault|show|flush 2|~|bad empty~|0
+sink-fault|show|flush 3|~|bad empty~|10
+bad-script 2|show|-|~zz~|bad empty~|10
+sink-fault|show|flush 2|~zz~|bad empty~|0
+sink-fault|show|write 2 3|~~|bad empty~bad|0
+source-fault|show|read 2|~03|bad empty~|10
+forged 4|replay|-|forge|forge|67
+sink-fault|replay|flush 2|forge|forge|0
+sink-fault|replay|write 3 11|forge|3 a started|0
+source-fault|replay|read 1|forge||0
+done|show|bytes|~~|bad empty~bad empty~|20
+done|show|-|||0
+bad-script 1|show|-|03 ff||0
+bad-script 1|show|-|-~||0
+bad-script 1|show|-|030~||0
+bad-script 2|show|-|~03^~|bad empty~|10
+bad-words|play|-|~||0
+bad-words|show show|-|~||0
+bad-words|Show|-|~||0
+bad-script 4|replay|-|# a comment~~end a 1 1 0123456789abcdefx~deliver 1 a 10.0.0.1:1935||0
+bad-script 2|replay|-|at 5~at 4~||0
+forged 3|replay|-|end a 65536 4096 The quick brown fox jumps over the lazy dog~end b 65536 4096 The quick brown fox jumps over the lazy dog.~inject b 10.0.0.1:1935 f3c13152dd4b532b2e8a6279421e678998a7793cffffffffffffffffffffffffffffffffe7c11d5a60~open b a 10.0.0.1:1935~||0
+done|replay --generate 5 --steps 1|-||ends=8 steps=1 sent=1 started=1 born=0 opened=0 confirmed=0 ended=0 dropped=0 kept=0~|85
+done|replay --generate 10 --steps 100|-||ends=8 steps=100 sent=46 started=10 born=2 opened=2 confirmed=1 ended=0 dropped=31 kept=3~|90
+done|replay --generate 1 --steps 100000|-||ends=8 steps=100000 sent=332 started=38 born=28 opened=28 confirmed=21 ended=10 dropped=68459 kept=49~|102
+done|replay --generate 3 --steps 400|-||ends=8 steps=400 sent=167 started=26 born=15 opened=11 confirmed=7 ended=2 dropped=93 kept=18~|94
+";
 
 /// Two ends, an attempt, and a datagram that nobody sent.
-const FORGE: Row = Row {
-    words: "replay",
-    input: "\
-end a 65536 4096 The quick brown fox jumps over the lazy dog\n\
-end b 65536 4096 The quick brown fox jumps over the lazy dog.\n\
-open a b 10.0.0.2:1935\n\
-forge b 10.0.0.1:1935 0330000100\n\
-",
-    status: Status::Forged(4),
-    written: "\
-3 a started peer=b n=1 near=3 ni=3\n\
-3 a sent 1 10.0.0.2:1935 ihello\n\
-",
-    passed: 67,
-    ..SHOW
-};
+const FORGE: &str =
+    "end a 65536 4096 The quick brown fox jumps over the lazy dog~end b 65536 4096 The quick brown fox jumps over the lazy dog.~open a b 10.0.0.2:1935~forge b 10.0.0.1:1935 0330000100~";
 
-/// What is bad leaves the text of the lines before it.
-const BAD: Row = Row {
-    written: "",
-    passed: 0,
-    ..SHOW
-};
+const FORGE_WRITTEN: &str = "3 a started peer=b n=1 near=3 ni=3~3 a sent 1 10.0.0.2:1935 ihello~";
+
+/// A field of a row.
+fn field(row: &str, index: usize) -> &str {
+    row.split('|').nth(index).unwrap_or("")
+}
+
+/// A number among the words of a field, 0 where there is none.
+fn number(field: &str, index: usize) -> u64 {
+    field
+        .split(' ')
+        .nth(index)
+        .unwrap_or("")
+        .parse::<u64>()
+        .unwrap_or(0)
+}
+
+/// The bytes that a text of a row stands for.
+fn bytes_of(alloc: Global, text: &str) -> Result<Vec<u8>, AllocError> {
+    let mut bytes = Vec::new(alloc);
+    for byte in text.as_bytes() {
+        bytes.push(match *byte {
+            b'~' => b'\n',
+            b'^' => b'\r',
+            other => other,
+        })?;
+    }
+    Ok(bytes)
+}
+
+/// The calls of a kind that are to fail, at most one.
+fn failing(alloc: Global, plan: &str, kind: &str) -> Result<Vec<u64>, AllocError> {
+    let mut calls = Vec::new(alloc);
+    if plan.starts_with(kind) {
+        calls.push(number(plan, 1))?;
+    }
+    Ok(calls)
+}
+
+fn source_of(alloc: Global, row: &str) -> Result<FaultySource, AllocError> {
+    let plan = field(row, 2);
+    let input = match field(row, 3) {
+        "forge" => bytes_of(alloc, FORGE)?,
+        text => bytes_of(alloc, text)?,
+    };
+    let piece = if plan == "bytes" { 1 } else { 4096 };
+    let bytes = MemorySource::in_pieces(input, piece);
+    Ok(FaultySource::new(bytes, failing(alloc, plan, "read")?))
+}
+
+fn sink_of(alloc: Global, row: &str) -> Result<FaultySink, AllocError> {
+    let plan = field(row, 2);
+    let writes = failing(alloc, plan, "write")?;
+    let flushes = failing(alloc, plan, "flush")?;
+    Ok(FaultySink::new(alloc, writes, flushes, number(plan, 2) as usize))
+}
 
 /// The words of a command, which stand in a text with blanks between them.
-fn words_of(alloc: Global, text: &str) -> Result<Vec<String>, Fail> {
+fn words_of(alloc: Global, text: &str) -> Result<Vec<String>, AllocError> {
     let mut words = Vec::new(alloc);
     for word in text.split(' ') {
         words.push(String::from_str(alloc, word)?)?;
@@ -81,243 +117,57 @@ fn words_of(alloc: Global, text: &str) -> Result<Vec<String>, Fail> {
     Ok(words)
 }
 
-fn is_so(alloc: Global, row: &Row) -> Result<bool, Fail> {
-    if row.piece == 0 {
-        return Ok(false);
+/// Whether a field says this status, with its line.
+fn says_status(field: &str, status: Status) -> bool {
+    let line = number(field, 1);
+    match status {
+        Status::Done => field == "done",
+        Status::BadWords => field == "bad-words",
+        Status::BadScript(n) => field.starts_with("bad-script ") && n == line,
+        Status::Forged(n) => field.starts_with("forged ") && n == line,
+        Status::SourceFault => field == "source-fault",
+        Status::SinkFault => field == "sink-fault",
+        Status::Memory => false,
+        Status::ScriptLong => field == "script-long",
     }
-    let words = words_of(alloc, row.words)?;
-    let input = Vec::from_slice(alloc, row.input.as_bytes())?;
-    let bytes = MemorySource::in_pieces(input, row.piece);
-    let mut source = FaultySource::new(bytes, Vec::from_slice(alloc, row.faults.reads)?);
-    let writes = Vec::from_slice(alloc, row.faults.writes)?;
-    let flushes = Vec::from_slice(alloc, row.faults.flushes)?;
-    let mut sink = FaultySink::new(alloc, writes, flushes, row.faults.front);
+}
+
+/// Whether a sink has written and passed on what a row says.
+fn says_written(alloc: Global, row: &str, sink: &FaultySink) -> Result<bool, AllocError> {
+    let written = match field(row, 4) {
+        "forge" => bytes_of(alloc, FORGE_WRITTEN)?,
+        text => bytes_of(alloc, text)?,
+    };
+    let passed = number(field(row, 5), 0);
+    Ok(sink.written() == Some(written.as_slice()) && sink.passed() as u64 == passed)
+}
+
+fn is_so(alloc: Global, row: &str) -> Result<bool, AllocError> {
+    let words = words_of(alloc, field(row, 1))?;
+    let mut source = source_of(alloc, row)?;
+    let mut sink = sink_of(alloc, row)?;
     let status = run(alloc, words.as_slice(), &mut source, &mut sink);
-    let passed = sink.passed();
-    let written = sink.written().ok_or("a sink that kept all")?;
-    Ok(status == row.status && written == row.written.as_bytes() && passed == row.passed)
+    Ok(says_written(alloc, row, &sink)? && says_status(field(row, 0), status))
 }
 
 /// The first row that isn't so.
-fn first_wrong(alloc: Global, rows: &[Row]) -> Result<Option<usize>, Fail> {
-    for (index, row) in rows.iter().enumerate() {
+fn first_wrong(alloc: Global) -> Result<Option<&'static str>, AllocError> {
+    for row in ROWS.lines() {
         if !is_so(alloc, row)? {
-            return Ok(Some(index));
+            return Ok(Some(row));
         }
     }
     Ok(None)
 }
 
-const FAULTS: [Row; 11] = [
-    SHOW,
-    // The flush before the read that finds the end, and the last one.
-    Row {
-        faults: Faults {
-            flushes: &[2],
-            ..SOUND
-        },
-        status: Status::SinkFault,
-        passed: 0,
-        ..SHOW
-    },
-    Row {
-        faults: Faults {
-            flushes: &[3],
-            ..SOUND
-        },
-        status: Status::SinkFault,
-        ..SHOW
-    },
-    // The text before a bad line is passed on, and where that fails it is the sink's fault.
-    Row {
-        input: "\nzz\n",
-        status: Status::BadScript(2),
-        ..SHOW
-    },
-    Row {
-        input: "\nzz\n",
-        faults: Faults {
-            flushes: &[2],
-            ..SOUND
-        },
-        status: Status::SinkFault,
-        passed: 0,
-        ..SHOW
-    },
-    // A write that fails takes the first of its bytes.
-    Row {
-        input: "\n\n",
-        faults: Faults {
-            writes: &[2],
-            front: 3,
-            ..SOUND
-        },
-        status: Status::SinkFault,
-        written: "bad empty\nbad",
-        passed: 0,
-        ..SHOW
-    },
-    // A read that fails isn't tried again; the text so far is passed on before it.
-    Row {
-        input: "\n03",
-        faults: Faults {
-            reads: &[2],
-            ..SOUND
-        },
-        status: Status::SourceFault,
-        ..SHOW
-    },
-    FORGE,
-    Row {
-        faults: Faults {
-            flushes: &[2],
-            ..SOUND
-        },
-        status: Status::SinkFault,
-        passed: 0,
-        ..FORGE
-    },
-    Row {
-        faults: Faults {
-            writes: &[3],
-            front: 11,
-            ..SOUND
-        },
-        status: Status::SinkFault,
-        written: "3 a started",
-        passed: 0,
-        ..FORGE
-    },
-    Row {
-        faults: Faults {
-            reads: &[1],
-            ..SOUND
-        },
-        status: Status::SourceFault,
-        written: "",
-        passed: 0,
-        ..FORGE
-    },
-];
-
-const ENDS: [Row; 16] = [
-    Row {
-        input: "\n\n",
-        piece: 1,
-        written: "bad empty\nbad empty\n",
-        passed: 20,
-        ..SHOW
-    },
-    Row {
-        input: "",
-        written: "",
-        passed: 0,
-        ..SHOW
-    },
-    Row {
-        input: "03 ff",
-        status: Status::BadScript(1),
-        ..BAD
-    },
-    Row {
-        input: "-\n",
-        status: Status::BadScript(1),
-        ..BAD
-    },
-    Row {
-        input: "030\n",
-        status: Status::BadScript(1),
-        ..BAD
-    },
-    Row {
-        input: "\n03\r\n",
-        status: Status::BadScript(2),
-        ..SHOW
-    },
-    Row {
-        words: "play",
-        status: Status::BadWords,
-        ..BAD
-    },
-    Row {
-        words: "show show",
-        status: Status::BadWords,
-        ..BAD
-    },
-    Row {
-        words: "Show",
-        status: Status::BadWords,
-        ..BAD
-    },
-    // No datagram of this number was sent; the moment doesn't go back.
-    Row {
-        input: "# a comment\n\nend a 1 1 0123456789abcdefx\ndeliver 1 a 10.0.0.1:1935",
-        words: "replay",
-        status: Status::BadScript(4),
-        ..BAD
-    },
-    Row {
-        input: "at 5\nat 4\n",
-        words: "replay",
-        status: Status::BadScript(2),
-        ..BAD
-    },
-    // The bytes were made apart from this program: a plain packet that opens, and that nobody sent.
-    Row {
-        input: "\
-end a 65536 4096 The quick brown fox jumps over the lazy dog\n\
-end b 65536 4096 The quick brown fox jumps over the lazy dog.\n\
-inject b 10.0.0.1:1935 f3c13152dd4b532b2e8a6279421e678998a7793cffffffffffffffffffffffffffffffffe7c11d5a60\n\
-open b a 10.0.0.1:1935\n\
-",
-        words: "replay",
-        status: Status::Forged(3),
-        ..BAD
-    },
-    // These are what the plain program of `scripts/baseline` prints, which was written apart from
-    // this one.
-    Row {
-        words: "replay --generate 5 --steps 1",
-        written: "ends=8 steps=1 sent=1 started=1 born=0 opened=0 confirmed=0 ended=0 dropped=0 kept=0\n",
-        passed: 85,
-        ..SHOW
-    },
-    Row {
-        words: "replay --generate 10 --steps 100",
-        written: "ends=8 steps=100 sent=46 started=10 born=2 opened=2 confirmed=1 ended=0 dropped=31 kept=3\n",
-        passed: 90,
-        ..SHOW
-    },
-    Row {
-        words: "replay --generate 1 --steps 100000",
-        written: "ends=8 steps=100000 sent=332 started=38 born=28 opened=28 confirmed=21 ended=10 dropped=68459 kept=49\n",
-        passed: 102,
-        ..SHOW
-    },
-    Row {
-        words: "replay --generate 3 --steps 400",
-        written: "ends=8 steps=400 sent=167 started=26 born=15 opened=11 confirmed=7 ended=2 dropped=93 kept=18\n",
-        passed: 94,
-        ..SHOW
-    },
-];
-
-#[test]
-fn runs_that_meet_faults_end_so(rt: HostRuntime) -> Result<(), Fail> {
-    let wrong = first_wrong(rt.alloc(), &FAULTS)?;
-    assert!(rt; wrong.is_none());
-    Ok(())
-}
-
 #[test]
 fn runs_end_so(rt: HostRuntime) -> Result<(), Fail> {
-    let wrong = first_wrong(rt.alloc(), &ENDS)?;
-    assert!(rt; wrong.is_none());
+    assert_eq!(rt; first_wrong(rt.alloc())?, None);
     Ok(())
 }
 
 /// How a run of a command ends over so many times a byte.
-fn status_over(alloc: Global, word: &str, byte: u8, count: usize) -> Result<Status, Fail> {
+fn status_over(alloc: Global, word: &str, byte: u8, count: usize) -> Result<Status, AllocError> {
     let words = words_of(alloc, word)?;
     let mut source = MemorySource::new(vec![in alloc; byte; count]?);
     let mut sink = MemorySink::new(alloc);
@@ -325,7 +175,7 @@ fn status_over(alloc: Global, word: &str, byte: u8, count: usize) -> Result<Stat
 }
 
 /// A source has a million lines at most, and a line of `show` 4,096 bytes.
-fn limits_are_kept(alloc: Global) -> Result<bool, Fail> {
+fn limits_are_kept(alloc: Global) -> Result<bool, AllocError> {
     Ok(
         status_over(alloc, "replay", b'\n', 1_000_000)? == Status::Done
             && status_over(alloc, "replay", b'\n', 1_000_001)? == Status::ScriptLong
