@@ -1,0 +1,4 @@
+pub mod Directory
+pub mod Happenings
+pub mod Index
+pub mod Edges
