@@ -119,7 +119,7 @@ impl Directory {
     }
 
     /// The session ID of the session that was kept last with the end that a discriminator selects,
-    /// and isn't gone (RFC 7016 section 3.5.1.4). It takes no memory.
+    /// and isn't gone (RFC 7016 section 3.5.1.5). It takes no memory.
     pub fn forward(&self, epd: &Epd) -> Option<u32>
         ensures { result ≡ last_kept self.now.kept epd.now.print }
     {
