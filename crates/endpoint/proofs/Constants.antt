@@ -22,7 +22,7 @@ use Rattle.startup.specs.Due.{is_due, is_over, repeated, after_due_of, after_due
 use Rattle.startup.specs.Keyings.{InitiatorKeying, initiator_keying_in, keying_of, after_again_or_birth, after_keyed_with, after_keyed_reading, after_keying, after_opening}
 use Rattle.session_core.specs.Session.{SessionState}
 use Rattle.endpoint_model.specs.declared.config.Config.{Config}
-use Rattle.endpoint.specs.Kept.{IsEndpoint}
+use Rattle.endpoint.specs.Stored.{IsEndpoint}
 
 -- A state of startup has the secret and the own fingerprint of another.
 pub record IsSameEnd (s t : StartupState) : Type 0 where

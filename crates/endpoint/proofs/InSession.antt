@@ -11,10 +11,10 @@ use Rattle.endpoint_model.specs.declared.config.Config.{Config}
 use Rattle.endpoint_model.specs.declared.entry.Entry.{Entry}
 use Rattle.endpoint_model.specs.declared.entry.Entry.TheVariants.{Out}
 use Rattle.endpoint_model.specs.Added.{Added}
-use Rattle.endpoint.specs.Kept.{near_of, state_of, table_of}
+use Rattle.endpoint.specs.Stored.{near_of, state_of, table_of}
 use Rattle.endpoint_model.specs.Sending.{sent_by, sent_in_session, session_datagram}
 use Rattle.endpoint_model.specs.State.{State, Did, Done, Sessions, nothing, with_session, with_sessions}
-use Rattle.endpoint.proofs.Keeping.{place_in, kept_at, found_at}
+use Rattle.endpoint.proofs.Rows.{index_in, put_at, found_at}
 use Rattle.endpoint_model.proofs.Steps.{done_nothing}
 
 -- ---- nothing goes out
@@ -36,7 +36,7 @@ pub unsent_spent : (s : State) (near : ℕ) (to : AddressParts) (body : List ℕ
     Done (sent_in_session s near to body) s out out
 unsent_spent s near to body session out found is = subst (λ (d : Did). Done d s out out) (sym (sent_as s near to body session true found is)) (done_nothing s out)
 
--- ---- a session that sealed is put back at its place
+-- ---- a session that sealed is put back at its index
 
 abbrev itself : SessionState → SessionState
 itself session = session
@@ -49,12 +49,12 @@ pub record IsPutBack (rows : List SessionState) (near : ℕ) (new : SessionState
   pub table : table_of after ≡ insert (table_of rows) near new
   pub distinct : len (table_of after) ≡ length after
 
-pub put_back : (rows : List SessionState) (near place : ℕ) (old new : SessionState) → len (table_of rows) ≡ length rows → place_in rows near ≡ Some place → old ≡ get_or rows place old →
-    new ≡ after_seal old → IsPutBack rows near new (set rows place new)
-put_back rows near place old new distinct found is sealed =
-    let at = index_found near_of itself rows near place distinct found in
+pub put_back : (rows : List SessionState) (near index : ℕ) (old new : SessionState) → len (table_of rows) ≡ length rows → index_in rows near ≡ Some index → old ≡ get_or rows index old →
+    new ≡ after_seal old → IsPutBack rows near new (set rows index new)
+put_back rows near index old new distinct found is sealed =
+    let at = index_found near_of itself rows near index distinct found in
     let same : near_of new ≡ near = ap near_of sealed ∙ seal_keeps_near old (is_spent old) ∙ ap near_of is ∙ at.key_is old in
-    let kept = kept_at rows new place distinct (ap (place_in rows) same ∙ found) in
+    let kept = put_at rows new index distinct (ap (index_in rows) same ∙ found) in
     record { table = kept.table ∙ ap (λ k. insert (table_of rows) k new) same; distinct = kept.distinct }
 
 -- ---- one datagram goes out
@@ -64,32 +64,32 @@ some_same a b None e f = absurd (cc)
 some_same a b (Some x) e f = cc
 
 -- of a session that was looked at three times: whether it is spent, for its context, and to seal
-pub sent_one : (config : Config) (moment sealed : ℕ) (startup : StartupState) (rows : List SessionState) (t : State) (near place : ℕ) (to : AddressParts) (body : List ℕ)
+pub sent_one : (config : Config) (moment sealed : ℕ) (startup : StartupState) (rows : List SessionState) (t : State) (near index : ℕ) (to : AddressParts) (body : List ℕ)
     (tested shown old new : SessionState) (datagram : List ℕ) (context : Context) (before after : Added) →
-    state_of config moment sealed startup rows ≡ t → len (table_of rows) ≡ length rows → place_in rows near ≡ Some place →
-    tested ≡ get_or rows place tested → shown ≡ get_or rows place shown → old ≡ get_or rows place old → is_spent tested ≡ false →
+    state_of config moment sealed startup rows ≡ t → len (table_of rows) ≡ length rows → index_in rows near ≡ Some index →
+    tested ≡ get_or rows index tested → shown ≡ get_or rows index shown → old ≡ get_or rows index old → is_spent tested ≡ false →
     datagram ≡ session_datagram old moment body → context ≡ context_of shown true → new ≡ after_seal old →
     after.entries ≡ before.entries ++ Out to datagram context ∷ [] → before.free ≤ after.free + 1 → after.room ≡ before.room →
-    Done (sent_in_session t near to body) (state_of config moment sealed startup (set rows place new)) before after
+    Done (sent_in_session t near to body) (state_of config moment sealed startup (set rows index new)) before after
 unfolding one_out
-sent_one config moment sealed startup rows t near place to body tested shown old new datagram context before after
+sent_one config moment sealed startup rows t near index to body tested shown old new datagram context before after
     view distinct found tested_is shown_is old_is spent datagram_is context_is new_is entries free room =
     let s : State = state_of config moment sealed startup rows in
-    let at_tested : get (table_of rows) near ≡ Some tested = found_at rows near place tested distinct found tested_is in
-    let at_shown : get (table_of rows) near ≡ Some shown = found_at rows near place shown distinct found shown_is in
-    let at_old : get (table_of rows) near ≡ Some old = found_at rows near place old distinct found old_is in
-    let back = put_back rows near place old new distinct found old_is new_is in
+    let at_tested : get (table_of rows) near ≡ Some tested = found_at rows near index tested distinct found tested_is in
+    let at_shown : get (table_of rows) near ≡ Some shown = found_at rows near index shown distinct found shown_is in
+    let at_old : get (table_of rows) near ≡ Some old = found_at rows near index old distinct found old_is in
+    let back = put_back rows near index old new distinct found old_is new_is in
     let did : sent_in_session s near to body ≡ one_out s near to body old =
     sent_as s near to body old false at_old (ap is_spent (some_same old tested (get (table_of rows) near) at_old at_tested) ∙ spent) in
     let entry : Out to datagram context ≡ Out to (session_datagram old moment body) (context_of old true) =
     ap (λ (d : List ℕ). Out to d context) datagram_is
     ∙ ap (Out to (session_datagram old moment body)) (context_is ∙ ap (λ (x : SessionState). context_of x true) (some_same shown old (get (table_of rows) near) at_shown at_old)) in
-    let done : Done (one_out s near to body old) (state_of config moment sealed startup (set rows place new)) before after =
+    let done : Done (one_out s near to body old) (state_of config moment sealed startup (set rows index new)) before after =
     record {
       state = ap (λ (sessions : Sessions). with_sessions s sessions) (back.table ∙ ap (insert (table_of rows) near) new_is);
       entries = entries ∙ ap (λ (e : Entry). before.entries ++ e ∷ []) entry;
       free = free;
       room = room;
     } in
-    subst (λ (u : State). Done (sent_in_session u near to body) (state_of config moment sealed startup (set rows place new)) before after) view
-    (subst (λ (d : Did). Done d (state_of config moment sealed startup (set rows place new)) before after) (sym did) done)
+    subst (λ (u : State). Done (sent_in_session u near to body) (state_of config moment sealed startup (set rows index new)) before after) view
+    (subst (λ (d : Did). Done d (state_of config moment sealed startup (set rows index new)) before after) (sym did) done)

@@ -1,4 +1,4 @@
-mod Keeping
+mod Rows
 mod Opening
 mod Refusals
 mod SealedParts

@@ -2,8 +2,8 @@
 use Rattle.std.specs.Prelude.{ℕ, ◌==◌, ◌≤◌, not, List, [], ◌∷◌, length, Option, Some, None, Ok, ◌≡◌}
 use Rattle.std.specs.FinMap.{get}
 use Rattle.rtmfp_forms.specs.Address.{AddressParts}
-use Rattle.rtmfp_chunks.specs.Chunk.{PingReply}
-use Rattle.rtmfp_chunks.specs.Writing.{chunk_bytes}
+use Rattle.rtmfp_chunks.specs.Chunk.{chunk_of}
+use Rattle.rtmfp_chunks.specs.Writing.{IsWritable, chunk_bytes}
 use Rattle.glare_core.specs.Calls.{where_true, first_that_stands}
 use Rattle.startup.specs.declared.cause.Cause.{Cause}
 use Rattle.startup.specs.declared.cause.Cause.TheVariants.{WrongPlace, Fragment as FragmentCause}
@@ -23,7 +23,7 @@ use Rattle.endpoint_model.specs.Due.{initiator_keyed, responder_keyed}
 use Rattle.endpoint.specs.declared.judging.Verdict.{Verdict}
 use Rattle.endpoint.specs.declared.judging.Verdict.TheVariants.{Hello, ResponderHello, CookieChange}
 use Rattle.endpoint.specs.declared.judging.Verdict.TheVariants.{InitiatorKeying, ResponderKeying}
-use Rattle.endpoint.specs.declared.judging.Verdict.TheVariants.{Ping, Quiet}
+use Rattle.endpoint.specs.declared.judging.Verdict.TheVariants.{Reply, Quiet}
 
 -- the causes of a chunk whose type is known, where these are that of its form and its last one
 abbrev pub known_cause : Place → ℕ → Option Cause → Option Cause → Option Cause
@@ -46,8 +46,8 @@ verdict_did s place from draws (InitiatorKeying fields hearing) =
     initiator_keyed s from draws fields.payload.now
 verdict_did s place from draws (ResponderKeying fields peer) =
     responder_keyed s (sid_at place) from fields.payload.now
-verdict_did s place from draws (Ping bytes) =
-    sent_in_session s (sid_at place) from (chunk_bytes (PingReply bytes.now))
+verdict_did s place from draws (Reply chunk) =
+    sent_in_session s (sid_at place) from (chunk_bytes (chunk_of chunk))
 verdict_did s place from draws Quiet = nothing s
 
 -- what was found is so
@@ -64,7 +64,8 @@ IsSo s place from (InitiatorKeying fields hearing) =
 IsSo s place from (ResponderKeying fields peer) =
     (responder_keying_in fields.payload.now ≡ Ok (responder_of fields))
     × (peer_of_attempt (get s.startup.attempts (sid_at place)) ≡ Some peer)
-IsSo s place from (Ping bytes) = length bytes.now ≤ 1024
+IsSo s place from (Reply chunk) = IsWritable (chunk_of chunk)
+    × (length (chunk_bytes (chunk_of chunk)) ≤ 1159)
 IsSo s place from Quiet = Unit {0}
 
 -- the chunk does what the verdict says, and what was found of it is so

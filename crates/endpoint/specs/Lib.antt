@@ -1,5 +1,5 @@
-pub mod Kept
-pub mod Keeping
+pub mod Stored
+pub mod Keeps
 pub mod NamedContext
 pub mod Kinds
 pub mod Judging

@@ -29,7 +29,7 @@ impl Endpoint {
             Some(Place::Startup)
         } else if self.startup.has_attempt(sid) {
             Some(Place::Attempt(sid))
-        } else if sessions::place_of(&self.sessions, sid).is_some() {
+        } else if sessions::index_of(&self.sessions, sid).is_some() {
             Some(Place::Session(sid))
         } else {
             None
@@ -58,8 +58,8 @@ impl Endpoint {
         ensures front { OnOk result (take 32 part.new ≡ take 32 part.old) }
         ensures length { length part.new ≡ length part.old }
     {
-        match sessions::place_of(&self.sessions, near) {
-            Some(place) => match self.sessions[place].open(part) {
+        match sessions::index_of(&self.sessions, near) {
+            Some(index) => match self.sessions[index].open(part) {
                 Ok(_) => Ok(()),
                 Err(Unheard::Short) => Err(Cause::Short),
                 Err(Unheard::BadTag) => Err(Cause::BadTag),
@@ -107,8 +107,8 @@ impl Endpoint {
         match place {
             Place::Startup => Mode::Startup,
             Place::Attempt(_) => Mode::Startup,
-            Place::Session(near) => match sessions::place_of(&self.sessions, near) {
-                Some(place) => peers_mode(self.sessions[place].role()),
+            Place::Session(near) => match sessions::index_of(&self.sessions, near) {
+                Some(index) => peers_mode(self.sessions[index].role()),
                 None => Mode::Startup,
             },
         }

@@ -1,8 +1,8 @@
 //! One chunk of a datagram: it is discarded for its cause, or does what it does.
 
 ghost use Rattle.std.specs.Prelude.{◌≡◌, ◌<◌, ◌≤◌, ◌^◌, IsOk, None, OnErr, OnOk, length};
-ghost use Rattle.rtmfp_chunks.specs.Chunk.{PingReply};
-ghost use Rattle.rtmfp_chunks.specs.Writing.{chunk_bytes};
+ghost use Rattle.rtmfp_chunks.specs.Chunk.{chunk_of};
+ghost use Rattle.rtmfp_chunks.specs.Writing.{IsWritable, chunk_bytes};
 ghost use Rattle.rtmfp_packet.specs.Chunks.{shown};
 ghost use Rattle.startup.specs.Attempts.{after_cookie_change, after_rhello, cookie_change_cause};
 ghost use Rattle.startup.specs.Attempts.{cookie_change_keying, rhello_cause, rhello_keying, wide};
@@ -52,7 +52,7 @@ impl Endpoint {
             Verdict::ResponderKeying { fields, peer } => {
                 self.responder_keyed(sid_at(place), fields, peer, from, out)
             }
-            Verdict::Ping { bytes } => self.answer_ping(sid_at(place), from, bytes, out),
+            Verdict::Reply { chunk } => self.reply(sid_at(place), from, chunk, out),
             Verdict::Quiet => Ok(()),
         }
     }
@@ -123,23 +123,24 @@ impl Endpoint {
         Ok(())
     }
 
-    /// Answers a ping in the session with this session ID, to an address.
-    fn answer_ping(
+    /// Answers a chunk by another, in the session with this session ID, to an address.
+    fn reply(
         &mut self,
         near: u32,
         to: &Address,
-        bytes: &[u8],
+        chunk: &ChunkView<'_>,
         out: &mut Outbox,
     ) -> Result<(), AllocError>
-        requires { length bytes.now ≤ 1024 }
+        requires writable { IsWritable (chunk_of chunk.now) }
+        requires short { length (chunk_bytes (chunk_of chunk.now)) ≤ 1159 }
         ensures ok { OnOk result
-            (Done (sent_in_session self.old near to.now (chunk_bytes (PingReply bytes.now)))
+            (Done (sent_in_session self.old near to.now (chunk_bytes (chunk_of chunk.now)))
             self.new out.old out.new) }
         ensures err { OnErr result (Done (nothing self.old) self.new out.old out.new) }
     {
         let blank = blank(self.alloc)?;
         out.make_room(1)?;
-        self.send_in_session(blank, near, to, &ChunkView::PingReply { bytes }, out);
+        self.send_in_session(blank, near, to, chunk, out);
         Ok(())
     }
 

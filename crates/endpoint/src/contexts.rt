@@ -62,8 +62,8 @@ impl Endpoint {
     fn context_towards(&self, near: u32) -> Option<Context>
         ensures { result ≡ context_towards (get self.now.sessions near) }
     {
-        match sessions::place_of(&self.sessions, near) {
-            Some(place) => Some(self.sessions[place].context(false)),
+        match sessions::index_of(&self.sessions, near) {
+            Some(index) => Some(self.sessions[index].context(false)),
             None => None,
         }
     }
@@ -99,9 +99,9 @@ impl Endpoint {
     fn context_in_session(&self, near: u32, part: &[u8]) -> Option<Context>
         ensures { result ≡ context_in_session (get self.now.sessions near) part.now }
     {
-        match sessions::place_of(&self.sessions, near) {
-            Some(place) => {
-                let session = &self.sessions[place];
+        match sessions::index_of(&self.sessions, near) {
+            Some(index) => {
+                let session = &self.sessions[index];
                 if session.opens(part) {
                     Some(session.context(false))
                 } else {

@@ -2,6 +2,7 @@
 
 use crypto_profile::{Context, Keys};
 use endpoint_model::Config;
+use glare_core::Held;
 use identity::Certificate;
 use session_core::Session;
 use startup::Startup;
@@ -39,7 +40,7 @@ impl Model for Endpoint {
 
     ghost coded = { state_code config_type.the_row.coded startup_type.the_row.coded session_type.the_row.coded };
 
-    ghost use Rattle.endpoint.specs.Kept.{state_of, IsEndpoint};
+    ghost use Rattle.endpoint.specs.Stored.{state_of, IsEndpoint};
 
     ghost view = { λ e. state_of e.config e.moment e.sealed e.startup e.sessions.items };
 
@@ -50,6 +51,7 @@ impl Endpoint {
     ghost use Rattle.std.specs.Prelude.{◌≡◌, ◌≤◌, []};
     ghost use Rattle.endpoint_model.specs.State.{fresh, at_moment};
     ghost use Rattle.endpoint_model.specs.Log.{StandsFor};
+    ghost use Rattle.endpoint.specs.Keeps.{keeps};
 
     /// An end that holds nothing yet. It takes no memory.
     pub fn new(
@@ -87,6 +89,20 @@ impl Endpoint {
             sealed: 0,
             startup: Startup::new(alloc, cert, secret, cookie_secret, config.max_peers),
             sessions: Vec::new(alloc),
+        }
+    }
+
+    /// Whether the end keeps a session with the peer that has this fingerprint. A half-open session
+    /// isn't kept.
+    pub fn keeps(&self, peer: &[u8; 32]) -> bool
+        ensures { result ≡ keeps self.now peer.now }
+    {
+        match self.startup.peers().held(peer) {
+            Some(Held::KeptAsResponder(_)) => true,
+            Some(Held::KeptAsInitiator(_)) => true,
+            Some(Held::HalfOpen(_)) => false,
+            Some(Held::Opening { .. }) => false,
+            None => false,
         }
     }
 

@@ -18,31 +18,13 @@ ghost use Rattle.endpoint.specs.Judging.{known_cause, Stands};
 use crate::endpoint::Endpoint;
 use endpoint_model::{Place, Walk};
 use identity::Certificate;
+use rtmfp_chunks::kinds::*;
 use rtmfp_chunks::{ChunkFault, ChunkView, read_chunk};
 use rtmfp_forms::Address;
 use rtmfp_packet::RawChunk;
 use startup::{
     Cause, Hearing, InitiatorFields, ResponderFields, read_initiator_keying, read_responder_keying,
 };
-
-/// The types of chunks (RFC 7016 section 2.3).
-const IHELLO: u8 = 0x30;
-
-const FIHELLO: u8 = 0x0f;
-
-const RHELLO: u8 = 0x70;
-
-const COOKIE_CHANGE: u8 = 0x79;
-
-pub(crate) const IIKEYING: u8 = 0x38;
-
-const RIKEYING: u8 = 0x78;
-
-const PING: u8 = 0x01;
-
-const PING_REPLY: u8 = 0x41;
-
-const FRAGMENT: u8 = 0x7f;
 
 /// The most bytes of a ping that is answered (own).
 const PING_LIMIT: usize = 1024;
@@ -76,9 +58,9 @@ pub(crate) enum Verdict<'a> {
         fields: ResponderFields<'a>,
         peer: [u8; 32],
     },
-    /// A ping, which is answered.
-    Ping {
-        bytes: &'a [u8],
+    /// A chunk that is answered by this one, in the session that it came in.
+    Reply {
+        chunk: ChunkView<'a>,
     },
     /// A chunk that does nothing, as an answer to a ping.
     Quiet,
@@ -209,7 +191,9 @@ impl Endpoint {
             }
             ChunkView::Ping { bytes } => match ping_cause(bytes) {
                 Some(cause) => Err(cause),
-                None => Ok(Verdict::Ping { bytes }),
+                None => Ok(Verdict::Reply {
+                    chunk: ChunkView::PingReply { bytes },
+                }),
             },
             _ => Ok(Verdict::Quiet),
         }

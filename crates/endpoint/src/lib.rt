@@ -7,7 +7,6 @@ mod chunks;
 mod contexts;
 mod endpoint;
 mod judging;
-mod kept_sessions;
 mod keyings;
 mod kinds;
 mod outbox;

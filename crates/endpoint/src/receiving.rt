@@ -12,11 +12,11 @@ ghost use Rattle.endpoint_model.specs.State.{Done, at_moment, nothing};
 
 use crate::admission::{PLAIN_AT, SEALED_AT, fault_number, has_mode};
 use crate::endpoint::Endpoint;
-use crate::judging::IIKEYING;
 use crate::keyings::add_fact;
 use crate::outbox::Outbox;
-use crate::sessions::place_of;
+use crate::sessions::index_of;
 use endpoint_model::{Draws, Entry, Place, Stopped, Walk};
+use rtmfp_chunks::kinds::IIKEYING;
 use rtmfp_forms::Address;
 use rtmfp_packet::{Chunks, Packet, PacketHead, RawChunk, read_packet};
 use startup::Cause;
@@ -190,8 +190,8 @@ impl Endpoint {
         requires { 32 ≤ length part.now }
         ensures { self.new ≡ counted_by self.old near part.now (get self.old.sessions near) }
     {
-        match place_of(&self.sessions, near) {
-            Some(at) => self.sessions[at].take_number(part),
+        match index_of(&self.sessions, near) {
+            Some(index) => self.sessions[index].take_number(part),
             None => {}
         }
     }
@@ -210,8 +210,8 @@ impl Endpoint {
     fn time_in(&mut self, near: u32, head: &PacketHead)
         ensures { self.new ≡ timed_by self.old near head.now (get self.old.sessions near) }
     {
-        match place_of(&self.sessions, near) {
-            Some(at) => self.sessions[at].take_stamps(head, self.moment),
+        match index_of(&self.sessions, near) {
+            Some(index) => self.sessions[index].take_stamps(head, self.moment),
             None => {}
         }
     }
@@ -230,8 +230,8 @@ impl Endpoint {
     fn confirms_in(&self, near: u32) -> bool
         ensures { result ≡ confirms_by (get self.now.sessions near) }
     {
-        match place_of(&self.sessions, near) {
-            Some(at) => self.sessions[at].is_half_open(),
+        match index_of(&self.sessions, near) {
+            Some(index) => self.sessions[index].is_half_open(),
             None => false,
         }
     }
@@ -258,9 +258,9 @@ impl Endpoint {
         ensures { Done (confirming_by self.old near (get self.old.sessions near)) self.new out.old
             out.new }
     {
-        match place_of(&self.sessions, near) {
-            Some(at) => {
-                let session = &mut self.sessions[at];
+        match index_of(&self.sessions, near) {
+            Some(index) => {
+                let session = &mut self.sessions[index];
                 let peer = session.joined().peer;
                 session.confirm();
                 let fact = self.startup.confirm(&peer);

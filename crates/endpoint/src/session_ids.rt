@@ -4,7 +4,7 @@ ghost use Rattle.std.specs.Prelude.{◌≡◌, ◌+◌, ◌<◌, ◌^◌};
 ghost use Rattle.endpoint_model.specs.State.{free_from, full, is_free, is_used, next_id, uses};
 
 use crate::endpoint::Endpoint;
-use crate::sessions::place_of;
+use crate::sessions::index_of;
 
 impl Endpoint {
     /// How many attempts and sessions there are.
@@ -30,7 +30,7 @@ impl Endpoint {
     fn is_used(&self, near: u32) -> bool
         ensures { result ≡ is_used self.now near }
     {
-        self.startup.has_attempt(near) || place_of(&self.sessions, near).is_some()
+        self.startup.has_attempt(near) || index_of(&self.sessions, near).is_some()
     }
 
     /// Whether this session ID may be given to a new one.

@@ -9,7 +9,7 @@ ghost use Rattle.endpoint_model.specs.Sending.{sent_in_session};
 use crate::endpoint::Endpoint;
 use crate::outbox::Outbox;
 use crate::sending::session_datagram;
-use crate::sessions::place_of;
+use crate::sessions::index_of;
 use endpoint_model::Entry;
 use rtmfp_chunks::ChunkView;
 use rtmfp_forms::Address;
@@ -33,14 +33,14 @@ impl Endpoint {
         ensures { Done (sent_in_session self.old near to.now (chunk_bytes (chunk_of chunk.now)))
             self.new out.old out.new }
     {
-        let Some(place) = place_of(&self.sessions, near) else {
+        let Some(index) = index_of(&self.sessions, near) else {
             return;
         };
-        if self.sessions[place].is_spent() {
+        if self.sessions[index].is_spent() {
             return;
         }
-        let context = self.sessions[place].context(true);
-        let session = &mut self.sessions[place];
+        let context = self.sessions[index].context(true);
+        let session = &mut self.sessions[index];
         let datagram = session_datagram(blank, session, self.moment, chunk);
         out.add(Entry::Out {
             to: *to,

@@ -2,12 +2,12 @@
 
 ghost use Rattle.std.specs.Prelude.{◌≡◌, ◌<◌, ◌≤◌, ◌==◌, IfNone, IfSome, None, length, position, vec_len, vec_capacity};
 ghost use Rattle.std.specs.FinMap.{get, insert, len, remove};
-ghost use Rattle.endpoint.specs.Kept.{near_of, table_of};
+ghost use Rattle.endpoint.specs.Stored.{near_of, table_of};
 
 use session_core::Session;
 
-/// The place of the session with this session ID.
-pub(crate) fn place_of(sessions: &[Session], near: u32) -> Option<usize>
+/// The index of the session with this session ID.
+pub(crate) fn index_of(sessions: &[Session], near: u32) -> Option<usize>
     ensures { result ≡ position (λ session. near_of session == near) sessions.now }
 {
     sessions
@@ -24,8 +24,8 @@ pub(crate) fn keep(sessions: &mut Vec<Session>, session: Session)
     ensures distinct { len (table_of sessions.new.items) ≡ length sessions.new.items }
 {
     let near = session.joined().near;
-    match place_of(sessions, near) {
-        Some(place) => sessions[place] = session,
+    match index_of(sessions, near) {
+        Some(index) => sessions[index] = session,
         None => match sessions.push(session) {
             Ok(()) => {}
             Err(_) => {}
@@ -41,7 +41,7 @@ pub(crate) fn forget(sessions: &mut Vec<Session>, near: u32)
     ensures capacity { vec_capacity sessions.new ≡ vec_capacity sessions.old }
     ensures shorter { vec_len sessions.new ≤ vec_len sessions.old }
 {
-    if let Some(place) = place_of(sessions, near) {
-        sessions.swap_remove(place);
+    if let Some(index) = index_of(sessions, near) {
+        sessions.swap_remove(index);
     }
 }

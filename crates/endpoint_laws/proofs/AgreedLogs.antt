@@ -2,7 +2,7 @@
 use Rattle.std.proofs.Common.{ℕ, List, [], ◌∷◌, ◌++◌, ◌≡◌, inl, inr, ap, ◌∙◌, Option, Some, None}
 use Rattle.glare_core.specs.declared.facts.Joined.{Joined}
 use Rattle.glare_core.specs.Standing.{held}
-use Rattle.glare_core.specs.Steps.{Did, Step, step, view, facts, IsTail}
+use Rattle.glare_core.specs.Steps.{Step, view, facts, IsTail}
 use Rattle.glare_core.specs.Agreed.{Keeps as KeepsAt}
 use Rattle.glare_core.proofs.Tails.{tail_self, tail_trans}
 use Rattle.glare_core.specs.declared.facts.Fact.{Fact}

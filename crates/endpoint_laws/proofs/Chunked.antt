@@ -4,23 +4,17 @@ use Rattle.std.specs.Prelude.{◌==◌}
 use Rattle.std.specs.Str.{bytes_eq}
 use Rattle.std.specs.FinMap.{get, contains_key}
 use Rattle.std.proofs.lemmas.Slice.Eq.{bytes_eq-Decides}
-use Rattle.rtmfp_base.proofs.Lowest.{first_is_there}
 use Rattle.rtmfp_forms.specs.Address.{AddressParts}
 use Rattle.rtmfp_packet.specs.Walk.{Placed}
 use Rattle.rtmfp_packet.specs.Whole.{Whole}
-use Rattle.rtmfp_chunks.specs.declared.reading.ChunkFault.{ChunkFault}
-use Rattle.rtmfp_chunks.specs.Chunk.{Chunk, IHello, FIHello, RHello, Redirect, CookieChange, IIKeying, RIKeying, Ping, PingReply, Close, CloseAck, Fragment}
 use Rattle.rtmfp_chunks.specs.FieldReading.{chunk_reading}
 use Rattle.startup.specs.declared.cause.Cause.{Cause}
 use Rattle.startup.specs.declared.cause.Cause.TheVariants.{UnknownChunk, WrongPlace, NoAttempt, SecondKeying, WrongState, WrongPeer, BadSignature, Wide, Fragment as FragmentCause}
-use Rattle.startup.specs.declared.answer.Answer.{Answer}
-use Rattle.startup.specs.State.{AttemptState, Attempts}
+use Rattle.startup.specs.State.{AttemptState}
 use Rattle.startup.specs.Packets.{is_signed}
-use Rattle.startup.specs.Attempts.{lowest, has_tag, has_cookie, with_attempt, answered, after_answer, answer_keying, if_cookie, changed, recookied, after_change, change_keying}
-use Rattle.startup.specs.Keyings.{InitiatorKeying, ResponderKeying, initiator_keying_in, responder_keying_in, initiator_hello_answer, fault_in, cause_by, named_cause, cookie_cause, initiator_cause, iikeying_cause, is_in_hello, attempt_cause, responder_cause, rikeying_cause}
+use Rattle.startup.specs.Keyings.{InitiatorKeying, ResponderKeying, initiator_keying_in, responder_keying_in, fault_in, cause_by, named_cause, cookie_cause, initiator_cause, iikeying_cause, is_in_hello, attempt_cause, responder_cause, rikeying_cause}
 use Rattle.cookies.specs.Cookie.{cookie_test}
 use Rattle.glare_core.specs.Calls.{where_true}
-use Rattle.rtmfp_chunks.specs.Writing.{chunk_bytes}
 use Rattle.endpoint_model.specs.declared.walk.Walk.{Walk}
 use Rattle.endpoint_model.specs.declared.config.Draws.{Draws}
 use Rattle.endpoint_model.specs.declared.place.Place.{Place}
@@ -28,76 +22,19 @@ use Rattle.endpoint_model.specs.declared.place.Place.TheVariants.{Startup, Attem
 use Rattle.endpoint_model.specs.Event.{Setup, Call, Receive}
 use Rattle.endpoint_laws.specs.Past.{Stamped, onto}
 use Rattle.endpoint_model.specs.Keying.{IsAmong, IsFirst, chunks_of}
-use Rattle.endpoint_model.specs.State.{State, Did, with_startup, full}
-use Rattle.endpoint_model.specs.Sending.{sent_if}
+use Rattle.endpoint_model.specs.State.{State, Did, full}
 use Rattle.endpoint_model.specs.Admission.{sid_at}
-use Rattle.endpoint_model.specs.Due.{initiator_keyed, responder_keyed, read_done, effect, discarded_or, chunk_did, walked, chunks_did}
+use Rattle.endpoint_model.specs.Due.{initiator_keyed, responder_keyed, effect, discarded_or, chunk_did, walked, chunks_did}
 use Rattle.endpoint_model.specs.Causes.{is_known, form_cause, read_fault, takes, initiator_keying_cause, responder_keying_cause, last_cause, chunk_cause}
 use Rattle.endpoint_model.proofs.Members.{tested}
 use Rattle.endpoint_laws.proofs.Tied.{Tied}
 use Rattle.endpoint_laws.proofs.Facts.{all_none, test_fails}
-use Rattle.endpoint_laws.proofs.Moving.{tied_attempt}
-use Rattle.endpoint_laws.proofs.Going.{Keeps, Goes, goes_nothing, goes_then, goes_discarded, goes_answer, goes_if, goes_in_session}
+use Rattle.endpoint_laws.proofs.Going.{Goes, goes_nothing, goes_then, goes_discarded}
+use Rattle.endpoint_laws.proofs.Replies.{goes_read}
 use Rattle.endpoint_laws.proofs.Admitting.{Came}
 use Rattle.endpoint_laws.proofs.Bearing.{IsHeard}
 use Rattle.endpoint_laws.proofs.Keyed.{goes_initiator}
 use Rattle.endpoint_laws.proofs.Answering.{OpensAttempt, goes_responder}
-
--- ---- chunks that are read: hellos, changes of cookies, and pings
-
-module _ (setup : Setup) (call : Call) where
-  -- what is sent in a state that was reached without entries
-  then_sent : (s t : State) (answer : Option Answer) → t.moment ≡ s.moment → ((past : List Stamped) → Tied setup past s → Tied setup past t) → Keeps setup call s (sent_if t answer)
-  then_sent s t answer moment more past tied =
-      goes_then setup call past s (record { state = t; entries = [] }) (λ u. sent_if u answer) (record { meets = tt; tied = more past tied; moment = moment }) (goes_if setup call t answer past (more past tied))
-
-  rhello_keeps : (s : State) (e : Option (ℕ × AttemptState)) (from : AddressParts) (cookie : List ℕ) → ((found : ℕ × AttemptState) → e ≡ Some found → get s.startup.attempts found.0 ≡ Some found.1) →
-      Keeps setup call s (sent_if (with_startup s (after_answer s.startup e from cookie s.moment)) (answer_keying s.startup e from cookie))
-  rhello_keeps s None from cookie there = goes_nothing setup call s
-  rhello_keeps s (Some e) from cookie there =
-      let t : State = with_startup s (with_attempt s.startup e.0 (answered e.1 from cookie s.moment)) in
-      then_sent s t (answer_keying s.startup (Some e) from cookie) refl
-      (λ past tied. tied_attempt setup past s e.0 e.1 (answered e.1 from cookie s.moment) tied (there e refl) refl (λ w. w))
-
-  change_keeps : (s : State) (e : Option (ℕ × AttemptState)) (cookie : List ℕ) → ((found : ℕ × AttemptState) → e ≡ Some found → get s.startup.attempts found.0 ≡ Some found.1) →
-      Keeps setup call s (sent_if (with_startup s (after_change s.startup e cookie s.moment)) (change_keying s.startup e cookie))
-  change_keeps s None cookie there = goes_nothing setup call s
-  change_keeps s (Some e) cookie there =
-      let t : State = with_startup s (with_attempt s.startup e.0 (recookied e.1 cookie s.moment)) in
-      then_sent s t (change_keying s.startup (Some e) cookie) refl
-      (λ past tied. tied_attempt setup past s e.0 e.1 (recookied e.1 cookie s.moment) tied (there e refl) refl (λ w. w))
-
-  if_cookie_there : (cookie : List ℕ) (near : ℕ) (o : Option AttemptState) (e : ℕ × AttemptState) → if_cookie cookie near o ≡ Some e → (near ≡ e.0) × (o ≡ Some e.1)
-  if_cookie_there cookie near None e is = absurd (cc)
-  if_cookie_there cookie near (Some a) e is = by (has_cookie cookie a) is
-    where
-      by : (b : Bool) → where_true b (near, a) ≡ Some e → (near ≡ e.0) × (Some a ≡ Some e.1)
-      by true is = let same : (near, a) ≡ e = cc in (ap (λ (p : ℕ × AttemptState). p.0) same, ap (λ (p : ℕ × AttemptState). Some p.1) same)
-      by false is = absurd (cc)
-
-  changed_there : (attempts : Attempts) (sid : ℕ) (old : List ℕ) (e : ℕ × AttemptState) → changed attempts sid old ≡ Some e → get attempts e.0 ≡ Some e.1
-  changed_there attempts sid old e is = by (sid == 0) is
-    where
-      by : (b : Bool) → (if b then lowest (has_cookie old) attempts else if_cookie old sid (get attempts sid)) ≡ Some e → get attempts e.0 ≡ Some e.1
-      by true is = (first_is_there (has_cookie old) attempts e is).0
-      by false is = let found = if_cookie_there old sid (get attempts sid) e is in ap (get attempts) (sym found.0) ∙ found.1
-
-  goes_read : (s : State) (place : Place) (from : AddressParts) (r : Result Chunk ChunkFault) → Keeps setup call s (read_done s place from r)
-  goes_read s place from (Ok (IHello epd tag)) = goes_answer setup call s (initiator_hello_answer s.startup tag from s.moment)
-  goes_read s place from (Ok (FIHello epd reply tag)) = goes_answer setup call s (initiator_hello_answer s.startup tag reply s.moment)
-  goes_read s place from (Ok (RHello tag cookie cert)) =
-      rhello_keeps s (lowest (has_tag tag) s.startup.attempts) from cookie (λ found is. (first_is_there (has_tag tag) s.startup.attempts found is).0)
-  goes_read s place from (Ok (CookieChange old new)) =
-      change_keeps s (changed s.startup.attempts (sid_at place) old) new (λ found is. changed_there s.startup.attempts (sid_at place) old found is)
-  goes_read s place from (Ok (Ping bytes)) = goes_in_session setup call s (sid_at place) from (chunk_bytes (PingReply bytes))
-  goes_read s place from (Ok (Redirect tag list)) = goes_nothing setup call s
-  goes_read s place from (Ok (IIKeying near cookie cert part sign)) = goes_nothing setup call s
-  goes_read s place from (Ok (RIKeying near part sign)) = goes_nothing setup call s
-  goes_read s place from (Ok (PingReply bytes)) = goes_nothing setup call s
-  goes_read s place from (Ok Close) = goes_nothing setup call s
-  goes_read s place from (Ok CloseAck) = goes_nothing setup call s
-  goes_read s place from (Ok (Fragment more id number bytes)) = goes_nothing setup call s
-  goes_read s place from (Err fault) = goes_nothing setup call s
 
 -- ---- what there being no cause says of keyings
 

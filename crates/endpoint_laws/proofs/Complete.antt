@@ -1,7 +1,6 @@
 -- Admissible keyings bear, and responders' keyings that nothing discards open.
 use Rattle.std.proofs.Common.{◌≡◌, ◌≢◌, ℕ, ◌+◌, ◌^◌, ◌<◌, ◌≤◌, ◌==◌, max, List, [], ◌∷◌, ◌++◌, length, take, drop, length-drop, nat_lt, Bool, true, false, not, if◌then◌else◌, Option, Some, None, Result, Ok, Err, inl, inr, refl, sym, ap, subst, ◌∙◌, arith, append_assoc, length-append}
 use Rattle.std.specs.Int.{w64, to_be_bytes}
-use Rattle.std.specs.FinMap.{get}
 use Rattle.std.proofs.lemmas.Bool.Decides.{nat_tests}
 use Rattle.std.proofs.lemmas.List.{length-take-le, take-append-drop, append-nil}
 use Rattle.sha2.specs.Sha256.{sha256}
@@ -15,8 +14,7 @@ use Rattle.rtmfp_packet.specs.Head.{mode_number, head_bytes}
 use Rattle.rtmfp_packet.specs.Whole.{Whole}
 use Rattle.rtmfp_packet.specs.Walk.{Placed}
 use Rattle.rtmfp_packet.proofs.Readings.{packet_reading_same}
-use Rattle.rtmfp_chunks.specs.declared.reading.ChunkFault.{ChunkFault}
-use Rattle.rtmfp_chunks.specs.Chunk.{Chunk, IHello, FIHello, RHello, Redirect, CookieChange, IIKeying, RIKeying, Ping, PingReply, Close, CloseAck, Fragment, parts_of}
+use Rattle.rtmfp_chunks.specs.Chunk.{Ping, parts_of}
 use Rattle.rtmfp_chunks.proofs.WritingLaws.{parts_bytes-spell}
 use Rattle.rtmfp_chunks.specs.FieldReading.{chunk_reading}
 use Rattle.crypto_profile.specs.declared.keys.Context.TheVariants.{Startup as StartupContext}
@@ -41,13 +39,12 @@ use Rattle.startup.specs.declared.cause.Cause.TheVariants.{Short, WrongPlace, Un
 use Rattle.startup.specs.declared.answer.Answer.{Answer}
 use Rattle.startup.specs.State.{StartupState}
 use Rattle.startup.specs.Packets.{rikeying_packet}
-use Rattle.startup.specs.Attempts.{after_rhello, rhello_keying, after_cookie_change, cookie_change_keying}
-use Rattle.startup.specs.Keyings.{InitiatorKeying, keying_of, initiator_hello_answer, fault_in, responder_keying_in, session_answer, born_session, again_or_birth, keyed_with, keyed_reading, after_again_or_birth, after_keyed_with, after_keyed_reading, opened, opened_reading, after_opening}
+use Rattle.startup.specs.Keyings.{InitiatorKeying, keying_of, fault_in, responder_keying_in, session_answer, born_session, again_or_birth, keyed_with, keyed_reading, after_again_or_birth, after_keyed_with, after_keyed_reading, opened, opened_reading, after_opening}
 use Rattle.session_core.specs.Session.{SessionState, new_session, head_at}
 use Rattle.session_core.specs.Sealed.{number_bytes}
 use Rattle.glare_core.specs.Tells.{as_initiator}
 use Rattle.rtmfp_chunks.specs.Writing.{chunk_bytes}
-use Rattle.endpoint_laws.proofs.NoFacts.{NoFacts, facts_stay, none_in_both}
+use Rattle.endpoint_laws.proofs.NoFacts.{NoFacts, facts_stay, none_in_both, none_read}
 use Rattle.endpoint_laws.specs.Contexts.{session_context}
 use Rattle.session_core.specs.declared.stage.Role.TheVariants.{Initiator}
 use Rattle.endpoint_model.specs.declared.walk.Walk.{Walk}
@@ -57,13 +54,13 @@ use Rattle.endpoint_model.specs.declared.place.Place.TheVariants.{Startup, Attem
 use Rattle.endpoint_model.specs.declared.entry.Entry.{Entry}
 use Rattle.endpoint_model.specs.declared.entry.Entry.TheVariants.{Fact as FactEntry, Out}
 use Rattle.endpoint_model.specs.Event.{Setup, own_of, Receive, Answer as CallAnswer, Began, Done, NotOpened, Refused, Stopped, OutOfMemory, Event}
-use Rattle.endpoint_laws.specs.Past.{Stamped, stamped, onto, facts_of, past_of, last_moment, begun}
+use Rattle.endpoint_laws.specs.Past.{Stamped, onto, facts_of, past_of, last_moment, begun}
 use Rattle.endpoint_model.specs.Keying.{IsFirst, chunks_of}
 use Rattle.endpoint_laws.specs.Admissible.{Admissible, Offer}
 use Rattle.endpoint_laws.specs.Lawful.{AnswersAttempt}
 use Rattle.endpoint_model.specs.State.{State, Did, nothing, after_entries, then_do, fact_entries, with_startup, free_from, fresh, at_moment}
-use Rattle.endpoint_model.specs.Sending.{last_count, startup_number, startup_datagram, session_packet, session_datagram, sent_answer, sent_if, sent_by}
-use Rattle.endpoint_model.specs.Admission.{Admission, Rejected, Admitted, place_of, sid_at, opened_by, placed, opened_found, opened_datagram, admission, admitted, admitted_packet, packet_in, has_mode, confirming}
+use Rattle.endpoint_model.specs.Sending.{last_count, startup_number, startup_datagram, session_packet, session_datagram, sent_by}
+use Rattle.endpoint_model.specs.Admission.{Admission, Rejected, Admitted, place_of, opened_by, placed, opened_found, opened_datagram, admission, admitted, admitted_packet, packet_in, has_mode, confirming}
 use Rattle.endpoint_model.specs.Causes.{is_known, form_cause, takes, last_cause, chunk_cause}
 use Rattle.endpoint_model.specs.Due.{with_born, keying_done, initiator_keyed, responder_keyed, with_opened, opening_done, read_done, effect, discarded_or, chunk_did, walked, chunks_did, received, part_received, outset}
 use Rattle.endpoint_model.specs.Log.{Answers, Leads}
@@ -87,43 +84,6 @@ use Rattle.endpoint_laws.proofs.Few.{few_chunks, few_of_log, outs_append}
 use Rattle.endpoint_laws.proofs.OutPackets.{one_whole, session_reads}
 use Rattle.endpoint_laws.proofs.ReadsBack.{none_all, less_is_other, IsBearing, read_as, is_bearing}
 use Rattle.endpoint_laws.proofs.AnswerCarried.{keying_answers}
-
--- ---- entries that state nothing
-
-none_either : (b : Bool) (d e : Did) → NoFacts d.entries → NoFacts e.entries → NoFacts (if b then d else e).entries
-none_either true d e p q = p
-none_either false d e p q = q
-
-none_answer : (s : State) (answer : Answer) → NoFacts (sent_answer s answer).entries
-none_answer s answer = by (s.sealed == last_count)
-  where
-    by : (b : Bool) → NoFacts (if b then nothing s else record { state = record s { sealed = s.sealed + 1 }; entries = Out answer.to (startup_datagram s answer.sid answer.plain) StartupContext ∷ [] }).entries
-    by true = tt
-    by false = tt
-
-none_if : (s : State) (answer : Option Answer) → NoFacts (sent_if s answer).entries
-none_if s None = tt
-none_if s (Some answer) = none_answer s answer
-
-none_by : (s : State) (near : ℕ) (to : AddressParts) (body : List ℕ) (o : Option SessionState) → NoFacts (sent_by s near to body o).entries
-none_by s near to body None = tt
-none_by s near to body (Some session) = none_either (session.sealed == last_count) (nothing s) _ tt tt
-
-none_read : (s : State) (place : Place) (from : AddressParts) (r : Result Chunk ChunkFault) → NoFacts (read_done s place from r).entries
-none_read s place from (Ok (IHello epd tag)) = none_answer s (initiator_hello_answer s.startup tag from s.moment)
-none_read s place from (Ok (FIHello epd reply tag)) = none_answer s (initiator_hello_answer s.startup tag reply s.moment)
-none_read s place from (Ok (RHello tag cookie cert)) = none_if (with_startup s (after_rhello s.startup tag cookie from s.moment)) (rhello_keying s.startup tag cookie from)
-none_read s place from (Ok (CookieChange old new)) =
-    none_if (with_startup s (after_cookie_change s.startup (sid_at place) old new s.moment)) (cookie_change_keying s.startup (sid_at place) old new)
-none_read s place from (Ok (Ping bytes)) = none_by s (sid_at place) from (chunk_bytes (PingReply bytes)) (get s.sessions (sid_at place))
-none_read s place from (Ok (Redirect tag list)) = tt
-none_read s place from (Ok (IIKeying near cookie cert part sign)) = tt
-none_read s place from (Ok (RIKeying near part sign)) = tt
-none_read s place from (Ok (PingReply bytes)) = tt
-none_read s place from (Ok Close) = tt
-none_read s place from (Ok CloseAck) = tt
-none_read s place from (Ok (Fragment more id number bytes)) = tt
-none_read s place from (Err fault) = tt
 
 -- ---- the chunks before a keying
 

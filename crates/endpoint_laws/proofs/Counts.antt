@@ -1,5 +1,5 @@
 -- The number of each attempt is one of 64 bits: the last one that is given is the greatest of them.
-use Rattle.std.proofs.Common.{◌≡◌, ℕ, ◌+◌, ◌-◌, ◌^◌, ◌<◌, ◌==◌, max, List, [], ◌∷◌, ◌++◌, Bool, true, false, if◌then◌else◌, None, sym, ap, subst, ◌∙◌, arith, Option, Some, refl}
+use Rattle.std.proofs.Common.{◌≡◌, ℕ, ◌+◌, ◌-◌, ◌^◌, ◌<◌, ◌==◌, max, List, [], ◌∷◌, false, None, sym, ap, subst, ◌∙◌, arith, Option, Some, refl}
 use Rattle.std.proofs.lemmas.Bool.Decides.{nat_tests}
 use Rattle.std.specs.Str.{bytes_eq}
 use Rattle.rtmfp_forms.specs.Address.{AddressParts}
@@ -11,18 +11,17 @@ use Rattle.glare_core.specs.Ledger.{Ledger, held_with, row_count}
 use Rattle.glare_core.specs.Calls.{where_true, start_held, peers_full}
 use Rattle.glare_core.proofs.Accounts.{reads_started}
 use Rattle.startup.specs.Attempts.{begin_spread, after_begin}
-use Rattle.crypto_profile.specs.declared.keys.Context.TheVariants.{Startup}
 use Rattle.endpoint_laws.proofs.Moving.{tied_more}
 use Rattle.endpoint_model.specs.Views.{fact_in}
-use Rattle.endpoint_laws.proofs.NoFacts.{NoFactAnd, NoFacts, the_rest, none_in_both}
+use Rattle.endpoint_laws.proofs.NoFacts.{NoFactAnd, NoFacts, the_rest, none_each}
 use Rattle.endpoint_model.specs.declared.config.Draws.{Draws}
 use Rattle.endpoint_model.specs.declared.entry.Entry.{Entry}
-use Rattle.endpoint_model.specs.declared.entry.Entry.TheVariants.{Fact as FactEntry, Out}
+use Rattle.endpoint_model.specs.declared.entry.Entry.TheVariants.{Fact as FactEntry}
 use Rattle.endpoint_model.specs.Event.{Setup, own_of, Call, Open, Cancel, Receive, Tick, Answer, Began, Done, NotOpened, Refused, Stopped, OutOfMemory, Event, moment_at, OpenCall, open_in}
 use Rattle.endpoint_laws.specs.Past.{Stamped, stamped, onto, facts_of, past_of, fact_and, begun, with_event}
 use Rattle.endpoint_laws.specs.Lawful.{Opens, FactLine, IsCounted, OpensIn}
-use Rattle.endpoint_model.specs.State.{State, Did, nothing, at_moment, with_startup, with_sealed, free_from}
-use Rattle.endpoint_model.specs.Sending.{last_count, startup_datagram, sent_startup, sent_each}
+use Rattle.endpoint_model.specs.State.{State, at_moment, with_startup, free_from}
+use Rattle.endpoint_model.specs.Sending.{sent_each}
 use Rattle.endpoint_model.specs.Due.{open_refusal, opening}
 use Rattle.endpoint_model.specs.Log.{Answers, Leads}
 use Rattle.endpoint_laws.specs.Laws.{AreCalls}
@@ -34,19 +33,6 @@ use Rattle.endpoint_laws.proofs.Starting.{may_start}
 use Rattle.endpoint_laws.proofs.OutLog.{TiesGoOn}
 
 -- ---- entries that are no facts
-
-startup_no_facts : (s : State) (to : AddressParts) (sid : ℕ) (plain : List ℕ) → NoFacts (sent_startup s to sid plain).entries
-startup_no_facts s to sid plain = by (s.sealed == last_count)
-  where
-    by : (b : Bool) → NoFacts (let d : Did = (if b then nothing s else record { state = with_sealed s (s.sealed + 1); entries = Out to (startup_datagram s sid plain) Startup ∷ [] }) in d.entries)
-    by true = tt
-    by false = tt
-
-each_no_facts : (s : State) (plain : List ℕ) (to : List AddressParts) → NoFacts (sent_each s plain to).entries
-each_no_facts s plain [] = tt
-each_no_facts s plain (to ∷ rest) =
-    let first = sent_startup s to 0 plain in
-    none_in_both first.entries (sent_each first.state plain rest).entries (startup_no_facts s to 0 plain) (each_no_facts first.state plain rest)
 
 none_counted : (o : Option Fact) (P : Type 0) → NoFactAnd o P → CountMeets o
 none_counted None P none = tt
@@ -123,7 +109,7 @@ opening_counted setup now past s peer candidates draws entries tied few none is 
     let spread = begin_spread s.startup peer candidates draws.nonce draws.tag s.moment in
     subst (λ (es : List Entry). EntriesMeet CountPart setup now (Open peer candidates draws) past es) (sym is) (
       next_fits s.startup.ledger.started (omega (arith, started, few)) (not_last s peer candidates none),
-      no_facts_counted setup now (Open peer candidates draws) (stamped now (FactEntry fact) ∷ past) (sent_each t spread.plain spread.to).entries (each_no_facts t spread.plain spread.to),
+      no_facts_counted setup now (Open peer candidates draws) (stamped now (FactEntry fact) ∷ past) (sent_each t spread.plain spread.to).entries (none_each t spread.plain spread.to),
     )
 
 -- ---- logs

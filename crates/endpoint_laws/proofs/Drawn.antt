@@ -4,8 +4,7 @@ use Rattle.std.specs.Prelude.{◌==◌, not}
 use Rattle.std.specs.FinMap.{get}
 use Rattle.rtmfp_forms.specs.Address.{AddressParts}
 use Rattle.rtmfp_packet.specs.Walk.{Placed}
-use Rattle.rtmfp_chunks.specs.declared.reading.ChunkFault.{ChunkFault}
-use Rattle.rtmfp_chunks.specs.Chunk.{Chunk, IHello, FIHello, RHello, Redirect, CookieChange, IIKeying, RIKeying, Ping, PingReply, Close, CloseAck, Fragment}
+use Rattle.rtmfp_chunks.specs.Chunk.{Ping}
 use Rattle.rtmfp_chunks.specs.FieldReading.{chunk_reading}
 use Rattle.cookies.specs.declared.CookieTest.{CookieTest}
 use Rattle.cookies.specs.declared.CookieTest.TheVariants.{Bad, Moved, Expired as Late, Current}
@@ -26,9 +25,9 @@ use Rattle.startup.specs.declared.answer.Due.TheVariants.{Ended as EndDue}
 use Rattle.startup.specs.declared.attempt.Stage.{Stage}
 use Rattle.startup.specs.declared.attempt.Stage.TheVariants.{Hello, Keying as KeyingStage}
 use Rattle.startup.specs.State.{AttemptState, StartupState, SpreadParts}
-use Rattle.startup.specs.Attempts.{begin_spread, after_begin, hello_spread, keying_signed, confirm_fact, after_confirm, end_of, lowest, has_number, ended_attempt, after_rhello, rhello_keying, after_cookie_change, cookie_change_keying}
+use Rattle.startup.specs.Attempts.{begin_spread, after_begin, hello_spread, keying_signed, confirm_fact, after_confirm, end_of, lowest, has_number, ended_attempt}
 use Rattle.startup.specs.Due.{due_of, after_due, is_due, is_over, repeat_of, repeat_signed}
-use Rattle.startup.specs.Keyings.{InitiatorKeying, ResponderKeying, initiator_keying_in, responder_keying_in, keying_of, repeated_session, again_or_birth, keyed_with, keyed_reading, after_keying, change_answer, session_answer, born_session, opened_reading, initiator_hello_answer}
+use Rattle.startup.specs.Keyings.{InitiatorKeying, ResponderKeying, initiator_keying_in, responder_keying_in, keying_of, repeated_session, again_or_birth, keyed_with, keyed_reading, after_keying, change_answer, session_answer, born_session, opened_reading}
 use Rattle.session_core.specs.Session.{SessionState, is_opening, confirmed}
 use Rattle.rtmfp_chunks.specs.Writing.{chunk_bytes}
 use Rattle.glare_core.specs.declared.facts.Fact.{Fact}
@@ -38,17 +37,18 @@ use Rattle.endpoint_model.specs.declared.config.Draws.{Draws}
 use Rattle.endpoint_model.specs.declared.place.Place.{Place}
 use Rattle.endpoint_model.specs.declared.place.Place.TheVariants.{Startup, Attempt, Session}
 use Rattle.endpoint_model.specs.declared.entry.Entry.{Entry}
-use Rattle.endpoint_model.specs.declared.entry.Entry.TheVariants.{Fact as FactEntry, Out}
+use Rattle.endpoint_model.specs.declared.entry.Entry.TheVariants.{Fact as FactEntry}
 use Rattle.endpoint_model.specs.declared.answers.Stopped.{Stopped as Stop}
 use Rattle.endpoint_model.specs.Event.{Call, Open, Cancel, Receive, Tick, Answer as CallAnswer, Began, Done, NotOpened, Refused, Stopped, OutOfMemory}
 use Rattle.endpoint_laws.specs.Past.{Stamped, stamped, onto, facts_of, fact_and}
 use Rattle.endpoint_model.specs.State.{State, Did, Does, nothing, fact_entries, with_startup, with_session, free_from}
-use Rattle.endpoint_model.specs.Sending.{sent_startup, sent_answer, sent_if, sent_each, sent_by, sent_in_session, last_count}
+use Rattle.endpoint_model.specs.Sending.{sent_answer, sent_each, sent_in_session}
 use Rattle.endpoint_model.specs.Admission.{Admission, Rejected, Admitted, admission, sid_at, confirming, confirming_by}
 use Rattle.endpoint_model.specs.Keying.{chunks_of}
-use Rattle.endpoint_model.specs.Due.{opening, cancelling, due_done, tick_once, ticks, keying_done, initiator_keyed, opening_done, responder_keyed, with_born, read_done, effect, discarded_or, chunk_did, walked, chunks_did, received, part_received, outset, item_done, attempt_item}
+use Rattle.endpoint_model.specs.Due.{opening, cancelling, due_done, tick_once, ticks, keying_done, initiator_keyed, opening_done, responder_keyed, with_born, read_done, effect, discarded_or, chunk_did, chunks_did, received, part_received, outset, item_done, attempt_item}
 use Rattle.endpoint_model.specs.Causes.{is_known, form_cause, takes, initiator_keying_cause, responder_keying_cause, read_cause, last_cause, chunk_cause}
 use Rattle.endpoint_laws.specs.Lawful.{nonces_of}
+use Rattle.endpoint_laws.proofs.NoFacts.{NoFactAnd, NoFacts, the_rest, none_answer, none_each, none_in_session, none_read}
 use Rattle.endpoint_model.specs.Log.{stopped, Answers}
 
 -- ---- the nonces among entries, in their order
@@ -96,29 +96,24 @@ none_either : (b : Bool) (d e : Did) → drawn d.entries ≡ [] → drawn e.entr
 none_either true d e p q = p
 none_either false d e p q = q
 
--- ---- what is sent draws none
+-- what states nothing draws none, as what is sent
+draws_no_more : (o : Option Fact) (P : Type 0) (l : List (List ℕ)) → NoFactAnd o P → drawn_and o l ≡ l
+draws_no_more None P l none = refl
+draws_no_more (Some fact) P l none = absurd none
 
-none_startup : (s : State) (to : AddressParts) (sid : ℕ) (plain : List ℕ) → drawn (sent_startup s to sid plain).entries ≡ []
-none_startup s to sid plain = none_either (s.sealed == last_count) _ _ refl refl
+none_stated : (entries : List Entry) → NoFacts entries → drawn entries ≡ []
+none_stated [] none = refl
+none_stated (entry ∷ rest) none =
+    draws_no_more (fact_in entry) (NoFacts rest) (drawn rest) none ∙ none_stated rest (the_rest (fact_in entry) (NoFacts rest) none)
 
-none_answer : (s : State) (answer : Answer) → drawn (sent_answer s answer).entries ≡ []
-none_answer s answer = none_startup s answer.to answer.sid answer.plain
+none_answered : (s : State) (answer : Answer) → drawn (sent_answer s answer).entries ≡ []
+none_answered s answer = none_stated (sent_answer s answer).entries (none_answer s answer)
 
-none_if : (s : State) (answer : Option Answer) → drawn (sent_if s answer).entries ≡ []
-none_if s None = refl
-none_if s (Some answer) = none_answer s answer
+none_said : (s : State) (near : ℕ) (to : AddressParts) (body : List ℕ) → drawn (sent_in_session s near to body).entries ≡ []
+none_said s near to body = none_stated (sent_in_session s near to body).entries (none_in_session s near to body)
 
-none_each : (s : State) (plain : List ℕ) (to : List AddressParts) → drawn (sent_each s plain to).entries ≡ []
-none_each s plain [] = refl
-none_each s plain (to ∷ rest) =
-    none_after (sent_startup s to 0 plain).entries (sent_each (sent_startup s to 0 plain).state plain rest).entries [] (none_startup s to 0 plain) (none_each (sent_startup s to 0 plain).state plain rest)
-
-none_by : (s : State) (near : ℕ) (to : AddressParts) (body : List ℕ) (o : Option SessionState) → drawn (sent_by s near to body o).entries ≡ []
-none_by s near to body None = refl
-none_by s near to body (Some session) = none_either (session.sealed == last_count) _ _ refl refl
-
-none_in_session : (s : State) (near : ℕ) (to : AddressParts) (body : List ℕ) → drawn (sent_in_session s near to body).entries ≡ []
-none_in_session s near to body = none_by s near to body (get s.sessions near)
+none_spread : (s : State) (plain : List ℕ) (to : List AddressParts) → drawn (sent_each s plain to).entries ≡ []
+none_spread s plain to = none_stated (sent_each s plain to).entries (none_each s plain to)
 
 -- ---- ends and confirmations draw none
 
@@ -157,8 +152,8 @@ none_way peer (Some (KeptAsInitiator j)) = refl
 -- ---- time draws none
 
 none_repeat : (t : State) (key cert : List ℕ) (near : ℕ) (a : AttemptState) (stage : Stage) → drawn (due_done t (repeat_signed key cert near a stage)).entries ≡ []
-none_repeat t key cert near a Hello = none_each t (hello_spread a a.candidates).plain (hello_spread a a.candidates).to
-none_repeat t key cert near a (KeyingStage at cookie) = none_answer t (keying_signed key cert near a at cookie)
+none_repeat t key cert near a Hello = none_spread t (hello_spread a a.candidates).plain (hello_spread a a.candidates).to
+none_repeat t key cert near a (KeyingStage at cookie) = none_answered t (keying_signed key cert near a at cookie)
 
 none_due : (t left : State) (s : StartupState) (moment : ℕ) (o : Option (ℕ × AttemptState)) → drawn (item_done t left (attempt_item (due_of s moment o))).entries ≡ []
 none_due t left s moment None = refl
@@ -179,19 +174,19 @@ none_ticks (suc count) s = none_after (tick_once s).entries (ticks count (tick_o
 
 once_again : (t : State) (s : StartupState) (from : AddressParts) (keying : Keying) (near : ℕ) (nonce : List ℕ) (o : Option Joined) →
     Once nonce (keying_done t from (Some (again_or_birth s keying from near nonce o))).entries
-once_again t s from keying near nonce (Some j) = inl (none_answer t (session_answer s j from))
+once_again t s from keying near nonce (Some j) = inl (none_answered t (session_answer s j from))
 once_again t s from keying near nonce None =
     let ended : List Entry = fact_entries (way_made keying.peer (held_with s.ledger keying.peer)) in
     let born : List Entry = FactEntry (born_fact s.ledger keying near nonce) ∷ [] in
     let u : State = with_born t (way_made keying.peer (held_with s.ledger keying.peer)) (born_fact s.ledger keying near nonce) from in
     let answer : Answer = session_answer s (born_session s.ledger keying near nonce) from in
-    once_before nonce (ended ++ born) (sent_answer u answer).entries (inr (none_after ended born (nonce ∷ []) (none_way keying.peer (held_with s.ledger keying.peer)) refl)) (none_answer u answer)
+    once_before nonce (ended ++ born) (sent_answer u answer).entries (inr (none_after ended born (nonce ∷ []) (none_way keying.peer (held_with s.ledger keying.peer)) refl)) (none_answered u answer)
 
 once_tested : (t : State) (s : StartupState) (from : AddressParts) (now near : ℕ) (nonce : List ℕ) (keying : InitiatorKeying) (test : CookieTest) →
     Once nonce (keying_done t from (Some (keyed_with s from now near nonce keying test))).entries
-once_tested t s from now near nonce keying Bad = inl (none_answer t (change_answer s keying from now))
-once_tested t s from now near nonce keying Moved = inl (none_answer t (change_answer s keying from now))
-once_tested t s from now near nonce keying Late = inl (none_answer t (change_answer s keying from now))
+once_tested t s from now near nonce keying Bad = inl (none_answered t (change_answer s keying from now))
+once_tested t s from now near nonce keying Moved = inl (none_answered t (change_answer s keying from now))
+once_tested t s from now near nonce keying Late = inl (none_answered t (change_answer s keying from now))
 once_tested t s from now near nonce keying Current =
     once_again t s from (keying_of keying) near nonce (repeated_session (held_with s.ledger (keying_of keying).peer) (keying_of keying))
 
@@ -209,26 +204,10 @@ once_keyed s from draws payload =
 none_opening : (s : State) (near : ℕ) (from : AddressParts) (o : Option AttemptState) (r : Result ResponderKeying Cause) → drawn (opening_done s near from (opened_reading near o r)).entries ≡ []
 none_opening s near from None r = refl
 none_opening s near from (Some a) (Err cause) = refl
-none_opening s near from (Some a) (Ok keying) = none_in_session _ near from (chunk_bytes (Ping []))
+none_opening s near from (Some a) (Ok keying) = none_said _ near from (chunk_bytes (Ping []))
 
 none_responder : (s : State) (near : ℕ) (from : AddressParts) (payload : List ℕ) → drawn (responder_keyed s near from payload).entries ≡ []
 none_responder s near from payload = none_opening s near from (get s.startup.attempts near) (responder_keying_in payload)
-
-none_read : (s : State) (place : Place) (from : AddressParts) (r : Result Chunk ChunkFault) → drawn (read_done s place from r).entries ≡ []
-none_read s place from (Ok (IHello epd tag)) = none_answer s (initiator_hello_answer s.startup tag from s.moment)
-none_read s place from (Ok (FIHello epd reply tag)) = none_answer s (initiator_hello_answer s.startup tag reply s.moment)
-none_read s place from (Ok (RHello tag cookie cert)) = none_if (with_startup s (after_rhello s.startup tag cookie from s.moment)) (rhello_keying s.startup tag cookie from)
-none_read s place from (Ok (CookieChange old new)) =
-    none_if (with_startup s (after_cookie_change s.startup (sid_at place) old new s.moment)) (cookie_change_keying s.startup (sid_at place) old new)
-none_read s place from (Ok (Ping bytes)) = none_in_session s (sid_at place) from (chunk_bytes (PingReply bytes))
-none_read s place from (Ok (Redirect tag list)) = refl
-none_read s place from (Ok (IIKeying near cookie cert part sign)) = refl
-none_read s place from (Ok (RIKeying near part sign)) = refl
-none_read s place from (Ok (PingReply bytes)) = refl
-none_read s place from (Ok Close) = refl
-none_read s place from (Ok CloseAck) = refl
-none_read s place from (Ok (Fragment more id number bytes)) = refl
-none_read s place from (Err fault) = refl
 
 -- ---- a chunk
 
@@ -237,13 +216,13 @@ none_other : (s : State) (place : Place) (from : AddressParts) (draws : Draws) (
     drawn (if a then initiator_keyed s from draws c.payload else if b then responder_keyed s (sid_at place) from c.payload else read_done s place from (chunk_reading c.kind c.payload)).entries ≡ []
 none_other s place from draws c true b is = absurd (cc)
 none_other s place from draws c false true is = none_responder s (sid_at place) from c.payload
-none_other s place from draws c false false is = none_read s place from (chunk_reading c.kind c.payload)
+none_other s place from draws c false false is = none_stated (read_done s place from (chunk_reading c.kind c.payload)).entries (none_read s place from (chunk_reading c.kind c.payload))
 
 once_effect : (s : State) (place : Place) (from : AddressParts) (draws : Draws) (c : Placed) (a b : Bool) →
     Once draws.nonce (if a then initiator_keyed s from draws c.payload else if b then responder_keyed s (sid_at place) from c.payload else read_done s place from (chunk_reading c.kind c.payload)).entries
 once_effect s place from draws c true b = once_keyed s from draws c.payload
 once_effect s place from draws c false true = inl (none_responder s (sid_at place) from c.payload)
-once_effect s place from draws c false false = inl (none_read s place from (chunk_reading c.kind c.payload))
+once_effect s place from draws c false false = inl (none_stated (read_done s place from (chunk_reading c.kind c.payload)).entries (none_read s place from (chunk_reading c.kind c.payload)))
 
 rest_none : {A : Type 0} (o : Option A) (rest : List (Option A)) → first_that_stands (o ∷ rest) ≡ None → first_that_stands rest ≡ None
 rest_none None rest e = e
@@ -361,7 +340,7 @@ pub answers_draw : (s t : State) (call : Call) (answer : CallAnswer) (entries : 
 answers_draw s t (Open peer candidates draws) (Began n) entries h =
     let begun : State = with_startup s (after_begin s.startup peer candidates (free_from s draws.word) draws.nonce draws.tag s.moment) in
     let spread : SpreadParts = begin_spread s.startup peer candidates draws.nonce draws.tag s.moment in
-    once_of draws.nonce (opening s peer candidates draws) t entries h.2 (inr (ap (λ (l : List (List ℕ)). draws.nonce ∷ l) (none_each begun spread.plain spread.to)))
+    once_of draws.nonce (opening s peer candidates draws) t entries h.2 (inr (ap (λ (l : List (List ℕ)). draws.nonce ∷ l) (none_spread begun spread.plain spread.to)))
 answers_draw s t (Open peer candidates draws) (NotOpened refusal) entries h = inl (none_of (nothing s) t entries h.1 refl)
 answers_draw s t (Cancel n) Done entries h = none_of (cancelling s n) t entries h.1 (none_end (lowest (has_number n) s.startup.attempts) Cancelled)
 answers_draw s t (Cancel n) (Refused refusal) entries h = none_of (nothing s) t entries h.2 refl

@@ -7,7 +7,7 @@ use Rattle.rtmfp_packet.specs.declared.head.PacketFault.{PacketFault}
 use Rattle.rtmfp_packet.specs.Walk.{Placed}
 use Rattle.rtmfp_packet.specs.Whole.{Whole}
 use Rattle.rtmfp_chunks.specs.declared.reading.ChunkFault.{ChunkFault}
-use Rattle.rtmfp_chunks.specs.Chunk.{Chunk, IHello, FIHello, RHello, Redirect, CookieChange, IIKeying, RIKeying, Ping, PingReply, Close, CloseAck, Fragment}
+use Rattle.rtmfp_chunks.specs.Chunk.{Chunk, Ping}
 use Rattle.rtmfp_chunks.specs.FieldReading.{chunk_reading}
 use Rattle.glare_core.specs.declared.facts.Fact.{Fact}
 use Rattle.glare_core.specs.declared.facts.Fact.TheVariants.{Started, Born, Opened, Confirmed, Ended}
@@ -19,9 +19,9 @@ use Rattle.startup.specs.declared.answer.Keyed.TheVariants.{Change, Again, Birth
 use Rattle.startup.specs.declared.answer.Due.{Due}
 use Rattle.startup.specs.declared.answer.Due.TheVariants.{Ended as EndDue, Hello as HelloDue, Keying as KeyingDue}
 use Rattle.startup.specs.State.{SpreadParts, StartupState}
-use Rattle.startup.specs.Attempts.{begin_spread, after_begin, after_rhello, rhello_keying, after_cookie_change, cookie_change_keying, after_confirm, confirm_fact}
+use Rattle.startup.specs.Attempts.{begin_spread, after_begin, after_confirm, confirm_fact}
 use Rattle.startup.specs.Due.{after_due}
-use Rattle.startup.specs.Keyings.{initiator_hello_answer, keyed, after_keying, opened, after_opening}
+use Rattle.startup.specs.Keyings.{keyed, after_keying, opened, after_opening}
 use Rattle.glare_core.specs.Calls.{started_fact}
 use Rattle.crypto_profile.specs.declared.keys.Context.{Context}
 use Rattle.crypto_profile.specs.declared.keys.Context.TheVariants.{Startup as StartupContext}
@@ -42,7 +42,8 @@ use Rattle.endpoint_model.specs.State.{State, Did, Does, nothing, after_entries,
 use Rattle.endpoint_model.specs.Sending.{last_count, startup_datagram, session_datagram, sent_startup, sent_answer, sent_if, sent_each, sent_spread, sent_by, sent_in_session}
 use Rattle.endpoint_model.specs.Admission.{Admission, Rejected, Admitted, admission, admitted, admitted_packet, opened_datagram, sid_at, counted_by, counted_at, timed_by, timed_at, confirming_by, confirming, packet_in, has_mode, mode_at}
 use Rattle.endpoint_model.specs.Causes.{chunk_cause}
-use Rattle.endpoint_model.specs.Due.{opening, cancelling, due_done, tick_once, ticks, with_born, keying_done, initiator_keyed, with_opened, opening_done, responder_keyed, read_done, effect, discarded_or, chunk_did, walked, chunks_did, received, part_received, outset, item_done, Item, OfAttempt, first_due}
+use Rattle.endpoint_model.specs.Due.{opening, cancelling, due_done, tick_once, ticks, with_born, keying_done, initiator_keyed, with_opened, opening_done, responder_keyed, Reply, Silence, InStartup, InSession, replied, read_left, read_reply, read_done, effect, discarded_or, chunk_did, walked, chunks_did, received, part_received, outset, item_done, Item, OfAttempt, first_due}
+use Rattle.endpoint_laws.proofs.Replies.{left_same}
 use Rattle.endpoint_laws.specs.Complete.{outs_in, outs_of}
 use Rattle.endpoint_model.specs.Log.{Answers, Leads, StandsFor, stopped}
 
@@ -138,21 +139,14 @@ few_opening_done : (s : State) (near : ℕ) (from : AddressParts) (o : Option Fa
 few_opening_done s near from None = few_nothing s
 few_opening_done s near from (Some fact) = few_opened s (with_startup s (after_opening s.startup near fact)) near from fact refl
 
-few_read : (s : State) (place : Place) (from : AddressParts) (r : Result Chunk ChunkFault) → Few s (read_done s place from r)
-few_read s place from (Ok (IHello epd tag)) = few_answer s (initiator_hello_answer s.startup tag from s.moment)
-few_read s place from (Ok (FIHello epd reply tag)) = few_answer s (initiator_hello_answer s.startup tag reply s.moment)
-few_read s place from (Ok (RHello tag cookie cert)) = few_if (with_startup s (after_rhello s.startup tag cookie from s.moment)) (rhello_keying s.startup tag cookie from)
-few_read s place from (Ok (CookieChange old new)) =
-    few_if (with_startup s (after_cookie_change s.startup (sid_at place) old new s.moment)) (cookie_change_keying s.startup (sid_at place) old new)
-few_read s place from (Ok (Ping bytes)) = few_session s (sid_at place) from (chunk_bytes (PingReply bytes))
-few_read s place from (Ok (Redirect tag list)) = few_nothing s
-few_read s place from (Ok (IIKeying near cookie cert part sign)) = few_nothing s
-few_read s place from (Ok (RIKeying near part sign)) = few_nothing s
-few_read s place from (Ok (PingReply bytes)) = few_nothing s
-few_read s place from (Ok Close) = few_nothing s
-few_read s place from (Ok CloseAck) = few_nothing s
-few_read s place from (Ok (Fragment more id number bytes)) = few_nothing s
-few_read s place from (Err fault) = few_nothing s
+few_replied : (s : State) (place : Place) (from : AddressParts) (reply : Reply) → Few s (replied s place from reply)
+few_replied s place from Silence = few_nothing s
+few_replied s place from (InStartup answer) = few_if s answer
+few_replied s place from (InSession body) = few_session s (sid_at place) from body
+
+few_read : (s : State) (place : Place) (from : AddressParts) (read : Result Chunk ChunkFault) → Few s (read_done s place from read)
+few_read s place from read =
+    few_from s (read_left s place from read) (read_done s place from read) (left_same s place from read).sealed (few_replied (read_left s place from read) place from (read_reply s place from read))
 
 either : (s : State) (b : Bool) (d e : Did) → Few s d → Few s e → Few s (if b then d else e)
 either s true d e p q = p

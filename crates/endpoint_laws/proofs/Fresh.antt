@@ -2,7 +2,7 @@
 use Rattle.std.proofs.Common.{ℕ, List, [], ◌∷◌, ◌≡◌, refl, ap, subst, ◌∙◌, Option, Some, None}
 use Rattle.glare_core.specs.declared.facts.Fact.{Fact}
 use Rattle.glare_core.specs.declared.facts.Fact.TheVariants.{Started, Born, Opened, Confirmed, Ended}
-use Rattle.glare_core.specs.Steps.{Item, Told, Did, Sends, Step, step, Among}
+use Rattle.glare_core.specs.Steps.{Item, Told, Did, Sends, Step, Among}
 use Rattle.glare_core.specs.Told.{with_nonce, nonces, AllDifferent}
 use Rattle.glare_core.proofs.Sound.{IsNew}
 use Rattle.endpoint_model.specs.Views.{fact_in}

@@ -5,7 +5,7 @@ use Rattle.glare_core.specs.declared.facts.Fact.{Fact}
 use Rattle.glare_core.specs.Tells.{Tell}
 use Rattle.glare_core.specs.Steps.{Step, view, facts}
 use Rattle.glare_core.specs.Told.{WasSent, nonces, AllDifferent}
-use Rattle.endpoint_model.specs.Event.{Setup, own_of, Call, Open, Cancel, Receive, Tick, Event, moment_at, ReceiveCall, receive_in}
+use Rattle.endpoint_model.specs.Event.{Setup, own_of, Call, Event, moment_at, ReceiveCall, receive_in}
 use Rattle.endpoint_laws.specs.Past.{Stamped, facts_of, last_moment, past_of, begun}
 use Rattle.endpoint_laws.specs.Lawful.{IsLawful}
 use Rattle.endpoint_laws.specs.Laws.{AreCalls}

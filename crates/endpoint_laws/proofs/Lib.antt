@@ -8,9 +8,9 @@ mod Agrees
 mod OutPackets
 mod OutHeld
 mod OutSends
-mod OutLowest
 mod OutKeyings
 mod OutItems
+mod Replies
 mod Moving
 mod Going
 mod Facts

@@ -1,8 +1,19 @@
 -- Entries that state nothing.
-use Rattle.std.proofs.Common.{ℕ, List, [], ◌∷◌, ◌++◌, ◌≡◌, Option, Some, None, refl, ◌∙◌}
+use Rattle.std.proofs.Common.{ℕ, List, [], ◌∷◌, ◌++◌, ◌≡◌, ◌==◌, Bool, true, false, if◌then◌else◌, Option, Some, None, Result, refl, ◌∙◌}
+use Rattle.std.specs.FinMap.{get}
+use Rattle.rtmfp_forms.specs.Address.{AddressParts}
+use Rattle.rtmfp_chunks.specs.declared.reading.ChunkFault.{ChunkFault}
+use Rattle.rtmfp_chunks.specs.Chunk.{Chunk}
 use Rattle.glare_core.specs.declared.facts.Fact.{Fact}
+use Rattle.startup.specs.declared.answer.Answer.{Answer}
+use Rattle.session_core.specs.Session.{SessionState}
 use Rattle.endpoint_model.specs.declared.entry.Entry.{Entry}
+use Rattle.endpoint_model.specs.declared.place.Place.{Place}
 use Rattle.endpoint_model.specs.Views.{fact_in}
+use Rattle.endpoint_model.specs.State.{State, Did, nothing}
+use Rattle.endpoint_model.specs.Sending.{last_count, sent_startup, sent_answer, sent_if, sent_each, sent_by, sent_in_session}
+use Rattle.endpoint_model.specs.Admission.{sid_at}
+use Rattle.endpoint_model.specs.Due.{Reply, Silence, InStartup, InSession, replied, read_left, read_reply, read_done}
 use Rattle.endpoint_laws.specs.Past.{Stamped, stamped, onto, fact_and, facts_of}
 
 -- there is no fact, and this
@@ -34,3 +45,41 @@ pub facts_stay : (now : ℕ) (entries : List Entry) (past : List Stamped) → No
 facts_stay now [] past none = refl
 facts_stay now (entry ∷ rest) past none =
     facts_stay now rest (stamped now entry ∷ past) (the_rest (fact_in entry) (NoFacts rest) none) ∙ adds_none (fact_in entry) (NoFacts rest) (facts_of past) none
+
+-- ---- what is sent states nothing
+
+none_either : (b : Bool) (d e : Did) → NoFacts d.entries → NoFacts e.entries → NoFacts (if b then d else e).entries
+none_either true d e p q = p
+none_either false d e p q = q
+
+none_startup : (s : State) (to : AddressParts) (sid : ℕ) (plain : List ℕ) → NoFacts (sent_startup s to sid plain).entries
+none_startup s to sid plain = none_either (s.sealed == last_count) (nothing s) _ tt tt
+
+pub none_answer : (s : State) (answer : Answer) → NoFacts (sent_answer s answer).entries
+none_answer s answer = none_startup s answer.to answer.sid answer.plain
+
+none_if : (s : State) (answer : Option Answer) → NoFacts (sent_if s answer).entries
+none_if s None = tt
+none_if s (Some answer) = none_answer s answer
+
+pub none_each : (s : State) (plain : List ℕ) (to : List AddressParts) → NoFacts (sent_each s plain to).entries
+none_each s plain [] = tt
+none_each s plain (to ∷ rest) =
+    let first = sent_startup s to 0 plain in
+    none_in_both first.entries (sent_each first.state plain rest).entries (none_startup s to 0 plain) (none_each first.state plain rest)
+
+none_by : (s : State) (near : ℕ) (to : AddressParts) (body : List ℕ) (o : Option SessionState) → NoFacts (sent_by s near to body o).entries
+none_by s near to body None = tt
+none_by s near to body (Some session) = none_either (session.sealed == last_count) (nothing s) _ tt tt
+
+pub none_in_session : (s : State) (near : ℕ) (to : AddressParts) (body : List ℕ) → NoFacts (sent_in_session s near to body).entries
+none_in_session s near to body = none_by s near to body (get s.sessions near)
+
+none_replied : (s : State) (place : Place) (from : AddressParts) (reply : Reply) → NoFacts (replied s place from reply).entries
+none_replied s place from Silence = tt
+none_replied s place from (InStartup answer) = none_if s answer
+none_replied s place from (InSession body) = none_in_session s (sid_at place) from body
+
+-- nor does a chunk that is no keying
+pub none_read : (s : State) (place : Place) (from : AddressParts) (read : Result Chunk ChunkFault) → NoFacts (read_done s place from read).entries
+none_read s place from read = none_replied (read_left s place from read) place from (read_reply s place from read)

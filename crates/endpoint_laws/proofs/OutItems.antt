@@ -1,6 +1,7 @@
 -- What calls do but for the chunks of datagrams: each datagram that goes out meets its line.
 use Rattle.std.proofs.Common.{◌≡◌, ◌==◌, ℕ, zero, suc, ◌+◌, ◌^◌, ◌<◌, ◌≤◌, List, [], ◌∷◌, length, drop, Option, Some, None, Ok, Err, Result, inl, inr, refl, sym, ap, subst, ◌∙◌, Bool, true, false, if◌then◌else◌, arith}
 use Rattle.std.specs.FinMap.{get, insert, remove}
+use Rattle.rtmfp_base.proofs.Lowest.{first_is_there}
 use Rattle.rtmfp_base.proofs.Maps.{found_inserted, found_left}
 use Rattle.rtmfp_forms.specs.Address.{AddressParts}
 use Rattle.rtmfp_packet.specs.declared.head.PacketHead.{PacketHead}
@@ -34,7 +35,7 @@ use Rattle.endpoint_model.specs.declared.entry.Entry.TheVariants.{Fact as FactEn
 use Rattle.endpoint_model.specs.Event.{Setup, own_of, Call}
 use Rattle.endpoint_laws.specs.Past.{Stamped, stamped, onto, facts_of}
 use Rattle.endpoint_model.specs.State.{State, Did, nothing, fact_entries, with_startup, with_session, with_sealed, free_from}
-use Rattle.endpoint_model.specs.Sending.{last_count, sent_startup, sent_answer, sent_if, sent_each}
+use Rattle.endpoint_model.specs.Sending.{last_count, sent_startup, sent_answer, sent_each}
 use Rattle.session_core.specs.Hearing.{counted}
 use Rattle.endpoint_model.specs.Admission.{Admission, Rejected, Admitted, admission, admitted, admitted_packet, opened_datagram, counted_by, counted_at, timed_by, timed_at, confirming, confirming_by, has_mode, mode_at, packet_in}
 use Rattle.endpoint_model.specs.Due.{opening, cancelling, due_done, tick_once, ticks, discarded, item_done, attempt_item}
@@ -45,7 +46,6 @@ use Rattle.endpoint_laws.proofs.OutHeld.{IsSized, HasSizes, held_sized}
 use Rattle.endpoint_laws.proofs.Going.{onto_append}
 use Rattle.endpoint_laws.proofs.OutSends.{IsNarrow, IsShort, AreShort, Sent, Meets, MayGo, meets_nothing, meets_after, meets_then, meets_startup}
 use Rattle.endpoint_laws.proofs.OutKeyings.{ihello_may, iikeying_may}
-use Rattle.endpoint_laws.proofs.OutLowest.{lowest_found}
 
 -- ---- what is kept when something changes
 
@@ -197,7 +197,7 @@ module _ (setup : Setup) (past : List Stamped) (s : State) (sent : Sent setup pa
     by_found : (o : Option (ℕ × AttemptState)) → lowest (is_due s.moment) s.startup.attempts ≡ o →
         Meets setup now call past (item_done s (with_startup s (after_due_of s.startup s.moment o)) (attempt_item (due_of s.startup s.moment o)))
     by_found None is = meets_nothing setup now call past s sent
-    by_found (Some e) is = by_over (is_over s.moment e.1) e (lowest_found (is_due s.moment) s.startup.attempts e is)
+    by_found (Some e) is = by_over (is_over s.moment e.1) e (first_is_there (is_due s.moment) s.startup.attempts e is).0
 
     pub meets_tick_once : Meets setup now call past (tick_once s)
     meets_tick_once = by_found (lowest (is_due s.moment) s.startup.attempts) refl

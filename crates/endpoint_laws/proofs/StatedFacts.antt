@@ -2,7 +2,7 @@
 use Rattle.std.proofs.Common.{ℕ, List, [], ◌∷◌, ◌++◌, ◌≡◌, inl, inr, refl, sym, ap, ◌∙◌, if◌then◌else◌, Bool, Option, Some, None}
 use Rattle.glare_core.specs.declared.facts.Fact.{Fact}
 use Rattle.glare_core.specs.declared.facts.Fact.TheVariants.{Started, Born, Opened, Confirmed, Ended}
-use Rattle.glare_core.specs.Steps.{Did, Step, step, view, facts}
+use Rattle.glare_core.specs.Steps.{Did, Step, view, facts}
 use Rattle.glare_core.specs.Told.{with_nonce, nonces}
 use Rattle.glare_core.proofs.Views.{view_same, view_other}
 use Rattle.endpoint_model.specs.Views.{fact_in}

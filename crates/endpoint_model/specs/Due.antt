@@ -12,6 +12,7 @@ use Rattle.glare_core.specs.declared.facts.Fact.TheVariants.{Started, Born, Open
 use Rattle.glare_core.specs.declared.answers.StartRefusal.{StartRefusal}
 use Rattle.glare_core.specs.Calls.{where_true, first_that_stands, start_refusal, started_fact}
 use Rattle.startup.specs.declared.cause.Cause.{Cause}
+use Rattle.startup.specs.declared.answer.Answer.{Answer}
 use Rattle.startup.specs.declared.answer.Keyed.{Keyed}
 use Rattle.startup.specs.declared.answer.Keyed.TheVariants.{Change, Again, Birth}
 use Rattle.startup.specs.declared.answer.Due.{Due}
@@ -175,22 +176,46 @@ opening_done s near from (Some fact) =
 abbrev pub responder_keyed : State → ℕ → AddressParts → List ℕ → Did
 responder_keyed s near from payload = opening_done s near from (opened s.startup near payload)
 
--- hellos, changes of cookies, and pings; the answer to a ping has no effect
+-- ---- chunks that state nothing: hellos, changes of cookies, and pings
+
+-- How such a chunk is answered: not at all; by a startup packet, if there is one to send; or in the
+-- session that it came in, by the bytes of a body.
+pub data Reply : Type 0 where
+  Silence : Reply
+  InStartup : (answer : Option Answer) → Reply
+  InSession : (body : List ℕ) → Reply
+
+abbrev pub replied : State → Place → AddressParts → Reply → Did
+replied s place from Silence = nothing s
+replied s place from (InStartup answer) = sent_if s answer
+replied s place from (InSession body) = sent_in_session s (sid_at place) from body
+
+-- what it leaves before it is answered
+abbrev pub read_left : State → Place → AddressParts → Result Chunk ChunkFault → State
+read_left s place from (Ok (RHello tag cookie cert)) =
+    with_startup s (after_rhello s.startup tag cookie from s.moment)
+read_left s place from (Ok (CookieChange old new)) =
+    with_startup s (after_cookie_change s.startup (sid_at place) old new s.moment)
+read_left s place from read = s
+
+-- and its answer
+abbrev pub read_reply : State → Place → AddressParts → Result Chunk ChunkFault → Reply
+read_reply s place from (Ok (IHello epd tag)) =
+    InStartup (Some (initiator_hello_answer s.startup tag from s.moment))
+read_reply s place from (Ok (FIHello epd reply tag)) =
+    InStartup (Some (initiator_hello_answer s.startup tag reply s.moment))
+read_reply s place from (Ok (RHello tag cookie cert)) =
+    InStartup (rhello_keying s.startup tag cookie from)
+read_reply s place from (Ok (CookieChange old new)) =
+    InStartup (cookie_change_keying s.startup (sid_at place) old new)
+read_reply s place from (Ok (Ping bytes)) = InSession (chunk_bytes (PingReply bytes))
+read_reply s place from read = Silence
+
 abbrev pub read_done : State → Place → AddressParts → Result Chunk ChunkFault → Did
-read_done s place from (Ok (IHello epd tag)) =
-    sent_answer s (initiator_hello_answer s.startup tag from s.moment)
-read_done s place from (Ok (FIHello epd reply tag)) =
-    sent_answer s (initiator_hello_answer s.startup tag reply s.moment)
-read_done s place from (Ok (RHello tag cookie cert)) =
-    sent_if (with_startup s (after_rhello s.startup tag cookie from s.moment))
-    (rhello_keying s.startup tag cookie from)
-read_done s place from (Ok (CookieChange old new)) =
-    sent_if (with_startup s (after_cookie_change s.startup (sid_at place) old new s.moment))
-    (cookie_change_keying s.startup (sid_at place) old new)
-read_done s place from (Ok (Ping bytes)) =
-    sent_in_session s (sid_at place) from (chunk_bytes (PingReply bytes))
-read_done s place from (Ok chunk) = nothing s
-read_done s place from (Err fault) = nothing s
+read_done s place from read =
+    replied (read_left s place from read) place from (read_reply s place from read)
+
+-- ---- what a chunk does
 
 abbrev pub effect : State → Place → AddressParts → Draws → Placed → Did
 effect s place from draws c =

@@ -1,7 +1,7 @@
 -- How many pairs of an end and a peer keep a session.
 use Rattle.std.specs.Prelude.{ℕ, ◌+◌, List, [], ◌∷◌, if◌then◌else◌}
 use Rattle.endpoint_model.specs.Event.{own_of}
-use Rattle.endpoint.specs.Keeping.{keeps}
+use Rattle.endpoint.specs.Keeps.{keeps}
 use Rattle.rendezvous_world.specs.Seen.{EndSeen}
 
 -- with how many of these an end keeps one

@@ -3,17 +3,17 @@ use Rattle.std.specs.FinMap.{get}
 use Rattle.crypto_profile.specs.declared.keys.Context.{Context}
 use Rattle.session_core.specs.Session.{SessionState}
 use Rattle.endpoint_model.specs.State.{State}
-use Rattle.endpoint.specs.Kept.{table_of}
+use Rattle.endpoint.specs.Stored.{table_of}
 use Rattle.endpoint.specs.NamedContext.{context_towards}
-use Rattle.endpoint.proofs.Keeping.{place_in, found_at, found_nowhere}
+use Rattle.endpoint.proofs.Rows.{index_in, found_at, found_nowhere}
 use Rattle.endpoint.proofs.endpoint.Endpoint.context_towards.Goals as goal
 
 pub returns-in-Some : goal.returns-in-Some
 returns-in-Some c =
     let session : SessionState = c.index.result.now in
     let found : get (table_of c.self.inside.sessions.items) c.args.near ≡ Some session =
-    found_at c.self.inside.sessions.items c.args.near c.in-Some.place session c.self.invariant.distinct
-    (sym (c.in-Some.ensures ∙ ap (λ rows. place_in rows c.args.near) c.deref.ensures.value)) c.index.ensures in
+    found_at c.self.inside.sessions.items c.args.near c.in-Some.index session c.self.invariant.distinct
+    (sym (c.in-Some.ensures ∙ ap (λ rows. index_in rows c.args.near) c.deref.ensures.value)) c.index.ensures in
     ap (λ (x : Context). Some x) c.context.ensures
     ∙ sym (ap context_towards found)
     ∙ ap (λ (s : State). context_towards (get s.sessions c.args.near)) c.self.view_is
@@ -21,6 +21,6 @@ returns-in-Some c =
 pub returns-in-None : goal.returns-in-None
 returns-in-None c =
     let found : get (table_of c.self.inside.sessions.items) c.args.near ≡ None =
-    found_nowhere c.self.inside.sessions.items c.args.near (sym (c.in-None.ensures ∙ ap (λ rows. place_in rows c.args.near) c.deref.ensures.value)) in
+    found_nowhere c.self.inside.sessions.items c.args.near (sym (c.in-None.ensures ∙ ap (λ rows. index_in rows c.args.near) c.deref.ensures.value)) in
     sym (ap context_towards found)
     ∙ ap (λ (s : State). context_towards (get s.sessions c.args.near)) c.self.view_is

@@ -7,7 +7,7 @@ use Rattle.session_core.specs.Session.{SessionState}
 use Rattle.endpoint_model.specs.declared.entry.Entry.{Entry}
 use Rattle.endpoint_model.specs.declared.entry.Entry.TheVariants.{Fact as FactEntry}
 use Rattle.endpoint_model.specs.Due.{initiator_keyed, with_born}
-use Rattle.endpoint.specs.Kept.{IsEndpoint, state_of, table_of}
+use Rattle.endpoint.specs.Stored.{IsEndpoint, state_of, table_of}
 use Rattle.endpoint_model.specs.Sending.{sent_answer}
 use Rattle.endpoint_model.specs.State.{State, Done, fact_entries, free_from}
 use Rattle.endpoint.proofs.Begun.{kept_keying, startup_put, born_state, keyed_so, one_added, added_first, IsAdded}

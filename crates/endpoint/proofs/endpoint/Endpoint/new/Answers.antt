@@ -5,7 +5,7 @@ use Rattle.crypto_profile.specs.declared.keys.Context.TheVariants.{Startup}
 use Rattle.crypto_profile.specs.Keys.{keys_of}
 use Rattle.startup.specs.State.{StartupState}
 use Rattle.session_core.specs.Session.{SessionState}
-use Rattle.endpoint.specs.Kept.{table_of}
+use Rattle.endpoint.specs.Stored.{table_of}
 use Rattle.endpoint.proofs.endpoint.Endpoint.new.Goals as goal
 
 pub invariant_of-result : goal.invariant_of-result

@@ -4,7 +4,7 @@ use Rattle.rtmfp_chunks.specs.Writing.{chunk_bytes}
 use Rattle.startup.specs.Keyings.{opened, after_opening}
 use Rattle.endpoint_model.specs.declared.entry.Entry.TheVariants.{Fact as FactEntry}
 use Rattle.endpoint_model.specs.Due.{responder_keyed, with_opened}
-use Rattle.endpoint.specs.Kept.{IsEndpoint, state_of}
+use Rattle.endpoint.specs.Stored.{IsEndpoint, state_of}
 use Rattle.endpoint_model.specs.Sending.{sent_in_session}
 use Rattle.endpoint_model.specs.State.{State, Done, with_startup}
 use Rattle.endpoint.proofs.Begun.{kept_opening, startup_put, opened_state, opened_so, added_first, IsAdded}

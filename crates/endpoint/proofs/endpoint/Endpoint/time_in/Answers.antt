@@ -1,16 +1,16 @@
 use Rattle.std.proofs.Common.{◌≡◌, None, sym, ap, ◌∙◌}
 use Rattle.std.specs.FinMap.{get}
 use Rattle.endpoint_model.specs.State.{State, with_sessions, with_session}
-use Rattle.endpoint.specs.Kept.{table_of, near_of, state_of}
+use Rattle.endpoint.specs.Stored.{table_of, near_of, state_of}
 use Rattle.endpoint_model.specs.Admission.{timed_by}
-use Rattle.endpoint.proofs.Keeping.{place_in, found_nowhere}
+use Rattle.endpoint.proofs.Rows.{index_in, found_nowhere}
 use Rattle.endpoint.proofs.Changing.{changed_at}
 use Rattle.endpoint.proofs.endpoint.Endpoint.time_in.Goals as goal
 
 pub invariant_of-self : goal.invariant_of-self
 invariant_of-self c =
-    let changed = changed_at c.self.inside.sessions.items c.args.near c.in-Some.at c.index_mut.result.now c.take_stamps.new.self c.self.invariant.distinct
-    (sym (c.in-Some.ensures ∙ ap (λ rows. place_in rows c.args.near) c.deref.ensures.value)) c.index_mut.ensures.value (ap near_of c.take_stamps.ensures) in
+    let changed = changed_at c.self.inside.sessions.items c.args.near c.in-Some.index c.index_mut.result.now c.take_stamps.new.self c.self.invariant.distinct
+    (sym (c.in-Some.ensures ∙ ap (λ rows. index_in rows c.args.near) c.deref.ensures.value)) c.index_mut.ensures.value (ap near_of c.take_stamps.ensures) in
     record {
       secret_is = c.self.invariant.secret_is;
       print_is = c.self.invariant.print_is;
@@ -23,8 +23,8 @@ pub returns-in-Some : goal.returns-in-Some
 returns-in-Some c =
     let i = c.self.inside in
     let old : State = state_of i.config i.moment i.sealed i.startup i.sessions.items in
-    let changed = changed_at c.self.inside.sessions.items c.args.near c.in-Some.at c.index_mut.result.now c.take_stamps.new.self c.self.invariant.distinct
-    (sym (c.in-Some.ensures ∙ ap (λ rows. place_in rows c.args.near) c.deref.ensures.value)) c.index_mut.ensures.value (ap near_of c.take_stamps.ensures) in
+    let changed = changed_at c.self.inside.sessions.items c.args.near c.in-Some.index c.index_mut.result.now c.take_stamps.new.self c.self.invariant.distinct
+    (sym (c.in-Some.ensures ∙ ap (λ rows. index_in rows c.args.near) c.deref.ensures.value)) c.index_mut.ensures.value (ap near_of c.take_stamps.ensures) in
     ap (with_sessions old) changed.table ∙ ap (with_session old c.args.near) c.take_stamps.ensures ∙ sym (ap (timed_by old c.args.near c.args.head.now) changed.was)
     ∙ ap (λ (s : State). timed_by s c.args.near c.args.head.now (get s.sessions c.args.near)) c.self.view_is
 
@@ -33,6 +33,6 @@ returns-in-None c =
     let i = c.self.inside in
     let old : State = state_of i.config i.moment i.sealed i.startup i.sessions.items in
     let found : get (table_of i.sessions.items) c.args.near ≡ None =
-    found_nowhere i.sessions.items c.args.near (sym (c.in-None.ensures ∙ ap (λ rows. place_in rows c.args.near) c.deref.ensures.value)) in
+    found_nowhere i.sessions.items c.args.near (sym (c.in-None.ensures ∙ ap (λ rows. index_in rows c.args.near) c.deref.ensures.value)) in
     sym (ap (λ (s : State). s) c.self.view_is) ∙ sym (ap (timed_by old c.args.near c.args.head.now) found)
     ∙ ap (λ (s : State). timed_by s c.args.near c.args.head.now (get s.sessions c.args.near)) c.self.view_is

@@ -1,5 +1,5 @@
 use Rattle.std.proofs.Common.{rules}
-use Rattle.endpoint.proofs.endpoint.Endpoint.answer_ping.Goals as goal
+use Rattle.endpoint.proofs.endpoint.Endpoint.reply.Goals as goal
 
 -- so that a wrong body is refused fast
 pub returns-clause-ok : goal.returns-clause-ok

@@ -1,0 +1,214 @@
+-- Chunks that state nothing, as hellos, changes of cookies and pings: what each of them leaves, and how it is answered, is in order. A further one has its case here, and in no other proof of the laws.
+use Rattle.std.proofs.Common.{◌≡◌, ◌≢◌, ℕ, ◌^◌, ◌<◌, ◌≤◌, List, [], ◌∷◌, length, Bool, true, false, if◌then◌else◌, Option, Some, None, Result, Ok, refl, sym, ap, subst, ◌∙◌, nat_lt, arith}
+use Rattle.std.specs.Prelude.{◌==◌, not}
+use Rattle.std.specs.FinMap.{get}
+use Rattle.std.proofs.lemmas.Bool.{ltb-false}
+use Rattle.sha2.specs.Sha256.{sha256}
+use Rattle.rtmfp_base.proofs.Lowest.{first_is_there}
+use Rattle.rtmfp_forms.specs.Address.{AddressParts}
+use Rattle.rtmfp_chunks.specs.declared.reading.ChunkFault.{ChunkFault}
+use Rattle.rtmfp_chunks.specs.Chunk.{Chunk, kind_of, IHello, FIHello, RHello, CookieChange, Ping, PingReply}
+use Rattle.rtmfp_chunks.specs.Writing.{payload_bytes, chunk_bytes}
+use Rattle.cookies.specs.Cookie.{cookie_of}
+use Rattle.identity.specs.Discriminators.{discriminator_of}
+use Rattle.glare_core.specs.Calls.{where_true, first_that_stands}
+use Rattle.glare_core.proofs.Accounts.{reads_held}
+use Rattle.startup.specs.declared.cause.Cause.{Cause}
+use Rattle.startup.specs.declared.cause.Cause.TheVariants.{Wide, NotSelected}
+use Rattle.startup.specs.declared.attempt.Stage.{Stage}
+use Rattle.startup.specs.declared.attempt.Stage.TheVariants.{Hello, Keying}
+use Rattle.startup.specs.State.{AttemptState, Attempts}
+use Rattle.startup.specs.Attempts.{lowest, has_tag, has_cookie, if_cookie, changed, wide, hello_cause_at, none_to_change, after_answer, answer_keying, answered, with_cookie, recookied, after_change, again_signed, change_keying}
+use Rattle.startup.specs.Keyings.{selects, initiator_hello_answer}
+use Rattle.crypto_profile.specs.Keys.{sign_key_of}
+use Rattle.session_core.specs.Session.{SessionState}
+use Rattle.endpoint_model.specs.declared.place.Place.{Place}
+use Rattle.endpoint_model.specs.Event.{Setup, Call}
+use Rattle.endpoint_model.specs.State.{State, Did, with_startup}
+use Rattle.endpoint_model.specs.Sending.{sent_by}
+use Rattle.endpoint_model.specs.Admission.{sid_at}
+use Rattle.endpoint_model.specs.Causes.{read_cause}
+use Rattle.endpoint_model.specs.Due.{Reply, Silence, InStartup, InSession, replied, read_left, read_reply, read_done}
+use Rattle.endpoint_laws.specs.Past.{Stamped, facts_of}
+use Rattle.endpoint_laws.proofs.Tied.{Tied}
+use Rattle.endpoint_laws.proofs.Facts.{test_fails}
+use Rattle.endpoint_laws.proofs.Moving.{tied_attempt}
+use Rattle.endpoint_laws.proofs.Going.{Keeps, goes_nothing, goes_then, goes_if, goes_in_session}
+use Rattle.endpoint_laws.proofs.OutSends.{IsNarrow, Sent, Meets, MayGo, meets_nothing, meets_session}
+use Rattle.endpoint_laws.proofs.OutKeyings.{rhello_may, length-cookie_of}
+use Rattle.endpoint_laws.proofs.OutItems.{short_put, sent_startup_changed, meets_answer, attempt_may}
+
+-- ---- what there being no cause says
+
+firsts_none : (a b c : Option Cause) → first_that_stands (a ∷ b ∷ c ∷ []) ≡ None → (a ≡ None) × (b ≡ None)
+firsts_none None None c e = (refl, refl)
+firsts_none None (Some x) c e = absurd (cc)
+firsts_none (Some x) b c e = absurd (cc)
+
+first_none : (a b : Option Cause) → first_that_stands (a ∷ b ∷ []) ≡ None → a ≡ None
+first_none None b e = refl
+first_none (Some x) b e = absurd (cc)
+
+narrow : (most : ℕ) (bytes : List ℕ) → where_true (nat_lt most (length bytes)) (Wide (length bytes)) ≡ None → length bytes ≤ most
+narrow most bytes e = ltb-false most (length bytes) (test_fails (nat_lt most (length bytes)) (Wide (length bytes)) e)
+
+narrow_with : (cookie : List ℕ) (stage : Stage) → length cookie ≤ 128 → IsNarrow (with_cookie cookie stage)
+narrow_with cookie Hello h = tt
+narrow_with cookie (Keying at old) h = h
+
+-- ---- the attempts that are found
+
+answered_there : (attempts : Attempts) (tag : List ℕ) (e : ℕ × AttemptState) → lowest (has_tag tag) attempts ≡ Some e → get attempts e.0 ≡ Some e.1
+answered_there attempts tag e is = (first_is_there (has_tag tag) attempts e is).0
+
+if_cookie_there : (cookie : List ℕ) (near : ℕ) (o : Option AttemptState) (e : ℕ × AttemptState) → if_cookie cookie near o ≡ Some e → (near ≡ e.0) × (o ≡ Some e.1)
+if_cookie_there cookie near None e is = absurd (cc)
+if_cookie_there cookie near (Some a) e is = by (has_cookie cookie a) is
+  where
+    by : (b : Bool) → where_true b (near, a) ≡ Some e → (near ≡ e.0) × (Some a ≡ Some e.1)
+    by true is = let same : (near, a) ≡ e = cc in (ap (λ (p : ℕ × AttemptState). p.0) same, ap (λ (p : ℕ × AttemptState). Some p.1) same)
+    by false is = absurd (cc)
+
+changed_there : (attempts : Attempts) (sid : ℕ) (old : List ℕ) (e : ℕ × AttemptState) → changed attempts sid old ≡ Some e → get attempts e.0 ≡ Some e.1
+changed_there attempts sid old e is = by (sid == 0) is
+  where
+    by : (b : Bool) → (if b then lowest (has_cookie old) attempts else if_cookie old sid (get attempts sid)) ≡ Some e → get attempts e.0 ≡ Some e.1
+    by true is = (first_is_there (has_cookie old) attempts e is).0
+    by false is = let found = if_cookie_there old sid (get attempts sid) e is in ap (get attempts) (sym found.0) ∙ found.1
+
+-- ---- what such a chunk leaves
+
+-- the moment is the same, and as many startup packets were sealed
+pub record SameCounts (s t : State) : Type 0 where
+  pub moment : t.moment ≡ s.moment
+  pub sealed : t.sealed ≡ s.sealed
+
+pub left_same : (s : State) (place : Place) (from : AddressParts) (read : Result Chunk ChunkFault) → SameCounts s (read_left s place from read)
+left_same s place from (Ok (RHello tag cookie cert)) = record { moment = refl; sealed = refl }
+left_same s place from (Ok (CookieChange old new)) = record { moment = refl; sealed = refl }
+left_same s place from _ = record { moment = refl; sealed = refl }
+
+module _ (setup : Setup) (past : List Stamped) (s : State) (tied : Tied setup past s) where
+  answered_tied : (o : Option (ℕ × AttemptState)) (from : AddressParts) (cookie : List ℕ) → ((e : ℕ × AttemptState) → o ≡ Some e → get s.startup.attempts e.0 ≡ Some e.1) →
+      Tied setup past (with_startup s (after_answer s.startup o from cookie s.moment))
+  answered_tied None from cookie there = tied
+  answered_tied (Some e) from cookie there = tied_attempt setup past s e.0 e.1 (answered e.1 from cookie s.moment) tied (there e refl) refl (λ w. w)
+
+  changed_tied : (o : Option (ℕ × AttemptState)) (cookie : List ℕ) → ((e : ℕ × AttemptState) → o ≡ Some e → get s.startup.attempts e.0 ≡ Some e.1) →
+      Tied setup past (with_startup s (after_change s.startup o cookie s.moment))
+  changed_tied None cookie there = tied
+  changed_tied (Some e) cookie there = tied_attempt setup past s e.0 e.1 (recookied e.1 cookie s.moment) tied (there e refl) refl (λ w. w)
+
+  pub left_tied : (place : Place) (from : AddressParts) (read : Result Chunk ChunkFault) → Tied setup past (read_left s place from read)
+  left_tied place from (Ok (RHello tag cookie cert)) = answered_tied (lowest (has_tag tag) s.startup.attempts) from cookie (λ e is. answered_there s.startup.attempts tag e is)
+  left_tied place from (Ok (CookieChange old new)) =
+      changed_tied (changed s.startup.attempts (sid_at place) old) new (λ e is. changed_there s.startup.attempts (sid_at place) old e is)
+  left_tied place from _ = tied
+
+-- ---- how it is answered
+
+-- The body is one chunk, which is no keying.
+record IsModest (body : List ℕ) : Type 0 where
+  chunk : Chunk
+  is : body ≡ chunk_bytes chunk
+  short : length (payload_bytes chunk) < 2 ^ 16
+  no_initiator : kind_of chunk ≢ 0x38
+  no_responder : kind_of chunk ≢ 0x78
+
+abbrev MayReply : Setup → List Stamped → Reply → Type 0
+MayReply setup past Silence = Unit {0}
+MayReply setup past (InStartup None) = Unit {0}
+MayReply setup past (InStartup (Some answer)) = MayGo setup past answer.sid answer.plain
+MayReply setup past (InSession body) = IsModest body
+
+-- what is left keeps the sizes of what goes out, and the answer may go out
+record Fits (setup : Setup) (past : List Stamped) (t : State) (reply : Reply) : Type 0 where
+  sent : Sent setup past t
+  may : MayReply setup past reply
+
+module _ (setup : Setup) (past : List Stamped) (s : State) (sent : Sent setup past s) (tied : Tied setup past s) (cert : length setup.cert ≤ 80) where
+  hello_fits : (epd tag : List ℕ) (to : AddressParts) → first_that_stands (wide tag ∷ where_true (not (selects (discriminator_of epd) (sha256 s.startup.cert))) NotSelected ∷ []) ≡ None →
+      Fits setup past s (InStartup (Some (initiator_hello_answer s.startup tag to s.moment)))
+  hello_fits epd tag to none =
+      let short : length tag ≤ 128 = narrow 128 tag (first_none (wide tag) (where_true (not (selects (discriminator_of epd) (sha256 s.startup.cert))) NotSelected) none) in
+      let own : length s.startup.cert ≤ 80 = subst (λ (c : List ℕ). length c ≤ 80) (sym tied.cert) cert in
+      record { sent = sent; may = rhello_may setup past 0 tag (cookie_of s.startup.cookie_secret to s.moment) s.startup.cert short (length-cookie_of s.startup.cookie_secret to s.moment) own }
+
+  answered_fits : (tag cookie : List ℕ) (from : AddressParts) (o : Option (ℕ × AttemptState)) → lowest (has_tag tag) s.startup.attempts ≡ o → length cookie ≤ 128 →
+      Fits setup past (with_startup s (after_answer s.startup o from cookie s.moment)) (InStartup (answer_keying s.startup o from cookie))
+  answered_fits tag cookie from None is short = record { sent = sent_startup_changed setup past s s.startup sent sent.short; may = tt }
+  answered_fits tag cookie from (Some e) is short =
+      let there : get s.startup.attempts e.0 ≡ Some e.1 = answered_there s.startup.attempts tag e is in
+      record {
+        sent = sent_startup_changed setup past s (after_answer s.startup (Some e) from cookie s.moment) sent
+            (short_put s.startup.attempts e.0 (answered e.1 from cookie s.moment) sent.short (record { tag = (sent.short e.0 e.1 there).tag; cookie = short }));
+        may = attempt_may setup past s sent tied e.0 e.1 from cookie there short cert;
+      }
+
+  again_may : (e : ℕ × AttemptState) (cookie : List ℕ) (stage : Stage) → get s.startup.attempts e.0 ≡ Some e.1 → length cookie ≤ 128 →
+      MayReply setup past (InStartup (again_signed (sign_key_of s.startup.secret) s.startup.cert e.0 e.1 stage cookie))
+  again_may e cookie Hello there short = tt
+  again_may e cookie (Keying at old) there short = attempt_may setup past s sent tied e.0 e.1 at cookie there short cert
+
+  changed_fits : (sid : ℕ) (old cookie : List ℕ) (o : Option (ℕ × AttemptState)) → changed s.startup.attempts sid old ≡ o → length cookie ≤ 128 →
+      Fits setup past (with_startup s (after_change s.startup o cookie s.moment)) (InStartup (change_keying s.startup o cookie))
+  changed_fits sid old cookie None is short = record { sent = sent_startup_changed setup past s s.startup sent sent.short; may = tt }
+  changed_fits sid old cookie (Some e) is short =
+      let there : get s.startup.attempts e.0 ≡ Some e.1 = changed_there s.startup.attempts sid old e is in
+      record {
+        sent = sent_startup_changed setup past s (after_change s.startup (Some e) cookie s.moment) sent
+            (short_put s.startup.attempts e.0 (recookied e.1 cookie s.moment) sent.short (record { tag = (sent.short e.0 e.1 there).tag; cookie = narrow_with cookie e.1.stage short }));
+        may = again_may e cookie e.1.stage there short;
+      }
+
+  read_fits : (place : Place) (from : AddressParts) (read : Result Chunk ChunkFault) → read_cause s place read ≡ None → Fits setup past (read_left s place from read) (read_reply s place from read)
+  read_fits place from (Ok (IHello epd tag)) none = hello_fits epd tag from none
+  read_fits place from (Ok (FIHello epd reply tag)) none = hello_fits epd tag reply none
+  read_fits place from (Ok (RHello tag cookie their)) none =
+      let causes = firsts_none (wide tag) (wide cookie) (hello_cause_at (lowest (has_tag tag) s.startup.attempts) (sha256 their)) none in
+      answered_fits tag cookie from (lowest (has_tag tag) s.startup.attempts) refl (narrow 128 cookie causes.1)
+  read_fits place from (Ok (CookieChange old new)) none =
+      let causes = firsts_none (wide old) (wide new) (none_to_change (changed s.startup.attempts (sid_at place) old)) none in
+      changed_fits (sid_at place) old new (changed s.startup.attempts (sid_at place) old) refl (narrow 128 new causes.1)
+  read_fits place from (Ok (Ping bytes)) none =
+      let short : length bytes ≤ 1024 = narrow 1024 bytes none in
+      record { sent = sent; may = record { chunk = PingReply bytes; is = refl; short = omega arith; no_initiator = omega arith; no_responder = omega arith } }
+  read_fits place from _ none = record { sent = sent; may = tt }
+
+-- ---- whatever the chunk is
+
+module _ (setup : Setup) (call : Call) where
+  goes_replied : (s : State) (place : Place) (from : AddressParts) (reply : Reply) → Keeps setup call s (replied s place from reply)
+  goes_replied s place from Silence = goes_nothing setup call s
+  goes_replied s place from (InStartup answer) = goes_if setup call s answer
+  goes_replied s place from (InSession body) = goes_in_session setup call s (sid_at place) from body
+
+  pub goes_read : (s : State) (place : Place) (from : AddressParts) (read : Result Chunk ChunkFault) → Keeps setup call s (read_done s place from read)
+  goes_read s place from read past tied =
+      let left : State = read_left s place from read in
+      let first : Did = record { state = left; entries = [] } in
+      let kept : Tied setup past left = left_tied setup past s tied place from read in
+      goes_then setup call past s first (λ u. replied u place from (read_reply s place from read))
+      (record { meets = tt; tied = kept; moment = (left_same s place from read).moment })
+      (goes_replied left place from (read_reply s place from read) past kept)
+
+module _ (setup : Setup) (now : ℕ) (call : Call) (past : List Stamped) where
+  says : (s : State) → Sent setup past s → Tied setup past s → (near : ℕ) (from : AddressParts) (body : List ℕ) → IsModest body → (o : Option SessionState) → get s.sessions near ≡ o → Meets setup now call past (sent_by s near from body o)
+  says s sent tied near from body modest None is = meets_nothing setup now call past s sent
+  says s sent tied near from body modest (Some session) is =
+      let t = tied.sessions near session is in
+      subst (λ (b : List ℕ). Meets setup now call past (sent_by s near from b (Some session))) (sym modest.is)
+      (meets_session setup now call past s sent near session is t.secret t.own
+      (sym (reads_held 0 s.startup.ledger (facts_of past) tied.account session.joined.peer) ∙ t.thing) from modest.chunk modest.short modest.no_initiator modest.no_responder)
+
+  meets_replied : (s : State) → Sent setup past s → Tied setup past s → (place : Place) (from : AddressParts) (reply : Reply) → MayReply setup past reply → Meets setup now call past (replied s place from reply)
+  meets_replied s sent tied place from Silence may = meets_nothing setup now call past s sent
+  meets_replied s sent tied place from (InStartup None) may = meets_nothing setup now call past s sent
+  meets_replied s sent tied place from (InStartup (Some answer)) may = meets_answer setup now call past s sent tied.secret tied.own answer may
+  meets_replied s sent tied place from (InSession body) may = says s sent tied (sid_at place) from body may (get s.sessions (sid_at place)) refl
+
+  pub meets_read : (s : State) → Sent setup past s → Tied setup past s → length setup.cert ≤ 80 → (place : Place) (from : AddressParts) (read : Result Chunk ChunkFault) → read_cause s place read ≡ None →
+      Meets setup now call past (read_done s place from read)
+  meets_read s sent tied cert place from read none =
+      let fits = read_fits setup past s sent tied cert place from read none in
+      meets_replied (read_left s place from read) fits.sent (left_tied setup past s tied place from read) place from (read_reply s place from read) fits.may
