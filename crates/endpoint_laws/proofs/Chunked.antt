@@ -1,5 +1,5 @@
--- The chunks of a datagram, one after another: what is stated is lawful, and the state agrees with it.
-use Rattle.std.proofs.Common.{◌≡◌, ℕ, ◌≤◌, ◌<◌, ◌^◌, List, [], ◌∷◌, ◌++◌, length, nat_lt, Bool, true, false, not, ◌||◌, if◌then◌else◌, Option, Some, None, Result, Ok, Err, inl, inr, ◌⊎◌, refl, sym, ap, subst, ◌∙◌, append_assoc}
+-- A chunk of a datagram: what is stated is lawful, and the state agrees with it.
+use Rattle.std.proofs.Common.{◌≡◌, ℕ, ◌≤◌, ◌<◌, ◌^◌, List, [], ◌∷◌, length, nat_lt, Bool, true, false, not, ◌||◌, if◌then◌else◌, Option, Some, None, Result, Ok, Err, inl, inr, refl, sym, ap, subst, ◌∙◌}
 use Rattle.std.specs.Prelude.{◌==◌}
 use Rattle.std.specs.Str.{bytes_eq}
 use Rattle.std.specs.FinMap.{get, contains_key}
@@ -20,16 +20,16 @@ use Rattle.endpoint_model.specs.declared.config.Draws.{Draws}
 use Rattle.endpoint_model.specs.declared.place.Place.{Place}
 use Rattle.endpoint_model.specs.declared.place.Place.TheVariants.{Startup, Attempt, Session}
 use Rattle.endpoint_model.specs.Event.{Setup, Call, Receive}
-use Rattle.endpoint_laws.specs.Past.{Stamped, onto}
+use Rattle.endpoint_laws.specs.Past.{Stamped}
 use Rattle.endpoint_model.specs.Keying.{IsAmong, IsFirst, chunks_of}
-use Rattle.endpoint_model.specs.State.{State, Did, full}
+use Rattle.endpoint_model.specs.State.{State, full}
 use Rattle.endpoint_model.specs.Admission.{sid_at}
-use Rattle.endpoint_model.specs.Due.{initiator_keyed, responder_keyed, effect, discarded_or, chunk_did, walked, chunks_did}
+use Rattle.endpoint_model.specs.Due.{initiator_keyed, responder_keyed, effect, discarded_or, chunk_did}
 use Rattle.endpoint_model.specs.Causes.{is_known, form_cause, read_fault, takes, initiator_keying_cause, responder_keying_cause, last_cause, chunk_cause}
 use Rattle.endpoint_model.proofs.Members.{tested}
 use Rattle.endpoint_laws.proofs.Tied.{Tied}
 use Rattle.endpoint_laws.proofs.Facts.{all_none, test_fails}
-use Rattle.endpoint_laws.proofs.Going.{Goes, goes_nothing, goes_then, goes_discarded}
+use Rattle.endpoint_laws.proofs.Going.{Goes, goes_discarded}
 use Rattle.endpoint_laws.proofs.Replies.{goes_read}
 use Rattle.endpoint_laws.proofs.Admitting.{Came}
 use Rattle.endpoint_laws.proofs.Bearing.{IsHeard}
@@ -181,54 +181,10 @@ module _ (setup : Setup) (from : AddressParts) (datagram : List ℕ) (draws : Dr
             ])
       ]
 
-  chunk_goes : (s : State) (past : List Stamped) (place : Place) (walk : Walk) (c : Placed) → Tied setup past s → Came setup datagram place packet → IsAmong c (chunks_of packet) → (walk.keyed ≡ false → c.kind ≡ 0x38 → IsFirst c (chunks_of packet)) →
+  pub chunk_goes : (s : State) (past : List Stamped) (place : Place) (walk : Walk) (c : Placed) → Tied setup past s → Came setup datagram place packet → IsAmong c (chunks_of packet) → (walk.keyed ≡ false → c.kind ≡ 0x38 → IsFirst c (chunks_of packet)) →
       Goes setup call past s (chunk_did place from draws walk s c)
   chunk_goes s past place walk c tied came among first = by (chunk_cause s place walk from c) refl
     where
       by : (o : Option Cause) → chunk_cause s place walk from c ≡ o → Goes setup call past s (discarded_or s c.at o (effect s place from draws c))
       by None is = effect_goes s past place walk c tied came among first is
       by (Some cause) is = goes_discarded setup call s c.at cause past tied
-
-  -- ---- all of them
-
-  -- these chunks come after some, of which one is a keying where one was before
-  pub record IsNext (walk : Walk) (before cs : List Placed) : Type 0 where
-    pub whole : chunks_of packet ≡ before ++ cs
-    pub keyed : walk.keyed ≡ false → (c : Placed) → IsAmong c before → c.kind ≡ 0x38 → ⊥
-
-  among_back : (before : List Placed) (c : Placed) (cs : List Placed) → IsAmong c (before ++ c ∷ cs)
-  among_back [] c cs = inl refl
-  among_back (b ∷ before) c cs = inr (among_back before c cs)
-
-  first_back : (before : List Placed) (c : Placed) (cs : List Placed) → ((b : Placed) → IsAmong b before → b.kind ≡ 0x38 → ⊥) → c.kind ≡ 0x38 → IsFirst c (before ++ c ∷ cs)
-  first_back [] c cs none kind = inl refl
-  first_back (b ∷ before) c cs none kind = inr ((λ e. none b (inl refl) (e ∙ kind)), first_back before c cs (λ x among. none x (inr among)) kind)
-
-  among_end : (before : List Placed) (c b : Placed) → IsAmong b (before ++ c ∷ []) → IsAmong b before ⊎ (b ≡ c)
-  among_end [] c b (inl is) = inr is
-  among_end [] c b (inr none) = absurd none
-  among_end (x ∷ before) c b (inl is) = inl (inl is)
-  among_end (x ∷ before) c b (inr later) = elim (among_end before c b later) [ inl there ↦ inl (inr there) | inr is ↦ inr is ]
-
-  neither : (a b : Bool) → (a || b) ≡ false → (a ≡ false) × (b ≡ false)
-  neither true b e = absurd (cc)
-  neither false b e = (refl, e)
-
-  pub chunks_go : (place : Place) → Came setup datagram place packet → (walk : Walk) (before cs rest : List Placed) (s : State) (past : List Stamped) → IsNext walk before (cs ++ rest) → Tied setup past s →
-      Goes setup call past s (chunks_did place from draws walk s cs)
-  chunks_go place came walk before [] rest s past next tied = goes_nothing setup call s past tied
-  chunks_go place came walk before (c ∷ cs) rest s past next tied =
-      let among : IsAmong c (chunks_of packet) = subst (IsAmong c) (sym next.whole) (among_back before c (cs ++ rest)) in
-      let one = chunk_goes s past place walk c tied came among (λ e kind. subst (IsFirst c) (sym next.whole) (first_back before c (cs ++ rest) (next.keyed e) kind)) in
-      let later : IsNext (walked walk c) (before ++ c ∷ []) (cs ++ rest) = record {
-        whole = next.whole ∙ sym (append_assoc before (c ∷ []) (cs ++ rest));
-        keyed = λ e b in_all kind.
-            let both = neither walk.keyed (c.kind == 0x38) e in
-            elim (among_end before c b in_all) [
-              | inl there ↦ next.keyed both.0 b there kind
-              | inr is ↦ elim (tested c.kind 0x38) [ inl same ↦ (let clash : true ≡ false = sym same.1 ∙ both.1 in cc) | inr other ↦ other.0 (ap (λ (p : Placed). p.kind) (sym is) ∙ kind) ]
-            ];
-      } in
-      let d : Did = chunk_did place from draws walk s c in
-      goes_then setup call past s d (λ t. chunks_did place from draws (walked walk c) t cs) one
-      (chunks_go place came (walked walk c) (before ++ c ∷ []) cs rest d.state (onto s.moment d.entries past) later one.tied)

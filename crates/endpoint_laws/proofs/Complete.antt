@@ -53,8 +53,8 @@ use Rattle.endpoint_model.specs.declared.place.Place.{Place}
 use Rattle.endpoint_model.specs.declared.place.Place.TheVariants.{Startup, Attempt}
 use Rattle.endpoint_model.specs.declared.entry.Entry.{Entry}
 use Rattle.endpoint_model.specs.declared.entry.Entry.TheVariants.{Fact as FactEntry, Out}
-use Rattle.endpoint_model.specs.Event.{Setup, own_of, Receive, Answer as CallAnswer, Began, Done, NotOpened, Refused, Stopped, OutOfMemory, Event}
-use Rattle.endpoint_laws.specs.Past.{Stamped, onto, facts_of, past_of, last_moment, begun}
+use Rattle.endpoint_model.specs.Event.{Setup, own_of, Receive, Answer as CallAnswer, Began, Done, NotOpened, Refused, Stopped, OutOfMemory}
+use Rattle.endpoint_laws.specs.Past.{Stamped, onto, facts_of, past_of, last_moment}
 use Rattle.endpoint_model.specs.Keying.{IsFirst, chunks_of}
 use Rattle.endpoint_laws.specs.Admissible.{Admissible, Offer}
 use Rattle.endpoint_laws.specs.Lawful.{AnswersAttempt}
@@ -63,24 +63,25 @@ use Rattle.endpoint_model.specs.Sending.{last_count, startup_number, startup_dat
 use Rattle.endpoint_model.specs.Admission.{Admission, Rejected, Admitted, place_of, opened_by, placed, opened_found, opened_datagram, admission, admitted, admitted_packet, packet_in, has_mode, confirming}
 use Rattle.endpoint_model.specs.Causes.{is_known, form_cause, takes, last_cause, chunk_cause}
 use Rattle.endpoint_model.specs.Due.{with_born, keying_done, initiator_keyed, responder_keyed, with_opened, opening_done, read_done, effect, discarded_or, chunk_did, walked, chunks_did, received, part_received, outset}
-use Rattle.endpoint_model.specs.Log.{Answers, Leads}
-use Rattle.endpoint_laws.specs.Laws.{IsSetup, IsCall, AreCalls}
+use Rattle.endpoint_model.specs.Log.{Answers}
+use Rattle.endpoint_laws.specs.Laws.{IsSetup, IsCall}
 use Rattle.endpoint_laws.specs.Complete.{WentThrough, IsPing, outs_in, at_initiator, IsOfOffer, IsBornAndTold, AdmissibleKeyingsBear, OpensItsSession, KeyingsWithoutCauseOpen}
 use Rattle.endpoint_laws.proofs.Bytes.{of_bytes, plain_is}
 use Rattle.endpoint_model.proofs.Reading.{packet_reads}
 use Rattle.endpoint_laws.proofs.Facts.{all_none, test_fails}
 use Rattle.endpoint_model.proofs.Members.{tested}
-use Rattle.endpoint_laws.proofs.Tied.{Tied, fresh_tied}
+use Rattle.endpoint_laws.proofs.Tied.{Tied}
 use Rattle.endpoint_laws.proofs.Moving.{tied_alike}
 use Rattle.endpoint_laws.proofs.Going.{Goes}
 use Rattle.endpoint_model.proofs.Steps.{then_then, walk_through}
 use Rattle.endpoint_laws.proofs.Admitting.{Came, AdmissionIs, admission_is}
 use Rattle.endpoint_laws.proofs.Answering.{OpensAttempt}
-use Rattle.endpoint_laws.proofs.Chunked.{chunks_go, read_ok, opening_of}
-use Rattle.endpoint_laws.proofs.Logged.{answers_go, tied_to_log, tied_begun}
+use Rattle.endpoint_laws.proofs.Chunked.{read_ok, opening_of}
+use Rattle.endpoint_laws.proofs.OutSends.{Sent}
+use Rattle.endpoint_laws.proofs.Orderly.{Orderly, chunks_orderly}
+use Rattle.endpoint_laws.proofs.Logged.{LogIs, log_is}
 use Rattle.endpoint_laws.proofs.OutBirths.{small_free}
-use Rattle.endpoint_laws.proofs.OutLaw.{count_of_log}
-use Rattle.endpoint_laws.proofs.Few.{few_chunks, few_of_log, outs_append}
+use Rattle.endpoint_laws.proofs.Few.{outs_append}
 use Rattle.endpoint_laws.proofs.OutPackets.{one_whole, session_reads}
 use Rattle.endpoint_laws.proofs.ReadsBack.{none_all, less_is_other, IsBearing, read_as, is_bearing}
 use Rattle.endpoint_laws.proofs.AnswerCarried.{keying_answers}
@@ -252,8 +253,8 @@ module _ (setup : Setup) (past : List Stamped) (u : State) (tied : Tied setup pa
 
 -- ---- a datagram with an admissible keying
 
-module _ (setup : Setup) (past : List Stamped) (s : State) (tied : Tied setup past s) (from : AddressParts) (datagram : List ℕ) (draws : Draws) (offer : Offer) (now : ℕ)
-    (a : Admissible setup (facts_of past) now from datagram offer) (at : s.moment ≡ now) (most : setup.config.max_sessions ≤ 65536) (fits : IsCall (Receive from datagram draws))
+module _ (setup : Setup) (past : List Stamped) (s : State) (tied : Tied setup past s) (sent_so : Sent setup past s) (from : AddressParts) (datagram : List ℕ) (draws : Draws) (offer : Offer) (now : ℕ)
+    (a : Admissible setup (facts_of past) now from datagram offer) (at : s.moment ≡ now) (is : IsSetup setup) (fits : IsCall (Receive from datagram draws))
     (other : offer.peer ≢ own_of setup) (gone rest : List Placed) (goes : chunks_of a.packet ≡ gone ++ rest) (firstly : IsFirst a.chunk gone) where
   abbrev part : List ℕ
   part = drop 4 datagram
@@ -307,8 +308,11 @@ module _ (setup : Setup) (past : List Stamped) (s : State) (tied : Tied setup pa
   abbrev u : State
   u = first.state
 
-  after_front : Goes setup (Receive from datagram draws) past s first
-  after_front = chunks_go setup from datagram draws most fits.2 a.packet Startup came outset [] cut.front (a.chunk ∷ (cut.back ++ rest)) s past (record { whole = in_all; keyed = λ e c none is. none }) tied
+  front_orderly : Orderly setup (Receive from datagram draws) past s first
+  front_orderly = chunks_orderly setup is from datagram draws fits a.packet Startup came outset [] cut.front (a.chunk ∷ (cut.back ++ rest)) s past (record { whole = in_all; keyed = λ e c none is. none }) tied sent_so
+
+  abbrev after_front : Goes setup (Receive from datagram draws) past s first
+  after_front = front_orderly.goes
 
   abbrev told : List Stamped
   told = onto s.moment first.entries past
@@ -344,7 +348,7 @@ module _ (setup : Setup) (past : List Stamped) (s : State) (tied : Tied setup pa
 
   few_so : u.sealed ≤ s.sealed + outs_in (chunks_did Startup from draws outset s gone).entries
   few_so =
-      omega (arith, few_chunks Startup from draws outset cut.front s, ap outs_in in_two, outs_append first.entries ((chunk_did Startup from draws outset u a.chunk).entries ++ later))
+      omega (arith, front_orderly.few, ap outs_in in_two, outs_append first.entries ((chunk_did Startup from draws outset u a.chunk).entries ++ later))
 
   bears : (u.sealed == last_count) ≡ false → count (facts_of past) < 2 ^ 64 → (x : Joined) × IsOfOffer offer draws.nonce (facts_of past) x × IsBornAndTold setup from x (chunks_did Startup from draws outset s gone).entries
   bears some counted =
@@ -371,15 +375,6 @@ module _ (setup : Setup) (past : List Stamped) (s : State) (tied : Tied setup pa
       )
 
 -- ---- logs
-
--- the moment of an end is the last of its log
-pub moment_goes : (setup : Setup) (past : List Stamped) (log : List Event) (s t : State) → IsSetup setup → AreCalls log → Tied setup past s → Leads s log t → t.moment ≡ last_moment s.moment log
-moment_goes setup past [] s t is calls tied leads = ap (λ (x : State). x.moment) (sym leads)
-moment_goes setup past (e ∷ log) s t is calls tied leads =
-    let noted : State = at_moment s e.moment in
-    let start : List Stamped = begun noted.moment e ∷ past in
-    let one = answers_go setup start noted leads.0 e.call e.answer e.entries is (tied_begun setup past s e tied) calls.0 leads.1 in
-    moment_goes setup (onto noted.moment e.entries start) log leads.0 t is calls.1 one.tied leads.2 ∙ ap (λ (m : ℕ). last_moment m log) one.moment
 
 -- what a call adds that has gone through these chunks of a packet
 went_entries : (noted t u : State) (place : Place) (from : AddressParts) (datagram : List ℕ) (draws : Draws) (answer : CallAnswer) (entries : List Entry) (packet : Whole) (gone : List Placed) →
@@ -411,20 +406,21 @@ went_first OutOfMemory chunks gone went = absurd went
 pub admissible_keyings_bear : AdmissibleKeyingsBear
 admissible_keyings_bear setup log s t moment from datagram draws answer entries offer gone is calls stands fits step a went firstly other few =
     let past : List Stamped = past_of 0 [] log in
-    let before : Tied setup past s = tied_to_log setup log s is calls stands in
+    let said : LogIs setup [] (fresh setup) log s = log_is setup log s is calls stands in
     let noted : State = at_moment s moment in
-    let tied : Tied setup past noted = tied_alike setup past s (max s.moment moment) s.sealed before in
-    let last : s.moment ≡ last_moment 0 log = moment_goes setup [] log (fresh setup) s is calls (fresh_tied setup) stands in
+    let tied : Tied setup past noted = tied_alike setup past s (max s.moment moment) s.sealed said.holds.tied in
+    let sent_so : Sent setup past noted = record { numbered = said.holds.sent.numbered; sized = said.holds.sent.sized; short = said.holds.sent.short } in
+    let last : s.moment ≡ last_moment 0 log = said.moment in
     let now : ℕ = max (last_moment 0 log) moment in
     let at : noted.moment ≡ now = ap (λ (m : ℕ). max m moment) last in
     let cut = went_first answer (chunks_of a.packet) gone went in
-    let so = admission_so setup past noted tied from datagram draws offer now a at is.sessions fits other gone cut.0 cut.1 firstly in
+    let so = admission_so setup past noted tied sent_so from datagram draws offer now a at is fits other gone cut.0 cut.1 firstly in
     let entries_are : entries ≡ (chunks_did Startup from draws outset noted gone).entries = went_entries noted t noted Startup from datagram draws answer entries a.packet gone step so refl went in
-    let left : State = u setup past noted tied from datagram draws offer now a at is.sessions fits other gone cut.0 cut.1 firstly in
+    let left : State = u setup past noted tied sent_so from datagram draws offer now a at is fits other gone cut.0 cut.1 firstly in
     let sealed_few : left.sealed ≤ noted.sealed + outs_in (chunks_did Startup from draws outset noted gone).entries =
-    few_so setup past noted tied from datagram draws offer now a at is.sessions fits other gone cut.0 cut.1 firstly in
-    let room : left.sealed < last_count = omega (arith, sealed_few, few_of_log setup log s stands, ap outs_in entries_are, few) in
-    let born = bears setup past noted tied from datagram draws offer now a at is.sessions fits other gone cut.0 cut.1 firstly (less_is_other left.sealed last_count room) (count_of_log setup log s is calls stands) in
+    few_so setup past noted tied sent_so from datagram draws offer now a at is fits other gone cut.0 cut.1 firstly in
+    let room : left.sealed < last_count = omega (arith, sealed_few, said.few, ap outs_in entries_are, few) in
+    let born = bears setup past noted tied sent_so from datagram draws offer now a at is fits other gone cut.0 cut.1 firstly (less_is_other left.sealed last_count room) said.holds.counted in
     (born.0, born.1, subst (IsBornAndTold setup from born.0) (sym entries_are) born.2)
 
 -- ---- responders' keyings

@@ -1,5 +1,5 @@
 -- The number of each attempt is one of 64 bits: the last one that is given is the greatest of them.
-use Rattle.std.proofs.Common.{◌≡◌, ℕ, ◌+◌, ◌-◌, ◌^◌, ◌<◌, ◌==◌, max, List, [], ◌∷◌, false, None, sym, ap, subst, ◌∙◌, arith, Option, Some, refl}
+use Rattle.std.proofs.Common.{◌≡◌, ℕ, ◌+◌, ◌-◌, ◌^◌, ◌<◌, ◌==◌, List, [], ◌∷◌, false, None, sym, subst, arith, Option, Some, refl}
 use Rattle.std.proofs.lemmas.Bool.Decides.{nat_tests}
 use Rattle.std.specs.Str.{bytes_eq}
 use Rattle.rtmfp_forms.specs.Address.{AddressParts}
@@ -11,26 +11,24 @@ use Rattle.glare_core.specs.Ledger.{Ledger, held_with, row_count}
 use Rattle.glare_core.specs.Calls.{where_true, start_held, peers_full}
 use Rattle.glare_core.proofs.Accounts.{reads_started}
 use Rattle.startup.specs.Attempts.{begin_spread, after_begin}
-use Rattle.endpoint_laws.proofs.Moving.{tied_more}
+use Rattle.endpoint_model.proofs.Apart.{opens_alone}
 use Rattle.endpoint_model.specs.Views.{fact_in}
 use Rattle.endpoint_laws.proofs.NoFacts.{NoFactAnd, NoFacts, the_rest, none_each}
 use Rattle.endpoint_model.specs.declared.config.Draws.{Draws}
 use Rattle.endpoint_model.specs.declared.entry.Entry.{Entry}
 use Rattle.endpoint_model.specs.declared.entry.Entry.TheVariants.{Fact as FactEntry}
-use Rattle.endpoint_model.specs.Event.{Setup, own_of, Call, Open, Cancel, Receive, Tick, Answer, Began, Done, NotOpened, Refused, Stopped, OutOfMemory, Event, moment_at, OpenCall, open_in}
-use Rattle.endpoint_laws.specs.Past.{Stamped, stamped, onto, facts_of, past_of, fact_and, begun, with_event}
+use Rattle.endpoint_model.specs.Event.{Setup, own_of, Call, Open, Answer, Began, NotOpened, OpenCall, open_in}
+use Rattle.endpoint_laws.specs.Past.{Stamped, stamped, onto, facts_of, fact_and}
 use Rattle.endpoint_laws.specs.Lawful.{Opens, FactLine, IsCounted, OpensIn}
-use Rattle.endpoint_model.specs.State.{State, at_moment, with_startup, free_from}
+use Rattle.endpoint_model.specs.State.{State, with_startup, free_from}
 use Rattle.endpoint_model.specs.Sending.{sent_each}
 use Rattle.endpoint_model.specs.Due.{open_refusal, opening}
-use Rattle.endpoint_model.specs.Log.{Answers, Leads}
-use Rattle.endpoint_laws.specs.Laws.{AreCalls}
+use Rattle.endpoint_model.specs.Log.{Answers}
 use Rattle.endpoint_laws.proofs.Counted.{count_more}
 use Rattle.endpoint_laws.proofs.Facts.{all_none, test_fails}
-use Rattle.endpoint_laws.proofs.Lines.{EntriesMeet, EventsMeet, FactPart, CountPart, FactMeets, CountMeets}
+use Rattle.endpoint_laws.proofs.Lines.{EntriesMeet, FactPart, CountPart, FactMeets, CountMeets}
 use Rattle.endpoint_laws.proofs.Tied.{Tied}
 use Rattle.endpoint_laws.proofs.Starting.{may_start}
-use Rattle.endpoint_laws.proofs.OutLog.{TiesGoOn}
 
 -- ---- entries that are no facts
 
@@ -74,19 +72,11 @@ few_with : (setup : Setup) (now : ℕ) (call : Call) (past : List Stamped) (rest
 few_with setup now call past rest None f n few = few
 few_with setup now call past rest (Some fact) f n few = count_more (own_of setup) (facts_of past) fact few f.0 n
 
-few_after : (setup : Setup) (now : ℕ) (call : Call) (past : List Stamped) (entries : List Entry) → EntriesMeet FactPart setup now call past entries → EntriesMeet CountPart setup now call past entries →
+pub few_after : (setup : Setup) (now : ℕ) (call : Call) (past : List Stamped) (entries : List Entry) → EntriesMeet FactPart setup now call past entries → EntriesMeet CountPart setup now call past entries →
     count (facts_of past) < 2 ^ 64 → count (facts_of (onto now entries past)) < 2 ^ 64
 few_after setup now call past [] f n few = few
 few_after setup now call past (entry ∷ rest) f n few =
     few_after setup now call (stamped now entry ∷ past) rest f.1 n.1 (few_with setup now call past rest (fact_in entry) f.0 n.0 few)
-
--- the count after the events of a log
-
-pub few_at_end : (setup : Setup) (last : ℕ) (past : List Stamped) (log : List Event) → EventsMeet FactPart setup last past log → EventsMeet CountPart setup last past log →
-    count (facts_of past) < 2 ^ 64 → count (facts_of (past_of last past log)) < 2 ^ 64
-few_at_end setup last past [] f n few = few
-few_at_end setup last past (e ∷ log) f n few =
-    few_at_end setup (moment_at last e) (with_event (moment_at last e) e past) log f.1 n.1 (few_after setup (moment_at last e) e.call (begun (moment_at last e) e ∷ past) e.entries f.0 n.0 few)
 
 -- ---- an attempt
 
@@ -112,34 +102,23 @@ opening_counted setup now past s peer candidates draws entries tied few none is 
       no_facts_counted setup now (Open peer candidates draws) (stamped now (FactEntry fact) ∷ past) (sent_each t spread.plain spread.to).entries (none_each t spread.plain spread.to),
     )
 
--- ---- logs
+-- ---- a call
 
-answers_counted : (setup : Setup) (now : ℕ) (past : List Stamped) (s t : State) (call : Call) (answer : Answer) (entries : List Entry) → Tied setup past s → count (facts_of past) < 2 ^ 64 →
-    EntriesMeet FactPart setup now call past entries → Answers s call answer entries t → EntriesMeet CountPart setup now call past entries
-answers_counted setup now past s t (Open peer candidates draws) (Began n) entries tied few meets h = opening_counted setup now past s peer candidates draws entries tied few h.0 h.2.entries
-answers_counted setup now past s t (Open peer candidates draws) (NotOpened refusal) entries tied few meets h =
+opening_answers : (setup : Setup) (now : ℕ) (past : List Stamped) (s t : State) (peer : List ℕ) (candidates : List AddressParts) (draws : Draws) (answer : Answer) (entries : List Entry) → Tied setup past s →
+    count (facts_of past) < 2 ^ 64 → Answers s (Open peer candidates draws) answer entries t → EntriesMeet CountPart setup now (Open peer candidates draws) past entries
+opening_answers setup now past s t peer candidates draws (Began n) entries tied few h = opening_counted setup now past s peer candidates draws entries tied few h.0 h.2.entries
+opening_answers setup now past s t peer candidates draws (NotOpened refusal) entries tied few h =
     subst (λ (es : List Entry). EntriesMeet CountPart setup now (Open peer candidates draws) past es) (sym h.1.entries) tt
-answers_counted setup now past s t (Open peer candidates draws) Done entries tied few meets h = absurd h
-answers_counted setup now past s t (Open peer candidates draws) (Refused refusal) entries tied few meets h = absurd h
-answers_counted setup now past s t (Open peer candidates draws) (Stopped stop) entries tied few meets h = absurd h
-answers_counted setup now past s t (Open peer candidates draws) OutOfMemory entries tied few meets h = absurd h
-answers_counted setup now past s t (Cancel n) answer entries tied few meets h = other_counted setup now (Cancel n) past entries refl meets
-answers_counted setup now past s t (Receive from datagram draws) answer entries tied few meets h = other_counted setup now (Receive from datagram draws) past entries refl meets
-answers_counted setup now past s t (Tick draws) answer entries tied few meets h = other_counted setup now (Tick draws) past entries refl meets
+opening_answers setup now past s t peer candidates draws _ entries tied few h = absurd h
 
-pub counts_from : (setup : Setup) → TiesGoOn setup → (log : List Event) (last : ℕ) (past : List Stamped) (s t : State) → s.moment ≡ last → Tied setup past s → count (facts_of past) < 2 ^ 64 →
-    AreCalls log → Leads s log t → EventsMeet FactPart setup last past log → EventsMeet CountPart setup last past log
-counts_from setup go [] last past s t is tied few calls leads meets = tt
-counts_from setup go (e ∷ log) last past s t is tied few calls leads meets =
-    let middle : State = leads.0 in
-    let m : ℕ = moment_at last e in
-    let start : List Stamped = begun m e ∷ past in
-    let begins : Tied setup start s = tied_more setup past s (begun m e) refl tied in
-    let noted : Tied setup start (at_moment s e.moment) = go.noted start s e.moment begins in
-    let now : max s.moment e.moment ≡ m = ap (λ (n : ℕ). max n e.moment) is in
-    let after = go.after start s middle e calls.0 begins leads.1 in
-    let counted = answers_counted setup m start (at_moment s e.moment) middle e.call e.answer e.entries noted few meets.0 leads.1 in (
-      counted,
-      counts_from setup go log m (with_event m e past) middle t (after.1 ∙ now) (subst (λ (n : ℕ). Tied setup (onto n e.entries start) middle) now after.0)
-          (few_after setup m e.call start e.entries meets.0 counted few) calls.1 leads.2 meets.1,
-    )
+-- Only an open adds a number.
+pub answers_counted : (setup : Setup) (now : ℕ) (past : List Stamped) (s t : State) (call : Call) (answer : Answer) (entries : List Entry) → Tied setup past s → count (facts_of past) < 2 ^ 64 →
+    EntriesMeet FactPart setup now call past entries → Answers s call answer entries t → EntriesMeet CountPart setup now call past entries
+answers_counted setup now past s t call answer entries tied few meets h = by (open_in call) refl
+  where
+    by : (o : Option OpenCall) → open_in call ≡ o → EntriesMeet CountPart setup now call past entries
+    by None e = other_counted setup now call past entries e meets
+    by (Some o) e =
+        let is : call ≡ Open o.peer o.candidates o.draws = opens_alone call o e in
+        subst (λ (c : Call). EntriesMeet CountPart setup now c past entries) (sym is)
+        (opening_answers setup now past s t o.peer o.candidates o.draws answer entries tied few (subst (λ (c : Call). Answers s c answer entries t) is h))

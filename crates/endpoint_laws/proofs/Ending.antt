@@ -1,5 +1,5 @@
 -- Attempts end and are repeated: what is stated is lawful, and the state agrees with it.
-use Rattle.std.proofs.Common.{◌≡◌, ℕ, zero, suc, ◌+◌, ◌-◌, ◌<◌, ◌≤◌, List, [], ◌∷◌, length, Bool, true, false, if◌then◌else◌, option_to_list, Option, Some, None, is_some, ◌||◌, nat_le, IfSome, inr, refl, sym, ap, subst, ◌∙◌, arith}
+use Rattle.std.proofs.Common.{◌≡◌, ℕ, ◌+◌, ◌-◌, ◌<◌, ◌≤◌, List, [], ◌∷◌, length, Bool, true, false, if◌then◌else◌, option_to_list, Option, Some, None, is_some, ◌||◌, nat_le, IfSome, inr, refl, sym, ap, subst, ◌∙◌, arith}
 use Rattle.std.specs.Prelude.{◌==◌}
 use Rattle.std.proofs.lemmas.Bool.Decides.{nat_tests}
 use Rattle.std.specs.Ordering.{nat_cmp}
@@ -28,10 +28,10 @@ use Rattle.startup.specs.Due.{repeat_signed, repeat_of, is_over, is_due, repeate
 use Rattle.session_core.specs.Session.{SessionState}
 use Rattle.endpoint_model.specs.declared.entry.Entry.TheVariants.{Fact as FactEntry}
 use Rattle.endpoint_model.specs.Event.{Setup, Call, Cancel, own_of}
-use Rattle.endpoint_laws.specs.Past.{Stamped, stamped, onto, facts_of, ids_in_use}
+use Rattle.endpoint_laws.specs.Past.{Stamped, stamped, facts_of, ids_in_use}
 use Rattle.endpoint_laws.specs.Lawful.{IsTick}
 use Rattle.endpoint_model.specs.State.{State, Did, fact_entries, with_startup}
-use Rattle.endpoint_model.specs.Due.{cancelling, due_done, tick_once, ticks, item_done, attempt_item}
+use Rattle.endpoint_model.specs.Due.{cancelling, due_done, tick_once, item_done, attempt_item}
 use Rattle.endpoint_model.proofs.Members.{has}
 use Rattle.endpoint_model.proofs.Ids.{has_keys, count_keys}
 use Rattle.endpoint_laws.proofs.Matching.{of_peer, ids_less}
@@ -192,9 +192,3 @@ module _ (setup : Setup) (call : Call) (is_tick : IsTick call) (s : State) where
 
   pub goes_tick_once : Keeps setup call s (tick_once s)
   goes_tick_once = tick_by (lowest (is_due s.moment) s.startup.attempts) refl
-
-pub goes_ticks : (setup : Setup) (call : Call) → IsTick call → (count : ℕ) (s : State) → Keeps setup call s (ticks count s)
-goes_ticks setup call is_tick zero s = goes_nothing setup call s
-goes_ticks setup call is_tick (suc count) s = λ past tied.
-    let one = goes_tick_once setup call is_tick s past tied in
-    goes_then setup call past s (tick_once s) (ticks count) one (goes_ticks setup call is_tick count (tick_once s).state (onto s.moment (tick_once s).entries past) one.tied)

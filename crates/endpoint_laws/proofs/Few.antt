@@ -1,5 +1,5 @@
--- An end never sealed more startup packets than datagrams went out by its log.
-use Rattle.std.proofs.Common.{◌≡◌, ℕ, zero, suc, ◌+◌, ◌≤◌, List, [], ◌∷◌, ◌++◌, take, drop, Bool, true, false, ◌==◌, if◌then◌else◌, Option, Some, None, Result, Ok, Err, refl, ap, ◌∙◌, arith}
+-- No thing that an end does seals more startup packets than datagrams go out.
+use Rattle.std.proofs.Common.{◌≡◌, ℕ, ◌+◌, ◌≤◌, List, [], ◌∷◌, ◌++◌, drop, Bool, true, false, ◌==◌, if◌then◌else◌, Option, Some, None, Result, Ok, Err, refl, ap, ◌∙◌, arith}
 use Rattle.std.specs.FinMap.{get}
 use Rattle.rtmfp_forms.specs.Address.{AddressParts}
 use Rattle.rtmfp_packet.specs.declared.head.PacketHead.{PacketHead}
@@ -32,20 +32,16 @@ use Rattle.endpoint_model.specs.declared.walk.Walk.{Walk}
 use Rattle.endpoint_model.specs.declared.config.Draws.{Draws}
 use Rattle.endpoint_model.specs.declared.place.Place.{Place}
 use Rattle.endpoint_model.specs.declared.place.Place.TheVariants.{Startup, Attempt, Session}
-use Rattle.endpoint_model.specs.declared.answers.Stopped.{Stopped as Stop}
 use Rattle.endpoint_model.specs.declared.entry.Entry.{Entry}
 use Rattle.endpoint_model.specs.declared.entry.Entry.TheVariants.{Fact as FactEntry, Out}
-use Rattle.endpoint_model.specs.Event.{Setup, Call, Open, Cancel, Receive, Tick, Answer as CallAnswer, Began, Done, NotOpened, Refused, Stopped, OutOfMemory, Event, moment_at}
-use Rattle.endpoint_laws.specs.Past.{Stamped, stamped, onto, past_of, begun, with_event}
-use Rattle.endpoint_model.specs.Keying.{chunks_of}
-use Rattle.endpoint_model.specs.State.{State, Did, Does, nothing, after_entries, then_do, fact_entries, with_startup, with_session, with_sealed, free_from, fresh, at_moment}
+use Rattle.endpoint_laws.specs.Past.{Stamped, stamped, onto}
+use Rattle.endpoint_model.specs.State.{State, Did, Does, nothing, after_entries, then_do, fact_entries, with_startup, with_session, with_sealed, free_from}
 use Rattle.endpoint_model.specs.Sending.{last_count, startup_datagram, session_datagram, sent_startup, sent_answer, sent_if, sent_each, sent_spread, sent_by, sent_in_session}
-use Rattle.endpoint_model.specs.Admission.{Admission, Rejected, Admitted, admission, admitted, admitted_packet, opened_datagram, sid_at, counted_by, counted_at, timed_by, timed_at, confirming_by, confirming, packet_in, has_mode, mode_at}
+use Rattle.endpoint_model.specs.Admission.{Admission, Rejected, Admitted, admitted, admitted_packet, sid_at, counted_by, counted_at, timed_by, timed_at, confirming_by, confirming, packet_in, has_mode, mode_at}
 use Rattle.endpoint_model.specs.Causes.{chunk_cause}
-use Rattle.endpoint_model.specs.Due.{opening, cancelling, due_done, tick_once, ticks, with_born, keying_done, initiator_keyed, with_opened, opening_done, responder_keyed, Reply, Silence, InStartup, InSession, replied, read_left, read_reply, read_done, effect, discarded_or, chunk_did, walked, chunks_did, received, part_received, outset, item_done, Item, OfAttempt, first_due}
+use Rattle.endpoint_model.specs.Due.{opening, due_done, tick_once, with_born, keying_done, initiator_keyed, with_opened, opening_done, responder_keyed, Reply, Silence, InStartup, InSession, replied, read_left, read_reply, read_done, effect, discarded_or, chunk_did, item_done, Item, OfAttempt, first_due}
 use Rattle.endpoint_laws.proofs.Replies.{left_same}
 use Rattle.endpoint_laws.specs.Complete.{outs_in, outs_of}
-use Rattle.endpoint_model.specs.Log.{Answers, Leads, StandsFor, stopped}
 
 -- how many datagrams went out, of two lists one after the other
 pub outs_append : (xs ys : List Entry) → outs_in (xs ++ ys) ≡ outs_in xs + outs_in ys
@@ -60,7 +56,7 @@ pub few_nothing : (s : State) → Few s (nothing s)
 few_nothing s = omega arith
 
 -- nothing was sealed
-few_same : (s : State) (d : Did) → d.state.sealed ≡ s.sealed → Few s d
+pub few_same : (s : State) (d : Did) → d.state.sealed ≡ s.sealed → Few s d
 few_same s d e = omega (arith, e)
 
 pub few_then : (s : State) (d : Did) (next : State → Did) → Few s d → Few d.state (next d.state) → Few s (then_do d next)
@@ -69,7 +65,7 @@ few_then s d next p q = omega (arith, p, q, outs_append d.entries (next d.state)
 few_after : (s t : State) (entries : List Entry) (d : Did) → t.sealed ≡ s.sealed → Few t d → Few s (after_entries entries d)
 few_after s t entries d e p = omega (arith, e, p, outs_append entries d.entries)
 
-few_from : (s t : State) (d : Did) → t.sealed ≡ s.sealed → Few t d → Few s d
+pub few_from : (s t : State) (d : Did) → t.sealed ≡ s.sealed → Few t d → Few s d
 few_from s t d e p = omega (arith, e, p)
 
 -- ---- datagrams that go out
@@ -165,14 +161,8 @@ few_discarded_or : (s : State) (at : ℕ) (o : Option Cause) (d : Did) → Few s
 few_discarded_or s at None d p = p
 few_discarded_or s at (Some cause) d p = omega arith
 
-few_chunk : (place : Place) (from : AddressParts) (draws : Draws) (walk : Walk) (s : State) (c : Placed) → Few s (chunk_did place from draws walk s c)
+pub few_chunk : (place : Place) (from : AddressParts) (draws : Draws) (walk : Walk) (s : State) (c : Placed) → Few s (chunk_did place from draws walk s c)
 few_chunk place from draws walk s c = few_discarded_or s c.at (chunk_cause s place walk from c) (effect s place from draws c) (few_effect s place from draws c)
-
-pub few_chunks : (place : Place) (from : AddressParts) (draws : Draws) (walk : Walk) (cs : List Placed) (s : State) → Few s (chunks_did place from draws walk s cs)
-few_chunks place from draws walk [] s = few_nothing s
-few_chunks place from draws walk (c ∷ cs) s =
-    let d : Did = chunk_did place from draws walk s c in
-    few_then s d (λ t. chunks_did place from draws (walked walk c) t cs) (few_chunk place from draws walk s c) (few_chunks place from draws (walked walk c) cs d.state)
 
 -- ---- datagrams that come in
 
@@ -185,7 +175,7 @@ few_confirming_by s near (Some session) =
     } in
     either s (is_opening session.stage) d (nothing s) (few_same s d refl) (few_nothing s)
 
-few_confirming : (s : State) (place : Place) → Few s (confirming s place)
+pub few_confirming : (s : State) (place : Place) → Few s (confirming s place)
 few_confirming s Startup = few_nothing s
 few_confirming s (Attempt near) = few_nothing s
 few_confirming s (Session near) = few_confirming_by s near (get s.sessions near)
@@ -208,12 +198,12 @@ timed_sealed s Startup head = refl
 timed_sealed s (Attempt near) head = refl
 timed_sealed s (Session near) head = timed_sealed_by s near head (get s.sessions near)
 
-left_by : Admission → State
+-- what an admission leaves
+abbrev pub left_by : Admission → State
 left_by (Rejected s cause) = s
 left_by (Admitted s place packet) = s
 
 packet_sealed : (s : State) (place : Place) (r : Result Whole PacketFault) → (left_by (admitted_packet s place r)).sealed ≡ s.sealed
-unfolding left_by
 packet_sealed s place (Err fault) = refl
 packet_sealed s place (Ok packet) = by (has_mode packet.head (mode_at s place))
   where
@@ -221,30 +211,13 @@ packet_sealed s place (Ok packet) = by (has_mode packet.head (mode_at s place))
     by true = timed_sealed s place packet.head
     by false = refl
 
-admitted_sealed : (s : State) (datagram : List ℕ) (r : Result (Place × List ℕ) Cause) → (left_by (admitted s datagram r)).sealed ≡ s.sealed
-unfolding left_by
+pub admitted_sealed : (s : State) (datagram : List ℕ) (r : Result (Place × List ℕ) Cause) → (left_by (admitted s datagram r)).sealed ≡ s.sealed
 admitted_sealed s datagram (Err cause) = refl
 admitted_sealed s datagram (Ok found) = packet_sealed (counted_at s found.0 (drop 4 datagram)) found.0 (packet_in found.1) ∙ counted_sealed s found.0 (drop 4 datagram)
 
-few_received : (from : AddressParts) (draws : Draws) (s : State) (a : Admission) → (left_by a).sealed ≡ s.sealed → Few s (received from draws a)
-unfolding left_by
-few_received from draws s (Rejected t cause) e = omega (arith, e)
-few_received from draws s (Admitted t place packet) e =
-    few_from s t (received from draws (Admitted t place packet)) e (few_then t (confirming t place) (λ u. chunks_did place from draws outset u (chunks_of packet)) (few_confirming t place) (few_chunks place from draws outset (chunks_of packet) (confirming t place).state))
-
-few_part : (from : AddressParts) (draws : Draws) (s : State) (a : Admission) (count : ℕ) → (left_by a).sealed ≡ s.sealed → Few s (part_received from draws a count)
-unfolding left_by
-few_part from draws s (Rejected t cause) count e = omega (arith, e)
-few_part from draws s (Admitted t place packet) count e =
-    few_from s t (part_received from draws (Admitted t place packet) count) e (few_then t (confirming t place) (λ u. chunks_did place from draws outset u (take count (chunks_of packet))) (few_confirming t place)
-    (few_chunks place from draws outset (take count (chunks_of packet)) (confirming t place).state))
-
-few_stopped : (from : AddressParts) (draws : Draws) (s : State) (a : Admission) (stop : Stop) → (left_by a).sealed ≡ s.sealed → Few s (stopped s from draws a stop)
-few_stopped from draws s a stop e = either s stop.taken (part_received from draws a stop.chunks) (nothing s) (few_part from draws s a stop.chunks e) (few_nothing s)
-
 -- ---- the other calls
 
-few_opening : (s : State) (peer : List ℕ) (candidates : List AddressParts) (draws : Draws) → Few s (opening s peer candidates draws)
+pub few_opening : (s : State) (peer : List ℕ) (candidates : List AddressParts) (draws : Draws) → Few s (opening s peer candidates draws)
 few_opening s peer candidates draws =
     let t : State = with_startup s (after_begin s.startup peer candidates (free_from s draws.word) draws.nonce draws.tag s.moment) in
     let spread : SpreadParts = begin_spread s.startup peer candidates draws.nonce draws.tag s.moment in
@@ -259,41 +232,14 @@ few_item : (s : State) (left : StartupState) (o : Option Item) → Few s (item_d
 few_item s left None = few_nothing s
 few_item s left (Some (OfAttempt due)) = few_due (with_startup s left) due
 
-few_ticks : (count : ℕ) (s : State) → Few s (ticks count s)
-few_ticks zero s = few_nothing s
-few_ticks (suc count) s =
-    few_then s (tick_once s) (ticks count) (few_item s (after_due s.startup s.moment) (first_due s))
-    (few_ticks count (tick_once s).state)
+pub few_tick_once : (s : State) → Few s (tick_once s)
+few_tick_once s = few_item s (after_due s.startup s.moment) (first_due s)
 
-few_does : (s t : State) (entries : List Entry) (d : Did) → Few s d → Does d t [] entries → t.sealed ≤ s.sealed + outs_in entries
+pub few_does : (s t : State) (entries : List Entry) (d : Did) → Few s d → Does d t [] entries → t.sealed ≤ s.sealed + outs_in entries
 few_does s t entries d p does = omega (arith, p, ap (λ (u : State). u.sealed) does.state, ap outs_in does.entries)
 
-few_answers : (s t : State) (call : Call) (answer : CallAnswer) (entries : List Entry) → Answers s call answer entries t → t.sealed ≤ s.sealed + outs_in entries
-few_answers s t (Open peer candidates draws) (Began n) entries h = few_does s t entries (opening s peer candidates draws) (few_opening s peer candidates draws) h.2
-few_answers s t (Open peer candidates draws) (NotOpened refusal) entries h = few_does s t entries (nothing s) (few_nothing s) h.1
-few_answers s t (Cancel n) Done entries h = few_does s t entries (cancelling s n) (few_same s (cancelling s n) refl) h.1
-few_answers s t (Cancel n) (Refused refusal) entries h = few_does s t entries (nothing s) (few_nothing s) h.2
-few_answers s t (Receive from datagram draws) Done entries h =
-    few_does s t entries (received from draws (admission s datagram)) (few_received from draws s (admission s datagram) (admitted_sealed s datagram (opened_datagram s datagram))) h
-few_answers s t (Receive from datagram draws) (Stopped stop) entries h =
-    few_does s t entries (stopped s from draws (admission s datagram) stop) (few_stopped from draws s (admission s datagram) stop (admitted_sealed s datagram (opened_datagram s datagram))) h.1
-few_answers s t (Tick draws) Done entries h = few_does s t entries (ticks h.0.0 s) (few_ticks h.0.0 s) h.0.1
-few_answers s t (Tick draws) OutOfMemory entries h = few_does s t entries (ticks h.0 s) (few_ticks h.0 s) h.1
-few_answers s t _ _ entries h = absurd h
+-- ---- what was done so far
 
--- ---- logs
-
-onto_outs : (now : ℕ) (entries : List Entry) (past : List Stamped) → outs_of (onto now entries past) ≡ outs_in entries + outs_of past
+pub onto_outs : (now : ℕ) (entries : List Entry) (past : List Stamped) → outs_of (onto now entries past) ≡ outs_in entries + outs_of past
 onto_outs now [] past = omega arith
 onto_outs now (x ∷ xs) past = omega (arith, onto_outs now xs (stamped now x ∷ past))
-
-few_leads : (log : List Event) (last : ℕ) (past : List Stamped) (s t : State) → Leads s log t → t.sealed + outs_of past ≤ s.sealed + outs_of (past_of last past log)
-few_leads [] last past s t leads = omega (arith, ap (λ (u : State). u.sealed) leads)
-few_leads (e ∷ log) last past s t leads =
-    let now : ℕ = moment_at last e in
-    let one = few_answers (at_moment s e.moment) leads.0 e.call e.answer e.entries leads.1 in
-    let rest = few_leads log now (with_event now e past) leads.0 t leads.2 in
-    omega (arith, one, rest, onto_outs now e.entries (begun now e ∷ past))
-
-pub few_of_log : (setup : Setup) (log : List Event) (s : State) → StandsFor setup log s → s.sealed ≤ outs_of (past_of 0 [] log)
-few_of_log setup log s stands = omega (arith, few_leads log 0 [] (fresh setup) s stands)

@@ -11,6 +11,7 @@ mod OutSends
 mod OutKeyings
 mod OutItems
 mod Replies
+mod Few
 mod Moving
 mod Going
 mod Facts
@@ -18,7 +19,6 @@ mod Starting
 mod Ending
 mod OutBirths
 mod OutChunks
-mod OutLog
 mod Bytes
 mod Spelled
 mod Confirming
@@ -26,11 +26,13 @@ mod Admitting
 mod Says
 mod Answering
 mod Birth
-pub mod OutLaw
 mod Bearing
 mod Keyed
 mod Chunked
-mod Logged
+mod Counted
+mod Counts
+mod Orderly
+pub mod Logged
 pub mod Opened
 pub mod Drawn
 mod FactsAlone
@@ -45,10 +47,7 @@ mod EventTold
 mod StatedFacts
 mod HistoryTold
 pub mod AgreedLaw
-mod Counts
-mod Counted
 mod AgreedLogs
-mod Few
 mod ReadsBack
 mod Complete
 pub mod AnswerCarried

@@ -1,145 +1,176 @@
--- The facts of each log that an end stands for are lawful, and its state agrees with them.
-use Rattle.std.proofs.Common.{◌≡◌, ℕ, ◌≤◌, ◌<◌, ◌^◌, max, List, [], ◌∷◌, take, drop, Bool, true, false, if◌then◌else◌, sym, ap, subst, ◌∙◌, refl}
-use Rattle.std.proofs.lemmas.List.{take-append-drop, append-nil}
-use Rattle.rtmfp_forms.specs.Address.{AddressParts}
-use Rattle.endpoint_model.specs.declared.config.Draws.{Draws}
-use Rattle.endpoint_model.specs.declared.answers.Stopped.{Stopped as Stop}
+-- Each log that an end stands for is lawful, and its state agrees with it.
+use Rattle.std.proofs.Common.{◌≡◌, ℕ, ◌+◌, ◌≤◌, ◌<◌, ◌^◌, max, List, [], ◌∷◌, refl, sym, ap, subst, ◌∙◌, arith}
+use Rattle.std.specs.FinMap.{empty, get, get-empty}
+use Rattle.std.specs.Ordering.{nat_cmp}
+use Rattle.rtmfp_base.proofs.Maps.{none_is_some}
+use Rattle.glare_core.specs.Standing.{count}
 use Rattle.endpoint_model.specs.declared.entry.Entry.{Entry}
-use Rattle.endpoint_model.specs.Event.{Setup, Call, Open, Cancel, Receive, Tick, Answer, Began, Done, NotOpened, Refused, Stopped, OutOfMemory, Event}
-use Rattle.endpoint_laws.specs.Past.{Stamped, onto, past_of, begun}
-use Rattle.endpoint_model.specs.Keying.{chunks_of}
-use Rattle.endpoint_model.specs.State.{State, Did, Does, nothing, then_do, fresh, at_moment}
-use Rattle.endpoint_model.specs.Admission.{Admission, Rejected, Admitted, admission, confirming}
-use Rattle.endpoint_model.specs.Due.{opening, cancelling, ticks, received, part_received, chunks_did, outset}
+use Rattle.endpoint_model.specs.Event.{Setup, own_of, Call, Open, Cancel, Receive, Tick, Answer, Began, Done, NotOpened, Refused, Stopped, OutOfMemory, Event}
+use Rattle.endpoint_model.specs.State.{State, Did, Does, nothing, fresh, at_moment}
+use Rattle.endpoint_model.specs.Admission.{admission, opened_datagram}
+use Rattle.endpoint_model.specs.Due.{opening, cancelling, ticks, received}
 use Rattle.endpoint_model.specs.Log.{Answers, Leads, StandsFor, stopped}
-use Rattle.endpoint_laws.specs.Laws.{IsSetup, IsCall, AreCalls, TheLedgerIsOfTheLog, UsesAreWithin}
-use Rattle.endpoint_laws.proofs.Lines.{FactPart, EntriesMeet, EventsMeet}
+use Rattle.endpoint_laws.specs.Past.{Stamped, onto, facts_of, past_of, last_moment, begun}
+use Rattle.endpoint_laws.specs.Complete.{outs_in, outs_of}
+use Rattle.endpoint_laws.specs.Laws.{IsSetup, IsCall, AreCalls, EveryLogIsLawful, TheLedgerIsOfTheLog, UsesAreWithin}
 use Rattle.endpoint_laws.proofs.Bytes.{of_bytes}
+use Rattle.endpoint_laws.proofs.Lines.{FactPart, OutPart, CountPart, EntriesMeet, EventsMeet, events_lawful}
 use Rattle.endpoint_laws.proofs.Tied.{Tied, fresh_tied}
 use Rattle.endpoint_laws.proofs.Moving.{tied_alike, tied_more}
-use Rattle.endpoint_laws.proofs.Going.{Goes, goes_nothing, goes_then, goes_discarded}
 use Rattle.endpoint_laws.proofs.Starting.{goes_opening}
-use Rattle.endpoint_laws.proofs.Ending.{goes_cancelling, goes_ticks}
-use Rattle.endpoint_laws.proofs.Confirming.{goes_confirming}
-use Rattle.endpoint_laws.proofs.Admitting.{AdmissionIs, admission_is}
-use Rattle.endpoint_laws.proofs.Chunked.{chunks_go}
-
--- ---- a datagram
-
-goes_at : (setup : Setup) (call : Call) (past : List Stamped) (s t : State) (d : Did) → t.moment ≡ s.moment → Goes setup call past t d → Goes setup call past s d
-goes_at setup call past s t d moment g =
-    let P : ℕ → Type 0 = λ m. EntriesMeet FactPart setup m call past d.entries in
-    let Q : ℕ → Type 0 = λ m. Tied setup (onto m d.entries past) d.state in
-    record { meets = subst P moment g.meets; tied = subst Q moment g.tied; moment = g.moment ∙ moment }
-
-module _ (setup : Setup) (from : AddressParts) (datagram : List ℕ) (draws : Draws) (most : setup.config.max_sessions ≤ 65536) (small : draws.word < 2 ^ 32) (past : List Stamped) (s : State) (tied : Tied setup past s) where
-  abbrev call : Call
-  call = Receive from datagram draws
-
-  received_goes : (a : Admission) → AdmissionIs setup past s datagram a → Goes setup call past s (received from draws a)
-  received_goes (Rejected t cause) is = goes_at setup call past s t _ is.moment (goes_discarded setup call t 0 cause past is.tied)
-  received_goes (Admitted t place packet) is =
-      let one = goes_confirming setup from datagram draws t place is.leaves.heard past is.leaves.tied in
-      let d : Did = confirming t place in
-      goes_at setup call past s t (then_do d (λ u. chunks_did place from draws outset u (chunks_of packet))) is.leaves.moment
-      (goes_then setup call past t d (λ u. chunks_did place from draws outset u (chunks_of packet)) one
-      (chunks_go setup from datagram draws most small packet place is.came outset [] (chunks_of packet) [] d.state (onto t.moment d.entries past)
-      (record { whole = sym (append-nil (chunks_of packet)); keyed = λ e c none kind. none }) one.tied))
-
-  pub part_goes : (count : ℕ) (a : Admission) → AdmissionIs setup past s datagram a → Goes setup call past s (part_received from draws a count)
-  part_goes count (Rejected t cause) is = goes_at setup call past s t _ is.moment (goes_nothing setup call t past is.tied)
-  part_goes count (Admitted t place packet) is =
-      let one = goes_confirming setup from datagram draws t place is.leaves.heard past is.leaves.tied in
-      let d : Did = confirming t place in
-      goes_at setup call past s t (then_do d (λ u. chunks_did place from draws outset u (take count (chunks_of packet)))) is.leaves.moment
-      (goes_then setup call past t d (λ u. chunks_did place from draws outset u (take count (chunks_of packet))) one
-      (chunks_go setup from datagram draws most small packet place is.came outset [] (take count (chunks_of packet)) (drop count (chunks_of packet)) d.state (onto t.moment d.entries past)
-      (record { whole = sym (take-append-drop count (chunks_of packet)); keyed = λ e c none kind. none }) one.tied))
-
-  stopped_goes : (stop : Stop) (a : Admission) → AdmissionIs setup past s datagram a → Goes setup call past s (stopped s from draws a stop)
-  stopped_goes stop a is = by stop.taken
-    where
-      by : (b : Bool) → Goes setup call past s (if b then part_received from draws a stop.chunks else nothing s)
-      by true = part_goes stop.chunks a is
-      by false = goes_nothing setup call s past tied
-
--- all of a datagram, and the chunks before one
-
-pub received_go : (setup : Setup) (past : List Stamped) (s : State) (from : AddressParts) (datagram : List ℕ) (draws : Draws) → IsSetup setup → IsCall (Receive from datagram draws) → Tied setup past s →
-    Goes setup (Receive from datagram draws) past s (received from draws (admission s datagram))
-received_go setup past s from datagram draws is fits tied =
-    received_goes setup from datagram draws is.sessions fits.2 past s tied (admission s datagram) (admission_is setup past s datagram tied (of_bytes datagram fits.0))
+use Rattle.endpoint_laws.proofs.Ending.{goes_cancelling}
+use Rattle.endpoint_laws.proofs.Admitting.{admission_is}
+use Rattle.endpoint_laws.proofs.Counts.{few_after, answers_counted}
+use Rattle.endpoint_laws.proofs.Few.{few_same, few_opening, few_does, admitted_sealed, onto_outs}
+use Rattle.endpoint_laws.proofs.OutNumbers.{numbered_new, numbered_begun}
+use Rattle.endpoint_laws.proofs.OutSends.{Sent}
+use Rattle.endpoint_laws.proofs.OutBirths.{small_free}
+use Rattle.endpoint_laws.proofs.OutItems.{meets_opening, meets_cancelling, sent_admission}
+use Rattle.endpoint_laws.proofs.Orderly.{Orderly, orderly_nothing, ticks_orderly, received_orderly, stopped_orderly}
 
 -- ---- calls
 
--- what an event leaves
-pub record Went (setup : Setup) (call : Call) (past : List Stamped) (s t : State) (entries : List Entry) : Type 0 where
-  pub meets : EntriesMeet FactPart setup s.moment call past entries
-  pub tied : Tied setup (onto s.moment entries past) t
-  pub moment : t.moment ≡ s.moment
+-- What a call did is an orderly thing.
+pub record CallDid (setup : Setup) (call : Call) (past : List Stamped) (s t : State) (entries : List Entry) : Type 0 where
+  pub did : Did
+  pub orderly : Orderly setup call past s did
+  pub does : Does did t [] entries
 
-went : (setup : Setup) (call : Call) (past : List Stamped) (s t : State) (entries : List Entry) (d : Did) → Goes setup call past s d → Does d t [] entries → Went setup call past s t entries
-went setup call past s t entries d g does =
-    let P : List Entry → Type 0 = λ es. EntriesMeet FactPart setup s.moment call past es in
-    let Q : List Entry → Type 0 = λ es. Tied setup (onto s.moment es past) t in
-    let R : State → Type 0 = λ u. Tied setup (onto s.moment d.entries past) u in
-    record {
-      meets = subst P (sym does.entries) g.meets;
-      tied = subst Q (sym does.entries) (subst R (sym does.state) g.tied);
-      moment = ap (λ (u : State). u.moment) does.state ∙ g.moment;
-    }
-
-pub answers_go : (setup : Setup) (past : List Stamped) (s t : State) (call : Call) (answer : Answer) (entries : List Entry) → IsSetup setup → Tied setup past s → IsCall call → Answers s call answer entries t → Went setup call past s t entries
-answers_go setup past s t (Open peer candidates draws) (Began n) entries is tied fits h =
-    went setup (Open peer candidates draws) past s t entries (opening s peer candidates draws) (goes_opening setup past s peer candidates draws is.sessions fits.2 h.0 tied) h.2
-answers_go setup past s t (Open peer candidates draws) (NotOpened refusal) entries is tied fits h =
-    went setup (Open peer candidates draws) past s t entries (nothing s) (goes_nothing setup (Open peer candidates draws) s past tied) h.1
-answers_go setup past s t (Cancel n) Done entries is tied fits h = went setup (Cancel n) past s t entries (cancelling s n) (goes_cancelling setup s n past tied) h.1
-answers_go setup past s t (Cancel n) (Refused refusal) entries is tied fits h = went setup (Cancel n) past s t entries (nothing s) (goes_nothing setup (Cancel n) s past tied) h.2
-answers_go setup past s t (Receive from datagram draws) Done entries is tied fits h =
-    went setup (Receive from datagram draws) past s t entries (received from draws (admission s datagram))
-    (received_go setup past s from datagram draws is fits tied) h
-answers_go setup past s t (Receive from datagram draws) (Stopped stop) entries is tied fits h =
-    went setup (Receive from datagram draws) past s t entries (stopped s from draws (admission s datagram) stop)
-    (stopped_goes setup from datagram draws is.sessions fits.2 past s tied stop (admission s datagram) (admission_is setup past s datagram tied (of_bytes datagram fits.0))) h.1
-answers_go setup past s t (Tick draws) Done entries is tied fits h =
-    went setup (Tick draws) past s t entries (ticks h.0.0 s) (goes_ticks setup (Tick draws) tt h.0.0 s past tied) h.0.1
-answers_go setup past s t (Tick draws) OutOfMemory entries is tied fits h =
-    went setup (Tick draws) past s t entries (ticks h.0 s) (goes_ticks setup (Tick draws) tt h.0 s past tied) h.1
-answers_go setup past s t _ _ entries is tied fits h = absurd h
+module _ (setup : Setup) (is : IsSetup setup) (past : List Stamped) (s t : State) (tied : Tied setup past s) (sent : Sent setup past s) where
+  pub answers_orderly : (call : Call) (answer : Answer) (entries : List Entry) → IsCall call → Answers s call answer entries t → CallDid setup call past s t entries
+  answers_orderly (Open peer candidates draws) (Began n) entries fits h = record {
+    did = opening s peer candidates draws;
+    orderly = record {
+      goes = goes_opening setup past s peer candidates draws is.sessions fits.2 h.0 tied;
+      meets = meets_opening setup s.moment (Open peer candidates draws) past s sent tied peer candidates draws fits.0 fits.1 fits.3 (small_free s draws.word fits.2);
+      few = few_opening s peer candidates draws;
+    };
+    does = h.2;
+  }
+  answers_orderly (Open peer candidates draws) (NotOpened refusal) entries fits h = record { did = nothing s; orderly = orderly_nothing setup (Open peer candidates draws) past s tied sent; does = h.1 }
+  answers_orderly (Cancel n) Done entries fits h = record {
+    did = cancelling s n;
+    orderly = record { goes = goes_cancelling setup s n past tied; meets = meets_cancelling setup s.moment (Cancel n) past s n sent; few = few_same s (cancelling s n) refl };
+    does = h.1;
+  }
+  answers_orderly (Cancel n) (Refused refusal) entries fits h = record { did = nothing s; orderly = orderly_nothing setup (Cancel n) past s tied sent; does = h.2 }
+  answers_orderly (Receive from datagram draws) Done entries fits h = record {
+    did = received from draws (admission s datagram);
+    orderly = received_orderly setup is from datagram draws fits past s (admission s datagram) (admission_is setup past s datagram tied (of_bytes datagram fits.0)) (sent_admission setup past s datagram sent)
+        (admitted_sealed s datagram (opened_datagram s datagram));
+    does = h;
+  }
+  answers_orderly (Receive from datagram draws) (Stopped stop) entries fits h = record {
+    did = stopped s from draws (admission s datagram) stop;
+    orderly = stopped_orderly setup is from datagram draws fits past s stop (admission s datagram) tied sent (admission_is setup past s datagram tied (of_bytes datagram fits.0))
+        (sent_admission setup past s datagram sent) (admitted_sealed s datagram (opened_datagram s datagram));
+    does = h.1;
+  }
+  answers_orderly (Tick draws) Done entries fits h = record { did = ticks h.0.0 s; orderly = ticks_orderly setup (Tick draws) is tt h.0.0 past s tied sent; does = h.0.1 }
+  answers_orderly (Tick draws) OutOfMemory entries fits h = record { did = ticks h.0 s; orderly = ticks_orderly setup (Tick draws) is tt h.0 past s tied sent; does = h.1 }
+  answers_orderly _ _ entries fits h = absurd h
 
 -- ---- logs
 
-pub record LogIs (setup : Setup) (past : List Stamped) (s : State) (log : List Event) (t : State) : Type 0 where
-  pub meets : EventsMeet FactPart setup s.moment past log
-  pub tied : Tied setup (past_of s.moment past log) t
+-- What holds of a state and of what was done: the state agrees with it, what went out is counted, and the numbers of attempts are of 64 bits.
+pub record Holds (setup : Setup) (past : List Stamped) (s : State) : Type 0 where
+  pub tied : Tied setup past s
+  pub sent : Sent setup past s
+  pub counted : count (facts_of past) < 2 ^ 64
+
+-- what an event leaves, and its entries
+record Went (setup : Setup) (call : Call) (past : List Stamped) (s t : State) (entries : List Entry) : Type 0 where
+  facts : EntriesMeet FactPart setup s.moment call past entries
+  outs : EntriesMeet OutPart setup s.moment call past entries
+  counts : EntriesMeet CountPart setup s.moment call past entries
+  holds : Holds setup (onto s.moment entries past) t
+  moment : t.moment ≡ s.moment
+  few : t.sealed ≤ s.sealed + outs_in entries
+
+answers_went : (setup : Setup) → IsSetup setup → (past : List Stamped) (s t : State) (call : Call) (answer : Answer) (entries : List Entry) → Holds setup past s → IsCall call → Answers s call answer entries t →
+    Went setup call past s t entries
+answers_went setup is past s t call answer entries holds fits h =
+    let o = answers_orderly setup is past s t holds.tied holds.sent call answer entries fits h in
+    let d : Did = o.did in
+    let added : d.entries ≡ entries = sym o.does.entries in
+    let left : d.state ≡ t = sym o.does.state in
+    let facts : EntriesMeet FactPart setup s.moment call past entries = subst (λ (es : List Entry). EntriesMeet FactPart setup s.moment call past es) added o.orderly.goes.meets in
+    let counts : EntriesMeet CountPart setup s.moment call past entries = answers_counted setup s.moment past s t call answer entries holds.tied holds.counted facts h in
+    record {
+      facts = facts;
+      outs = subst (λ (es : List Entry). EntriesMeet OutPart setup s.moment call past es) added o.orderly.meets.lines;
+      counts = counts;
+      holds = record {
+        tied = subst (λ (u : State). Tied setup (onto s.moment entries past) u) left (subst (λ (es : List Entry). Tied setup (onto s.moment es past) d.state) added o.orderly.goes.tied);
+        sent = subst (λ (u : State). Sent setup (onto s.moment entries past) u) left (subst (λ (es : List Entry). Sent setup (onto s.moment es past) d.state) added o.orderly.meets.sent);
+        counted = few_after setup s.moment call past entries facts counts holds.counted;
+      };
+      moment = ap (λ (u : State). u.moment) o.does.state ∙ o.orderly.goes.moment;
+      few = few_does s t entries d o.orderly.few o.does;
+    }
 
 -- an event began, whose moment is noted
-pub tied_begun : (setup : Setup) (past : List Stamped) (s : State) (e : Event) → Tied setup past s → Tied setup (begun (max s.moment e.moment) e ∷ past) (at_moment s e.moment)
-tied_begun setup past s e tied =
-    tied_alike setup (begun (max s.moment e.moment) e ∷ past) s (max s.moment e.moment) s.sealed (tied_more setup past s (begun (max s.moment e.moment) e) refl tied)
+holds_begun : (setup : Setup) (past : List Stamped) (s : State) (e : Event) → Holds setup past s → Holds setup (begun (max s.moment e.moment) e ∷ past) (at_moment s e.moment)
+holds_begun setup past s e holds = record {
+  tied = tied_alike setup (begun (max s.moment e.moment) e ∷ past) s (max s.moment e.moment) s.sealed (tied_more setup past s (begun (max s.moment e.moment) e) refl holds.tied);
+  sent = record { numbered = numbered_begun (own_of setup) past s.sealed s.sessions holds.sent.numbered (max s.moment e.moment) e; sized = holds.sent.sized; short = holds.sent.short };
+  counted = holds.counted;
+}
 
-pub leads_go : (setup : Setup) (past : List Stamped) (log : List Event) (s t : State) → IsSetup setup → AreCalls log → Tied setup past s → Leads s log t → LogIs setup past s log t
-leads_go setup past [] s t is calls tied leads = record { meets = tt; tied = subst (Tied setup past) leads tied }
-leads_go setup past (e ∷ log) s t is calls tied leads =
+-- What is said of a log that leads from one state to another. It is the one induction over logs.
+pub record LogIs (setup : Setup) (past : List Stamped) (s : State) (log : List Event) (t : State) : Type 0 where
+  pub facts : EventsMeet FactPart setup s.moment past log
+  pub outs : EventsMeet OutPart setup s.moment past log
+  pub counts : EventsMeet CountPart setup s.moment past log
+  pub holds : Holds setup (past_of s.moment past log) t
+  pub moment : t.moment ≡ last_moment s.moment log
+  pub few : t.sealed + outs_of past ≤ s.sealed + outs_of (past_of s.moment past log)
+
+leads_go : (setup : Setup) → IsSetup setup → (past : List Stamped) (log : List Event) (s t : State) → AreCalls log → Holds setup past s → Leads s log t → LogIs setup past s log t
+leads_go setup is past [] s t calls holds leads = record {
+  facts = tt;
+  outs = tt;
+  counts = tt;
+  holds = subst (Holds setup past) leads holds;
+  moment = ap (λ (u : State). u.moment) (sym leads);
+  few = omega (arith, ap (λ (u : State). u.sealed) leads);
+}
+leads_go setup is past (e ∷ log) s t calls holds leads =
     let noted : State = at_moment s e.moment in
     let middle : State = leads.0 in
     let start : List Stamped = begun noted.moment e ∷ past in
-    let one = answers_go setup start noted middle e.call e.answer e.entries is (tied_begun setup past s e tied) calls.0 leads.1 in
-    let rest = leads_go setup (onto noted.moment e.entries start) log middle t is calls.1 one.tied leads.2 in
-    let P : ℕ → Type 0 = λ m. EventsMeet FactPart setup m (onto noted.moment e.entries start) log in
-    let Q : ℕ → Type 0 = λ m. Tied setup (past_of m (onto noted.moment e.entries start) log) t in
-    record { meets = (one.meets, subst P one.moment rest.meets); tied = subst Q one.moment rest.tied }
+    let after : List Stamped = onto noted.moment e.entries start in
+    let one : Went setup e.call start noted middle e.entries = answers_went setup is start noted middle e.call e.answer e.entries (holds_begun setup past s e holds) calls.0 leads.1 in
+    let rest : LogIs setup after middle log t = leads_go setup is after log middle t calls.1 one.holds leads.2 in
+    record {
+      facts = (one.facts, subst (λ (m : ℕ). EventsMeet FactPart setup m after log) one.moment rest.facts);
+      outs = (one.outs, subst (λ (m : ℕ). EventsMeet OutPart setup m after log) one.moment rest.outs);
+      counts = (one.counts, subst (λ (m : ℕ). EventsMeet CountPart setup m after log) one.moment rest.counts);
+      holds = subst (λ (m : ℕ). Holds setup (past_of m after log) t) one.moment rest.holds;
+      moment = rest.moment ∙ ap (λ (m : ℕ). last_moment m log) one.moment;
+      few = omega (arith, one.few, rest.few, onto_outs noted.moment e.entries start, ap (λ (m : ℕ). outs_of (past_of m after log)) one.moment);
+    }
+
+sent_fresh : (setup : Setup) → Sent setup [] (fresh setup)
+sent_fresh setup = record {
+  numbered = numbered_new (own_of setup);
+  sized = tt;
+  short = λ near a e. absurd (none_is_some a (get {R = nat_cmp} empty near) (get-empty nat_cmp near) e);
+}
 
 pub log_is : (setup : Setup) (log : List Event) (s : State) → IsSetup setup → AreCalls log → StandsFor setup log s → LogIs setup [] (fresh setup) log s
-log_is setup log s is calls stands = leads_go setup [] log (fresh setup) s is calls (fresh_tied setup) stands
-
-pub facts_lawful : (setup : Setup) (log : List Event) (s : State) → IsSetup setup → AreCalls log → StandsFor setup log s → EventsMeet FactPart setup 0 [] log
-facts_lawful setup log s is calls stands = (log_is setup log s is calls stands).meets
+log_is setup log s is calls stands = leads_go setup is [] log (fresh setup) s calls (record { tied = fresh_tied setup; sent = sent_fresh setup; counted = omega arith }) stands
 
 -- the state agrees with its log
 pub tied_to_log : (setup : Setup) (log : List Event) (s : State) → IsSetup setup → AreCalls log → StandsFor setup log s → Tied setup (past_of 0 [] log) s
-tied_to_log setup log s is calls stands = (log_is setup log s is calls stands).tied
+tied_to_log setup log s is calls stands = (log_is setup log s is calls stands).holds.tied
+
+-- ---- the laws
+
+pub every_log_is_lawful : EveryLogIsLawful
+every_log_is_lawful setup log s is calls stands =
+    let said = log_is setup log s is calls stands in
+    events_lawful setup 0 [] log said.facts said.counts said.outs
 
 pub ledger_of_log : TheLedgerIsOfTheLog
 ledger_of_log setup log s is calls stands = (tied_to_log setup log s is calls stands).account

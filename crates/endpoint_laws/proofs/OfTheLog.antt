@@ -16,11 +16,10 @@ use Rattle.session_core.specs.declared.stage.Stage.TheVariants.{Opening, Open, N
 use Rattle.session_core.specs.Session.{SessionState}
 use Rattle.endpoint_model.specs.Event.{Setup}
 use Rattle.endpoint_laws.specs.Past.{Stamped, facts_of, past_of, last_moment}
-use Rattle.endpoint_model.specs.State.{State, fresh}
+use Rattle.endpoint_model.specs.State.{State}
 use Rattle.endpoint_laws.specs.OfTheLog.{IsThing, AttemptIsThere, SessionIsThere, IsOfTheLog, TheStateIsOfTheLog}
-use Rattle.endpoint_laws.proofs.Tied.{Tied, StageFits, thing_of, peer_at, fresh_tied}
-use Rattle.endpoint_laws.proofs.Logged.{tied_to_log}
-use Rattle.endpoint_laws.proofs.Complete.{moment_goes}
+use Rattle.endpoint_laws.proofs.Tied.{Tied, StageFits, thing_of, peer_at}
+use Rattle.endpoint_laws.proofs.Logged.{log_is, tied_to_log}
 
 is_thing : (role : Role) (stage : Stage) (j : Joined) → StageFits role stage → IsThing role stage j (thing_of role stage j)
 is_thing Initiator Opening j fits = fits
@@ -93,4 +92,4 @@ module _ (setup : Setup) (past : List Stamped) (s : State) (tied : Tied setup pa
 
 pub state_of_log : TheStateIsOfTheLog
 state_of_log setup log s is calls stands =
-    of_the_log setup (past_of 0 [] log) s (tied_to_log setup log s is calls stands) (last_moment 0 log) (moment_goes setup [] log (fresh setup) s is calls (fresh_tied setup) stands)
+    of_the_log setup (past_of 0 [] log) s (tied_to_log setup log s is calls stands) (last_moment 0 log) (log_is setup log s is calls stands).moment

@@ -1,5 +1,5 @@
--- What goes out of the chunks of a datagram.
-use Rattle.std.proofs.Common.{◌≡◌, ℕ, zero, suc, ◌^◌, ◌<◌, ◌≤◌, List, [], ◌∷◌, length, take, Option, Some, None, Result, refl, subst, Bool, true, false, if◌then◌else◌}
+-- What goes out of a chunk of a datagram.
+use Rattle.std.proofs.Common.{◌≡◌, ℕ, ◌^◌, ◌<◌, ◌≤◌, List, [], ◌∷◌, length, Option, Some, None, Result, refl, Bool, true, false, if◌then◌else◌}
 use Rattle.std.specs.Prelude.{◌==◌, not}
 use Rattle.rtmfp_forms.specs.Address.{AddressParts}
 use Rattle.rtmfp_packet.specs.Walk.{Placed}
@@ -13,14 +13,13 @@ use Rattle.endpoint_model.specs.declared.walk.Walk.{Walk}
 use Rattle.endpoint_model.specs.declared.config.Draws.{Draws}
 use Rattle.endpoint_model.specs.declared.place.Place.{Place}
 use Rattle.endpoint_model.specs.Event.{Setup, Call}
-use Rattle.endpoint_laws.specs.Past.{Stamped, onto}
-use Rattle.endpoint_model.specs.State.{State, Did}
+use Rattle.endpoint_laws.specs.Past.{Stamped}
+use Rattle.endpoint_model.specs.State.{State}
 use Rattle.endpoint_model.specs.Admission.{sid_at}
-use Rattle.endpoint_model.specs.Due.{initiator_keyed, responder_keyed, read_done, effect, discarded_or, chunk_did, walked, chunks_did}
+use Rattle.endpoint_model.specs.Due.{initiator_keyed, responder_keyed, read_done, effect, discarded_or, chunk_did}
 use Rattle.endpoint_model.specs.Causes.{is_known, form_cause, takes, read_cause, initiator_keying_cause, responder_keying_cause, last_cause, chunk_cause}
 use Rattle.endpoint_laws.proofs.Tied.{Tied}
-use Rattle.endpoint_laws.proofs.Going.{onto_append}
-use Rattle.endpoint_laws.proofs.OutSends.{Sent, Meets, meets_nothing, meets_then}
+use Rattle.endpoint_laws.proofs.OutSends.{Sent, Meets}
 use Rattle.endpoint_laws.proofs.OutItems.{meets_discarded}
 use Rattle.endpoint_laws.proofs.Replies.{meets_read}
 use Rattle.endpoint_laws.proofs.OutBirths.{meets_initiator, meets_responder}
@@ -57,17 +56,3 @@ module _ (setup : Setup) (now : ℕ) (call : Call) (past : List Stamped) (s : St
     meets_chunk c = by_cause c (chunk_cause s place walk from c)
         (λ none. fifth_none (where_true (not (is_known c.kind)) (UnknownChunk c.kind)) (form_cause c.kind c.payload) (where_true (c.kind == 0x7f) FragmentCause)
         (where_true (not (takes place c.kind)) WrongPlace) (last_cause s place walk from c) none)
-
--- the chunks of a datagram, where the state agrees with what was done after each
-pub meets_chunks : (setup : Setup) (now : ℕ) (call : Call) → length setup.cert ≤ 80 → (place : Place) (from : AddressParts) (draws : Draws) → draws.word < 2 ^ 32 → length draws.nonce ≡ 16 →
-    (cs : List Placed) (walk : Walk) (past : List Stamped) (s : State) → Sent setup past s →
-    ((k : ℕ) → Tied setup (onto now (chunks_did place from draws walk s (take k cs)).entries past) (chunks_did place from draws walk s (take k cs)).state) →
-    Meets setup now call past (chunks_did place from draws walk s cs)
-meets_chunks setup now call cert place from draws small nonce [] walk past s sent ties = meets_nothing setup now call past s sent
-meets_chunks setup now call cert place from draws small nonce (c ∷ cs) walk past s sent ties =
-    let d : Did = chunk_did place from draws walk s c in
-    let first : Meets setup now call past d = meets_chunk setup now call past s sent (ties zero) cert place from draws small nonce walk c in
-    meets_then setup now call past d (λ t. chunks_did place from draws (walked walk c) t cs) first
-    (meets_chunks setup now call cert place from draws small nonce cs (walked walk c) (onto now d.entries past) d.state first.sent
-    (λ k. subst (λ (p : List Stamped). Tied setup p (chunks_did place from draws (walked walk c) d.state (take k cs)).state)
-    (onto_append now d.entries (chunks_did place from draws (walked walk c) d.state (take k cs)).entries past) (ties (suc k))))

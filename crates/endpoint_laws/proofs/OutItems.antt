@@ -1,5 +1,5 @@
 -- What calls do but for the chunks of datagrams: each datagram that goes out meets its line.
-use Rattle.std.proofs.Common.{◌≡◌, ◌==◌, ℕ, zero, suc, ◌+◌, ◌^◌, ◌<◌, ◌≤◌, List, [], ◌∷◌, length, drop, Option, Some, None, Ok, Err, Result, inl, inr, refl, sym, ap, subst, ◌∙◌, Bool, true, false, if◌then◌else◌, arith}
+use Rattle.std.proofs.Common.{◌≡◌, ◌==◌, ℕ, ◌+◌, ◌^◌, ◌<◌, ◌≤◌, List, [], ◌∷◌, length, drop, Option, Some, None, Ok, Err, Result, inl, inr, refl, sym, ap, subst, ◌∙◌, Bool, true, false, if◌then◌else◌, arith}
 use Rattle.std.specs.FinMap.{get, insert, remove}
 use Rattle.rtmfp_base.proofs.Lowest.{first_is_there}
 use Rattle.rtmfp_base.proofs.Maps.{found_inserted, found_left}
@@ -38,12 +38,11 @@ use Rattle.endpoint_model.specs.State.{State, Did, nothing, fact_entries, with_s
 use Rattle.endpoint_model.specs.Sending.{last_count, sent_startup, sent_answer, sent_each}
 use Rattle.session_core.specs.Hearing.{counted}
 use Rattle.endpoint_model.specs.Admission.{Admission, Rejected, Admitted, admission, admitted, admitted_packet, opened_datagram, counted_by, counted_at, timed_by, timed_at, confirming, confirming_by, has_mode, mode_at, packet_in}
-use Rattle.endpoint_model.specs.Due.{opening, cancelling, due_done, tick_once, ticks, discarded, item_done, attempt_item}
+use Rattle.endpoint_model.specs.Due.{opening, cancelling, due_done, tick_once, discarded, item_done, attempt_item}
 use Rattle.endpoint_laws.proofs.Lines.{EntriesMeet, OutPart}
 use Rattle.endpoint_laws.proofs.Tied.{Tied}
 use Rattle.endpoint_laws.proofs.OutNumbers.{numbered_fact, numbered_discard, numbered_changed}
 use Rattle.endpoint_laws.proofs.OutHeld.{IsSized, HasSizes, held_sized}
-use Rattle.endpoint_laws.proofs.Going.{onto_append}
 use Rattle.endpoint_laws.proofs.OutSends.{IsNarrow, IsShort, AreShort, Sent, Meets, MayGo, meets_nothing, meets_after, meets_then, meets_startup}
 use Rattle.endpoint_laws.proofs.OutKeyings.{ihello_may, iikeying_may}
 
@@ -201,17 +200,6 @@ module _ (setup : Setup) (past : List Stamped) (s : State) (sent : Sent setup pa
 
     pub meets_tick_once : Meets setup now call past (tick_once s)
     meets_tick_once = by_found (lowest (is_due s.moment) s.startup.attempts) refl
-
--- the things of a tick, where the state agrees with what was done after each
-pub meets_ticks : (setup : Setup) (now : ℕ) (call : Call) → length setup.cert ≤ 80 → (count : ℕ) (past : List Stamped) (s : State) → Sent setup past s →
-    ((k : ℕ) → Tied setup (onto now (ticks k s).entries past) (ticks k s).state) → Meets setup now call past (ticks count s)
-meets_ticks setup now call short zero past s sent ties = meets_nothing setup now call past s sent
-meets_ticks setup now call short (suc count) past s sent ties =
-    let d : Did = tick_once s in
-    let first : Meets setup now call past d = meets_tick_once setup past s sent (ties zero) now call short in
-    meets_then setup now call past d (ticks count) first
-    (meets_ticks setup now call short count (onto now d.entries past) d.state first.sent
-    (λ k. subst (λ (p : List Stamped). Tied setup p (ticks k d.state).state) (onto_append now d.entries (ticks k d.state).entries past) (ties (suc k))))
 
 -- ---- a session is confirmed
 

@@ -3,7 +3,7 @@ use Rattle.std.proofs.Common.{◌≡◌, ℕ, ◌<◌, List, [], length, inl, in
 use Rattle.endpoint_model.specs.Event.{Setup, Event, own_of}
 use Rattle.endpoint_laws.specs.Lawful.{IsLawful}
 use Rattle.endpoint_laws.specs.History.{log_of, AreLawful, IsFresh, TakesPart}
-use Rattle.endpoint_laws.proofs.OutLaw.{every_log_is_lawful}
+use Rattle.endpoint_laws.proofs.Logged.{every_log_is_lawful}
 use Rattle.rendezvous_world.specs.Seen.{Seen, setup_at}
 use Rattle.rendezvous_world.specs.History.{history_of}
 use Rattle.rendezvous_world.specs.Sound.{IsSound}

@@ -1,4 +1,4 @@
-use Rattle.endpoint_laws.proofs.OutLaw.{every_log_is_lawful}
+use Rattle.endpoint_laws.proofs.Logged.{every_log_is_lawful}
 use Rattle.endpoint_laws.proofs.laws.every_log_is_lawful.Goals as goal
 
 pub returns : goal.returns

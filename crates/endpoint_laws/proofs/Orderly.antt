@@ -1,0 +1,173 @@
+-- What every thing that an end does keeps and adds. A thing after an orderly one is orderly, so the chunks of a datagram and the things of a tick are gone through once, for all that is said of them.
+use Rattle.std.proofs.Common.{◌≡◌, ℕ, zero, suc, ◌==◌, List, [], ◌∷◌, ◌++◌, take, drop, Bool, true, false, ◌||◌, if◌then◌else◌, inl, inr, ◌⊎◌, refl, sym, ap, subst, ◌∙◌, append_assoc, arith}
+use Rattle.std.proofs.lemmas.List.{take-append-drop, append-nil}
+use Rattle.rtmfp_forms.specs.Address.{AddressParts}
+use Rattle.rtmfp_packet.specs.Walk.{Placed}
+use Rattle.rtmfp_packet.specs.Whole.{Whole}
+use Rattle.endpoint_model.specs.declared.walk.Walk.{Walk}
+use Rattle.endpoint_model.specs.declared.config.Draws.{Draws}
+use Rattle.endpoint_model.specs.declared.place.Place.{Place}
+use Rattle.endpoint_model.specs.declared.answers.Stopped.{Stopped as Stop}
+use Rattle.endpoint_model.specs.Event.{Setup, Call, Receive}
+use Rattle.endpoint_model.specs.Keying.{IsAmong, IsFirst, chunks_of}
+use Rattle.endpoint_model.specs.State.{State, Did, nothing, then_do}
+use Rattle.endpoint_model.specs.Admission.{Admission, Rejected, Admitted, confirming}
+use Rattle.endpoint_model.specs.Due.{tick_once, ticks, discarded, chunk_did, walked, chunks_did, received, part_received, outset}
+use Rattle.endpoint_model.specs.Log.{stopped}
+use Rattle.endpoint_model.proofs.Members.{tested}
+use Rattle.endpoint_laws.specs.Past.{Stamped, onto}
+use Rattle.endpoint_laws.specs.Lawful.{IsTick}
+use Rattle.endpoint_laws.specs.Laws.{IsSetup, IsCall}
+use Rattle.endpoint_laws.proofs.Lines.{FactPart, EntriesMeet}
+use Rattle.endpoint_laws.proofs.Tied.{Tied}
+use Rattle.endpoint_laws.proofs.Going.{Goes, goes_nothing, goes_then, goes_discarded}
+use Rattle.endpoint_laws.proofs.OutSends.{Sent, Meets, meets_nothing, meets_then}
+use Rattle.endpoint_laws.proofs.OutItems.{SentIn, meets_tick_once, meets_confirming, meets_discarded}
+use Rattle.endpoint_laws.proofs.Replies.{SameCounts}
+use Rattle.endpoint_laws.proofs.Few.{Few, few_nothing, few_then, few_from, few_chunk, few_confirming, few_tick_once, left_by}
+use Rattle.endpoint_laws.proofs.Ending.{goes_tick_once}
+use Rattle.endpoint_laws.proofs.Confirming.{goes_confirming}
+use Rattle.endpoint_laws.proofs.Admitting.{Came, AdmissionIs, IsTaken}
+use Rattle.endpoint_laws.proofs.Chunked.{chunk_goes}
+use Rattle.endpoint_laws.proofs.OutChunks.{meets_chunk}
+
+-- The facts of the thing meet their lines, and the state after it agrees with what was done; its datagrams meet theirs, and what went out is counted; and no more startup packets were sealed than datagrams go out.
+pub record Orderly (setup : Setup) (call : Call) (past : List Stamped) (s : State) (d : Did) : Type 0 where
+  pub goes : Goes setup call past s d
+  pub meets : Meets setup s.moment call past d
+  pub few : Few s d
+
+pub orderly_nothing : (setup : Setup) (call : Call) (past : List Stamped) (s : State) → Tied setup past s → Sent setup past s → Orderly setup call past s (nothing s)
+orderly_nothing setup call past s tied sent = record { goes = goes_nothing setup call s past tied; meets = meets_nothing setup s.moment call past s sent; few = few_nothing s }
+
+orderly_then : (setup : Setup) (call : Call) (past : List Stamped) (s : State) (d : Did) (next : State → Did) → Orderly setup call past s d →
+    Orderly setup call (onto s.moment d.entries past) d.state (next d.state) → Orderly setup call past s (then_do d next)
+orderly_then setup call past s d next first later =
+    let P : ℕ → Type 0 = λ m. Meets setup m call (onto s.moment d.entries past) (next d.state) in
+    record {
+      goes = goes_then setup call past s d next first.goes later.goes;
+      meets = meets_then setup s.moment call past d next first.meets (subst P first.goes.moment later.meets);
+      few = few_then s d next first.few later.few;
+    }
+
+-- in a state that was reached without entries
+orderly_from : (setup : Setup) (call : Call) (past : List Stamped) (s t : State) (d : Did) → SameCounts s t → Orderly setup call past t d → Orderly setup call past s d
+orderly_from setup call past s t d same orderly =
+    let P : ℕ → Type 0 = λ m. EntriesMeet FactPart setup m call past d.entries in
+    let Q : ℕ → Type 0 = λ m. Tied setup (onto m d.entries past) d.state in
+    let R : ℕ → Type 0 = λ m. Meets setup m call past d in
+    record {
+      goes = record { meets = subst P same.moment orderly.goes.meets; tied = subst Q same.moment orderly.goes.tied; moment = orderly.goes.moment ∙ same.moment };
+      meets = subst R same.moment orderly.meets;
+      few = few_from s t d same.sealed orderly.few;
+    }
+
+-- ---- the things of a tick
+
+pub ticks_orderly : (setup : Setup) (call : Call) → IsSetup setup → IsTick call → (count : ℕ) (past : List Stamped) (s : State) → Tied setup past s → Sent setup past s → Orderly setup call past s (ticks count s)
+ticks_orderly setup call is is_tick zero past s tied sent = orderly_nothing setup call past s tied sent
+ticks_orderly setup call is is_tick (suc count) past s tied sent =
+    let d : Did = tick_once s in
+    let one : Orderly setup call past s d = record {
+      goes = goes_tick_once setup call is_tick s past tied;
+      meets = meets_tick_once setup past s sent tied s.moment call is.cert.short_named;
+      few = few_tick_once s;
+    } in
+    orderly_then setup call past s d (ticks count) one (ticks_orderly setup call is is_tick count (onto s.moment d.entries past) d.state one.goes.tied one.meets.sent)
+
+-- ---- the chunks of a datagram
+
+-- these chunks come after some, of which one is a keying where one was before
+pub record IsNext (packet : Whole) (walk : Walk) (before cs : List Placed) : Type 0 where
+  pub whole : chunks_of packet ≡ before ++ cs
+  pub keyed : walk.keyed ≡ false → (c : Placed) → IsAmong c before → c.kind ≡ 0x38 → ⊥
+
+among_back : (before : List Placed) (c : Placed) (cs : List Placed) → IsAmong c (before ++ c ∷ cs)
+among_back [] c cs = inl refl
+among_back (b ∷ before) c cs = inr (among_back before c cs)
+
+first_back : (before : List Placed) (c : Placed) (cs : List Placed) → ((b : Placed) → IsAmong b before → b.kind ≡ 0x38 → ⊥) → c.kind ≡ 0x38 → IsFirst c (before ++ c ∷ cs)
+first_back [] c cs none kind = inl refl
+first_back (b ∷ before) c cs none kind = inr ((λ e. none b (inl refl) (e ∙ kind)), first_back before c cs (λ x among. none x (inr among)) kind)
+
+among_end : (before : List Placed) (c b : Placed) → IsAmong b (before ++ c ∷ []) → IsAmong b before ⊎ (b ≡ c)
+among_end [] c b (inl is) = inr is
+among_end [] c b (inr none) = absurd none
+among_end (x ∷ before) c b (inl is) = inl (inl is)
+among_end (x ∷ before) c b (inr later) = elim (among_end before c b later) [ inl there ↦ inl (inr there) | inr is ↦ inr is ]
+
+neither : (a b : Bool) → (a || b) ≡ false → (a ≡ false) × (b ≡ false)
+neither true b e = absurd (cc)
+neither false b e = (refl, e)
+
+one_next : (packet : Whole) (walk : Walk) (before : List Placed) (c : Placed) (rest : List Placed) → IsNext packet walk before (c ∷ rest) → IsNext packet (walked walk c) (before ++ c ∷ []) rest
+one_next packet walk before c rest next = record {
+  whole = next.whole ∙ sym (append_assoc before (c ∷ []) rest);
+  keyed = λ e b in_all kind.
+      let both = neither walk.keyed (c.kind == 0x38) e in
+      elim (among_end before c b in_all) [
+        | inl there ↦ next.keyed both.0 b there kind
+        | inr is ↦ elim (tested c.kind 0x38) [ inl same ↦ (let clash : true ≡ false = sym same.1 ∙ both.1 in cc) | inr other ↦ other.0 (ap (λ (p : Placed). p.kind) (sym is) ∙ kind) ]
+      ];
+}
+
+module _ (setup : Setup) (is : IsSetup setup) (from : AddressParts) (datagram : List ℕ) (draws : Draws) (fits : IsCall (Receive from datagram draws)) (packet : Whole) where
+  abbrev call : Call
+  call = Receive from datagram draws
+
+  pub chunks_orderly : (place : Place) → Came setup datagram place packet → (walk : Walk) (before cs rest : List Placed) (s : State) (past : List Stamped) → IsNext packet walk before (cs ++ rest) →
+      Tied setup past s → Sent setup past s → Orderly setup call past s (chunks_did place from draws walk s cs)
+  chunks_orderly place came walk before [] rest s past next tied sent = orderly_nothing setup call past s tied sent
+  chunks_orderly place came walk before (c ∷ cs) rest s past next tied sent =
+      let among : IsAmong c (chunks_of packet) = subst (IsAmong c) (sym next.whole) (among_back before c (cs ++ rest)) in
+      let first : walk.keyed ≡ false → c.kind ≡ 0x38 → IsFirst c (chunks_of packet) = λ e kind. subst (IsFirst c) (sym next.whole) (first_back before c (cs ++ rest) (next.keyed e) kind) in
+      let d : Did = chunk_did place from draws walk s c in
+      let one : Orderly setup call past s d = record {
+        goes = chunk_goes setup from datagram draws is.sessions fits.2 packet s past place walk c tied came among first;
+        meets = meets_chunk setup s.moment call past s sent tied is.cert.short_named place from draws fits.2 fits.1 walk c;
+        few = few_chunk place from draws walk s c;
+      } in
+      orderly_then setup call past s d (λ t. chunks_did place from draws (walked walk c) t cs) one
+      (chunks_orderly place came (walked walk c) (before ++ c ∷ []) cs rest d.state (onto s.moment d.entries past) (one_next packet walk before c (cs ++ rest) next) one.goes.tied one.meets.sent)
+
+-- ---- a datagram
+
+module _ (setup : Setup) (is : IsSetup setup) (from : AddressParts) (datagram : List ℕ) (draws : Draws) (fits : IsCall (Receive from datagram draws)) (past : List Stamped) (s : State) where
+  abbrev this : Call
+  this = Receive from datagram draws
+
+  -- what it leaves before its chunks, and then these, which are the first of them
+  first_orderly : (t : State) (place : Place) (packet : Whole) (cs rest : List Placed) → chunks_of packet ≡ cs ++ rest → IsTaken setup past s datagram t place packet → Sent setup past t →
+      Orderly setup this past t (then_do (confirming t place) (λ u. chunks_did place from draws outset u cs))
+  first_orderly t place packet cs rest whole taken sent =
+      let d : Did = confirming t place in
+      let one : Orderly setup this past t d = record {
+        goes = goes_confirming setup from datagram draws t place taken.leaves.heard past taken.leaves.tied;
+        meets = meets_confirming setup t.moment this past t place sent;
+        few = few_confirming t place;
+      } in
+      orderly_then setup this past t d (λ u. chunks_did place from draws outset u cs) one
+      (chunks_orderly setup is from datagram draws fits packet place taken.came outset [] cs rest d.state (onto t.moment d.entries past) (record { whole = whole; keyed = λ e c none kind. none }) one.goes.tied one.meets.sent)
+
+  pub received_orderly : (a : Admission) → AdmissionIs setup past s datagram a → SentIn setup past a → (left_by a).sealed ≡ s.sealed → Orderly setup this past s (received from draws a)
+  received_orderly (Rejected t cause) so sent sealed =
+      orderly_from setup this past s t (discarded t 0 cause) (record { moment = so.moment; sealed = sealed })
+      (record { goes = goes_discarded setup this t 0 cause past so.tied; meets = meets_discarded setup t.moment this past t 0 cause sent; few = omega arith })
+  received_orderly (Admitted t place packet) so sent sealed =
+      orderly_from setup this past s t (then_do (confirming t place) (λ u. chunks_did place from draws outset u (chunks_of packet))) (record { moment = so.leaves.moment; sealed = sealed })
+      (first_orderly t place packet (chunks_of packet) [] (sym (append-nil (chunks_of packet))) so sent)
+
+  part_orderly : (count : ℕ) (a : Admission) → AdmissionIs setup past s datagram a → SentIn setup past a → (left_by a).sealed ≡ s.sealed → Orderly setup this past s (part_received from draws a count)
+  part_orderly count (Rejected t cause) so sent sealed =
+      orderly_from setup this past s t (nothing t) (record { moment = so.moment; sealed = sealed }) (orderly_nothing setup this past t so.tied sent)
+  part_orderly count (Admitted t place packet) so sent sealed =
+      orderly_from setup this past s t (then_do (confirming t place) (λ u. chunks_did place from draws outset u (take count (chunks_of packet)))) (record { moment = so.leaves.moment; sealed = sealed })
+      (first_orderly t place packet (take count (chunks_of packet)) (drop count (chunks_of packet)) (sym (take-append-drop count (chunks_of packet))) so sent)
+
+  pub stopped_orderly : (stop : Stop) (a : Admission) → Tied setup past s → Sent setup past s → AdmissionIs setup past s datagram a → SentIn setup past a → (left_by a).sealed ≡ s.sealed →
+      Orderly setup this past s (stopped s from draws a stop)
+  stopped_orderly stop a tied sent so sent_in sealed = by stop.taken
+    where
+      by : (b : Bool) → Orderly setup this past s (if b then part_received from draws a stop.chunks else nothing s)
+      by true = part_orderly stop.chunks a so sent_in sealed
+      by false = orderly_nothing setup this past s tied sent
