@@ -1,20 +1,24 @@
--- One session of the list is changed.
-use Rattle.std.proofs.Common.{ℕ, List, ◌≡◌, length, get_or, set, Some, ap, ◌∙◌}
+-- One row of the list is changed.
+use Rattle.std.proofs.Common.{ℕ, List, ◌≡◌, length, get_or, set, Option, Some, None, sym, ap, ◌∙◌}
 use Rattle.std.specs.FinMap.{get, insert, len}
+use Rattle.startup.specs.State.{StartupState}
 use Rattle.session_core.specs.Session.{SessionState}
-use Rattle.endpoint.specs.Stored.{near_of, table_of}
+use Rattle.endpoint_model.specs.declared.config.Config.{Config}
+use Rattle.endpoint_model.specs.declared.row.Row.{Row}
+use Rattle.endpoint_model.specs.State.{State, with_sessions, with_session}
+use Rattle.endpoint.specs.Stored.{near_of, table_of, state_of}
 use Rattle.rtmfp_base.proofs.Rows.{index_found}
-use Rattle.endpoint.proofs.Rows.{index_in, put_at, found_at}
+use Rattle.endpoint.proofs.Rows.{index_in, put_at, found_at, found_nowhere}
 
-pub record IsChanged (rows : List SessionState) (near : ℕ) (old new : SessionState) (changed : List SessionState) : Type 0 where
+pub record IsChanged (rows : List Row) (near : ℕ) (old new : Row) (changed : List Row) : Type 0 where
   pub was : get (table_of rows) near ≡ Some old
   pub table : table_of changed ≡ insert (table_of rows) near new
   pub distinct : len (table_of changed) ≡ length changed
 
-pub changed_at : (rows : List SessionState) (near index : ℕ) (old new : SessionState) → len (table_of rows) ≡ length rows → index_in rows near ≡ Some index →
+pub changed_at : (rows : List Row) (near index : ℕ) (old new : Row) → len (table_of rows) ≡ length rows → index_in rows near ≡ Some index →
     old ≡ get_or rows index old → near_of new ≡ near_of old → IsChanged rows near old new (set rows index new)
 changed_at rows near index old new distinct found is same =
-    let at = index_found near_of (λ (s : SessionState). s) rows near index distinct found in
+    let at = index_found near_of (λ (r : Row). r) rows near index distinct found in
     let id : near_of new ≡ near = same ∙ ap near_of is ∙ at.key_is old in
     let kept = put_at rows new index distinct (ap (index_in rows) id ∙ found) in
     record {
@@ -22,3 +26,22 @@ changed_at rows near index old new distinct found is same =
       table = kept.table ∙ ap (λ (k : ℕ). insert (table_of rows) k new) id;
       distinct = kept.distinct;
     }
+
+-- ---- what is done to the session under an ID, where there is one
+
+-- the state in which the session was changed
+pub changed_state : (config : Config) (moment sealed : ℕ) (startup : StartupState) (rows : List Row) (s : State) (near index : ℕ) (old : Row) (new made : SessionState) (did : State → Option Row → State) →
+    state_of config moment sealed startup rows ≡ s → IsChanged rows near old (record old { session = new }) (set rows index (record old { session = new })) → new ≡ made →
+    did (state_of config moment sealed startup rows) (Some old) ≡ with_session (state_of config moment sealed startup rows) near old made →
+    state_of config moment sealed startup (set rows index (record old { session = new })) ≡ did s (get s.sessions near)
+changed_state config moment sealed startup rows s near index old new made did view changed is does =
+    let before : State = state_of config moment sealed startup rows in
+    ap (with_sessions before) changed.table ∙ ap (with_session before near old) is ∙ sym does ∙ sym (ap (did before) changed.was)
+    ∙ ap (λ (t : State). did t (get t.sessions near)) view
+
+-- the same state, where there is none
+pub unchanged_state : (config : Config) (moment sealed : ℕ) (startup : StartupState) (rows : List Row) (s : State) (near : ℕ) (did : State → Option Row → State) → state_of config moment sealed startup rows ≡ s →
+    index_in rows near ≡ None → did (state_of config moment sealed startup rows) None ≡ state_of config moment sealed startup rows → s ≡ did s (get s.sessions near)
+unchanged_state config moment sealed startup rows s near did view none does =
+    let before : State = state_of config moment sealed startup rows in
+    sym view ∙ sym does ∙ sym (ap (did before) (found_nowhere rows near none)) ∙ ap (λ (t : State). did t (get t.sessions near)) view

@@ -7,8 +7,9 @@ use Rattle.glare_core.specs.declared.facts.Fact.{Fact}
 use Rattle.glare_core.specs.Ledger.{Ledger, noted_if}
 use Rattle.startup.specs.State.{StartupState}
 use Rattle.startup.specs.Attempts.{after_confirm, confirm_fact}
-use Rattle.session_core.specs.Session.{SessionState, with_stamps, is_opening, confirmed}
+use Rattle.session_core.specs.Session.{with_stamps, is_opening, confirmed}
 use Rattle.session_core.specs.Hearing.{counted}
+use Rattle.endpoint_model.specs.declared.row.Row.{Row}
 use Rattle.endpoint_model.specs.declared.place.Place.{Place}
 use Rattle.endpoint_model.specs.declared.place.Place.TheVariants.{Startup, Attempt, Session}
 use Rattle.endpoint_model.specs.Added.{Added}
@@ -21,13 +22,13 @@ use Rattle.endpoint_model.specs.Due.{AreQuiet, AddsDiscards, discards, discards_
 use Rattle.endpoint_model.specs.Log.{IsStop, not_taken}
 use Rattle.endpoint_model.specs.Admission.{confirms, confirms_by, confirming, confirming_by, taken_packet, counted_at, counted_by, timed_at, timed_by}
 
-counted_still : (s : State) (near : ℕ) (part : List ℕ) (o : Option SessionState) → get s.sessions near ≡ o → confirms_by (get (counted_by s near part o).sessions near) ≡ confirms_by o
+counted_still : (s : State) (near : ℕ) (part : List ℕ) (o : Option Row) → get s.sessions near ≡ o → confirms_by (get (counted_by s near part o).sessions near) ≡ confirms_by o
 counted_still s near part None e = ap confirms_by e
-counted_still s near part (Some session) e = ap confirms_by (get_inserted s.sessions near (counted session part))
+counted_still s near part (Some row) e = ap confirms_by (get_inserted s.sessions near (record row { session = counted row.session part }))
 
-timed_still : (s : State) (near : ℕ) (head : PacketHead) (o : Option SessionState) → get s.sessions near ≡ o → confirms_by (get (timed_by s near head o).sessions near) ≡ confirms_by o
+timed_still : (s : State) (near : ℕ) (head : PacketHead) (o : Option Row) → get s.sessions near ≡ o → confirms_by (get (timed_by s near head o).sessions near) ≡ confirms_by o
 timed_still s near head None e = ap confirms_by e
-timed_still s near head (Some session) e = ap confirms_by (get_inserted s.sessions near (with_stamps head s.moment session))
+timed_still s near head (Some row) e = ap confirms_by (get_inserted s.sessions near (record row { session = with_stamps head s.moment row.session }))
 
 pub confirms_counted : (s : State) (place : Place) (part : List ℕ) → confirms (counted_at s place part) place ≡ confirms s place
 confirms_counted s Startup part = refl
@@ -45,33 +46,33 @@ own_stays l None = refl
 own_stays l (Some fact) = refl
 
 -- what confirming a half-open session does
-pub confirming_is : (s : State) (near : ℕ) (session : SessionState) → is_opening session.stage ≡ true → confirming_by s near (Some session) ≡ record {
-  state = with_session (with_startup s (after_confirm s.startup session.joined.peer)) near (confirmed session);
-  entries = fact_entries (confirm_fact s.startup session.joined.peer);
+pub confirming_is : (s : State) (near : ℕ) (row : Row) → is_opening row.session.stage ≡ true → confirming_by s near (Some row) ≡ record {
+  state = with_session (with_startup s (after_confirm s.startup row.session.joined.peer)) near row (confirmed row.session);
+  entries = fact_entries (confirm_fact s.startup row.session.joined.peer);
 }
-confirming_is s near session half_open =
+confirming_is s near row half_open =
     ap (λ (b : Bool).
     if b
     then record {
-      state = with_session (with_startup s (after_confirm s.startup session.joined.peer)) near (confirmed session);
-      entries = fact_entries (confirm_fact s.startup session.joined.peer);
+      state = with_session (with_startup s (after_confirm s.startup row.session.joined.peer)) near row (confirmed row.session);
+      entries = fact_entries (confirm_fact s.startup row.session.joined.peer);
     }
     else nothing s) half_open
 
 -- the state and the outbox after a half-open session was confirmed
-pub confirmed_done : (s now : State) (near : ℕ) (old new : SessionState) (startup : StartupState) (sessions : Sessions) (fact : Option Fact) (before after : Added) →
-    s ≡ now → get s.sessions near ≡ Some old → confirms_by (get now.sessions near) ≡ true → new ≡ confirmed old → sessions ≡ insert s.sessions near new →
-    startup ≡ after_confirm s.startup old.joined.peer → fact ≡ confirm_fact s.startup old.joined.peer → after.entries ≡ before.entries ++ fact_entries fact →
+pub confirmed_done : (s now : State) (near : ℕ) (old new : Row) (startup : StartupState) (sessions : Sessions) (fact : Option Fact) (before after : Added) →
+    s ≡ now → get s.sessions near ≡ Some old → confirms_by (get now.sessions near) ≡ true → new ≡ record old { session = confirmed old.session } → sessions ≡ insert s.sessions near new →
+    startup ≡ after_confirm s.startup old.session.joined.peer → fact ≡ confirm_fact s.startup old.session.joined.peer → after.entries ≡ before.entries ++ fact_entries fact →
     before.free ≤ after.free + length (fact_entries fact) → after.room ≡ before.room →
     Done (confirming_by now near (get now.sessions near)) (with_sessions (with_startup s startup) sessions) before after
 confirmed_done s now near old new startup sessions fact before after is was half_open new_is sessions_are startup_is fact_is entries free room =
-    let half : is_opening old.stage ≡ true = sym (ap confirms_by was) ∙ ap (λ (t : State). confirms_by (get t.sessions near)) is ∙ half_open in
+    let half : is_opening old.session.stage ≡ true = sym (ap confirms_by was) ∙ ap (λ (t : State). confirms_by (get t.sessions near)) is ∙ half_open in
     let same : confirming_by now near (get now.sessions near) ≡ confirming_by s near (Some old) = ap (λ (t : State). confirming_by t near (get t.sessions near)) (sym is) ∙ ap (confirming_by s near) was in
     let P : Did → Type 0 = λ d. Done d (with_sessions (with_startup s startup) sessions) before after in
     subst P (sym (same ∙ confirming_is s near old half)) (record {
       state =
           ap (λ (st : StartupState). with_sessions (with_startup s st) sessions) startup_is
-          ∙ ap (λ m. with_sessions (with_startup s (after_confirm s.startup old.joined.peer)) m) (sessions_are ∙ ap (insert s.sessions near) new_is);
+          ∙ ap (λ m. with_sessions (with_startup s (after_confirm s.startup old.session.joined.peer)) m) (sessions_are ∙ ap (insert s.sessions near) new_is);
       entries = entries ∙ ap (λ (f : Option Fact). before.entries ++ fact_entries f) fact_is;
       free = subst (λ (f : Option Fact). before.free ≤ after.free + length (fact_entries f)) fact_is free;
       room = room;
@@ -82,14 +83,14 @@ pub unconfirmed_done : (now : State) (near : ℕ) (out : Added) → get now.sess
 unconfirmed_done now near out none = let P : Did → Type 0 = λ d. Done d now out out in subst P (sym (ap (confirming_by now near) none)) (done_nothing now out)
 
 -- where nothing is confirmed, nothing is done
-unconfirmed_by : (s : State) (near : ℕ) (o : Option SessionState) → confirms_by o ≡ false → confirming_by s near o ≡ nothing s
+unconfirmed_by : (s : State) (near : ℕ) (o : Option Row) → confirms_by o ≡ false → confirming_by s near o ≡ nothing s
 unconfirmed_by s near None e = refl
-unconfirmed_by s near (Some session) e =
+unconfirmed_by s near (Some row) e =
     ap (λ (b : Bool).
     if b
     then record {
-      state = with_session (with_startup s (after_confirm s.startup session.joined.peer)) near (confirmed session);
-      entries = fact_entries (confirm_fact s.startup session.joined.peer);
+      state = with_session (with_startup s (after_confirm s.startup row.session.joined.peer)) near row (confirmed row.session);
+      entries = fact_entries (confirm_fact s.startup row.session.joined.peer);
     }
     else nothing s) e
 

@@ -5,7 +5,6 @@ use Rattle.cookies.specs.declared.CookieTest.{CookieTest}
 use Rattle.cookies.specs.declared.CookieTest.TheVariants.{Bad, Moved, Expired as OldCookie, Current}
 use Rattle.cookies.specs.Cookie.{cookie_test}
 use Rattle.glare_core.specs.declared.facts.Why.{Why}
-use Rattle.glare_core.specs.declared.facts.Why.TheVariants.{Cancelled, Expired}
 use Rattle.glare_core.specs.declared.facts.Fact.{Fact}
 use Rattle.glare_core.specs.declared.facts.Joined.{Joined}
 use Rattle.glare_core.specs.declared.answers.Keying.{Keying}
@@ -17,10 +16,9 @@ use Rattle.crypto_profile.specs.declared.keys.Context.TheVariants.{Startup}
 use Rattle.crypto_profile.specs.Keys.{Keys, keys_of}
 use Rattle.startup.specs.declared.cause.Cause.{Cause}
 use Rattle.startup.specs.State.{AttemptState, StartupState}
-use Rattle.startup.specs.Attempts.{lowest, has_number, has_tag, changed, with_ledger, with_attempt, without_attempt, after_begin, ended_attempt, after_end_of, after_cancel, confirm_fact, after_confirm, after_answer, after_rhello, after_change, after_cookie_change}
-use Rattle.startup.specs.Due.{is_due, is_over, repeated, after_due_of, after_due}
+use Rattle.startup.specs.Attempts.{with_ledger, after_end_of}
 use Rattle.startup.specs.Keyings.{InitiatorKeying, initiator_keying_in, keying_of, after_again_or_birth, after_keyed_with, after_keyed_reading, after_keying, after_opening}
-use Rattle.session_core.specs.Session.{SessionState}
+use Rattle.endpoint_model.specs.declared.row.Row.{Row}
 use Rattle.endpoint_model.specs.declared.config.Config.{Config}
 use Rattle.endpoint.specs.Stored.{IsEndpoint}
 
@@ -45,15 +43,6 @@ ended s (Some e) why = record { secret_is = refl; own_is = refl }
 noted_keeps : (s : StartupState) (fact : Option Fact) → IsSameEnd s (with_ledger s (noted_if s.ledger fact))
 noted_keeps s None = record { secret_is = refl; own_is = refl }
 noted_keeps s (Some fact) = record { secret_is = refl; own_is = refl }
-
-answered_keeps : (s : StartupState) (found : Option (ℕ × AttemptState)) (from : AddressParts) (cookie : List ℕ) (moment : ℕ) → IsSameEnd s (after_answer s found from cookie moment)
-answered_keeps s None from cookie moment = same s
-answered_keeps s (Some e) from cookie moment = record { secret_is = refl; own_is = refl }
-
-pub rhello_keeps : (s : StartupState) (tag cookie : List ℕ) (from : AddressParts) (moment : ℕ) → IsSameEnd s (after_rhello s tag cookie from moment)
-rhello_keeps s tag cookie from moment = answered_keeps s (lowest (has_tag tag) s.attempts) from cookie moment
-
--- ---- time
 
 -- ---- keyings
 
@@ -84,7 +73,7 @@ opening_keeps s near fact = record { secret_is = refl; own_is = refl }
 
 -- ---- so what an end keeps beside it stays as it should be
 
-pub end_stays : (config : Config) (secret print : List ℕ) (keys : Keys) (s t : StartupState) (sessions : List SessionState) →
+pub end_stays : (config : Config) (secret print : List ℕ) (keys : Keys) (s t : StartupState) (sessions : List Row) →
     IsEndpoint config secret print keys s sessions → IsSameEnd s t → IsEndpoint config secret print keys t sessions
 end_stays config secret print keys s t sessions is kept = record {
   secret_is = is.secret_is ∙ sym kept.secret_is;

@@ -6,8 +6,9 @@ use Rattle.crypto_profile.specs.declared.keys.Context.TheVariants.{Startup as St
 use Rattle.crypto_profile.specs.declared.sealing.SealFault.{SealFault}
 use Rattle.crypto_profile.specs.Opening.{open_refusal}
 use Rattle.packet_scramble.specs.Datagram.{sid_of}
-use Rattle.session_core.specs.Session.{SessionState, context_of}
+use Rattle.session_core.specs.Session.{context_of}
 use Rattle.session_core.specs.Hearing.{opens_in as opens_in_session}
+use Rattle.endpoint_model.specs.declared.row.Row.{Row}
 use Rattle.endpoint_model.specs.declared.place.Place.{Place}
 use Rattle.endpoint_model.specs.declared.place.Place.TheVariants.{Startup, Attempt, Session}
 use Rattle.endpoint_model.specs.State.{State}
@@ -23,9 +24,9 @@ if_opened : (opens : Bool) (own c : Context) → ◌≡◌ {A = Option Context} 
 if_opened true own c e = e
 if_opened false own c e = absurd (cc)
 
-in_session : (o : Option SessionState) (part : List ℕ) (c : Context) → context_in_session o part ≡ Some c → context_towards o ≡ Some c
+in_session : (o : Option Row) (part : List ℕ) (c : Context) → context_in_session o part ≡ Some c → context_towards o ≡ Some c
 in_session None part c e = e
-in_session (Some session) part c e = if_opened (opens_in_session session part) (context_of session false) c e
+in_session (Some row) part c e = if_opened (opens_in_session row.session part) (context_of row.session false) c e
 
 at_place : (s : State) (o : Option Place) (part : List ℕ) (c : Context) → context_found s o part ≡ Some c → context_of_place s o ≡ Some c
 at_place s None part c e = e

@@ -1,5 +1,5 @@
 -- Why keyings are discarded: what startup finds of one that was read gives the cause.
-use Rattle.std.proofs.Common.{◌≡◌, ℕ, List, [], ◌∷◌, true, false, not, if◌then◌else◌, Option, Some, None, Result, Ok, Err, refl, ap, ◌∙◌}
+use Rattle.std.proofs.Common.{◌≡◌, ℕ, List, [], ◌∷◌, true, false, not, if◌then◌else◌, Option, Some, None, Ok, Err, refl, ◌∙◌}
 use Rattle.rtmfp_forms.specs.Address.{AddressParts}
 use Rattle.glare_core.specs.Calls.{where_true, first_that_stands}
 use Rattle.startup.specs.declared.cause.Cause.{Cause}

@@ -14,6 +14,7 @@ use Rattle.startup.specs.declared.cause.Cause.{Cause}
 use Rattle.startup.specs.declared.cause.Cause.TheVariants.{Short as ShortCause, BadPacket, WrongPlace}
 use Rattle.session_core.specs.Session.{SessionState}
 use Rattle.session_core.specs.Hearing.{counted, count_of}
+use Rattle.endpoint_model.specs.declared.row.Row.{Row}
 use Rattle.endpoint_model.specs.declared.config.Draws.{Draws}
 use Rattle.endpoint_model.specs.declared.answers.Stopped.{Stopped}
 use Rattle.endpoint_model.specs.declared.place.Place.{Place}
@@ -48,9 +49,9 @@ refused_so s t from draws cause (Err halt) new before after ok stop enough =
 
 -- ---- how a packet is taken
 
-mode_still : (s : State) (near : ℕ) (part : List ℕ) (o : Option SessionState) → get s.sessions near ≡ o → mode_by (get (counted_by s near part o).sessions near) ≡ mode_by o
+mode_still : (s : State) (near : ℕ) (part : List ℕ) (o : Option Row) → get s.sessions near ≡ o → mode_by (get (counted_by s near part o).sessions near) ≡ mode_by o
 mode_still s near part None e = ap mode_by e
-mode_still s near part (Some session) e = ap mode_by (get_inserted s.sessions near (counted session part))
+mode_still s near part (Some row) e = ap mode_by (get_inserted s.sessions near (record row { session = counted row.session part }))
 
 -- counting a datagram doesn't change the mode of its place
 pub mode_counted : (s : State) (place : Place) (part : List ℕ) → mode_at (counted_at s place part) place ≡ mode_at s place
@@ -97,9 +98,9 @@ count_alike old new front =
     let numbers : number_of (drop 4 new) ≡ number_of (drop 4 old) = number_behind new ∙ ap (λ (xs : List ℕ). drop 16 (drop 4 xs)) front ∙ sym (number_behind old) in
     ap (λ (xs : List ℕ). from_be_bytes w64 (drop 8 xs)) numbers
 
-counted_alike_by : (s : State) (near : ℕ) (a b : List ℕ) (o : Option SessionState) → count_of a ≡ count_of b → counted_by s near a o ≡ counted_by s near b o
+counted_alike_by : (s : State) (near : ℕ) (a b : List ℕ) (o : Option Row) → count_of a ≡ count_of b → counted_by s near a o ≡ counted_by s near b o
 counted_alike_by s near a b None e = refl
-counted_alike_by s near a b (Some session) e = ap (λ n. with_session s near (record session { window = kept_after session.window n })) e
+counted_alike_by s near a b (Some row) e = let session : SessionState = row.session in ap (λ n. with_session s near row (record session { window = kept_after session.window n })) e
 
 counted_alike : (s : State) (place : Place) (a b : List ℕ) → count_of a ≡ count_of b → counted_at s place a ≡ counted_at s place b
 counted_alike s Startup a b e = refl

@@ -1,5 +1,5 @@
 -- A chunk that isn't discarded, as it was read once and with what was found of it.
-use Rattle.std.specs.Prelude.{ℕ, ◌==◌, ◌≤◌, not, List, [], ◌∷◌, length, Option, Some, None, Ok, ◌≡◌}
+use Rattle.std.specs.Prelude.{ℕ, ◌==◌, ◌≤◌, not, [], ◌∷◌, length, Option, Some, None, Ok, ◌≡◌}
 use Rattle.std.specs.FinMap.{get}
 use Rattle.rtmfp_forms.specs.Address.{AddressParts}
 use Rattle.rtmfp_chunks.specs.Chunk.{chunk_of}

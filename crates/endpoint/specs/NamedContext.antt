@@ -5,16 +5,17 @@ use Rattle.std.specs.FinMap.{get}
 use Rattle.crypto_profile.specs.declared.keys.Context.{Context}
 use Rattle.crypto_profile.specs.declared.keys.Context.TheVariants.{Startup as StartupContext}
 use Rattle.packet_scramble.specs.Datagram.{sid_of}
-use Rattle.session_core.specs.Session.{SessionState, context_of}
+use Rattle.session_core.specs.Session.{context_of}
+use Rattle.endpoint_model.specs.declared.row.Row.{Row}
 use Rattle.endpoint_model.specs.declared.place.Place.{Place}
 use Rattle.endpoint_model.specs.declared.place.Place.TheVariants.{Startup, Attempt, Session}
 use Rattle.endpoint_model.specs.State.{State}
 use Rattle.endpoint_model.specs.Admission.{place_of}
 
 -- a session's context towards this end
-abbrev pub context_towards : Option SessionState → Option Context
+abbrev pub context_towards : Option Row → Option Context
 context_towards None = None
-context_towards (Some session) = Some (context_of session false)
+context_towards (Some row) = Some (context_of row.session false)
 
 -- that of a place: startup, but for a session
 abbrev pub context_of_place : State → Option Place → Option Context

@@ -1,25 +1,25 @@
--- How an end is kept: its sessions as a list of rows, and beside the state what follows from it.
+-- How an end is kept: its rows of sessions as a list, and beside the state what follows from it.
 use Rattle.std.specs.Prelude.{ℕ, List, ◌≡◌, ◌≤◌, map, length}
 use Rattle.std.specs.FinMap.{from_entries, len}
 use Rattle.crypto_profile.specs.declared.keys.Context.TheVariants.{Startup}
 use Rattle.crypto_profile.specs.Keys.{Keys, keys_of}
 use Rattle.startup.specs.State.{StartupState}
-use Rattle.session_core.specs.Session.{SessionState}
+use Rattle.endpoint_model.specs.declared.row.Row.{Row}
 use Rattle.endpoint_model.specs.declared.config.Config.{Config}
 use Rattle.endpoint_model.specs.State.{State, Sessions}
 
--- the session ID of a session
-abbrev pub near_of : SessionState → ℕ
-near_of session = session.joined.near
+-- the session ID of the session in a row
+abbrev pub near_of : Row → ℕ
+near_of row = row.session.joined.near
 
-abbrev pub entry_of : SessionState → ℕ × SessionState
-entry_of session = (near_of session, session)
+abbrev pub entry_of : Row → ℕ × Row
+entry_of row = (near_of row, row)
 
--- the sessions by their session IDs
-abbrev pub table_of : List SessionState → Sessions
-table_of sessions = from_entries (map entry_of sessions)
+-- the rows by their session IDs
+abbrev pub table_of : List Row → Sessions
+table_of rows = from_entries (map entry_of rows)
 
-abbrev pub state_of : Config → ℕ → ℕ → StartupState → List SessionState → State
+abbrev pub state_of : Config → ℕ → ℕ → StartupState → List Row → State
 state_of config moment sealed startup sessions =
     record {
       config = config;
@@ -31,7 +31,7 @@ state_of config moment sealed startup sessions =
 
 -- What is kept beside the state is what it should be, and no two sessions have one session ID.
 pub record IsEndpoint (config : Config) (secret print : List ℕ) (keys : Keys)
-    (startup : StartupState) (sessions : List SessionState) : Type 0 where
+    (startup : StartupState) (sessions : List Row) : Type 0 where
   pub secret_is : secret ≡ startup.secret
   pub print_is : print ≡ startup.ledger.own
   pub keys_are : keys ≡ keys_of startup.secret Startup

@@ -59,7 +59,7 @@ impl Endpoint {
         ensures length { length part.new ≡ length part.old }
     {
         match sessions::index_of(&self.sessions, near) {
-            Some(index) => match self.sessions[index].open(part) {
+            Some(index) => match self.sessions[index].session.open(part) {
                 Ok(_) => Ok(()),
                 Err(Unheard::Short) => Err(Cause::Short),
                 Err(Unheard::BadTag) => Err(Cause::BadTag),
@@ -108,7 +108,7 @@ impl Endpoint {
             Place::Startup => Mode::Startup,
             Place::Attempt(_) => Mode::Startup,
             Place::Session(near) => match sessions::index_of(&self.sessions, near) {
-                Some(index) => peers_mode(self.sessions[index].role()),
+                Some(index) => peers_mode(self.sessions[index].session.role()),
                 None => Mode::Startup,
             },
         }

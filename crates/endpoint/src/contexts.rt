@@ -63,7 +63,7 @@ impl Endpoint {
         ensures { result ≡ context_towards (get self.now.sessions near) }
     {
         match sessions::index_of(&self.sessions, near) {
-            Some(index) => Some(self.sessions[index].context(false)),
+            Some(index) => Some(self.sessions[index].session.context(false)),
             None => None,
         }
     }
@@ -101,7 +101,7 @@ impl Endpoint {
     {
         match sessions::index_of(&self.sessions, near) {
             Some(index) => {
-                let session = &self.sessions[index];
+                let session = &self.sessions[index].session;
                 if session.opens(part) {
                     Some(session.context(false))
                 } else {

@@ -1,10 +1,9 @@
 //! One end.
 
 use crypto_profile::{Context, Keys};
-use endpoint_model::Config;
+use endpoint_model::{Config, Row};
 use glare_core::Held;
 use identity::Certificate;
-use session_core::Session;
 use startup::Startup;
 use std::alloc::Global;
 use std::marker::Model;
@@ -26,19 +25,19 @@ pub struct Endpoint {
     /// How many startup packets were sealed.
     pub(crate) sealed: u64,
     pub(crate) startup: Startup,
-    /// The sessions, in any order.
-    pub(crate) sessions: Vec<Session>,
+    /// The rows of the sessions, in any order.
+    pub(crate) sessions: Vec<Row>,
 }
 
 impl Model for Endpoint {
     ghost use Rattle.endpoint_model.specs.State.{State, state_code};
     ghost use Rattle.endpoint_model.specs.contracts.config.Config as config_type;
     ghost use Rattle.startup.specs.contracts.startup.Startup as startup_type;
-    ghost use Rattle.session_core.specs.contracts.session.Session as session_type;
+    ghost use Rattle.endpoint_model.specs.contracts.row.Row as row_type;
 
     ghost Value = { State };
 
-    ghost coded = { state_code config_type.the_row.coded startup_type.the_row.coded session_type.the_row.coded };
+    ghost coded = { state_code config_type.the_row.coded startup_type.the_row.coded row_type.the_row.coded };
 
     ghost use Rattle.endpoint.specs.Stored.{state_of, IsEndpoint};
 

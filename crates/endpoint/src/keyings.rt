@@ -16,7 +16,7 @@ use crate::endpoint::Endpoint;
 use crate::outbox::Outbox;
 use crate::sealing::blank;
 use crate::sessions::{forget, keep};
-use endpoint_model::{Draws, Entry};
+use endpoint_model::{Draws, Entry, Row};
 use glare_core::Fact;
 use rtmfp_chunks::ChunkView;
 use rtmfp_forms::Address;
@@ -118,7 +118,7 @@ impl Endpoint {
 
 /// Keeps a session that was born, half-open, and forgets what ended. There is room for one more.
 fn keep_born(
-    sessions: &mut Vec<Session>,
+    sessions: &mut Vec<Row>,
     ended: &Option<Fact>,
     born: &Fact,
     print: &[u8; 32],
@@ -135,16 +135,14 @@ fn keep_born(
 {
     if let Fact::Born(joined) = born {
         forget_ended(sessions, ended);
-        keep(
-            sessions,
-            Session::new(joined, print, Role::Responder, *from, secret, moment),
-        );
+        let session = Session::new(joined, print, Role::Responder, *from, secret, moment);
+        keep(sessions, Row { session });
     }
 }
 
 /// Keeps a session that was opened. There is room for one more.
 fn keep_opened(
-    sessions: &mut Vec<Session>,
+    sessions: &mut Vec<Row>,
     opened: &Fact,
     print: &[u8; 32],
     from: &Address,
@@ -159,15 +157,13 @@ fn keep_opened(
     ensures distinct { len (table_of sessions.new.items) ≡ length sessions.new.items }
 {
     if let Fact::Opened(joined) = opened {
-        keep(
-            sessions,
-            Session::new(joined, print, Role::Initiator, *from, secret, moment),
-        );
+        let session = Session::new(joined, print, Role::Initiator, *from, secret, moment);
+        keep(sessions, Row { session });
     }
 }
 
 /// Forgets the session that a fact ended, where there is one.
-fn forget_ended(sessions: &mut Vec<Session>, ended: &Option<Fact>)
+fn forget_ended(sessions: &mut Vec<Row>, ended: &Option<Fact>)
     requires { len (table_of sessions.old.items) ≡ length sessions.old.items }
     ensures table { table_of sessions.new.items
         ≡ without_ended (table_of sessions.old.items) ended.now }

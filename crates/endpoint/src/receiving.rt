@@ -191,7 +191,7 @@ impl Endpoint {
         ensures { self.new ≡ counted_by self.old near part.now (get self.old.sessions near) }
     {
         match index_of(&self.sessions, near) {
-            Some(index) => self.sessions[index].take_number(part),
+            Some(index) => self.sessions[index].session.take_number(part),
             None => {}
         }
     }
@@ -211,7 +211,7 @@ impl Endpoint {
         ensures { self.new ≡ timed_by self.old near head.now (get self.old.sessions near) }
     {
         match index_of(&self.sessions, near) {
-            Some(index) => self.sessions[index].take_stamps(head, self.moment),
+            Some(index) => self.sessions[index].session.take_stamps(head, self.moment),
             None => {}
         }
     }
@@ -231,7 +231,7 @@ impl Endpoint {
         ensures { result ≡ confirms_by (get self.now.sessions near) }
     {
         match index_of(&self.sessions, near) {
-            Some(index) => self.sessions[index].is_half_open(),
+            Some(index) => self.sessions[index].session.is_half_open(),
             None => false,
         }
     }
@@ -260,7 +260,7 @@ impl Endpoint {
     {
         match index_of(&self.sessions, near) {
             Some(index) => {
-                let session = &mut self.sessions[index];
+                let session = &mut self.sessions[index].session;
                 let peer = session.joined().peer;
                 session.confirm();
                 let fact = self.startup.confirm(&peer);

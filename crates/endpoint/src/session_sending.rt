@@ -36,11 +36,11 @@ impl Endpoint {
         let Some(index) = index_of(&self.sessions, near) else {
             return;
         };
-        if self.sessions[index].is_spent() {
+        if self.sessions[index].session.is_spent() {
             return;
         }
-        let context = self.sessions[index].context(true);
-        let session = &mut self.sessions[index];
+        let context = self.sessions[index].session.context(true);
+        let session = &mut self.sessions[index].session;
         let datagram = session_datagram(blank, session, self.moment, chunk);
         out.add(Entry::Out {
             to: *to,

@@ -1,32 +1,32 @@
-//! The list of sessions of an end.
+//! The rows of the sessions of an end.
 
 ghost use Rattle.std.specs.Prelude.{◌≡◌, ◌<◌, ◌≤◌, ◌==◌, IfNone, IfSome, None, length, position, vec_len, vec_capacity};
 ghost use Rattle.std.specs.FinMap.{get, insert, len, remove};
 ghost use Rattle.endpoint.specs.Stored.{near_of, table_of};
 
-use session_core::Session;
+use endpoint_model::Row;
 
-/// The index of the session with this session ID.
-pub(crate) fn index_of(sessions: &[Session], near: u32) -> Option<usize>
-    ensures { result ≡ position (λ session. near_of session == near) sessions.now }
+/// The index of the row of the session with this session ID.
+pub(crate) fn index_of(sessions: &[Row], near: u32) -> Option<usize>
+    ensures { result ≡ position (λ row. near_of row == near) sessions.now }
 {
     sessions
         .iter()
-        .position(|session| session.joined().near == near)
+        .position(|row| row.session.joined().near == near)
 }
 
-/// Keeps a session under its session ID. There is room for one more.
-pub(crate) fn keep(sessions: &mut Vec<Session>, session: Session)
+/// Keeps a row under the session ID of its session. There is room for one more.
+pub(crate) fn keep(sessions: &mut Vec<Row>, row: Row)
     requires distinct { len (table_of sessions.old.items) ≡ length sessions.old.items }
     requires room { vec_len sessions.old < vec_capacity sessions.old }
     ensures table { table_of sessions.new.items
-        ≡ insert (table_of sessions.old.items) (near_of session) session }
+        ≡ insert (table_of sessions.old.items) (near_of row) row }
     ensures distinct { len (table_of sessions.new.items) ≡ length sessions.new.items }
 {
-    let near = session.joined().near;
+    let near = row.session.joined().near;
     match index_of(sessions, near) {
-        Some(index) => sessions[index] = session,
-        None => match sessions.push(session) {
+        Some(index) => sessions[index] = row,
+        None => match sessions.push(row) {
             Ok(()) => {}
             Err(_) => {}
         },
@@ -34,7 +34,7 @@ pub(crate) fn keep(sessions: &mut Vec<Session>, session: Session)
 }
 
 /// Forgets the session with this session ID, where there is one.
-pub(crate) fn forget(sessions: &mut Vec<Session>, near: u32)
+pub(crate) fn forget(sessions: &mut Vec<Row>, near: u32)
     requires { len (table_of sessions.old.items) ≡ length sessions.old.items }
     ensures table { table_of sessions.new.items ≡ remove (table_of sessions.old.items) near }
     ensures distinct { len (table_of sessions.new.items) ≡ length sessions.new.items }

@@ -22,6 +22,7 @@ use Rattle.rtmfp_packet.specs.Reading.{PacketReading, Reads}
 use Rattle.startup.specs.declared.cause.Cause.{Cause}
 use Rattle.startup.specs.declared.cause.Cause.TheVariants.{Short, WrongPlace}
 use Rattle.crypto_profile.specs.Sealing.{Opens}
+use Rattle.endpoint_model.specs.declared.row.Row.{Row}
 use Rattle.endpoint_model.proofs.Members.{tested}
 use Rattle.session_core.specs.declared.hearing.Unheard.{Unheard}
 use Rattle.session_core.specs.declared.hearing.Unheard.TheVariants.{Short as ShortPart, BadTag as WrongTag, Repeated as OldNumber}
@@ -39,6 +40,9 @@ use Rattle.endpoint_model.specs.State.{State}
 use Rattle.endpoint_model.specs.Admission.{packet_in, place_of, sid_at, opened_by, opened_in_startup, startup_keys, heard_by, heard_in, opened_at, placed, opened_found, opened_datagram, counted_by, counted_at, timed_by, timed_at, mode_at, has_mode, Admission, Rejected, Admitted, admitted_packet, admitted, admission}
 use Rattle.endpoint_laws.proofs.Bytes.{front_are, back_are, plain_is}
 use Rattle.endpoint_model.proofs.Reading.{packet_reads}
+use Rattle.endpoint_laws.proofs.OutSends.{Sent}
+use Rattle.endpoint_laws.proofs.OutItems.{sent_session_changed}
+use Rattle.endpoint_laws.proofs.Replies.{SameCounts}
 use Rattle.endpoint_laws.proofs.Tied.{Tied}
 use Rattle.endpoint_laws.proofs.Moving.{tied_session}
 use Rattle.endpoint_laws.proofs.Confirming.{HeardIn, HeardAt}
@@ -110,15 +114,15 @@ heard_is session part (Some ShortPart) plain e = absurd (cc)
 heard_is session part (Some WrongTag) plain e = absurd (cc)
 heard_is session part (Some OldNumber) plain e = absurd (cc)
 
-session_heard : (datagram : List ℕ) (near : ℕ) (o : Option SessionState) (plain : List ℕ) → near ≡ sid_of datagram → ((session : SessionState) → o ≡ Some session → session.joined.near ≡ near) →
+session_heard : (datagram : List ℕ) (near : ℕ) (o : Option Row) (plain : List ℕ) → near ≡ sid_of datagram → ((row : Row) → o ≡ Some row → row.session.joined.near ≡ near) →
     heard_in o (drop 4 datagram) ≡ Ok plain → HeardIn datagram near o
 session_heard datagram near None plain id same e = tt
-session_heard datagram near (Some session) plain id same e =
+session_heard datagram near (Some row) plain id same e =
     let part : List ℕ = drop 4 datagram in
-    let none : unheard session part ≡ None = heard_is session part (unheard session part) plain e in
-    let opens : opens_in session part ≡ true = opens_if (nat_lt (length part) 32) (opens_in session part) (is_new (kept_answer session.window (count_of part))) none in
-    let found = (opens_some_plain session part).0 opens in
-    (found.0, record { id = sym id; opens = subst (λ n. Opens session.secret (context_of session false) n part found.0) (same session refl) found.1 })
+    let none : unheard row.session part ≡ None = heard_is row.session part (unheard row.session part) plain e in
+    let opens : opens_in row.session part ≡ true = opens_if (nat_lt (length part) 32) (opens_in row.session part) (is_new (kept_answer row.session.window (count_of part))) none in
+    let found = (opens_some_plain row.session part).0 opens in
+    (found.0, record { id = sym id; opens = subst (λ n. Opens row.session.secret (context_of row.session false) n part found.0) (same row refl) found.1 })
 
 -- ---- payloads are bytes
 
@@ -183,47 +187,50 @@ heard_of : (setup : Setup) (past : List Stamped) (s : State) (datagram plain : L
 heard_of setup past s datagram plain Startup tied opened = tt
 heard_of setup past s datagram plain (Attempt near) tied opened = tt
 heard_of setup past s datagram plain (Session near) tied opened =
-    session_heard datagram near (get s.sessions near) plain opened.id (λ session is. (tied.sessions near session is).id) opened.opened
+    session_heard datagram near (get s.sessions near) plain opened.id (λ row is. (tied.sessions near row is).id) opened.opened
 
 -- ---- what it leaves
 
 -- the state after a step of the admission
 pub record Leaves (setup : Setup) (past : List Stamped) (s : State) (datagram : List ℕ) (place : Place) (t : State) : Type 0 where
   pub tied : Tied setup past t
-  pub moment : t.moment ≡ s.moment
+  pub sent : Sent setup past t
+  pub same : SameCounts s t
   pub heard : HeardAt t place datagram
 
-counted_leaves : (setup : Setup) (past : List Stamped) (s : State) (datagram part : List ℕ) (near : ℕ) (o : Option SessionState) → get s.sessions near ≡ o → Tied setup past s → HeardIn datagram near o →
+counted_leaves : (setup : Setup) (past : List Stamped) (s : State) (datagram part : List ℕ) (near : ℕ) (o : Option Row) → get s.sessions near ≡ o → Tied setup past s → Sent setup past s → HeardIn datagram near o →
     Leaves setup past s datagram (Session near) (counted_by s near part o)
-counted_leaves setup past s datagram part near None is tied heard = record { tied = tied; moment = refl; heard = subst (HeardIn datagram near) (sym is) heard }
-counted_leaves setup past s datagram part near (Some session) is tied heard =
-    let new : SessionState = counted session part in
+counted_leaves setup past s datagram part near None is tied sent heard = record { tied = tied; sent = sent; same = record { moment = refl; sealed = refl }; heard = subst (HeardIn datagram near) (sym is) heard }
+counted_leaves setup past s datagram part near (Some row) is tied sent heard =
+    let new : Row = record row { session = counted row.session part } in
     record {
-      tied = tied_session setup past s near session new tied is refl (λ ours. record { own = ours.own; secret = ours.secret; stage = ours.stage });
-      moment = refl;
+      tied = tied_session setup past s near row new tied is refl (λ ours. record { own = ours.own; secret = ours.secret; stage = ours.stage });
+      sent = sent_session_changed setup past s near row new sent is refl refl refl refl;
+      same = record { moment = refl; sealed = refl };
       heard = subst (HeardIn datagram near) (sym (get_inserted s.sessions near new)) heard;
     }
 
-timed_leaves : (setup : Setup) (past : List Stamped) (s : State) (datagram : List ℕ) (head : PacketHead) (near : ℕ) (o : Option SessionState) → get s.sessions near ≡ o → Tied setup past s → HeardIn datagram near o →
+timed_leaves : (setup : Setup) (past : List Stamped) (s : State) (datagram : List ℕ) (head : PacketHead) (near : ℕ) (o : Option Row) → get s.sessions near ≡ o → Tied setup past s → Sent setup past s → HeardIn datagram near o →
     Leaves setup past s datagram (Session near) (timed_by s near head o)
-timed_leaves setup past s datagram head near None is tied heard = record { tied = tied; moment = refl; heard = subst (HeardIn datagram near) (sym is) heard }
-timed_leaves setup past s datagram head near (Some session) is tied heard =
-    let new : SessionState = with_stamps head s.moment session in
+timed_leaves setup past s datagram head near None is tied sent heard = record { tied = tied; sent = sent; same = record { moment = refl; sealed = refl }; heard = subst (HeardIn datagram near) (sym is) heard }
+timed_leaves setup past s datagram head near (Some row) is tied sent heard =
+    let new : Row = record row { session = with_stamps head s.moment row.session } in
     record {
-      tied = tied_session setup past s near session new tied is refl (λ ours. record { own = ours.own; secret = ours.secret; stage = ours.stage });
-      moment = refl;
+      tied = tied_session setup past s near row new tied is refl (λ ours. record { own = ours.own; secret = ours.secret; stage = ours.stage });
+      sent = sent_session_changed setup past s near row new sent is refl refl refl refl;
+      same = record { moment = refl; sealed = refl };
       heard = subst (HeardIn datagram near) (sym (get_inserted s.sessions near new)) heard;
     }
 
-counted_at_leaves : (setup : Setup) (past : List Stamped) (s : State) (datagram part : List ℕ) (place : Place) → Tied setup past s → HeardAt s place datagram → Leaves setup past s datagram place (counted_at s place part)
-counted_at_leaves setup past s datagram part Startup tied heard = record { tied = tied; moment = refl; heard = heard }
-counted_at_leaves setup past s datagram part (Attempt near) tied heard = record { tied = tied; moment = refl; heard = heard }
-counted_at_leaves setup past s datagram part (Session near) tied heard = counted_leaves setup past s datagram part near (get s.sessions near) refl tied heard
+counted_at_leaves : (setup : Setup) (past : List Stamped) (s : State) (datagram part : List ℕ) (place : Place) → Tied setup past s → Sent setup past s → HeardAt s place datagram → Leaves setup past s datagram place (counted_at s place part)
+counted_at_leaves setup past s datagram part Startup tied sent heard = record { tied = tied; sent = sent; same = record { moment = refl; sealed = refl }; heard = heard }
+counted_at_leaves setup past s datagram part (Attempt near) tied sent heard = record { tied = tied; sent = sent; same = record { moment = refl; sealed = refl }; heard = heard }
+counted_at_leaves setup past s datagram part (Session near) tied sent heard = counted_leaves setup past s datagram part near (get s.sessions near) refl tied sent heard
 
-timed_at_leaves : (setup : Setup) (past : List Stamped) (s : State) (datagram : List ℕ) (head : PacketHead) (place : Place) → Tied setup past s → HeardAt s place datagram → Leaves setup past s datagram place (timed_at s place head)
-timed_at_leaves setup past s datagram head Startup tied heard = record { tied = tied; moment = refl; heard = heard }
-timed_at_leaves setup past s datagram head (Attempt near) tied heard = record { tied = tied; moment = refl; heard = heard }
-timed_at_leaves setup past s datagram head (Session near) tied heard = timed_leaves setup past s datagram head near (get s.sessions near) refl tied heard
+timed_at_leaves : (setup : Setup) (past : List Stamped) (s : State) (datagram : List ℕ) (head : PacketHead) (place : Place) → Tied setup past s → Sent setup past s → HeardAt s place datagram → Leaves setup past s datagram place (timed_at s place head)
+timed_at_leaves setup past s datagram head Startup tied sent heard = record { tied = tied; sent = sent; same = record { moment = refl; sealed = refl }; heard = heard }
+timed_at_leaves setup past s datagram head (Attempt near) tied sent heard = record { tied = tied; sent = sent; same = record { moment = refl; sealed = refl }; heard = heard }
+timed_at_leaves setup past s datagram head (Session near) tied sent heard = timed_leaves setup past s datagram head near (get s.sessions near) refl tied sent heard
 
 -- What an admission says: the state that it leaves agrees, and a datagram that is taken is what it has to be.
 pub record IsTaken (setup : Setup) (past : List Stamped) (s : State) (datagram : List ℕ) (t : State) (place : Place) (packet : Whole) : Type 0 where
@@ -232,7 +239,8 @@ pub record IsTaken (setup : Setup) (past : List Stamped) (s : State) (datagram :
 
 pub record IsRejected (setup : Setup) (past : List Stamped) (s t : State) : Type 0 where
   pub tied : Tied setup past t
-  pub moment : t.moment ≡ s.moment
+  pub sent : Sent setup past t
+  pub same : SameCounts s t
 
 abbrev pub AdmissionIs : Setup → List Stamped → State → List ℕ → Admission → Type 0
 AdmissionIs setup past s datagram (Rejected t cause) = IsRejected setup past s t
@@ -240,26 +248,26 @@ AdmissionIs setup past s datagram (Admitted t place packet) = IsTaken setup past
 
 packet_admitted : (setup : Setup) (past : List Stamped) (s t : State) (datagram : List ℕ) (place : Place) (r : Result Whole PacketFault) → Leaves setup past s datagram place t →
     ((packet : Whole) → r ≡ Ok packet → has_mode packet.head (mode_at t place) ≡ true → Came setup datagram place packet) → AdmissionIs setup past s datagram (admitted_packet t place r)
-packet_admitted setup past s t datagram place (Err fault) leaves came = record { tied = leaves.tied; moment = leaves.moment }
+packet_admitted setup past s t datagram place (Err fault) leaves came = record { tied = leaves.tied; sent = leaves.sent; same = leaves.same }
 packet_admitted setup past s t datagram place (Ok packet) leaves came = by_mode (has_mode packet.head (mode_at t place)) (came packet refl)
   where
     by_mode : (b : Bool) → (b ≡ true → Came setup datagram place packet) →
         AdmissionIs setup past s datagram (if b then Admitted (timed_at t place packet.head) place packet else Rejected t WrongPlace)
     by_mode true is =
-        let timed = timed_at_leaves setup past t datagram packet.head place leaves.tied leaves.heard in
-        record { leaves = record { tied = timed.tied; moment = timed.moment ∙ leaves.moment; heard = timed.heard }; came = is refl }
-    by_mode false is = record { tied = leaves.tied; moment = leaves.moment }
+        let timed = timed_at_leaves setup past t datagram packet.head place leaves.tied leaves.sent leaves.heard in
+        record { leaves = record { tied = timed.tied; sent = timed.sent; same = record { moment = timed.same.moment ∙ leaves.same.moment; sealed = timed.same.sealed ∙ leaves.same.sealed }; heard = timed.heard }; came = is refl }
+    by_mode false is = record { tied = leaves.tied; sent = leaves.sent; same = leaves.same }
 
-admitted_is : (setup : Setup) (past : List Stamped) (s : State) (datagram : List ℕ) (r : Result (Place × List ℕ) Cause) → Tied setup past s → IsBytes datagram →
+admitted_is : (setup : Setup) (past : List Stamped) (s : State) (datagram : List ℕ) (r : Result (Place × List ℕ) Cause) → Tied setup past s → Sent setup past s → IsBytes datagram →
     ((found : Place × List ℕ) → r ≡ Ok found → IsOpened s datagram found.0 found.1) → AdmissionIs setup past s datagram (admitted s datagram r)
-admitted_is setup past s datagram (Err cause) tied are opened = record { tied = tied; moment = refl }
-admitted_is setup past s datagram (Ok found) tied are opened =
+admitted_is setup past s datagram (Err cause) tied sent are opened = record { tied = tied; sent = sent; same = record { moment = refl; sealed = refl } }
+admitted_is setup past s datagram (Ok found) tied sent are opened =
     let is = opened found refl in
     let t : State = counted_at s found.0 (drop 4 datagram) in
     packet_admitted setup past s t datagram found.0 (packet_in found.1)
-    (counted_at_leaves setup past s datagram (drop 4 datagram) found.0 tied (heard_of setup past s datagram found.1 found.0 tied is))
+    (counted_at_leaves setup past s datagram (drop 4 datagram) found.0 tied sent (heard_of setup past s datagram found.1 found.0 tied is))
     (λ packet e mode. came_of setup past s t datagram found.1 found.0 packet tied are is e mode)
 
-pub admission_is : (setup : Setup) (past : List Stamped) (s : State) (datagram : List ℕ) → Tied setup past s → IsBytes datagram → AdmissionIs setup past s datagram (admission s datagram)
-admission_is setup past s datagram tied are =
-    admitted_is setup past s datagram (opened_datagram s datagram) tied are (λ found e. datagram_is s datagram (nat_lt (length datagram) 36) Short found e)
+pub admission_is : (setup : Setup) (past : List Stamped) (s : State) (datagram : List ℕ) → Tied setup past s → Sent setup past s → IsBytes datagram → AdmissionIs setup past s datagram (admission s datagram)
+admission_is setup past s datagram tied sent are =
+    admitted_is setup past s datagram (opened_datagram s datagram) tied sent are (λ found e. datagram_is s datagram (nat_lt (length datagram) 36) Short found e)

@@ -16,6 +16,7 @@ use Rattle.session_core.specs.declared.stage.Role.TheVariants.{Initiator, Respon
 use Rattle.session_core.specs.declared.stage.Stage.{Stage}
 use Rattle.session_core.specs.declared.stage.Stage.TheVariants.{Opening, Open, NearClose, FarLinger, Closed}
 use Rattle.session_core.specs.Session.{SessionState}
+use Rattle.endpoint_model.specs.declared.row.Row.{Row}
 use Rattle.endpoint_model.specs.declared.entry.Entry.TheVariants.{Fact as FactEntry}
 use Rattle.endpoint_model.specs.Event.{Setup, own_of}
 use Rattle.endpoint_laws.specs.Past.{Stamped, stamped, facts_of, ids_in_use, WasDone}
@@ -24,9 +25,9 @@ use Rattle.endpoint_laws.proofs.Matching.{Found, of_peer, Matches, Ids}
 use Rattle.endpoint_laws.proofs.Tied.{Tied, StageFits, thing_of, peer_at}
 
 -- what stands under a session ID, with its peer
-abbrev pub combined : ℕ → Option AttemptState → Option SessionState → Found
+abbrev pub combined : ℕ → Option AttemptState → Option Row → Found
 combined near (Some a) o = Some (a.peer, OpeningHeld a.n near a.ni)
-combined near None (Some session) = Some (session.joined.peer, thing_of session.role session.stage session.joined)
+combined near None (Some row) = Some (row.session.joined.peer, thing_of row.session.role row.session.stage row.session.joined)
 combined near None None = None
 
 abbrev pub thing_at : State → ℕ → Found
@@ -53,7 +54,7 @@ WasStarted past near a = WasDone (stamped a.start (FactEntry (Started a.peer a.n
 pub record Agrees (setup : Setup) (past : List Stamped) (s : State) : Type 0 where
   pub given : IsGiven setup s
   pub matches : Matches (thing_at s) (held_with s.startup.ledger)
-  pub ours : (near : ℕ) (session : SessionState) → get s.sessions near ≡ Some session → IsOurs setup session
+  pub ours : (near : ℕ) (row : Row) → get s.sessions near ≡ Some row → IsOurs setup row.session
   pub apart : (near : ℕ) (a : AttemptState) → get s.startup.attempts near ≡ Some a → get s.sessions near ≡ None
   pub started : (near : ℕ) (a : AttemptState) → get s.startup.attempts near ≡ Some a → WasStarted past near a
   pub ids : Ids setup.config.max_sessions (ids_in_use (facts_of past)) s
@@ -83,32 +84,32 @@ not_opening h n near ni is e = subst IsSession e is
 pub found_of_attempt : (s : State) (near : ℕ) (a : AttemptState) → get s.startup.attempts near ≡ Some a → thing_at s near ≡ Some (a.peer, OpeningHeld a.n near a.ni)
 found_of_attempt s near a e = ap (λ (o : Option AttemptState). combined near o (get s.sessions near)) e
 
-pub found_of_session : (s : State) (near : ℕ) (session : SessionState) → get s.startup.attempts near ≡ None → get s.sessions near ≡ Some session →
-    thing_at s near ≡ Some (session.joined.peer, thing_of session.role session.stage session.joined)
-found_of_session s near session none e = ap (λ (o : Option AttemptState). combined near o (get s.sessions near)) none ∙ ap (combined near None) e
+pub found_of_session : (s : State) (near : ℕ) (row : Row) → get s.startup.attempts near ≡ None → get s.sessions near ≡ Some row →
+    thing_at s near ≡ Some (row.session.joined.peer, thing_of row.session.role row.session.stage row.session.joined)
+found_of_session s near row none e = ap (λ (o : Option AttemptState). combined near o (get s.sessions near)) none ∙ ap (combined near None) e
 
 -- under the session ID of a session there is no attempt
-pub no_attempt : (s : State) (near : ℕ) (session : SessionState) → ((a : AttemptState) → get s.startup.attempts near ≡ Some a → get s.sessions near ≡ None) →
-    get s.sessions near ≡ Some session → get s.startup.attempts near ≡ None
-no_attempt s near session apart e = go (get s.startup.attempts near) refl
+pub no_attempt : (s : State) (near : ℕ) (row : Row) → ((a : AttemptState) → get s.startup.attempts near ≡ Some a → get s.sessions near ≡ None) →
+    get s.sessions near ≡ Some row → get s.startup.attempts near ≡ None
+no_attempt s near row apart e = go (get s.startup.attempts near) refl
   where
     go : (o : Option AttemptState) → get s.startup.attempts near ≡ o → get s.startup.attempts near ≡ None
     go None is = is
-    go (Some a) is = absurd (none_is_some session (get s.sessions near) (apart a is) e)
+    go (Some a) is = absurd (none_is_some row (get s.sessions near) (apart a is) e)
 
 -- what is found is an attempt or a session
-peer_of_found : (near : ℕ) (oa : Option AttemptState) (os : Option SessionState) (peer : List ℕ) (h : Held) → combined near oa os ≡ Some (peer, h) →
+peer_of_found : (near : ℕ) (oa : Option AttemptState) (os : Option Row) (peer : List ℕ) (h : Held) → combined near oa os ≡ Some (peer, h) →
     (((n m : ℕ) (ni : List ℕ) → h ≡ OpeningHeld n m ni → peer_of_attempt oa ≡ Some peer) × (IsSession h → peer_at os ≡ Some peer))
 peer_of_found near (Some a) os peer h e =
     let same : (a.peer, OpeningHeld a.n near a.ni) ≡ (peer, h) = cc in
     let p : a.peer ≡ peer = ap (λ (x : List ℕ × Held). x.0) same in
     let t : OpeningHeld a.n near a.ni ≡ h = ap (λ (x : List ℕ × Held). x.1) same in
     ((λ n m ni is. ap (λ (q : List ℕ). Some q) p), (λ is. absurd (not_opening h a.n near a.ni is (sym t))))
-peer_of_found near None (Some session) peer h e =
-    let same : (session.joined.peer, thing_of session.role session.stage session.joined) ≡ (peer, h) = cc in
-    let p : session.joined.peer ≡ peer = ap (λ (x : List ℕ × Held). x.0) same in
-    let t : thing_of session.role session.stage session.joined ≡ h = ap (λ (x : List ℕ × Held). x.1) same in
-    ((λ n m ni is. absurd (not_opening (thing_of session.role session.stage session.joined) n m ni (is_session session.role session.stage session.joined) (t ∙ is))), (λ is. ap (λ (q : List ℕ). Some q) p))
+peer_of_found near None (Some row) peer h e =
+    let same : (row.session.joined.peer, thing_of row.session.role row.session.stage row.session.joined) ≡ (peer, h) = cc in
+    let p : row.session.joined.peer ≡ peer = ap (λ (x : List ℕ × Held). x.0) same in
+    let t : thing_of row.session.role row.session.stage row.session.joined ≡ h = ap (λ (x : List ℕ × Held). x.1) same in
+    ((λ n m ni is. absurd (not_opening (thing_of row.session.role row.session.stage row.session.joined) n m ni (is_session row.session.role row.session.stage row.session.joined) (t ∙ is))), (λ is. ap (λ (q : List ℕ). Some q) p))
 peer_of_found near None None peer h e = absurd (cc)
 
 pub tied_of : (setup : Setup) (past : List Stamped) (s : State) → Agrees setup past s → StandsFor 0 s.startup.ledger (facts_of past) → Tied setup past s
@@ -126,11 +127,11 @@ tied_of setup past s a account = record {
     there = λ peer n near ni e.
         (peer_of_found near (get s.startup.attempts near) (get s.sessions near) peer (OpeningHeld n near ni) (a.matches.there peer (OpeningHeld n near ni) e)).0 n near ni refl;
   };
-  sessions = λ near session e.
-      let found = a.matches.found near session.joined.peer (thing_of session.role session.stage session.joined) (found_of_session s near session (no_attempt s near session (a.apart near) e) e) in
-      let ours = a.ours near session e in
+  sessions = λ near row e.
+      let found = a.matches.found near row.session.joined.peer (thing_of row.session.role row.session.stage row.session.joined) (found_of_session s near row (no_attempt s near row (a.apart near) e) e) in
+      let ours = a.ours near row e in
       record {
-        id = sym (near_of_session session.role session.stage session.joined) ∙ found.1;
+        id = sym (near_of_session row.session.role row.session.stage row.session.joined) ∙ found.1;
         own = ours.own;
         secret = ours.secret;
         stage = ours.stage;
@@ -148,17 +149,17 @@ tied_of setup past s a account = record {
   rows = a.rows;
 }
 
-found_is : (setup : Setup) (past : List Stamped) (s : State) → Tied setup past s → (near : ℕ) (oa : Option AttemptState) (os : Option SessionState) →
+found_is : (setup : Setup) (past : List Stamped) (s : State) → Tied setup past s → (near : ℕ) (oa : Option AttemptState) (os : Option Row) →
     get s.startup.attempts near ≡ oa → get s.sessions near ≡ os → (p : List ℕ) (h : Held) → combined near oa os ≡ Some (p, h) →
     (held_with s.startup.ledger p ≡ Some h) × (near_of h ≡ near)
 found_is setup past s t near (Some a) os ea es p h e =
     let same : (a.peer, OpeningHeld a.n near a.ni) ≡ (p, h) = cc in
     let is : held_with s.startup.ledger a.peer ≡ Some (OpeningHeld a.n near a.ni) = t.sound.held near a ea in
     (subst (λ (x : List ℕ × Held). (held_with s.startup.ledger x.0 ≡ Some x.1) × (near_of x.1 ≡ near)) same (is, refl))
-found_is setup past s t near None (Some session) ea es p h e =
-    let same : (session.joined.peer, thing_of session.role session.stage session.joined) ≡ (p, h) = cc in
-    let is = t.sessions near session es in
-    (subst (λ (x : List ℕ × Held). (held_with s.startup.ledger x.0 ≡ Some x.1) × (near_of x.1 ≡ near)) same (is.thing, near_of_session session.role session.stage session.joined ∙ is.id))
+found_is setup past s t near None (Some row) ea es p h e =
+    let same : (row.session.joined.peer, thing_of row.session.role row.session.stage row.session.joined) ≡ (p, h) = cc in
+    let is = t.sessions near row es in
+    (subst (λ (x : List ℕ × Held). (held_with s.startup.ledger x.0 ≡ Some x.1) × (near_of x.1 ≡ near)) same (is.thing, near_of_session row.session.role row.session.stage row.session.joined ∙ is.id))
 found_is setup past s t near None None ea es p h e = absurd (cc)
 
 attempt_there : (setup : Setup) (past : List Stamped) (s : State) → Tied setup past s → (peer : List ℕ) (n near : ℕ) (ni : List ℕ) → held_with s.startup.ledger peer ≡ Some (OpeningHeld n near ni) →
@@ -176,13 +177,13 @@ session_there : (setup : Setup) (past : List Stamped) (s : State) → Tied setup
     thing_at s (near_of thing) ≡ Some (peer, thing)
 session_there setup past s t peer thing e sess = go (get s.sessions (near_of thing)) refl (t.there peer thing e sess)
   where
-    go : (o : Option SessionState) → get s.sessions (near_of thing) ≡ o → peer_at o ≡ Some peer → thing_at s (near_of thing) ≡ Some (peer, thing)
+    go : (o : Option Row) → get s.sessions (near_of thing) ≡ o → peer_at o ≡ Some peer → thing_at s (near_of thing) ≡ Some (peer, thing)
     go None is at = absurd (cc)
-    go (Some session) is at =
-        let p : session.joined.peer ≡ peer = cc in
-        let both : Some (thing_of session.role session.stage session.joined) ≡ Some thing = sym (t.sessions (near_of thing) session is).thing ∙ ap (held_with s.startup.ledger) p ∙ e in
-        found_of_session s (near_of thing) session (no_attempt s (near_of thing) session (t.apart (near_of thing)) is) is
-        ∙ ap (λ (q : List ℕ). Some (q, thing_of session.role session.stage session.joined)) p ∙ ap (of_peer peer) both
+    go (Some row) is at =
+        let p : row.session.joined.peer ≡ peer = cc in
+        let both : Some (thing_of row.session.role row.session.stage row.session.joined) ≡ Some thing = sym (t.sessions (near_of thing) row is).thing ∙ ap (held_with s.startup.ledger) p ∙ e in
+        found_of_session s (near_of thing) row (no_attempt s (near_of thing) row (t.apart (near_of thing)) is) is
+        ∙ ap (λ (q : List ℕ). Some (q, thing_of row.session.role row.session.stage row.session.joined)) p ∙ ap (of_peer peer) both
 
 held_there : (setup : Setup) (past : List Stamped) (s : State) → Tied setup past s → (peer : List ℕ) (thing : Held) → held_with s.startup.ledger peer ≡ Some thing →
     thing_at s (near_of thing) ≡ Some (peer, thing)
@@ -198,7 +199,7 @@ agrees_of setup past s t = record {
     found = λ near p h e. found_is setup past s t near (get s.startup.attempts near) (get s.sessions near) refl refl p h e;
     there = held_there setup past s t;
   };
-  ours = λ near session e. let is = t.sessions near session e in record { own = is.own; secret = is.secret; stage = is.stage };
+  ours = λ near row e. let is = t.sessions near row e in record { own = is.own; secret = is.secret; stage = is.stage };
   apart = t.apart;
   started = t.started;
   ids = record { used = t.used; count = t.count; once = t.once; not_zero = t.not_zero; within = t.within };
@@ -208,53 +209,53 @@ agrees_of setup past s t = record {
 -- ---- one thing changes
 
 -- what stands under one session ID after a change, all else as before
-pub record IsAt (near : ℕ) (oa : Option AttemptState) (os : Option SessionState) (s t : State) : Type 0 where
+pub record IsAt (near : ℕ) (oa : Option AttemptState) (os : Option Row) (s t : State) : Type 0 where
   pub attempt : get t.startup.attempts near ≡ oa
   pub session : get t.sessions near ≡ os
   pub attempts : (q : ℕ) → (q ≡ near → ⊥) → get t.startup.attempts q ≡ get s.startup.attempts q
   pub sessions : (q : ℕ) → (q ≡ near → ⊥) → get t.sessions q ≡ get s.sessions q
 
 -- an attempt or a session of this end, and not both
-abbrev pub Fits : Setup → List Stamped → ℕ → Option AttemptState → Option SessionState → Type 0
+abbrev pub Fits : Setup → List Stamped → ℕ → Option AttemptState → Option Row → Type 0
 Fits setup past near None None = Unit {0}
-Fits setup past near None (Some session) = IsOurs setup session
+Fits setup past near None (Some row) = IsOurs setup row.session
 Fits setup past near (Some a) None = WasStarted past near a
-Fits setup past near (Some a) (Some session) = ⊥
+Fits setup past near (Some a) (Some row) = ⊥
 
-pub thing_elsewhere : (near : ℕ) (oa : Option AttemptState) (os : Option SessionState) (s t : State) → IsAt near oa os s t → (q : ℕ) → (q ≡ near → ⊥) → thing_at t q ≡ thing_at s q
+pub thing_elsewhere : (near : ℕ) (oa : Option AttemptState) (os : Option Row) (s t : State) → IsAt near oa os s t → (q : ℕ) → (q ≡ near → ⊥) → thing_at t q ≡ thing_at s q
 thing_elsewhere near oa os s t at q other =
     ap (λ (o : Option AttemptState). combined q o (get t.sessions q)) (at.attempts q other) ∙ ap (combined q (get s.startup.attempts q)) (at.sessions q other)
 
-pub thing_here : (near : ℕ) (oa : Option AttemptState) (os : Option SessionState) (s t : State) → IsAt near oa os s t → thing_at t near ≡ combined near oa os
+pub thing_here : (near : ℕ) (oa : Option AttemptState) (os : Option Row) (s t : State) → IsAt near oa os s t → thing_at t near ≡ combined near oa os
 thing_here near oa os s t at = ap (λ (o : Option AttemptState). combined near o (get t.sessions near)) at.attempt ∙ ap (combined near oa) at.session
 
-pub used_elsewhere : (near : ℕ) (oa : Option AttemptState) (os : Option SessionState) (s t : State) → IsAt near oa os s t → (q : ℕ) → (q ≡ near → ⊥) → is_used t q ≡ is_used s q
+pub used_elsewhere : (near : ℕ) (oa : Option AttemptState) (os : Option Row) (s t : State) → IsAt near oa os s t → (q : ℕ) → (q ≡ near → ⊥) → is_used t q ≡ is_used s q
 used_elsewhere near oa os s t at q other =
-    ap (λ (o : Option AttemptState). is_some o || is_some (get t.sessions q)) (at.attempts q other) ∙ ap (λ (o : Option SessionState). is_some (get s.startup.attempts q) || is_some o) (at.sessions q other)
+    ap (λ (o : Option AttemptState). is_some o || is_some (get t.sessions q)) (at.attempts q other) ∙ ap (λ (o : Option Row). is_some (get s.startup.attempts q) || is_some o) (at.sessions q other)
 
-pub used_here : (near : ℕ) (oa : Option AttemptState) (os : Option SessionState) (s t : State) → IsAt near oa os s t → is_used t near ≡ (is_some oa || is_some os)
+pub used_here : (near : ℕ) (oa : Option AttemptState) (os : Option Row) (s t : State) → IsAt near oa os s t → is_used t near ≡ (is_some oa || is_some os)
 used_here near oa os s t at =
-    ap (λ (o : Option AttemptState). is_some o || is_some (get t.sessions near)) at.attempt ∙ ap (λ (o : Option SessionState). is_some oa || is_some o) at.session
+    ap (λ (o : Option AttemptState). is_some o || is_some (get t.sessions near)) at.attempt ∙ ap (λ (o : Option Row). is_some oa || is_some o) at.session
 
-fits_session : (setup : Setup) (past : List Stamped) (near : ℕ) (oa : Option AttemptState) (os : Option SessionState) (session : SessionState) → Fits setup past near oa os → os ≡ Some session → IsOurs setup session
-fits_session setup past near oa None session f e = absurd (cc)
-fits_session setup past near None (Some x) session f e = let same : x ≡ session = cc in subst (IsOurs setup) same f
-fits_session setup past near (Some a) (Some x) session f e = absurd f
+fits_session : (setup : Setup) (past : List Stamped) (near : ℕ) (oa : Option AttemptState) (os : Option Row) (row : Row) → Fits setup past near oa os → os ≡ Some row → IsOurs setup row.session
+fits_session setup past near oa None row f e = absurd (cc)
+fits_session setup past near None (Some x) row f e = let same : x ≡ row = cc in subst (λ (r : Row). IsOurs setup r.session) same f
+fits_session setup past near (Some a) (Some x) row f e = absurd f
 
-fits_attempt : (setup : Setup) (past : List Stamped) (near : ℕ) (oa : Option AttemptState) (os : Option SessionState) (a : AttemptState) → Fits setup past near oa os → oa ≡ Some a → (os ≡ None) × WasStarted past near a
+fits_attempt : (setup : Setup) (past : List Stamped) (near : ℕ) (oa : Option AttemptState) (os : Option Row) (a : AttemptState) → Fits setup past near oa os → oa ≡ Some a → (os ≡ None) × WasStarted past near a
 fits_attempt setup past near None os a f e = absurd (cc)
 fits_attempt setup past near (Some x) None a f e = let same : x ≡ a = cc in (refl, subst (WasStarted past near) same f)
-fits_attempt setup past near (Some x) (Some session) a f e = absurd f
+fits_attempt setup past near (Some x) (Some row) a f e = absurd f
 
-pub agrees_changed : (setup : Setup) (past now : List Stamped) (s t : State) (near : ℕ) (oa : Option AttemptState) (os : Option SessionState) → Agrees setup past s → IsGiven setup t → IsAt near oa os s t →
+pub agrees_changed : (setup : Setup) (past now : List Stamped) (s t : State) (near : ℕ) (oa : Option AttemptState) (os : Option Row) → Agrees setup past s → IsGiven setup t → IsAt near oa os s t →
     Matches (thing_at t) (held_with t.startup.ledger) → Fits setup now near oa os → ((done : Stamped) → WasDone done past → WasDone done now) →
     Ids setup.config.max_sessions (ids_in_use (facts_of now)) t → row_count t.startup.ledger ≤ setup.config.max_peers → Agrees setup now t
 agrees_changed setup past now s t near oa os a given at matches fits more ids rows = record {
   given = given;
   matches = matches;
-  ours = λ q session e. elim (same_or_not q near) [
-    | inl is ↦ fits_session setup now near oa os session fits (sym at.session ∙ ap (get t.sessions) (sym is.0) ∙ e)
-    | inr is ↦ a.ours q session (sym (at.sessions q is.0) ∙ e)
+  ours = λ q row e. elim (same_or_not q near) [
+    | inl is ↦ fits_session setup now near oa os row fits (sym at.session ∙ ap (get t.sessions) (sym is.0) ∙ e)
+    | inr is ↦ a.ours q row (sym (at.sessions q is.0) ∙ e)
   ];
   apart = λ q b e. elim (same_or_not q near) [
     | inl is ↦ ap (get t.sessions) is.0 ∙ at.session ∙ (fits_attempt setup now near oa os b fits (sym at.attempt ∙ ap (get t.startup.attempts) (sym is.0) ∙ e)).0

@@ -20,15 +20,16 @@ use Rattle.startup.specs.Packets.{is_signed}
 use Rattle.startup.specs.State.{AttemptState}
 use Rattle.startup.specs.Keyings.{ResponderKeying, responder_keying_in, opened_reading, opened, after_opening}
 use Rattle.session_core.specs.declared.stage.Role.TheVariants.{Initiator}
-use Rattle.session_core.specs.Session.{SessionState, new_session}
+use Rattle.session_core.specs.Session.{new_session}
 use Rattle.rtmfp_chunks.specs.Writing.{chunk_bytes}
+use Rattle.endpoint_model.specs.declared.row.Row.{Row}
 use Rattle.endpoint_model.specs.declared.config.Draws.{Draws}
 use Rattle.endpoint_model.specs.declared.entry.Entry.TheVariants.{Fact as FactEntry}
 use Rattle.endpoint_model.specs.Event.{Setup, Receive, own_of}
 use Rattle.endpoint_laws.specs.Past.{Stamped, stamped, facts_of, ids_in_use}
 use Rattle.endpoint_model.specs.Keying.{IsSigned, IsAmong, chunks_of, responder_part}
 use Rattle.endpoint_laws.specs.Lawful.{AnswersAttempt}
-use Rattle.endpoint_model.specs.State.{State, Did, is_used, with_startup, with_session}
+use Rattle.endpoint_model.specs.State.{State, new_row, Did, is_used, with_startup, with_row}
 use Rattle.endpoint_model.specs.Sending.{sent_in_session}
 use Rattle.endpoint_model.specs.Due.{opening_done, responder_keyed}
 use Rattle.endpoint_laws.proofs.Matching.{of_peer, ids_same}
@@ -67,11 +68,11 @@ module _ (setup : Setup) (from : AddressParts) (datagram : List ℕ) (draws : Dr
   abbrev j : Joined
   j = record { peer = a.peer; n = a.n; near = near; far = opens.keying.near; ni = a.ni; nr = opens.keying.part.nr; k = opens.keying.part.k }
 
-  abbrev new : SessionState
-  new = new_session j s.startup.ledger.own Initiator from s.startup.secret s.moment
+  abbrev new : Row
+  new = new_row (new_session j s.startup.ledger.own Initiator from s.startup.secret s.moment)
 
   abbrev t : State
-  t = with_session (with_startup s (after_opening s.startup near (Opened j))) near new
+  t = with_row (with_startup s (after_opening s.startup near (Opened j))) near new
 
   abbrev now : List Stamped
   now = stamped s.moment (FactEntry (Opened j)) ∷ past

@@ -13,7 +13,7 @@ use Rattle.glare_core.specs.declared.facts.Held.TheVariants.{Opening, HalfOpen, 
 use Rattle.glare_core.specs.Things.{IsSession, near_of}
 use Rattle.glare_core.specs.Ledger.{held_with, row_count, noted}
 use Rattle.startup.specs.State.{AttemptState, Attempts}
-use Rattle.session_core.specs.Session.{SessionState}
+use Rattle.endpoint_model.specs.declared.row.Row.{Row}
 use Rattle.endpoint_model.specs.declared.entry.Entry.TheVariants.{Fact as FactEntry}
 use Rattle.endpoint_model.specs.Event.{Setup}
 use Rattle.endpoint_laws.specs.Past.{Stamped, stamped, facts_of, ids_in_use}
@@ -25,9 +25,9 @@ use Rattle.endpoint_laws.proofs.Moving.{noted_matches, rows_after_known, knows_h
 use Rattle.endpoint_laws.proofs.Ending.{some_entry}
 use Rattle.endpoint_laws.proofs.Starting.{IsNew}
 
-some_used : (near : ℕ) (oa : Option AttemptState) (os : Option SessionState) (x : List ℕ × Held) → combined near oa os ≡ Some x → (is_some oa || is_some os) ≡ true
+some_used : (near : ℕ) (oa : Option AttemptState) (os : Option Row) (x : List ℕ × Held) → combined near oa os ≡ Some x → (is_some oa || is_some os) ≡ true
 some_used near (Some a) os x e = refl
-some_used near None (Some session) x e = refl
+some_used near None (Some row) x e = refl
 some_used near None None x e = absurd (cc)
 
 -- what is held is used
@@ -49,9 +49,9 @@ agrees_end setup past s t moment peer thing why a is given at ledger count =
     (subst (λ l. row_count l ≤ setup.config.max_peers) (sym ledger) (rows_after_known s.startup.ledger fact setup.config.max_peers (knows_held s.startup.ledger peer thing is) a.rows))
 
 -- a session is born
-pub agrees_born : (setup : Setup) (past : List Stamped) (s t : State) (moment : ℕ) (j : Joined) (new : SessionState) → Agrees setup past s → held_with s.startup.ledger j.peer ≡ None → IsNew s j.near → IsGiven setup t →
+pub agrees_born : (setup : Setup) (past : List Stamped) (s t : State) (moment : ℕ) (j : Joined) (new : Row) → Agrees setup past s → held_with s.startup.ledger j.peer ≡ None → IsNew s j.near → IsGiven setup t →
     IsAt j.near None (Some new) s t → t.startup.ledger ≡ noted s.startup.ledger (Born j) → uses t ≡ uses s + 1 → uses s < setup.config.max_sessions →
-    row_count (noted s.startup.ledger (Born j)) ≤ setup.config.max_peers → combined j.near None (Some new) ≡ Some (j.peer, HalfOpen j) → IsOurs setup new →
+    row_count (noted s.startup.ledger (Born j)) ≤ setup.config.max_peers → combined j.near None (Some new) ≡ Some (j.peer, HalfOpen j) → IsOurs setup new.session →
     Agrees setup (stamped moment (FactEntry (Born j)) ∷ past) t
 agrees_born setup past s t moment j new a unheld free given at ledger count room rows is ours =
     let now : List Stamped = stamped moment (FactEntry (Born j)) ∷ past in
@@ -103,24 +103,24 @@ attempt_found : (setup : Setup) (past : List Stamped) (s : State) (peer : List �
     (a : AttemptState) × (get s.startup.attempts near ≡ Some a)
 attempt_found setup past s peer n near ni g is = go (get s.startup.attempts near) (get s.sessions near) (g.matches.there peer (Opening n near ni) is)
   where
-    go : (oa : Option AttemptState) (os : Option SessionState) → combined near oa os ≡ Some (peer, Opening n near ni) → (a : AttemptState) × (oa ≡ Some a)
+    go : (oa : Option AttemptState) (os : Option Row) → combined near oa os ≡ Some (peer, Opening n near ni) → (a : AttemptState) × (oa ≡ Some a)
     go (Some a) os e = (a, refl)
-    go None (Some session) e =
-        let same : (session.joined.peer, thing_of session.role session.stage session.joined) ≡ (peer, Opening n near ni) = cc in
-        let thing : thing_of session.role session.stage session.joined ≡ Opening n near ni = ap (λ (x : List ℕ × Held). x.1) same in
-        absurd (subst IsSession thing (is_session session.role session.stage session.joined))
+    go None (Some row) e =
+        let same : (row.session.joined.peer, thing_of row.session.role row.session.stage row.session.joined) ≡ (peer, Opening n near ni) = cc in
+        let thing : thing_of row.session.role row.session.stage row.session.joined ≡ Opening n near ni = ap (λ (x : List ℕ × Held). x.1) same in
+        absurd (subst IsSession thing (is_session row.session.role row.session.stage row.session.joined))
     go None None e = absurd (cc)
 
 session_found : (setup : Setup) (past : List Stamped) (s : State) (peer : List ℕ) (thing : Held) → Agrees setup past s → held_with s.startup.ledger peer ≡ Some thing → IsSession thing →
-    (session : SessionState) × (get s.sessions (near_of thing) ≡ Some session)
+    (row : Row) × (get s.sessions (near_of thing) ≡ Some row)
 session_found setup past s peer thing g is sess = go (get s.startup.attempts (near_of thing)) (get s.sessions (near_of thing)) (g.matches.there peer thing is)
   where
-    go : (oa : Option AttemptState) (os : Option SessionState) → combined (near_of thing) oa os ≡ Some (peer, thing) → (session : SessionState) × (os ≡ Some session)
+    go : (oa : Option AttemptState) (os : Option Row) → combined (near_of thing) oa os ≡ Some (peer, thing) → (row : Row) × (os ≡ Some row)
     go (Some a) os e =
         let same : (a.peer, Opening a.n (near_of thing) a.ni) ≡ (peer, thing) = cc in
         let is : Opening a.n (near_of thing) a.ni ≡ thing = ap (λ (x : List ℕ × Held). x.1) same in
         absurd (subst IsSession (sym is) sess)
-    go None (Some session) e = (session, refl)
+    go None (Some row) e = (row, refl)
     go None None e = absurd (cc)
 
 without_attempt_is : (setup : Setup) (past : List Stamped) (s : State) (fact : Fact) (peer : List ℕ) (n near : ℕ) (ni : List ℕ) → Agrees setup past s → held_with s.startup.ledger peer ≡ Some (Opening n near ni) → IsWithout s fact (Opening n near ni)

@@ -126,19 +126,23 @@ opening_of s near payload keying reads e = by (contains_key s.startup.attempts n
 
 -- ---- a chunk
 
+-- the causes of its discard, in their order
+abbrev pub causes : State → Place → Walk → AddressParts → Placed → List (Option Cause)
+causes s place walk from c =
+    where_true (not (is_known c.kind)) (UnknownChunk c.kind)
+    ∷ form_cause c.kind c.payload
+    ∷ where_true (c.kind == 0x7f) FragmentCause
+    ∷ where_true (not (takes place c.kind)) WrongPlace
+    ∷ last_cause s place walk from c
+    ∷ []
+
+-- where none stands, the last one doesn't
+pub last_none : (s : State) (place : Place) (walk : Walk) (from : AddressParts) (c : Placed) → chunk_cause s place walk from c ≡ None → last_cause s place walk from c ≡ None
+last_none s place walk from c none = (all_none (causes s place walk from c) none).1.1.1.1.0
+
 module _ (setup : Setup) (from : AddressParts) (datagram : List ℕ) (draws : Draws) (most : setup.config.max_sessions ≤ 65536) (small : draws.word < 2 ^ 32) (packet : Whole) where
   abbrev call : Call
   call = Receive from datagram draws
-
-  -- what the causes say, each of which is none
-  abbrev causes : State → Place → Walk → Placed → List (Option Cause)
-  causes s place walk c =
-      where_true (not (is_known c.kind)) (UnknownChunk c.kind)
-      ∷ form_cause c.kind c.payload
-      ∷ where_true (c.kind == 0x7f) FragmentCause
-      ∷ where_true (not (takes place c.kind)) WrongPlace
-      ∷ last_cause s place walk from c
-      ∷ []
 
   initiator_goes : (s : State) (past : List Stamped) (place : Place) (walk : Walk) (c : Placed) → Tied setup past s → Came setup datagram place packet → IsAmong c (chunks_of packet) → (walk.keyed ≡ false → c.kind ≡ 0x38 → IsFirst c (chunks_of packet)) →
       c.kind ≡ 0x38 → takes place 0x38 ≡ true → initiator_keying_cause s walk from c.payload ≡ None → fault_in (initiator_keying_in c.payload) ≡ None → Goes setup call past s (initiator_keyed s from draws c.payload)
@@ -160,7 +164,7 @@ module _ (setup : Setup) (from : AddressParts) (datagram : List ℕ) (draws : Dr
   effect_goes : (s : State) (past : List Stamped) (place : Place) (walk : Walk) (c : Placed) → Tied setup past s → Came setup datagram place packet → IsAmong c (chunks_of packet) → (walk.keyed ≡ false → c.kind ≡ 0x38 → IsFirst c (chunks_of packet)) →
       chunk_cause s place walk from c ≡ None → Goes setup call past s (effect s place from draws c)
   effect_goes s past place walk c tied came among first none =
-      let all = all_none (causes s place walk c) none in
+      let all = all_none (causes s place walk from c) none in
       let taken : takes place c.kind ≡ true = not_false (takes place c.kind) (test_fails (not (takes place c.kind)) WrongPlace all.1.1.1.0) in
       elim (tested c.kind 0x38) [
         | inl is ↦

@@ -32,21 +32,22 @@ use Rattle.glare_core.specs.declared.answers.Heard.{Heard}
 use Rattle.glare_core.specs.declared.answers.Heard.TheVariants.{Again, Birth}
 use Rattle.glare_core.specs.Standing.{count}
 use Rattle.glare_core.specs.Ledger.{Ledger, held_with}
-use Rattle.glare_core.specs.Calls.{where_true, way_made, heard, heard_noted}
+use Rattle.glare_core.specs.Calls.{way_made, heard, heard_noted}
 use Rattle.glare_core.proofs.Accounts.{reads_started}
 use Rattle.startup.specs.declared.cause.Cause.{Cause}
-use Rattle.startup.specs.declared.cause.Cause.TheVariants.{Short, WrongPlace, UnknownChunk, Fragment as FragmentCause}
+use Rattle.startup.specs.declared.cause.Cause.TheVariants.{Short, WrongPlace}
 use Rattle.startup.specs.declared.answer.Answer.{Answer}
 use Rattle.startup.specs.State.{StartupState}
 use Rattle.startup.specs.Packets.{rikeying_packet}
 use Rattle.startup.specs.Keyings.{InitiatorKeying, keying_of, fault_in, responder_keying_in, session_answer, born_session, again_or_birth, keyed_with, keyed_reading, after_again_or_birth, after_keyed_with, after_keyed_reading, opened, opened_reading, after_opening}
-use Rattle.session_core.specs.Session.{SessionState, new_session, head_at}
+use Rattle.session_core.specs.Session.{new_session, head_at}
 use Rattle.session_core.specs.Sealed.{number_bytes}
 use Rattle.glare_core.specs.Tells.{as_initiator}
 use Rattle.rtmfp_chunks.specs.Writing.{chunk_bytes}
 use Rattle.endpoint_laws.proofs.NoFacts.{NoFacts, facts_stay, none_in_both, none_read}
 use Rattle.endpoint_laws.specs.Contexts.{session_context}
 use Rattle.session_core.specs.declared.stage.Role.TheVariants.{Initiator}
+use Rattle.endpoint_model.specs.declared.row.Row.{Row}
 use Rattle.endpoint_model.specs.declared.walk.Walk.{Walk}
 use Rattle.endpoint_model.specs.declared.config.Draws.{Draws}
 use Rattle.endpoint_model.specs.declared.place.Place.{Place}
@@ -58,10 +59,10 @@ use Rattle.endpoint_laws.specs.Past.{Stamped, onto, facts_of, past_of, last_mome
 use Rattle.endpoint_model.specs.Keying.{IsFirst, chunks_of}
 use Rattle.endpoint_laws.specs.Admissible.{Admissible, Offer}
 use Rattle.endpoint_laws.specs.Lawful.{AnswersAttempt}
-use Rattle.endpoint_model.specs.State.{State, Did, nothing, after_entries, then_do, fact_entries, with_startup, free_from, fresh, at_moment}
+use Rattle.endpoint_model.specs.State.{State, new_row, Did, nothing, after_entries, then_do, fact_entries, with_startup, free_from, fresh, at_moment}
 use Rattle.endpoint_model.specs.Sending.{last_count, startup_number, startup_datagram, session_packet, session_datagram, sent_by}
 use Rattle.endpoint_model.specs.Admission.{Admission, Rejected, Admitted, place_of, opened_by, placed, opened_found, opened_datagram, admission, admitted, admitted_packet, packet_in, has_mode, confirming}
-use Rattle.endpoint_model.specs.Causes.{is_known, form_cause, takes, last_cause, chunk_cause}
+use Rattle.endpoint_model.specs.Causes.{form_cause, takes, last_cause, chunk_cause}
 use Rattle.endpoint_model.specs.Due.{with_born, keying_done, initiator_keyed, responder_keyed, with_opened, opening_done, read_done, effect, discarded_or, chunk_did, walked, chunks_did, received, part_received, outset}
 use Rattle.endpoint_model.specs.Log.{Answers}
 use Rattle.endpoint_laws.specs.Laws.{IsSetup, IsCall}
@@ -76,7 +77,7 @@ use Rattle.endpoint_laws.proofs.Going.{Goes}
 use Rattle.endpoint_model.proofs.Steps.{then_then, walk_through}
 use Rattle.endpoint_laws.proofs.Admitting.{Came, AdmissionIs, admission_is}
 use Rattle.endpoint_laws.proofs.Answering.{OpensAttempt}
-use Rattle.endpoint_laws.proofs.Chunked.{read_ok, opening_of}
+use Rattle.endpoint_laws.proofs.Chunked.{causes, read_ok, opening_of}
 use Rattle.endpoint_laws.proofs.OutSends.{Sent}
 use Rattle.endpoint_laws.proofs.Orderly.{Orderly, chunks_orderly}
 use Rattle.endpoint_laws.proofs.Logged.{LogIs, log_is}
@@ -118,15 +119,6 @@ false_is false x y e = refl
 true_is : {A : Type 0} (b : Bool) (x y : A) → b ≡ true → (if b then x else y) ≡ x
 true_is true x y e = refl
 true_is false x y e = absurd (cc)
-
-abbrev causes : State → Place → Walk → AddressParts → Placed → List (Option Cause)
-causes s place walk from c =
-    where_true (not (is_known c.kind)) (UnknownChunk c.kind)
-    ∷ form_cause c.kind c.payload
-    ∷ where_true (c.kind == 0x7f) FragmentCause
-    ∷ where_true (not (takes place c.kind)) WrongPlace
-    ∷ last_cause s place walk from c
-    ∷ []
 
 module _ (from : AddressParts) (draws : Draws) where
   -- another chunk at the place of startup states nothing
@@ -291,7 +283,7 @@ module _ (setup : Setup) (past : List Stamped) (s : State) (tied : Tied setup pa
       ∙ true_is (has_mode a.packet.head FromStartup) (Admitted s Startup a.packet) (Rejected s WrongPlace) (ap (λ (m : Mode). mode_number m == mode_number FromStartup) a.mode)
 
   came : Came setup datagram Startup a.packet
-  came = let is : AdmissionIs setup past s datagram (Admitted s Startup a.packet) = subst (AdmissionIs setup past s datagram) admission_so (admission_is setup past s datagram tied bytes) in is.came
+  came = let is : AdmissionIs setup past s datagram (Admitted s Startup a.packet) = subst (AdmissionIs setup past s datagram) admission_so (admission_is setup past s datagram tied sent_so bytes) in is.came
 
   kind : a.chunk.kind ≡ 0x38
   kind = a.spells.0
@@ -429,8 +421,8 @@ module _ (s : State) (near : ℕ) (from : AddressParts) (draws : Draws) (c : Pla
   abbrev session : Joined
   session = record { peer = opens.a.peer; n = opens.a.n; near = near; far = opens.keying.near; ni = opens.a.ni; nr = opens.keying.part.nr; k = opens.keying.part.k }
 
-  abbrev kept : SessionState
-  kept = new_session session s.startup.ledger.own Initiator from s.startup.secret s.moment
+  abbrev kept : Row
+  kept = new_row (new_session session s.startup.ledger.own Initiator from s.startup.secret s.moment)
 
   opened_as : opened s.startup near c.payload ≡ Some (Opened session)
   opened_as = ap (λ o. opened_reading near o (responder_keying_in c.payload)) opens.there ∙ ap (opened_reading near (Some opens.a)) opens.reads
@@ -441,17 +433,17 @@ module _ (s : State) (near : ℕ) (from : AddressParts) (draws : Draws) (c : Pla
   entries_are : (responder_keyed s near from c.payload).entries ≡ FactEntry (Opened session) ∷ (sent_by after_it near from (chunk_bytes (Ping [])) (Some kept)).entries
   entries_are =
       ap (λ (o : Option Fact). (opening_done s near from o).entries) opened_as
-      ∙ ap (λ (o : Option SessionState). FactEntry (Opened session) ∷ (sent_by after_it near from (chunk_bytes (Ping [])) o).entries) (get_inserted s.sessions near kept)
+      ∙ ap (λ (o : Option Row). FactEntry (Opened session) ∷ (sent_by after_it near from (chunk_bytes (Ping [])) o).entries) (get_inserted s.sessions near kept)
 
   -- what goes out is a ping
-  is_ping : IsPing s.startup.secret (session_context (as_initiator s.startup.ledger.own session) true) session.far (session_datagram kept s.moment (chunk_bytes (Ping [])))
+  is_ping : IsPing s.startup.secret (session_context (as_initiator s.startup.ledger.own session) true) session.far (session_datagram kept.session s.moment (chunk_bytes (Ping [])))
   is_ping = record {
-    number = number_bytes (kept.sealed + 1);
-    plain = session_packet kept s.moment (chunk_bytes (Ping []));
+    number = number_bytes (kept.session.sealed + 1);
+    plain = session_packet kept.session s.moment (chunk_bytes (Ping []));
     is = refl;
-    packet = one_whole (head_at kept s.moment) (head_bytes (head_at kept s.moment)) 0x01 [];
-    reads = session_reads kept s.moment (Ping []) (omega arith);
-    chunk = record { kind = 0x01; at = length (head_bytes (head_at kept s.moment)); payload = [] };
+    packet = one_whole (head_at kept.session s.moment) (head_bytes (head_at kept.session s.moment)) 0x01 [];
+    reads = session_reads kept.session s.moment (Ping []) (omega arith);
+    chunk = record { kind = 0x01; at = length (head_bytes (head_at kept.session s.moment)); payload = [] };
     only = refl;
     spells = (refl, parts_bytes-spell (parts_of (Ping [])) tt);
   }
@@ -466,7 +458,7 @@ module _ (s : State) (near : ℕ) (from : AddressParts) (draws : Draws) (c : Pla
     ni = refl;
     id = refl;
     before = before;
-    sent = session_datagram kept s.moment (chunk_bytes (Ping []));
+    sent = session_datagram kept.session s.moment (chunk_bytes (Ping []));
     later = later;
     are = e ∙ ap (λ (es : List Entry). before ++ (es ++ later)) entries_are;
     ping = is_ping;

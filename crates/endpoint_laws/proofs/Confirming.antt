@@ -20,7 +20,8 @@ use Rattle.session_core.specs.declared.stage.Role.{Role}
 use Rattle.session_core.specs.declared.stage.Role.TheVariants.{Initiator, Responder}
 use Rattle.session_core.specs.declared.stage.Stage.{Stage}
 use Rattle.session_core.specs.declared.stage.Stage.TheVariants.{Opening, Open, NearClose, FarLinger, Closed}
-use Rattle.session_core.specs.Session.{SessionState, context_of, context_between, is_opening, confirmed_stage, confirmed}
+use Rattle.session_core.specs.Session.{context_of, context_between, is_opening, confirmed_stage, confirmed}
+use Rattle.endpoint_model.specs.declared.row.Row.{Row}
 use Rattle.endpoint_model.specs.declared.config.Draws.{Draws}
 use Rattle.endpoint_model.specs.declared.place.Place.{Place}
 use Rattle.endpoint_model.specs.declared.place.Place.TheVariants.{Startup, Attempt, Session}
@@ -39,9 +40,9 @@ use Rattle.endpoint_laws.proofs.Facts.{stands_of}
 use Rattle.endpoint_laws.proofs.Going.{Keeps, Goes, goes_nothing}
 
 -- The datagram opens in the session that stands under this session ID, if there is one.
-abbrev pub HeardIn : List ℕ → ℕ → Option SessionState → Type 0
+abbrev pub HeardIn : List ℕ → ℕ → Option Row → Type 0
 HeardIn datagram near None = Unit {0}
-HeardIn datagram near (Some session) = (plain : List ℕ) × OpensUnder session.secret (context_of session false) near datagram plain
+HeardIn datagram near (Some row) = (plain : List ℕ) × OpensUnder row.session.secret (context_of row.session false) near datagram plain
 
 half_open : (role : Role) (stage : Stage) → StageFits role stage → is_opening stage ≡ true → (role ≡ Responder) × (stage ≡ Opening)
 half_open Initiator Opening fits e = absurd fits
@@ -59,14 +60,14 @@ open_or : (a b : Bool) → b ≡ true → (a || b) ≡ true
 open_or true b e = refl
 open_or false b e = e
 
-module _ (setup : Setup) (from : AddressParts) (datagram : List ℕ) (draws : Draws) (s : State) (near : ℕ) (session : SessionState) (there : get s.sessions near ≡ Some session) where
+module _ (setup : Setup) (from : AddressParts) (datagram : List ℕ) (draws : Draws) (s : State) (near : ℕ) (row : Row) (there : get s.sessions near ≡ Some row) where
   abbrev j : Joined
-  j = session.joined
+  j = row.session.joined
 
   -- what is done, by what is held
   abbrev did : Option Held → Did
   did o = record {
-    state = with_session (with_startup s (with_ledger s.startup (noted_if s.startup.ledger (confirmed_fact o j.peer)))) near (confirmed session);
+    state = with_session (with_startup s (with_ledger s.startup (noted_if s.startup.ledger (confirmed_fact o j.peer)))) near row (confirmed row.session);
     entries = fact_entries (confirmed_fact o j.peer);
   }
 
@@ -76,54 +77,54 @@ module _ (setup : Setup) (from : AddressParts) (datagram : List ℕ) (draws : Dr
   abbrev now : List Stamped → List Stamped
   now past = stamped s.moment (FactEntry fact) ∷ past
 
-  confirmed_tied : (past : List Stamped) → Tied setup past s → session.role ≡ Responder → session.stage ≡ Opening → held_with s.startup.ledger j.peer ≡ Some (HalfOpen j) → Tied setup (now past) (did (Some (HalfOpen j))).state
+  confirmed_tied : (past : List Stamped) → Tied setup past s → row.session.role ≡ Responder → row.session.stage ≡ Opening → held_with s.startup.ledger j.peer ≡ Some (HalfOpen j) → Tied setup (now past) (did (Some (HalfOpen j))).state
   confirmed_tied past tied role stage is =
       let t : State = (did (Some (HalfOpen j))).state in
       let a = agrees_of setup past s tied in
-      let new : SessionState = confirmed session in
-      let none = no_attempt s near session (a.apart near) there in
+      let new : Row = record row { session = confirmed row.session } in
+      let none = no_attempt s near row (a.apart near) there in
       let at : IsAt near None (Some new) s t = record {
         attempt = none;
         session = get_inserted s.sessions near new;
         attempts = λ q other. refl;
         sessions = λ q other. get_beside s.sessions near new q other;
       } in
-      let was_thing : thing_of session.role session.stage j ≡ HalfOpen j = ap (λ r. thing_of r session.stage j) role ∙ ap (λ g. thing_of Responder g j) stage in
-      let new_thing : thing_of session.role (confirmed_stage session.stage) j ≡ KeptAsResponder j = ap (λ r. thing_of r (confirmed_stage session.stage) j) role ∙ ap (λ g. thing_of Responder (confirmed_stage g) j) stage in
-      let ours = a.ours near session there in
-      let id : j.near ≡ near = (tied.sessions near session there).id in
+      let was_thing : thing_of row.session.role row.session.stage j ≡ HalfOpen j = ap (λ r. thing_of r row.session.stage j) role ∙ ap (λ g. thing_of Responder g j) stage in
+      let new_thing : thing_of row.session.role (confirmed_stage row.session.stage) j ≡ KeptAsResponder j = ap (λ r. thing_of r (confirmed_stage row.session.stage) j) role ∙ ap (λ g. thing_of Responder (confirmed_stage g) j) stage in
+      let ours = a.ours near row there in
+      let id : j.near ≡ near = (tied.sessions near row there).id in
       let P : Option Held → Type 0 = λ o. Gave s.startup.ledger (option_to_list (confirmed_fact o j.peer)) (noted_if s.startup.ledger (confirmed_fact o j.peer)) in
       let all_used : (q : ℕ) → is_used t q ≡ is_used s q = λ q. elim (tested q near) [
         | inl e ↦
             ap (is_used t) e.0 ∙ used_here near None (Some new) s t at
-            ∙ sym (open_or (is_some (get s.startup.attempts near)) (is_some (get s.sessions near)) (ap (λ (o : Option SessionState). is_some o) there)) ∙ ap (is_used s) (sym e.0)
+            ∙ sym (open_or (is_some (get s.startup.attempts near)) (is_some (get s.sessions near)) (ap (λ (o : Option Row). is_some o) there)) ∙ ap (is_used s) (sym e.0)
         | inr e ↦ used_elsewhere near None (Some new) s t at q e.0
       ] in
       tied_of setup (now past) t
       (agrees_changed setup past (now past) s t near None (Some new) a
       (record { config = a.given.config; cert = a.given.cert; secret = a.given.secret; cookie_secret = a.given.cookie_secret; own = a.given.own; max_peers = a.given.max_peers }) at
       (noted_matches s t fact near None (Some new) a.matches at refl
-      (found_of_session s near session none there ∙ ap (λ h. Some (j.peer, h)) was_thing ∙ sym (ap (of_peer j.peer) is))
+      (found_of_session s near row none there ∙ ap (λ h. Some (j.peer, h)) was_thing ∙ sym (ap (of_peer j.peer) is))
       (ap (λ h. Some (j.peer, h)) new_thing ∙ sym (ap (λ o. of_peer j.peer (confirmed_held o)) is))
       (λ h e. let same : Some (KeptAsResponder j) ≡ Some h = sym (ap confirmed_held is) ∙ e in let thing : KeptAsResponder j ≡ h = cc in ap near_of (sym thing) ∙ id))
-      (record { own = ours.own; secret = ours.secret; stage = subst (λ r. StageFits r (confirmed_stage session.stage)) (sym role) (subst (λ g. StageFits Responder (confirmed_stage g)) (sym stage) tt) })
+      (record { own = ours.own; secret = ours.secret; stage = subst (λ r. StageFits r (confirmed_stage row.session.stage)) (sym role) (subst (λ g. StageFits Responder (confirmed_stage g)) (sym stage) tt) })
       (λ done w. inr w)
-      (ids_same setup.config.max_sessions (ids_in_use (facts_of past)) s t a.ids all_used (omega (arith, len_known s.sessions near new session there)))
+      (ids_same setup.config.max_sessions (ids_in_use (facts_of past)) s t a.ids all_used (omega (arith, len_known s.sessions near new row there)))
       (rows_after_known s.startup.ledger fact setup.config.max_peers (knows_held s.startup.ledger j.peer (HalfOpen j) is) tied.rows))
       ((subst P is (gave_confirmed s.startup.ledger j.peer)) 0 (facts_of past) tied.account)
 
-  confirmed_goes : (past : List Stamped) → Tied setup past s → HeardIn datagram near (Some session) → is_opening session.stage ≡ true →
+  confirmed_goes : (past : List Stamped) → Tied setup past s → HeardIn datagram near (Some row) → is_opening row.session.stage ≡ true →
       Goes setup (Receive from datagram draws) past s (did (held_with s.startup.ledger j.peer))
   confirmed_goes past tied heard opening =
-      let is = tied.sessions near session there in
-      let half = half_open session.role session.stage is.stage opening in
+      let is = tied.sessions near row there in
+      let half = half_open row.session.role row.session.stage is.stage opening in
       let held_is : held_with s.startup.ledger j.peer ≡ Some (HalfOpen j) =
-      is.thing ∙ ap (λ h. Some h) (ap (λ r. thing_of r session.stage j) half.0 ∙ ap (λ g. thing_of Responder g j) half.1) in
+      is.thing ∙ ap (λ h. Some h) (ap (λ r. thing_of r row.session.stage j) half.0 ∙ ap (λ g. thing_of Responder g j) half.1) in
       let after = confirmed_tied past tied half.0 half.1 held_is in
-      let context : context_of session false ≡ inward (own_of setup) (HalfOpen j) = ap (λ r. context_between j session.own r false) half.0 ∙ ap (λ own. context_between j own Responder false) is.own in
+      let context : context_of row.session false ≡ inward (own_of setup) (HalfOpen j) = ap (λ r. context_between j row.session.own r false) half.0 ∙ ap (λ own. context_between j own Responder false) is.own in
       let under : OpensUnder setup.secret (inward (own_of setup) (HalfOpen j)) j.near datagram heard.0 =
       subst (λ id. OpensUnder setup.secret (inward (own_of setup) (HalfOpen j)) id datagram heard.0) (sym is.id)
-      (subst (λ c. OpensUnder setup.secret c near datagram heard.0) context (subst (λ x. OpensUnder x (context_of session false) near datagram heard.0) is.secret heard.1)) in
+      (subst (λ c. OpensUnder setup.secret c near datagram heard.0) context (subst (λ x. OpensUnder x (context_of row.session false) near datagram heard.0) is.secret heard.1)) in
       subst (λ o. Goes setup (Receive from datagram draws) past s (did o)) (sym held_is) (record {
         meets = (
           (
@@ -136,16 +137,16 @@ module _ (setup : Setup) (from : AddressParts) (datagram : List ℕ) (draws : Dr
         moment = refl;
       })
 
-pub goes_confirming_by : (setup : Setup) (from : AddressParts) (datagram : List ℕ) (draws : Draws) (s : State) (near : ℕ) (o : Option SessionState) → get s.sessions near ≡ o → HeardIn datagram near o →
+pub goes_confirming_by : (setup : Setup) (from : AddressParts) (datagram : List ℕ) (draws : Draws) (s : State) (near : ℕ) (o : Option Row) → get s.sessions near ≡ o → HeardIn datagram near o →
     Keeps setup (Receive from datagram draws) s (confirming_by s near o)
 goes_confirming_by setup from datagram draws s near None is heard = goes_nothing setup (Receive from datagram draws) s
-goes_confirming_by setup from datagram draws s near (Some session) is heard = either (is_opening session.stage) refl
+goes_confirming_by setup from datagram draws s near (Some row) is heard = either (is_opening row.session.stage) refl
   where
-    either : (b : Bool) → is_opening session.stage ≡ b → Keeps setup (Receive from datagram draws) s (if b then (record {
-      state = with_session (with_startup s (after_confirm s.startup session.joined.peer)) near (confirmed session);
-      entries = fact_entries (confirm_fact s.startup session.joined.peer);
+    either : (b : Bool) → is_opening row.session.stage ≡ b → Keeps setup (Receive from datagram draws) s (if b then (record {
+      state = with_session (with_startup s (after_confirm s.startup row.session.joined.peer)) near row (confirmed row.session);
+      entries = fact_entries (confirm_fact s.startup row.session.joined.peer);
     }) else nothing s)
-    either true e past tied = confirmed_goes setup from datagram draws s near session is past tied heard e
+    either true e past tied = confirmed_goes setup from datagram draws s near row is past tied heard e
     either false e past tied = goes_nothing setup (Receive from datagram draws) s past tied
 
 -- The datagram opens in the session of its place.

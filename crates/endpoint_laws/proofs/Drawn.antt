@@ -1,6 +1,6 @@
 -- The nonces that a call draws: none, or that of its draws, once.
 use Rattle.std.proofs.Common.{◌≡◌, ℕ, zero, suc, List, [], ◌∷◌, ◌++◌, take, Bool, true, false, if◌then◌else◌, Option, Some, None, Result, Ok, Err, inl, inr, ◌⊎◌, refl, sym, ap, ◌∙◌}
-use Rattle.std.specs.Prelude.{◌==◌, not}
+use Rattle.std.specs.Prelude.{◌==◌}
 use Rattle.std.specs.FinMap.{get}
 use Rattle.rtmfp_forms.specs.Address.{AddressParts}
 use Rattle.rtmfp_packet.specs.Walk.{Placed}
@@ -17,9 +17,9 @@ use Rattle.glare_core.specs.declared.facts.Held.{Held}
 use Rattle.glare_core.specs.declared.facts.Held.TheVariants.{Opening as OpeningHeld, HalfOpen, KeptAsResponder, KeptAsInitiator}
 use Rattle.glare_core.specs.declared.answers.Keying.{Keying}
 use Rattle.glare_core.specs.Ledger.{held_with}
-use Rattle.glare_core.specs.Calls.{where_true, first_that_stands, way_made, born_fact, confirmed_fact}
+use Rattle.glare_core.specs.Calls.{way_made, born_fact, confirmed_fact}
 use Rattle.startup.specs.declared.cause.Cause.{Cause}
-use Rattle.startup.specs.declared.cause.Cause.TheVariants.{UnknownChunk, WrongPlace, SecondKeying, Fragment as FragmentCause}
+use Rattle.startup.specs.declared.cause.Cause.TheVariants.{SecondKeying}
 use Rattle.startup.specs.declared.answer.Answer.{Answer}
 use Rattle.startup.specs.declared.answer.Due.TheVariants.{Ended as EndDue}
 use Rattle.startup.specs.declared.attempt.Stage.{Stage}
@@ -28,9 +28,10 @@ use Rattle.startup.specs.State.{AttemptState, StartupState, SpreadParts}
 use Rattle.startup.specs.Attempts.{begin_spread, after_begin, hello_spread, keying_signed, confirm_fact, after_confirm, end_of, lowest, has_number, ended_attempt}
 use Rattle.startup.specs.Due.{due_of, after_due, is_due, is_over, repeat_of, repeat_signed}
 use Rattle.startup.specs.Keyings.{InitiatorKeying, ResponderKeying, initiator_keying_in, responder_keying_in, keying_of, repeated_session, again_or_birth, keyed_with, keyed_reading, after_keying, change_answer, session_answer, born_session, opened_reading}
-use Rattle.session_core.specs.Session.{SessionState, is_opening, confirmed}
+use Rattle.session_core.specs.Session.{is_opening, confirmed}
 use Rattle.rtmfp_chunks.specs.Writing.{chunk_bytes}
 use Rattle.glare_core.specs.declared.facts.Fact.{Fact}
+use Rattle.endpoint_model.specs.declared.row.Row.{Row}
 use Rattle.endpoint_model.specs.Views.{fact_in}
 use Rattle.endpoint_model.specs.declared.walk.Walk.{Walk}
 use Rattle.endpoint_model.specs.declared.config.Draws.{Draws}
@@ -46,8 +47,9 @@ use Rattle.endpoint_model.specs.Sending.{sent_answer, sent_each, sent_in_session
 use Rattle.endpoint_model.specs.Admission.{Admission, Rejected, Admitted, admission, sid_at, confirming, confirming_by}
 use Rattle.endpoint_model.specs.Keying.{chunks_of}
 use Rattle.endpoint_model.specs.Due.{opening, cancelling, due_done, tick_once, ticks, keying_done, initiator_keyed, opening_done, responder_keyed, with_born, read_done, effect, discarded_or, chunk_did, chunks_did, received, part_received, outset, item_done, attempt_item}
-use Rattle.endpoint_model.specs.Causes.{is_known, form_cause, takes, initiator_keying_cause, responder_keying_cause, read_cause, last_cause, chunk_cause}
+use Rattle.endpoint_model.specs.Causes.{initiator_keying_cause, responder_keying_cause, read_cause, last_cause, chunk_cause}
 use Rattle.endpoint_laws.specs.Lawful.{nonces_of}
+use Rattle.endpoint_laws.proofs.Chunked.{last_none}
 use Rattle.endpoint_laws.proofs.NoFacts.{NoFactAnd, NoFacts, the_rest, none_answer, none_each, none_in_session, none_read}
 use Rattle.endpoint_model.specs.Log.{stopped, Answers}
 
@@ -124,14 +126,14 @@ none_confirmed (Some (HalfOpen j)) peer = refl
 none_confirmed (Some (KeptAsResponder j)) peer = refl
 none_confirmed (Some (KeptAsInitiator j)) peer = refl
 
-none_confirming_by : (s : State) (near : ℕ) (o : Option SessionState) → drawn (confirming_by s near o).entries ≡ []
+none_confirming_by : (s : State) (near : ℕ) (o : Option Row) → drawn (confirming_by s near o).entries ≡ []
 none_confirming_by s near None = refl
-none_confirming_by s near (Some session) =
+none_confirming_by s near (Some row) =
     let d : Did = record {
-      state = with_session (with_startup s (after_confirm s.startup session.joined.peer)) near (confirmed session);
-      entries = fact_entries (confirm_fact s.startup session.joined.peer);
+      state = with_session (with_startup s (after_confirm s.startup row.session.joined.peer)) near row (confirmed row.session);
+      entries = fact_entries (confirm_fact s.startup row.session.joined.peer);
     } in
-    none_either (is_opening session.stage) d (nothing s) (none_confirmed (held_with s.startup.ledger session.joined.peer) session.joined.peer) refl
+    none_either (is_opening row.session.stage) d (nothing s) (none_confirmed (held_with s.startup.ledger row.session.joined.peer) row.session.joined.peer) refl
 
 none_confirming : (s : State) (place : Place) → drawn (confirming s place).entries ≡ []
 none_confirming s Startup = refl
@@ -224,18 +226,6 @@ once_effect s place from draws c true b = once_keyed s from draws c.payload
 once_effect s place from draws c false true = inl (none_responder s (sid_at place) from c.payload)
 once_effect s place from draws c false false = inl (none_stated (read_done s place from (chunk_reading c.kind c.payload)).entries (none_read s place from (chunk_reading c.kind c.payload)))
 
-rest_none : {A : Type 0} (o : Option A) (rest : List (Option A)) → first_that_stands (o ∷ rest) ≡ None → first_that_stands rest ≡ None
-rest_none None rest e = e
-rest_none (Some x) rest e = absurd (cc)
-
-head_none : {A : Type 0} (o : Option A) → first_that_stands (o ∷ []) ≡ None → o ≡ None
-head_none None e = refl
-head_none (Some x) e = absurd (cc)
-
-last_none : {A : Type 0} (a b c d e : Option A) → first_that_stands (a ∷ b ∷ c ∷ d ∷ e ∷ []) ≡ None → e ≡ None
-last_none a b c d e h =
-    head_none e (rest_none d (e ∷ []) (rest_none c (d ∷ e ∷ []) (rest_none b (c ∷ d ∷ e ∷ []) (rest_none a (b ∷ c ∷ d ∷ e ∷ []) h))))
-
 -- a keying came before
 abbrev second : Walk
 second = record { keyed = true }
@@ -244,8 +234,7 @@ second = record { keyed = true }
 not_second : (s : State) (place : Place) (from : AddressParts) (c : Placed) → (c.kind == 0x38) ≡ true → chunk_cause s place second from c ≡ None → ⊥
 not_second s place from c is none =
     let last : last_cause s place second from c ≡ None =
-    last_none (where_true (not (is_known c.kind)) (UnknownChunk c.kind)) (form_cause c.kind c.payload) (where_true (c.kind == 0x7f) FragmentCause)
-    (where_true (not (takes place c.kind)) WrongPlace) (last_cause s place second from c) none in
+    last_none s place second from c none in
     let clash : Some SecondKeying ≡ None =
     sym (ap (λ (b : Bool). if b then initiator_keying_cause s second from c.payload
     else if c.kind == 0x78 then responder_keying_cause s (sid_at place) c.payload

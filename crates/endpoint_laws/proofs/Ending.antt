@@ -25,7 +25,7 @@ use Rattle.startup.specs.declared.attempt.Stage.{Stage}
 use Rattle.startup.specs.declared.attempt.Stage.TheVariants.{Hello, Keying}
 use Rattle.crypto_profile.specs.Keys.{sign_key_of}
 use Rattle.startup.specs.Due.{repeat_signed, repeat_of, is_over, is_due, repeated, due_of, after_due_of}
-use Rattle.session_core.specs.Session.{SessionState}
+use Rattle.endpoint_model.specs.declared.row.Row.{Row}
 use Rattle.endpoint_model.specs.declared.entry.Entry.TheVariants.{Fact as FactEntry}
 use Rattle.endpoint_model.specs.Event.{Setup, Call, Cancel, own_of}
 use Rattle.endpoint_laws.specs.Past.{Stamped, stamped, facts_of, ids_in_use}
@@ -47,7 +47,7 @@ gave_end l peer n near ni why is may =
     let P : Option Held → Type 0 = λ o. Gave l (option_to_list (ended_fact o peer why)) (noted_if l (ended_fact o peer why)) in
     subst P is (gave_ended l peer why (subst (λ (o : Option Held). IfSome o (MayEnd why)) (sym is) may))
 
-used_before : (oa : Option AttemptState) (os : Option SessionState) {a : AttemptState} → oa ≡ Some a → (is_some oa || is_some os) ≡ true
+used_before : (oa : Option AttemptState) (os : Option Row) {a : AttemptState} → oa ≡ Some a → (is_some oa || is_some os) ≡ true
 used_before None os e = absurd (cc)
 used_before (Some b) os e = refl
 

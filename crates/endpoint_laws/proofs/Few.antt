@@ -1,18 +1,14 @@
 -- No thing that an end does seals more startup packets than datagrams go out.
-use Rattle.std.proofs.Common.{◌≡◌, ℕ, ◌+◌, ◌≤◌, List, [], ◌∷◌, ◌++◌, drop, Bool, true, false, ◌==◌, if◌then◌else◌, Option, Some, None, Result, Ok, Err, refl, ap, ◌∙◌, arith}
+use Rattle.std.proofs.Common.{◌≡◌, ℕ, ◌+◌, ◌≤◌, List, [], ◌∷◌, ◌++◌, Bool, true, false, ◌==◌, if◌then◌else◌, Option, Some, None, Result, refl, ap, ◌∙◌, arith}
 use Rattle.std.specs.FinMap.{get}
 use Rattle.rtmfp_forms.specs.Address.{AddressParts}
-use Rattle.rtmfp_packet.specs.declared.head.PacketHead.{PacketHead}
-use Rattle.rtmfp_packet.specs.declared.head.PacketFault.{PacketFault}
 use Rattle.rtmfp_packet.specs.Walk.{Placed}
-use Rattle.rtmfp_packet.specs.Whole.{Whole}
 use Rattle.rtmfp_chunks.specs.declared.reading.ChunkFault.{ChunkFault}
 use Rattle.rtmfp_chunks.specs.Chunk.{Chunk, Ping}
 use Rattle.rtmfp_chunks.specs.FieldReading.{chunk_reading}
 use Rattle.glare_core.specs.declared.facts.Fact.{Fact}
 use Rattle.glare_core.specs.declared.facts.Fact.TheVariants.{Started, Born, Opened, Confirmed, Ended}
 use Rattle.startup.specs.declared.cause.Cause.{Cause}
-use Rattle.startup.specs.declared.cause.Cause.TheVariants.{WrongPlace}
 use Rattle.startup.specs.declared.answer.Answer.{Answer}
 use Rattle.startup.specs.declared.answer.Keyed.{Keyed}
 use Rattle.startup.specs.declared.answer.Keyed.TheVariants.{Change, Again, Birth}
@@ -25,9 +21,10 @@ use Rattle.startup.specs.Keyings.{keyed, after_keying, opened, after_opening}
 use Rattle.glare_core.specs.Calls.{started_fact}
 use Rattle.crypto_profile.specs.declared.keys.Context.{Context}
 use Rattle.crypto_profile.specs.declared.keys.Context.TheVariants.{Startup as StartupContext}
-use Rattle.session_core.specs.Session.{SessionState, is_opening, confirmed, context_of}
+use Rattle.session_core.specs.Session.{is_opening, confirmed, context_of}
 use Rattle.session_core.specs.Sealed.{after_seal}
 use Rattle.rtmfp_chunks.specs.Writing.{chunk_bytes}
+use Rattle.endpoint_model.specs.declared.row.Row.{Row}
 use Rattle.endpoint_model.specs.declared.walk.Walk.{Walk}
 use Rattle.endpoint_model.specs.declared.config.Draws.{Draws}
 use Rattle.endpoint_model.specs.declared.place.Place.{Place}
@@ -37,7 +34,7 @@ use Rattle.endpoint_model.specs.declared.entry.Entry.TheVariants.{Fact as FactEn
 use Rattle.endpoint_laws.specs.Past.{Stamped, stamped, onto}
 use Rattle.endpoint_model.specs.State.{State, Did, Does, nothing, after_entries, then_do, fact_entries, with_startup, with_session, with_sealed, free_from}
 use Rattle.endpoint_model.specs.Sending.{last_count, startup_datagram, session_datagram, sent_startup, sent_answer, sent_if, sent_each, sent_spread, sent_by, sent_in_session}
-use Rattle.endpoint_model.specs.Admission.{Admission, Rejected, Admitted, admitted, admitted_packet, sid_at, counted_by, counted_at, timed_by, timed_at, confirming_by, confirming, packet_in, has_mode, mode_at}
+use Rattle.endpoint_model.specs.Admission.{sid_at, confirming_by, confirming}
 use Rattle.endpoint_model.specs.Causes.{chunk_cause}
 use Rattle.endpoint_model.specs.Due.{opening, due_done, tick_once, with_born, keying_done, initiator_keyed, with_opened, opening_done, responder_keyed, Reply, Silence, InStartup, InSession, replied, read_left, read_reply, read_done, effect, discarded_or, chunk_did, item_done, Item, OfAttempt, first_due}
 use Rattle.endpoint_laws.proofs.Replies.{left_same}
@@ -77,9 +74,6 @@ few_one false s to sent context = omega arith
 few_startup : (s : State) (to : AddressParts) (sid : ℕ) (plain : List ℕ) → Few s (sent_startup s to sid plain)
 few_startup s to sid plain = few_one (s.sealed == last_count) s to (startup_datagram s sid plain) StartupContext
 
-few_answer : (s : State) (answer : Answer) → Few s (sent_answer s answer)
-few_answer s answer = few_startup s answer.to answer.sid answer.plain
-
 few_if : (s : State) (answer : Option Answer) → Few s (sent_if s answer)
 few_if s None = few_nothing s
 few_if s (Some answer) = few_startup s answer.to answer.sid answer.plain
@@ -90,14 +84,14 @@ few_each plain (first ∷ rest) s =
     let d : Did = sent_startup s first 0 plain in
     few_then s d (λ t. sent_each t plain rest) (few_startup s first 0 plain) (few_each plain rest d.state)
 
-few_in : (b : Bool) (s : State) (near : ℕ) (session : SessionState) (entry : Entry) → Few s (if b then nothing s else record { state = with_session s near (after_seal session); entries = entry ∷ [] })
-few_in true s near session entry = omega arith
-few_in false s near session entry = omega arith
+few_in : (b : Bool) (s : State) (near : ℕ) (row : Row) (entry : Entry) → Few s (if b then nothing s else record { state = with_session s near row (after_seal row.session); entries = entry ∷ [] })
+few_in true s near row entry = omega arith
+few_in false s near row entry = omega arith
 
-few_by : (s : State) (near : ℕ) (to : AddressParts) (body : List ℕ) (o : Option SessionState) → Few s (sent_by s near to body o)
+few_by : (s : State) (near : ℕ) (to : AddressParts) (body : List ℕ) (o : Option Row) → Few s (sent_by s near to body o)
 few_by s near to body None = few_nothing s
-few_by s near to body (Some session) =
-    few_in (session.sealed == last_count) s near session (Out to (session_datagram session s.moment body) (context_of session true))
+few_by s near to body (Some row) =
+    few_in (row.session.sealed == last_count) s near row (Out to (session_datagram row.session s.moment body) (context_of row.session true))
 
 few_session : (s : State) (near : ℕ) (to : AddressParts) (body : List ℕ) → Few s (sent_in_session s near to body)
 few_session s near to body = few_by s near to body (get s.sessions near)
@@ -166,54 +160,19 @@ few_chunk place from draws walk s c = few_discarded_or s c.at (chunk_cause s pla
 
 -- ---- datagrams that come in
 
-few_confirming_by : (s : State) (near : ℕ) (o : Option SessionState) → Few s (confirming_by s near o)
+few_confirming_by : (s : State) (near : ℕ) (o : Option Row) → Few s (confirming_by s near o)
 few_confirming_by s near None = few_nothing s
-few_confirming_by s near (Some session) =
+few_confirming_by s near (Some row) =
     let d : Did = record {
-      state = with_session (with_startup s (after_confirm s.startup session.joined.peer)) near (confirmed session);
-      entries = fact_entries (confirm_fact s.startup session.joined.peer);
+      state = with_session (with_startup s (after_confirm s.startup row.session.joined.peer)) near row (confirmed row.session);
+      entries = fact_entries (confirm_fact s.startup row.session.joined.peer);
     } in
-    either s (is_opening session.stage) d (nothing s) (few_same s d refl) (few_nothing s)
+    either s (is_opening row.session.stage) d (nothing s) (few_same s d refl) (few_nothing s)
 
 pub few_confirming : (s : State) (place : Place) → Few s (confirming s place)
 few_confirming s Startup = few_nothing s
 few_confirming s (Attempt near) = few_nothing s
 few_confirming s (Session near) = few_confirming_by s near (get s.sessions near)
-
-counted_sealed_by : (s : State) (near : ℕ) (part : List ℕ) (o : Option SessionState) → (counted_by s near part o).sealed ≡ s.sealed
-counted_sealed_by s near part None = refl
-counted_sealed_by s near part (Some session) = refl
-
-counted_sealed : (s : State) (place : Place) (part : List ℕ) → (counted_at s place part).sealed ≡ s.sealed
-counted_sealed s Startup part = refl
-counted_sealed s (Attempt near) part = refl
-counted_sealed s (Session near) part = counted_sealed_by s near part (get s.sessions near)
-
-timed_sealed_by : (s : State) (near : ℕ) (head : PacketHead) (o : Option SessionState) → (timed_by s near head o).sealed ≡ s.sealed
-timed_sealed_by s near head None = refl
-timed_sealed_by s near head (Some session) = refl
-
-timed_sealed : (s : State) (place : Place) (head : PacketHead) → (timed_at s place head).sealed ≡ s.sealed
-timed_sealed s Startup head = refl
-timed_sealed s (Attempt near) head = refl
-timed_sealed s (Session near) head = timed_sealed_by s near head (get s.sessions near)
-
--- what an admission leaves
-abbrev pub left_by : Admission → State
-left_by (Rejected s cause) = s
-left_by (Admitted s place packet) = s
-
-packet_sealed : (s : State) (place : Place) (r : Result Whole PacketFault) → (left_by (admitted_packet s place r)).sealed ≡ s.sealed
-packet_sealed s place (Err fault) = refl
-packet_sealed s place (Ok packet) = by (has_mode packet.head (mode_at s place))
-  where
-    by : (b : Bool) → (left_by (if b then Admitted (timed_at s place packet.head) place packet else Rejected s WrongPlace)).sealed ≡ s.sealed
-    by true = timed_sealed s place packet.head
-    by false = refl
-
-pub admitted_sealed : (s : State) (datagram : List ℕ) (r : Result (Place × List ℕ) Cause) → (left_by (admitted s datagram r)).sealed ≡ s.sealed
-admitted_sealed s datagram (Err cause) = refl
-admitted_sealed s datagram (Ok found) = packet_sealed (counted_at s found.0 (drop 4 datagram)) found.0 (packet_in found.1) ∙ counted_sealed s found.0 (drop 4 datagram)
 
 -- ---- the other calls
 

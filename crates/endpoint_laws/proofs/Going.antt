@@ -12,6 +12,7 @@ use Rattle.startup.specs.declared.cause.Cause.{Cause}
 use Rattle.startup.specs.State.{SpreadParts}
 use Rattle.session_core.specs.Session.{SessionState}
 use Rattle.session_core.specs.Sealed.{after_seal, is_spent}
+use Rattle.endpoint_model.specs.declared.row.Row.{Row}
 use Rattle.endpoint_model.specs.Views.{fact_in}
 use Rattle.endpoint_model.specs.declared.entry.Entry.{Entry}
 use Rattle.endpoint_model.specs.declared.entry.Entry.TheVariants.{Discard}
@@ -22,7 +23,7 @@ use Rattle.endpoint_model.specs.State.{State, Did, nothing, then_do}
 use Rattle.endpoint_model.specs.Sending.{last_count, sent_startup, sent_answer, sent_if, sent_each, sent_spread, sent_by, sent_in_session}
 use Rattle.endpoint_model.specs.Due.{discarded}
 use Rattle.endpoint_laws.proofs.Lines.{FactPart, FactMeets, EntriesMeet}
-use Rattle.endpoint_laws.proofs.Tied.{Tied}
+use Rattle.endpoint_laws.proofs.Tied.{sealed_once, Tied}
 use Rattle.endpoint_laws.proofs.Agrees.{IsOurs, combined}
 use Rattle.endpoint_laws.proofs.Moving.{tied_session, tied_more, tied_alike}
 
@@ -124,19 +125,19 @@ goes_each setup call plain (to ∷ rest) s = λ past t.
 pub goes_spread : (setup : Setup) (call : Call) (s : State) (spread : SpreadParts) → Keeps setup call s (sent_spread s spread)
 goes_spread setup call s spread = goes_each setup call spread.plain spread.to s
 
-seal_alike : (b : Bool) (near : ℕ) (session : SessionState) → combined near None (Some (if b then session else record session { sealed = session.sealed + 1 })) ≡ combined near None (Some session)
-seal_alike true near session = refl
-seal_alike false near session = refl
+seal_alike : (b : Bool) (near : ℕ) (row : Row) → combined near None (Some (record row { session = if b then row.session else sealed_once row.session })) ≡ combined near None (Some row)
+seal_alike true near row = refl
+seal_alike false near row = refl
 
-seal_ours : (setup : Setup) (b : Bool) (session : SessionState) → IsOurs setup session → IsOurs setup (if b then session else record session { sealed = session.sealed + 1 })
+seal_ours : (setup : Setup) (b : Bool) (session : SessionState) → IsOurs setup session → IsOurs setup (if b then session else sealed_once session)
 seal_ours setup true session ours = ours
 seal_ours setup false session ours = record { own = ours.own; secret = ours.secret; stage = ours.stage }
 
-pub goes_by : (setup : Setup) (call : Call) (s : State) (near : ℕ) (to : AddressParts) (body : List ℕ) (o : Option SessionState) → get s.sessions near ≡ o → Keeps setup call s (sent_by s near to body o)
+pub goes_by : (setup : Setup) (call : Call) (s : State) (near : ℕ) (to : AddressParts) (body : List ℕ) (o : Option Row) → get s.sessions near ≡ o → Keeps setup call s (sent_by s near to body o)
 goes_by setup call s near to body None is = goes_nothing setup call s
-goes_by setup call s near to body (Some session) is = keeps_if setup call s (session.sealed == last_count) (nothing s) _ (λ e. goes_nothing setup call s) (λ e past t. record {
+goes_by setup call s near to body (Some row) is = keeps_if setup call s (row.session.sealed == last_count) (nothing s) _ (λ e. goes_nothing setup call s) (λ e past t. record {
   meets = (tt, tt);
-  tied = tied_session setup _ s near session (after_seal session) (tied_more setup past s _ refl t) is (seal_alike (is_spent session) near session) (seal_ours setup (is_spent session) session);
+  tied = tied_session setup _ s near row (record row { session = after_seal row.session }) (tied_more setup past s _ refl t) is (seal_alike (is_spent row.session) near row) (seal_ours setup (is_spent row.session) row.session);
   moment = refl;
 })
 

@@ -34,7 +34,8 @@ use Rattle.startup.specs.declared.answer.Answer.{Answer}
 use Rattle.startup.specs.declared.answer.Keyed.TheVariants.{Birth as BirthKeyed}
 use Rattle.startup.specs.Keyings.{InitiatorKeying, keying_of, change_answer, session_answer, born_session, repeated_session, again_or_birth, keyed_with, keyed_reading, opening_id, without, after_again_or_birth, after_keyed_with, after_keyed_reading}
 use Rattle.session_core.specs.declared.stage.Role.TheVariants.{Responder}
-use Rattle.session_core.specs.Session.{SessionState, new_session}
+use Rattle.session_core.specs.Session.{new_session}
+use Rattle.endpoint_model.specs.declared.row.Row.{Row}
 use Rattle.endpoint_model.specs.declared.config.Draws.{Draws}
 use Rattle.endpoint_model.specs.declared.entry.Entry.TheVariants.{Fact as FactEntry}
 use Rattle.endpoint_model.specs.Event.{Setup, Call, Receive, own_of}
@@ -42,7 +43,7 @@ use Rattle.endpoint_laws.specs.Past.{Stamped, stamped, onto, facts_of}
 use Rattle.endpoint_model.specs.Keying.{IsAmong, IsFirst, chunks_of}
 use Rattle.endpoint_laws.specs.Admissible.{Admissible}
 use Rattle.endpoint_laws.specs.Lawful.{EndedLine}
-use Rattle.endpoint_model.specs.State.{State, Did, is_used, then_do, with_startup, free_from, full}
+use Rattle.endpoint_model.specs.State.{State, new_row, Did, is_used, then_do, with_startup, free_from, full}
 use Rattle.endpoint_model.specs.Sending.{sent_answer}
 use Rattle.endpoint_model.specs.Due.{keying_done, initiator_keyed}
 use Rattle.endpoint_laws.proofs.Tied.{Tied}
@@ -99,8 +100,8 @@ module _ (setup : Setup) (from : AddressParts) (datagram : List ℕ) (draws : Dr
   abbrev answer : Answer
   answer = session_answer s.startup j from
 
-  abbrev new : SessionState
-  new = new_session j l.own Responder from s.startup.secret s.moment
+  abbrev new : Row
+  new = new_row (new_session j l.own Responder from s.startup.secret s.moment)
 
   fresh_id : IsNew s j.near
   fresh_id = new_id setup past s draws.word tied most small

@@ -7,7 +7,7 @@ use Rattle.glare_core.specs.Standing.{count}
 use Rattle.endpoint_model.specs.declared.entry.Entry.{Entry}
 use Rattle.endpoint_model.specs.Event.{Setup, own_of, Call, Open, Cancel, Receive, Tick, Answer, Began, Done, NotOpened, Refused, Stopped, OutOfMemory, Event}
 use Rattle.endpoint_model.specs.State.{State, Did, Does, nothing, fresh, at_moment}
-use Rattle.endpoint_model.specs.Admission.{admission, opened_datagram}
+use Rattle.endpoint_model.specs.Admission.{admission}
 use Rattle.endpoint_model.specs.Due.{opening, cancelling, ticks, received}
 use Rattle.endpoint_model.specs.Log.{Answers, Leads, StandsFor, stopped}
 use Rattle.endpoint_laws.specs.Past.{Stamped, onto, facts_of, past_of, last_moment, begun}
@@ -21,11 +21,11 @@ use Rattle.endpoint_laws.proofs.Starting.{goes_opening}
 use Rattle.endpoint_laws.proofs.Ending.{goes_cancelling}
 use Rattle.endpoint_laws.proofs.Admitting.{admission_is}
 use Rattle.endpoint_laws.proofs.Counts.{few_after, answers_counted}
-use Rattle.endpoint_laws.proofs.Few.{few_same, few_opening, few_does, admitted_sealed, onto_outs}
+use Rattle.endpoint_laws.proofs.Few.{few_same, few_opening, few_does, onto_outs}
 use Rattle.endpoint_laws.proofs.OutNumbers.{numbered_new, numbered_begun}
 use Rattle.endpoint_laws.proofs.OutSends.{Sent}
 use Rattle.endpoint_laws.proofs.OutBirths.{small_free}
-use Rattle.endpoint_laws.proofs.OutItems.{meets_opening, meets_cancelling, sent_admission}
+use Rattle.endpoint_laws.proofs.OutItems.{meets_opening, meets_cancelling}
 use Rattle.endpoint_laws.proofs.Orderly.{Orderly, orderly_nothing, ticks_orderly, received_orderly, stopped_orderly}
 
 -- ---- calls
@@ -56,14 +56,12 @@ module _ (setup : Setup) (is : IsSetup setup) (past : List Stamped) (s t : State
   answers_orderly (Cancel n) (Refused refusal) entries fits h = record { did = nothing s; orderly = orderly_nothing setup (Cancel n) past s tied sent; does = h.2 }
   answers_orderly (Receive from datagram draws) Done entries fits h = record {
     did = received from draws (admission s datagram);
-    orderly = received_orderly setup is from datagram draws fits past s (admission s datagram) (admission_is setup past s datagram tied (of_bytes datagram fits.0)) (sent_admission setup past s datagram sent)
-        (admitted_sealed s datagram (opened_datagram s datagram));
+    orderly = received_orderly setup is from datagram draws fits past s (admission s datagram) (admission_is setup past s datagram tied sent (of_bytes datagram fits.0));
     does = h;
   }
   answers_orderly (Receive from datagram draws) (Stopped stop) entries fits h = record {
     did = stopped s from draws (admission s datagram) stop;
-    orderly = stopped_orderly setup is from datagram draws fits past s stop (admission s datagram) tied sent (admission_is setup past s datagram tied (of_bytes datagram fits.0))
-        (sent_admission setup past s datagram sent) (admitted_sealed s datagram (opened_datagram s datagram));
+    orderly = stopped_orderly setup is from datagram draws fits past s stop (admission s datagram) tied sent (admission_is setup past s datagram tied sent (of_bytes datagram fits.0));
     does = h.1;
   }
   answers_orderly (Tick draws) Done entries fits h = record { did = ticks h.0.0 s; orderly = ticks_orderly setup (Tick draws) is tt h.0.0 past s tied sent; does = h.0.1 }

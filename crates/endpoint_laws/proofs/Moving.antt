@@ -12,10 +12,10 @@ use Rattle.glare_core.proofs.Maps.{row_inserted, len_inserted}
 use Rattle.rtmfp_base.proofs.Maps.{get_inserted, get_beside, len_known}
 use Rattle.startup.specs.State.{AttemptState}
 use Rattle.startup.specs.Attempts.{with_attempt}
-use Rattle.session_core.specs.Session.{SessionState}
+use Rattle.endpoint_model.specs.declared.row.Row.{Row}
 use Rattle.endpoint_model.specs.Event.{Setup}
 use Rattle.endpoint_laws.specs.Past.{Stamped, facts_of, ids_in_use, WasDone}
-use Rattle.endpoint_model.specs.State.{State, uses, is_used, with_session, with_startup}
+use Rattle.endpoint_model.specs.State.{State, uses, is_used, with_row, with_startup}
 use Rattle.endpoint_laws.proofs.Matching.{Found, of_peer, Matches, changed_matches, Ids, ids_same}
 use Rattle.glare_core.specs.Account.{StandsFor}
 use Rattle.endpoint_model.proofs.Members.{tested}
@@ -61,7 +61,7 @@ rows_after_new l fact most few =
 
 -- ---- what stands under the session IDs, after a fact
 
-pub noted_matches : (s t : State) (fact : Fact) (near : ℕ) (oa : Option AttemptState) (os : Option SessionState) → Matches (thing_at s) (held_with s.startup.ledger) → IsAt near oa os s t →
+pub noted_matches : (s t : State) (fact : Fact) (near : ℕ) (oa : Option AttemptState) (os : Option Row) → Matches (thing_at s) (held_with s.startup.ledger) → IsAt near oa os s t →
     t.startup.ledger ≡ noted s.startup.ledger fact → thing_at s near ≡ of_peer (peer_of fact) (held_with s.startup.ledger (peer_of fact)) →
     combined near oa os ≡ of_peer (peer_of fact) (after fact (held_with s.startup.ledger (peer_of fact))) →
     ((h : Held) → after fact (held_with s.startup.ledger (peer_of fact)) ≡ Some h → near_of h ≡ near) → Matches (thing_at t) (held_with t.startup.ledger)
@@ -89,7 +89,7 @@ some_or false b (inl e) = absurd (cc)
 some_or false b (inr e) = e
 
 -- what stands under one session ID is replaced by the same thing
-pub agrees_same : (setup : Setup) (past now : List Stamped) (s t : State) (near : ℕ) (oa : Option AttemptState) (os : Option SessionState) → Agrees setup past s → IsGiven setup t → IsAt near oa os s t →
+pub agrees_same : (setup : Setup) (past now : List Stamped) (s t : State) (near : ℕ) (oa : Option AttemptState) (os : Option Row) → Agrees setup past s → IsGiven setup t → IsAt near oa os s t →
     t.startup.ledger ≡ s.startup.ledger → combined near oa os ≡ thing_at s near → (is_some oa || is_some os) ≡ is_used s near → uses t ≡ uses s → Fits setup now near oa os →
     ((done : Stamped) → WasDone done past → WasDone done now) → facts_of now ≡ facts_of past → Agrees setup now t
 agrees_same setup past now s t near oa os a given at ledger same used count fits more facts =
@@ -111,10 +111,10 @@ agrees_same setup past now s t near oa os a given at ledger same used count fits
     same_number q k = elim (tested q k) [ inl is ↦ inl is.0 | inr is ↦ inr is.0 ]
 
 -- a session is replaced by one with the same values
-pub tied_session : (setup : Setup) (past : List Stamped) (s : State) (near : ℕ) (old new : SessionState) → Tied setup past s → get s.sessions near ≡ Some old →
-    combined near None (Some new) ≡ combined near None (Some old) → (IsOurs setup old → IsOurs setup new) → Tied setup past (with_session s near new)
+pub tied_session : (setup : Setup) (past : List Stamped) (s : State) (near : ℕ) (old new : Row) → Tied setup past s → get s.sessions near ≡ Some old →
+    combined near None (Some new) ≡ combined near None (Some old) → (IsOurs setup old.session → IsOurs setup new.session) → Tied setup past (with_row s near new)
 tied_session setup past s near old new tied is same ours =
-    let t : State = with_session s near new in
+    let t : State = with_row s near new in
     let a = agrees_of setup past s tied in
     let none = no_attempt s near old (a.apart near) is in
     tied_of setup past t (agrees_same setup past past s t near None (Some new) a (record { config = a.given.config; cert = a.given.cert; secret = a.given.secret; cookie_secret = a.given.cookie_secret; own = a.given.own; max_peers = a.given.max_peers }) (record {
@@ -123,7 +123,7 @@ tied_session setup past s near old new tied is same ours =
       attempts = λ q other. refl;
       sessions = λ q other. get_beside s.sessions near new q other;
     }) refl (same ∙ sym (found_of_session s near old none is))
-    (sym (some_or (is_some (get s.startup.attempts near)) (is_some (get s.sessions near)) (inr (ap (λ (o : Option SessionState). is_some o) is))))
+    (sym (some_or (is_some (get s.startup.attempts near)) (is_some (get s.sessions near)) (inr (ap (λ (o : Option Row). is_some o) is))))
     (omega (arith, len_known s.sessions near new old is)) (ours (a.ours near old is)) (λ done w. w) refl) tied.account
 
 -- an attempt is replaced by one with the same values

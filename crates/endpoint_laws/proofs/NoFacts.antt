@@ -6,7 +6,7 @@ use Rattle.rtmfp_chunks.specs.declared.reading.ChunkFault.{ChunkFault}
 use Rattle.rtmfp_chunks.specs.Chunk.{Chunk}
 use Rattle.glare_core.specs.declared.facts.Fact.{Fact}
 use Rattle.startup.specs.declared.answer.Answer.{Answer}
-use Rattle.session_core.specs.Session.{SessionState}
+use Rattle.endpoint_model.specs.declared.row.Row.{Row}
 use Rattle.endpoint_model.specs.declared.entry.Entry.{Entry}
 use Rattle.endpoint_model.specs.declared.place.Place.{Place}
 use Rattle.endpoint_model.specs.Views.{fact_in}
@@ -68,9 +68,9 @@ none_each s plain (to ∷ rest) =
     let first = sent_startup s to 0 plain in
     none_in_both first.entries (sent_each first.state plain rest).entries (none_startup s to 0 plain) (none_each first.state plain rest)
 
-none_by : (s : State) (near : ℕ) (to : AddressParts) (body : List ℕ) (o : Option SessionState) → NoFacts (sent_by s near to body o).entries
+none_by : (s : State) (near : ℕ) (to : AddressParts) (body : List ℕ) (o : Option Row) → NoFacts (sent_by s near to body o).entries
 none_by s near to body None = tt
-none_by s near to body (Some session) = none_either (session.sealed == last_count) (nothing s) _ tt tt
+none_by s near to body (Some row) = none_either (row.session.sealed == last_count) (nothing s) _ tt tt
 
 pub none_in_session : (s : State) (near : ℕ) (to : AddressParts) (body : List ℕ) → NoFacts (sent_in_session s near to body).entries
 none_in_session s near to body = none_by s near to body (get s.sessions near)

@@ -13,7 +13,7 @@ use Rattle.session_core.specs.declared.stage.Role.{Role}
 use Rattle.session_core.specs.declared.stage.Role.TheVariants.{Initiator, Responder}
 use Rattle.session_core.specs.declared.stage.Stage.{Stage}
 use Rattle.session_core.specs.declared.stage.Stage.TheVariants.{Opening, Open, NearClose, FarLinger, Closed}
-use Rattle.session_core.specs.Session.{SessionState}
+use Rattle.endpoint_model.specs.declared.row.Row.{Row}
 use Rattle.endpoint_model.specs.Event.{Setup}
 use Rattle.endpoint_laws.specs.Past.{Stamped, facts_of, past_of, last_moment}
 use Rattle.endpoint_model.specs.State.{State}
@@ -64,13 +64,13 @@ module _ (setup : Setup) (past : List Stamped) (s : State) (tied : Tied setup pa
       let both : Some (AttemptHeld a.n near a.ni) ≡ Some (AttemptHeld n near ni) = sym (tied.sound.held near a e) ∙ ap (held_with s.startup.ledger) same ∙ thing in
       record { attempt = a; there = e; peer_is = same; n_is = same_n a.n n near near a.ni ni both; ni_is = same_ni a.n n near near a.ni ni both }
 
-  session_there : (peer : List ℕ) (thing : Held) (o : Option SessionState) → get s.sessions (near_of thing) ≡ o → peer_at o ≡ Some peer → held_with s.startup.ledger peer ≡ Some thing → SessionIsThere s thing
+  session_there : (peer : List ℕ) (thing : Held) (o : Option Row) → get s.sessions (near_of thing) ≡ o → peer_at o ≡ Some peer → held_with s.startup.ledger peer ≡ Some thing → SessionIsThere s thing
   session_there peer thing None e is holding = absurd (cc)
   session_there peer thing (Some x) e is holding =
-      let same : x.joined.peer ≡ peer = cc in
+      let same : x.session.joined.peer ≡ peer = cc in
       let ties = tied.sessions (near_of thing) x e in
-      let one : thing_of x.role x.stage x.joined ≡ thing = same_thing (thing_of x.role x.stage x.joined) thing (sym ties.thing ∙ ap (held_with s.startup.ledger) same ∙ holding) in
-      record { session = x; there = e; is = subst (IsThing x.role x.stage x.joined) one (is_thing x.role x.stage x.joined ties.stage) }
+      let one : thing_of x.session.role x.session.stage x.session.joined ≡ thing = same_thing (thing_of x.session.role x.session.stage x.session.joined) thing (sym ties.thing ∙ ap (held_with s.startup.ledger) same ∙ holding) in
+      record { row = x; there = e; is = subst (IsThing x.session.role x.session.stage x.session.joined) one (is_thing x.session.role x.session.stage x.session.joined ties.stage) }
 
   of_the_log : (now : ℕ) → s.moment ≡ now → IsOfTheLog setup s now past
   of_the_log now at = record {
@@ -81,7 +81,7 @@ module _ (setup : Setup) (past : List Stamped) (s : State) (tied : Tied setup pa
     attempts_there = λ peer n near ni e. let thing = holds peer ∙ e in attempt_there peer n near ni (get s.startup.attempts near) refl (tied.sound.there peer n near ni thing) thing;
     sessions = λ near x e.
         let ties = tied.sessions near x e in
-        record { thing = thing_of x.role x.stage x.joined; is = is_thing x.role x.stage x.joined ties.stage; is_held = sym (holds x.joined.peer) ∙ ties.thing; id = ties.id; own = ties.own };
+        record { thing = thing_of x.session.role x.session.stage x.session.joined; is = is_thing x.session.role x.session.stage x.session.joined ties.stage; is_held = sym (holds x.session.joined.peer) ∙ ties.thing; id = ties.id; own = ties.own };
     sessions_there = λ peer thing e is. let holding = holds peer ∙ e in session_there peer thing (get s.sessions (near_of thing)) refl (tied.there peer thing holding is) holding;
     held_is = holds;
     floor_is = reads_floor 0 s.startup.ledger (facts_of past) tied.account;

@@ -20,9 +20,10 @@ use Rattle.session_core.specs.declared.stage.Role.{Role}
 use Rattle.session_core.specs.declared.stage.Role.TheVariants.{Initiator, Responder}
 use Rattle.session_core.specs.declared.stage.Stage.{Stage}
 use Rattle.session_core.specs.declared.stage.Stage.TheVariants.{Opening, Open, NearClose, FarLinger, Closed}
-use Rattle.session_core.specs.Session.{SessionState, context_between, context_of}
+use Rattle.session_core.specs.Session.{context_between, context_of}
 use Rattle.session_core.specs.Hearing.{opens_in as opens_in_session}
 use Rattle.session_core.proofs.Hears.{opens_some_plain}
+use Rattle.endpoint_model.specs.declared.row.Row.{Row}
 use Rattle.endpoint_model.specs.declared.place.Place.{Place}
 use Rattle.endpoint_model.specs.declared.place.Place.TheVariants.{Startup, Attempt, Session}
 use Rattle.endpoint_model.specs.Event.{Setup, Event, own_of}
@@ -60,9 +61,9 @@ chosen false own c e = absurd (cc)
 
 -- ---- what a session ID names
 
-used_if_found : (near : ℕ) (oa : Option AttemptState) (os : Option SessionState) (peer : List ℕ) (thing : Held) → combined near oa os ≡ Some (peer, thing) → (is_some oa || is_some os) ≡ true
+used_if_found : (near : ℕ) (oa : Option AttemptState) (os : Option Row) (peer : List ℕ) (thing : Held) → combined near oa os ≡ Some (peer, thing) → (is_some oa || is_some os) ≡ true
 used_if_found near (Some a) os peer thing e = refl
-used_if_found near None (Some session) peer thing e = refl
+used_if_found near None (Some row) peer thing e = refl
 used_if_found near None None peer thing e = absurd (cc)
 
 place_zero : (s : State) (sid : ℕ) → (sid == 0) ≡ true → place_of s sid ≡ Some Startup
@@ -94,23 +95,23 @@ module _ (setup : Setup) (past : List Stamped) (s : State) (tied : Tied setup pa
       let none : open_refusal (keys_of setup.secret StartupContext) sid part ≡ None = ((opens_by_its_tag setup.secret StartupContext sid part plain).0 opens).0 in
       ap (λ (secret : List ℕ). startup_unless (open_refusal (keys_of secret StartupContext) sid part)) tied.secret ∙ ap startup_unless none
 
-  session_found : (sid : ℕ) (session : SessionState) (plain : List ℕ) → get s.sessions sid ≡ Some session →
-      Opens setup.secret (inward own (thing_of session.role session.stage session.joined)) sid part plain →
-      context_in_session (get s.sessions sid) part ≡ Some (inward own (thing_of session.role session.stage session.joined))
-  session_found sid session plain at opens =
-      let ours = tied.sessions sid session at in
-      let context : context_of session false ≡ inward own (thing_of session.role session.stage session.joined) =
-      ap (λ (o : List ℕ). context_between session.joined o session.role false) ours.own ∙ inward_is own session.role session.stage session.joined in
-      let of_session : Opens session.secret (context_of session false) session.joined.near part plain =
-      subst (λ (secret : List ℕ). Opens secret (context_of session false) session.joined.near part plain) (sym ours.secret)
-      (subst (λ (c : Context). Opens setup.secret c session.joined.near part plain) (sym context)
-      (subst (λ (near : ℕ). Opens setup.secret (inward own (thing_of session.role session.stage session.joined)) near part plain) (sym ours.id) opens)) in
-      let is : opens_in_session session part ≡ true = (opens_some_plain session part).1 (plain, of_session) in
-      ap (λ (o : Option SessionState). context_in_session o part) at
-      ∙ ap (λ (b : Bool). if b then Some (context_of session false) else None) is
+  session_found : (sid : ℕ) (row : Row) (plain : List ℕ) → get s.sessions sid ≡ Some row →
+      Opens setup.secret (inward own (thing_of row.session.role row.session.stage row.session.joined)) sid part plain →
+      context_in_session (get s.sessions sid) part ≡ Some (inward own (thing_of row.session.role row.session.stage row.session.joined))
+  session_found sid row plain at opens =
+      let ours = tied.sessions sid row at in
+      let context : context_of row.session false ≡ inward own (thing_of row.session.role row.session.stage row.session.joined) =
+      ap (λ (o : List ℕ). context_between row.session.joined o row.session.role false) ours.own ∙ inward_is own row.session.role row.session.stage row.session.joined in
+      let of_session : Opens row.session.secret (context_of row.session false) row.session.joined.near part plain =
+      subst (λ (secret : List ℕ). Opens secret (context_of row.session false) row.session.joined.near part plain) (sym ours.secret)
+      (subst (λ (c : Context). Opens setup.secret c row.session.joined.near part plain) (sym context)
+      (subst (λ (near : ℕ). Opens setup.secret (inward own (thing_of row.session.role row.session.stage row.session.joined)) near part plain) (sym ours.id) opens)) in
+      let is : opens_in_session row.session part ≡ true = (opens_some_plain row.session part).1 (plain, of_session) in
+      ap (λ (o : Option Row). context_in_session o part) at
+      ∙ ap (λ (b : Bool). if b then Some (context_of row.session false) else None) is
       ∙ ap (λ (c : Context). Some c) context
 
-  thing_found : (sid : ℕ) (oa : Option AttemptState) (os : Option SessionState) (peer : List ℕ) (thing : Held) (plain : List ℕ) → sid ≢ 0 →
+  thing_found : (sid : ℕ) (oa : Option AttemptState) (os : Option Row) (peer : List ℕ) (thing : Held) (plain : List ℕ) → sid ≢ 0 →
       get s.startup.attempts sid ≡ oa → get s.sessions sid ≡ os → combined sid oa os ≡ Some (peer, thing) → Opens setup.secret (inward own thing) sid part plain →
       context_found s (place_of s sid) part ≡ Some (inward own thing)
   thing_found sid (Some a) os peer thing plain other ea es is opens =
@@ -120,12 +121,12 @@ module _ (setup : Setup) (past : List Stamped) (s : State) (tied : Tied setup pa
       ap (λ (p : Option Place). context_found s p part) place
       ∙ startup_found sid plain (subst (λ (c : Context). Opens setup.secret c sid part plain) (sym context) opens)
       ∙ ap (λ (c : Context). Some c) context
-  thing_found sid None (Some session) peer thing plain other ea es is opens =
-      let same : (session.joined.peer, thing_of session.role session.stage session.joined) ≡ (peer, thing) = cc in
-      let context : inward own (thing_of session.role session.stage session.joined) ≡ inward own thing = ap (λ (x : List ℕ × Held). inward own x.1) same in
+  thing_found sid None (Some row) peer thing plain other ea es is opens =
+      let same : (row.session.joined.peer, thing_of row.session.role row.session.stage row.session.joined) ≡ (peer, thing) = cc in
+      let context : inward own (thing_of row.session.role row.session.stage row.session.joined) ≡ inward own thing = ap (λ (x : List ℕ × Held). inward own x.1) same in
       let place : place_of s sid ≡ Some (Session sid) = place_by s sid false true other (ap is_some ea) (ap is_some es) in
       ap (λ (p : Option Place). context_found s p part) place
-      ∙ session_found sid session plain es (subst (λ (c : Context). Opens setup.secret c sid part plain) (sym context) opens)
+      ∙ session_found sid row plain es (subst (λ (c : Context). Opens setup.secret c sid part plain) (sym context) opens)
       ∙ ap (λ (c : Context). Some c) context
   thing_found sid None None peer thing plain other ea es is opens = absurd (cc)
 
@@ -180,24 +181,24 @@ module _ (setup : Setup) (past : List Stamped) (s : State) (tied : Tied setup pa
         opens = subst (λ (id : ℕ). Opens setup.secret c id part found.1.0) (sym zero) found.1.1;
       }
 
-  told_in_session : (sid : ℕ) (session : SessionState) (c : Context) → get s.startup.attempts sid ≡ None → get s.sessions sid ≡ Some session → context_in_session (Some session) part ≡ Some c → Named sid c
-  told_in_session sid session c none at e =
-      let ours = tied.sessions sid session at in
-      let both = chosen (opens_in_session session part) (context_of session false) c e in
-      let found = (opens_some_plain session part).0 both.0 in
-      let thing : Held = thing_of session.role session.stage session.joined in
-      let context : context_of session false ≡ inward own thing =
-      ap (λ (o : List ℕ). context_between session.joined o session.role false) ours.own ∙ inward_is own session.role session.stage session.joined in
+  told_in_session : (sid : ℕ) (row : Row) (c : Context) → get s.startup.attempts sid ≡ None → get s.sessions sid ≡ Some row → context_in_session (Some row) part ≡ Some c → Named sid c
+  told_in_session sid row c none at e =
+      let ours = tied.sessions sid row at in
+      let both = chosen (opens_in_session row.session part) (context_of row.session false) c e in
+      let found = (opens_some_plain row.session part).0 both.0 in
+      let thing : Held = thing_of row.session.role row.session.stage row.session.joined in
+      let context : context_of row.session false ≡ inward own thing =
+      ap (λ (o : List ℕ). context_between row.session.joined o row.session.role false) ours.own ∙ inward_is own row.session.role row.session.stage row.session.joined in
       record {
-        context = inr (thing, is_held sid session.joined.peer thing (found_of_session s sid session none at), sym both.1 ∙ context);
+        context = inr (thing, is_held sid row.session.joined.peer thing (found_of_session s sid row none at), sym both.1 ∙ context);
         plain = found.0;
         opens =
             subst (λ (near : ℕ). Opens setup.secret c near part found.0) ours.id
-            (subst (λ (x : Context). Opens setup.secret x session.joined.near part found.0) both.1
-            (subst (λ (secret : List ℕ). Opens secret (context_of session false) session.joined.near part found.0) ours.secret found.1));
+            (subst (λ (x : Context). Opens setup.secret x row.session.joined.near part found.0) both.1
+            (subst (λ (secret : List ℕ). Opens secret (context_of row.session false) row.session.joined.near part found.0) ours.secret found.1));
       }
 
-  told_elsewhere : (sid : ℕ) (oa : Option AttemptState) (os : Option SessionState) (c : Context) → sid ≢ 0 → get s.startup.attempts sid ≡ oa → get s.sessions sid ≡ os →
+  told_elsewhere : (sid : ℕ) (oa : Option AttemptState) (os : Option Row) (c : Context) → sid ≢ 0 → get s.startup.attempts sid ≡ oa → get s.sessions sid ≡ os →
       context_found s (place_of s sid) part ≡ Some c → Named sid c
   told_elsewhere sid (Some a) os c other ea es e =
       let place : place_of s sid ≡ Some (Attempt sid) = place_by s sid true (contains_key s.sessions sid) other (ap is_some ea) refl in
@@ -207,9 +208,9 @@ module _ (setup : Setup) (past : List Stamped) (s : State) (tied : Tied setup pa
         plain = found.1.0;
         opens = found.1.1;
       }
-  told_elsewhere sid None (Some session) c other ea es e =
+  told_elsewhere sid None (Some row) c other ea es e =
       let place : place_of s sid ≡ Some (Session sid) = place_by s sid false true other (ap is_some ea) (ap is_some es) in
-      told_in_session sid session c ea es (sym (ap (λ (p : Option Place). context_found s p part) place ∙ ap (λ (o : Option SessionState). context_in_session o part) es) ∙ e)
+      told_in_session sid row c ea es (sym (ap (λ (p : Option Place). context_found s p part) place ∙ ap (λ (o : Option Row). context_in_session o part) es) ∙ e)
   told_elsewhere sid None None c other ea es e =
       let place : place_of s sid ≡ None = place_by s sid false false other (ap is_some ea) (ap is_some es) in
       let clash : None ≡ Some c = sym (ap (λ (p : Option Place). context_found s p part) place) ∙ e in

@@ -22,9 +22,9 @@ use Rattle.endpoint_laws.proofs.Lines.{FactPart, EntriesMeet}
 use Rattle.endpoint_laws.proofs.Tied.{Tied}
 use Rattle.endpoint_laws.proofs.Going.{Goes, goes_nothing, goes_then, goes_discarded}
 use Rattle.endpoint_laws.proofs.OutSends.{Sent, Meets, meets_nothing, meets_then}
-use Rattle.endpoint_laws.proofs.OutItems.{SentIn, meets_tick_once, meets_confirming, meets_discarded}
+use Rattle.endpoint_laws.proofs.OutItems.{meets_tick_once, meets_confirming, meets_discarded}
 use Rattle.endpoint_laws.proofs.Replies.{SameCounts}
-use Rattle.endpoint_laws.proofs.Few.{Few, few_nothing, few_then, few_from, few_chunk, few_confirming, few_tick_once, left_by}
+use Rattle.endpoint_laws.proofs.Few.{Few, few_nothing, few_then, few_from, few_chunk, few_confirming, few_tick_once}
 use Rattle.endpoint_laws.proofs.Ending.{goes_tick_once}
 use Rattle.endpoint_laws.proofs.Confirming.{goes_confirming}
 use Rattle.endpoint_laws.proofs.Admitting.{Came, AdmissionIs, IsTaken}
@@ -137,37 +137,35 @@ module _ (setup : Setup) (is : IsSetup setup) (from : AddressParts) (datagram : 
   this = Receive from datagram draws
 
   -- what it leaves before its chunks, and then these, which are the first of them
-  first_orderly : (t : State) (place : Place) (packet : Whole) (cs rest : List Placed) → chunks_of packet ≡ cs ++ rest → IsTaken setup past s datagram t place packet → Sent setup past t →
+  first_orderly : (t : State) (place : Place) (packet : Whole) (cs rest : List Placed) → chunks_of packet ≡ cs ++ rest → IsTaken setup past s datagram t place packet →
       Orderly setup this past t (then_do (confirming t place) (λ u. chunks_did place from draws outset u cs))
-  first_orderly t place packet cs rest whole taken sent =
+  first_orderly t place packet cs rest whole taken =
       let d : Did = confirming t place in
       let one : Orderly setup this past t d = record {
         goes = goes_confirming setup from datagram draws t place taken.leaves.heard past taken.leaves.tied;
-        meets = meets_confirming setup t.moment this past t place sent;
+        meets = meets_confirming setup t.moment this past t place taken.leaves.sent;
         few = few_confirming t place;
       } in
       orderly_then setup this past t d (λ u. chunks_did place from draws outset u cs) one
       (chunks_orderly setup is from datagram draws fits packet place taken.came outset [] cs rest d.state (onto t.moment d.entries past) (record { whole = whole; keyed = λ e c none kind. none }) one.goes.tied one.meets.sent)
 
-  pub received_orderly : (a : Admission) → AdmissionIs setup past s datagram a → SentIn setup past a → (left_by a).sealed ≡ s.sealed → Orderly setup this past s (received from draws a)
-  received_orderly (Rejected t cause) so sent sealed =
-      orderly_from setup this past s t (discarded t 0 cause) (record { moment = so.moment; sealed = sealed })
-      (record { goes = goes_discarded setup this t 0 cause past so.tied; meets = meets_discarded setup t.moment this past t 0 cause sent; few = omega arith })
-  received_orderly (Admitted t place packet) so sent sealed =
-      orderly_from setup this past s t (then_do (confirming t place) (λ u. chunks_did place from draws outset u (chunks_of packet))) (record { moment = so.leaves.moment; sealed = sealed })
-      (first_orderly t place packet (chunks_of packet) [] (sym (append-nil (chunks_of packet))) so sent)
+  pub received_orderly : (a : Admission) → AdmissionIs setup past s datagram a → Orderly setup this past s (received from draws a)
+  received_orderly (Rejected t cause) so =
+      orderly_from setup this past s t (discarded t 0 cause) so.same
+      (record { goes = goes_discarded setup this t 0 cause past so.tied; meets = meets_discarded setup t.moment this past t 0 cause so.sent; few = omega arith })
+  received_orderly (Admitted t place packet) so =
+      orderly_from setup this past s t (then_do (confirming t place) (λ u. chunks_did place from draws outset u (chunks_of packet))) so.leaves.same
+      (first_orderly t place packet (chunks_of packet) [] (sym (append-nil (chunks_of packet))) so)
 
-  part_orderly : (count : ℕ) (a : Admission) → AdmissionIs setup past s datagram a → SentIn setup past a → (left_by a).sealed ≡ s.sealed → Orderly setup this past s (part_received from draws a count)
-  part_orderly count (Rejected t cause) so sent sealed =
-      orderly_from setup this past s t (nothing t) (record { moment = so.moment; sealed = sealed }) (orderly_nothing setup this past t so.tied sent)
-  part_orderly count (Admitted t place packet) so sent sealed =
-      orderly_from setup this past s t (then_do (confirming t place) (λ u. chunks_did place from draws outset u (take count (chunks_of packet)))) (record { moment = so.leaves.moment; sealed = sealed })
-      (first_orderly t place packet (take count (chunks_of packet)) (drop count (chunks_of packet)) (sym (take-append-drop count (chunks_of packet))) so sent)
+  part_orderly : (count : ℕ) (a : Admission) → AdmissionIs setup past s datagram a → Orderly setup this past s (part_received from draws a count)
+  part_orderly count (Rejected t cause) so = orderly_from setup this past s t (nothing t) so.same (orderly_nothing setup this past t so.tied so.sent)
+  part_orderly count (Admitted t place packet) so =
+      orderly_from setup this past s t (then_do (confirming t place) (λ u. chunks_did place from draws outset u (take count (chunks_of packet)))) so.leaves.same
+      (first_orderly t place packet (take count (chunks_of packet)) (drop count (chunks_of packet)) (sym (take-append-drop count (chunks_of packet))) so)
 
-  pub stopped_orderly : (stop : Stop) (a : Admission) → Tied setup past s → Sent setup past s → AdmissionIs setup past s datagram a → SentIn setup past a → (left_by a).sealed ≡ s.sealed →
-      Orderly setup this past s (stopped s from draws a stop)
-  stopped_orderly stop a tied sent so sent_in sealed = by stop.taken
+  pub stopped_orderly : (stop : Stop) (a : Admission) → Tied setup past s → Sent setup past s → AdmissionIs setup past s datagram a → Orderly setup this past s (stopped s from draws a stop)
+  stopped_orderly stop a tied sent so = by stop.taken
     where
       by : (b : Bool) → Orderly setup this past s (if b then part_received from draws a stop.chunks else nothing s)
-      by true = part_orderly stop.chunks a so sent_in sealed
+      by true = part_orderly stop.chunks a so
       by false = orderly_nothing setup this past s tied sent

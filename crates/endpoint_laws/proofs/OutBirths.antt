@@ -37,14 +37,15 @@ use Rattle.startup.specs.State.{AttemptState, Attempts, StartupState}
 use Rattle.startup.specs.Attempts.{wide}
 use Rattle.startup.specs.Keyings.{InitiatorKeying, ResponderKeying, initiator_keying_in, initiator_fields, with_initiator_part, cause_by, cookie_cause, named_cause, initiator_cause, keying_of, session_answer, change_answer, repeated_session, born_session, again_or_birth, keyed_with, keyed_reading, opening_id, without, after_again_or_birth, after_keyed_with, after_keyed_reading, opened_reading, after_opening, responder_keying_in}
 use Rattle.session_core.specs.declared.stage.Role.TheVariants.{Initiator, Responder}
-use Rattle.session_core.specs.Session.{SessionState, new_session}
+use Rattle.session_core.specs.Session.{new_session}
 use Rattle.rtmfp_chunks.specs.Writing.{chunk_bytes}
+use Rattle.endpoint_model.specs.declared.row.Row.{Row}
 use Rattle.endpoint_model.specs.declared.walk.Walk.{Walk}
 use Rattle.endpoint_model.specs.declared.config.Draws.{Draws}
 use Rattle.endpoint_model.specs.declared.entry.Entry.TheVariants.{Fact as FactEntry}
 use Rattle.endpoint_model.specs.Event.{Setup, own_of, Call}
 use Rattle.endpoint_laws.specs.Past.{Stamped, stamped, onto, facts_of}
-use Rattle.endpoint_model.specs.State.{State, Sessions, fact_entries, with_startup, with_session, free_among, free_from, next_id, is_free, full}
+use Rattle.endpoint_model.specs.State.{State, new_row, with_row, Sessions, fact_entries, with_startup, free_among, free_from, next_id, is_free, full}
 use Rattle.endpoint_model.specs.Sending.{sent_answer, sent_by, sent_in_session}
 use Rattle.endpoint_model.specs.Due.{without_ended, with_born, keying_done, initiator_keyed, opening_done, responder_keyed}
 use Rattle.endpoint_model.specs.Causes.{initiator_keying_cause}
@@ -199,7 +200,7 @@ module _ (setup : Setup) (now : ℕ) (call : Call) (past : List Stamped) (s : St
       let before : List Stamped = onto now (fact_entries ended) past in
       let after : List Stamped = stamped now (FactEntry (Born j)) ∷ before in
       let told : Sent setup before s = sent_facts setup past s now ended sent light in
-      let new : SessionState = new_session j t.ledger.own Responder from t.secret s.moment in
+      let new : Row = new_row (new_session j t.ledger.own Responder from t.secret s.moment) in
       let state : State = with_born (with_startup s t) ended (Born j) from in
       let kept : Sent setup after state = record {
         numbered = numbered_born (own_of setup) before s.sealed (without_ended s.sessions ended) (numbered_without (own_of setup) before s.sealed s.sessions ended told.numbered) now j new refl refl refl;
@@ -266,8 +267,8 @@ module _ (setup : Setup) (now : ℕ) (call : Call) (past : List Stamped) (s : St
   meets_opened : (j : Joined) → j.near ≡ near → held j.peer (facts_of past) ≡ Some (OpeningHeld j.n j.near j.ni) → Meets setup now call past (opening_done s near from (Some (Opened j)))
   meets_opened j is was =
       let after : List Stamped = stamped now (FactEntry (Opened j)) ∷ past in
-      let new : SessionState = new_session j s.startup.ledger.own Initiator from s.startup.secret s.moment in
-      let state : State = with_session (with_startup s (after_opening s.startup near (Opened j))) near new in
+      let new : Row = new_row (new_session j s.startup.ledger.own Initiator from s.startup.secret s.moment) in
+      let state : State = with_row (with_startup s (after_opening s.startup near (Opened j))) near new in
       let lawful : AreLawful (own_of setup) 0 (facts_of past) = subst (λ (o : List ℕ). AreLawful o 0 (facts_of past)) tied.own tied.account.lawful in
       let kept : Sent setup after state = record {
         numbered = subst (λ (n : ℕ). Numbered (own_of setup) after s.sealed (insert s.sessions n new)) is
@@ -279,7 +280,7 @@ module _ (setup : Setup) (now : ℕ) (call : Call) (past : List Stamped) (s : St
       let ping : Meets setup now call after (sent_by state near from (chunk_bytes (Ping [])) (Some new)) =
       meets_session setup now call after state kept near new there tied.secret tied.own (held_opened j (facts_of past) was) from (Ping []) (omega arith) (omega arith) (omega arith) in
       meets_after setup now call past (FactEntry (Opened j) ∷ []) (sent_in_session state near from (chunk_bytes (Ping []))) (tt, tt)
-      (subst (λ (o : Option SessionState). Meets setup now call after (sent_by state near from (chunk_bytes (Ping [])) o)) (sym there) ping)
+      (subst (λ (o : Option Row). Meets setup now call after (sent_by state near from (chunk_bytes (Ping [])) o)) (sym there) ping)
 
   by_attempt : (o : Option AttemptState) → get s.startup.attempts near ≡ o → (read : Result ResponderKeying Cause) → Meets setup now call past (opening_done s near from (opened_reading near o read))
   by_attempt None is read = meets_nothing setup now call past s sent

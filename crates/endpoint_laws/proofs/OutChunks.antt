@@ -1,14 +1,12 @@
 -- What goes out of a chunk of a datagram.
-use Rattle.std.proofs.Common.{◌≡◌, ℕ, ◌^◌, ◌<◌, ◌≤◌, List, [], ◌∷◌, length, Option, Some, None, Result, refl, Bool, true, false, if◌then◌else◌}
-use Rattle.std.specs.Prelude.{◌==◌, not}
+use Rattle.std.proofs.Common.{◌≡◌, ℕ, ◌^◌, ◌<◌, ◌≤◌, List, length, Option, Some, None, Result, refl, Bool, true, false, if◌then◌else◌}
+use Rattle.std.specs.Prelude.{◌==◌}
 use Rattle.rtmfp_forms.specs.Address.{AddressParts}
 use Rattle.rtmfp_packet.specs.Walk.{Placed}
 use Rattle.rtmfp_chunks.specs.declared.reading.ChunkFault.{ChunkFault}
 use Rattle.rtmfp_chunks.specs.FieldReading.{chunk_reading}
 use Rattle.rtmfp_chunks.specs.Chunk.{Chunk}
-use Rattle.glare_core.specs.Calls.{where_true, first_that_stands}
 use Rattle.startup.specs.declared.cause.Cause.{Cause}
-use Rattle.startup.specs.declared.cause.Cause.TheVariants.{UnknownChunk, Fragment as FragmentCause, WrongPlace}
 use Rattle.endpoint_model.specs.declared.walk.Walk.{Walk}
 use Rattle.endpoint_model.specs.declared.config.Draws.{Draws}
 use Rattle.endpoint_model.specs.declared.place.Place.{Place}
@@ -17,22 +15,13 @@ use Rattle.endpoint_laws.specs.Past.{Stamped}
 use Rattle.endpoint_model.specs.State.{State}
 use Rattle.endpoint_model.specs.Admission.{sid_at}
 use Rattle.endpoint_model.specs.Due.{initiator_keyed, responder_keyed, read_done, effect, discarded_or, chunk_did}
-use Rattle.endpoint_model.specs.Causes.{is_known, form_cause, takes, read_cause, initiator_keying_cause, responder_keying_cause, last_cause, chunk_cause}
+use Rattle.endpoint_model.specs.Causes.{read_cause, initiator_keying_cause, responder_keying_cause, last_cause, chunk_cause}
 use Rattle.endpoint_laws.proofs.Tied.{Tied}
 use Rattle.endpoint_laws.proofs.OutSends.{Sent, Meets}
 use Rattle.endpoint_laws.proofs.OutItems.{meets_discarded}
 use Rattle.endpoint_laws.proofs.Replies.{meets_read}
+use Rattle.endpoint_laws.proofs.Chunked.{last_none}
 use Rattle.endpoint_laws.proofs.OutBirths.{meets_initiator, meets_responder}
-
--- ---- causes that don't stand
-
-fifth_none : (a b c d e : Option Cause) → first_that_stands (a ∷ b ∷ c ∷ d ∷ e ∷ []) ≡ None → e ≡ None
-fifth_none None None None None None h = refl
-fifth_none None None None None (Some x) h = absurd (cc)
-fifth_none None None None (Some x) e h = absurd (cc)
-fifth_none None None (Some x) d e h = absurd (cc)
-fifth_none None (Some x) c d e h = absurd (cc)
-fifth_none (Some x) b c d e h = absurd (cc)
 
 -- ---- a chunk
 
@@ -54,5 +43,4 @@ module _ (setup : Setup) (now : ℕ) (call : Call) (past : List Stamped) (s : St
 
     pub meets_chunk : (c : Placed) → Meets setup now call past (chunk_did place from draws walk s c)
     meets_chunk c = by_cause c (chunk_cause s place walk from c)
-        (λ none. fifth_none (where_true (not (is_known c.kind)) (UnknownChunk c.kind)) (form_cause c.kind c.payload) (where_true (c.kind == 0x7f) FragmentCause)
-        (where_true (not (takes place c.kind)) WrongPlace) (last_cause s place walk from c) none)
+        (λ none. last_none s place walk from c none)

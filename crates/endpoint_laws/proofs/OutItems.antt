@@ -1,12 +1,9 @@
 -- What calls do but for the chunks of datagrams: each datagram that goes out meets its line.
-use Rattle.std.proofs.Common.{◌≡◌, ◌==◌, ℕ, ◌+◌, ◌^◌, ◌<◌, ◌≤◌, List, [], ◌∷◌, length, drop, Option, Some, None, Ok, Err, Result, inl, inr, refl, sym, ap, subst, ◌∙◌, Bool, true, false, if◌then◌else◌, arith}
+use Rattle.std.proofs.Common.{◌≡◌, ◌==◌, ℕ, ◌+◌, ◌^◌, ◌<◌, ◌≤◌, List, [], ◌∷◌, length, Option, Some, None, inl, inr, refl, sym, ap, subst, ◌∙◌, Bool, true, false, if◌then◌else◌, arith}
 use Rattle.std.specs.FinMap.{get, insert, remove}
 use Rattle.rtmfp_base.proofs.Lowest.{first_is_there}
 use Rattle.rtmfp_base.proofs.Maps.{found_inserted, found_left}
 use Rattle.rtmfp_forms.specs.Address.{AddressParts}
-use Rattle.rtmfp_packet.specs.declared.head.PacketHead.{PacketHead}
-use Rattle.rtmfp_packet.specs.declared.head.PacketFault.{PacketFault}
-use Rattle.rtmfp_packet.specs.Whole.{Whole}
 use Rattle.glare_core.specs.declared.facts.Fact.{Fact}
 use Rattle.glare_core.specs.declared.facts.Why.TheVariants.{Cancelled, Expired}
 use Rattle.glare_core.specs.declared.facts.Held.{Held}
@@ -18,7 +15,6 @@ use Rattle.glare_core.proofs.Accounts.{reads_held}
 use Rattle.startup.specs.declared.answer.Answer.{Answer}
 use Rattle.startup.specs.declared.answer.Due.TheVariants.{Ended as EndDue}
 use Rattle.startup.specs.declared.cause.Cause.{Cause}
-use Rattle.startup.specs.declared.cause.Cause.TheVariants.{WrongPlace}
 use Rattle.startup.specs.declared.attempt.Stage.{Stage}
 use Rattle.startup.specs.declared.attempt.Stage.TheVariants.{Hello, Keying}
 use Rattle.startup.specs.Packets.{ihello_packet}
@@ -26,7 +22,8 @@ use Rattle.startup.specs.State.{AttemptState, Attempts, StartupState}
 use Rattle.startup.specs.Attempts.{lowest, has_number, with_attempt, without_attempt, ended_attempt, end_of, after_end_of, keying_answer, begun_attempt, distinct_candidates, confirm_fact, after_confirm}
 use Rattle.crypto_profile.specs.Keys.{sign_key_of}
 use Rattle.startup.specs.Due.{repeat_signed, is_due, is_over, repeated, repeat_of, due_of, after_due_of}
-use Rattle.session_core.specs.Session.{SessionState, is_opening, confirmed, with_stamps}
+use Rattle.session_core.specs.Session.{is_opening, confirmed}
+use Rattle.endpoint_model.specs.declared.row.Row.{Row}
 use Rattle.endpoint_model.specs.declared.config.Draws.{Draws}
 use Rattle.endpoint_model.specs.declared.place.Place.{Place}
 use Rattle.endpoint_model.specs.declared.place.Place.TheVariants.{Startup as StartupPlace, Attempt, Session}
@@ -34,10 +31,9 @@ use Rattle.endpoint_model.specs.declared.entry.Entry.{Entry}
 use Rattle.endpoint_model.specs.declared.entry.Entry.TheVariants.{Fact as FactEntry}
 use Rattle.endpoint_model.specs.Event.{Setup, own_of, Call}
 use Rattle.endpoint_laws.specs.Past.{Stamped, stamped, onto, facts_of}
-use Rattle.endpoint_model.specs.State.{State, Did, nothing, fact_entries, with_startup, with_session, with_sealed, free_from}
+use Rattle.endpoint_model.specs.State.{State, Did, nothing, fact_entries, with_startup, with_row, with_session, with_sealed, free_from}
 use Rattle.endpoint_model.specs.Sending.{last_count, sent_startup, sent_answer, sent_each}
-use Rattle.session_core.specs.Hearing.{counted}
-use Rattle.endpoint_model.specs.Admission.{Admission, Rejected, Admitted, admission, admitted, admitted_packet, opened_datagram, counted_by, counted_at, timed_by, timed_at, confirming, confirming_by, has_mode, mode_at, packet_in}
+use Rattle.endpoint_model.specs.Admission.{confirming, confirming_by}
 use Rattle.endpoint_model.specs.Due.{opening, cancelling, due_done, tick_once, discarded, item_done, attempt_item}
 use Rattle.endpoint_laws.proofs.Lines.{EntriesMeet, OutPart}
 use Rattle.endpoint_laws.proofs.Tied.{Tied}
@@ -80,8 +76,8 @@ pub lines_facts : (setup : Setup) (now : ℕ) (call : Call) (past : List Stamped
 lines_facts setup now call past None = tt
 lines_facts setup now call past (Some fact) = (tt, tt)
 
-pub sent_session_changed : (setup : Setup) (past : List Stamped) (s : State) (near : ℕ) (old new : SessionState) → Sent setup past s → get s.sessions near ≡ Some old →
-    new.joined ≡ old.joined → new.own ≡ old.own → new.role ≡ old.role → new.sealed ≡ old.sealed → Sent setup past (with_session s near new)
+pub sent_session_changed : (setup : Setup) (past : List Stamped) (s : State) (near : ℕ) (old new : Row) → Sent setup past s → get s.sessions near ≡ Some old →
+    new.session.joined ≡ old.session.joined → new.session.own ≡ old.session.own → new.session.role ≡ old.session.role → new.session.sealed ≡ old.session.sealed → Sent setup past (with_row s near new)
 sent_session_changed setup past s near old new sent there joined mine role count = record {
   numbered = numbered_changed (own_of setup) past s.sealed s.sessions sent.numbered near old new there joined mine role count;
   sized = sent.sized;
@@ -210,67 +206,27 @@ confirmed_light (Some (HalfOpen j)) peer = tt
 confirmed_light (Some (KeptAsResponder j)) peer = tt
 confirmed_light (Some (KeptAsInitiator j)) peer = tt
 
-confirming_test : (setup : Setup) (now : ℕ) (call : Call) (past : List Stamped) (s : State) (near : ℕ) (session : SessionState) → Sent setup past s → get s.sessions near ≡ Some session → (b : Bool) →
+confirming_test : (setup : Setup) (now : ℕ) (call : Call) (past : List Stamped) (s : State) (near : ℕ) (row : Row) → Sent setup past s → get s.sessions near ≡ Some row → (b : Bool) →
     Meets setup now call past (if b then record {
-      state = with_session (with_startup s (after_confirm s.startup session.joined.peer)) near (confirmed session);
-      entries = fact_entries (confirm_fact s.startup session.joined.peer);
+      state = with_session (with_startup s (after_confirm s.startup row.session.joined.peer)) near row (confirmed row.session);
+      entries = fact_entries (confirm_fact s.startup row.session.joined.peer);
     } else nothing s)
-confirming_test setup now call past s near session sent there false = meets_nothing setup now call past s sent
-confirming_test setup now call past s near session sent there true =
-    let o : Option Fact = confirm_fact s.startup session.joined.peer in
-    let after : Sent setup (onto now (fact_entries o) past) s = sent_facts setup past s now o sent (confirmed_light (held_with s.startup.ledger session.joined.peer) session.joined.peer) in
-    let changed : Sent setup (onto now (fact_entries o) past) (with_session s near (confirmed session)) =
-    sent_session_changed setup (onto now (fact_entries o) past) s near session (confirmed session) after there refl refl refl refl in
+confirming_test setup now call past s near row sent there false = meets_nothing setup now call past s sent
+confirming_test setup now call past s near row sent there true =
+    let o : Option Fact = confirm_fact s.startup row.session.joined.peer in
+    let after : Sent setup (onto now (fact_entries o) past) s = sent_facts setup past s now o sent (confirmed_light (held_with s.startup.ledger row.session.joined.peer) row.session.joined.peer) in
+    let changed : Sent setup (onto now (fact_entries o) past) (with_session s near row (confirmed row.session)) =
+    sent_session_changed setup (onto now (fact_entries o) past) s near row (record row { session = confirmed row.session }) after there refl refl refl refl in
     record {
       lines = lines_facts setup now call past o;
       sent = record { numbered = changed.numbered; sized = changed.sized; short = sent.short };
     }
 
-confirming_found : (setup : Setup) (now : ℕ) (call : Call) (past : List Stamped) (s : State) (near : ℕ) (o : Option SessionState) → Sent setup past s → get s.sessions near ≡ o → Meets setup now call past (confirming_by s near o)
+confirming_found : (setup : Setup) (now : ℕ) (call : Call) (past : List Stamped) (s : State) (near : ℕ) (o : Option Row) → Sent setup past s → get s.sessions near ≡ o → Meets setup now call past (confirming_by s near o)
 confirming_found setup now call past s near None sent is = meets_nothing setup now call past s sent
-confirming_found setup now call past s near (Some session) sent is = confirming_test setup now call past s near session sent is (is_opening session.stage)
+confirming_found setup now call past s near (Some row) sent is = confirming_test setup now call past s near row sent is (is_opening row.session.stage)
 
 pub meets_confirming : (setup : Setup) (now : ℕ) (call : Call) (past : List Stamped) (s : State) (place : Place) → Sent setup past s → Meets setup now call past (confirming s place)
 meets_confirming setup now call past s StartupPlace sent = meets_nothing setup now call past s sent
 meets_confirming setup now call past s (Attempt near) sent = meets_nothing setup now call past s sent
 meets_confirming setup now call past s (Session near) sent = confirming_found setup now call past s near (get s.sessions near) sent refl
-
--- ---- what a datagram leaves before its chunks
-
-abbrev pub SentIn : Setup → List Stamped → Admission → Type 0
-SentIn setup past (Rejected s cause) = Sent setup past s
-SentIn setup past (Admitted s place packet) = Sent setup past s
-
-counted_found : (setup : Setup) (past : List Stamped) (s : State) (near : ℕ) (part : List ℕ) (o : Option SessionState) → Sent setup past s → get s.sessions near ≡ o → Sent setup past (counted_by s near part o)
-counted_found setup past s near part None sent is = sent
-counted_found setup past s near part (Some session) sent is = sent_session_changed setup past s near session (counted session part) sent is refl refl refl refl
-
-sent_counted : (setup : Setup) (past : List Stamped) (s : State) (place : Place) (part : List ℕ) → Sent setup past s → Sent setup past (counted_at s place part)
-sent_counted setup past s StartupPlace part sent = sent
-sent_counted setup past s (Attempt near) part sent = sent
-sent_counted setup past s (Session near) part sent = counted_found setup past s near part (get s.sessions near) sent refl
-
-timed_found : (setup : Setup) (past : List Stamped) (s : State) (near : ℕ) (head : PacketHead) (o : Option SessionState) → Sent setup past s → get s.sessions near ≡ o → Sent setup past (timed_by s near head o)
-timed_found setup past s near head None sent is = sent
-timed_found setup past s near head (Some session) sent is = sent_session_changed setup past s near session (with_stamps head s.moment session) sent is refl refl refl refl
-
-sent_timed : (setup : Setup) (past : List Stamped) (s : State) (place : Place) (head : PacketHead) → Sent setup past s → Sent setup past (timed_at s place head)
-sent_timed setup past s StartupPlace head sent = sent
-sent_timed setup past s (Attempt near) head sent = sent
-sent_timed setup past s (Session near) head sent = timed_found setup past s near head (get s.sessions near) sent refl
-
-by_mode : (setup : Setup) (past : List Stamped) (s : State) (place : Place) (packet : Whole) (b : Bool) → Sent setup past s →
-    SentIn setup past (if b then Admitted (timed_at s place packet.head) place packet else Rejected s WrongPlace)
-by_mode setup past s place packet true sent = sent_timed setup past s place packet.head sent
-by_mode setup past s place packet false sent = sent
-
-by_packet : (setup : Setup) (past : List Stamped) (s : State) (place : Place) (read : Result Whole PacketFault) → Sent setup past s → SentIn setup past (admitted_packet s place read)
-by_packet setup past s place (Err fault) sent = sent
-by_packet setup past s place (Ok packet) sent = by_mode setup past s place packet (has_mode packet.head (mode_at s place)) sent
-
-by_opened : (setup : Setup) (past : List Stamped) (s : State) (datagram : List ℕ) (found : Result (Place × List ℕ) Cause) → Sent setup past s → SentIn setup past (admitted s datagram found)
-by_opened setup past s datagram (Err cause) sent = sent
-by_opened setup past s datagram (Ok found) sent = by_packet setup past (counted_at s found.0 (drop 4 datagram)) found.0 (packet_in found.1) (sent_counted setup past s found.0 (drop 4 datagram) sent)
-
-pub sent_admission : (setup : Setup) (past : List Stamped) (s : State) (datagram : List ℕ) → Sent setup past s → SentIn setup past (admission s datagram)
-sent_admission setup past s datagram sent = by_opened setup past s datagram (opened_datagram s datagram) sent

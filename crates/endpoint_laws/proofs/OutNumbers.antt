@@ -21,6 +21,7 @@ use Rattle.session_core.specs.declared.stage.Role.{Role}
 use Rattle.session_core.specs.declared.stage.Role.TheVariants.{Initiator, Responder}
 use Rattle.session_core.specs.Session.{SessionState, context_between, context_of}
 use Rattle.session_core.specs.Sealed.{number_bytes}
+use Rattle.endpoint_model.specs.declared.row.Row.{Row}
 use Rattle.endpoint_model.specs.Event.{Event}
 use Rattle.endpoint_model.specs.declared.entry.Entry.TheVariants.{Fact as FactEntry, Discard, Out}
 use Rattle.startup.specs.declared.cause.Cause.{Cause}
@@ -29,6 +30,7 @@ use Rattle.endpoint_model.specs.State.{Sessions}
 use Rattle.endpoint_model.specs.Sending.{last_count, startup_number}
 use Rattle.endpoint_laws.specs.Lawful.{WasNumbered, AsFarAs, nonces_of}
 use Rattle.endpoint_model.proofs.Parts.{past_front}
+use Rattle.endpoint_laws.proofs.Tied.{sealed_once}
 use Rattle.endpoint_laws.proofs.OutFacts.{opened_nonces, nonce_stays, opened_stays, different_before, not_opened}
 
 -- the number is that of a count, one of the first so many
@@ -60,10 +62,10 @@ pub record Numbered (own : List ℕ) (past : List Stamped) (sealed : ℕ) (sessi
   pub few : sealed ≤ last_count
   pub startup : (number : List ℕ) → WasNumbered Startup number past → Counted (startup_number own) sealed number
   pub known : (context : Context) (number : List ℕ) → WasNumbered context number past → Known context (facts_of past)
-  pub under : (near : ℕ) (session : SessionState) → get sessions near ≡ Some session → session.joined.near ≡ near
-  pub few_in : (near : ℕ) (session : SessionState) → get sessions near ≡ Some session → session.sealed ≤ last_count
-  pub sent : (near : ℕ) (session : SessionState) → get sessions near ≡ Some session → AllDifferent (nonces_of (facts_of past)) →
-      (number : List ℕ) → WasNumbered (context_of session true) number past → Counted number_bytes session.sealed number
+  pub under : (near : ℕ) (row : Row) → get sessions near ≡ Some row → row.session.joined.near ≡ near
+  pub few_in : (near : ℕ) (row : Row) → get sessions near ≡ Some row → row.session.sealed ≤ last_count
+  pub sent : (near : ℕ) (row : Row) → get sessions near ≡ Some row → AllDifferent (nonces_of (facts_of past)) →
+      (number : List ℕ) → WasNumbered (context_of row.session true) number past → Counted number_bytes row.session.sealed number
 
 -- ---- contexts
 
@@ -86,14 +88,14 @@ as_far j own Responder facts a = a
 
 pub numbered_new : (own : List ℕ) → Numbered own [] 0 empty
 numbered_new own =
-    let none = λ (near : ℕ) (session : SessionState) (e : get {R = nat_cmp} empty near ≡ Some session). none_is_some session (get {R = nat_cmp} empty near) (get-empty nat_cmp near) e in
+    let none = λ (near : ℕ) (row : Row) (e : get {R = nat_cmp} empty near ≡ Some row). none_is_some row (get {R = nat_cmp} empty near) (get-empty nat_cmp near) e in
     record {
       few = omega arith;
       startup = λ number was. absurd was;
       known = λ context number was. absurd was;
-      under = λ near session e. absurd (none near session e);
-      few_in = λ near session e. absurd (none near session e);
-      sent = λ near session e d number was. absurd was;
+      under = λ near row e. absurd (none near row e);
+      few_in = λ near row e. absurd (none near row e);
+      sent = λ near row e d number was. absurd was;
     }
 
 module _ (own : List ℕ) (past : List Stamped) (sealed : ℕ) (sessions : Sessions) (n : Numbered own past sealed sessions) where
@@ -104,7 +106,7 @@ module _ (own : List ℕ) (past : List Stamped) (sealed : ℕ) (sessions : Sessi
     known = λ context number was. elim was [ inl b ↦ absurd b | inr w ↦ known_stays context fact (facts_of past) (n.known context number w) ];
     under = n.under;
     few_in = n.few_in;
-    sent = λ near session e d number was. elim was [ inl b ↦ absurd b | inr w ↦ n.sent near session e (different_before fact (facts_of past) d) number w ];
+    sent = λ near row e d number was. elim was [ inl b ↦ absurd b | inr w ↦ n.sent near row e (different_before fact (facts_of past) d) number w ];
   }
 
   pub numbered_discard : (now at : ℕ) (cause : Cause) → Numbered own (stamped now (Discard at cause) ∷ past) sealed sessions
@@ -114,7 +116,7 @@ module _ (own : List ℕ) (past : List Stamped) (sealed : ℕ) (sessions : Sessi
     known = λ context number was. elim was [ inl b ↦ absurd b | inr w ↦ n.known context number w ];
     under = n.under;
     few_in = n.few_in;
-    sent = λ near session e d number was. elim was [ inl b ↦ absurd b | inr w ↦ n.sent near session e d number w ];
+    sent = λ near row e d number was. elim was [ inl b ↦ absurd b | inr w ↦ n.sent near row e d number w ];
   }
 
   pub numbered_begun : (now : ℕ) (e : Event) → Numbered own (begun now e ∷ past) sealed sessions
@@ -124,7 +126,7 @@ module _ (own : List ℕ) (past : List Stamped) (sealed : ℕ) (sessions : Sessi
     known = λ context number was. elim was [ inl b ↦ absurd b | inr w ↦ n.known context number w ];
     under = n.under;
     few_in = n.few_in;
-    sent = λ near session e d number was. elim was [ inl b ↦ absurd b | inr w ↦ n.sent near session e d number w ];
+    sent = λ near row e d number was. elim was [ inl b ↦ absurd b | inr w ↦ n.sent near row e d number w ];
   }
 
   -- a datagram in the startup context
@@ -142,9 +144,9 @@ module _ (own : List ℕ) (past : List Stamped) (sealed : ℕ) (sessions : Sessi
     ];
     under = n.under;
     few_in = n.few_in;
-    sent = λ near session e d number was. elim was [
-      | inl p ↦ absurd (not_startup session.joined session.own session.role (sym p.0))
-      | inr w ↦ n.sent near session e d number w
+    sent = λ near row e d number was. elim was [
+      | inl p ↦ absurd (not_startup row.session.joined row.session.own row.session.role (sym p.0))
+      | inr w ↦ n.sent near row e d number w
     ];
   }
 
@@ -167,79 +169,79 @@ module _ (own : List ℕ) (past : List Stamped) (sealed : ℕ) (sessions : Sessi
     few = n.few;
     startup = n.startup;
     known = n.known;
-    under = λ q session e. n.under q session (found_left sessions near q session e).1;
-    few_in = λ q session e. n.few_in q session (found_left sessions near q session e).1;
-    sent = λ q session e. n.sent q session (found_left sessions near q session e).1;
+    under = λ q row e. n.under q row (found_left sessions near q row e).1;
+    few_in = λ q row e. n.few_in q row (found_left sessions near q row e).1;
+    sent = λ q row e. n.sent q row (found_left sessions near q row e).1;
   }
 
   -- a session that changes, but not in its context nor in its count
-  pub numbered_changed : (near : ℕ) (old new : SessionState) → get sessions near ≡ Some old → new.joined ≡ old.joined → new.own ≡ old.own → new.role ≡ old.role → new.sealed ≡ old.sealed →
+  pub numbered_changed : (near : ℕ) (old new : Row) → get sessions near ≡ Some old → new.session.joined ≡ old.session.joined → new.session.own ≡ old.session.own → new.session.role ≡ old.session.role → new.session.sealed ≡ old.session.sealed →
       Numbered own past sealed (insert sessions near new)
   numbered_changed near old new there joined mine role count =
-      let context : context_of new true ≡ context_of old true =
-      ap (λ (j : Joined). context_between j new.own new.role true) joined ∙ ap (λ (o : List ℕ). context_between old.joined o new.role true) mine
-      ∙ ap (λ (r : Role). context_between old.joined old.own r true) role in
+      let context : context_of new.session true ≡ context_of old.session true =
+      ap (λ (j : Joined). context_between j new.session.own new.session.role true) joined ∙ ap (λ (o : List ℕ). context_between old.session.joined o new.session.role true) mine
+      ∙ ap (λ (r : Role). context_between old.session.joined old.session.own r true) role in
       record {
         few = n.few;
         startup = n.startup;
         known = n.known;
-        under = λ q session e. elim (found_inserted sessions near new q session e) [
-          | inl d ↦ ap (λ (s : SessionState). s.joined.near) (sym d.1) ∙ ap (λ (j : Joined). j.near) joined ∙ n.under near old there ∙ sym d.0
-          | inr d ↦ n.under q session d.1
+        under = λ q row e. elim (found_inserted sessions near new q row e) [
+          | inl d ↦ ap (λ (r : Row). r.session.joined.near) (sym d.1) ∙ ap (λ (j : Joined). j.near) joined ∙ n.under near old there ∙ sym d.0
+          | inr d ↦ n.under q row d.1
         ];
-        few_in = λ q session e. elim (found_inserted sessions near new q session e) [
-          | inl d ↦ subst (λ (m : ℕ). m ≤ last_count) (sym count ∙ ap (λ (s : SessionState). s.sealed) d.1) (n.few_in near old there)
-          | inr d ↦ n.few_in q session d.1
+        few_in = λ q row e. elim (found_inserted sessions near new q row e) [
+          | inl d ↦ subst (λ (m : ℕ). m ≤ last_count) (sym count ∙ ap (λ (r : Row). r.session.sealed) d.1) (n.few_in near old there)
+          | inr d ↦ n.few_in q row d.1
         ];
-        sent = λ q session e d' number was. elim (found_inserted sessions near new q session e) [
-          | inl d ↦ subst (λ (m : ℕ). Counted number_bytes m number) (sym count ∙ ap (λ (s : SessionState). s.sealed) d.1)
-              (n.sent near old there d' number (subst (λ (c : Context). WasNumbered c number past) (ap (λ (s : SessionState). context_of s true) (sym d.1) ∙ context) was))
-          | inr d ↦ n.sent q session d.1 d' number was
+        sent = λ q row e d' number was. elim (found_inserted sessions near new q row e) [
+          | inl d ↦ subst (λ (m : ℕ). Counted number_bytes m number) (sym count ∙ ap (λ (r : Row). r.session.sealed) d.1)
+              (n.sent near old there d' number (subst (λ (c : Context). WasNumbered c number past) (ap (λ (r : Row). context_of r.session true) (sym d.1) ∙ context) was))
+          | inr d ↦ n.sent q row d.1 d' number was
         ];
       }
 
   -- a session that sent nothing yet, in whose context nothing was sent
-  pub numbered_added : (near : ℕ) (new : SessionState) → new.sealed ≡ 0 → new.joined.near ≡ near →
-      (AllDifferent (nonces_of (facts_of past)) → (number : List ℕ) → WasNumbered (context_of new true) number past → ⊥) → Numbered own past sealed (insert sessions near new)
+  pub numbered_added : (near : ℕ) (new : Row) → new.session.sealed ≡ 0 → new.session.joined.near ≡ near →
+      (AllDifferent (nonces_of (facts_of past)) → (number : List ℕ) → WasNumbered (context_of new.session true) number past → ⊥) → Numbered own past sealed (insert sessions near new)
   numbered_added near new none id unused = record {
     few = n.few;
     startup = n.startup;
     known = n.known;
-    under = λ q session e. elim (found_inserted sessions near new q session e) [
-      | inl d ↦ ap (λ (s : SessionState). s.joined.near) (sym d.1) ∙ id ∙ sym d.0
-      | inr d ↦ n.under q session d.1
+    under = λ q row e. elim (found_inserted sessions near new q row e) [
+      | inl d ↦ ap (λ (r : Row). r.session.joined.near) (sym d.1) ∙ id ∙ sym d.0
+      | inr d ↦ n.under q row d.1
     ];
-    few_in = λ q session e. elim (found_inserted sessions near new q session e) [
-      | inl d ↦ subst (λ (m : ℕ). m ≤ last_count) (sym none ∙ ap (λ (s : SessionState). s.sealed) d.1) (omega arith)
-      | inr d ↦ n.few_in q session d.1
+    few_in = λ q row e. elim (found_inserted sessions near new q row e) [
+      | inl d ↦ subst (λ (m : ℕ). m ≤ last_count) (sym none ∙ ap (λ (r : Row). r.session.sealed) d.1) (omega arith)
+      | inr d ↦ n.few_in q row d.1
     ];
-    sent = λ q session e d' number was. elim (found_inserted sessions near new q session e) [
-      | inl d ↦ absurd (unused d' number (subst (λ (s : SessionState). WasNumbered (context_of s true) number past) (sym d.1) was))
-      | inr d ↦ n.sent q session d.1 d' number was
+    sent = λ q row e d' number was. elim (found_inserted sessions near new q row e) [
+      | inl d ↦ absurd (unused d' number (subst (λ (r : Row). WasNumbered (context_of r.session true) number past) (sym d.1) was))
+      | inr d ↦ n.sent q row d.1 d' number was
     ];
   }
 
   -- a datagram in a session
-  module _ (near : ℕ) (session : SessionState) (there : get sessions near ≡ Some session) (some : session.sealed ≢ last_count) where
-    pub once_session : AsFarAs (context_of session true) (facts_of past) → WasNumbered (context_of session true) (number_bytes (session.sealed + 1)) past → ⊥
+  module _ (near : ℕ) (row : Row) (there : get sessions near ≡ Some row) (some : row.session.sealed ≢ last_count) where
+    pub once_session : AsFarAs (context_of row.session true) (facts_of past) → WasNumbered (context_of row.session true) (number_bytes (row.session.sealed + 1)) past → ⊥
     once_session far was =
-        let c = n.sent near session there (as_far session.joined session.own session.role (facts_of past) far) (number_bytes (session.sealed + 1)) was in
-        let words : to_be_bytes w64 (session.sealed + 1) ≡ to_be_bytes w64 c.count =
-        sym (past_front 8 (replicate 8 0) (to_be_bytes w64 (session.sealed + 1)) refl)
+        let c = n.sent near row there (as_far row.session.joined row.session.own row.session.role (facts_of past) far) (number_bytes (row.session.sealed + 1)) was in
+        let words : to_be_bytes w64 (row.session.sealed + 1) ≡ to_be_bytes w64 c.count =
+        sym (past_front 8 (replicate 8 0) (to_be_bytes w64 (row.session.sealed + 1)) refl)
         ∙ ap (drop 8) c.is
         ∙ past_front 8 (replicate 8 0) (to_be_bytes w64 c.count) refl in
-        let small : session.sealed + 1 < 2 ^ 64 = omega (arith, n.few_in near session there, some) in
+        let small : row.session.sealed + 1 < 2 ^ 64 = omega (arith, n.few_in near row there, some) in
         let small' : c.count < 2 ^ 64 = omega (arith, c.last, small) in
-        let same : session.sealed + 1 ≡ c.count = sym (from_be_bytes-to_be_bytes_8 (session.sealed + 1) small) ∙ ap (from_be_bytes w64) words ∙ from_be_bytes-to_be_bytes_8 c.count small' in
+        let same : row.session.sealed + 1 ≡ c.count = sym (from_be_bytes-to_be_bytes_8 (row.session.sealed + 1) small) ∙ ap (from_be_bytes w64) words ∙ from_be_bytes-to_be_bytes_8 c.count small' in
         omega (arith, same, c.last)
 
-    pub numbered_session : (now : ℕ) (to : AddressParts) (datagram : List ℕ) (new : SessionState) → new ≡ record session { sealed = session.sealed + 1 } →
-        number_of (drop 4 datagram) ≡ number_bytes (session.sealed + 1) → Known (context_of session true) (facts_of past) →
-        Numbered own (stamped now (Out to datagram (context_of session true)) ∷ past) sealed (insert sessions near new)
+    pub numbered_session : (now : ℕ) (to : AddressParts) (datagram : List ℕ) (new : Row) → new.session ≡ sealed_once row.session →
+        number_of (drop 4 datagram) ≡ number_bytes (row.session.sealed + 1) → Known (context_of row.session true) (facts_of past) →
+        Numbered own (stamped now (Out to datagram (context_of row.session true)) ∷ past) sealed (insert sessions near new)
     numbered_session now to datagram new is number_is known = record {
       few = n.few;
       startup = λ number was. elim was [
-        | inl p ↦ absurd (not_startup session.joined session.own session.role p.0)
+        | inl p ↦ absurd (not_startup row.session.joined row.session.own row.session.role p.0)
         | inr w ↦ n.startup number w
       ];
       known = λ context number was. elim was [
@@ -247,45 +249,45 @@ module _ (own : List ℕ) (past : List Stamped) (sealed : ℕ) (sessions : Sessi
         | inr w ↦ n.known context number w
       ];
       under = λ q other e. elim (found_inserted sessions near new q other e) [
-        | inl d ↦ ap (λ (s : SessionState). s.joined.near) (sym d.1 ∙ is) ∙ n.under near session there ∙ sym d.0
+        | inl d ↦ ap (λ (r : Row). r.session.joined.near) (sym d.1) ∙ ap (λ (s : SessionState). s.joined.near) is ∙ n.under near row there ∙ sym d.0
         | inr d ↦ n.under q other d.1
       ];
       few_in = λ q other e. elim (found_inserted sessions near new q other e) [
-        | inl d ↦ (let more : other.sealed ≡ session.sealed + 1 = ap (λ (s : SessionState). s.sealed) (sym d.1 ∙ is) in omega (arith, more, n.few_in near session there, some))
+        | inl d ↦ (let more : other.session.sealed ≡ row.session.sealed + 1 = ap (λ (r : Row). r.session.sealed) (sym d.1) ∙ ap (λ (s : SessionState). s.sealed) is in omega (arith, more, n.few_in near row there, some))
         | inr d ↦ n.few_in q other d.1
       ];
       sent = λ q other e d' number was. elim (found_inserted sessions near new q other e) [
-        | inl d ↦ subst (λ (s : SessionState). Counted number_bytes s.sealed number) (sym is ∙ d.1)
-            (counted_here number d' (subst (λ (s : SessionState). WasNumbered (context_of s true) number (stamped now (Out to datagram (context_of session true)) ∷ past)) (sym d.1 ∙ is) was))
+        | inl d ↦ subst (λ (s : SessionState). Counted number_bytes s.sealed number) (sym is ∙ ap (λ (r : Row). r.session) d.1)
+            (counted_here number d' (subst (λ (s : SessionState). WasNumbered (context_of s true) number (stamped now (Out to datagram (context_of row.session true)) ∷ past)) (ap (λ (r : Row). r.session) (sym d.1) ∙ is) was))
         | inr d ↦ elim was [
-          | inl p ↦ absurd (d.0 (sym (n.under q other d.1) ∙ sym (same_near session.joined session.own session.role other.joined other.own other.role p.0) ∙ n.under near session there))
+          | inl p ↦ absurd (d.0 (sym (n.under q other d.1) ∙ sym (same_near row.session.joined row.session.own row.session.role other.session.joined other.session.own other.session.role p.0) ∙ n.under near row there))
           | inr w ↦ n.sent q other d.1 d' number w
         ]
       ];
     }
       where
-        counted_here : (number : List ℕ) → AllDifferent (nonces_of (facts_of past)) → WasNumbered (context_of session true) number (stamped now (Out to datagram (context_of session true)) ∷ past) →
-            Counted number_bytes (session.sealed + 1) number
-        counted_here number d (inl p) = counted_last number_bytes session.sealed number (sym p.1 ∙ number_is)
-        counted_here number d (inr w) = counted_more number_bytes session.sealed number (n.sent near session there d number w)
+        counted_here : (number : List ℕ) → AllDifferent (nonces_of (facts_of past)) → WasNumbered (context_of row.session true) number (stamped now (Out to datagram (context_of row.session true)) ∷ past) →
+            Counted number_bytes (row.session.sealed + 1) number
+        counted_here number d (inl p) = counted_last number_bytes row.session.sealed number (sym p.1 ∙ number_is)
+        counted_here number d (inr w) = counted_more number_bytes row.session.sealed number (n.sent near row there d number w)
 
 -- ---- a session begins, of which nothing was sent
 
-module _ (own : List ℕ) (past : List Stamped) (sealed : ℕ) (sessions : Sessions) (n : Numbered own past sealed sessions) (now : ℕ) (j : Joined) (new : SessionState) (none : new.sealed ≡ 0) (joined : new.joined ≡ j) where
-  in_role : (role : Role) → new.role ≡ role → context_of new true ≡ context_between j new.own role true
-  in_role role is = ap (λ (k : Joined). context_between k new.own new.role true) joined ∙ ap (λ (r : Role). context_between j new.own r true) is
+module _ (own : List ℕ) (past : List Stamped) (sealed : ℕ) (sessions : Sessions) (n : Numbered own past sealed sessions) (now : ℕ) (j : Joined) (new : Row) (none : new.session.sealed ≡ 0) (joined : new.session.joined ≡ j) where
+  in_role : (role : Role) → new.session.role ≡ role → context_of new.session true ≡ context_between j new.session.own role true
+  in_role role is = ap (λ (k : Joined). context_between k new.session.own new.session.role true) joined ∙ ap (λ (r : Role). context_between j new.session.own r true) is
 
-  known_as : (role : Role) (number : List ℕ) → new.role ≡ role → WasNumbered (context_of new true) number past → Known (context_between j new.own role true) (facts_of past)
-  known_as role number is w = n.known (context_between j new.own role true) number (subst (λ (c : Context). WasNumbered c number past) (in_role role is) w)
+  known_as : (role : Role) (number : List ℕ) → new.session.role ≡ role → WasNumbered (context_of new.session true) number past → Known (context_between j new.session.own role true) (facts_of past)
+  known_as role number is w = n.known (context_between j new.session.own role true) number (subst (λ (c : Context). WasNumbered c number past) (in_role role is) w)
 
   -- it is born, with a new nonce
-  pub numbered_born : new.role ≡ Responder → Numbered own (stamped now (FactEntry (Born j)) ∷ past) sealed (insert sessions j.near new)
+  pub numbered_born : new.session.role ≡ Responder → Numbered own (stamped now (FactEntry (Born j)) ∷ past) sealed (insert sessions j.near new)
   numbered_born role =
       numbered_added own (stamped now (FactEntry (Born j)) ∷ past) sealed sessions (numbered_fact own past sealed sessions n now (Born j)) j.near new none (ap (λ (k : Joined). k.near) joined)
       (λ d number was. elim was [ inl b ↦ b | inr w ↦ d.0 (known_as Responder number role w) ])
 
   -- it is that of an attempt, which is opened once
-  pub numbered_opened : new.role ≡ Initiator → AreLawful own 0 (facts_of past) → held j.peer (facts_of past) ≡ Some (Opening j.n j.near j.ni) →
+  pub numbered_opened : new.session.role ≡ Initiator → AreLawful own 0 (facts_of past) → held j.peer (facts_of past) ≡ Some (Opening j.n j.near j.ni) →
       Numbered own (stamped now (FactEntry (Opened j)) ∷ past) sealed (insert sessions j.near new)
   numbered_opened role lawful is_held =
       numbered_added own (stamped now (FactEntry (Opened j)) ∷ past) sealed sessions (numbered_fact own past sealed sessions n now (Opened j)) j.near new none (ap (λ (k : Joined). k.near) joined)

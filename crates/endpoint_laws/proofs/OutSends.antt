@@ -20,8 +20,9 @@ use Rattle.glare_core.specs.Standing.{held}
 use Rattle.startup.specs.State.{AttemptState, Attempts}
 use Rattle.startup.specs.declared.attempt.Stage.{Stage}
 use Rattle.startup.specs.declared.attempt.Stage.TheVariants.{Hello, Keying}
-use Rattle.session_core.specs.Session.{SessionState, context_of}
+use Rattle.session_core.specs.Session.{context_of}
 use Rattle.session_core.specs.Sealed.{number_bytes, after_seal}
+use Rattle.endpoint_model.specs.declared.row.Row.{Row}
 use Rattle.endpoint_model.specs.declared.entry.Entry.{Entry}
 use Rattle.endpoint_model.specs.declared.entry.Entry.TheVariants.{Out}
 use Rattle.endpoint_model.specs.Event.{Setup, own_of, Call}
@@ -31,7 +32,7 @@ use Rattle.endpoint_model.specs.Sending.{last_count, startup_number, startup_dat
 use Rattle.endpoint_model.specs.Keying.{KeyingsAre}
 use Rattle.endpoint_laws.specs.Lawful.{OutLine, KeyingOfAttempt, KeyingOfBorn}
 use Rattle.endpoint_laws.proofs.Lines.{EntriesMeet, OutPart}
-use Rattle.endpoint_laws.proofs.Tied.{thing_of}
+use Rattle.endpoint_laws.proofs.Tied.{sealed_once, thing_of}
 use Rattle.endpoint_laws.proofs.Going.{onto_append}
 use Rattle.endpoint_laws.proofs.OutNumbers.{Numbered, numbered_startup, once_startup, once_session, numbered_session}
 use Rattle.endpoint_laws.proofs.OutPackets.{session_alone, no_keyings}
@@ -133,48 +134,48 @@ module _ (setup : Setup) (now : ℕ) (call : Call) (past : List Stamped) (s : St
 
 -- ---- a packet in a session
 
-module _ (setup : Setup) (now : ℕ) (call : Call) (past : List Stamped) (s : State) (sent : Sent setup past s) (near : ℕ) (session : SessionState) (there : get s.sessions near ≡ Some session)
-    (secret : session.secret ≡ setup.secret) (own : session.own ≡ own_of setup) (is_held : held session.joined.peer (facts_of past) ≡ Some (thing_of session.role session.stage session.joined)) where
+module _ (setup : Setup) (now : ℕ) (call : Call) (past : List Stamped) (s : State) (sent : Sent setup past s) (near : ℕ) (row : Row) (there : get s.sessions near ≡ Some row)
+    (secret : row.session.secret ≡ setup.secret) (own : row.session.own ≡ own_of setup) (is_held : held row.session.joined.peer (facts_of past) ≡ Some (thing_of row.session.role row.session.stage row.session.joined)) where
   pub meets_session : (to : AddressParts) (chunk : Chunk) → length (payload_bytes chunk) < 2 ^ 16 → kind_of chunk ≢ 0x38 → kind_of chunk ≢ 0x78 →
-      Meets setup now call past (sent_by s near to (chunk_bytes chunk) (Some session))
-  meets_session to chunk short other other' = by_test (session.sealed == last_count) refl
+      Meets setup now call past (sent_by s near to (chunk_bytes chunk) (Some row))
+  meets_session to chunk short other other' = by_test (row.session.sealed == last_count) refl
     where
       plain : List ℕ
-      plain = session_packet session s.moment (chunk_bytes chunk)
+      plain = session_packet row.session s.moment (chunk_bytes chunk)
 
       sized : (count : ℕ) → length (number_bytes count) ≡ 16
       sized count = refl
 
-      is : session_datagram session s.moment (chunk_bytes chunk) ≡
-          datagram session.joined.far (sealed_in setup.secret (context_of session true) session.joined.far (number_bytes (session.sealed + 1)) (session_packet session s.moment (chunk_bytes chunk)))
-      is = ap (λ (k : List ℕ). datagram session.joined.far (sealed_in k (context_of session true) session.joined.far (number_bytes (session.sealed + 1)) (session_packet session s.moment (chunk_bytes chunk)))) secret
+      is : session_datagram row.session s.moment (chunk_bytes chunk) ≡
+          datagram row.session.joined.far (sealed_in setup.secret (context_of row.session true) row.session.joined.far (number_bytes (row.session.sealed + 1)) (session_packet row.session s.moment (chunk_bytes chunk)))
+      is = ap (λ (k : List ℕ). datagram row.session.joined.far (sealed_in k (context_of row.session true) row.session.joined.far (number_bytes (row.session.sealed + 1)) (session_packet row.session s.moment (chunk_bytes chunk)))) secret
 
-      carries : number_of (drop 4 (session_datagram session s.moment (chunk_bytes chunk))) ≡ number_bytes (session.sealed + 1)
-      carries = (sealed_carries (keys_of session.secret (context_of session true)) session.joined.far (number_bytes (session.sealed + 1)) (session_packet session s.moment (chunk_bytes chunk)) refl).0
+      carries : number_of (drop 4 (session_datagram row.session s.moment (chunk_bytes chunk))) ≡ number_bytes (row.session.sealed + 1)
+      carries = (sealed_carries (keys_of row.session.secret (context_of row.session true)) row.session.joined.far (number_bytes (row.session.sealed + 1)) (session_packet row.session s.moment (chunk_bytes chunk)) refl).0
 
-      line : session.sealed ≢ last_count → OutLine setup past (session_datagram session s.moment (chunk_bytes chunk)) (context_of session true)
+      line : row.session.sealed ≢ last_count → OutLine setup past (session_datagram row.session s.moment (chunk_bytes chunk)) (context_of row.session true)
       line some = record {
-        sid = session.joined.far;
-        number = number_bytes (session.sealed + 1);
-        plain = session_packet session s.moment (chunk_bytes chunk);
+        sid = row.session.joined.far;
+        number = number_bytes (row.session.sealed + 1);
+        plain = session_packet row.session s.moment (chunk_bytes chunk);
         numbered = refl;
         is = is;
-        once = λ far was. once_session (own_of setup) past s.sealed s.sessions sent.numbered near session there some far was;
-        keyings = λ packet reads. no_keyings _ _ packet (kind_of chunk) (payload_bytes chunk) (session_alone session s.moment chunk packet short reads) other other';
-        session = held_session setup (facts_of past) session.role session.stage session.joined session.own own is_held;
+        once = λ far was. once_session (own_of setup) past s.sealed s.sessions sent.numbered near row there some far was;
+        keyings = λ packet reads. no_keyings _ _ packet (kind_of chunk) (payload_bytes chunk) (session_alone row.session s.moment chunk packet short reads) other other';
+        session = held_session setup (facts_of past) row.session.role row.session.stage row.session.joined row.session.own own is_held;
       }
 
-      sealed_more : (b : Bool) → b ≡ false → (if b then session else record session { sealed = session.sealed + 1 }) ≡ record session { sealed = session.sealed + 1 }
-      sealed_more b e = ap (λ (t : Bool). if t then session else record session { sealed = session.sealed + 1 }) e
+      sealed_more : (b : Bool) → b ≡ false → (if b then row.session else sealed_once row.session) ≡ sealed_once row.session
+      sealed_more b e = ap (λ (t : Bool). if t then row.session else sealed_once row.session) e
 
-      by_test : (b : Bool) → (session.sealed == last_count) ≡ b →
-          Meets setup now call past (if b then nothing s else record { state = with_session s near (after_seal session); entries = Out to (session_datagram session s.moment (chunk_bytes chunk)) (context_of session true) ∷ [] })
+      by_test : (b : Bool) → (row.session.sealed == last_count) ≡ b →
+          Meets setup now call past (if b then nothing s else record { state = with_session s near row (after_seal row.session); entries = Out to (session_datagram row.session s.moment (chunk_bytes chunk)) (context_of row.session true) ∷ [] })
       by_test true e = meets_nothing setup now call past s sent
       by_test false e = record {
-        lines = (line (unequal session.sealed last_count e), tt);
+        lines = (line (unequal row.session.sealed last_count e), tt);
         sent = record {
-          numbered = numbered_session (own_of setup) past s.sealed s.sessions sent.numbered near session there (unequal session.sealed last_count e) now to (session_datagram session s.moment (chunk_bytes chunk))
-              (after_seal session) (sealed_more (session.sealed == last_count) e) carries (held_known (facts_of past) session.own session.role session.stage session.joined is_held);
+          numbered = numbered_session (own_of setup) past s.sealed s.sessions sent.numbered near row there (unequal row.session.sealed last_count e) now to (session_datagram row.session s.moment (chunk_bytes chunk))
+              (record row { session = after_seal row.session }) (sealed_more (row.session.sealed == last_count) e) carries (held_known (facts_of past) row.session.own row.session.role row.session.stage row.session.joined is_held);
           sized = sent.sized;
           short = sent.short;
         };

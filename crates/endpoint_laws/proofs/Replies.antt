@@ -21,7 +21,7 @@ use Rattle.startup.specs.State.{AttemptState, Attempts}
 use Rattle.startup.specs.Attempts.{lowest, has_tag, has_cookie, if_cookie, changed, wide, hello_cause_at, none_to_change, after_answer, answer_keying, answered, with_cookie, recookied, after_change, again_signed, change_keying}
 use Rattle.startup.specs.Keyings.{selects, initiator_hello_answer}
 use Rattle.crypto_profile.specs.Keys.{sign_key_of}
-use Rattle.session_core.specs.Session.{SessionState}
+use Rattle.endpoint_model.specs.declared.row.Row.{Row}
 use Rattle.endpoint_model.specs.declared.place.Place.{Place}
 use Rattle.endpoint_model.specs.Event.{Setup, Call}
 use Rattle.endpoint_model.specs.State.{State, Did, with_startup}
@@ -193,13 +193,13 @@ module _ (setup : Setup) (call : Call) where
       (goes_replied left place from (read_reply s place from read) past kept)
 
 module _ (setup : Setup) (now : ℕ) (call : Call) (past : List Stamped) where
-  says : (s : State) → Sent setup past s → Tied setup past s → (near : ℕ) (from : AddressParts) (body : List ℕ) → IsModest body → (o : Option SessionState) → get s.sessions near ≡ o → Meets setup now call past (sent_by s near from body o)
+  says : (s : State) → Sent setup past s → Tied setup past s → (near : ℕ) (from : AddressParts) (body : List ℕ) → IsModest body → (o : Option Row) → get s.sessions near ≡ o → Meets setup now call past (sent_by s near from body o)
   says s sent tied near from body modest None is = meets_nothing setup now call past s sent
-  says s sent tied near from body modest (Some session) is =
-      let t = tied.sessions near session is in
-      subst (λ (b : List ℕ). Meets setup now call past (sent_by s near from b (Some session))) (sym modest.is)
-      (meets_session setup now call past s sent near session is t.secret t.own
-      (sym (reads_held 0 s.startup.ledger (facts_of past) tied.account session.joined.peer) ∙ t.thing) from modest.chunk modest.short modest.no_initiator modest.no_responder)
+  says s sent tied near from body modest (Some row) is =
+      let t = tied.sessions near row is in
+      subst (λ (b : List ℕ). Meets setup now call past (sent_by s near from b (Some row))) (sym modest.is)
+      (meets_session setup now call past s sent near row is t.secret t.own
+      (sym (reads_held 0 s.startup.ledger (facts_of past) tied.account row.session.joined.peer) ∙ t.thing) from modest.chunk modest.short modest.no_initiator modest.no_responder)
 
   meets_replied : (s : State) → Sent setup past s → Tied setup past s → (place : Place) (from : AddressParts) (reply : Reply) → MayReply setup past reply → Meets setup now call past (replied s place from reply)
   meets_replied s sent tied place from Silence may = meets_nothing setup now call past s sent

@@ -1,5 +1,5 @@
 -- The state of an end agrees with what it did.
-use Rattle.std.proofs.Common.{◌≡◌, ℕ, ◌≤◌, List, [], length, false, Option, Some, None, is_some, ◌||◌, refl, ap, ◌∙◌, arith}
+use Rattle.std.proofs.Common.{◌≡◌, ℕ, ◌+◌, ◌≤◌, List, [], length, false, Option, Some, None, is_some, ◌||◌, refl, ap, ◌∙◌, arith}
 use Rattle.std.specs.Ordering.{nat_cmp}
 use Rattle.std.specs.Cmp.Lexicographic.{slice_cmp}
 use Rattle.std.specs.FinMap.{get, get-empty, len-empty}
@@ -19,6 +19,7 @@ use Rattle.session_core.specs.declared.stage.Role.TheVariants.{Initiator, Respon
 use Rattle.session_core.specs.declared.stage.Stage.{Stage}
 use Rattle.session_core.specs.declared.stage.Stage.TheVariants.{Opening, Open, NearClose, FarLinger, Closed}
 use Rattle.session_core.specs.Session.{SessionState}
+use Rattle.endpoint_model.specs.declared.row.Row.{Row}
 use Rattle.endpoint_model.specs.declared.entry.Entry.TheVariants.{Fact as FactEntry}
 use Rattle.endpoint_model.specs.Event.{Setup, own_of}
 use Rattle.endpoint_laws.specs.Past.{Stamped, stamped, facts_of, ids_in_use, is_in_use, WasDone}
@@ -47,6 +48,10 @@ StageFits Responder NearClose = ⊥
 StageFits Responder FarLinger = ⊥
 StageFits Responder Closed = ⊥
 
+-- a session that sealed once more
+abbrev pub sealed_once : SessionState → SessionState
+sealed_once session = record session { sealed = session.sealed + 1 }
+
 -- The session under this near id is one of this end, and the ledger holds it.
 pub record SessionTied (setup : Setup) (ledger : Ledger) (near : ℕ) (session : SessionState) : Type 0 where
   pub id : session.joined.near ≡ near
@@ -56,9 +61,9 @@ pub record SessionTied (setup : Setup) (ledger : Ledger) (near : ℕ) (session :
   pub thing : held_with ledger session.joined.peer ≡ Some (thing_of session.role session.stage session.joined)
 
 -- the peer of a session, where there is one
-abbrev pub peer_at : Option SessionState → Option (List ℕ)
+abbrev pub peer_at : Option Row → Option (List ℕ)
 peer_at None = None
-peer_at (Some session) = Some session.joined.peer
+peer_at (Some row) = Some row.session.joined.peer
 
 -- The state agrees with what was done.
 pub record Tied (setup : Setup) (past : List Stamped) (s : State) : Type 0 where
@@ -72,7 +77,7 @@ pub record Tied (setup : Setup) (past : List Stamped) (s : State) : Type 0 where
   -- the ledger is of the facts, and the attempts and the sessions are what it holds
   pub account : StandsFor 0 s.startup.ledger (facts_of past)
   pub sound : IsSound s.startup
-  pub sessions : (near : ℕ) (session : SessionState) → get s.sessions near ≡ Some session → SessionTied setup s.startup.ledger near session
+  pub sessions : (near : ℕ) (row : Row) → get s.sessions near ≡ Some row → SessionTied setup s.startup.ledger near row.session
   pub there : (peer : List ℕ) (thing : Held) → held_with s.startup.ledger peer ≡ Some thing → IsSession thing → peer_at (get s.sessions (near_of thing)) ≡ Some peer
   -- no attempt and session have one near id
   pub apart : (near : ℕ) (a : AttemptState) → get s.startup.attempts near ≡ Some a → get s.sessions near ≡ None
@@ -94,7 +99,7 @@ fresh_tied setup =
     let no_attempt : (near : ℕ) → get s.startup.attempts near ≡ None = λ near. get-empty nat_cmp near in
     let no_session : (near : ℕ) → get s.sessions near ≡ None = λ near. get-empty nat_cmp near in
     let no_thing : (peer : List ℕ) → held_with s.startup.ledger peer ≡ None = λ peer. ap (λ (o : Option PeerRow). (row_or_blank o).held) (get-empty (slice_cmp nat_cmp) peer) in
-    let none : uses s ≡ 0 = omega (arith, len-empty nat_cmp AttemptState, len-empty nat_cmp SessionState) in
+    let none : uses s ≡ 0 = omega (arith, len-empty nat_cmp AttemptState, len-empty nat_cmp Row) in
     record {
       config = refl;
       cert = refl;
@@ -104,11 +109,11 @@ fresh_tied setup =
       max_peers = refl;
       account = stands_new (own_of setup) setup.config.max_peers 0;
       sound = new_is_sound setup.cert setup.secret setup.cookie_secret setup.config.max_peers;
-      sessions = λ near session e. absurd (none_is_some session (get s.sessions near) (no_session near) e);
+      sessions = λ near row e. absurd (none_is_some row (get s.sessions near) (no_session near) e);
       there = λ peer thing e is. absurd (none_is_some thing (held_with s.startup.ledger peer) (no_thing peer) e);
       apart = λ near a e. no_session near;
       started = λ near a e. absurd (none_is_some a (get s.startup.attempts near) (no_attempt near) e);
-      used = λ near. ap (λ (o : Option AttemptState). is_some o || is_some (get s.sessions near)) (no_attempt near) ∙ ap (λ (o : Option SessionState). is_some o) (no_session near);
+      used = λ near. ap (λ (o : Option AttemptState). is_some o || is_some (get s.sessions near)) (no_attempt near) ∙ ap (λ (o : Option Row). is_some o) (no_session near);
       count = none;
       once = tt;
       not_zero = refl;

@@ -17,6 +17,7 @@ use Rattle.session_core.specs.declared.stage.Role.TheVariants.{Initiator, Respon
 use Rattle.session_core.specs.declared.stage.Stage.{Stage}
 use Rattle.session_core.specs.declared.stage.Stage.TheVariants.{Opening, Open, NearClose, FarLinger, Closed}
 use Rattle.session_core.specs.Session.{SessionState}
+use Rattle.endpoint_model.specs.declared.row.Row.{Row}
 use Rattle.endpoint_model.specs.declared.entry.Entry.TheVariants.{Fact as FactEntry}
 use Rattle.endpoint_model.specs.Event.{Setup, own_of, Event}
 use Rattle.endpoint_laws.specs.Past.{Stamped, stamped, facts_of, ids_in_use, is_in_use, WasDone, past_of, last_moment}
@@ -63,9 +64,9 @@ pub record SessionIsHeld (setup : Setup) (facts : List Fact) (near : ℕ) (sessi
 
 -- A session that is held is there under its session ID, in its stage.
 pub record SessionIsThere (s : State) (thing : Held) : Type 0 where
-  pub session : SessionState
-  pub there : get s.sessions (near_of thing) ≡ Some session
-  pub is : IsThing session.role session.stage session.joined thing
+  pub row : Row
+  pub there : get s.sessions (near_of thing) ≡ Some row
+  pub is : IsThing row.session.role row.session.stage row.session.joined thing
 
 pub record IsOfTheLog (setup : Setup) (s : State) (now : ℕ) (past : List Stamped) : Type 0 where
   pub moment : s.moment ≡ now
@@ -78,8 +79,8 @@ pub record IsOfTheLog (setup : Setup) (s : State) (now : ℕ) (past : List Stamp
   pub attempts_there : (peer : List ℕ) (n near : ℕ) (ni : List ℕ) →
       held peer (facts_of past) ≡ Some (AttemptHeld n near ni) → AttemptIsThere s peer n near ni
   -- the sessions, with their stages
-  pub sessions : (near : ℕ) (session : SessionState) → get s.sessions near ≡ Some session →
-      SessionIsHeld setup (facts_of past) near session
+  pub sessions : (near : ℕ) (row : Row) → get s.sessions near ≡ Some row →
+      SessionIsHeld setup (facts_of past) near row.session
   pub sessions_there : (peer : List ℕ) (thing : Held) → held peer (facts_of past) ≡ Some thing →
       IsSession thing → SessionIsThere s thing
   -- what is held with each peer, the greatest number seen of it, and whether it has a row

@@ -6,9 +6,10 @@ use Rattle.crypto_profile.specs.declared.keys.Context.TheVariants.{Startup as St
 use Rattle.crypto_profile.specs.declared.sealing.SealFault.{SealFault}
 use Rattle.crypto_profile.specs.Opening.{open_refusal}
 use Rattle.packet_scramble.specs.Datagram.{sid_of}
-use Rattle.session_core.specs.Session.{SessionState, context_of}
+use Rattle.session_core.specs.Session.{context_of}
 use Rattle.session_core.specs.Hearing.{opens_in as opens_in_session}
 use Rattle.glare_core.specs.declared.facts.Fact.{Fact}
+use Rattle.endpoint_model.specs.declared.row.Row.{Row}
 use Rattle.endpoint_model.specs.declared.place.Place.{Place}
 use Rattle.endpoint_model.specs.declared.place.Place.TheVariants.{Startup, Attempt, Session}
 use Rattle.endpoint_model.specs.Event.{Setup, Event, own_of}
@@ -31,10 +32,10 @@ context_in_startup s sid part = startup_unless (open_refusal (startup_keys s) si
 
 -- The context of a session towards this end, where a sealed part opens in it. The numbers taken
 -- before don't count.
-abbrev pub context_in_session : Option SessionState → List ℕ → Option Context
+abbrev pub context_in_session : Option Row → List ℕ → Option Context
 context_in_session None part = None
-context_in_session (Some session) part = if opens_in_session session part then
-    Some (context_of session false) else None
+context_in_session (Some row) part = if opens_in_session row.session part then
+    Some (context_of row.session false) else None
 
 abbrev pub context_at : State → Place → List ℕ → Option Context
 context_at s Startup part = context_in_startup s 0 part

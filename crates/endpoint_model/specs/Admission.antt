@@ -24,6 +24,7 @@ use Rattle.session_core.specs.Session.{SessionState, with_stamps, is_opening, co
 use Rattle.session_core.specs.Hearing.{unheard, inward_keys, counted}
 use Rattle.startup.specs.Attempts.{confirm_fact, after_confirm}
 use Rattle.endpoint_model.specs.declared.place.Place.{Place}
+use Rattle.endpoint_model.specs.declared.row.Row.{Row}
 use Rattle.endpoint_model.specs.declared.place.Place.TheVariants.{Startup, Attempt, Session}
 use Rattle.endpoint_model.specs.State.{State, Did, nothing, fact_entries, with_session, with_startup}
 
@@ -114,9 +115,9 @@ heard_by session part (Some ShortPart) = Err Short
 heard_by session part (Some WrongTag) = Err BadTag
 heard_by session part (Some OldNumber) = Err Repeated
 
-abbrev pub heard_in : Option SessionState → List ℕ → Result (List ℕ) Cause
+abbrev pub heard_in : Option Row → List ℕ → Result (List ℕ) Cause
 heard_in None part = Err UnknownSession
-heard_in (Some session) part = heard_by session part (unheard session part)
+heard_in (Some row) part = heard_by row.session part (unheard row.session part)
 
 -- the plain packet of a sealed part at a place, or why it has none
 abbrev pub opened_at : State → Place → List ℕ → Result (List ℕ) Cause
@@ -140,18 +141,19 @@ opened_datagram s datagram = if nat_lt (length datagram) 36 then Err Short
 
 -- ---- what it leaves before its chunks
 
-abbrev pub counted_by : State → ℕ → List ℕ → Option SessionState → State
+abbrev pub counted_by : State → ℕ → List ℕ → Option Row → State
 counted_by s near part None = s
-counted_by s near part (Some session) = with_session s near (counted session part)
+counted_by s near part (Some row) = with_session s near row (counted row.session part)
 
 abbrev pub counted_at : State → Place → List ℕ → State
 counted_at s Startup part = s
 counted_at s (Attempt near) part = s
 counted_at s (Session near) part = counted_by s near part (get s.sessions near)
 
-abbrev pub timed_by : State → ℕ → PacketHead → Option SessionState → State
+abbrev pub timed_by : State → ℕ → PacketHead → Option Row → State
 timed_by s near head None = s
-timed_by s near head (Some session) = with_session s near (with_stamps head s.moment session)
+timed_by s near head (Some row) =
+    with_session s near row (with_stamps head s.moment row.session)
 
 abbrev pub timed_at : State → Place → PacketHead → State
 timed_at s Startup head = s
@@ -159,14 +161,14 @@ timed_at s (Attempt near) head = s
 timed_at s (Session near) head = timed_by s near head (get s.sessions near)
 
 -- a half-open session is confirmed
-abbrev pub confirming_by : State → ℕ → Option SessionState → Did
+abbrev pub confirming_by : State → ℕ → Option Row → Did
 confirming_by s near None = nothing s
-confirming_by s near (Some session) =
-    if is_opening session.stage
+confirming_by s near (Some row) =
+    if is_opening row.session.stage
     then record {
-      state = with_session (with_startup s (after_confirm s.startup session.joined.peer)) near
-          (confirmed session);
-      entries = fact_entries (confirm_fact s.startup session.joined.peer);
+      state = with_session (with_startup s (after_confirm s.startup row.session.joined.peer)) near
+          row (confirmed row.session);
+      entries = fact_entries (confirm_fact s.startup row.session.joined.peer);
     }
     else nothing s
 
@@ -176,9 +178,9 @@ confirming s (Attempt near) = nothing s
 confirming s (Session near) = confirming_by s near (get s.sessions near)
 
 -- whether that session is half-open
-abbrev pub confirms_by : Option SessionState → Bool
+abbrev pub confirms_by : Option Row → Bool
 confirms_by None = false
-confirms_by (Some session) = is_opening session.stage
+confirms_by (Some row) = is_opening row.session.stage
 
 abbrev pub confirms : State → Place → Bool
 confirms s Startup = false
@@ -192,9 +194,9 @@ abbrev pub peers_mode : Role → Mode
 peers_mode Initiator = FromResponder
 peers_mode Responder = FromInitiator
 
-abbrev pub mode_by : Option SessionState → Mode
+abbrev pub mode_by : Option Row → Mode
 mode_by None = FromStartup
-mode_by (Some session) = peers_mode session.role
+mode_by (Some row) = peers_mode row.session.role
 
 abbrev pub mode_at : State → Place → Mode
 mode_at s Startup = FromStartup

@@ -1,5 +1,5 @@
 -- What each call of an end does, item by item.
-use Rattle.std.specs.Prelude.{IsSome, ℕ, zero, suc, ◌+◌, ◌⊎◌, ◌==◌, ◌||◌, ◌≡◌, nat_lt, false, if◌then◌else◌, List, [], ◌∷◌, ◌++◌, length, take, Option, Some, None, Result, Ok, Err}
+use Rattle.std.specs.Prelude.{IsSome, ℕ, zero, suc, ◌+◌, ◌⊎◌, ◌==◌, ◌||◌, ◌≡◌, nat_lt, false, if◌then◌else◌, List, [], ◌∷◌, ◌++◌, length, take, Option, Some, None, Result, Ok}
 use Rattle.std.specs.FinMap.{remove, insert}
 use Rattle.rtmfp_forms.specs.Address.{AddressParts}
 use Rattle.rtmfp_chunks.specs.declared.reading.ChunkFault.{ChunkFault}
@@ -28,7 +28,7 @@ use Rattle.endpoint_model.specs.declared.walk.Walk.{Walk}
 use Rattle.endpoint_model.specs.declared.entry.Entry.TheVariants.{Fact as FactEntry, Discard}
 use Rattle.endpoint_model.specs.declared.answers.OpenRefusal.{OpenRefusal}
 use Rattle.endpoint_model.specs.declared.answers.OpenRefusal.TheVariants.{Candidates, Start, SessionsFull}
-use Rattle.endpoint_model.specs.State.{State, Sessions, Did, nothing, after_entries, then_do, fact_entries, with_startup, with_session, with_sessions, free_from, full}
+use Rattle.endpoint_model.specs.State.{State, Sessions, Did, nothing, after_entries, then_do, fact_entries, with_startup, with_row, with_sessions, new_row, free_from, full}
 use Rattle.endpoint_model.specs.Sending.{sent_answer, sent_if, sent_spread, sent_in_session}
 use Rattle.endpoint_model.specs.Admission.{Admission, Rejected, Admitted, sid_at, confirming, confirms}
 use Rattle.endpoint_model.specs.Causes.{chunk_cause}
@@ -121,7 +121,8 @@ abbrev pub sessions_born : Sessions → Option Fact → Fact → List ℕ → Ad
     Sessions
 sessions_born sessions ended (Started peer n near ni) own from secret moment = sessions
 sessions_born sessions ended (Born j) own from secret moment =
-    insert (without_ended sessions ended) j.near (new_session j own Responder from secret moment)
+    insert (without_ended sessions ended) j.near
+    (new_row (new_session j own Responder from secret moment))
 sessions_born sessions ended (Opened j) own from secret moment = sessions
 sessions_born sessions ended (Confirmed peer near) own from secret moment = sessions
 sessions_born sessions ended (Ended peer near why) own from secret moment = sessions
@@ -130,7 +131,7 @@ sessions_born sessions ended (Ended peer near why) own from secret moment = sess
 abbrev pub with_born : State → Option Fact → Fact → AddressParts → State
 with_born s ended (Born j) from =
     with_sessions s (insert (without_ended s.sessions ended) j.near
-    (new_session j s.startup.ledger.own Responder from s.startup.secret s.moment))
+    (new_row (new_session j s.startup.ledger.own Responder from s.startup.secret s.moment)))
 with_born s ended fact from = s
 
 -- a new cookie; the keying of the held session again; or the facts of a birth, and the session's
@@ -155,14 +156,14 @@ abbrev pub sessions_opened : Sessions → Fact → List ℕ → AddressParts →
 sessions_opened sessions (Started peer n near ni) own from secret moment = sessions
 sessions_opened sessions (Born j) own from secret moment = sessions
 sessions_opened sessions (Opened j) own from secret moment =
-    insert sessions j.near (new_session j own Initiator from secret moment)
+    insert sessions j.near (new_row (new_session j own Initiator from secret moment))
 sessions_opened sessions (Confirmed peer near) own from secret moment = sessions
 sessions_opened sessions (Ended peer near why) own from secret moment = sessions
 
 -- the session that was opened is kept, at the address that its keying came from
 abbrev pub with_opened : State → ℕ → Fact → AddressParts → State
-with_opened s near (Opened j) from = with_session s near
-    (new_session j s.startup.ledger.own Initiator from s.startup.secret s.moment)
+with_opened s near (Opened j) from = with_row s near
+    (new_row (new_session j s.startup.ledger.own Initiator from s.startup.secret s.moment))
 with_opened s near fact from = s
 
 -- an Opened, then a ping without bytes

@@ -11,6 +11,7 @@ use Rattle.startup.specs.State.{SpreadParts}
 use Rattle.session_core.specs.Session.{SessionState, context_of, head_at}
 use Rattle.session_core.specs.Sealed.{sealed_part, after_seal}
 use Rattle.endpoint_model.specs.declared.entry.Entry.TheVariants.{Out}
+use Rattle.endpoint_model.specs.declared.row.Row.{Row}
 use Rattle.std.specs.FinMap.{get}
 use Rattle.endpoint_model.specs.State.{State, Did, nothing, then_do, with_sealed, with_session}
 
@@ -63,13 +64,14 @@ abbrev pub session_datagram : SessionState → ℕ → List ℕ → List ℕ
 session_datagram session moment body = datagram session.joined.far
     (sealed_part session (session_packet session moment body))
 
-abbrev pub sent_by : State → ℕ → AddressParts → List ℕ → Option SessionState → Did
+abbrev pub sent_by : State → ℕ → AddressParts → List ℕ → Option Row → Did
 sent_by s near to body None = nothing s
-sent_by s near to body (Some session) =
-    if session.sealed == last_count then nothing s
+sent_by s near to body (Some row) =
+    if row.session.sealed == last_count then nothing s
     else record {
-      state = with_session s near (after_seal session);
-      entries = Out to (session_datagram session s.moment body) (context_of session true) ∷ [];
+      state = with_session s near row (after_seal row.session);
+      entries = Out to (session_datagram row.session s.moment body) (context_of row.session true)
+          ∷ [];
     }
 
 -- a body in the session with this near id

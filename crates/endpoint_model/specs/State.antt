@@ -6,15 +6,20 @@ use Rattle.std.specs.Coded.{Coded, code_by, coded×, coded_ℕ}
 use Rattle.glare_core.specs.declared.facts.Fact.{Fact}
 use Rattle.startup.specs.State.{StartupState, new_startup}
 use Rattle.session_core.specs.Session.{SessionState}
+use Rattle.endpoint_model.specs.declared.row.Row.{Row}
 use Rattle.endpoint_model.specs.declared.config.Config.{Config}
 use Rattle.endpoint_model.specs.declared.entry.Entry.{Entry}
 use Rattle.endpoint_model.specs.declared.entry.Entry.TheVariants.{Fact as FactEntry}
 use Rattle.endpoint_model.specs.Event.{Setup}
 use Rattle.endpoint_model.specs.Added.{Added}
 
--- the sessions, by their near ids
+-- the rows of the sessions, by their near ids
 abbrev pub Sessions : Type 0
-Sessions = FinMap nat_cmp SessionState
+Sessions = FinMap nat_cmp Row
+
+-- the row of a session that begins
+abbrev pub new_row : SessionState → Row
+new_row session = record { session = session }
 
 pub record State : Type 0 where
   pub config : Config
@@ -64,8 +69,12 @@ with_sessions s sessions = record {
   sessions = sessions;
 }
 
-abbrev pub with_session : State → ℕ → SessionState → State
-with_session s near session = with_sessions s (insert s.sessions near session)
+abbrev pub with_row : State → ℕ → Row → State
+with_row s near row = with_sessions s (insert s.sessions near row)
+
+-- the session in a row is changed
+abbrev pub with_session : State → ℕ → Row → SessionState → State
+with_session s near row session = with_row s near (record row { session = session })
 
 abbrev pub with_sealed : State → ℕ → State
 with_sealed s sealed = record {
@@ -145,10 +154,10 @@ pub record Done (d : Did) (new : State) (before after : Added) : Type 0 where
 
 -- ---- how a state is stored: as the tuple of its fields
 
-abbrev pub state_code : Coded Config → Coded StartupState → Coded SessionState → Coded State
-state_code config startup session =
+abbrev pub state_code : Coded Config → Coded StartupState → Coded Row → Coded State
+state_code config startup row =
     code_by (Config × (ℕ × (ℕ × (StartupState × Sessions))))
-    (coded× config (coded× coded_ℕ (coded× coded_ℕ (coded× startup (code coded_ℕ session)))))
+    (coded× config (coded× coded_ℕ (coded× coded_ℕ (coded× startup (code coded_ℕ row)))))
     (λ s. (s.config, (s.moment, (s.sealed, (s.startup, s.sessions)))))
     (λ p. record {
       config = p.0;

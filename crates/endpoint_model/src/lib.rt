@@ -6,10 +6,12 @@ mod answers;
 mod config;
 mod entry;
 mod place;
+mod row;
 mod walk;
 
 pub use answers::{CallRefusal, OpenRefusal, Stopped};
 pub use config::{Config, Draws};
 pub use entry::Entry;
 pub use place::Place;
+pub use row::Row;
 pub use walk::Walk;

@@ -1,7 +1,7 @@
-use Rattle.std.proofs.Common.{◌≡◌, None, Some, Option, sym, ap, ◌∙◌}
+use Rattle.std.proofs.Common.{◌≡◌, None, Some, sym, ap, ◌∙◌}
 use Rattle.std.specs.FinMap.{get}
 use Rattle.crypto_profile.specs.declared.keys.Context.{Context}
-use Rattle.session_core.specs.Session.{SessionState}
+use Rattle.endpoint_model.specs.declared.row.Row.{Row}
 use Rattle.endpoint_model.specs.State.{State}
 use Rattle.endpoint.specs.Stored.{table_of}
 use Rattle.endpoint.specs.NamedContext.{context_towards}
@@ -10,9 +10,9 @@ use Rattle.endpoint.proofs.endpoint.Endpoint.context_towards.Goals as goal
 
 pub returns-in-Some : goal.returns-in-Some
 returns-in-Some c =
-    let session : SessionState = c.index.result.now in
-    let found : get (table_of c.self.inside.sessions.items) c.args.near ≡ Some session =
-    found_at c.self.inside.sessions.items c.args.near c.in-Some.index session c.self.invariant.distinct
+    let row : Row = c.index.result.now in
+    let found : get (table_of c.self.inside.sessions.items) c.args.near ≡ Some row =
+    found_at c.self.inside.sessions.items c.args.near c.in-Some.index row c.self.invariant.distinct
     (sym (c.in-Some.ensures ∙ ap (λ rows. index_in rows c.args.near) c.deref.ensures.value)) c.index.ensures in
     ap (λ (x : Context). Some x) c.context.ensures
     ∙ sym (ap context_towards found)

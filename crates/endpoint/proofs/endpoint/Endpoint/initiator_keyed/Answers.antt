@@ -3,7 +3,7 @@ use Rattle.std.specs.FinMap.{len}
 use Rattle.startup.specs.declared.answer.Keyed.{Keyed}
 use Rattle.startup.specs.declared.answer.Keyed.TheVariants.{Birth}
 use Rattle.startup.specs.Keyings.{keyed, after_keying}
-use Rattle.session_core.specs.Session.{SessionState}
+use Rattle.endpoint_model.specs.declared.row.Row.{Row}
 use Rattle.endpoint_model.specs.declared.entry.Entry.{Entry}
 use Rattle.endpoint_model.specs.declared.entry.Entry.TheVariants.{Fact as FactEntry}
 use Rattle.endpoint_model.specs.Due.{initiator_keyed, with_born}
@@ -17,13 +17,13 @@ pub invariant_of-self-in-Ok-Change : goal.invariant_of-self-in-Ok-Change
 invariant_of-self-in-Ok-Change c =
     kept_keying c.self.inside.config c.self.inside.secret c.self.inside.print c.self.inside.keys c.self.inside.startup c.apply_initiator_keying.new.self c.self.inside.sessions.items c.reserve.new.self.items
     c.args.fields.now.payload.now c.args.from.now c.self.inside.moment c.free_from-near.result c.args.draws.now.nonce c.self.invariant c.in-Ok-Change.ensures.ok.1
-    (subst (λ (rows : List SessionState). len (table_of rows) ≡ length rows) (sym c.reserve.ensures.items) c.self.invariant.distinct)
+    (subst (λ (rows : List Row). len (table_of rows) ≡ length rows) (sym c.reserve.ensures.items) c.self.invariant.distinct)
 
 pub invariant_of-self-in-Ok-Again : goal.invariant_of-self-in-Ok-Again
 invariant_of-self-in-Ok-Again c =
     kept_keying c.self.inside.config c.self.inside.secret c.self.inside.print c.self.inside.keys c.self.inside.startup c.apply_initiator_keying.new.self c.self.inside.sessions.items c.reserve.new.self.items
     c.args.fields.now.payload.now c.args.from.now c.self.inside.moment c.free_from-near.result c.args.draws.now.nonce c.self.invariant c.in-Ok-Again.ensures.ok.1
-    (subst (λ (rows : List SessionState). len (table_of rows) ≡ length rows) (sym c.reserve.ensures.items) c.self.invariant.distinct)
+    (subst (λ (rows : List Row). len (table_of rows) ≡ length rows) (sym c.reserve.ensures.items) c.self.invariant.distinct)
 
 pub invariant_of-self-in-Ok-Birth : goal.invariant_of-self-in-Ok-Birth
 invariant_of-self-in-Ok-Birth c =

@@ -1,4 +1,4 @@
-use Rattle.std.proofs.Common.{◌≡◌, sym, ap, ◌∙◌, rules}
+use Rattle.std.proofs.Common.{sym, ap, ◌∙◌, rules}
 use Rattle.startup.specs.Keyings.{InitiatorKeying}
 use Rattle.startup.specs.Read.{initiator_of, initiator_read}
 use Rattle.startup.specs.Judging.{judged_initiator}

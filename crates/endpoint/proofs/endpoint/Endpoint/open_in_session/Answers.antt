@@ -14,45 +14,45 @@ returns-in-Ok-clause-ok c =
     let found : get (table_of c.self.inside.sessions.items) c.args.near ≡ Some c.index.result.now =
     found_at c.self.inside.sessions.items c.args.near c.in-Some.index c.index.result.now c.self.invariant.distinct
     (sym (c.in-Some.ensures ∙ ap (λ rows. index_in rows c.args.near) c.deref.ensures.value)) c.index.ensures in
-    let none : unheard c.index.result.now c.args.part.now ≡ None = heard_whole _ c.args.part.now c.in-Ok.field-0 (sym c.open.ensures.answer ∙ c.in-Ok.is) in
+    let none : unheard c.index.result.now.session c.args.part.now ≡ None = heard_whole _ c.args.part.now c.in-Ok.field-0 (sym c.open.ensures.answer ∙ c.in-Ok.is) in
     sym (ap (λ (s : State). heard_in (get s.sessions c.args.near) c.args.part.now) c.self.view_is)
     ∙ ap (λ found. heard_in found c.args.part.now) found
-    ∙ heard_plain c.index.result.now c.args.part.now c.open.new.sealed none (heard_in_place c.index.result.now c.args.part.now c.open.new.sealed c.open.ensures.buffer (is_heard c.index.result.now c.args.part.now none))
+    ∙ heard_plain c.index.result.now.session c.args.part.now c.open.new.sealed none (heard_in_place c.index.result.now.session c.args.part.now c.open.new.sealed c.open.ensures.buffer (is_heard c.index.result.now.session c.args.part.now none))
 
 pub returns-in-Ok-clause-front : goal.returns-in-Ok-clause-front
 returns-in-Ok-clause-front c =
-    let none : unheard c.index.result.now c.args.part.now ≡ None = heard_whole _ c.args.part.now c.in-Ok.field-0 (sym c.open.ensures.answer ∙ c.in-Ok.is) in
-    (heard_in_place c.index.result.now c.args.part.now c.open.new.sealed c.open.ensures.buffer (is_heard c.index.result.now c.args.part.now none)).front
+    let none : unheard c.index.result.now.session c.args.part.now ≡ None = heard_whole _ c.args.part.now c.in-Ok.field-0 (sym c.open.ensures.answer ∙ c.in-Ok.is) in
+    (heard_in_place c.index.result.now.session c.args.part.now c.open.new.sealed c.open.ensures.buffer (is_heard c.index.result.now.session c.args.part.now none)).front
 
 pub returns-in-Err-Short-clause-err : goal.returns-in-Err-Short-clause-err
 returns-in-Err-Short-clause-err c =
     let found : get (table_of c.self.inside.sessions.items) c.args.near ≡ Some c.index.result.now =
     found_at c.self.inside.sessions.items c.args.near c.in-Some.index c.index.result.now c.self.invariant.distinct
     (sym (c.in-Some.ensures ∙ ap (λ rows. index_in rows c.args.near) c.deref.ensures.value)) c.index.ensures in
-    let why : unheard c.index.result.now c.args.part.now ≡ Some ShortPart = unheard_for _ c.args.part.now ShortPart (sym c.open.ensures.answer ∙ c.in-Err-Short.is ∙ ap Err c.in-Err-Short.field-0-is) in
+    let why : unheard c.index.result.now.session c.args.part.now ≡ Some ShortPart = unheard_for _ c.args.part.now ShortPart (sym c.open.ensures.answer ∙ c.in-Err-Short.is ∙ ap Err c.in-Err-Short.field-0-is) in
     sym (ap (λ (s : State). heard_in (get s.sessions c.args.near) c.args.part.now) c.self.view_is)
     ∙ ap (λ found. heard_in found c.args.part.now) found
-    ∙ ap (heard_by c.index.result.now c.args.part.now) why
+    ∙ ap (heard_by c.index.result.now.session c.args.part.now) why
 
 pub returns-in-Err-BadTag-clause-err : goal.returns-in-Err-BadTag-clause-err
 returns-in-Err-BadTag-clause-err c =
     let found : get (table_of c.self.inside.sessions.items) c.args.near ≡ Some c.index.result.now =
     found_at c.self.inside.sessions.items c.args.near c.in-Some.index c.index.result.now c.self.invariant.distinct
     (sym (c.in-Some.ensures ∙ ap (λ rows. index_in rows c.args.near) c.deref.ensures.value)) c.index.ensures in
-    let why : unheard c.index.result.now c.args.part.now ≡ Some WrongTag = unheard_for _ c.args.part.now WrongTag (sym c.open.ensures.answer ∙ c.in-Err-BadTag.is ∙ ap Err c.in-Err-BadTag.field-0-is) in
+    let why : unheard c.index.result.now.session c.args.part.now ≡ Some WrongTag = unheard_for _ c.args.part.now WrongTag (sym c.open.ensures.answer ∙ c.in-Err-BadTag.is ∙ ap Err c.in-Err-BadTag.field-0-is) in
     sym (ap (λ (s : State). heard_in (get s.sessions c.args.near) c.args.part.now) c.self.view_is)
     ∙ ap (λ found. heard_in found c.args.part.now) found
-    ∙ ap (heard_by c.index.result.now c.args.part.now) why
+    ∙ ap (heard_by c.index.result.now.session c.args.part.now) why
 
 pub returns-in-Err-Repeated-clause-err : goal.returns-in-Err-Repeated-clause-err
 returns-in-Err-Repeated-clause-err c =
     let found : get (table_of c.self.inside.sessions.items) c.args.near ≡ Some c.index.result.now =
     found_at c.self.inside.sessions.items c.args.near c.in-Some.index c.index.result.now c.self.invariant.distinct
     (sym (c.in-Some.ensures ∙ ap (λ rows. index_in rows c.args.near) c.deref.ensures.value)) c.index.ensures in
-    let why : unheard c.index.result.now c.args.part.now ≡ Some OldNumber = unheard_for _ c.args.part.now OldNumber (sym c.open.ensures.answer ∙ c.in-Err-Repeated.is ∙ ap Err c.in-Err-Repeated.field-0-is) in
+    let why : unheard c.index.result.now.session c.args.part.now ≡ Some OldNumber = unheard_for _ c.args.part.now OldNumber (sym c.open.ensures.answer ∙ c.in-Err-Repeated.is ∙ ap Err c.in-Err-Repeated.field-0-is) in
     sym (ap (λ (s : State). heard_in (get s.sessions c.args.near) c.args.part.now) c.self.view_is)
     ∙ ap (λ found. heard_in found c.args.part.now) found
-    ∙ ap (heard_by c.index.result.now c.args.part.now) why
+    ∙ ap (heard_by c.index.result.now.session c.args.part.now) why
 
 pub returns-in-None-clause-err : goal.returns-in-None-clause-err
 returns-in-None-clause-err c =

@@ -27,16 +27,16 @@ invariant_of-self c = record {
   secret_is = c.self.invariant.secret_is;
   print_is = c.self.invariant.print_is;
   keys_are = c.self.invariant.keys_are;
-  distinct = (put_back c.self.inside.sessions.items c.args.near c.in-Some.index c.index_mut-session.result.now c.session_datagram-datagram.new.session c.self.invariant.distinct
-      (sym (c.in-Some.ensures ∙ ap (λ rows. index_in rows c.args.near) c.deref.ensures.value)) c.index_mut-session.ensures.value c.session_datagram-datagram.ensures.session).distinct;
+  distinct = (put_back c.self.inside.sessions.items c.args.near c.in-Some.index c.index_mut.result.now c.session_datagram-datagram.new.session c.self.invariant.distinct
+      (sym (c.in-Some.ensures ∙ ap (λ rows. index_in rows c.args.near) c.deref.ensures.value)) c.index_mut.ensures.value c.session_datagram-datagram.ensures.session).distinct;
   few = c.self.invariant.few;
 }
 
 pub returns : goal.returns
 returns c =
     sent_one c.self.inside.config c.self.inside.moment c.self.inside.sealed c.self.inside.startup c.self.inside.sessions.items c.args.self.now c.args.near c.in-Some.index c.args.to.now (chunk_bytes (chunk_of c.args.chunk.now))
-    c.index.result.now c.index-2.result.now c.index_mut-session.result.now c.session_datagram-datagram.new.session c.session_datagram-datagram.result c.context-context.result c.args.out.now c.add.new.self
+    c.index.result.now c.index-2.result.now c.index_mut.result.now c.session_datagram-datagram.new.session c.session_datagram-datagram.result c.context-context.result c.args.out.now c.add.new.self
     c.self.view_is c.self.invariant.distinct (sym (c.in-Some.ensures ∙ ap (λ rows. index_in rows c.args.near) c.deref.ensures.value))
-    c.index.ensures c.index-2.ensures c.index_mut-session.ensures.value (sym c.is_spent.ensures.value ∙ c.if-is_spent.false)
+    c.index.ensures c.index-2.ensures c.index_mut.ensures.value (sym c.is_spent.ensures.value ∙ c.if-is_spent.false)
     c.session_datagram-datagram.ensures.datagram c.context-context.ensures c.session_datagram-datagram.ensures.session
     c.add.ensures.entries c.add.ensures.free c.add.ensures.room

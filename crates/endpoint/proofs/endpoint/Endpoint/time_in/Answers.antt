@@ -1,16 +1,17 @@
-use Rattle.std.proofs.Common.{◌≡◌, None, sym, ap, ◌∙◌}
-use Rattle.std.specs.FinMap.{get}
-use Rattle.endpoint_model.specs.State.{State, with_sessions, with_session}
-use Rattle.endpoint.specs.Stored.{table_of, near_of, state_of}
+use Rattle.std.proofs.Common.{Option, refl, sym, ap, ◌∙◌}
+use Rattle.session_core.specs.Session.{SessionState}
+use Rattle.session_core.specs.Session.{with_stamps}
+use Rattle.endpoint_model.specs.declared.row.Row.{Row}
+use Rattle.endpoint_model.specs.State.{State}
 use Rattle.endpoint_model.specs.Admission.{timed_by}
-use Rattle.endpoint.proofs.Rows.{index_in, found_nowhere}
-use Rattle.endpoint.proofs.Changing.{changed_at}
+use Rattle.endpoint.proofs.Rows.{index_in}
+use Rattle.endpoint.proofs.Changing.{changed_at, changed_state, unchanged_state}
 use Rattle.endpoint.proofs.endpoint.Endpoint.time_in.Goals as goal
 
 pub invariant_of-self : goal.invariant_of-self
 invariant_of-self c =
-    let changed = changed_at c.self.inside.sessions.items c.args.near c.in-Some.index c.index_mut.result.now c.take_stamps.new.self c.self.invariant.distinct
-    (sym (c.in-Some.ensures ∙ ap (λ rows. index_in rows c.args.near) c.deref.ensures.value)) c.index_mut.ensures.value (ap near_of c.take_stamps.ensures) in
+    let changed = changed_at c.self.inside.sessions.items c.args.near c.in-Some.index c.index_mut.result.now (record { session = c.take_stamps.new.self }) c.self.invariant.distinct
+    (sym (c.in-Some.ensures ∙ ap (λ rows. index_in rows c.args.near) c.deref.ensures.value)) c.index_mut.ensures.value (ap (λ (s : SessionState). s.joined.near) c.take_stamps.ensures) in
     record {
       secret_is = c.self.invariant.secret_is;
       print_is = c.self.invariant.print_is;
@@ -21,18 +22,12 @@ invariant_of-self c =
 
 pub returns-in-Some : goal.returns-in-Some
 returns-in-Some c =
-    let i = c.self.inside in
-    let old : State = state_of i.config i.moment i.sealed i.startup i.sessions.items in
-    let changed = changed_at c.self.inside.sessions.items c.args.near c.in-Some.index c.index_mut.result.now c.take_stamps.new.self c.self.invariant.distinct
-    (sym (c.in-Some.ensures ∙ ap (λ rows. index_in rows c.args.near) c.deref.ensures.value)) c.index_mut.ensures.value (ap near_of c.take_stamps.ensures) in
-    ap (with_sessions old) changed.table ∙ ap (with_session old c.args.near) c.take_stamps.ensures ∙ sym (ap (timed_by old c.args.near c.args.head.now) changed.was)
-    ∙ ap (λ (s : State). timed_by s c.args.near c.args.head.now (get s.sessions c.args.near)) c.self.view_is
+    let changed = changed_at c.self.inside.sessions.items c.args.near c.in-Some.index c.index_mut.result.now (record { session = c.take_stamps.new.self }) c.self.invariant.distinct
+    (sym (c.in-Some.ensures ∙ ap (λ rows. index_in rows c.args.near) c.deref.ensures.value)) c.index_mut.ensures.value (ap (λ (s : SessionState). s.joined.near) c.take_stamps.ensures) in
+    changed_state c.self.inside.config c.self.inside.moment c.self.inside.sealed c.self.inside.startup c.self.inside.sessions.items c.args.self.now c.args.near c.in-Some.index c.index_mut.result.now
+    c.take_stamps.new.self (with_stamps c.args.head.now c.self.inside.moment c.index_mut.result.now.session) (λ (s : State) (o : Option Row). timed_by s c.args.near c.args.head.now o) c.self.view_is changed c.take_stamps.ensures refl
 
 pub returns-in-None : goal.returns-in-None
 returns-in-None c =
-    let i = c.self.inside in
-    let old : State = state_of i.config i.moment i.sealed i.startup i.sessions.items in
-    let found : get (table_of i.sessions.items) c.args.near ≡ None =
-    found_nowhere i.sessions.items c.args.near (sym (c.in-None.ensures ∙ ap (λ rows. index_in rows c.args.near) c.deref.ensures.value)) in
-    sym (ap (λ (s : State). s) c.self.view_is) ∙ sym (ap (timed_by old c.args.near c.args.head.now) found)
-    ∙ ap (λ (s : State). timed_by s c.args.near c.args.head.now (get s.sessions c.args.near)) c.self.view_is
+    unchanged_state c.self.inside.config c.self.inside.moment c.self.inside.sealed c.self.inside.startup c.self.inside.sessions.items c.args.self.now c.args.near
+    (λ (s : State) (o : Option Row). timed_by s c.args.near c.args.head.now o) c.self.view_is (sym (c.in-None.ensures ∙ ap (λ rows. index_in rows c.args.near) c.deref.ensures.value)) refl

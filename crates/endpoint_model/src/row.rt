@@ -1,0 +1,11 @@
+//! What an end keeps of a session.
+
+use session_core::Session;
+
+/// A session as an end keeps it: what the end itself has to keep of it stands here, beside the
+/// session.
+#[derive(Drop)]
+pub struct Row {
+    /// The session.
+    pub session: Session,
+}
