@@ -1,4 +1,5 @@
 mod Rows
+mod Likely
 mod Opening
 mod Refusals
 mod SealedParts

@@ -29,7 +29,7 @@ impl Endpoint {
             Some(Place::Startup)
         } else if self.startup.has_attempt(sid) {
             Some(Place::Attempt(sid))
-        } else if sessions::index_of(&self.sessions, sid).is_some() {
+        } else if sessions::index_near(&self.sessions, sid, self.likely).is_some() {
             Some(Place::Session(sid))
         } else {
             None
@@ -58,7 +58,7 @@ impl Endpoint {
         ensures front { OnOk result (take 32 part.new ≡ take 32 part.old) }
         ensures length { length part.new ≡ length part.old }
     {
-        match sessions::index_of(&self.sessions, near) {
+        match sessions::index_near(&self.sessions, near, self.likely) {
             Some(index) => match self.sessions[index].session.open(part) {
                 Ok(_) => Ok(()),
                 Err(Unheard::Short) => Err(Cause::Short),
@@ -66,6 +66,21 @@ impl Endpoint {
                 Err(Unheard::Repeated) => Err(Cause::Repeated),
             },
             None => Err(Cause::UnknownSession),
+        }
+    }
+
+    /// Looks up the session that a datagram's session ID names, where it names one, so that it is
+    /// found at once from now on.
+    pub(crate) fn look_up(&mut self, datagram: &[u8])
+        ensures { self.new ≡ self.old }
+    {
+        if datagram.len() < PLAIN_AT {
+            return;
+        }
+        let (head, part) = datagram.split_at(SEALED_AT);
+        let sid = unscramble(word_of(head), part);
+        if let Some(index) = sessions::index_near(&self.sessions, sid, self.likely) {
+            self.likely = index;
         }
     }
 
@@ -107,7 +122,7 @@ impl Endpoint {
         match place {
             Place::Startup => Mode::Startup,
             Place::Attempt(_) => Mode::Startup,
-            Place::Session(near) => match sessions::index_of(&self.sessions, near) {
+            Place::Session(near) => match sessions::index_near(&self.sessions, near, self.likely) {
                 Some(index) => peers_mode(self.sessions[index].session.role()),
                 None => Mode::Startup,
             },

@@ -27,6 +27,8 @@ pub struct Endpoint {
     pub(crate) startup: Startup,
     /// The rows of the sessions, in any order.
     pub(crate) sessions: Vec<Row>,
+    /// The index of the session of the last datagram, where a session is looked for first.
+    pub(crate) likely: usize,
 }
 
 impl Model for Endpoint {
@@ -88,6 +90,7 @@ impl Endpoint {
             sealed: 0,
             startup: Startup::new(alloc, cert, secret, cookie_secret, config.max_peers),
             sessions: Vec::new(alloc),
+            likely: 0,
         }
     }
 

@@ -14,7 +14,7 @@ use crate::admission::{PLAIN_AT, SEALED_AT, fault_number, has_mode};
 use crate::endpoint::Endpoint;
 use crate::keyings::add_fact;
 use crate::outbox::Outbox;
-use crate::sessions::index_of;
+use crate::sessions::index_near;
 use endpoint_model::{Draws, Entry, Place, Stopped, Walk};
 use rtmfp_chunks::kinds::IIKEYING;
 use rtmfp_forms::Address;
@@ -83,6 +83,7 @@ impl Endpoint {
             (admission (at_moment self.old moment) datagram.old) result self.new out.old out.new }
     {
         self.advance(moment);
+        self.look_up(datagram);
         match self.open_datagram(datagram) {
             Ok(place) => self.take_opened(place, &from, datagram, draws, out),
             Err(cause) => self.refuse_unopened(cause, out),
@@ -190,7 +191,7 @@ impl Endpoint {
         requires { 32 ≤ length part.now }
         ensures { self.new ≡ counted_by self.old near part.now (get self.old.sessions near) }
     {
-        match index_of(&self.sessions, near) {
+        match index_near(&self.sessions, near, self.likely) {
             Some(index) => self.sessions[index].session.take_number(part),
             None => {}
         }
@@ -210,7 +211,7 @@ impl Endpoint {
     fn time_in(&mut self, near: u32, head: &PacketHead)
         ensures { self.new ≡ timed_by self.old near head.now (get self.old.sessions near) }
     {
-        match index_of(&self.sessions, near) {
+        match index_near(&self.sessions, near, self.likely) {
             Some(index) => self.sessions[index].session.take_stamps(head, self.moment),
             None => {}
         }
@@ -230,7 +231,7 @@ impl Endpoint {
     fn confirms_in(&self, near: u32) -> bool
         ensures { result ≡ confirms_by (get self.now.sessions near) }
     {
-        match index_of(&self.sessions, near) {
+        match index_near(&self.sessions, near, self.likely) {
             Some(index) => self.sessions[index].session.is_half_open(),
             None => false,
         }
@@ -258,7 +259,7 @@ impl Endpoint {
         ensures { Done (confirming_by self.old near (get self.old.sessions near)) self.new out.old
             out.new }
     {
-        match index_of(&self.sessions, near) {
+        match index_near(&self.sessions, near, self.likely) {
             Some(index) => {
                 let session = &mut self.sessions[index].session;
                 let peer = session.joined().peer;

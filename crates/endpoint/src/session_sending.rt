@@ -9,7 +9,7 @@ ghost use Rattle.endpoint_model.specs.Sending.{sent_in_session};
 use crate::endpoint::Endpoint;
 use crate::outbox::Outbox;
 use crate::sending::session_datagram;
-use crate::sessions::index_of;
+use crate::sessions::index_near;
 use endpoint_model::Entry;
 use rtmfp_chunks::ChunkView;
 use rtmfp_forms::Address;
@@ -33,7 +33,7 @@ impl Endpoint {
         ensures { Done (sent_in_session self.old near to.now (chunk_bytes (chunk_of chunk.now)))
             self.new out.old out.new }
     {
-        let Some(index) = index_of(&self.sessions, near) else {
+        let Some(index) = index_near(&self.sessions, near, self.likely) else {
             return;
         };
         if self.sessions[index].session.is_spent() {

@@ -15,6 +15,20 @@ pub(crate) fn index_of(sessions: &[Row], near: u32) -> Option<usize>
         .position(|row| row.session.joined().near == near)
 }
 
+/// The same, where the row is looked for at this index first.
+pub(crate) fn index_near(sessions: &[Row], near: u32, likely: usize) -> Option<usize>
+    requires { len (table_of sessions.now) ≡ length sessions.now }
+    ensures { result ≡ position (λ row. near_of row == near) sessions.now }
+{
+    if likely < sessions.len() {
+        let found = sessions[likely].session.joined().near;
+        if found == near {
+            return Some(likely);
+        }
+    }
+    index_of(sessions, near)
+}
+
 /// Keeps a row under the session ID of its session. There is room for one more.
 pub(crate) fn keep(sessions: &mut Vec<Row>, row: Row)
     requires distinct { len (table_of sessions.old.items) ≡ length sessions.old.items }
