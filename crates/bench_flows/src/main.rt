@@ -334,17 +334,7 @@ fn take_piece(to: &mut FlowReceiver, seq: u64, count: u64)
     } else {
         Part::Middle
     };
-    let chunk = UserData {
-        part,
-        abandon: false,
-        last: false,
-        flow: FLOW,
-        seq,
-        forward: 0,
-        options: None,
-        bytes: &[0x55; 32],
-    };
-    let _ = to.take(&chunk);
+    let _ = to.take(&fragment(seq, part, &[0x55; 32]));
 }
 
 /// A chunk that tells a forward number alone.
@@ -369,7 +359,15 @@ fn notice(forward: u64) -> UserData<'static>
 fn take_byte(to: &mut FlowReceiver, seq: u64, part: Part)
     requires { 1 ≤ seq }
 {
-    let chunk = UserData {
+    let _ = to.take(&fragment(seq, part, &[0x55]));
+}
+
+/// A chunk with a fragment.
+fn fragment(seq: u64, part: Part, bytes: &[u8]) -> UserData<'_>
+    ensures forward { result.forward ≡ 0 }
+    ensures seq { result.seq ≡ seq }
+{
+    UserData {
         part,
         abandon: false,
         last: false,
@@ -377,7 +375,6 @@ fn take_byte(to: &mut FlowReceiver, seq: u64, part: Part)
         seq,
         forward: 0,
         options: None,
-        bytes: &[0x55],
-    };
-    let _ = to.take(&chunk);
+        bytes,
+    }
 }

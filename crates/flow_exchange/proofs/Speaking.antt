@@ -11,9 +11,10 @@ use Rattle.flow_send.specs.declared.waiting.MessageOptions.{MessageOptions}
 use Rattle.flow_send.specs.declared.waiting.Waiting.{Waiting}
 use Rattle.flow_send.specs.Rows.{Row, end_row, is_acknowledged, is_settled, is_flying, is_lost, is_unsent, let_go, map_rows, settled_front}
 use Rattle.flow_send.specs.Sender.{Sender, new_sender, next_of, with_rows, new_row, rows_of, waiting_of, queued, has_number, message_at, without_message, waits, give_up, give_up_row, first_number, overdue, abandoned_with, abandoned, finished, is_late, lost_if_late, lost_late}
-use Rattle.flow_send.specs.Choice.{Choice, Nothing, Send, Notify, first_in, within_limit, choice_bytes, or_else, is_quiet, next_choice, choice, chunk_for, count_up, sent_row, put_at, sent_after}
+use Rattle.flow_send.specs.Choice.{Choice, Nothing, Send, Notify, first_in, choice, chunk_for, count_up, sent_row, put_at, sent_after}
 use Rattle.flow_send.specs.Acks.{Told, in_span, tells, acknowledge, acknowledge_row, is_third, count_ack, last_ordinal, rows_acknowledged, rows_told, still_waits, told_by}
 use Rattle.rtmfp_data_chunks.specs.HandsOver.{IsIn}
+use Rattle.flow_send.proofs.Steadies.{chosen}
 use Rattle.flow_exchange.specs.Exchange.{Ack, InSpans, Acknowledges, World, start, Queued, Abandoned as Gave_up, Finished, Sent, Heard, after, IsAbandoned, IsAcknowledged, IsSettled, Tells, Fragment_of, Notice, End_of, MaySend}
 use Rattle.flow_exchange.specs.Sending.{Act, Queues, Abandons, AbandonsFirst, AbandonsOverdue, Finishes, Loses, Sends, Hears, Sending, begun, queues, finishes, abandons, abandons_one, sends, ack_of, acts, all_acts, SpeaksTrue}
 use Rattle.flow_exchange.proofs.Fragments.{Laid, found, found_still}
@@ -380,32 +381,12 @@ unsent_open Lost e = absurd cc
 unsent_open Acknowledged e = absurd cc
 unsent_open Abandoned e = absurd cc
 
-or_send : (a b : Choice) (n : ℕ) (r : Row) → or_else a b ≡ Send n r → (a ≡ Send n r) ⊎ (b ≡ Send n r)
-or_send Nothing b n r e = inr e
-or_send (Send k x) b n r e = inl e
-or_send Notify b n r e = inl e
-
-allowed_if : (o : Choice) (n : ℕ) (r : Row) (t : Bool) → cond t o Nothing ≡ Send n r → o ≡ Send n r
-allowed_if o n r true e = e
-allowed_if o n r false e = absurd cc
-
-notify_if : (t : Bool) (n : ℕ) (r : Row) → cond t Notify Nothing ≡ Send n r → ⊥
-notify_if true n r e = cc
-notify_if false n r e = cc
-
 send_found : (s : Sender) (w : World) (moment resend n : ℕ) (r : Row) → Speaks s w → choice moment resend s ≡ Send n r → Found w (s.forward + 1) n r
 send_found s w moment resend n r k e =
     let at = s.forward + 1 in
-    let a = first_in is_lost at s.rows in
-    let b = first_in is_unsent at s.rows in
-    let quiet = nat_lt s.upto s.forward && is_quiet s.notice moment resend in
-    let next = next_choice moment resend s in
-    elim (or_send a (or_else b (cond quiet Notify Nothing)) n r (allowed_if next n r (within_limit s (choice_bytes next)) e)) [
+    elim (chosen s moment resend n r e) [
       | inl f ↦ found_in w is_lost at n r s.rows lost_open k.rows f
-      | inr f ↦ elim (or_send b (cond quiet Notify Nothing) n r f) [
-        | inl g ↦ found_in w is_unsent at n r s.rows unsent_open k.rows g
-        | inr g ↦ absurd (notify_if quiet n r g)
-      ]
+      | inr f ↦ found_in w is_unsent at n r s.rows unsent_open k.rows f
     ]
 
 tells_if : (w : World) (forward n : ℕ) (r : Row) (t : Bool) → r.ends ≡ t → forward < n → is_settled r.state ≡ false → Stands w n r → Tells w.queued w.finish (record { part = r.fragment.part; abandon = r.ends; last = r.ends; seq = n; forward = forward; bytes = r.fragment.bytes })

@@ -2,13 +2,9 @@
 use Rattle.std.proofs.Common.{◌≡◌, ℕ, ◌+◌, ◌^◌, ◌<◌, ◌≤◌, List, length, drop, Option, Some, None, ap, ◌∙◌, arith}
 use Rattle.flow_send.specs.declared.waiting.Waiting.{Waiting}
 use Rattle.flow_send.specs.Rows.{Row, settled_front}
-use Rattle.flow_send.specs.Sender.{Sender, next_of, with_rows}
+use Rattle.flow_send.specs.Sender.{sender_of, Sender, next_of, with_rows}
 use Rattle.flow_send.specs.Steady.{Steady, Line, line_end, end_of, IsLast}
 use Rattle.flow_send.proofs.Keeping.{line_higher}
-
-abbrev pub sender : ℕ → List Row → List Waiting → Option ℕ → ℕ → ℕ → Option ℕ → Option ℕ → ℕ → Sender
-sender forward rows waiting finish sent upto told notice order =
-    record { forward = forward; rows = rows; waiting = waiting; finish = finish; sent = sent; upto = upto; told = told; notice = notice; order = order }
 
 end_le : (o : Option ℕ) (next : ℕ) → IsLast o next → (line_end o next ≤ next) × (next ≤ line_end o next + 1)
 end_le None next h = (omega arith, omega arith)
@@ -26,11 +22,11 @@ next_unfinished s k e = let f : end_of s ≡ next_of s = ap (λ (o : Option ℕ)
 
 -- a sender whose rows were settled
 pub settle_eq : (s : Sender) (rows : List Row) (ws : List Waiting) (f : ℕ) (rs : List Row) (vs : List Waiting) → f ≡ s.forward + settled_front rows → rs ≡ drop (settled_front rows) rows → vs ≡ ws
-    → sender f rs vs s.finish s.sent s.upto s.told s.notice s.order ≡ with_rows rows ws s
+    → sender_of f rs vs s.finish s.sent s.upto s.told s.notice s.order ≡ with_rows rows ws s
 settle_eq s rows ws f rs vs a b c =
-    ap (λ x. sender x rs vs s.finish s.sent s.upto s.told s.notice s.order) a
-    ∙ (ap (λ x. sender (s.forward + settled_front rows) x vs s.finish s.sent s.upto s.told s.notice s.order) b
-    ∙ ap (λ x. sender (s.forward + settled_front rows) (drop (settled_front rows) rows) x s.finish s.sent s.upto s.told s.notice s.order) c)
+    ap (λ x. sender_of x rs vs s.finish s.sent s.upto s.told s.notice s.order) a
+    ∙ (ap (λ x. sender_of (s.forward + settled_front rows) x vs s.finish s.sent s.upto s.told s.notice s.order) b
+    ∙ ap (λ x. sender_of (s.forward + settled_front rows) (drop (settled_front rows) rows) x s.finish s.sent s.upto s.told s.notice s.order) c)
 
 pub line_rows : (s : Sender) → Steady s → Line 0 (s.forward + 1 + length s.rows) s.waiting
 line_rows s k = line_higher 0 (end_of s) (s.forward + 1 + length s.rows) s.waiting (inside_rows s k) k.line

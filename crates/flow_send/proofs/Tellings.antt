@@ -7,7 +7,7 @@ use Rattle.std.proofs.lemmas.List.Sums.{sum_by-cons}
 use Rattle.flow_send.specs.declared.state.State.TheVariants.{Acknowledged}
 use Rattle.flow_send.specs.declared.waiting.Waiting.{Waiting}
 use Rattle.flow_send.specs.Rows.{Row, is_acknowledged, is_abandoned, is_settled, let_go, map_rows, most_rows, stored_of, settled_front, between, any_between, most_between}
-use Rattle.flow_send.specs.Sender.{Sender, has_number}
+use Rattle.flow_send.specs.Sender.{sender_of, Sender, has_number}
 use Rattle.flow_send.specs.Acks.{Told, in_span, tells, greatest, new_bytes, new_ordinal, last_ordinal, acknowledge, acknowledge_row, count_ack, is_third, rows_acknowledged, rows_told, makes_lost, still_waits, told_by}
 use Rattle.flow_send.specs.Steady.{AllOk, Line, AllWait, Late, Steady}
 use Rattle.flow_send.proofs.Between.{between_none, most_none}
@@ -15,7 +15,7 @@ use Rattle.flow_send.proofs.Numbered.{map_between, most_row_between, span_betwee
 use Rattle.flow_send.proofs.Keeping.{waits_map}
 use Rattle.flow_send.proofs.Steadies.{count_settled, told_below, acked_ok}
 use Rattle.flow_send.proofs.Sendings.{map_sent, any_sent, third_flies}
-use Rattle.flow_send.proofs.Ends.{sender, settle_eq}
+use Rattle.flow_send.proofs.Ends.{settle_eq}
 
 -- what the numbers of some spans change, and the last ordinal of what they newly acknowledge
 abbrev pub acknowledge_by : List (ℕ × ℕ) → ℕ → Row → Row
@@ -235,7 +235,7 @@ counted_lost a s ordinal to once lost k le e f g h =
     ∙ sym (any_sent (count_ack lp) (is_third lp) s.sent (s.forward + 1) to (rows_acknowledged a s) (third_flies lp) hi (acked_ok a s k le))))
 
 pub told_eq : (a : Told) (s : Sender) (rows rs : List Row) (f : ℕ) (vs : List Waiting) → rows ≡ rows_told a s → f ≡ s.forward + settled_front rows → rs ≡ drop (settled_front rows) rows → vs ≡ filter (still_waits (s.forward + 1) rows) s.waiting
-    → sender f rs vs s.finish s.sent a.upto (Some a.blocks) s.notice s.order ≡ told_by a s
+    → sender_of f rs vs s.finish s.sent a.upto (Some a.blocks) s.notice s.order ≡ told_by a s
 told_eq a s rows rs f vs e x y z =
     let t = settle_eq s (rows_told a s) (filter (still_waits (s.forward + 1) (rows_told a s)) s.waiting) f rs vs
     (x ∙ ap (λ (xs : List Row). s.forward + settled_front xs) e) (y ∙ ap (λ (xs : List Row). drop (settled_front xs) xs) e) (z ∙ ap (λ (xs : List Row). filter (still_waits (s.forward + 1) xs) s.waiting) e) in

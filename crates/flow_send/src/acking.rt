@@ -49,7 +49,7 @@ pub fn acknowledge(rows: &mut Rows, forward: u64, upto: u64, spans: &AckedSpans<
     let mut left = spans.iter();
     while let Some((first, last)) = left.next() {
         let more = acknowledge_span(rows, forward, first, last);
-        ordinal = if more > ordinal { more } else { ordinal };
+        ordinal = ordinal.max(more);
     }
     ordinal
 }

@@ -70,6 +70,7 @@ impl Model for FlowSender {
     ghost use Rattle.std.specs.Prelude.{◌≡◌, ◌≤◌, ◌+◌, None};
     ghost use Rattle.rtmfp_forms.specs.Options.{OptionsSpell};
     ghost use Rattle.rtmfp_forms.specs.OptionReading.{options_in};
+    ghost use Rattle.flow_send.specs.Sender.{sender_of};
     ghost use Rattle.flow_send.specs.Steady.{Steady};
     ghost use Rattle.flow_send.specs.Ordered.{Follows};
     ghost use Rattle.flow_send.specs.Flow.{Flow};
@@ -80,33 +81,12 @@ impl Model for FlowSender {
       id = f.id;
       options = options_in f.options.items;
       priority = f.priority;
-      sender = record {
-        forward = f.forward;
-        rows = f.rows.rows;
-        waiting = f.waiting;
-        finish = f.finish;
-        sent = f.sent;
-        upto = f.upto;
-        told = f.told;
-        notice = f.notice;
-        order =
-            f.order;
-      };
+      sender = sender_of f.forward f.rows.rows f.waiting f.finish f.sent f.upto f.told f.notice
+          f.order;
     } };
 
     ghost invariant = { λ f.
-        Steady (record {
-          forward = f.forward;
-          rows = f.rows.rows;
-          waiting = f.waiting;
-          finish = f.finish;
-          sent = f.sent;
-          upto = f.upto;
-          told = f.told;
-          notice = f.notice;
-          order =
-              f.order;
-        })
+        Steady (sender_of f.forward f.rows.rows f.waiting f.finish f.sent f.upto f.told f.notice f.order)
         × OptionsSpell (options_in f.options.items) f.options.items
         × (f.finish ≡ None → 1 ≤ f.rows.room)
         × Follows f.sendings (f.forward + 1) f.rows.rows };

@@ -29,28 +29,6 @@ acknowledge_span-more-requires c =
     let e : c.loop-first.left ≡ (c.in-Some.first, c.in-Some.last) ∷ c.next.new.self = c.in-Some.ensures.steps in
     (greatest_next c.loop-first.left c.next.new.self (c.in-Some.first, c.in-Some.last) (c.args.forward + 1 + length c.loop-first.rows.rows) e c.loop-first.invariant.inside).0
 
-pub loop-first-preserved-then-more-ordinal : goal.loop-first-preserved-then-more-ordinal
-loop-first-preserved-then-more-ordinal c =
-    let n = c.args.forward + 1 in
-    let p : ℕ × ℕ = (c.in-Some.first, c.in-Some.last) in
-    let left = c.loop-first.left in
-    let later = c.next.new.self in
-    let rows = c.loop-first.rows.rows in
-    let once = c.acknowledge_span-more.new.rows.rows in
-    let e : left ≡ p ∷ later = c.in-Some.ensures.steps in
-    let f = c.acknowledge_span-more.ensures.rows in
-    let g = greatest_next left later p (n + length rows) e c.loop-first.invariant.inside in
-    let len = ap (λ (xs : List Row). length xs) f in
-    let one = map_length (λ k r. cond (in_span k p) (acknowledge_row r) r) n rows in
-    let m = next_most left later p n c.loop-first.ordinal c.acknowledge_span-more.result _ rows once e f c.acknowledge_span-more.ensures.ordinal c.loop-first.invariant.ordinal in
-    let big : max c.loop-first.ordinal c.acknowledge_span-more.result ≡ c.acknowledge_span-more.result = omega (arith, c.if-more-ordinal.true) in
-    record {
-      rows = next_rows left later p n rows once _ e f c.loop-first.invariant.rows;
-      ordinal = ap (λ i. max i (last_by later n once)) (sym big) ∙ m;
-      room = c.acknowledge_span-more.ensures.room ∙ c.loop-first.invariant.room;
-      inside = omega (arith, g.1, len, one);
-    }
-
 pub loop-first-preserved : goal.loop-first-preserved
 loop-first-preserved c =
     let n = c.args.forward + 1 in
@@ -65,10 +43,9 @@ loop-first-preserved c =
     let len = ap (λ (xs : List Row). length xs) f in
     let one = map_length (λ k r. cond (in_span k p) (acknowledge_row r) r) n rows in
     let m = next_most left later p n c.loop-first.ordinal c.acknowledge_span-more.result _ rows once e f c.acknowledge_span-more.ensures.ordinal c.loop-first.invariant.ordinal in
-    let big : max c.loop-first.ordinal c.acknowledge_span-more.result ≡ c.loop-first.ordinal = omega (arith, c.if-more-ordinal.false) in
     record {
       rows = next_rows left later p n rows once _ e f c.loop-first.invariant.rows;
-      ordinal = ap (λ i. max i (last_by later n once)) (sym big) ∙ m;
+      ordinal = ap (λ i. max i (last_by later n once)) c.max-ordinal.ensures ∙ m;
       room = c.acknowledge_span-more.ensures.room ∙ c.loop-first.invariant.room;
       inside = omega (arith, g.1, len, one);
     }

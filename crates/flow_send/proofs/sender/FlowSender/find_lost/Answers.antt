@@ -1,17 +1,16 @@
 use Rattle.std.proofs.Common.{◌≡◌, ◌+◌, ◌-◌, List, map, ap, sym, ◌∙◌, subst, arith}
 use Rattle.std.specs.List.{list_any}
 use Rattle.flow_send.specs.Rows.{Row}
-use Rattle.flow_send.specs.Sender.{Sender, is_late, lost_if_late, lost_late}
+use Rattle.flow_send.specs.Sender.{sender_of, Sender, is_late, lost_if_late, lost_late}
 use Rattle.flow_send.specs.Steady.{Steady}
 use Rattle.flow_send.specs.Flow.{Flow, with_sender}
-use Rattle.flow_send.proofs.Ends.{sender}
 use Rattle.flow_send.proofs.Sendings.{map_sent, any_sent, late_flies, none_late}
 use Rattle.flow_send.proofs.Steadies.{steady_lost}
 use Rattle.flow_send.proofs.Followed.{lost_on}
 use Rattle.flow_send.proofs.sender.FlowSender.find_lost.Goals as goal
 
 abbrev At : goal.After-lose_late → Sender
-At c = let i = c.self.inside in sender i.forward i.rows.rows i.waiting i.finish i.sent i.upto i.told i.notice i.order
+At c = let i = c.self.inside in sender_of i.forward i.rows.rows i.waiting i.finish i.sent i.upto i.told i.notice i.order
 
 to_is : (c : goal.After-lose_late) → c.sent_rows-to.result ≡ (At c).sent + 1 - ((At c).forward + 1)
 to_is c =
@@ -27,8 +26,8 @@ pub invariant_of-self : goal.invariant_of-self
 invariant_of-self c =
     let i = c.self.inside in
     let s = At c in
-    let is : sender i.forward c.lose_late.new.self.rows i.waiting i.finish i.sent i.upto i.told i.notice i.order ≡ lost_late c.args.moment c.args.resend_after s =
-    ap (λ (rs : List Row). sender i.forward rs i.waiting i.finish i.sent i.upto i.told i.notice i.order) (rows_are c) in (
+    let is : sender_of i.forward c.lose_late.new.self.rows i.waiting i.finish i.sent i.upto i.told i.notice i.order ≡ lost_late c.args.moment c.args.resend_after s =
+    ap (λ (rs : List Row). sender_of i.forward rs i.waiting i.finish i.sent i.upto i.told i.notice i.order) (rows_are c) in (
       subst Steady (sym is) (steady_lost s c.args.moment c.args.resend_after c.self.invariant.0),
       c.self.invariant.1,
       λ none. let a = c.self.invariant.2 none in omega (arith, a, c.lose_late.ensures.room),
@@ -46,7 +45,7 @@ pub returns-clause-after : goal.returns-clause-after
 returns-clause-after c =
     let i = c.self.inside in
     let F : List Row → Flow = λ rs.
-    record { id = i.id; options = Rattle.rtmfp_forms.specs.OptionReading.options_in i.options.items; priority = i.priority; sender = sender i.forward rs i.waiting i.finish i.sent i.upto i.told i.notice i.order } in
+    record { id = i.id; options = Rattle.rtmfp_forms.specs.OptionReading.options_in i.options.items; priority = i.priority; sender = sender_of i.forward rs i.waiting i.finish i.sent i.upto i.told i.notice i.order } in
     subst (λ (f : Flow). F c.lose_late.new.self.rows ≡ with_sender f (lost_late c.args.moment c.args.resend_after f.sender)) c.self.view_is (ap F (rows_are c))
 
 pub returns-clause-none_late : goal.returns-clause-none_late

@@ -1,8 +1,8 @@
 use Rattle.std.proofs.Common.{◌≡◌, ◌+◌, List, length, drop, Some, ap, sym, ◌∙◌, subst, arith}
 use Rattle.flow_send.specs.Rows.{Row, settled_front, map_rows}
-use Rattle.flow_send.specs.Sender.{message_at, without_message, give_up}
+use Rattle.flow_send.specs.Sender.{sender_of, message_at, without_message, give_up}
 use Rattle.flow_send.specs.Steady.{Steady, end_of}
-use Rattle.flow_send.proofs.Ends.{sender, inside_rows, next_small, settle_eq}
+use Rattle.flow_send.proofs.Ends.{inside_rows, next_small, settle_eq}
 use Rattle.flow_send.proofs.Keeping.{line_inside_at, front_fits}
 use Rattle.flow_send.proofs.Numbered.{map_length}
 use Rattle.flow_send.proofs.Steadies.{steady_abandoned}
@@ -12,7 +12,7 @@ use Rattle.flow_send.proofs.sender.FlowSender.give_up.Goals as goal
 pub give_up-requires : goal.give_up-requires
 give_up-requires c =
     let i = c.self.inside in
-    let s = sender i.forward i.rows.rows i.waiting i.finish i.sent i.upto i.told i.notice i.order in
+    let s = sender_of i.forward i.rows.rows i.waiting i.finish i.sent i.upto i.told i.notice i.order in
     let steady : Steady s = c.self.invariant.0 in
     let e : message_at c.args.seq i.waiting ≡ Some c.in-Some.message = sym c.in-Some.ensures in
     let l = line_inside_at 0 (end_of s) c.args.seq c.in-Some.message i.waiting steady.line e in
@@ -21,14 +21,14 @@ give_up-requires c =
 pub overflow_add-self : goal.overflow_add-self
 overflow_add-self c =
     let i = c.self.inside in
-    let s = sender i.forward i.rows.rows i.waiting i.finish i.sent i.upto i.told i.notice i.order in
+    let s = sender_of i.forward i.rows.rows i.waiting i.finish i.sent i.upto i.told i.notice i.order in
     let steady : Steady s = c.self.invariant.0 in
     omega (arith, c.settle.ensures.count, front_fits c.give_up.new.rows.rows, ap (λ (xs : List Row). length xs) c.give_up.ensures.rows, map_length (give_up c.in-Some.message) (i.forward + 1) i.rows.rows, next_small s steady)
 
 pub invariant_of-self : goal.invariant_of-self
 invariant_of-self c =
     let i = c.self.inside in
-    let s = sender i.forward i.rows.rows i.waiting i.finish i.sent i.upto i.told i.notice i.order in
+    let s = sender_of i.forward i.rows.rows i.waiting i.finish i.sent i.upto i.told i.notice i.order in
     let steady : Steady s = c.self.invariant.0 in
     let w = c.in-Some.message in
     let e : message_at c.args.seq i.waiting ≡ Some w = sym c.in-Some.ensures in

@@ -4,10 +4,9 @@ use Rattle.rtmfp_data_chunks.specs.Fragments.{Message, fragments_of_length}
 use Rattle.rtmfp_forms.specs.OptionReading.{options_in}
 use Rattle.flow_send.specs.declared.waiting.Waiting.{Waiting}
 use Rattle.flow_send.specs.Rows.{Row, stored_of}
-use Rattle.flow_send.specs.Sender.{Sender, next_of, rows_of, waiting_of, queued}
+use Rattle.flow_send.specs.Sender.{sender_of, Sender, next_of, rows_of, waiting_of, queued}
 use Rattle.flow_send.specs.Steady.{Steady}
 use Rattle.flow_send.specs.Flow.{Flow, queue_refusal, next_message, with_sender}
-use Rattle.flow_send.proofs.Ends.{sender}
 use Rattle.flow_send.proofs.Steadies.{steady_queued}
 use Rattle.flow_send.proofs.Queuings.{rows_stored, allowed}
 use Rattle.flow_send.proofs.Followed.{held}
@@ -25,9 +24,9 @@ append-requires-clause-fits c =
     omega (arith, c.stored.ensures, few, left, right, c.if-size-stored.false)
 
 abbrev At : After-append → Sender
-At c = let i = c.self.inside in sender i.forward i.rows.rows i.waiting i.finish i.sent i.upto i.told i.notice i.order
+At c = let i = c.self.inside in sender_of i.forward i.rows.rows i.waiting i.finish i.sent i.upto i.told i.notice i.order
 
-after : (c : After-append) → sender c.self.inside.forward c.append.new.self.rows c.push.new.self c.self.inside.finish c.self.inside.sent c.self.inside.upto c.self.inside.told c.self.inside.notice c.self.inside.order ≡ queued (next_message (At c) c.args.message.now) c.args.options (At c)
+after : (c : After-append) → sender_of c.self.inside.forward c.append.new.self.rows c.push.new.self c.self.inside.finish c.self.inside.sent c.self.inside.upto c.self.inside.told c.self.inside.notice c.self.inside.order ≡ queued (next_message (At c) c.args.message.now) c.args.options (At c)
 after c =
     let i = c.self.inside in
     let s = At c in
@@ -38,8 +37,8 @@ after c =
     c.append.ensures.rows ∙ (ap (λ (rs : List Row). rs ++ c.in_ok-fragments.fragments.items) c.reserve.ensures.rows ∙ (ap (λ (rs : List Row). i.rows.rows ++ rs) (c.in_ok-fragments.ensures.rows (next_of s)) ∙ ap (λ k. i.rows.rows ++ rows_of m m.number k) count)) in
     let W : ℕ → ℕ → Waiting = λ n k. record { number = n; count = k; size = length c.args.message.now; options = c.args.options } in
     let waiting : c.push.new.self ≡ i.waiting ++ waiting_of m c.args.options ∷ [] = c.in_ok-push.ensures.pushed ∙ (ap (λ k. i.waiting ++ W k c.fragments_of-count.result ∷ []) number ∙ ap (λ k. i.waiting ++ W (next_of s) k ∷ []) count) in
-    ap (λ (rs : List Row). sender i.forward rs c.push.new.self i.finish i.sent i.upto i.told i.notice i.order) rows
-    ∙ ap (λ (ws : List Waiting). sender i.forward (i.rows.rows ++ rows_of m m.number (fragments_of_length (length c.args.message.now))) ws i.finish i.sent i.upto i.told i.notice i.order) waiting
+    ap (λ (rs : List Row). sender_of i.forward rs c.push.new.self i.finish i.sent i.upto i.told i.notice i.order) rows
+    ∙ ap (λ (ws : List Waiting). sender_of i.forward (i.rows.rows ++ rows_of m m.number (fragments_of_length (length c.args.message.now))) ws i.finish i.sent i.upto i.told i.notice i.order) waiting
 
 rows_after : (c : After-append) → let m = next_message (At c) c.args.message.now in c.append.new.self.rows ≡ c.self.inside.rows.rows ++ rows_of m m.number (fragments_of_length (length c.args.message.now))
 rows_after c = ap (λ (t : Sender). t.rows) (after c)
@@ -58,4 +57,4 @@ pub returns-clause-queued : goal.returns-clause-queued
 returns-clause-queued c =
     let i = c.self.inside in
     let F : Sender → Flow = λ t. record { id = i.id; options = options_in i.options.items; priority = i.priority; sender = t } in
-    subst (λ (f : Flow). F (sender i.forward c.append.new.self.rows c.push.new.self i.finish i.sent i.upto i.told i.notice i.order) ≡ with_sender f (queued (next_message f.sender c.args.message.now) c.args.options f.sender)) c.self.view_is (ap F (after c))
+    subst (λ (f : Flow). F (sender_of i.forward c.append.new.self.rows c.push.new.self i.finish i.sent i.upto i.told i.notice i.order) ≡ with_sender f (queued (next_message f.sender c.args.message.now) c.args.options f.sender)) c.self.view_is (ap F (after c))

@@ -5,20 +5,19 @@ use Rattle.rtmfp_forms.proofs.Lists.{options_in-spelled}
 use Rattle.flow_send.specs.declared.waiting.Waiting.{Waiting}
 use Rattle.flow_send.specs.Ordered.{Ordered}
 use Rattle.flow_send.specs.Rows.{Row}
-use Rattle.flow_send.specs.Sender.{Sender, new_sender}
+use Rattle.flow_send.specs.Sender.{sender_of, Sender, new_sender}
 use Rattle.flow_send.specs.Steady.{Steady}
 use Rattle.flow_send.specs.Flow.{Flow, flow_options}
-use Rattle.flow_send.proofs.Ends.{sender}
 use Rattle.flow_send.proofs.Steadies.{steady_new}
 use Rattle.flow_send.proofs.Followed.{begin}
 use Rattle.flow_send.proofs.sender.FlowSender.new.Goals as goal
 use Rattle.flow_send.proofs.sender.FlowSender.new.Goals.{After-new-3}
 
-fresh : (c : After-new-3) → let f = c.args.first in sender (f - 1) c.in_ok-new.field-0.rows c.new-3.result None (f - 1) (f - 1) None None 0 ≡ new_sender f
+fresh : (c : After-new-3) → let f = c.args.first in sender_of (f - 1) c.in_ok-new.field-0.rows c.new-3.result None (f - 1) (f - 1) None None 0 ≡ new_sender f
 fresh c =
     let f = c.args.first in
-    ap (λ (rs : List Row). sender (f - 1) rs c.new-3.result None (f - 1) (f - 1) None None 0) c.in_ok-new.ensures.none
-    ∙ ap (λ (ws : List Waiting). sender (f - 1) [] ws None (f - 1) (f - 1) None None 0) c.new-3.ensures
+    ap (λ (rs : List Row). sender_of (f - 1) rs c.new-3.result None (f - 1) (f - 1) None None 0) c.in_ok-new.ensures.none
+    ∙ ap (λ (ws : List Waiting). sender_of (f - 1) [] ws None (f - 1) (f - 1) None None 0) c.new-3.ensures
 
 listed : (c : After-new-3) → options_in c.in_ok-spelled.field-0.items ≡ flow_options c.args.metadata.now c.args.answers
 listed c = options_in-spelled (flow_options c.args.metadata.now c.args.answers) c.in_ok-spelled.field-0.items c.in_ok-spelled.ensures
@@ -34,4 +33,4 @@ invariant_of-result c = (
 pub returns : goal.returns
 returns c =
     let F : List OptionParts → Sender → Flow = λ os t. record { id = c.args.id; options = os; priority = c.args.priority; sender = t } in
-    ap (λ (os : List OptionParts). F os (sender (c.args.first - 1) c.in_ok-new.field-0.rows c.new-3.result None (c.args.first - 1) (c.args.first - 1) None None 0)) (listed c) ∙ ap (F (flow_options c.args.metadata.now c.args.answers)) (fresh c)
+    ap (λ (os : List OptionParts). F os (sender_of (c.args.first - 1) c.in_ok-new.field-0.rows c.new-3.result None (c.args.first - 1) (c.args.first - 1) None None 0)) (listed c) ∙ ap (F (flow_options c.args.metadata.now c.args.answers)) (fresh c)

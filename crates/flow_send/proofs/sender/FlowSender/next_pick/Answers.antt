@@ -1,8 +1,8 @@
 use Rattle.std.proofs.Common.{◌≡◌, ◌+◌, ◌-◌, ◌<◌, cond, length, ap, sym, ◌∙◌, subst}
+use Rattle.flow_send.specs.Sender.{sender_of}
 use Rattle.flow_send.specs.Rows.{row_at, is_lost, is_unsent}
 use Rattle.flow_send.specs.Choice.{Send, Notify, Nothing, notice_due, next_choice}
 use Rattle.flow_send.specs.Flow.{Flow}
-use Rattle.flow_send.proofs.Ends.{sender}
 use Rattle.flow_send.proofs.Sendings.{unsent_sent}
 use Rattle.flow_send.proofs.Chosen.{index_there, next_lost, next_unsent, next_notice}
 use Rattle.flow_send.proofs.sender.FlowSender.next_pick.Goals as goal
@@ -10,7 +10,7 @@ use Rattle.flow_send.proofs.sender.FlowSender.next_pick.Goals as goal
 pub returns-in-Some-clause-picked : goal.returns-in-Some-clause-picked
 returns-in-Some-clause-picked c =
     let i = c.self.inside in
-    let s = sender i.forward i.rows.rows i.waiting i.finish i.sent i.upto i.told i.notice i.order in
+    let s = sender_of i.forward i.rows.rows i.waiting i.finish i.sent i.upto i.told i.notice i.order in
     subst (λ (f : Flow). next_choice c.args.moment c.args.resend_after f.sender ≡ Send (f.sender.forward + 1 + c.in-Some.at) (row_at f.sender.rows c.in-Some.at)) c.self.view_is
     (next_lost s c.args.moment c.args.resend_after c.in-Some.at (sym c.first_lost.ensures ∙ c.in-Some.is))
 
@@ -27,7 +27,7 @@ first_unsent-requires c =
 pub returns-in-Some-first_unsent-clause-picked : goal.returns-in-Some-first_unsent-clause-picked
 returns-in-Some-first_unsent-clause-picked c =
     let i = c.self.inside in
-    let s = sender i.forward i.rows.rows i.waiting i.finish i.sent i.upto i.told i.notice i.order in
+    let s = sender_of i.forward i.rows.rows i.waiting i.finish i.sent i.upto i.told i.notice i.order in
     subst (λ (f : Flow). next_choice c.args.moment c.args.resend_after f.sender ≡ Send (f.sender.forward + 1 + c.in-Some-first_unsent.at) (row_at f.sender.rows c.in-Some-first_unsent.at)) c.self.view_is
     (next_unsent s c.args.moment c.args.resend_after c.in-Some-first_unsent.at (sym c.first_lost.ensures ∙ c.in_default.is) (sym c.first_unsent.ensures ∙ c.in-Some-first_unsent.is))
 
@@ -38,7 +38,7 @@ returns-in-Some-first_unsent-clause-there c =
 pub returns-then-notice_due-clause-picked : goal.returns-then-notice_due-clause-picked
 returns-then-notice_due-clause-picked c =
     let i = c.self.inside in
-    let s = sender i.forward i.rows.rows i.waiting i.finish i.sent i.upto i.told i.notice i.order in
+    let s = sender_of i.forward i.rows.rows i.waiting i.finish i.sent i.upto i.told i.notice i.order in
     subst (λ (f : Flow). next_choice c.args.moment c.args.resend_after f.sender ≡ notice_due c.args.moment c.args.resend_after f.sender) c.self.view_is
     (next_notice s c.args.moment c.args.resend_after (sym c.first_lost.ensures ∙ c.in_default.is) (sym c.first_unsent.ensures ∙ c.in_default-first_unsent.is))
     ∙ (c.notice_due.ensures ∙ ap (λ b. cond b Notify Nothing) c.if-notice_due.true)
@@ -46,7 +46,7 @@ returns-then-notice_due-clause-picked c =
 pub returns-clause-picked : goal.returns-clause-picked
 returns-clause-picked c =
     let i = c.self.inside in
-    let s = sender i.forward i.rows.rows i.waiting i.finish i.sent i.upto i.told i.notice i.order in
+    let s = sender_of i.forward i.rows.rows i.waiting i.finish i.sent i.upto i.told i.notice i.order in
     subst (λ (f : Flow). next_choice c.args.moment c.args.resend_after f.sender ≡ notice_due c.args.moment c.args.resend_after f.sender) c.self.view_is
     (next_notice s c.args.moment c.args.resend_after (sym c.first_lost.ensures ∙ c.in_default.is) (sym c.first_unsent.ensures ∙ c.in_default-first_unsent.is))
     ∙ (c.notice_due.ensures ∙ ap (λ b. cond b Notify Nothing) c.if-notice_due.false)

@@ -2,20 +2,19 @@ use Rattle.std.proofs.Common.{◌≡◌, ◌+◌, ◌<◌, max, List, length, ap
 use Rattle.std.specs.Prelude.{slice_set}
 use Rattle.flow_send.specs.declared.pick.Pick.TheVariants as pick
 use Rattle.flow_send.specs.Rows.{Row, row_at, map_rows}
-use Rattle.flow_send.specs.Sender.{Sender}
+use Rattle.flow_send.specs.Sender.{sender_of, Sender}
 use Rattle.flow_send.specs.Choice.{sent_row, count_up, put_at, sent_after}
 use Rattle.flow_send.specs.Steady.{Steady}
 use Rattle.flow_send.specs.Picked.{picked}
 use Rattle.flow_send.specs.Flow.{Flow, with_sender}
-use Rattle.flow_send.proofs.Ends.{sender}
 use Rattle.flow_send.proofs.Chosen.{put_is}
 use Rattle.flow_send.proofs.Followed.{sent_on}
 use Rattle.flow_send.proofs.sender.FlowSender.send_row.Goals as goal
 
 abbrev At : goal.After-self-2-1 → Sender
-At c = let i = c.self.inside in sender i.forward i.rows.rows i.waiting i.finish i.sent i.upto i.told i.notice i.order
+At c = let i = c.self.inside in sender_of i.forward i.rows.rows i.waiting i.finish i.sent i.upto i.told i.notice i.order
 
-after : (c : goal.After-self-2-1) → sender c.self.inside.forward c.send.new.self.rows c.self.inside.waiting c.self.inside.finish c.max-self-inside.result c.self.inside.upto c.self.inside.told c.self.inside.notice c.saturating_add-self-inside.result ≡ sent_after c.args.moment (picked (At c) (pick.Row c.args.at)) (At c)
+after : (c : goal.After-self-2-1) → sender_of c.self.inside.forward c.send.new.self.rows c.self.inside.waiting c.self.inside.finish c.max-self-inside.result c.self.inside.upto c.self.inside.told c.self.inside.notice c.saturating_add-self-inside.result ≡ sent_after c.args.moment (picked (At c) (pick.Row c.args.at)) (At c)
 after c =
     let i = c.self.inside in
     let s = At c in
@@ -26,9 +25,9 @@ after c =
     let rows : c.send.new.self.rows ≡ map_rows (put_at n (sent_row c.args.moment (count_up 64 i.order) (row_at i.rows.rows at))) (i.forward + 1) i.rows.rows =
     c.send.ensures.rows ∙ (ap (λ k. slice_set i.rows.rows at (sent_row c.args.moment k (row_at i.rows.rows at))) order ∙ sym (put_is (i.forward + 1) at (sent_row c.args.moment (count_up 64 i.order) (row_at i.rows.rows at)) i.rows.rows lt)) in
     let sent : c.max-self-inside.result ≡ max i.sent n = c.max-self-inside.ensures in
-    ap (λ (rs : List Row). sender i.forward rs i.waiting i.finish c.max-self-inside.result i.upto i.told i.notice c.saturating_add-self-inside.result) rows
-    ∙ (ap (λ k. sender i.forward (map_rows (put_at n (sent_row c.args.moment (count_up 64 i.order) (row_at i.rows.rows at))) (i.forward + 1) i.rows.rows) i.waiting i.finish k i.upto i.told i.notice c.saturating_add-self-inside.result) sent
-    ∙ ap (λ k. sender i.forward (map_rows (put_at n (sent_row c.args.moment (count_up 64 i.order) (row_at i.rows.rows at))) (i.forward + 1) i.rows.rows) i.waiting i.finish (max i.sent n) i.upto i.told i.notice k) order)
+    ap (λ (rs : List Row). sender_of i.forward rs i.waiting i.finish c.max-self-inside.result i.upto i.told i.notice c.saturating_add-self-inside.result) rows
+    ∙ (ap (λ k. sender_of i.forward (map_rows (put_at n (sent_row c.args.moment (count_up 64 i.order) (row_at i.rows.rows at))) (i.forward + 1) i.rows.rows) i.waiting i.finish k i.upto i.told i.notice c.saturating_add-self-inside.result) sent
+    ∙ ap (λ k. sender_of i.forward (map_rows (put_at n (sent_row c.args.moment (count_up 64 i.order) (row_at i.rows.rows at))) (i.forward + 1) i.rows.rows) i.waiting i.finish (max i.sent n) i.upto i.told i.notice k) order)
 
 pub invariant_of-self : goal.invariant_of-self
 invariant_of-self c =
@@ -43,4 +42,4 @@ pub returns : goal.returns
 returns c =
     let i = c.self.inside in
     let F : Sender → Flow = λ t. record { id = i.id; options = Rattle.rtmfp_forms.specs.OptionReading.options_in i.options.items; priority = i.priority; sender = t } in
-    subst (λ (f : Flow). F (sender i.forward c.send.new.self.rows i.waiting i.finish c.max-self-inside.result i.upto i.told i.notice c.saturating_add-self-inside.result) ≡ with_sender f (sent_after c.args.moment (picked f.sender (pick.Row c.args.at)) f.sender)) c.self.view_is (ap F (after c))
+    subst (λ (f : Flow). F (sender_of i.forward c.send.new.self.rows i.waiting i.finish c.max-self-inside.result i.upto i.told i.notice c.saturating_add-self-inside.result) ≡ with_sender f (sent_after c.args.moment (picked f.sender (pick.Row c.args.at)) f.sender)) c.self.view_is (ap F (after c))

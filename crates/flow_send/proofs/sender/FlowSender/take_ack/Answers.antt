@@ -1,11 +1,11 @@
 use Rattle.std.proofs.Common.{◌≡◌, ℕ, ◌+◌, ◌-◌, ◌≤◌, List, length, Some, ap, sym, ◌∙◌, subst, arith}
 use Rattle.std.specs.List.{sum_by}
 use Rattle.flow_send.specs.Rows.{Row, stored_of}
-use Rattle.flow_send.specs.Sender.{Sender}
+use Rattle.flow_send.specs.Sender.{sender_of, Sender}
 use Rattle.flow_send.specs.Acks.{told, last_ordinal, greatest, acknowledge, new_bytes, rows_acknowledged, rows_told, makes_lost, told_by}
 use Rattle.flow_send.specs.Steady.{Steady, Line, Late}
 use Rattle.flow_send.specs.Flow.{Flow, with_sender}
-use Rattle.flow_send.proofs.Ends.{sender, line_rows, next_small}
+use Rattle.flow_send.proofs.Ends.{line_rows, next_small}
 use Rattle.flow_send.proofs.Keeping.{front_fits}
 use Rattle.flow_send.proofs.Numbered.{map_length}
 use Rattle.flow_send.proofs.Steadies.{told_length, steady_told}
@@ -16,14 +16,14 @@ use Rattle.flow_send.proofs.sender.FlowSender.take_ack.Goals as goal
 pub acknowledge-ordinal-requires : goal.acknowledge-ordinal-requires
 acknowledge-ordinal-requires c =
     let i = c.self.inside in
-    let s = sender i.forward i.rows.rows i.waiting i.finish i.sent i.upto i.told i.notice i.order in
+    let s = sender_of i.forward i.rows.rows i.waiting i.finish i.sent i.upto i.told i.notice i.order in
     let k : Steady s = c.self.invariant.0 in
     omega (arith, c.greatest-greatest.ensures, c.if-greatest-self.false, k.below)
 
 pub overflow_sub-bytes : goal.overflow_sub-bytes
 overflow_sub-bytes c =
     let i = c.self.inside in
-    let s = sender i.forward i.rows.rows i.waiting i.finish i.sent i.upto i.told i.notice i.order in
+    let s = sender_of i.forward i.rows.rows i.waiting i.finish i.sent i.upto i.told i.notice i.order in
     let k : Steady s = c.self.invariant.0 in
     let a = told c.args.blocks c.args.upto c.args.spans in
     let g : greatest a.upto a.spans ≤ s.sent = omega (arith, c.greatest-greatest.ensures, c.if-greatest-self.false) in
@@ -33,7 +33,7 @@ overflow_sub-bytes c =
 pub count_acks-lost-requires-clause-inside : goal.count_acks-lost-requires-clause-inside
 count_acks-lost-requires-clause-inside c =
     let i = c.self.inside in
-    let s = sender i.forward i.rows.rows i.waiting i.finish i.sent i.upto i.told i.notice i.order in
+    let s = sender_of i.forward i.rows.rows i.waiting i.finish i.sent i.upto i.told i.notice i.order in
     let k : Steady s = c.self.invariant.0 in
     let a = told c.args.blocks c.args.upto c.args.spans in
     let g : greatest a.upto a.spans ≤ s.sent = omega (arith, c.greatest-greatest.ensures, c.if-greatest-self.false) in
@@ -44,14 +44,14 @@ count_acks-lost-requires-clause-inside c =
 pub count_acks-lost-requires-clause-follows : goal.count_acks-lost-requires-clause-follows
 count_acks-lost-requires-clause-follows c =
     let i = c.self.inside in
-    let s = sender i.forward i.rows.rows i.waiting i.finish i.sent i.upto i.told i.notice i.order in
+    let s = sender_of i.forward i.rows.rows i.waiting i.finish i.sent i.upto i.told i.notice i.order in
     let a = told c.args.blocks c.args.upto c.args.spans in
     acked_on i.sendings a (i.forward + 1) i.rows.rows c.acknowledge-ordinal.new.rows.rows c.acknowledge-ordinal.ensures.rows c.self.invariant.3
 
 pub drop_done-requires-clause-inside : goal.drop_done-requires-clause-inside
 drop_done-requires-clause-inside c =
     let i = c.self.inside in
-    let s = sender i.forward i.rows.rows i.waiting i.finish i.sent i.upto i.told i.notice i.order in
+    let s = sender_of i.forward i.rows.rows i.waiting i.finish i.sent i.upto i.told i.notice i.order in
     let k : Steady s = c.self.invariant.0 in
     let a = told c.args.blocks c.args.upto c.args.spans in
     let g : greatest a.upto a.spans ≤ s.sent = omega (arith, c.greatest-greatest.ensures, c.if-greatest-self.false) in
@@ -64,7 +64,7 @@ drop_done-requires-clause-inside c =
 pub drop_done-requires-clause-late : goal.drop_done-requires-clause-late
 drop_done-requires-clause-late c =
     let i = c.self.inside in
-    let s = sender i.forward i.rows.rows i.waiting i.finish i.sent i.upto i.told i.notice i.order in
+    let s = sender_of i.forward i.rows.rows i.waiting i.finish i.sent i.upto i.told i.notice i.order in
     let k : Steady s = c.self.invariant.0 in
     let a = told c.args.blocks c.args.upto c.args.spans in
     let g : greatest a.upto a.spans ≤ s.sent = omega (arith, c.greatest-greatest.ensures, c.if-greatest-self.false) in
@@ -77,7 +77,7 @@ drop_done-requires-clause-late c =
 pub overflow_add-self : goal.overflow_add-self
 overflow_add-self c =
     let i = c.self.inside in
-    let s = sender i.forward i.rows.rows i.waiting i.finish i.sent i.upto i.told i.notice i.order in
+    let s = sender_of i.forward i.rows.rows i.waiting i.finish i.sent i.upto i.told i.notice i.order in
     let k : Steady s = c.self.invariant.0 in
     let a = told c.args.blocks c.args.upto c.args.spans in
     let g : greatest a.upto a.spans ≤ s.sent = omega (arith, c.greatest-greatest.ensures, c.if-greatest-self.false) in
@@ -89,7 +89,7 @@ overflow_add-self c =
 pub invariant_of-self : goal.invariant_of-self
 invariant_of-self c =
     let i = c.self.inside in
-    let s = sender i.forward i.rows.rows i.waiting i.finish i.sent i.upto i.told i.notice i.order in
+    let s = sender_of i.forward i.rows.rows i.waiting i.finish i.sent i.upto i.told i.notice i.order in
     let k : Steady s = c.self.invariant.0 in
     let a = told c.args.blocks c.args.upto c.args.spans in
     let g : greatest a.upto a.spans ≤ s.sent = omega (arith, c.greatest-greatest.ensures, c.if-greatest-self.false) in
@@ -107,7 +107,7 @@ invariant_of-self c =
 pub returns-clause-bytes : goal.returns-clause-bytes
 returns-clause-bytes c =
     let i = c.self.inside in
-    let s = sender i.forward i.rows.rows i.waiting i.finish i.sent i.upto i.told i.notice i.order in
+    let s = sender_of i.forward i.rows.rows i.waiting i.finish i.sent i.upto i.told i.notice i.order in
     let k : Steady s = c.self.invariant.0 in
     let a = told c.args.blocks c.args.upto c.args.spans in
     let g : greatest a.upto a.spans ≤ s.sent = omega (arith, c.greatest-greatest.ensures, c.if-greatest-self.false) in
@@ -119,7 +119,7 @@ returns-clause-bytes c =
 pub returns-clause-lost : goal.returns-clause-lost
 returns-clause-lost c =
     let i = c.self.inside in
-    let s = sender i.forward i.rows.rows i.waiting i.finish i.sent i.upto i.told i.notice i.order in
+    let s = sender_of i.forward i.rows.rows i.waiting i.finish i.sent i.upto i.told i.notice i.order in
     let k : Steady s = c.self.invariant.0 in
     let a = told c.args.blocks c.args.upto c.args.spans in
     let g : greatest a.upto a.spans ≤ s.sent = omega (arith, c.greatest-greatest.ensures, c.if-greatest-self.false) in
@@ -132,7 +132,7 @@ returns-clause-lost c =
 pub returns-clause-ok : goal.returns-clause-ok
 returns-clause-ok c =
     let i = c.self.inside in
-    let s = sender i.forward i.rows.rows i.waiting i.finish i.sent i.upto i.told i.notice i.order in
+    let s = sender_of i.forward i.rows.rows i.waiting i.finish i.sent i.upto i.told i.notice i.order in
     let k : Steady s = c.self.invariant.0 in
     let a = told c.args.blocks c.args.upto c.args.spans in
     let g : greatest a.upto a.spans ≤ s.sent = omega (arith, c.greatest-greatest.ensures, c.if-greatest-self.false) in
@@ -141,5 +141,5 @@ returns-clause-ok c =
     let rows : c.count_acks-lost.new.rows.rows ≡ rows_told a s = counted_rows a s c.acknowledge-ordinal.result c.sent_rows-to.result c.acknowledge-ordinal.new.rows.rows c.count_acks-lost.new.rows.rows k g e c.acknowledge-ordinal.ensures.ordinal to c.count_acks-lost.ensures.rows in
     let is = told_eq a s c.count_acks-lost.new.rows.rows c.settle.new.self.rows (i.forward + c.settle.result) c.drop_done.new.self rows (ap (λ j. i.forward + j) c.settle.ensures.count) c.settle.ensures.rows c.drop_done.ensures in
     let F : Sender → Flow = λ v. record { id = i.id; options = Rattle.rtmfp_forms.specs.OptionReading.options_in i.options.items; priority = i.priority; sender = v } in
-    let v : Sender = sender (i.forward + c.settle.result) c.settle.new.self.rows c.drop_done.new.self i.finish i.sent c.args.upto (Some c.args.blocks) i.notice i.order in
+    let v : Sender = sender_of (i.forward + c.settle.result) c.settle.new.self.rows c.drop_done.new.self i.finish i.sent c.args.upto (Some c.args.blocks) i.notice i.order in
     subst (λ (f : Flow). F v ≡ with_sender f (told_by a f.sender)) c.self.view_is (ap F is)
