@@ -1,6 +1,6 @@
 -- The first run that passes a test, and the runs without it.
 use Rattle.std.proofs.Common.{◌≡◌, ℕ, ◌+◌, ◌≤◌, cond, Bool, true, false, List, [], ◌∷◌, length, Option, Some, None, refl, ap, sym, ◌∙◌, arith}
-use Rattle.std.specs.Option.{unwrap_or}
+use Rattle.std.specs.Option.{unwrap_or, is_some as is_there}
 use Rattle.std.proofs.lemmas.Bool.{eq-eqb}
 use Rattle.std.proofs.lemmas.List.Sums.{sum_by-cons}
 use Rattle.flow_recv.specs.Outcome.{message}
@@ -49,6 +49,16 @@ ready_first through f (y ∷ later) h b e =
       head_at f y later s ∙ sym (ap (λ t. cond t (Some y) (first_of (hands false through) later)) n),
       ap (λ t. cond t later (y ∷ without_run f later)) (eq-eqb y.first f (sym s)) ∙ sym (ap (λ t. cond t later (y ∷ without_first (hands false through) later)) n),
     )
+
+-- whether it is
+pub ready_one : (through f : ℕ) (runs : List Run) → InOrder 0 runs → AllOpen through runs → IsFirstFrom 0 runs (Some f)
+    → ready_at through (run_at f runs) ≡ is_there (first_of (hands false through) runs)
+ready_one through f [] h o b = refl
+ready_one through f (y ∷ later) h o b = ap (ready_at through) (head_at f y later (head_first f y later h b)) ∙ one_if (hands false through y) refl
+  where
+    one_if : (t : Bool) → hands false through y ≡ t → hands false through y ≡ is_there (first_of (hands false through) (y ∷ later))
+    one_if true e = e ∙ sym (ap (λ u. is_there (cond u (Some y) (first_of (hands false through) later))) e)
+    one_if false e = e ∙ sym (ap is_there (none_ready through y later h o e).0)
 
 held_if : (test : Run → Bool) (y r : Run) (later : List Run) (t : Bool) → cond t (Some y) (first_of test later) ≡ Some r → (first_of test later ≡ Some r → held_in (without_first test later) + length r.bytes ≡ held_in later)
     → held_in (cond t later (y ∷ without_first test later)) + length r.bytes ≡ held_in (y ∷ later)

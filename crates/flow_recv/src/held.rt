@@ -2,7 +2,7 @@
 
 ghost use Rattle.std.specs.Prelude.{◌≡◌, ℕ, ◌<◌, ◌≤◌, ◌+◌, ◌∷◌, [], IfOk, IfSome, IsSome, OnOk};
 ghost use Rattle.std.specs.Prelude.{OnErr, List, true, false, ◌==◌, if◌then◌else◌, ◌&&◌};
-ghost use Rattle.std.specs.Option.{option_copied, IsSomeAnd};
+ghost use Rattle.std.specs.Option.{option_copied, is_some, IsSomeAnd};
 ghost use Rattle.std.specs.Map.{remove_entry};
 ghost use Rattle.std.specs.Ordering.{nat_cmp};
 ghost use Rattle.std.specs.BTreeMap.{get, is_at, IsOrdered};
@@ -168,6 +168,13 @@ impl HeldRuns {
         }
         self.whole.remove(&first);
         Err(AllocError)
+    }
+
+    /// Whether a run is whole.
+    pub fn any_whole(&self) -> bool
+        ensures { result ≡ is_some (first_of is_whole self.now) }
+    {
+        self.whole.len() > 0
     }
 
     /// Takes out the first run that is whole.

@@ -5,7 +5,7 @@ ghost use Rattle.std.specs.Prelude.{IsErr, OnOk, OnErr, IfErr, MatchOption, List
 ghost use Rattle.std.specs.Prelude.{None, Ok, Err, false, true, ◌==◌, ◌^◌, ◌&&◌, ◌||◌, not, nat_lt};
 ghost use Rattle.std.specs.Prelude.{nat_le, max, if◌then◌else◌};
 ghost use Rattle.std.specs.List.{filter};
-ghost use Rattle.std.specs.Option.{option_map};
+ghost use Rattle.std.specs.Option.{option_map, is_some};
 ghost use Rattle.rtmfp_data_chunks.specs.Runs.{single, message_of};
 ghost use Rattle.rtmfp_data_chunks.specs.Taken.{chunk_of};
 ghost use Rattle.flow_recv.specs.Receiver.{Receiver, Apart, fresh, span, lacks, living, held_in};
@@ -22,7 +22,7 @@ use crate::above::Above;
 use crate::acking::{pairs_len, put_pairs};
 use crate::held::HeldRuns;
 use crate::outcome::{FlowRefusal, Took};
-use crate::runs::{add_run, drop_dead, dying_bytes, take_ready};
+use crate::runs::{add_run, any_ready, drop_dead, dying_bytes, take_ready};
 use crate::spans::{Spot, lacks, mark_alone, mark_behind, mark_first, raise, raised, spot_of};
 use rtmfp_base::{Memory, Message};
 use rtmfp_data_chunks::UserData;
@@ -151,6 +151,13 @@ impl FlowReceiver {
         self.held -= run.len() as u64;
         let number = run.first();
         Ok(Some((number, Message::of(run.into_bytes()))))
+    }
+
+    /// Whether a message is ready to be handed over.
+    pub fn is_ready(&self) -> bool
+        ensures { result ≡ is_some (next_run self.now) }
+    {
+        any_ready(&self.runs, self.arriving, self.through)
     }
 
     /// Puts an ack at the end, for the flow of an id: what is free in the buffer, the number at or

@@ -3,7 +3,7 @@
 ghost use Rattle.std.specs.Prelude.{◌≡◌, ℕ, ◌+◌, ◌<◌, ◌≤◌, ◌^◌, ◌∷◌, [], IfOk, IfSome, IsSome};
 ghost use Rattle.std.specs.Prelude.{OnOk, OnErr, List, length, not, ◌||◌, ◌==◌, None, true};
 ghost use Rattle.std.specs.List.{filter};
-ghost use Rattle.std.specs.Option.{IsSomeAnd};
+ghost use Rattle.std.specs.Option.{IsSomeAnd, is_some};
 ghost use Rattle.rtmfp_data_chunks.specs.Runs.{fits, joined, single};
 ghost use Rattle.flow_recv.specs.Order.{InOrder, AllOpen};
 ghost use Rattle.flow_recv.specs.Keyed.{run_at, IsFree, IsFollowed, IsFollowing, is_between, stays};
@@ -257,6 +257,21 @@ fn is_ready_at(runs: &HeldRuns, first: u64, through: u64) -> bool
 {
     match runs.at(first) {
         Some(run) => run.is_ready(through),
+        None => false,
+    }
+}
+
+/// Whether a run may be handed over.
+pub fn any_ready(runs: &HeldRuns, arriving: bool, through: u64) -> bool
+    requires order { InOrder 0 runs.now }
+    requires open { AllOpen through runs.now }
+    ensures { result ≡ is_some (first_of (hands arriving through) runs.now) }
+{
+    if arriving {
+        return runs.any_whole();
+    }
+    match runs.from(0) {
+        Some(first) => is_ready_at(runs, first, through),
         None => false,
     }
 }

@@ -363,7 +363,7 @@ sent_steady_by test s n moment r k h o e =
       waits = all_wait_by at at s.rows rows s.waiting (λ w. waits_sent test at n new r s.rows w (sym o) e) k.waits;
     }
 
-notify_steady : (s : Sender) (moment : ℕ) → Steady s → Steady (sent_after moment Notify s)
+pub notify_steady : (s : Sender) (moment : ℕ) → Steady s → Steady (sent_after moment Notify s)
 notify_steady s moment k = record {
   bytes = k.bytes;
   fragments = k.fragments;
@@ -401,13 +401,16 @@ chosen s moment resend n r e =
       | inr f ↦ elim (or_send b (cond quiet Notify Nothing) n r f) [ inl g ↦ inr g | inr g ↦ absurd (notify_if quiet n r g) ]
     ]
 
-pub steady_sent : (s : Sender) (moment resend : ℕ) (o : Choice) → choice moment resend s ≡ o → Steady s → Steady (sent_after moment o s)
-steady_sent s moment resend Nothing e k = k
-steady_sent s moment resend Notify e k = notify_steady s moment k
-steady_sent s moment resend (Send n r) e k = elim (chosen s moment resend n r e) [
+pub steady_sent_at : (s : Sender) (moment then resend : ℕ) (o : Choice) → choice then resend s ≡ o → Steady s → Steady (sent_after moment o s)
+steady_sent_at s moment then resend Nothing e k = k
+steady_sent_at s moment then resend Notify e k = notify_steady s moment k
+steady_sent_at s moment then resend (Send n r) e k = elim (chosen s then resend n r e) [
   | inl f ↦ sent_steady_by is_lost s n moment r k (λ y g. inl (lost_sent s.sent (s.forward + 1) n r s.rows k.rows f)) ((lost_open r.state ((found_low is_lost (s.forward + 1) n r s.rows f).2)).0) f
   | inr f ↦ sent_steady_by is_unsent s n moment r k (λ y g. inr g) (unsent_open r.state ((found_low is_unsent (s.forward + 1) n r s.rows f).2)) f
 ]
+
+pub steady_sent : (s : Sender) (moment resend : ℕ) (o : Choice) → choice moment resend s ≡ o → Steady s → Steady (sent_after moment o s)
+steady_sent s moment resend o e k = steady_sent_at s moment moment resend o e k
 
 -- take_ack
 new_told : (upto n : ℕ) (spans : List (ℕ × ℕ)) → upto ≤ greatest upto spans

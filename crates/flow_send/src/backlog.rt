@@ -3,6 +3,7 @@
 ghost use Rattle.std.specs.Prelude.{◌≡◌, ◌+◌, ◌-◌, ◌<◌, ◌≤◌, ◌^◌, ◌∷◌, ◌++◌, [], OnOk, OnErr, List};
 ghost use Rattle.std.specs.Prelude.{ℕ, length, slice_get, slice_index_or, Some, None, true};
 ghost use Rattle.std.specs.List.{sum_by, filter, remove};
+ghost use Rattle.std.specs.Option.{is_some};
 ghost use Rattle.std.specs.VecDeque.{deque_len};
 ghost use Rattle.flow_send.specs.Sender.{message_at, without_message, first_number, is_past};
 ghost use Rattle.flow_send.specs.Sender.{is_spent, is_overdue, first_overdue};
@@ -206,6 +207,17 @@ impl Backlog {
             soonest = soonest.min(message.latest());
         }
         (None, soonest)
+    }
+
+    /// Whether a message's deadline or limit of resends is passed.
+    pub fn any_overdue(&self, rows: &Rows, forward: u64, moment: u64) -> bool
+        requires { Line 0 (forward + 1 + length rows.now.rows) self.now }
+        ensures { result ≡ is_some (first_overdue moment (forward + 1) rows.now.rows self.now) }
+    {
+        if self.is_quiet(rows, moment) {
+            return false;
+        }
+        self.look(rows, forward, moment).0.is_some()
     }
 
     /// The number of the first message whose deadline or limit of resends is passed. Where none is,

@@ -17,7 +17,7 @@ ghost use Rattle.flow_send.specs.Steady.{Steady, IsGreatest, IsBounded};
 ghost use Rattle.flow_send.specs.Choice.{Nothing, Notify, choice, next_choice, notice_due};
 ghost use Rattle.flow_send.specs.Choice.{choice_bytes, chunk_for, within_limit, is_quiet};
 ghost use Rattle.flow_send.specs.Choice.{sent_after};
-ghost use Rattle.flow_send.specs.Picked.{picked, picked_if, IsThere};
+ghost use Rattle.flow_send.specs.Picked.{picked, picked_if, IsThere, IsOffered};
 ghost use Rattle.flow_send.specs.Flow.{Flow, flow_options, with_sender, is_finished, queue_refusal};
 ghost use Rattle.flow_send.specs.Flow.{next_message, data_length, chunk_options, chunk_refusal};
 
@@ -301,6 +301,13 @@ impl FlowSender {
         Some(number)
     }
 
+    /// Whether a message's deadline or limit of resends is passed.
+    pub fn any_overdue(&self, moment: u64) -> bool
+        ensures { result ≡ is_some (overdue moment self.now.sender) }
+    {
+        self.waiting.any_overdue(&self.rows, self.forward, moment)
+    }
+
     /// Abandons the first message whose deadline or limit of resends is passed, and gives its
     /// number.
     pub fn overdue(&mut self, moment: u64) -> Option<u64>
@@ -392,6 +399,46 @@ impl FlowSender {
         Ok(Acked { bytes, lost })
     }
 
+    /// The chunk that may be sent next, or why there is none.
+    pub fn offers(
+        &self,
+        first: bool,
+        room: usize,
+        flight: u64,
+        window: u64,
+        moment: u64,
+        resend_after: u64,
+    ) -> Result<Pick, NoChunk>
+        ensures refused { MatchOption (chunk_refusal self.now first room flight window
+            (choice moment resend_after self.now.sender)) (IsOk result) (λ e. result ≡ Err e) }
+        ensures picked { IfOk result (λ p. choice moment resend_after self.now.sender
+            ≡ picked self.now.sender p) }
+        ensures offered { IfOk result (λ p. IsOffered self.now.sender p) }
+    {
+        let Some(pick) = self.pick(moment, resend_after) else {
+            return Err(NoChunk::Nothing);
+        };
+        if let Some(refusal) = self.chunk_refusal(pick, first, room, flight, window) {
+            return Err(refusal);
+        }
+        Ok(pick)
+    }
+
+    /// Keeps that a chunk that was offered is sent. It takes no memory.
+    pub fn send(&mut self, pick: Pick, moment: u64)
+        requires { IsOffered self.old.sender pick }
+        ensures sent { self.new ≡ with_sender self.old
+            (sent_after moment (picked self.old.sender pick) self.old.sender) }
+        ensures chunk { chunk_for self.new.sender (picked self.new.sender pick)
+            ≡ chunk_for self.old.sender (picked self.old.sender pick) }
+        ensures there { IsThere self.new.sender pick }
+    {
+        match pick {
+            Pick::Row(at) => self.send_row(at, moment),
+            Pick::Notice => self.send_notice(moment),
+        }
+    }
+
     /// Chooses the next chunk, and keeps that it is sent.
     pub fn next_chunk(
         &mut self,
@@ -411,12 +458,7 @@ impl FlowSender {
             (sent_after moment (choice moment resend_after self.old.sender) self.old.sender)) }
         ensures err { OnErr result (self.new ≡ self.old) }
     {
-        let Some(pick) = self.pick(moment, resend_after) else {
-            return Err(NoChunk::Nothing);
-        };
-        if let Some(refusal) = self.chunk_refusal(pick, first, room, flight, window) {
-            return Err(refusal);
-        }
+        let pick = self.offers(first, room, flight, window, moment, resend_after)?;
         self.send(pick, moment);
         Ok(pick)
     }
@@ -426,7 +468,6 @@ impl FlowSender {
         ensures picked { choice moment resend_after self.now.sender
             ≡ picked_if self.now.sender result }
         ensures there { IfSome result (λ p. IsThere self.now.sender p) }
-        ensures steady { Steady self.now.sender }
     {
         let next = self.next_pick(moment, resend_after)?;
         if self.within_limit(self.pick_bytes(next)) {
@@ -441,7 +482,6 @@ impl FlowSender {
         ensures picked { next_choice moment resend_after self.now.sender
             ≡ picked_if self.now.sender result }
         ensures there { IfSome result (λ p. IsThere self.now.sender p) }
-        ensures steady { Steady self.now.sender }
     {
         if let Some(at) = self.rows.first_lost() {
             return Some(Pick::Row(at));
@@ -570,23 +610,8 @@ impl FlowSender {
         }
     }
 
-    /// Keeps that a chunk was sent.
-    fn send(&mut self, pick: Pick, moment: u64)
-        requires there { IsThere self.old.sender pick }
-        requires steady { Steady (sent_after moment (picked self.old.sender pick) self.old.sender) }
-        ensures { self.new ≡ with_sender self.old
-            (sent_after moment (picked self.old.sender pick) self.old.sender) }
-    {
-        match pick {
-            Pick::Row(at) => self.send_row(at, moment),
-            Pick::Notice => self.send_notice(moment),
-        }
-    }
-
     fn send_row(&mut self, at: usize, moment: u64)
-        requires there { at < length self.old.sender.rows }
-        requires steady { Steady
-            (sent_after moment (picked self.old.sender (Pick.Row at)) self.old.sender) }
+        requires { IsOffered self.old.sender (Pick.Row at) }
         ensures { self.new ≡ with_sender self.old
             (sent_after moment (picked self.old.sender (Pick.Row at)) self.old.sender) }
     {
@@ -598,7 +623,6 @@ impl FlowSender {
     }
 
     fn send_notice(&mut self, moment: u64)
-        requires { Steady (sent_after moment (picked self.old.sender Pick.Notice) self.old.sender) }
         ensures { self.new ≡ with_sender self.old
             (sent_after moment (picked self.old.sender Pick.Notice) self.old.sender) }
     {

@@ -5,9 +5,10 @@ use Rattle.flow_send.specs.Rows.{Row, row_at, map_rows}
 use Rattle.flow_send.specs.Sender.{sender_of, Sender}
 use Rattle.flow_send.specs.Choice.{sent_row, count_up, put_at, sent_after}
 use Rattle.flow_send.specs.Steady.{Steady}
-use Rattle.flow_send.specs.Picked.{picked}
+use Rattle.flow_send.specs.Picked.{picked, IsOffered}
 use Rattle.flow_send.specs.Flow.{Flow, with_sender}
 use Rattle.flow_send.proofs.Chosen.{put_is}
+use Rattle.flow_send.proofs.Steadies.{steady_sent_at}
 use Rattle.flow_send.proofs.Followed.{sent_on}
 use Rattle.flow_send.proofs.sender.FlowSender.send_row.Goals as goal
 
@@ -31,7 +32,8 @@ after c =
 
 pub invariant_of-self : goal.invariant_of-self
 invariant_of-self c =
-    let steady : Steady (sent_after c.args.moment (picked (At c) (pick.Row c.args.at)) (At c)) = subst (λ (f : Flow). Steady (sent_after c.args.moment (picked f.sender (pick.Row c.args.at)) f.sender)) (sym c.self.view_is) c.requires.steady in (
+    let o : IsOffered (At c) (pick.Row c.args.at) = subst (λ (f : Flow). IsOffered f.sender (pick.Row c.args.at)) (sym c.self.view_is) c.requires in
+    let steady : Steady (sent_after c.args.moment (picked (At c) (pick.Row c.args.at)) (At c)) = steady_sent_at (At c) c.args.moment o.moment o.resend (picked (At c) (pick.Row c.args.at)) o.chosen c.self.invariant.0 in (
       subst Steady (sym (after c)) steady,
       c.self.invariant.1,
       λ none. let a = c.self.invariant.2 none in omega (arith, a, c.send.ensures.room),
