@@ -16,3 +16,4 @@ pub mod Refusing
 pub mod Speaking
 pub mod Pairing
 pub mod Samples
+pub mod Relating

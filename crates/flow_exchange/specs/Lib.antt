@@ -3,3 +3,4 @@ pub mod Stands
 pub mod Receiving
 pub mod Sending
 pub mod Pair
+pub mod Related

@@ -1,8 +1,11 @@
 //! Laws of flows, each the contract of a function without arguments.
 
-ghost use Rattle.std.specs.Prelude.{ℕ, List, ◌≤◌, true, false, Bool};
-ghost use Rattle.rtmfp_data_chunks.specs.HandsOver.{HandsOver, HandsOnce};
-ghost use Rattle.flow_exchange.specs.Pair.{Happening, exchanged, pair};
+ghost use Rattle.std.specs.Prelude.{ℕ, List, Some, ◌≤◌, true, false, Bool};
+ghost use Rattle.rtmfp_data_chunks.specs.Runs.{Chunk};
+ghost use Rattle.rtmfp_data_chunks.specs.HandsOver.{IsIn, HandsOver, HandsOnce};
+ghost use Rattle.flow_exchange.specs.Exchange.{Ack};
+ghost use Rattle.flow_exchange.specs.Pair.{Happening, Pair, exchanged, happens, pair, takes, hears};
+ghost use Rattle.flow_exchange.specs.Related.{IsExchange};
 ghost use Rattle.flow_exchange.specs.Sending.{Act, all_acts, begun, SpeaksTrue};
 ghost use Rattle.flow_exchange.specs.Stands.{StandsFor};
 ghost use Rattle.flow_exchange.specs.Receiving.{Call, AllProper, all_calls, at_first, HandsInOrder};
@@ -50,4 +53,22 @@ pub fn exchange()
     ensures arriving { (first : ℕ) (events : List Happening) → 1 ≤ first
         → HandsOnce (exchanged (pair first true) events).world.queued
         (exchanged (pair first true) events).world.handed }
+{}
+
+/// The exchange as a relation between a sender, a receiver and what has happened, which a history
+/// of many flows can carry along. It holds at the start; each step keeps it, the taking of any
+/// chunk among those sent and the hearing of any ack among those told too; and what was handed
+/// over is as `exchange` says.
+pub fn steps()
+    ensures begins { (arriving : Bool) (first : ℕ) → 1 ≤ first →
+        IsExchange arriving (pair first arriving) }
+    ensures goes_on { (arriving : Bool) (p : Pair) (e : Happening) → IsExchange arriving p →
+        IsExchange arriving (happens p e) }
+    ensures takes { (arriving : Bool) (p : Pair) (c : Chunk) → IsIn c p.world.sent →
+        IsExchange arriving p → IsExchange arriving (takes p (Some c)) }
+    ensures hears { (arriving : Bool) (p : Pair) (blocks : ℕ) (a : Ack) → IsIn a p.world.told →
+        IsExchange arriving p → IsExchange arriving (hears p blocks (Some a)) }
+    ensures in_order { (p : Pair) → IsExchange false p →
+        HandsOver p.world.queued p.world.abandoned p.world.handed }
+    ensures arriving { (p : Pair) → IsExchange true p → HandsOnce p.world.queued p.world.handed }
 {}
