@@ -19,3 +19,4 @@ pub mod Countings
 pub mod Holding
 pub mod Orders
 pub mod Followed
+pub mod Passing

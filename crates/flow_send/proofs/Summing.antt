@@ -61,7 +61,14 @@ default_row (r ∷ rows) (suc at) d e lt = default_row rows at d e (omega arith)
 set_stored : (rows : List Row) (at : ℕ) (y : Row) → at < length rows → stored_of y ≡ stored_of (row_at rows at) → sum_by stored_of (set rows at y) ≡ sum_by stored_of rows
 set_stored rows at y lt e = omega (arith, sum_by-set stored_of rows at y end_row lt, e)
 
--- the sums fit after a row is changed that keeps its bytes
+-- the sums after a row is changed
+pub moved_at : (all before after : Totals) (rows : List Row) (at : ℕ) (x y : Row) → all ≡ totals_of rows → before ≡ row_totals x → after ≡ row_totals y → x ≡ get_or rows at x → at < length rows
+    → moved all before after ≡ totals_of (set rows at y)
+moved_at all before after rows at x y e f g h lt =
+    let x_is : x ≡ row_at rows at = h ∙ default_row rows at x end_row lt in
+    ap (λ (t : Totals). moved t before after) e ∙ (ap (λ (t : Totals). moved (totals_of rows) t after) (f ∙ ap row_totals x_is) ∙ (ap (λ (t : Totals). moved (totals_of rows) (row_totals (row_at rows at)) t) g ∙ moved_set rows at y lt))
+
+-- they fit where it keeps its bytes
 pub fits_at : (all before after : Totals) (rows : List Row) (at : ℕ) (x y : Row) → all ≡ totals_of rows → before ≡ row_totals x → after ≡ row_totals y → x ≡ get_or rows at x → at < length rows
     → stored_of y ≡ stored_of x → all.stored < 2 ^ 64 → length rows < 2 ^ 64 → Fit (moved all before after)
 fits_at all before after rows at x y e f g h lt same s n =
@@ -69,9 +76,7 @@ fits_at all before after rows at x y e f g h lt same s n =
     let st : sum_by stored_of rows < 2 ^ 64 = omega (arith, s, ap (λ (t : Totals). t.stored) e) in
     let kept : stored_of y ≡ stored_of (row_at rows at) = same ∙ ap stored_of x_is in
     let fit : Fit (totals_of (set rows at y)) = all_fit (set rows at y) (omega (arith, set_stored rows at y lt kept, st)) (omega (arith, length-set rows at y, n)) in
-    let m : moved all before after ≡ totals_of (set rows at y) =
-    ap (λ (t : Totals). moved t before after) e ∙ (ap (λ (t : Totals). moved (totals_of rows) t after) (f ∙ ap row_totals x_is) ∙ (ap (λ (t : Totals). moved (totals_of rows) (row_totals (row_at rows at)) t) g ∙ moved_set rows at y lt)) in
-    subst Fit (sym m) fit
+    subst Fit (sym (moved_at all before after rows at x y e f g h lt)) fit
 
 count_if : (r : Row) (t u : Bool) → stored_of (cond t (record r { state = Lost }) (cond u (record r { acks = r.acks + 1 }) r)) ≡ stored_of r
 count_if r true u = refl

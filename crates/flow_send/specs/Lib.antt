@@ -11,3 +11,4 @@ pub mod Flow
 pub mod Edges
 pub mod Calls
 pub mod Counted
+pub mod Passed

@@ -8,6 +8,7 @@ mod fragments;
 pub mod laws;
 mod ordered;
 mod outcome;
+mod passed;
 mod pick;
 mod row;
 mod rows;

@@ -13,7 +13,9 @@ ghost use Rattle.flow_send.specs.Sender.{give_up_row, lost_if_late, is_late, is_
 ghost use Rattle.flow_send.specs.Choice.{sent_row};
 ghost use Rattle.flow_send.specs.Acks.{acknowledge_row, new_ordinal, count_ack, is_third};
 ghost use Rattle.flow_send.specs.Ordered.{count_sent};
+ghost use Rattle.flow_send.specs.Passed.{AllAcked, NoneLost};
 
+use crate::passed::Passed;
 use crate::row::HeldRow;
 use crate::state::State;
 use crate::totals::Totals;
@@ -26,11 +28,15 @@ use std::marker::Model;
 #[derive(Drop)]
 pub struct Rows {
     rows: VecDeque<HeldRow>,
+    passed: Passed,
+    /// No row before this index is lost.
+    lost_from: usize,
     totals: Totals,
 }
 
 impl Model for Rows {
     ghost use Rattle.std.specs.Prelude.{◌≡◌, ◌-◌};
+    ghost use Rattle.flow_send.specs.Passed.{ArePassed, NoneLost};
     ghost use Rattle.std.specs.VecDeque.{deque_len, deque_capacity};
     ghost use Rattle.flow_send.specs.Rows.{Roomy, roomy, totals_of};
 
@@ -38,7 +44,8 @@ impl Model for Rows {
 
     ghost view = { λ q. roomy q.rows.items (deque_capacity q.rows - deque_len q.rows) };
 
-    ghost invariant = { λ q. q.totals ≡ totals_of q.rows.items };
+    ghost invariant = { λ q. (q.totals ≡ totals_of q.rows.items) × ArePassed q.passed q.rows.items
+        × NoneLost q.lost_from q.rows.items };
 }
 
 impl Rows {
@@ -49,6 +56,8 @@ impl Rows {
     {
         Ok(Rows {
             rows: VecDeque::with_capacity(alloc, 1)?,
+            passed: Passed::new(alloc),
+            lost_from: 0,
             totals: Totals::NONE,
         })
     }
@@ -65,7 +74,8 @@ impl Rows {
         ensures room { OnOk result (more ≤ self.new.room) }
         ensures kept { self.old.room ≤ self.new.room }
     {
-        self.rows.reserve(more)
+        self.rows.reserve(more)?;
+        self.passed.reserve(more)
     }
 
     /// The bytes that the rows hold.
@@ -91,6 +101,7 @@ impl Rows {
     {
         let added = row.totals();
         self.rows.push_back_reserved(row);
+        self.passed.push();
         self.totals = self.totals.moved(Totals::NONE, added);
     }
 
@@ -169,11 +180,34 @@ impl Rows {
         ensures ordinal { result ≡ most_between new_ordinal from to self.old.rows }
     {
         let mut ordinal: u64 = 0;
-        for at in from..to {
+        let mut at = from;
+        while at < to {
+            let known = self.known(at);
+            if known > 0 {
+                at = at.saturating_add(known).min(to);
+                continue;
+            }
             ordinal = ordinal.max(self.new_ordinal(at));
             self.acknowledge_at(at);
+            at += 1;
         }
+        self.note(from, to);
         ordinal
+    }
+
+    /// How many rows from an index on are known to be acknowledged.
+    fn known(&self, at: usize) -> usize
+        ensures { AllAcked result (drop at self.now.rows) }
+    {
+        self.passed.from(at)
+    }
+
+    /// Keeps that the rows from one index to before another are acknowledged.
+    fn note(&mut self, from: usize, to: usize)
+        requires { AllAcked (to - from) (drop from self.old.rows) }
+        ensures { self.new ≡ self.old }
+    {
+        self.passed.note(from, to);
     }
 
     fn count_ack_at(&mut self, at: usize, ordinal: u64)
@@ -190,6 +224,7 @@ impl Rows {
         row.count_ack(ordinal);
         let after = row.totals();
         self.totals = self.totals.moved(before, after);
+        self.lost_from = lost_from(self.lost_from, at, after);
     }
 
     /// Counts it against a row whose last sending has this ordinal.
@@ -242,6 +277,7 @@ impl Rows {
         row.lose_if_late(moment, resend_after);
         let after = row.totals();
         self.totals = self.totals.moved(before, after);
+        self.lost_from = lost_from(self.lost_from, at, after);
     }
 
     fn is_late(&self, at: usize, moment: u64, resend_after: u64) -> bool
@@ -267,9 +303,11 @@ impl Rows {
         late
     }
 
-    /// A row is sent.
+    /// A row that isn't acknowledged is sent, where none before it is lost.
     pub fn send(&mut self, at: usize, moment: u64, ordinal: u64)
-        requires { at < length self.old.rows }
+        requires there { at < length self.old.rows }
+        requires first { NoneLost at self.old.rows }
+        requires open { is_acknowledged (row_at self.old.rows at).state ≡ false }
         ensures rows { self.new.rows ≡ slice_set self.old.rows at
             (sent_row moment ordinal (row_at self.old.rows at)) }
         ensures room { self.new.room ≡ self.old.room }
@@ -279,6 +317,7 @@ impl Rows {
         row.send(moment, ordinal);
         let after = row.totals();
         self.totals = self.totals.moved(before, after);
+        self.lost_from = at + 1;
     }
 
     /// Whether a row is in flight.
@@ -348,7 +387,7 @@ impl Rows {
         if self.totals.lost == 0 {
             return None;
         }
-        for at in 0..self.rows.len() {
+        for at in self.lost_from..self.rows.len() {
             if self.rows[at].state() == State::Lost {
                 return Some(at);
             }
@@ -383,6 +422,8 @@ impl Rows {
     {
         let before = self.rows[0].totals();
         let _ = self.rows.pop_front();
+        self.passed.pop();
+        self.lost_from = self.lost_from.saturating_sub(1);
         self.totals = self.totals.moved(before, Totals::NONE);
     }
 
@@ -400,4 +441,15 @@ impl Rows {
         }
         count as u64
     }
+}
+
+/// Where the lost rows may begin, after the row at an index gives these sums.
+fn lost_from(before: usize, at: usize, row: Totals) -> usize
+    ensures before { result ≤ before }
+    ensures row { 0 < row.lost → result ≤ at }
+{
+    if row.lost > 0 {
+        return before.min(at);
+    }
+    before
 }

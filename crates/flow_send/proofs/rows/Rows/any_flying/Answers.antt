@@ -6,4 +6,4 @@ use Rattle.flow_send.proofs.rows.Rows.any_flying.Goals as goal
 
 pub returns : goal.returns
 returns c =
-    ap (λ (t : Totals). nat_lt 0 t.flying) c.self.invariant ∙ (any_flying_is c.self.inside.rows.items ∙ ap (λ (p : Roomy). any_flying p.rows) c.self.view_is)
+    ap (λ (t : Totals). nat_lt 0 t.flying) c.self.invariant.0 ∙ (any_flying_is c.self.inside.rows.items ∙ ap (λ (p : Roomy). any_flying p.rows) c.self.view_is)

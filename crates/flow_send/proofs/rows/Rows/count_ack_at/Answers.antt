@@ -1,6 +1,7 @@
 use Rattle.std.proofs.Common.{◌<◌, ◌^◌, length, ap, ◌∙◌, arith}
-use Rattle.flow_send.specs.Rows.{Roomy, stored_of}
+use Rattle.flow_send.specs.Rows.{Row, Roomy, stored_of, is_acknowledged}
 use Rattle.flow_send.proofs.Summing.{fits_at, count_stored}
+use Rattle.flow_send.proofs.Passing.{none_lost_set, counts_lost, kept_at, counted_acked}
 use Rattle.flow_send.proofs.rows.Rows.count_ack_at.Goals as goal
 
 pub moved-self-inside-requires-clause-fits : goal.moved-self-inside-requires-clause-fits
@@ -11,4 +12,14 @@ moved-self-inside-requires-clause-fits c =
     let s : i.totals.stored < 2 ^ 64 = omega arith in
     let n : length i.rows.items < 2 ^ 64 = omega (arith, i.rows.ok, i.rows.small) in
     let lt : c.args.at < length i.rows.items = omega (arith, c.requires, ap (λ (p : Roomy). length p.rows) c.self.view_is) in
-    fits_at _ _ _ i.rows.items c.args.at x y c.self.invariant c.totals-before.ensures c.totals-after.ensures c.index_mut-row.ensures.value lt (ap stored_of c.count_ack.ensures ∙ count_stored c.args.ordinal x) s n
+    fits_at _ _ _ i.rows.items c.args.at x y c.self.invariant.0 c.totals-before.ensures c.totals-after.ensures c.index_mut-row.ensures.value lt (ap stored_of c.count_ack.ensures ∙ count_stored c.args.ordinal x) s n
+
+pub invariant_of-self : goal.invariant_of-self
+invariant_of-self c =
+    let i = c.self.inside in
+    let x = c.index_mut-row.result.now in
+    let y = c.count_ack.new.self in
+    let lt : c.args.at < length i.rows.items = omega (arith, c.requires, ap (λ (p : Roomy). length p.rows) c.self.view_is) in
+    let k = kept_at i.passed i.totals c.totals-before.result c.totals-after.result c.moved-self-inside.result i.rows.items c.args.at x y c.self.invariant.0 c.totals-before.ensures c.totals-after.ensures c.index_mut-row.ensures.value lt
+    c.moved-self-inside.ensures (λ h. ap (λ (r : Row). is_acknowledged r.state) c.count_ack.ensures ∙ counted_acked c.args.ordinal x h) c.self.invariant.1 in
+    (k.0, k.1, none_lost_set c.lost_from-self-inside.result i.lost_from c.args.at i.rows.items y c.lost_from-self-inside.ensures.before (λ e. c.lost_from-self-inside.ensures.row (counts_lost y c.totals-after.result c.totals-after.ensures e)) c.self.invariant.2)

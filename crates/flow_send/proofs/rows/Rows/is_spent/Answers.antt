@@ -33,5 +33,5 @@ loop-at-preserved c =
 pub returns-then-self-eq0 : goal.returns-then-self-eq0
 returns-then-self-eq0 c =
     let z : sum_by lost_of c.args.self.now.rows ≡ 0 =
-    sym (ap (λ (p : Roomy). sum_by lost_of p.rows) c.self.view_is) ∙ (sym (ap (λ (t : Totals). t.lost) c.self.invariant) ∙ c.if-self-eq0.true) in
+    sym (ap (λ (p : Roomy). sum_by lost_of p.rows) c.self.view_is) ∙ (sym (ap (λ (t : Totals). t.lost) c.self.invariant.0) ∙ c.if-self-eq0.true) in
     sym (none_spent c.args.limit c.args.from c.args.to c.args.self.now.rows z)

@@ -1,0 +1,21 @@
+-- What is known of rows that come one after another.
+use Prim.Native.Nat.{zero, suc}
+use Rattle.std.specs.Prelude.{ℕ, ◌≡◌, true, false, List, [], ◌∷◌, drop}
+use Rattle.flow_send.specs.Rows.{Row, is_acknowledged, is_lost}
+
+-- the first so many rows are there and acknowledged
+abbrev pub AllAcked : ℕ → List Row → Type 0
+AllAcked zero rows = Unit {0}
+AllAcked (suc k) [] = ⊥
+AllAcked (suc k) (r ∷ rows) = (is_acknowledged r.state ≡ true) × AllAcked k rows
+
+-- from each row on so many are
+abbrev pub ArePassed : List ℕ → List Row → Type 0
+ArePassed [] rows = Unit {0}
+ArePassed (k ∷ counts) rows = AllAcked k rows × ArePassed counts (drop 1 rows)
+
+-- the first so many rows are there and not lost
+abbrev pub NoneLost : ℕ → List Row → Type 0
+NoneLost zero rows = Unit {0}
+NoneLost (suc k) [] = ⊥
+NoneLost (suc k) (r ∷ rows) = (is_lost r.state ≡ false) × NoneLost k rows
