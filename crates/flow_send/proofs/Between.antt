@@ -1,5 +1,5 @@
 -- Rows from one index to before another, changed one after another.
-use Rattle.std.proofs.Common.{◌≡◌, ℕ, zero, suc, ◌+◌, ◌<◌, ◌≤◌, max, cond, Bool, true, false, ◌||◌, Option, Some, None, List, [], ◌∷◌, length, set, drop, refl, ap, sym, ◌∙◌, arith}
+use Rattle.std.proofs.Common.{◌≡◌, ℕ, zero, suc, ◌+◌, ◌<◌, ◌≤◌, max, cond, Bool, true, false, ◌||◌, Option, Some, List, [], ◌∷◌, length, set, drop, refl, ap, sym, ◌∙◌, arith}
 use Rattle.flow_send.specs.declared.state.State.{State}
 use Rattle.flow_send.specs.Rows.{Row, first_index, front_settled, settled_front, is_settled, row_at, between, any_between, most_between}
 

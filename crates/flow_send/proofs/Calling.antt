@@ -1,25 +1,25 @@
 -- A sender stands for what its calls did.
-use Rattle.std.proofs.Common.{◌≡◌, ℕ, ◌+◌, ◌-◌, ◌^◌, ◌<◌, ◌≤◌, ◌==◌, nat_lt, min, max, not, cond, map, Bool, true, false, ◌&&◌, ◌||◌, List, [], ◌∷◌, ◌++◌, length, drop, Option, Some, None, refl, ap, sym, ◌∙◌, subst, arith, inl, inr, ◌⊎◌, length-append}
+use Rattle.std.proofs.Common.{◌≡◌, ℕ, ◌+◌, ◌-◌, ◌^◌, ◌<◌, ◌≤◌, ◌==◌, nat_lt, min, max, cond, map, Bool, true, false, ◌&&◌, ◌||◌, List, [], ◌∷◌, length, drop, Option, Some, None, refl, ap, sym, ◌∙◌, subst, arith, inl, inr, ◌⊎◌, length-append}
 use Rattle.std.specs.List.{filter}
-use Rattle.std.proofs.lemmas.Bool.{cases_lt, eqb-true, leb-true, ltb-true, ltb-false, lt-ltb}
+use Rattle.std.proofs.lemmas.Bool.{cases_lt, eqb-true, ltb-true, ltb-false, lt-ltb}
 use Rattle.rtmfp_data_chunks.specs.Fragments.{Message, fragment_count}
 use Rattle.flow_send.specs.declared.waiting.MessageOptions.{MessageOptions}
 use Rattle.flow_send.specs.declared.waiting.Waiting.{Waiting}
 use Rattle.flow_send.specs.declared.outcome.QueueRefusal.{QueueRefusal}
 use Rattle.flow_send.specs.Rows.{Row, end_row, is_lost, is_unsent, map_rows, settled_front}
 use Rattle.flow_send.specs.Sender.{Sender, new_sender, next_of, with_rows, rows_of, queued, message_at, without_message, has_number, give_up, abandoned_with, abandoned, finished, lost_late}
-use Rattle.flow_send.specs.Choice.{Choice, Nothing, Send, Notify, choice, sent_after, first_in, put_at, sent_row, count_up}
+use Rattle.flow_send.specs.Choice.{Choice, Nothing, Send, Notify, choice, sent_after, put_at, sent_row, count_up}
 use Rattle.flow_send.specs.Acks.{Told, tells, greatest, beyond, rows_told, still_waits, told_by}
 use Rattle.flow_send.specs.Flow.{queue_refusal, next_message}
 use Rattle.flow_send.specs.Steady.{Steady}
-use Rattle.flow_send.specs.Calls.{Call, Queue, Abandon, Finish, Lose, Next, Hear, Done, Queued, Abandoned, Finished, Sent, Noticed, Looked, Heard, Sending, begun, queues, abandons, finishes, sends, hears, calls, all_calls, is_told, is_given_up, is_over, sendings, times_sent, TellsLast, Stands, AllStand, AllSent, IsForward, StandsFor}
+use Rattle.flow_send.specs.Calls.{Call, Queue, Abandon, Finish, Lose, Next, Hear, Done, Queued, Abandoned, Finished, Sent, Noticed, Looked, Heard, Sending, begun, queues, abandons, finishes, sends, hears, calls, all_calls, is_told, is_given_up, is_over, sendings, times_sent, TellsLast, AllStand, AllSent, StandsFor}
 use Rattle.flow_send.proofs.Numbered.{map_length}
 use Rattle.flow_send.proofs.Keeping.{line_inside_at}
 use Rattle.flow_send.proofs.Ends.{inside_rows, next_unfinished}
-use Rattle.flow_send.proofs.Queuings.{IsAllowed, allowed}
-use Rattle.flow_send.proofs.Steadies.{next_with, rows_length, steady_new, steady_queued, steady_finished, steady_lost, steady_abandoned, steady_sent, steady_told, chosen, found_low, told_below, told_length}
+use Rattle.flow_send.proofs.Queuings.{allowed}
+use Rattle.flow_send.proofs.Steadies.{next_with, steady_new, steady_queued, steady_finished, steady_lost, steady_abandoned, steady_sent, steady_told, chosen, found_low, told_below, told_length}
 use Rattle.flow_send.proofs.Resends.{all_sent_same, sent_append, sent_drop, sent_map, sent_plain, news_sent, end_sent, late_keeps, give_keeps, ack_keeps, count_keeps, put_sent}
-use Rattle.flow_send.proofs.Standings.{Same, all_same, all_append, Unsaid, news_stand, end_stands, late_stands, lost_open, unsent_open, put_stands, given_stands, told_stands, Passed, passed, over_more, next_open}
+use Rattle.flow_send.proofs.Standings.{Same, all_same, all_append, Unsaid, news_stand, end_stands, late_stands, lost_open, unsent_open, put_stands, given_stands, told_stands, passed, over_more, next_open}
 
 -- what is kept true from call to call
 pub record Goes (first : ℕ) (w : Sending) : Type 0 where

@@ -1,7 +1,6 @@
 -- Which acks count against a number, and which numbers are lost, against what was done.
 use Rattle.std.proofs.Common.{◌≡◌, ◌⊎◌, ℕ, zero, suc, ◌+◌, ◌-◌, ◌^◌, ◌<◌, ◌≤◌, ◌==◌, nat_le, nat_lt, min, max, not, cond, map, Bool, true, false, ◌&&◌, ◌||◌, List, [], ◌∷◌, ◌++◌, length, drop, Option, Some, None, refl, ap, sym, ◌∙◌, subst, arith, inl, inr, eq-eqb}
-use Rattle.std.specs.List.{filter}
-use Rattle.std.proofs.lemmas.Bool.{cases_lt, cases_eq, eqb-true, ne_eqb, leb-true, ltb-true, ltb-false, lt-ltb, le-ltb}
+use Rattle.std.proofs.lemmas.Bool.{cases_lt, cases_eq, eqb-true, ne_eqb, leb-true, ltb-true, lt-ltb}
 use Rattle.std.proofs.lemmas.Bool.Decides.{nat_tests}
 use Rattle.rtmfp_data_chunks.specs.Fragments.{Message, fragment_count}
 use Rattle.flow_send.specs.declared.state.State.{State}
@@ -9,12 +8,12 @@ use Rattle.flow_send.specs.declared.state.State.TheVariants.{Unsent, Flying, Los
 use Rattle.flow_send.specs.declared.waiting.MessageOptions.{MessageOptions}
 use Rattle.flow_send.specs.declared.waiting.Waiting.{Waiting}
 use Rattle.flow_send.specs.declared.outcome.QueueRefusal.{QueueRefusal}
-use Rattle.flow_send.specs.Rows.{Row, end_row, is_flying, is_lost, is_acknowledged, let_go, map_rows, most_rows, front_settled, settled_front}
+use Rattle.flow_send.specs.Rows.{Row, end_row, is_flying, is_lost, is_acknowledged, let_go, map_rows, settled_front}
 use Rattle.flow_send.specs.Sender.{Sender, new_sender, next_of, with_rows, rows_of, message_at, without_message, has_number, give_up, abandoned_with, abandoned, is_late, lost_if_late}
 use Rattle.flow_send.specs.Choice.{Choice, Nothing, Send, Notify, choice, put_at, sent_row, count_up}
-use Rattle.flow_send.specs.Acks.{Told, tells, beyond, new_ordinal, last_ordinal, acknowledge, acknowledge_row, is_third, count_ack, rows_acknowledged}
+use Rattle.flow_send.specs.Acks.{Told, tells, beyond, new_ordinal, last_ordinal, acknowledge, count_ack, rows_acknowledged}
 use Rattle.flow_send.specs.Flow.{queue_refusal, next_message}
-use Rattle.flow_send.specs.Calls.{Call, Queue, Abandon, Finish, Lose, Next, Hear, Done, Queued, Abandoned, Finished, Sent, Noticed, Looked, Heard, Sending, begun, queues, abandons, finishes, sends, hears, calls, all_calls, is_told, is_given_up, is_over, sendings, times_sent, last_sending, is_out, Stands, AllStand, SentAs, AllSent}
+use Rattle.flow_send.specs.Calls.{Call, Queue, Abandon, Finish, Lose, Next, Hear, Done, Queued, Abandoned, Finished, Sent, Noticed, Looked, Heard, Sending, begun, queues, abandons, finishes, sends, hears, calls, is_told, is_over, sendings, times_sent, last_sending, is_out, Stands, AllStand, SentAs, AllSent}
 use Rattle.flow_send.specs.Counted.{is_passed, newly_tells, tells_later, acks_since, is_long_before, was_late, CountsAs, AllCount}
 use Rattle.flow_send.proofs.Standings.{next_open}
 use Rattle.flow_send.proofs.Calling.{Goes, never}

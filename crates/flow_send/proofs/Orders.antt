@@ -1,8 +1,8 @@
 -- What an ack counts against, by the sendings in their order.
-use Rattle.std.proofs.Common.{◌≡◌, ◌⊎◌, ℕ, zero, suc, ◌+◌, ◌-◌, ◌<◌, ◌≤◌, ◌==◌, nat_le, nat_lt, cond, Bool, true, false, ◌&&◌, ◌||◌, List, [], ◌∷◌, ◌++◌, length, drop, get_or, refl, ap, sym, ◌∙◌, subst, arith, inl, inr, eq-eqb}
+use Rattle.std.proofs.Common.{◌≡◌, ◌⊎◌, ℕ, zero, suc, ◌+◌, ◌-◌, ◌<◌, ◌≤◌, ◌==◌, nat_le, nat_lt, cond, Bool, true, false, ◌&&◌, ◌||◌, List, [], ◌∷◌, ◌++◌, length, drop, refl, ap, sym, ◌∙◌, subst, arith, inl, inr, eq-eqb}
 use Rattle.std.specs.Prelude.{slice_set, slice_index_or}
 use Rattle.std.specs.List.{sum_by}
-use Rattle.std.proofs.lemmas.Bool.{cases_lt, cases_eq, eqb-true, ne_eqb, ltb-true, ltb-false, lt-ltb, le-ltb}
+use Rattle.std.proofs.lemmas.Bool.{eqb-true, ne_eqb, ltb-true, ltb-false, lt-ltb, le-ltb}
 use Rattle.std.proofs.lemmas.Bool.Decides.{nat_tests}
 use Rattle.std.proofs.lemmas.List.Sums.{sum_by-cons}
 use Rattle.rtmfp_data_chunks.specs.HandsOver.{IsIn}
@@ -10,7 +10,7 @@ use Rattle.flow_send.specs.declared.state.State.{State}
 use Rattle.flow_send.specs.declared.state.State.TheVariants.{Unsent, Flying, Lost, Acknowledged, Abandoned}
 use Rattle.flow_send.specs.Rows.{Row, row_at, is_flying, is_lost, lost_of, map_rows, between, any_between}
 use Rattle.flow_send.specs.Acks.{is_third, count_ack}
-use Rattle.flow_send.specs.Ordered.{Ordered, Rising, EndsBefore, AllThere, AllOther, IsComplete, Follows, IsAdded, count_sent, count_one, count_before}
+use Rattle.flow_send.specs.Ordered.{Ordered, Rising, EndsBefore, AllThere, AllOther, Follows, IsAdded, count_sent, count_one, count_before}
 use Rattle.flow_send.proofs.Sendings.{third_flies}
 use Rattle.flow_send.proofs.Numbered.{Stands_between, map_between}
 

@@ -1,5 +1,5 @@
 -- What is known of acknowledged rows, through each change of the rows.
-use Rattle.std.proofs.Common.{◌≡◌, ℕ, zero, suc, ◌+◌, ◌-◌, ◌<◌, ◌≤◌, nat_le, nat_lt, max, cond, Bool, true, false, ◌&&◌, List, [], ◌∷◌, ◌++◌, Some, None, Option, length, set, get_or, drop, refl, ap, sym, ◌∙◌, subst, arith}
+use Rattle.std.proofs.Common.{◌≡◌, ℕ, zero, suc, ◌+◌, ◌-◌, ◌<◌, ◌≤◌, nat_le, nat_lt, max, cond, Bool, true, false, ◌&&◌, List, [], ◌∷◌, ◌++◌, Some, Option, length, set, get_or, drop, refl, ap, sym, ◌∙◌, subst, arith}
 use Rattle.flow_send.specs.declared.state.State.{State}
 use Rattle.flow_send.specs.declared.state.State.TheVariants.{Unsent, Flying, Lost, Acknowledged, Abandoned}
 use Rattle.flow_send.specs.declared.totals.Totals.{Totals}

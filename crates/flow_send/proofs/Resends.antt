@@ -1,16 +1,15 @@
 -- How often and when each number was sent, against what was done.
-use Rattle.std.proofs.Common.{◌≡◌, ℕ, zero, suc, ◌+◌, ◌-◌, ◌^◌, ◌<◌, ◌≤◌, ◌==◌, nat_le, nat_lt, min, not, cond, map, Bool, true, false, ◌&&◌, ◌||◌, List, [], ◌∷◌, ◌++◌, length, drop, Option, Some, None, refl, ap, sym, ◌∙◌, subst, arith, inl, inr, eq-eqb}
+use Rattle.std.proofs.Common.{◌≡◌, ℕ, zero, suc, ◌+◌, ◌-◌, ◌^◌, ◌<◌, ◌≤◌, nat_le, nat_lt, min, cond, map, Bool, true, false, ◌&&◌, List, [], ◌∷◌, ◌++◌, length, drop, Option, Some, refl, ap, sym, ◌∙◌, subst, arith, eq-eqb}
 use Rattle.std.proofs.lemmas.Bool.{ne_eqb}
 use Rattle.rtmfp_data_chunks.specs.Fragments.{Message}
 use Rattle.flow_send.specs.declared.state.State.{State}
 use Rattle.flow_send.specs.declared.state.State.TheVariants.{Unsent, Flying, Lost, Acknowledged, Abandoned as Given_up}
 use Rattle.flow_send.specs.declared.waiting.Waiting.{Waiting}
 use Rattle.flow_send.specs.Rows.{Row, end_row, is_unsent, is_flying, is_lost, is_acknowledged, let_go, map_rows}
-use Rattle.flow_send.specs.Sender.{has_number, rows_of, new_row, give_up, give_up_row, is_late, lost_if_late}
-use Rattle.flow_send.specs.Choice.{Choice, Send, first_in, put_at, sent_row, count_up}
-use Rattle.flow_send.specs.Acks.{Told, tells, acknowledge, acknowledge_row, is_third, count_ack}
+use Rattle.flow_send.specs.Sender.{has_number, rows_of, give_up, is_late, lost_if_late}
+use Rattle.flow_send.specs.Choice.{Send, first_in, put_at, sent_row, count_up}
+use Rattle.flow_send.specs.Acks.{Told, tells, acknowledge, is_third, count_ack}
 use Rattle.flow_send.specs.Calls.{Done, Sent, times_sent, last_sending, sendings, is_out, SentAs, AllSent}
-use Rattle.flow_send.proofs.Numbered.{map_is}
 use Rattle.flow_send.proofs.Steadies.{put_here, put_before, found_low}
 
 -- a list of what was done that tells the same sendings of each number

@@ -1,13 +1,11 @@
 -- What the code does to the rows up to the highest number sent is done to all.
-use Rattle.std.proofs.Common.{◌≡◌, ℕ, zero, suc, ◌+◌, ◌-◌, ◌<◌, nat_le, nat_lt, cond, map, Bool, true, false, ◌&&◌, ◌||◌, List, [], ◌∷◌, drop, Option, Some, None, refl, ap, sym, ◌∙◌, arith, inl, inr}
+use Rattle.std.proofs.Common.{◌≡◌, ℕ, zero, suc, ◌+◌, ◌-◌, ◌<◌, nat_le, nat_lt, cond, map, Bool, true, false, ◌&&◌, ◌||◌, List, [], ◌∷◌, drop, Option, Some, refl, ap, sym, ◌∙◌, arith, inl, inr}
 use Rattle.std.proofs.lemmas.Bool.{cases_lt}
 use Rattle.std.specs.List.{list_any}
-use Rattle.std.specs.Option.{is_some}
 use Rattle.flow_send.specs.declared.state.State.{State}
 use Rattle.flow_send.specs.declared.state.State.TheVariants.{Unsent, Flying, Lost, Acknowledged, Abandoned}
-use Rattle.flow_send.specs.declared.waiting.Waiting.{Waiting}
 use Rattle.flow_send.specs.Rows.{Row, is_flying, is_unsent, between, any_between, first_index}
-use Rattle.flow_send.specs.Sender.{Sender, is_late, lost_if_late, message_at, abandoned_with, abandoned, waits}
+use Rattle.flow_send.specs.Sender.{is_late, lost_if_late}
 use Rattle.flow_send.specs.Acks.{is_third, count_ack}
 use Rattle.flow_send.specs.Steady.{is_fresh, AllOk}
 

@@ -1,14 +1,14 @@
 -- What each call makes of the rows, against what was done.
-use Rattle.std.proofs.Common.{◌≡◌, ℕ, zero, suc, ◌+◌, ◌-◌, ◌<◌, ◌≤◌, ◌==◌, nat_le, nat_lt, max, not, cond, map, Bool, true, false, ◌&&◌, ◌||◌, List, [], ◌∷◌, ◌++◌, length, drop, Option, Some, None, refl, ap, sym, ◌∙◌, subst, arith, inl, inr, ◌⊎◌}
+use Rattle.std.proofs.Common.{◌≡◌, ℕ, zero, suc, ◌+◌, ◌<◌, ◌≤◌, nat_le, nat_lt, not, cond, map, Bool, true, false, ◌&&◌, ◌||◌, List, [], ◌∷◌, ◌++◌, length, drop, refl, ap, sym, ◌∙◌, subst, arith, inl, inr}
 use Rattle.rtmfp_data_chunks.specs.Fragments.{Message}
 use Rattle.flow_send.specs.declared.state.State.{State}
 use Rattle.flow_send.specs.declared.state.State.TheVariants.{Unsent, Flying, Lost, Acknowledged, Abandoned as Given_up}
 use Rattle.flow_send.specs.declared.waiting.Waiting.{Waiting}
 use Rattle.flow_send.specs.Rows.{Row, end_row, is_unsent, is_flying, is_lost, is_acknowledged, is_abandoned, is_settled, let_go, map_rows, settled_front}
-use Rattle.flow_send.specs.Sender.{has_number, rows_of, new_row, give_up, give_up_row, is_late, lost_if_late}
-use Rattle.flow_send.specs.Choice.{Choice, Send, first_in, put_at, sent_row}
-use Rattle.flow_send.specs.Acks.{Told, tells, acknowledge, acknowledge_row, is_third, count_ack}
-use Rattle.flow_send.specs.Calls.{Done, Queued, Abandoned, Finished, Sent, Noticed, Heard, is_told, is_given_up, is_over, Stands, AllStand}
+use Rattle.flow_send.specs.Sender.{has_number, rows_of, new_row, give_up, is_late, lost_if_late}
+use Rattle.flow_send.specs.Choice.{Send, first_in, put_at, sent_row}
+use Rattle.flow_send.specs.Acks.{Told, tells, acknowledge, is_third, count_ack}
+use Rattle.flow_send.specs.Calls.{Done, Abandoned, Heard, is_told, is_given_up, is_over, Stands, AllStand}
 use Rattle.flow_send.proofs.Steadies.{put_here, put_before, found_low}
 
 -- a list of what was done that tells the same of each number

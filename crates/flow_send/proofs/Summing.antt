@@ -8,7 +8,7 @@ use Rattle.flow_send.specs.declared.totals.Totals.{Totals}
 use Rattle.flow_send.specs.Rows.{Row, first_index, any_between, any_flying, is_flying, is_lost, end_row, row_at, flight_of, flying_of, stored_of, lost_of, totals_of, row_totals}
 use Rattle.flow_send.specs.Sender.{lost_if_late, is_late, is_spent_row}
 use Rattle.flow_send.specs.Acks.{count_ack, is_third}
-use Rattle.flow_send.specs.Moved.{moved, IsWithin, Fit}
+use Rattle.flow_send.specs.Moved.{moved, Fit}
 
 swap_is : (f : Row → ℕ) (rows : List Row) (at : ℕ) (y : Row) → at < length rows → sum_by f rows - f (row_at rows at) + f y ≡ sum_by f (set rows at y)
 swap_is f rows at y lt = omega (arith, sum_by-set f rows at y end_row lt, get_or-le-sum_by f rows at end_row lt)

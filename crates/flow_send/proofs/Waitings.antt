@@ -1,20 +1,20 @@
 -- Which messages wait, against what was done.
-use Rattle.std.proofs.Common.{◌≡◌, ◌⊎◌, ℕ, zero, suc, ◌+◌, ◌-◌, ◌^◌, ◌<◌, ◌≤◌, ◌==◌, nat_le, nat_lt, not, cond, map, Bool, true, false, ◌&&◌, ◌||◌, List, [], ◌∷◌, ◌++◌, length, drop, Option, Some, None, refl, ap, sym, ◌∙◌, subst, arith, inl, inr, length-append, eq-eqb}
+use Rattle.std.proofs.Common.{◌≡◌, ◌⊎◌, ℕ, zero, suc, ◌+◌, ◌-◌, ◌<◌, ◌≤◌, ◌==◌, nat_le, nat_lt, not, cond, map, Bool, true, false, ◌&&◌, ◌||◌, List, [], ◌∷◌, ◌++◌, length, Option, Some, None, refl, ap, sym, ◌∙◌, subst, arith, inl, inr, length-append, eq-eqb}
 use Rattle.std.specs.List.{filter}
-use Rattle.std.proofs.lemmas.Bool.{cases_lt, cases_eq, eqb-true, ne_eqb, leb-true, ltb-true, ltb-false, lt-ltb, le-ltb}
+use Rattle.std.proofs.lemmas.Bool.{cases_lt, cases_eq, eqb-true, ne_eqb, leb-true, ltb-true, le-ltb}
 use Rattle.std.proofs.lemmas.Bool.Decides.{nat_tests}
 use Rattle.rtmfp_data_chunks.specs.Fragments.{Message, fragment_count}
 use Rattle.rtmfp_data_chunks.specs.HandsOver.{IsIn}
 use Rattle.flow_send.specs.declared.waiting.MessageOptions.{MessageOptions}
 use Rattle.flow_send.specs.declared.waiting.Waiting.{Waiting}
 use Rattle.flow_send.specs.declared.outcome.QueueRefusal.{QueueRefusal}
-use Rattle.flow_send.specs.Rows.{Row, end_row, is_acknowledged, is_abandoned, is_settled, map_rows, any_row, settled_front}
-use Rattle.flow_send.specs.Sender.{Sender, new_sender, next_of, with_rows, rows_of, queued, waiting_of, message_at, without_message, has_number, give_up, abandoned_with, abandoned, finished, lost_late, lost_if_late}
-use Rattle.flow_send.specs.Choice.{Choice, Nothing, Send, Notify, choice, sent_after, put_at, sent_row, count_up}
-use Rattle.flow_send.specs.Acks.{Told, tells, greatest, beyond, last_ordinal, rows_told, still_waits, told_by}
+use Rattle.flow_send.specs.Rows.{Row, end_row, is_abandoned, is_settled, map_rows}
+use Rattle.flow_send.specs.Sender.{Sender, next_of, rows_of, queued, waiting_of, message_at, without_message, has_number, give_up, abandoned_with, abandoned, lost_if_late}
+use Rattle.flow_send.specs.Choice.{Choice, Nothing, Send, Notify, choice, put_at, sent_row, count_up}
+use Rattle.flow_send.specs.Acks.{Told, tells, beyond, last_ordinal, rows_told, still_waits}
 use Rattle.flow_send.specs.Flow.{queue_refusal, next_message}
-use Rattle.flow_send.specs.Steady.{Steady, Line, end_of}
-use Rattle.flow_send.specs.Calls.{Call, Queue, Abandon, Finish, Lose, Next, Hear, Done, Queued, Abandoned, Finished, Sent, Noticed, Looked, Heard, Sending, begun, queues, abandons, finishes, sends, hears, calls, all_calls, is_told, is_given_up, is_over, Stands, AllStand}
+use Rattle.flow_send.specs.Steady.{Line, end_of}
+use Rattle.flow_send.specs.Calls.{Call, Queue, Abandon, Finish, Lose, Next, Hear, Done, Queued, Abandoned, Heard, Sending, begun, queues, abandons, finishes, sends, hears, calls, is_told, is_given_up, is_over, Stands, AllStand}
 use Rattle.flow_send.specs.Counted.{all_queued, was_abandoned, all_told, is_open, all_open}
 use Rattle.flow_send.proofs.Numbered.{map_length}
 use Rattle.flow_send.proofs.Keeping.{line_push, line_higher, line_order}

@@ -1,5 +1,5 @@
 -- What tells that no message is overdue.
-use Rattle.std.specs.Prelude.{ℕ, ◌≡◌, ◌≤◌, ◌+◌, Bool, false, List, [], ◌∷◌, Option, Some, None}
+use Rattle.std.specs.Prelude.{ℕ, ◌≡◌, ◌≤◌, Bool, false, List, [], ◌∷◌, Option, Some, None}
 use Rattle.flow_send.specs.declared.waiting.Waiting.{Waiting}
 
 abbrev pub IsNotBefore : ℕ → Option ℕ → Type 0

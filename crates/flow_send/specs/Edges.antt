@@ -1,10 +1,9 @@
 -- Small senders, by which the rules are told at their edges.
-use Rattle.std.specs.Prelude.{ℕ, ◌+◌, Bool, false, List, [], ◌∷◌, Option, Some, None, length}
+use Rattle.std.specs.Prelude.{ℕ, ◌+◌, false, List, [], ◌∷◌, Option, Some, None, length}
 use Rattle.rtmfp_data_chunks.specs.declared.user_data.Part.TheVariants.{Whole}
 use Rattle.flow_send.specs.declared.state.State.{State}
 use Rattle.flow_send.specs.declared.state.State.TheVariants.{Unsent, Flying, Lost, Acknowledged}
 use Rattle.flow_send.specs.declared.state.State.TheVariants.{Abandoned}
-use Rattle.flow_send.specs.declared.waiting.MessageOptions.{MessageOptions}
 use Rattle.flow_send.specs.declared.waiting.Waiting.{Waiting}
 use Rattle.flow_send.specs.Rows.{Row}
 use Rattle.flow_send.specs.Sender.{Sender}

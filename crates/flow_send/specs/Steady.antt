@@ -1,5 +1,5 @@
 -- What is so of every sender.
-use Rattle.std.specs.Prelude.{ℕ, ◌≡◌, ◌+◌, ◌^◌, ◌<◌, ◌≤◌, Bool, true, false, ◌||◌, List, [], ◌∷◌}
+use Rattle.std.specs.Prelude.{ℕ, ◌≡◌, ◌+◌, ◌^◌, ◌<◌, ◌≤◌, Bool, true, false, ◌||◌, List, [], ◌∷◌, ◌++◌}
 use Rattle.std.specs.Prelude.{Option, Some, None, length}
 use Rattle.flow_send.specs.declared.state.State.{State}
 use Rattle.flow_send.specs.declared.waiting.Waiting.{Waiting}
@@ -79,3 +79,16 @@ abbrev pub Late : ℕ → ℕ → List Row → List Waiting → Type 0
 Late greatest n rows [] = Unit {0}
 Late greatest n rows (w ∷ later) = (greatest < w.number → AllWait n rows (w ∷ later)) ×
     Late greatest n rows later
+
+-- the first message passes a test, and ends by a number; the messages with the first one behind
+abbrev pub front_passes : (Waiting → Bool) → List Waiting → Bool
+front_passes test [] = false
+front_passes test (w ∷ later) = test w
+
+abbrev pub FrontEnds : ℕ → List Waiting → Type 0
+FrontEnds high [] = Unit {0}
+FrontEnds high (w ∷ later) = w.number + w.count ≤ high
+
+abbrev pub turned : List Waiting → List Waiting
+turned [] = []
+turned (w ∷ later) = later ++ w ∷ []

@@ -2,14 +2,16 @@
 
 ghost use Rattle.std.specs.Prelude.{◌≡◌, ◌+◌, ◌-◌, ◌<◌, ◌≤◌, ◌^◌, ◌∷◌, ◌++◌, [], OnOk, OnErr, List};
 ghost use Rattle.std.specs.Prelude.{ℕ, length, slice_get, slice_index_or, Some, None, true};
+ghost use Rattle.std.specs.Prelude.{nat_le, drop, take};
 ghost use Rattle.std.specs.List.{sum_by, filter, remove};
+ghost use Rattle.std.specs.List.Sorted.{IsNonDecreasingBy};
 ghost use Rattle.std.specs.Option.{is_some};
 ghost use Rattle.std.specs.VecDeque.{deque_len};
 ghost use Rattle.flow_send.specs.Sender.{message_at, without_message, first_number, is_past};
 ghost use Rattle.flow_send.specs.Sender.{is_spent, is_overdue, first_overdue};
 ghost use Rattle.flow_send.specs.Acks.{still_waits};
 ghost use Rattle.flow_send.specs.Deadlines.{NoneBefore, Reach};
-ghost use Rattle.flow_send.specs.Steady.{Line, Late};
+ghost use Rattle.flow_send.specs.Steady.{Line, Late, FrontEnds, front_passes, turned};
 
 use crate::rows::Rows;
 use crate::waiting::Waiting;
@@ -119,15 +121,19 @@ impl Backlog {
         (self.soonest, self.limited)
     }
 
+    /// Where the message is that begins at a number, and behind all where none does.
     fn index_of(&self, number: u64) -> usize
+        requires { IsNonDecreasingBy (λ w. w.number) self.now }
         ensures found { message_at number self.now ≡ slice_get self.now result }
         ensures others { without_message number self.now ≡ remove self.now result }
     {
-        let mut at = 0;
-        while at < self.messages.len() && self.messages[at].number != number {
-            at += 1;
+        let at = self
+            .messages
+            .partition_point(|message| message.number < number);
+        if at < self.messages.len() && self.messages[at].number == number {
+            return at;
         }
-        at
+        self.messages.len()
     }
 
     fn remove_at(&mut self, at: usize)
@@ -144,6 +150,7 @@ impl Backlog {
 
     /// The message that begins at a number.
     pub fn find(&self, number: u64) -> Option<Waiting>
+        requires { IsNonDecreasingBy (λ w. w.number) self.now }
         ensures { result ≡ message_at number self.now }
     {
         self.messages.get(self.index_of(number)).copied()
@@ -151,6 +158,7 @@ impl Backlog {
 
     /// Takes away the message that begins at a number.
     pub fn remove(&mut self, number: u64)
+        requires { IsNonDecreasingBy (λ w. w.number) self.old }
         ensures { self.new ≡ without_message number self.old }
     {
         let at = self.index_of(number);
@@ -167,21 +175,77 @@ impl Backlog {
         }
     }
 
-    /// Takes away the messages that don't wait any more, of which none begins above a number.
+    /// Takes away the messages that don't wait any more, of which none begins above a number. Of
+    /// those up to the number each that waits goes behind the others, and they come back together,
+    /// so none is moved more than twice.
     pub fn drop_done(&mut self, rows: &Rows, forward: u64, greatest: u64)
         requires inside { Line 0 (forward + 1 + length rows.now.rows) self.old }
         requires late { Late greatest (forward + 1) rows.now.rows self.old }
         ensures { self.new ≡ filter (still_waits (forward + 1) rows.now.rows) self.old }
     {
+        let all = self.len();
         let mut at = 0;
-        while at < self.messages.len() && self.messages[at].number <= greatest {
-            let message = self.messages[at];
-            if message.waits(rows, forward) {
+        let mut kept = 0;
+        while at < all && self.begins_by(greatest) {
+            if self.front_waits(rows, forward) {
+                self.turn();
+                kept += 1;
                 at += 1;
             } else {
-                self.remove_at(at);
+                self.drop_first();
+                at += 1;
             }
         }
+        self.bring_back(kept);
+    }
+
+    /// Whether the first message begins at or below a number.
+    fn begins_by(&self, greatest: u64) -> bool
+        ensures { result ≡ front_passes (λ w. nat_le w.number greatest) self.now }
+    {
+        match self.messages.front() {
+            Some(message) => message.number <= greatest,
+            None => false,
+        }
+    }
+
+    /// Whether the first message waits.
+    fn front_waits(&self, rows: &Rows, forward: u64) -> bool
+        requires { FrontEnds (forward + 1 + length rows.now.rows) self.now }
+        ensures { result ≡ front_passes (still_waits (forward + 1) rows.now.rows) self.now }
+    {
+        match self.messages.front() {
+            Some(message) => message.waits(rows, forward),
+            None => false,
+        }
+    }
+
+    /// Puts the first message behind the others.
+    fn turn(&mut self)
+        ensures { self.new ≡ turned self.old }
+    {
+        if let Some(message) = self.messages.pop_front() {
+            self.messages.push_back_reserved(message);
+        }
+    }
+
+    /// Takes away the first message.
+    fn drop_first(&mut self)
+        ensures { self.new ≡ drop 1 self.old }
+    {
+        if let Some(message) = self.messages.pop_front() {
+            self.bytes -= message.size;
+            self.fragments -= message.count;
+        }
+    }
+
+    /// Puts so many messages from the end in front.
+    fn bring_back(&mut self, count: usize)
+        requires { count ≤ length self.old }
+        ensures { self.new ≡ drop (length self.old - count) self.old
+            ++ take (length self.old - count) self.old }
+    {
+        self.messages.rotate_right(count);
     }
 
     /// Whether no message can be overdue, as far as that can be told without looking at each.

@@ -1,4 +1,4 @@
-use Rattle.std.proofs.Common.{◌≡◌, ℕ, ◌+◌, max, cond, List, [], ◌∷◌, length, ap, sym, ◌∙◌, arith}
+use Rattle.std.proofs.Common.{◌≡◌, ℕ, ◌+◌, max, cond, List, [], ◌∷◌, length, ap, ◌∙◌, arith}
 use Rattle.flow_send.specs.Rows.{Row, map_rows}
 use Rattle.flow_send.specs.Acks.{in_span, acknowledge_row, greatest}
 use Rattle.flow_send.proofs.Numbered.{map_length}

@@ -1,63 +1,42 @@
-use Rattle.std.proofs.Common.{◌≡◌, ◌+◌, ◌<◌, ◌++◌, true, false, List, length, get_or, take, drop, ap, sym, ◌∙◌, subst, arith}
-use Rattle.std.specs.List.{filter, remove}
+use Rattle.std.proofs.Common.{◌≡◌, ◌+◌, List, length, drop, sym, ◌∙◌, subst, arith}
 use Rattle.flow_send.specs.declared.waiting.Waiting.{Waiting}
+use Rattle.std.specs.List.{filter}
 use Rattle.flow_send.specs.Acks.{still_waits}
-use Rattle.flow_send.specs.Steady.{Line, Late}
-use Rattle.flow_send.proofs.Lining.{line_here, line_next, late_next, late_here, keep_step, drop_step, drop_remove, length_remove, rest_kept}
+use Rattle.flow_send.proofs.Turning.{Goes, begun, turns, goes_on, few, back, front_ends, late_left, none_left}
+use Rattle.flow_send.proofs.backlog.Backlog.drop_done.Goals.{then-loop-at-test+else-begins_by, else-loop-at-test}
 use Rattle.flow_send.proofs.backlog.Backlog.drop_done.Goals as goal
 
-pub waits-requires : goal.waits-requires
-waits-requires c =
-    let ws = c.loop-at.self in
-    let w = c.index-in-loop-at.result.now in
-    let e : w ≡ get_or ws c.loop-at.at w = c.index-in-loop-at.ensures ∙ ap (λ (xs : List Waiting). get_or xs c.loop-at.at w) c.self.view_is in
-    let lt : c.loop-at.at < length ws = omega (arith, c.loop-at-test.true, ap (λ (xs : List Waiting). length xs) c.self.view_is, c.len.ensures, c.self.inside.messages.ok) in
-    line_here 0 (c.args.forward + 1 + length c.args.rows.now.rows) c.loop-at.at w ws c.loop-at.invariant.line lt e
+pub loop-at-init : goal.loop-at-init
+loop-at-init c = (begun (still_waits (c.args.forward + 1) c.args.rows.now.rows) c.args.self.now, omega arith)
 
-pub loop-at-preserved-then-waits : goal.loop-at-preserved-then-waits
-loop-at-preserved-then-waits c =
-    let ws = c.loop-at.self in
-    let at = c.loop-at.at in
-    let w = c.index-in-loop-at.result.now in
-    let n = c.args.forward + 1 in
-    let rows = c.args.rows.now.rows in
-    let e : w ≡ get_or ws at w = c.index-in-loop-at.ensures ∙ ap (λ (xs : List Waiting). get_or xs at w) c.self.view_is in
-    let lt : at < length ws = omega (arith, c.loop-at-test.true, ap (λ (xs : List Waiting). length xs) c.self.view_is, c.len.ensures, c.self.inside.messages.ok) in
-    let yes' : still_waits n rows w ≡ true = sym c.waits.ensures ∙ c.if-waits.true in
-    record {
-      inside = omega (arith, lt);
-      kept = keep_step (still_waits n rows) at w ws lt e yes' ∙ c.loop-at.invariant.kept;
-      line = line_next 0 (n + length rows) at ws c.loop-at.invariant.line lt;
-      late = late_next c.args.greatest n at rows ws c.loop-at.invariant.late lt;
-    }
+pub front_waits-requires : goal.front_waits-requires
+front_waits-requires c =
+    front_ends (still_waits (c.args.forward + 1) c.args.rows.now.rows) c.args.self.now c.loop-at.self c.loop-at.at c.loop-at.kept 0 (c.args.forward + 1 + length c.args.rows.now.rows) c.loop-at.invariant.0 (omega arith) c.requires.inside
+
+pub bring_back-requires : goal.bring_back-requires
+bring_back-requires c = few (still_waits (c.args.forward + 1) c.args.rows.now.rows) c.args.self.now c.loop-at.self c.loop-at.at c.loop-at.kept c.loop-at.invariant.0
+
+pub loop-at-preserved-then-front_waits : goal.loop-at-preserved-then-front_waits
+loop-at-preserved-then-front_waits c =
+    let p = still_waits (c.args.forward + 1) c.args.rows.now.rows in
+    let g = turns p c.args.self.now c.loop-at.self c.loop-at.at c.loop-at.kept c.loop-at.invariant.0 (omega arith) (sym c.front_waits.ensures ∙ c.if-front_waits.true) in
+    (subst (λ (ws : List Waiting). Goes p c.args.self.now ws (c.loop-at.at + 1) (c.loop-at.kept + 1)) (sym c.turn.ensures) g, omega (arith, c.loop-at.invariant.1))
 
 pub loop-at-preserved : goal.loop-at-preserved
 loop-at-preserved c =
-    let ws = c.loop-at.self in
-    let at = c.loop-at.at in
-    let w = c.index-in-loop-at.result.now in
+    let p = still_waits (c.args.forward + 1) c.args.rows.now.rows in
+    let g = goes_on p c.args.self.now c.loop-at.self c.loop-at.at c.loop-at.kept c.loop-at.invariant.0 (omega arith) (sym c.front_waits.ensures ∙ c.if-front_waits.false) in
+    (subst (λ (ws : List Waiting). Goes p c.args.self.now ws (c.loop-at.at + 1) c.loop-at.kept) (sym c.drop_first.ensures) g, omega (arith, c.loop-at.invariant.1))
+
+pub returns : goal.returns
+returns c =
     let n = c.args.forward + 1 in
     let rows = c.args.rows.now.rows in
     let p = still_waits n rows in
-    let e : w ≡ get_or ws at w = c.index-in-loop-at.ensures ∙ ap (λ (xs : List Waiting). get_or xs at w) c.self.view_is in
-    let lt : at < length ws = omega (arith, c.loop-at-test.true, ap (λ (xs : List Waiting). length xs) c.self.view_is, c.len.ensures, c.self.inside.messages.ok) in
-    let no' : still_waits n rows w ≡ false = sym c.waits.ensures ∙ c.if-waits.false in
-    let new : c.remove_at.new.self ≡ remove ws at = c.remove_at.ensures in
-    let rest : drop (at + 1) ws ≡ drop at c.remove_at.new.self = sym (ap (λ (xs : List Waiting). drop at xs) new ∙ drop_remove at ws lt) in
-    record {
-      inside = omega (arith, lt, length_remove at ws lt, ap (λ (xs : List Waiting). length xs) new);
-      kept = ap (λ (xs : List Waiting). take at xs ++ filter p (drop at xs)) new ∙ (drop_step p at w ws lt e no' ∙ c.loop-at.invariant.kept);
-      line = subst (λ (xs : List Waiting). Line 0 (n + length rows) xs) rest (line_next 0 (n + length rows) at ws c.loop-at.invariant.line lt);
-      late = subst (λ (xs : List Waiting). Late c.args.greatest n rows xs) rest (late_next c.args.greatest n at rows ws c.loop-at.invariant.late lt);
-    }
-
-pub returns-else-index-greatest : goal.returns-else-index-greatest
-returns-else-index-greatest c =
-    let ws = c.loop-at.self in
-    let at = c.loop-at.at in
-    let w = c.index.result.now in
-    let n = c.args.forward + 1 in
-    let rows = c.args.rows.now.rows in
-    let e : w ≡ get_or ws at w = c.index.ensures ∙ ap (λ (xs : List Waiting). get_or xs at w) c.self.view_is in
-    let lt : at < length ws = omega (arith, c.loop-at-test.true, ap (λ (xs : List Waiting). length xs) c.self.view_is, c.len.ensures, c.self.inside.messages.ok) in
-    sym (rest_kept n at rows ws (late_here c.args.greatest n at rows w ws c.loop-at.invariant.late lt e c.if-index-greatest.false)) ∙ c.loop-at.invariant.kept
+    let ws = c.args.self.now in
+    let g = c.loop-at.invariant.0 in
+    let left : filter p (drop c.loop-at.at ws) ≡ drop c.loop-at.at ws = elim c.loop-at-test.branch [
+      | then-loop-at-test+else-begins_by w ↦ late_left c.args.greatest n c.loop-at.at rows ws c.loop-at.self c.loop-at.kept g (omega (arith, w.loop-at-test.true, c.len-all.ensures)) c.requires.late (sym w.begins_by.ensures ∙ w.if-begins_by.false)
+      | else-loop-at-test w ↦ none_left p c.loop-at.at ws (omega (arith, w.loop-at-test.false, c.len-all.ensures))
+    ] in
+    c.bring_back.ensures ∙ back p ws c.loop-at.self c.loop-at.at c.loop-at.kept g left

@@ -1,16 +1,10 @@
-use Rattle.std.proofs.Common.{◌≡◌, ◌+◌, ◌-◌, ◌≤◌, ◌++◌, take, drop, length}
-use Rattle.std.specs.List.{filter}
+use Rattle.std.proofs.Common.{◌+◌, ◌-◌, ◌≤◌}
 use Rattle.flow_send.specs.Acks.{still_waits}
-use Rattle.flow_send.specs.Steady.{Line, Late}
+use Rattle.flow_send.proofs.Turning.{Goes}
 use Rattle.flow_send.proofs.backlog.Backlog.drop_done.Given as goal
 
 abbrev pub invariant-loop-at : goal.invariant-loop-at
-invariant-loop-at l = record {
-  inside : l.at ≤ length l.self;
-  kept : take l.at l.self ++ filter (still_waits (l.forward + 1) l.rows.rows) (drop l.at l.self) ≡ filter (still_waits (l.forward + 1) l.rows.rows) l.fn.self;
-  line : Line 0 (l.forward + 1 + length l.rows.rows) (drop l.at l.self);
-  late : Late l.greatest (l.forward + 1) l.rows.rows (drop l.at l.self);
-}
+invariant-loop-at l = Goes (still_waits (l.forward + 1) l.rows.rows) l.fn.self l.self l.at l.kept × (l.kept ≤ l.at)
 
 abbrev pub decreases-loop-at : goal.decreases-loop-at
-decreases-loop-at l = length l.self - l.at
+decreases-loop-at l = l.all - l.at

@@ -1,9 +1,8 @@
-use Rattle.std.proofs.Common.{◌≡◌, ◌⊎◌, List, ℕ, not, Bool, true, false, refl, ap, sym, ◌∙◌, subst, inl, inr, None}
+use Rattle.std.proofs.Common.{◌≡◌, ◌⊎◌, List, not, Bool, true, false, refl, sym, ◌∙◌, subst, inl, inr}
 use Rattle.std.specs.List.{sum_by}
 use Rattle.flow_send.specs.declared.waiting.Waiting.{Waiting}
 use Rattle.flow_send.specs.Rows.{lost_of}
-use Rattle.flow_send.specs.Sender.{first_overdue}
-use Rattle.flow_send.specs.Deadlines.{NoneBefore, NoneLimited, Reach}
+use Rattle.flow_send.specs.Deadlines.{NoneLimited, Reach}
 use Rattle.flow_send.proofs.Quiet.{none_overdue}
 use Rattle.flow_send.proofs.backlog.Backlog.is_quiet.Goals.{then-self, else-self}
 use Rattle.flow_send.proofs.backlog.Backlog.is_quiet.Goals as goal

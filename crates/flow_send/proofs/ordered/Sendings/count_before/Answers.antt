@@ -1,8 +1,7 @@
-use Rattle.std.proofs.Common.{◌≡◌, ℕ, ◌+◌, ◌<◌, ◌≤◌, List, ◌∷◌, length, drop, get_or, refl, ap, sym, ◌∙◌, subst, arith}
+use Rattle.std.proofs.Common.{◌≡◌, ℕ, ◌+◌, ◌<◌, ◌≤◌, List, ◌∷◌, length, drop, refl, ap, sym, ◌∙◌, subst, arith}
 use Rattle.std.specs.Prelude.{slice_index_or}
-use Rattle.rtmfp_data_chunks.specs.HandsOver.{IsIn}
 use Rattle.flow_send.specs.Rows.{Row, map_rows}
-use Rattle.flow_send.specs.Ordered.{Ordered, Rising, count_one, count_before}
+use Rattle.flow_send.specs.Ordered.{Ordered, count_one, count_before}
 use Rattle.flow_send.proofs.Numbered.{map_length}
 use Rattle.flow_send.proofs.Orders.{Walks, none_before, walk_begins, walk_goes, one_more, all_counted, counted_rows, head_least, drop_here, drop_end, any_index, after_index, after_next}
 use Rattle.flow_send.proofs.ordered.Sendings.count_before.Goals as goal

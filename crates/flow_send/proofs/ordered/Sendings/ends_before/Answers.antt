@@ -1,4 +1,4 @@
-use Rattle.std.proofs.Common.{◌≡◌, ◌-◌, true, length, arith, ap, subst, ◌∙◌}
+use Rattle.std.proofs.Common.{◌-◌, arith, subst}
 use Rattle.std.specs.VecDeque.{deque_len}
 use Rattle.std.proofs.lemmas.Bool.{ltb-true}
 use Rattle.flow_send.specs.Ordered.{Ordered, EndsBefore}

@@ -1,5 +1,4 @@
-use Rattle.std.proofs.Common.{◌≡◌, ℕ, ◌+◌, List, ◌∷◌, refl, ap, sym, ◌∙◌, rules}
-use Rattle.flow_send.specs.Ordered.{Ordered, Follows}
+use Rattle.std.proofs.Common.{◌≡◌, ◌+◌, ◌∷◌, refl, rules}
 use Rattle.flow_send.proofs.Orders.{pruned}
 use Rattle.flow_send.proofs.ordered.Sendings.prune.Goals as goal
 

@@ -1,5 +1,5 @@
-use Rattle.std.proofs.Common.{◌≡◌, ℕ, ◌-◌, ◌<◌, List, length, drop, set, sym, subst, arith}
-use Rattle.flow_send.specs.Passed.{AllAcked, ArePassed}
+use Rattle.std.proofs.Common.{ℕ, ◌-◌, List, sym, subst, arith}
+use Rattle.flow_send.specs.Passed.{ArePassed}
 use Rattle.flow_send.proofs.Passing.{acked_from, passed_note}
 use Rattle.flow_send.proofs.passed.Passed.note.Goals as goal
 

@@ -1,4 +1,4 @@
-use Rattle.std.proofs.Common.{List, ℕ, ap, sym, ◌∙◌, subst}
+use Rattle.std.proofs.Common.{List, ℕ, sym, subst}
 use Rattle.flow_send.specs.Passed.{ArePassed}
 use Rattle.flow_send.proofs.Passing.{passed_push}
 use Rattle.flow_send.proofs.passed.Passed.push.Goals as goal

@@ -1,4 +1,4 @@
-use Rattle.std.proofs.Common.{◌≡◌, ℕ, suc, set, ◌+◌, ◌<◌, ◌^◌, get_or, true, false, length, ap, sym, ◌∙◌, subst, arith}
+use Rattle.std.proofs.Common.{◌≡◌, ℕ, suc, set, ◌+◌, ◌<◌, ◌^◌, true, false, length, ap, sym, ◌∙◌, subst, arith}
 use Rattle.flow_send.specs.Rows.{Row, Roomy, stored_of, row_at, end_row, is_acknowledged, is_lost}
 use Rattle.flow_send.specs.Passed.{NoneLost}
 use Rattle.flow_send.proofs.Summing.{fits_at, default_row}
