@@ -9,8 +9,13 @@
 //! beginnings, and then forward numbers that pass them, one after another. `descending COUNT` has
 //! one take the fragments of one message, so many of 32 bytes, the last one first, and `joined
 //! COUNT` in pairs from the last one on, each pair the lower one first, so that the upper one joins
-//! two runs. The answer is the word, how many chunks were sent, and how many messages were handed
-//! over.
+//! two runs. `late COUNT` has a sender send so many messages of a byte, lose them all by time at
+//! once, and send them again; `wide COUNT` has one hear acks of 250 stretches each, which newly tell
+//! a number each; `abandons COUNT` has one abandon its messages from the middle on; and in
+//! `deadlines COUNT` they become overdue one after another, the last one first. `full COUNT` has a
+//! receiver with a full buffer refuse a hundred chunks that would pass so many beginnings of
+//! messages. The answer is the word, how many chunks there were, and how many messages were handed
+//! over, sent again, done, abandoned or refused.
 #![tactic(auto)]
 
 ghost use Rattle.std.specs.Prelude.{◌≡◌, ◌+◌, ◌<◌, ◌≤◌, false, true, length};
@@ -108,6 +113,21 @@ fn moved_by(
     }
     if word == "joined" {
         return joined(rt, size);
+    }
+    if word == "late" {
+        return late(rt, size);
+    }
+    if word == "wide" {
+        return wide(rt, size);
+    }
+    if word == "abandons" {
+        return abandons(rt, size);
+    }
+    if word == "deadlines" {
+        return deadlines(rt, size);
+    }
+    if word == "full" {
+        return full(rt, size);
     }
     let job = Job {
         size: size.min(1_048_576) as usize,
@@ -217,22 +237,25 @@ fn hear(pair: &mut Pair) {
         let Some(out) = pair.acks.pop_front() else {
             break;
         };
-        let payload = out.bytes().get(4..).unwrap_or(&[]);
-        let mut cursor = DataCursor::new();
-        let read = cursor.read(0x51, payload);
-        if let Ok(
-            DataView::AckRanges {
-                blocks,
-                upto,
-                pairs,
-                ..
-            },
-        ) = read
-        {
-            let _ = pair
-                .from
-                .take_ack(blocks, upto, AckedSpans::of_pairs(upto, pairs));
-        }
+        hear_one(&mut pair.from, &out);
+    }
+}
+
+/// A sender hears an ack.
+fn hear_one(from: &mut FlowSender, out: &Outgoing) {
+    let payload = out.bytes().get(4..).unwrap_or(&[]);
+    let mut cursor = DataCursor::new();
+    let read = cursor.read(0x51, payload);
+    if let Ok(
+        DataView::AckRanges {
+            blocks,
+            upto,
+            pairs,
+            ..
+        },
+    ) = read
+    {
+        let _ = from.take_ack(blocks, upto, AckedSpans::of_pairs(upto, pairs));
     }
 }
 
@@ -320,6 +343,136 @@ fn joined(rt: &impl AllocGlobal, count: u64) -> Result<Moved, Memory> {
         queued: 0,
         chunks: 2 * half,
         handed: hand_over(&mut to),
+    })
+}
+
+/// A sender of so many messages of a byte, each with a deadline of its own, the last one the first.
+fn sender_of(rt: &impl AllocGlobal, count: u64) -> Result<FlowSender, Memory> {
+    let mut from = FlowSender::new(rt.alloc(), FLOW, &[], None, 0, 1)?;
+    for at in 0..count {
+        let options = MessageOptions {
+            deadline: Some(count - at),
+            resends: None,
+        };
+        let _ = from.queue(&[0x55], options);
+    }
+    Ok(from)
+}
+
+/// Sends all that there is to send, and tells how many chunks.
+fn send_all(from: &mut FlowSender, moment: u64) -> u64 {
+    for count in 0..u64::MAX {
+        let sent = from.next_chunk(false, 1164, 0, u64::MAX, moment, RESEND_AFTER);
+        if sent.is_err() {
+            return count;
+        }
+    }
+    0
+}
+
+/// All numbers are lost by time at once, and sent again.
+fn late(rt: &impl AllocGlobal, count: u64) -> Result<Moved, Memory> {
+    let mut from = sender_of(rt, count.min(65_000))?;
+    let first = send_all(&mut from, 0);
+    let _ = from.find_lost(RESEND_AFTER, RESEND_AFTER);
+    let again = send_all(&mut from, RESEND_AFTER);
+    Ok(Moved {
+        queued: 0,
+        chunks: first.wrapping_add(again),
+        handed: again,
+    })
+}
+
+/// All numbers are sent, and then told in 250 stretches at once, each of which grows by a number
+/// with each ack. Number 1 stays missing.
+fn wide(rt: &impl AllocGlobal, count: u64) -> Result<Moved, Memory> {
+    let count = count.min(65_000);
+    let step = count / 250;
+    let mut from = sender_of(rt, count)?;
+    let mut to = FlowReceiver::new(rt.alloc(), 0);
+    let chunks = send_all(&mut from, 0);
+    for round in 2..step {
+        for stretch in 0..250u64 {
+            take_byte(
+                &mut to,
+                stretch.saturating_mul(step).saturating_add(round),
+                Part::Whole,
+            );
+        }
+        let mut out = Outgoing::new(0);
+        if to.ack_into(FLOW, &mut out).is_ok() {
+            hear_one(&mut from, &out);
+        }
+    }
+    Ok(Moved {
+        queued: 0,
+        chunks,
+        handed: chunks.wrapping_sub(from.waiting()),
+    })
+}
+
+/// Messages are abandoned from the middle on.
+fn abandons(rt: &impl AllocGlobal, count: u64) -> Result<Moved, Memory> {
+    let count = count.min(65_000);
+    let mut from = sender_of(rt, count)?;
+    let middle = count / 2;
+    for at in 0..middle {
+        let _ = from.abandon(middle + 1 + at);
+        let _ = from.abandon(middle - at);
+    }
+    Ok(Moved {
+        queued: 0,
+        chunks: count,
+        handed: count.wrapping_sub(from.waiting()),
+    })
+}
+
+/// Messages become overdue one after another, the last one first.
+fn deadlines(rt: &impl AllocGlobal, count: u64) -> Result<Moved, Memory> {
+    let count = count.min(65_000);
+    let mut from = sender_of(rt, count)?;
+    for moment in 0..count {
+        let _ = from.overdue(moment.saturating_add(2));
+    }
+    Ok(Moved {
+        queued: 0,
+        chunks: count,
+        handed: count.wrapping_sub(from.waiting()),
+    })
+}
+
+/// A receiver whose buffer a whole message fills holds so many beginnings of others, and refuses a
+/// hundred chunks whose forward number would pass all of them.
+fn full(rt: &impl AllocGlobal, count: u64) -> Result<Moved, Memory> {
+    let mut to = FlowReceiver::new(rt.alloc(), 0);
+    let count = count.min(31_000);
+    for seq in 2..2101u64 {
+        let part = if seq == 2 {
+            Part::Begin
+        } else if seq == 2100 {
+            Part::End
+        } else {
+            Part::Middle
+        };
+        let _ = to.take(&fragment(seq, part, &[0x55; 999]));
+    }
+    for at in 0..count {
+        let seq = at.saturating_mul(2).saturating_add(2102);
+        let _ = to.take(&fragment(seq, Part::Begin, &[]));
+    }
+    let last = count.saturating_mul(2).saturating_add(2200);
+    let mut refused: u64 = 0;
+    for _ in 0..100 {
+        let mut chunk = fragment(last + 3, Part::Whole, &[0x55; 1000]);
+        chunk.forward = last;
+        if to.take(&chunk).is_err() {
+            refused = refused.wrapping_add(1);
+        }
+    }
+    Ok(Moved {
+        queued: 0,
+        chunks: 100,
+        handed: refused,
     })
 }
 
