@@ -44,9 +44,10 @@ fn taken(view: &DataView<'_>, to: &mut FlowSender) -> Option<u64> {
 /// Whether the next chunk of a sender is its end, with number 3, which tells that the two numbers
 /// before it are given up.
 fn is_the_end(from: &mut FlowSender) -> bool {
-    let Ok(pick) = from.next_chunk(true, 1164, 0, 4380, 1, 1000) else {
+    let Ok(pick) = from.offers(true, 1164, 0, 4380, 1, 1000) else {
         return false;
     };
+    from.send(pick, 1);
     let chunk = from.chunk(pick, false);
     (chunk.abandon, chunk.last, chunk.seq, chunk.forward) == (true, true, 3, 2)
 }
