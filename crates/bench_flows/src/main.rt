@@ -10,12 +10,12 @@
 //! one take the fragments of one message, so many of 32 bytes, the last one first, and `joined
 //! COUNT` in pairs from the last one on, each pair the lower one first, so that the upper one joins
 //! two runs. `late COUNT` has a sender send so many messages of a byte, lose them all by time at
-//! once, and send them again; `wide COUNT` has one hear acks of 250 stretches each, which newly tell
-//! a number each; `abandons COUNT` has one abandon its messages from the middle on; and in
+//! once, and send them again. `wide COUNT` has one hear acks of 250 stretches each, which newly
+//! tell a number each. `abandons COUNT` has one abandon its messages from the middle on, and in
 //! `deadlines COUNT` they become overdue one after another, the last one first. `full COUNT` has a
 //! receiver with a full buffer refuse a hundred chunks that would pass so many beginnings of
 //! messages. The answer is the word, how many chunks there were, and how many messages were handed
-//! over, sent again, done, abandoned or refused.
+//! over, sent again, told, abandoned or refused.
 #![tactic(auto)]
 
 ghost use Rattle.std.specs.Prelude.{◌≡◌, ◌+◌, ◌<◌, ◌≤◌, false, true, length};

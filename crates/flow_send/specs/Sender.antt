@@ -23,7 +23,8 @@ pub record Sender : Type 0 where
   pub notice : Option ℕ  -- the moment of the last notice of the forward number
   pub order : ℕ  -- how many sendings there were
 
-abbrev pub sender_of : ℕ → List Row → List Waiting → Option ℕ → ℕ → ℕ → Option ℕ → Option ℕ → ℕ → Sender
+abbrev pub sender_of : ℕ → List Row → List Waiting → Option ℕ → ℕ → ℕ → Option ℕ → Option ℕ → ℕ →
+    Sender
 sender_of forward rows waiting finish sent upto told notice order = record {
   forward = forward;
   rows = rows;

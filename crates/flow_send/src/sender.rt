@@ -86,7 +86,8 @@ impl Model for FlowSender {
     } };
 
     ghost invariant = { λ f.
-        Steady (sender_of f.forward f.rows.rows f.waiting f.finish f.sent f.upto f.told f.notice f.order)
+        Steady (sender_of f.forward f.rows.rows f.waiting f.finish f.sent f.upto f.told f.notice
+        f.order)
         × OptionsSpell (options_in f.options.items) f.options.items
         × (f.finish ≡ None → 1 ≤ f.rows.room)
         × Follows f.sendings (f.forward + 1) f.rows.rows };
