@@ -9,7 +9,7 @@ ghost use Rattle.std.specs.Prelude.{◌≡◌, ◌≤◌, length, take};
 ghost use Rattle.std.specs.Int.{w64, from_be_bytes};
 ghost use Rattle.cookies.specs.Cookie.{good_cookie_test, moment_of, test_of};
 
-use crypto_profile::{hmac, same_bytes};
+use crypto_profile::{HmacKey, same_bytes};
 use rtmfp_forms::{Address, FormFault, read_address, write_address};
 use std::marker::Model;
 
@@ -27,7 +27,7 @@ const LIFETIME: u64 = 95_000;
 /// Makes cookies under a secret, and tests what comes back.
 #[derive(Drop)]
 pub struct CookieMaker {
-    secret: [u8; 32],
+    secret: HmacKey,
 }
 
 impl Model for CookieMaker {
@@ -88,7 +88,9 @@ impl CookieMaker {
     pub fn new(secret: [u8; 32]) -> CookieMaker
         ensures { result ≡ secret }
     {
-        CookieMaker { secret }
+        CookieMaker {
+            secret: HmacKey::of(&secret),
+        }
     }
 
     /// The cookie for an address, issued at a moment in milliseconds. The address's origin doesn't
@@ -108,7 +110,7 @@ impl CookieMaker {
         let mut bytes = [0u8; 43];
         bytes[..MOMENT_LEN].copy_from_slice(&moment.to_be_bytes());
         bytes[MOMENT_LEN..end].copy_from_slice(&address[..address_len]);
-        let tag = hmac(&self.secret, &bytes[..end]);
+        let tag = self.secret.hmac(&bytes[..end]);
         bytes[end..end + TAG_LEN].copy_from_slice(&tag[..TAG_LEN]);
         Cookie {
             bytes,

@@ -1,11 +1,11 @@
 //! The keys: each is an HMAC under the group secret.
 
-ghost use Rattle.std.specs.Prelude.{◌≡◌, List, ℕ, []};
+ghost use Rattle.std.specs.Prelude.{◌≡◌};
 ghost use Rattle.crypto_profile.specs.Hmac.{hmac};
-ghost use Rattle.crypto_profile.specs.Keys.{enc_label, mac_label, session_text, sign_key_of};
-ghost use Rattle.crypto_profile.specs.Macs.{HoldsText};
+ghost use Rattle.crypto_profile.specs.Keys.{enc_label, keys_of, mac_label, session_text, sign_key_of};
 
-use crate::mac::{RunningHmac, hmac};
+use crate::hmac_key::HmacKey;
+use crate::mac::hmac;
 use std::marker::Model;
 
 /// What a packet is sealed for.
@@ -32,114 +32,126 @@ pub enum Context {
     },
 }
 
-/// The keys of a context, and for each an HMAC that has taken in the key, from which those of
-/// packets go on.
-///
-/// Contracts see the two keys.
+/// The keys of a context.
 #[derive(Drop)]
 pub struct Keys {
-    enc: [u8; 32],
-    mac: [u8; 32],
-    stream: RunningHmac,
-    tags: RunningHmac,
+    stream: HmacKey,
+    tags: HmacKey,
 }
 
 impl Model for Keys {
     ghost use Rattle.crypto_profile.specs.Keys.{Keys};
-    ghost use Rattle.crypto_profile.specs.Macs.{ArePrepared};
 
     ghost Value = { Keys };
 
-    ghost view = { λ k. record { enc = k.enc; mac = k.mac } };
-
-    ghost invariant = { λ k. ArePrepared k.enc k.mac k.stream k.tags };
+    ghost view = { λ k. record { enc = k.stream; mac = k.tags } };
 }
 
 impl Keys {
-    ghost use Rattle.std.specs.Prelude.{◌≡◌, []};
+    ghost use Rattle.std.specs.Prelude.{◌≡◌};
     ghost use Rattle.crypto_profile.specs.Keys.{keys_of};
 
     /// The keys of a context under the group secret.
     pub fn of(secret: &[u8; 32], context: &Context) -> Keys
         ensures { result ≡ keys_of secret.now context.now }
     {
-        let under = RunningHmac::new(secret);
-        match context {
-            Context::Startup => Keys::prepared(
-                under.finish_with(b"rtmfp startup enc"),
-                under.finish_with(b"rtmfp startup mac"),
-            ),
-            Context::Session {
-                ni,
-                nr,
-                fp_i,
-                fp_r,
-                sid_i,
-                sid_r,
-                to_responder,
-            } => {
-                let enc = session_key(
-                    &under,
-                    enc_label(*to_responder),
-                    ni,
-                    nr,
-                    fp_i,
-                    fp_r,
-                    *sid_i,
-                    *sid_r,
-                );
-                let mac = session_key(
-                    &under,
-                    mac_label(*to_responder),
-                    ni,
-                    nr,
-                    fp_i,
-                    fp_r,
-                    *sid_i,
-                    *sid_r,
-                );
-                Keys::prepared(enc, mac)
-            }
-        }
+        Keys::under(&HmacKey::of(secret), context)
     }
 
-    fn prepared(enc: [u8; 32], mac: [u8; 32]) -> Keys
-        ensures { result ≡ record { enc = enc; mac = mac } }
+    /// The keys of a context under the group secret, which was hashed before.
+    pub fn under(secret: &HmacKey, context: &Context) -> Keys
+        ensures { result ≡ keys_of secret.now context.now }
     {
         Keys {
-            enc,
-            mac,
-            stream: RunningHmac::new(&enc),
-            tags: RunningHmac::new(&mac),
+            stream: stream_key(secret, context),
+            tags: HmacKey::of(&mac_under(secret, context)),
         }
-    }
-
-    // An HMAC under the key of the keystream that has taken in no text.
-    pub(crate) fn begin_stream(&self) -> RunningHmac
-        ensures { HoldsText self.now.enc [] result }
-    {
-        self.stream.copy()
-    }
-
-    // The same under the key of the tags.
-    pub(crate) fn begin_tag(&self) -> RunningHmac
-        ensures { HoldsText self.now.mac [] result }
-    {
-        self.tags.copy()
     }
 
     /// The key of the keystream.
     pub fn enc(&self) -> &[u8; 32]
         ensures { result.now ≡ self.now.enc }
     {
-        &self.enc
+        self.stream.bytes()
     }
 
     /// The key of the tags.
     pub fn mac(&self) -> &[u8; 32]
         ensures { result.now ≡ self.now.mac }
     {
-        &self.mac
+        self.tags.bytes()
+    }
+
+    pub(crate) fn stream(&self) -> &HmacKey
+        ensures { result.now ≡ self.now.enc }
+    {
+        &self.stream
+    }
+
+    pub(crate) fn tags(&self) -> &HmacKey
+        ensures { result.now ≡ self.now.mac }
+    {
+        &self.tags
+    }
+}
+
+/// The key of a context's keystream under the group secret, which was hashed before. By it alone
+/// packets are deciphered, and none is verified.
+pub fn stream_key(secret: &HmacKey, context: &Context) -> HmacKey
+    ensures { result ≡ (keys_of secret.now context.now).enc }
+{
+    HmacKey::of(&enc_under(secret, context))
+}
+
+fn enc_under(secret: &HmacKey, context: &Context) -> [u8; 32]
+    ensures { result ≡ (keys_of secret.now context.now).enc }
+{
+    match context {
+        Context::Startup => secret.hmac(b"rtmfp startup enc"),
+        Context::Session {
+            ni,
+            nr,
+            fp_i,
+            fp_r,
+            sid_i,
+            sid_r,
+            to_responder,
+        } => session_key(
+            secret,
+            enc_label(*to_responder),
+            ni,
+            nr,
+            fp_i,
+            fp_r,
+            *sid_i,
+            *sid_r,
+        ),
+    }
+}
+
+fn mac_under(secret: &HmacKey, context: &Context) -> [u8; 32]
+    ensures { result ≡ (keys_of secret.now context.now).mac }
+{
+    match context {
+        Context::Startup => secret.hmac(b"rtmfp startup mac"),
+        Context::Session {
+            ni,
+            nr,
+            fp_i,
+            fp_r,
+            sid_i,
+            sid_r,
+            to_responder,
+        } => session_key(
+            secret,
+            mac_label(*to_responder),
+            ni,
+            nr,
+            fp_i,
+            fp_r,
+            *sid_i,
+            *sid_r,
+        ),
     }
 }
 
@@ -163,9 +175,9 @@ fn mac_label(to_responder: bool) -> &'static [u8]
     }
 }
 
-// A key of a session, by an HMAC under the group secret that has taken in no text.
+// A key of a session under the group secret.
 fn session_key(
-    under: &RunningHmac,
+    secret: &HmacKey,
     label: &[u8],
     ni: &[u8; 16],
     nr: &[u8; 16],
@@ -174,10 +186,10 @@ fn session_key(
     sid_i: u32,
     sid_r: u32,
 ) -> [u8; 32]
-    ensures { (secret : List ℕ) → HoldsText secret [] under.now →
-        result ≡ hmac secret (session_text label.now ni.now nr.now fp_i.now fp_r.now sid_i sid_r) }
+    ensures { result ≡ hmac secret.now
+        (session_text label.now ni.now nr.now fp_i.now fp_r.now sid_i sid_r) }
 {
-    let mut mac = under.copy();
+    let mut mac = secret.begin();
     mac.update(label);
     mac.update(ni);
     mac.update(nr);

@@ -7,6 +7,7 @@
 
 mod comparing;
 pub mod edges;
+mod hmac_key;
 mod keys;
 pub mod laws;
 mod mac;
@@ -14,7 +15,8 @@ mod sealing;
 mod window;
 
 pub use comparing::same_bytes;
-pub use keys::{Context, Keys, sign_key};
+pub use hmac_key::HmacKey;
+pub use keys::{Context, Keys, sign_key, stream_key};
 pub use mac::hmac;
 pub use sealing::{SealFault, decipher_in_place, open_in_place, open_refusal, seal_in_place};
 pub use window::{ReplayWindow, Seen};

@@ -10,6 +10,7 @@ ghost use Rattle.crypto_profile.specs.Opening.{open_refusal, plain_of};
 ghost use Rattle.crypto_profile.specs.Sealing.{ciphered, sealed, tag_of, number_of, xored};
 
 use crate::comparing::same_bytes;
+use crate::hmac_key::HmacKey;
 use crate::keys::Keys;
 use std::ops::Range;
 
@@ -34,7 +35,7 @@ pub fn seal_in_place(keys: &Keys, sid: u32, number: [u8; 16], buf: &mut [u8])
     requires { 32 ≤ length buf.old }
     ensures { buf.new ≡ sealed keys.now sid number (drop 32 buf.old) }
 {
-    cipher(keys, &number, &mut buf[HEAD_LEN..]);
+    cipher(keys.stream(), &number, &mut buf[HEAD_LEN..]);
     buf[TAG_LEN..HEAD_LEN].copy_from_slice(&number);
     let tag = tag(keys, sid, &buf[TAG_LEN..]);
     buf[..TAG_LEN].copy_from_slice(&tag);
@@ -72,29 +73,29 @@ pub fn open_in_place(keys: &Keys, sid: u32, buf: &mut [u8]) -> Result<Range<usiz
     }
     let mut carried = [0u8; 16];
     carried.copy_from_slice(&buf[TAG_LEN..HEAD_LEN]);
-    cipher(keys, &carried, &mut buf[HEAD_LEN..]);
+    cipher(keys.stream(), &carried, &mut buf[HEAD_LEN..]);
     Ok(HEAD_LEN..buf.len())
 }
 
 /// Deciphers a sealed part in place, whatever its tag: its plain packet then stands from byte 32
 /// on.
-pub fn decipher_in_place(keys: &Keys, buf: &mut [u8])
+pub fn decipher_in_place(key: &HmacKey, buf: &mut [u8])
     requires { 32 ≤ length buf.old }
     ensures head { take 32 buf.new ≡ take 32 buf.old }
-    ensures plain { drop 32 buf.new ≡ plain_of keys.now buf.old }
+    ensures plain { drop 32 buf.new ≡ ciphered key.now (number_of buf.old) (drop 32 buf.old) }
 {
     let (head, packet) = buf.split_at_mut(HEAD_LEN);
     let (_, carried) = head.split_at(TAG_LEN);
     let mut number = [0u8; 16];
     number.copy_from_slice(carried);
-    cipher(keys, &number, packet);
+    cipher(key, &number, packet);
 }
 
 // The first 16 bytes of the HMAC of a session ID and what follows the tag.
 fn tag(keys: &Keys, sid: u32, rest: &[u8]) -> [u8; 16]
     ensures { result ≡ tag_of keys.now.mac sid rest.now }
 {
-    let mut running = keys.begin_tag();
+    let mut running = keys.tags().begin();
     running.update(&sid.to_be_bytes());
     let whole = running.finish_with(rest);
     let mut tag = [0u8; 16];
@@ -104,10 +105,10 @@ fn tag(keys: &Keys, sid: u32, rest: &[u8]) -> [u8; 16]
 
 // XORs the keystream of a number into bytes, in place. The hash states after the key and the number
 // are made once, so a block costs two compressions of the hash function.
-fn cipher(keys: &Keys, number: &[u8; 16], bytes: &mut [u8])
-    ensures { bytes.new ≡ ciphered keys.now.enc number.now bytes.old }
+fn cipher(key: &HmacKey, number: &[u8; 16], bytes: &mut [u8])
+    ensures { bytes.new ≡ ciphered key.now number.now bytes.old }
 {
-    let mut stream = keys.begin_stream();
+    let mut stream = key.begin();
     stream.update(number);
     let count = bytes.len().div_ceil(BLOCK_LEN);
     for i in 0..count {

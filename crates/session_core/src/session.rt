@@ -16,7 +16,7 @@ use crate::sealing::{number_of_count, seal_into};
 use crate::stage::{Role, SessionDue, Stage, is_held, is_past, is_past_last};
 use crate::stamps::{Stamp, echo_of, stamp_after, tick_of};
 use crate::trips::{RoundTrip, resend_time, trip_after};
-use crypto_profile::{Context, Keys, ReplayWindow, open_in_place};
+use crypto_profile::{Context, HmacKey, Keys, ReplayWindow, open_in_place};
 use glare_core::Joined;
 use rtmfp_forms::{Address, Outgoing};
 use rtmfp_packet::{Mode, PacketHead};
@@ -146,13 +146,14 @@ impl Session {
     ) -> Session
         ensures { result ≡ new_session joined.now own.now role address secret.now moment }
     {
+        let group = HmacKey::of(secret);
         Session {
             joined: *joined,
             own: *own,
             role,
             secret: *secret,
-            inward: Keys::of(secret, &context_between(joined, own, role, false)),
-            outward: Keys::of(secret, &context_between(joined, own, role, true)),
+            inward: Keys::under(&group, &context_between(joined, own, role, false)),
+            outward: Keys::under(&group, &context_between(joined, own, role, true)),
             address,
             stage: first_stage(role),
             since: moment,
