@@ -24,18 +24,19 @@ pub const LINE_LIMIT: usize = 2_097_664;
 pub(crate) fn play_in(
     alloc: Global,
     world: &mut World,
-    keys: &GroupKeys,
+    keys: &mut GroupKeys,
     scratch: &mut Vec<u8>,
     number: u64,
     line: &[u8],
     text: &mut Text,
 ) -> Result<Said, AllocError>
-    requires keys { keys.now ≡ group_secret }
+    requires keys { keys.old ≡ group_secret }
     requires short { length line.now ≤ LINE_LIMIT }
     requires above { AreBelow world.old.lines number }
     requires fits { number < 2 ^ 32 }
     ensures played { IfOk result (λ said. PlayedAs said world.old number line.now world.new text.new) }
     ensures above { IfOk result (λ said. said ≡ Said.Text → AreBelow world.new.lines (number + 1)) }
+    ensures keys { keys.new ≡ keys.old }
 {
     text.clear();
     match read_line(alloc, line) {
@@ -52,18 +53,19 @@ pub(crate) fn play_in(
 /// Takes a step, and adds the text of its report.
 fn take_step(
     world: &mut World,
-    keys: &GroupKeys,
+    keys: &mut GroupKeys,
     scratch: &mut Vec<u8>,
     number: u64,
     step: &Step,
     text: &mut Text,
 ) -> Result<Said, AllocError>
-    requires keys { keys.now ≡ group_secret }
+    requires keys { keys.old ≡ group_secret }
     requires above { AreBelow world.old.lines number }
     requires fits { number < 2 ^ 32 }
     ensures stepped { IfOk result (λ said. SteppedAs said world.old number step.now world.new text.old
         text.new) }
     ensures above { IfOk result (λ said. said ≡ Said.Text → AreBelow world.new.lines (number + 1)) }
+    ensures keys { keys.new ≡ keys.old }
 {
     let lines = world.journal().lines().len();
     let sent = sent_so_far(world)?;
@@ -216,7 +218,7 @@ fn forge_said(ends: &Directory, name: &Name, from: Address, plain: Message) -> O
 /// Adds what is told of the line of the journal with this index, if there is one, where so many
 /// datagrams were sent before it.
 fn push_line(
-    keys: &GroupKeys,
+    keys: &mut GroupKeys,
     ends: &Directory,
     sent: u64,
     lines: &[JournalLine],
@@ -224,9 +226,10 @@ fn push_line(
     scratch: &mut Vec<u8>,
     text: &mut Text,
 ) -> Result<(), AllocError>
-    requires { keys.now ≡ group_secret }
-    ensures { OnOk result (text.new ≡ text.old
+    requires { keys.old ≡ group_secret }
+    ensures text { OnOk result (text.new ≡ text.old
         ++ told_next ends.now sent (slice_get lines.now at)) }
+    ensures keys { keys.new ≡ keys.old }
 {
     match lines.get(at) {
         Some(line) => push_told(keys, ends, sent, line, scratch, text),
@@ -236,15 +239,17 @@ fn push_line(
 
 /// Adds what is told of a line of the journal.
 fn push_told(
-    keys: &GroupKeys,
+    keys: &mut GroupKeys,
     ends: &Directory,
     sent: u64,
     line: &JournalLine,
     scratch: &mut Vec<u8>,
     text: &mut Text,
 ) -> Result<(), AllocError>
-    requires { keys.now ≡ group_secret }
-    ensures { OnOk result (text.new ≡ text.old ++ told_of ends.now sent line.now line.now.refused) }
+    requires { keys.old ≡ group_secret }
+    ensures text { OnOk result (text.new ≡ text.old
+        ++ told_of ends.now sent line.now line.now.refused) }
+    ensures keys { keys.new ≡ keys.old }
 {
     let name = name_at(ends.as_slice(), line.end);
     match &line.refused {
@@ -256,7 +261,7 @@ fn push_told(
 
 /// Adds what a call did.
 fn push_done(
-    keys: &GroupKeys,
+    keys: &mut GroupKeys,
     ends: &Directory,
     name: &Name,
     sent: u64,
@@ -264,9 +269,10 @@ fn push_done(
     scratch: &mut Vec<u8>,
     text: &mut Text,
 ) -> Result<(), AllocError>
-    requires { keys.now ≡ group_secret }
-    ensures { OnOk result (text.new ≡ text.old
+    requires { keys.old ≡ group_secret }
+    ensures text { OnOk result (text.new ≡ text.old
         ++ entries_text group_secret ends.now line.now.line name.now sent line.now.out.entries) }
+    ensures keys { keys.new ≡ keys.old }
 {
     push_entries(
         keys,

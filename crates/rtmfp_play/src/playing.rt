@@ -52,7 +52,7 @@ impl Playing {
     {
         Playing {
             world: World::new(alloc),
-            keys: GroupKeys::of(&SECRET),
+            keys: GroupKeys::of(alloc, &SECRET),
             scratch: Vec::new(alloc),
         }
     }
@@ -76,7 +76,7 @@ pub fn play_line(
     play_in(
         alloc,
         &mut playing.world,
-        &playing.keys,
+        &mut playing.keys,
         &mut playing.scratch,
         number,
         line,

@@ -1,2 +1,5 @@
 pub mod Counted
 pub mod Deciphered
+pub mod Fronts
+pub mod Lone
+pub mod OnlyKind

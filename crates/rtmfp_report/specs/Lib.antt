@@ -1,7 +1,9 @@
 pub mod NonceText
 pub mod CauseText
 pub mod FactText
+pub mod KeptKeys
 pub mod LineText
+pub mod LoneChunk
 pub mod SentText
 pub mod EntryText
 pub mod RefusalText

@@ -16,10 +16,30 @@ use std::alloc::AllocError;
 /// in their order. The peers of facts are called as among `ends`. `sent` datagrams were sent
 /// before; it gives how many were sent after.
 ///
-/// The names of the chunks of a datagram are found by the group's keys; `scratch` holds the
-/// datagram meanwhile, and its memory is used again. More than 2^64-1 datagrams count as want of
-/// memory.
+/// The names of the chunks of a datagram are found by the group's keys, which keep those of the
+/// sessions that sent; `scratch` holds the datagram meanwhile, and its memory is used again. More
+/// than 2^64-1 datagrams count as want of memory.
 pub fn push_entries(
+    keys: &mut GroupKeys,
+    ends: &Directory,
+    line: u64,
+    name: &Name,
+    sent: u64,
+    entries: &[Entry],
+    scratch: &mut Vec<u8>,
+    text: &mut Text,
+) -> Result<u64, AllocError>
+    ensures text { OnOk result (text.new ≡ text.old
+        ++ entries_text keys.old ends.now line name.now sent entries.now) }
+    ensures count { IfOk result (λ count. count ≡ sent_after sent entries.now) }
+    ensures keys { keys.new ≡ keys.old }
+{
+    keys.learn(entries);
+    push_each(keys, ends, line, name, sent, entries, scratch, text)
+}
+
+/// The same by the keys that are kept.
+fn push_each(
     keys: &GroupKeys,
     ends: &Directory,
     line: u64,

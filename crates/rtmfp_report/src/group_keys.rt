@@ -1,23 +1,40 @@
 //! The keys by which the datagrams of a group are read.
-ghost use Rattle.crypto_profile.specs.Keys.{keys_of};
+ghost use Rattle.std.specs.Prelude.{◌≡◌, List, ℕ, true};
+ghost use Rattle.rtmfp_report.specs.KeptKeys.{AreUnder};
 
-use crypto_profile::{Context, Keys, decipher_in_place};
+use crypto_profile::{Context, HmacKey, decipher_in_place, stream_key};
+use endpoint::Entry;
+use std::alloc::Global;
 use std::marker::Model;
 
-/// The secret of a group, and the keys of its startup packets, which are derived once.
+/// How many keys of sessions are kept at most.
+const MOST_KEPT: usize = 512;
+
+/// The key of a context's keystream.
+#[derive(Drop)]
+pub(crate) struct KeptKey {
+    pub(crate) context: Context,
+    pub(crate) key: HmacKey,
+}
+
+/// The secret of a group, and keys of its packets: those of startup, which are derived once, and
+/// those of sessions that sent lately.
 ///
 /// Contracts see the secret.
 #[derive(Drop)]
 pub struct GroupKeys {
-    secret: [u8; 32],
-    startup: Keys,
+    alloc: Global,
+    secret: HmacKey,
+    startup: HmacKey,
+    /// The key of a session stands in the slot that its session IDs name, or nowhere. There are no
+    /// slots at first, and fewer than there may be where no memory was found.
+    kept: Vec<Option<KeptKey>>,
 }
 
 impl Model for GroupKeys {
-    ghost use Rattle.std.specs.Prelude.{◌≡◌, List, ℕ};
+    ghost use Rattle.std.specs.Prelude.{List, ℕ};
     ghost use Rattle.std.specs.Coded.{coded_list, coded_ℕ};
-    ghost use Rattle.crypto_profile.specs.Keys.{keys_of};
-    ghost use Rattle.crypto_profile.specs.declared.keys.Context.TheVariants.{Startup};
+    ghost use Rattle.rtmfp_report.specs.KeptKeys.{HasKeys};
 
     ghost Value = { List ℕ };
 
@@ -25,20 +42,72 @@ impl Model for GroupKeys {
 
     ghost view = { λ k. k.secret };
 
-    ghost invariant = { λ k. k.startup ≡ keys_of k.secret Startup };
+    ghost invariant = { λ k. HasKeys k.secret k.startup k.kept.items };
 }
 
 impl GroupKeys {
-    ghost use Rattle.std.specs.Prelude.{◌≡◌, ◌≤◌, length, drop, take};
+    ghost use Rattle.std.specs.Prelude.{◌≡◌, ◌≤◌, IfSome, length, drop, take};
+    ghost use Rattle.crypto_profile.specs.Keys.{keys_of};
     ghost use Rattle.crypto_profile.specs.Opening.{plain_of};
 
-    /// The keys of the group with this secret.
-    pub fn of(secret: &[u8; 32]) -> GroupKeys
+    /// The keys of the group with this secret. It takes no memory.
+    pub fn of(alloc: Global, secret: &[u8; 32]) -> GroupKeys
         ensures { result ≡ secret.now }
     {
+        let secret = HmacKey::of(secret);
         GroupKeys {
-            secret: *secret,
-            startup: Keys::of(secret, &Context::Startup),
+            alloc,
+            startup: stream_key(&secret, &Context::Startup),
+            secret,
+            kept: Vec::new(alloc),
+        }
+    }
+
+    /// Keeps the keys of the sessions that sent these entries, as far as memory is found.
+    pub(crate) fn learn(&mut self, entries: &[Entry])
+        ensures { self.new ≡ self.old }
+    {
+        let mut rest = entries;
+        while let [entry, others @ ..] = rest {
+            rest = others;
+            match entry {
+                Entry::Fact(_) => continue,
+                Entry::Discard { .. } => continue,
+                Entry::Out { context, .. } => self.keep(context),
+            }
+        }
+    }
+
+    /// Keeps the key of a context.
+    fn keep(&mut self, context: &Context)
+        ensures { self.new ≡ self.old }
+    {
+        let Some(slot) = slot_of(context) else {
+            return;
+        };
+        if self.kept.is_empty() {
+            self.kept = empty_slots(self.alloc);
+        }
+        keep_in(&mut self.kept, slot, &self.secret, context);
+    }
+
+    /// The key of a context's keystream, where it is kept.
+    fn kept_key(&self, context: &Context) -> Option<&HmacKey>
+        ensures { IfSome result (λ key. key.now ≡ (keys_of self.now context.now).enc) }
+    {
+        let slot = slot_of(context)?;
+        match self.kept.get(slot) {
+            None => None,
+            Some(row) => match row {
+                None => None,
+                Some(kept) => {
+                    if is_same(&kept.context, context) {
+                        Some(&kept.key)
+                    } else {
+                        None
+                    }
+                }
+            },
         }
     }
 
@@ -51,7 +120,100 @@ impl GroupKeys {
     {
         match context {
             Context::Startup => decipher_in_place(&self.startup, part),
-            Context::Session { .. } => decipher_in_place(&Keys::of(&self.secret, context), part),
+            Context::Session { .. } => match self.kept_key(context) {
+                Some(key) => decipher_in_place(key, part),
+                None => decipher_in_place(&stream_key(&self.secret, context), part),
+            },
+        }
+    }
+}
+
+/// Slots without keys, as many as memory is found for.
+fn empty_slots(alloc: Global) -> Vec<Option<KeptKey>>
+    ensures { (secret : List ℕ) → AreUnder secret result.items }
+{
+    let mut slots = Vec::new(alloc);
+    for _ in 0..MOST_KEPT {
+        if slots.push(None).is_err() {
+            return slots;
+        }
+    }
+    slots
+}
+
+/// Keeps the key of a context in this slot, if there is one.
+fn keep_in(kept: &mut [Option<KeptKey>], slot: usize, secret: &HmacKey, context: &Context)
+    requires { AreUnder secret.now kept.old }
+    ensures { AreUnder secret.now kept.new }
+{
+    if slot >= kept.len() || is_kept(&kept[slot], context) {
+        return;
+    }
+    kept[slot] = Some(KeptKey {
+        context: *context,
+        key: stream_key(secret, context),
+    });
+}
+
+/// Whether the key of this context is kept here.
+fn is_kept(row: &Option<KeptKey>, context: &Context) -> bool {
+    match row {
+        Some(kept) => is_same(&kept.context, context),
+        None => false,
+    }
+}
+
+/// Whether two contexts of sessions are the same.
+fn is_same(a: &Context, b: &Context) -> bool
+    ensures { result ≡ true → a.now ≡ b.now }
+{
+    let Context::Session {
+        ni,
+        nr,
+        fp_i,
+        fp_r,
+        sid_i,
+        sid_r,
+        to_responder,
+    } = a
+    else {
+        return false;
+    };
+    match b {
+        Context::Startup => false,
+        Context::Session {
+            ni: other_ni,
+            nr: other_nr,
+            fp_i: other_fp_i,
+            fp_r: other_fp_r,
+            sid_i: other_sid_i,
+            sid_r: other_sid_r,
+            to_responder: other_to_responder,
+        } => {
+            *sid_i == *other_sid_i
+                && *sid_r == *other_sid_r
+                && *to_responder == *other_to_responder
+                && *ni == *other_ni
+                && *nr == *other_nr
+                && *fp_i == *other_fp_i
+                && *fp_r == *other_fp_r
+        }
+    }
+}
+
+/// The slot of a session's context; none of that of startup.
+fn slot_of(context: &Context) -> Option<usize> {
+    match context {
+        Context::Startup => None,
+        Context::Session {
+            sid_i,
+            sid_r,
+            to_responder,
+            ..
+        } => {
+            let pair = sid_i.wrapping_mul(31) ^ *sid_r;
+            let slot = pair.wrapping_mul(2) | u32::from(*to_responder);
+            Some(slot as usize % MOST_KEPT)
         }
     }
 }

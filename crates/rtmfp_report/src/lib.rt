@@ -6,6 +6,7 @@ mod entries;
 mod facts;
 mod group_keys;
 mod lines;
+mod lone_chunk;
 mod nonces;
 mod refusals;
 mod sent;

@@ -1,9 +1,12 @@
 //! The texts of datagrams that go out.
-ghost use Rattle.std.specs.Prelude.{◌≡◌, ◌++◌, OnOk};
+ghost use Rattle.std.specs.Prelude.{◌≡◌, ◌≤◌, ◌++◌, ◌∷◌, [], IfSome, OnOk, length};
+ghost use Rattle.crypto_profile.specs.Keys.{keys_of};
+ghost use Rattle.crypto_profile.specs.Opening.{plain_of};
 ghost use Rattle.endpoint.specs.Kinds.{kinds_in, kinds_left};
 ghost use Rattle.rtmfp_report.specs.SentText.{behind_pluses, kinds_text, sent_kinds, sent_text};
 
 use crate::group_keys::GroupKeys;
+use crate::lone_chunk::lone_kind;
 use crypto_profile::Context;
 use endpoint::{Kinds, outgoing_kinds};
 use rtmfp_forms::Address;
@@ -15,6 +18,9 @@ const SEALED_AT: usize = 4;
 
 /// The bytes of a sealed part before its ciphertext.
 const CIPHERED_AT: usize = 32;
+
+/// The bytes of a plain packet that are deciphered at a time.
+const BLOCK_LEN: usize = 32;
 
 /// Adds a datagram that goes out: its number, where it goes, and the names of its chunks.
 pub(crate) fn push_sent(
@@ -52,11 +58,31 @@ fn push_sent_kinds(
         return text.push("none");
     }
     let (_, part) = datagram.split_at(SEALED_AT);
+    if let Some(kind) = only_kind(keys, part, context) {
+        return text.push(kind_name(kind));
+    }
     scratch.clear();
     scratch.extend_from_slice(part)?;
     keys.decipher(context, scratch.as_mut_slice());
     let (_, plain) = scratch.as_slice().split_at(CIPHERED_AT);
     push_kinds(plain, text)
+}
+
+/// The type of the only chunk of a sealed part, where the first block of its plain packet tells it.
+/// Most packets have one chunk, and of these no other block is deciphered.
+fn only_kind(keys: &GroupKeys, part: &[u8], context: &Context) -> Option<u8>
+    requires { 32 ≤ length part.now }
+    ensures { IfSome result (λ kind. kinds_in (plain_of (keys_of keys.now context.now) part.now)
+        ≡ kind ∷ []) }
+{
+    let mut room = [0; CIPHERED_AT + BLOCK_LEN];
+    let count = part.len().min(room.len());
+    let (front, _) = room.split_at_mut(count);
+    let (known, _) = part.split_at(count);
+    front.copy_from_slice(known);
+    keys.decipher(context, front);
+    let (_, plain) = front.split_at(CIPHERED_AT);
+    lone_kind(part.len() - CIPHERED_AT, plain)
 }
 
 /// Adds the names of the chunks of a plain packet.

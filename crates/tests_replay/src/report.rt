@@ -121,8 +121,17 @@ fn report(alloc: Global, entry: Entry, text: &mut Text) -> Result<(), Fail> {
         print: [1; 32],
         name: name()?,
     })?;
-    let keys = GroupKeys::of(&SECRET);
-    push_entries(&keys, &ends, 1, &name()?, 0, &entries, &mut scratch, text)?;
+    let mut keys = GroupKeys::of(alloc, &SECRET);
+    push_entries(
+        &mut keys,
+        &ends,
+        1,
+        &name()?,
+        0,
+        &entries,
+        &mut scratch,
+        text,
+    )?;
     Ok(())
 }
 

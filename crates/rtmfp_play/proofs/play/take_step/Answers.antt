@@ -9,7 +9,7 @@ pub returns-in_ok-push_line-in-Ok-clause-stepped : goal.returns-in_ok-push_line-
 returns-in_ok-push_line-in-Ok-clause-stepped c = (
   c.in-Ok.ensures.ok,
   record { sound = c.step.ensures.sound; agreed = c.step.ensures.agreed },
-  c.in_ok-push_line-in-Ok.ensures ∙ ap (λ (x : List ℕ). c.args.text.now ++ x) (told_same _ _ _ _ _ _ c.named.ensures c.in_ok-sent.ensures
+  c.in_ok-push_line-in-Ok.ensures.text ∙ ap (λ (x : List ℕ). c.args.text.now ++ x) (told_same _ _ _ _ _ _ c.named.ensures c.in_ok-sent.ensures
       (ap (λ (xs : List JournalLine). slice_get xs (length c.lines-lines.result.now)) (c.lines.ensures ∙ c.journal-in-Ok.ensures.lines)
       ∙ ap (λ (xs : List JournalLine). slice_get c.step.new.self.lines (length xs)) (c.lines-lines.ensures ∙ c.journal.ensures.lines))),
 )

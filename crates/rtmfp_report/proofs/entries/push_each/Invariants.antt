@@ -1,6 +1,6 @@
 use Rattle.std.proofs.Common.{◌≡◌, ◌++◌, length}
 use Rattle.rtmfp_report.specs.EntryText.{entries_text, sent_after}
-use Rattle.rtmfp_report.proofs.entries.push_entries.Given as goal
+use Rattle.rtmfp_report.proofs.entries.push_each.Given as goal
 
 abbrev pub invariant-loop-rest : goal.invariant-loop-rest
 invariant-loop-rest l =
