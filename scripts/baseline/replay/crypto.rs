@@ -147,8 +147,8 @@ pub struct Keys {
 }
 
 impl Keys {
-    pub fn new(secret: &[u8; 32], context: &Context) -> Self {
-        let group = Hmac::new(secret);
+    /// The keys of a context under the group's secret.
+    pub fn new(group: &Hmac, context: &Context) -> Self {
         match context {
             Context::Startup => {
                 Keys { enc: Hmac::new(&group.of(&[b"rtmfp startup enc"])), mac: Hmac::new(&group.of(&[b"rtmfp startup mac"])) }

@@ -13,15 +13,17 @@ const RESPONDER: u8 = 2;
 
 /// What all ends of the group know.
 pub struct Group {
-    secret: [u8; 32],
+    secret: Hmac,
     startup: (Rc<Context>, Keys),
     sign: Hmac,
 }
 
 impl Group {
     pub fn new(secret: [u8; 32]) -> Self {
-        let sign = Hmac::new(&Hmac::new(&secret).of(&[b"rtmfp sign"]));
-        Group { secret, startup: (Rc::new(Context::Startup), Keys::new(&secret, &Context::Startup)), sign }
+        let secret = Hmac::new(&secret);
+        let sign = Hmac::new(&secret.of(&[b"rtmfp sign"]));
+        let startup = (Rc::new(Context::Startup), Keys::new(&secret, &Context::Startup));
+        Group { secret, startup, sign }
     }
 }
 
@@ -171,7 +173,7 @@ pub struct Unsealed {
 }
 
 impl Session {
-    fn new(joined: Joined, own: Print, mode: u8, secret: &[u8; 32]) -> Self {
+    fn new(joined: Joined, own: Print, mode: u8, secret: &Hmac) -> Self {
         let (initiator, responder, sid_i, sid_r) = match mode {
             INITIATOR => (own, joined.peer, joined.near, joined.far),
             _ => (joined.peer, own, joined.far, joined.near),
