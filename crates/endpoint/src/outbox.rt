@@ -60,6 +60,16 @@ impl Outbox {
         self.entries.clear();
     }
 
+    /// Gives back the room that no entry takes, as far as the allocator takes it. `clear` then
+    /// promises none.
+    pub fn trim(&mut self)
+        ensures entries { self.new.entries ≡ self.old.entries }
+        ensures room { self.new.room ≡ 0 }
+    {
+        self.room = 0;
+        self.entries.shrink_to_fit();
+    }
+
     /// Finds room for so many further entries.
     pub(crate) fn make_room(&mut self, count: usize) -> Result<(), AllocError>
         ensures ok { OnOk result (count ≤ self.new.free) }
