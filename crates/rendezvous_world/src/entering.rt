@@ -52,17 +52,12 @@ fn named_at(named: &[Named], at: usize) -> &Named
     &named[at]
 }
 
-/// The same entries, without memory where there are none.
-fn without_spare(alloc: Global, out: Outbox) -> Outbox
+/// The same entries, without room for others.
+fn without_spare(mut out: Outbox) -> Outbox
     ensures { result.entries ≡ out.entries }
 {
-    if !out.entries().is_empty() {
-        return out;
-    }
-    match Outbox::new(alloc, 0) {
-        Ok(empty) => empty,
-        Err(_) => out,
-    }
+    out.trim();
+    out
 }
 
 /// Notes for so many datagrams that this line sent them, as far as memory is found.
@@ -135,7 +130,7 @@ impl World {
                 datagram,
                 refused: outcome.refused,
                 stopped: outcome.stopped,
-                out: without_spare(self.alloc, out),
+                out: without_spare(out),
             },
         );
         answered(is_stopped)
