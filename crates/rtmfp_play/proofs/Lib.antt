@@ -3,3 +3,4 @@ pub mod Played
 pub mod Reported
 pub mod OneText
 pub mod Generation
+pub mod OneGenerated

@@ -2,8 +2,10 @@
 use Rattle.std.specs.Prelude.{ℕ, ◌≡◌, ◌<◌, ◌⊎◌, List, [], ◌∷◌, ◌++◌, length}
 use Rattle.rtmfp_text.specs.declared.names.Named.{Named}
 use Rattle.rendezvous_world.specs.declared.journal.JournalLine.{JournalLine}
+use Rattle.rendezvous_world.specs.Same.{AreSameWorlds}
 use Rattle.rendezvous_world.specs.Seen.{Seen}
 use Rattle.rendezvous_world.specs.Sent.{sent_in}
+use Rattle.rtmfp_play.specs.Generated.{Generates, summary_of}
 use Rattle.rtmfp_play.specs.Play.{Plays, names_of, told_of}
 
 -- no line of the journal, and nothing is told
@@ -28,3 +30,9 @@ pub record Adds (w t : Seen) (text : List ℕ) : Type 0 where
 abbrev pub EachLineIsTold : Type 0
 EachLineIsTold = (w : Seen) (n : ℕ) (line : List ℕ) (t : Seen) (text : List ℕ) →
     Plays w n line t text → Adds w t text
+
+-- A seed and a count of steps decide the world of a generated run, but for the room that the
+-- outboxes of its journal have left, and the line that is written of it.
+abbrev pub EachGeneratedRunIsOne : Type 0
+EachGeneratedRunIsOne = (seed steps : ℕ) (w t : Seen) → Generates seed steps w →
+    Generates seed steps t → AreSameWorlds w t × (summary_of steps w ≡ summary_of steps t)

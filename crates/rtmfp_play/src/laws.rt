@@ -2,12 +2,18 @@
 //! functions do nothing: the contract of each is its law.
 ghost use Rattle.std.specs.Prelude.{◌≡◌, ◌∷◌, [], false};
 ghost use Rattle.rtmfp_play.specs.Generated.{end_at, end_cert, end_count, end_name, end_address, number_after};
-ghost use Rattle.rtmfp_play.specs.Laws.{EachLineIsTold};
+ghost use Rattle.rtmfp_play.specs.Laws.{EachGeneratedRunIsOne, EachLineIsTold};
 
 /// A line of a script adds one line to the journal, of which it tells, or none, and then it tells
 /// nothing.
 pub fn each_line_is_told()
     ensures { EachLineIsTold }
+{}
+
+/// A seed and a count of steps decide a generated run and the line that is written of it. Left open
+/// is only how much room the outboxes of its journal have free, which is a matter of memory.
+pub fn each_generated_run_is_one()
+    ensures { EachGeneratedRunIsOne }
 {}
 
 /// The ends of a generated run are e0 to e7 at 10.0.0.1:1935 to 10.0.0.8:1935, with certificates in
