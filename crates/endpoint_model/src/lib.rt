@@ -4,6 +4,7 @@
 
 mod answers;
 mod config;
+pub mod edges;
 mod entry;
 mod place;
 mod row;
