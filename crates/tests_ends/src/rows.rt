@@ -133,13 +133,19 @@ session b 10 0130000105300001007000281008080808080808080808080808080808010230313
 session b 11 010f002a2101aad5e1db1cb4861e40321d0c242b1453632c075eb76a2c583597fbfa3d796667020a000001078f43 = out 98;
 ";
 
-/// A repeat, and an attempt that is cancelled.
+/// A repeat, an attempt that is cancelled, two that expire at once, and a moment that goes back.
 const TIMES: &str = "new a 16 16 = 
 open a answerer 1 3 = started 1 3; out 90;
 tick a 999 = 
 tick a 1000 = out 90;
 cancel a 2 = refused
 cancel a 1 = ended 3 Cancelled;
+open a answerer 1 9 1000 = started 2 9; out 90;
+open a peer1 1 5 1000 = started 3 5; out 90;
+tick a 96000 = ended 5 Expired; ended 9 Expired;
+open a peer2 1 7 100 = started 4 7; out 90;
+tick a 190999 = out 90;
+tick a 191000 = ended 7 Expired;
 ";
 
 /// In which context a datagram opens.
