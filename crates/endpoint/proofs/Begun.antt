@@ -24,7 +24,7 @@ use Rattle.endpoint_model.specs.declared.config.Draws.{Draws}
 use Rattle.endpoint_model.specs.declared.entry.Entry.{Entry}
 use Rattle.endpoint_model.specs.declared.entry.Entry.TheVariants.{Fact as FactEntry}
 use Rattle.endpoint_model.specs.Added.{Added}
-use Rattle.endpoint_model.specs.Due.{candidates_refusal, start_refused, full_refused, open_refusal, tick_once, ticks, initiator_keyed, keying_done, responder_keyed, opening_done, sessions_born, sessions_opened, with_born, with_opened}
+use Rattle.endpoint_model.specs.Effects.{candidates_refusal, start_refused, full_refused, open_refusal, tick_once, ticks, initiator_keyed, keying_done, responder_keyed, opening_done, sessions_born, sessions_opened, with_born, with_opened}
 use Rattle.endpoint.specs.Stored.{IsEndpoint, table_of, state_of}
 use Rattle.endpoint_model.specs.Sending.{sent_in_session}
 use Rattle.endpoint_model.specs.State.{State, Did, Done, then_do, after_entries, uses, is_used, is_free, full, free_from, with_startup, with_sessions}

@@ -18,7 +18,7 @@ use Rattle.endpoint_model.proofs.Steps.{done_nothing}
 use Rattle.rtmfp_forms.specs.Address.{AddressParts}
 use Rattle.rtmfp_packet.specs.Whole.{Whole}
 use Rattle.endpoint_model.specs.Keying.{chunks_of}
-use Rattle.endpoint_model.specs.Due.{AreQuiet, AddsDiscards, discards, discards_among, outset}
+use Rattle.endpoint_model.specs.Effects.{AreQuiet, AddsDiscards, discards, discards_among, outset}
 use Rattle.endpoint_model.specs.Log.{IsStop, not_taken}
 use Rattle.endpoint_model.specs.Admission.{confirms, confirms_by, confirming, confirming_by, taken_packet, counted_at, counted_by, timed_at, timed_by}
 

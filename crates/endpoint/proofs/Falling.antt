@@ -10,7 +10,7 @@ use Rattle.startup.specs.Due.{due, due_of, after_due, due_count, due_sends, due_
 use Rattle.startup.proofs.Falling.{due_falls}
 use Rattle.endpoint_model.specs.State.{State, Did, with_startup}
 use Rattle.endpoint_model.specs.Sending.{sent_startup, sent_each, last_count}
-use Rattle.endpoint_model.specs.Due.{due_done, tick_once, item_done, attempt_item}
+use Rattle.endpoint_model.specs.Effects.{due_done, tick_once, item_done, attempt_item}
 
 -- what sending startup packets leaves as it is
 pub record IsSame (s t : State) : Type 0 where

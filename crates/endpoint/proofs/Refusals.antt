@@ -11,7 +11,7 @@ use Rattle.endpoint_model.specs.declared.config.Draws.{Draws}
 use Rattle.endpoint_model.specs.declared.place.Place.{Place}
 use Rattle.endpoint_model.specs.Added.{Added}
 use Rattle.endpoint_model.specs.State.{State, Did, Done, nothing}
-use Rattle.endpoint_model.specs.Due.{AreQuiet, chunk_did, discarded_or, discards_among, discards_for, effect, walked, read_done}
+use Rattle.endpoint_model.specs.Effects.{AreQuiet, chunk_did, discarded_or, discards_among, discards_for, effect, walked, read_done}
 use Rattle.endpoint_model.specs.Causes.{chunk_cause}
 
 -- what is left adds nothing but discards, and there is room for these

@@ -22,7 +22,7 @@ use Rattle.endpoint_model.specs.declared.place.Place.TheVariants.{Startup, Attem
 use Rattle.endpoint_model.specs.Added.{Added}
 use Rattle.endpoint_model.specs.State.{State, Done, nothing, with_session}
 use Rattle.endpoint_model.specs.Admission.{Admission, Rejected, Admitted, admission, admitted, admitted_packet, opened_datagram, counted_at, counted_by, timed_at, taken_packet, mode_at, mode_by, has_mode, fault_number, packet_in}
-use Rattle.endpoint_model.specs.Due.{discarded}
+use Rattle.endpoint_model.specs.Effects.{discarded}
 use Rattle.endpoint_model.specs.Log.{IsTaken, IsStop, stopped, not_taken}
 
 -- ---- one admission for another

@@ -19,7 +19,7 @@ use Rattle.endpoint_model.specs.State.{State, Did, nothing, with_startup, full}
 use Rattle.endpoint_model.specs.Sending.{sent_answer, sent_if, sent_in_session}
 use Rattle.endpoint_model.specs.Admission.{sid_at}
 use Rattle.endpoint_model.specs.Causes.{takes}
-use Rattle.endpoint_model.specs.Due.{initiator_keyed, responder_keyed}
+use Rattle.endpoint_model.specs.Effects.{initiator_keyed, responder_keyed}
 use Rattle.endpoint.specs.declared.judging.Verdict.{Verdict}
 use Rattle.endpoint.specs.declared.judging.Verdict.TheVariants.{Hello, ResponderHello, CookieChange}
 use Rattle.endpoint.specs.declared.judging.Verdict.TheVariants.{InitiatorKeying, ResponderKeying}

@@ -2,7 +2,7 @@
 
 ghost use Rattle.std.specs.Prelude.{◌≡◌, ◌+◌, IfErr, IfNone, IfOk, IfSome, IsSome, None, OnErr, OnOk, Err};
 ghost use Rattle.startup.specs.Attempts.{cancel_fact};
-ghost use Rattle.endpoint_model.specs.Due.{cancelling, open_refusal, opening};
+ghost use Rattle.endpoint_model.specs.Effects.{cancelling, open_refusal, opening};
 ghost use Rattle.endpoint_model.specs.Log.{Extends, cancel_event, open_event};
 ghost use Rattle.endpoint_model.specs.State.{Done, at_moment, nothing};
 

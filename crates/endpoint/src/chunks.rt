@@ -7,7 +7,7 @@ ghost use Rattle.rtmfp_packet.specs.Chunks.{shown};
 ghost use Rattle.startup.specs.Attempts.{after_cookie_change, after_rhello, cookie_change_cause};
 ghost use Rattle.startup.specs.Attempts.{cookie_change_keying, rhello_cause, rhello_keying, wide};
 ghost use Rattle.startup.specs.Keyings.{initiator_hello_answer};
-ghost use Rattle.endpoint_model.specs.Due.{IsQuiet, chunk_did, discarded, discards_for};
+ghost use Rattle.endpoint_model.specs.Effects.{IsQuiet, chunk_did, discarded, discards_for};
 ghost use Rattle.endpoint_model.specs.Causes.{chunk_cause};
 ghost use Rattle.endpoint_model.specs.Sending.{sent_answer, sent_if, sent_in_session};
 ghost use Rattle.endpoint_model.specs.State.{Done, nothing, with_startup};

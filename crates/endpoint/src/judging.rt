@@ -9,7 +9,7 @@ ghost use Rattle.rtmfp_chunks.specs.FieldReading.{chunk_reading};
 ghost use Rattle.rtmfp_packet.specs.Chunks.{shown};
 ghost use Rattle.startup.specs.Keyings.{keying_fault};
 ghost use Rattle.endpoint_model.specs.Admission.{sid_at};
-ghost use Rattle.endpoint_model.specs.Due.{effect, initiator_keyed, read_done, responder_keyed};
+ghost use Rattle.endpoint_model.specs.Effects.{effect, initiator_keyed, read_done, responder_keyed};
 ghost use Rattle.endpoint_model.specs.Causes.{chunk_cause, initiator_keying_cause, is_known};
 ghost use Rattle.endpoint_model.specs.Causes.{read_cause, read_fault, responder_keying_cause};
 ghost use Rattle.endpoint_model.specs.Causes.{takes, view_fault};

@@ -7,8 +7,8 @@ ghost use Rattle.startup.specs.State.{peer_of_attempt};
 ghost use Rattle.startup.specs.Keyings.{initiator_keying_in, responder_keying_in};
 ghost use Rattle.startup.specs.Read.{initiator_of, responder_of};
 ghost use Rattle.startup.specs.Judging.{judged_initiator};
-ghost use Rattle.endpoint_model.specs.Due.{initiator_keyed, responder_keyed, sessions_born};
-ghost use Rattle.endpoint_model.specs.Due.{sessions_opened, without_ended};
+ghost use Rattle.endpoint_model.specs.Effects.{initiator_keyed, responder_keyed, sessions_born};
+ghost use Rattle.endpoint_model.specs.Effects.{sessions_opened, without_ended};
 ghost use Rattle.endpoint.specs.Stored.{table_of};
 ghost use Rattle.endpoint_model.specs.State.{Done, fact_entries, full, nothing};
 

@@ -5,7 +5,7 @@ ghost use Rattle.std.specs.List.{AllByRecursion};
 ghost use Rattle.std.specs.FinMap.{get};
 ghost use Rattle.rtmfp_packet.specs.Chunks.{left, shown};
 ghost use Rattle.endpoint_model.specs.Admission.{admission, admitted_packet, confirming, confirming_by, confirms, confirms_by, counted_at, counted_by, packet_in, taken_packet, timed_at, timed_by};
-ghost use Rattle.endpoint_model.specs.Due.{AddsDiscards, AreQuiet, chunks_did, discarded, discards, discards_among, outset, walked, received};
+ghost use Rattle.endpoint_model.specs.Effects.{AddsDiscards, AreQuiet, chunks_did, discarded, discards, discards_among, outset, walked, received};
 ghost use Rattle.endpoint_model.specs.Keying.{AreNear};
 ghost use Rattle.endpoint_model.specs.Log.{Extends, IsStop, IsTaken, not_taken, receive_event, stopped};
 ghost use Rattle.endpoint_model.specs.State.{Done, at_moment, nothing};

@@ -2,7 +2,7 @@
 
 ghost use Rattle.std.specs.Prelude.{◌≡◌, ◌≤◌, ℕ, IsSome, None, OnErr, OnOk, Some};
 ghost use Rattle.startup.specs.Due.{due_sends};
-ghost use Rattle.endpoint_model.specs.Due.{first_due, tick_once, ticks};
+ghost use Rattle.endpoint_model.specs.Effects.{first_due, tick_once, ticks};
 ghost use Rattle.endpoint_model.specs.Log.{Extends, tick_event};
 ghost use Rattle.endpoint_model.specs.State.{Done, at_moment, nothing};
 

@@ -31,7 +31,7 @@ use Rattle.endpoint_model.specs.Keying.{IsSigned, IsAmong, chunks_of, responder_
 use Rattle.endpoint_laws.specs.Lawful.{AnswersAttempt}
 use Rattle.endpoint_model.specs.State.{State, new_row, Did, is_used, with_startup, with_row}
 use Rattle.endpoint_model.specs.Sending.{sent_in_session}
-use Rattle.endpoint_model.specs.Due.{opening_done, responder_keyed}
+use Rattle.endpoint_model.specs.Effects.{opening_done, responder_keyed}
 use Rattle.endpoint_laws.proofs.Matching.{of_peer, ids_same}
 use Rattle.endpoint_model.proofs.Members.{tested}
 use Rattle.endpoint_laws.proofs.Tied.{Tied}

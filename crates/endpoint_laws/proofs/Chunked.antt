@@ -24,7 +24,7 @@ use Rattle.endpoint_laws.specs.Past.{Stamped}
 use Rattle.endpoint_model.specs.Keying.{IsAmong, IsFirst, chunks_of}
 use Rattle.endpoint_model.specs.State.{State, full}
 use Rattle.endpoint_model.specs.Admission.{sid_at}
-use Rattle.endpoint_model.specs.Due.{initiator_keyed, responder_keyed, effect, discarded_or, chunk_did}
+use Rattle.endpoint_model.specs.Effects.{initiator_keyed, responder_keyed, effect, discarded_or, chunk_did}
 use Rattle.endpoint_model.specs.Causes.{is_known, form_cause, read_fault, takes, initiator_keying_cause, responder_keying_cause, last_cause, chunk_cause}
 use Rattle.endpoint_model.proofs.Members.{tested}
 use Rattle.endpoint_laws.proofs.Tied.{Tied}

@@ -22,7 +22,7 @@ use Rattle.endpoint_laws.specs.Past.{Stamped, stamped, onto, facts_of, fact_and}
 use Rattle.endpoint_laws.specs.Lawful.{Opens, FactLine, IsCounted, OpensIn}
 use Rattle.endpoint_model.specs.State.{State, with_startup, free_from}
 use Rattle.endpoint_model.specs.Sending.{sent_each}
-use Rattle.endpoint_model.specs.Due.{open_refusal, opening}
+use Rattle.endpoint_model.specs.Effects.{open_refusal, opening}
 use Rattle.endpoint_model.specs.Log.{Answers}
 use Rattle.endpoint_laws.proofs.Counted.{count_more}
 use Rattle.endpoint_laws.proofs.Facts.{all_none, test_fails}

@@ -46,7 +46,7 @@ use Rattle.endpoint_model.specs.State.{State, Did, Does, nothing, fact_entries, 
 use Rattle.endpoint_model.specs.Sending.{sent_answer, sent_each, sent_in_session}
 use Rattle.endpoint_model.specs.Admission.{Admission, Rejected, Admitted, admission, sid_at, confirming, confirming_by}
 use Rattle.endpoint_model.specs.Keying.{chunks_of}
-use Rattle.endpoint_model.specs.Due.{opening, cancelling, due_done, tick_once, ticks, keying_done, initiator_keyed, opening_done, responder_keyed, with_born, read_done, effect, discarded_or, chunk_did, chunks_did, received, part_received, outset, item_done, attempt_item}
+use Rattle.endpoint_model.specs.Effects.{opening, cancelling, due_done, tick_once, ticks, keying_done, initiator_keyed, opening_done, responder_keyed, with_born, read_done, effect, discarded_or, chunk_did, chunks_did, received, part_received, outset, item_done, attempt_item}
 use Rattle.endpoint_model.specs.Causes.{initiator_keying_cause, responder_keying_cause, read_cause, last_cause, chunk_cause}
 use Rattle.endpoint_laws.specs.Lawful.{nonces_of}
 use Rattle.endpoint_laws.proofs.Chunked.{last_none}

@@ -31,7 +31,7 @@ use Rattle.endpoint_model.specs.Event.{Setup, Call, Cancel, own_of}
 use Rattle.endpoint_laws.specs.Past.{Stamped, stamped, facts_of, ids_in_use}
 use Rattle.endpoint_laws.specs.Lawful.{IsTick}
 use Rattle.endpoint_model.specs.State.{State, Did, fact_entries, with_startup}
-use Rattle.endpoint_model.specs.Due.{cancelling, due_done, tick_once, item_done, attempt_item}
+use Rattle.endpoint_model.specs.Effects.{cancelling, due_done, tick_once, item_done, attempt_item}
 use Rattle.endpoint_model.proofs.Members.{has}
 use Rattle.endpoint_model.proofs.Ids.{has_keys, count_keys}
 use Rattle.endpoint_laws.proofs.Matching.{of_peer, ids_less}

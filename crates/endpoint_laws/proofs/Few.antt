@@ -36,7 +36,7 @@ use Rattle.endpoint_model.specs.State.{State, Did, Does, nothing, after_entries,
 use Rattle.endpoint_model.specs.Sending.{last_count, startup_datagram, session_datagram, sent_startup, sent_answer, sent_if, sent_each, sent_spread, sent_by, sent_in_session}
 use Rattle.endpoint_model.specs.Admission.{sid_at, confirming_by, confirming}
 use Rattle.endpoint_model.specs.Causes.{chunk_cause}
-use Rattle.endpoint_model.specs.Due.{opening, due_done, tick_once, with_born, keying_done, initiator_keyed, with_opened, opening_done, responder_keyed, Reply, Silence, InStartup, InSession, replied, read_left, read_reply, read_done, effect, discarded_or, chunk_did, item_done, Item, OfAttempt, first_due}
+use Rattle.endpoint_model.specs.Effects.{opening, due_done, tick_once, with_born, keying_done, initiator_keyed, with_opened, opening_done, responder_keyed, Reply, Silence, InStartup, InSession, replied, read_left, read_reply, read_done, effect, discarded_or, chunk_did, item_done, Item, OfAttempt, first_due}
 use Rattle.endpoint_laws.proofs.Replies.{left_same}
 use Rattle.endpoint_laws.specs.Complete.{outs_in, outs_of}
 

@@ -21,7 +21,7 @@ use Rattle.endpoint_laws.specs.Past.{Stamped, stamped, onto}
 use Rattle.endpoint_laws.specs.Lawful.{FactLine, EndedLine, BornFollows}
 use Rattle.endpoint_model.specs.State.{State, Did, nothing, then_do}
 use Rattle.endpoint_model.specs.Sending.{last_count, sent_startup, sent_answer, sent_if, sent_each, sent_spread, sent_by, sent_in_session}
-use Rattle.endpoint_model.specs.Due.{discarded}
+use Rattle.endpoint_model.specs.Effects.{discarded}
 use Rattle.endpoint_laws.proofs.Lines.{FactPart, FactMeets, EntriesMeet}
 use Rattle.endpoint_laws.proofs.Tied.{sealed_once, Tied}
 use Rattle.endpoint_laws.proofs.Agrees.{IsOurs, combined}

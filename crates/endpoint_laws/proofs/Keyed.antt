@@ -45,7 +45,7 @@ use Rattle.endpoint_laws.specs.Admissible.{Admissible}
 use Rattle.endpoint_laws.specs.Lawful.{EndedLine}
 use Rattle.endpoint_model.specs.State.{State, new_row, Did, is_used, then_do, with_startup, free_from, full}
 use Rattle.endpoint_model.specs.Sending.{sent_answer}
-use Rattle.endpoint_model.specs.Due.{keying_done, initiator_keyed}
+use Rattle.endpoint_model.specs.Effects.{keying_done, initiator_keyed}
 use Rattle.endpoint_laws.proofs.Tied.{Tied}
 use Rattle.endpoint_laws.proofs.Agrees.{Agrees, IsGiven, agrees_of, tied_of, used_elsewhere}
 use Rattle.endpoint_laws.proofs.Moving.{held_after_own, rows_after_known, knows_held}

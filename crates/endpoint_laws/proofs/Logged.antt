@@ -8,7 +8,7 @@ use Rattle.endpoint_model.specs.declared.entry.Entry.{Entry}
 use Rattle.endpoint_model.specs.Event.{Setup, own_of, Call, Open, Cancel, Receive, Tick, Answer, Began, Done, NotOpened, Refused, Stopped, OutOfMemory, Event}
 use Rattle.endpoint_model.specs.State.{State, Did, Does, nothing, fresh, at_moment}
 use Rattle.endpoint_model.specs.Admission.{admission}
-use Rattle.endpoint_model.specs.Due.{opening, cancelling, ticks, received}
+use Rattle.endpoint_model.specs.Effects.{opening, cancelling, ticks, received}
 use Rattle.endpoint_model.specs.Log.{Answers, Leads, StandsFor, stopped}
 use Rattle.endpoint_laws.specs.Past.{Stamped, onto, facts_of, past_of, last_moment, begun}
 use Rattle.endpoint_laws.specs.Complete.{outs_in, outs_of}

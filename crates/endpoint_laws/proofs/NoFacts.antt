@@ -13,7 +13,7 @@ use Rattle.endpoint_model.specs.Views.{fact_in}
 use Rattle.endpoint_model.specs.State.{State, Did, nothing}
 use Rattle.endpoint_model.specs.Sending.{last_count, sent_startup, sent_answer, sent_if, sent_each, sent_by, sent_in_session}
 use Rattle.endpoint_model.specs.Admission.{sid_at}
-use Rattle.endpoint_model.specs.Due.{Reply, Silence, InStartup, InSession, replied, read_left, read_reply, read_done}
+use Rattle.endpoint_model.specs.Effects.{Reply, Silence, InStartup, InSession, replied, read_left, read_reply, read_done}
 use Rattle.endpoint_laws.specs.Past.{Stamped, stamped, onto, fact_and, facts_of}
 
 -- there is no fact, and this

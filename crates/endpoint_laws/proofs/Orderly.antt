@@ -12,7 +12,7 @@ use Rattle.endpoint_model.specs.Event.{Setup, Call, Receive}
 use Rattle.endpoint_model.specs.Keying.{IsAmong, IsFirst, chunks_of}
 use Rattle.endpoint_model.specs.State.{State, Did, nothing, then_do}
 use Rattle.endpoint_model.specs.Admission.{Admission, Rejected, Admitted, confirming}
-use Rattle.endpoint_model.specs.Due.{tick_once, ticks, discarded, chunk_did, walked, chunks_did, received, part_received, outset}
+use Rattle.endpoint_model.specs.Effects.{tick_once, ticks, discarded, chunk_did, walked, chunks_did, received, part_received, outset}
 use Rattle.endpoint_model.specs.Log.{stopped}
 use Rattle.endpoint_model.proofs.Members.{tested}
 use Rattle.endpoint_laws.specs.Past.{Stamped, onto}

@@ -47,7 +47,7 @@ use Rattle.endpoint_model.specs.Event.{Setup, own_of, Call}
 use Rattle.endpoint_laws.specs.Past.{Stamped, stamped, onto, facts_of}
 use Rattle.endpoint_model.specs.State.{State, new_row, with_row, Sessions, fact_entries, with_startup, free_among, free_from, next_id, is_free, full}
 use Rattle.endpoint_model.specs.Sending.{sent_answer, sent_by, sent_in_session}
-use Rattle.endpoint_model.specs.Due.{without_ended, with_born, keying_done, initiator_keyed, opening_done, responder_keyed}
+use Rattle.endpoint_model.specs.Effects.{without_ended, with_born, keying_done, initiator_keyed, opening_done, responder_keyed}
 use Rattle.endpoint_model.specs.Causes.{initiator_keying_cause}
 use Rattle.endpoint_laws.specs.Lawful.{IsBornHere}
 use Rattle.endpoint_laws.proofs.Lines.{EntriesMeet, OutPart}

@@ -14,7 +14,7 @@ use Rattle.endpoint_model.specs.Event.{Setup, Call}
 use Rattle.endpoint_laws.specs.Past.{Stamped}
 use Rattle.endpoint_model.specs.State.{State}
 use Rattle.endpoint_model.specs.Admission.{sid_at}
-use Rattle.endpoint_model.specs.Due.{initiator_keyed, responder_keyed, read_done, effect, discarded_or, chunk_did}
+use Rattle.endpoint_model.specs.Effects.{initiator_keyed, responder_keyed, read_done, effect, discarded_or, chunk_did}
 use Rattle.endpoint_model.specs.Causes.{read_cause, initiator_keying_cause, responder_keying_cause, last_cause, chunk_cause}
 use Rattle.endpoint_laws.proofs.Tied.{Tied}
 use Rattle.endpoint_laws.proofs.OutSends.{Sent, Meets}

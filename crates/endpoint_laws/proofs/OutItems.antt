@@ -34,7 +34,7 @@ use Rattle.endpoint_laws.specs.Past.{Stamped, stamped, onto, facts_of}
 use Rattle.endpoint_model.specs.State.{State, Did, nothing, fact_entries, with_startup, with_row, with_session, with_sealed, free_from}
 use Rattle.endpoint_model.specs.Sending.{last_count, sent_startup, sent_answer, sent_each}
 use Rattle.endpoint_model.specs.Admission.{confirming, confirming_by}
-use Rattle.endpoint_model.specs.Due.{opening, cancelling, due_done, tick_once, discarded, item_done, attempt_item}
+use Rattle.endpoint_model.specs.Effects.{opening, cancelling, due_done, tick_once, discarded, item_done, attempt_item}
 use Rattle.endpoint_laws.proofs.Lines.{EntriesMeet, OutPart}
 use Rattle.endpoint_laws.proofs.Tied.{Tied}
 use Rattle.endpoint_laws.proofs.OutNumbers.{numbered_fact, numbered_discard, numbered_changed}

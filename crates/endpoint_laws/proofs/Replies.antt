@@ -28,7 +28,7 @@ use Rattle.endpoint_model.specs.State.{State, Did, with_startup}
 use Rattle.endpoint_model.specs.Sending.{sent_by}
 use Rattle.endpoint_model.specs.Admission.{sid_at}
 use Rattle.endpoint_model.specs.Causes.{read_cause}
-use Rattle.endpoint_model.specs.Due.{Reply, Silence, InStartup, InSession, replied, read_left, read_reply, read_done}
+use Rattle.endpoint_model.specs.Effects.{Reply, Silence, InStartup, InSession, replied, read_left, read_reply, read_done}
 use Rattle.endpoint_laws.specs.Past.{Stamped, facts_of}
 use Rattle.endpoint_laws.proofs.Tied.{Tied}
 use Rattle.endpoint_laws.proofs.Facts.{test_fails}

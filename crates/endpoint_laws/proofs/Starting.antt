@@ -25,7 +25,7 @@ use Rattle.endpoint_laws.specs.Past.{Stamped, stamped, facts_of, ids_in_use}
 use Rattle.endpoint_laws.specs.Lawful.{IsFree}
 use Rattle.endpoint_model.specs.State.{State, Did, uses, is_used, is_free, free_from, full, with_startup}
 use Rattle.endpoint_model.specs.Sending.{sent_spread}
-use Rattle.endpoint_model.specs.Due.{candidates_refusal, start_refused, full_refused, open_refusal, opening}
+use Rattle.endpoint_model.specs.Effects.{candidates_refusal, start_refused, full_refused, open_refusal, opening}
 use Rattle.endpoint_model.proofs.Ids.{free_from_is_free}
 use Rattle.endpoint_laws.proofs.Matching.{of_peer, ids_more}
 use Rattle.endpoint_laws.proofs.Tied.{Tied}

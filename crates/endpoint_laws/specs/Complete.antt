@@ -31,7 +31,7 @@ use Rattle.endpoint_laws.specs.Lawful.{AnswersAttempt}
 use Rattle.endpoint_model.specs.State.{State, at_moment}
 use Rattle.endpoint_model.specs.Admission.{Admitted, admission}
 use Rattle.endpoint_model.specs.Causes.{chunk_cause}
-use Rattle.endpoint_model.specs.Due.{chunks_did, outset}
+use Rattle.endpoint_model.specs.Effects.{chunks_did, outset}
 use Rattle.endpoint_model.specs.Log.{StandsFor, Step}
 use Rattle.endpoint_laws.specs.Laws.{IsSetup, IsCall, AreCalls}
 

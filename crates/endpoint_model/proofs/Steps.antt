@@ -10,7 +10,7 @@ use Rattle.endpoint_model.specs.declared.config.Draws.{Draws}
 use Rattle.endpoint_model.specs.declared.place.Place.{Place}
 use Rattle.endpoint_model.specs.declared.walk.Walk.{Walk}
 use Rattle.endpoint_model.specs.Added.{Added}
-use Rattle.endpoint_model.specs.Due.{chunk_did, chunks_did, outset, walked}
+use Rattle.endpoint_model.specs.Effects.{chunk_did, chunks_did, outset, walked}
 use Rattle.endpoint_model.specs.State.{State, Did, Done, nothing, after_entries, then_do, with_sealed}
 use Rattle.endpoint_model.specs.Sending.{last_count, sent_each, sent_startup, startup_datagram}
 

@@ -6,5 +6,5 @@ pub mod State
 pub mod Sending
 pub mod Admission
 pub mod Causes
-pub mod Due
+pub mod Effects
 pub mod Log

@@ -15,7 +15,7 @@ use Rattle.endpoint_model.specs.Added.{Added}
 use Rattle.endpoint_model.specs.State.{State, Did, Does, nothing, fresh, at_moment, Done as DoneIn}
 use Rattle.endpoint_model.specs.Admission.{Admission, Rejected, Admitted, admission, confirms}
 use Rattle.endpoint_model.specs.Keying.{chunks_of}
-use Rattle.endpoint_model.specs.Due.{open_refusal, opening, cancelling, ticks, received, part_received, AddsDiscards, discards, first_due}
+use Rattle.endpoint_model.specs.Effects.{open_refusal, opening, cancelling, ticks, received, part_received, AddsDiscards, discards, first_due}
 
 -- ---- what a call may answer, add and leave, from a state in which its moment is noted
 

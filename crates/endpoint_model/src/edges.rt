@@ -6,7 +6,7 @@ ghost use Rattle.std.specs.Prelude.{◌≡◌, ◌∷◌, ◌++◌, ◌-◌, ◌
 ghost use Rattle.rtmfp_forms.specs.Address.{AddressParts};
 ghost use Rattle.session_core.specs.Session.{SessionState};
 ghost use Rattle.endpoint_model.specs.declared.answers.OpenRefusal.TheVariants.{Candidates};
-ghost use Rattle.endpoint_model.specs.Due.{candidates_refusal};
+ghost use Rattle.endpoint_model.specs.Effects.{candidates_refusal};
 ghost use Rattle.endpoint_model.specs.Sending.{sent_by, sent_startup, startup_number};
 ghost use Rattle.endpoint_model.specs.State.{State, is_free, next_id, nothing, with_sealed};
 

@@ -14,7 +14,7 @@ use Rattle.endpoint_model.specs.Added.{Added}
 use Rattle.endpoint_model.specs.Event.{Call, Open, Cancel, Receive, Tick, Answer, Began, Event}
 use Rattle.endpoint_model.specs.State.{State, Done, nothing, at_moment}
 use Rattle.endpoint_model.specs.Admission.{admission}
-use Rattle.endpoint_model.specs.Due.{open_refusal, opening, cancelling, ticks, received, first_due}
+use Rattle.endpoint_model.specs.Effects.{open_refusal, opening, cancelling, ticks, received, first_due}
 use Rattle.endpoint_model.specs.Log.{Step as StepOf, Answers, IsStop, stopped, answer_of_open, answer_of_cancel, answer_of_receive, answer_of_tick, event}
 use Rattle.endpoint.proofs.Extending.{open_steps, cancel_steps, tick_steps, receive_steps}
 use Rattle.rendezvous_world.specs.declared.journal.Refused.{Refused}

@@ -16,7 +16,7 @@ use Rattle.endpoint_model.specs.declared.answers.Stopped.{Stopped as Stop}
 use Rattle.endpoint_model.specs.Event.{Call, Open as OpenCall, Cancel as CancelCall, Receive, Tick as TickCall, Answer, Began, Done, NotOpened, Refused as RefusedCall, Stopped, OutOfMemory, Event}
 use Rattle.endpoint_model.specs.State.{State, Did, Does, after_entries, at_moment, nothing, then_do, with_startup}
 use Rattle.endpoint_model.specs.Admission.{admission}
-use Rattle.endpoint_model.specs.Due.{cancelling, opening, received, tick_once, ticks, first_due, item_done}
+use Rattle.endpoint_model.specs.Effects.{cancelling, opening, received, tick_once, ticks, first_due, item_done}
 use Rattle.endpoint_model.specs.Log.{Answers, Step as StepOf, not_opened}
 use Rattle.rendezvous_world.specs.declared.journal.JournalLine.{JournalLine}
 use Rattle.rendezvous_world.specs.declared.journal.Refused.{Refused}

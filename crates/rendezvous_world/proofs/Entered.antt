@@ -7,7 +7,7 @@ use Rattle.endpoint_model.specs.Event.{Call}
 use Rattle.endpoint_model.specs.Added.{Added}
 use Rattle.endpoint_model.specs.declared.answers.Stopped.{Stopped as Stop}
 use Rattle.endpoint_model.specs.State.{State, at_moment}
-use Rattle.endpoint_model.specs.Due.{open_refusal}
+use Rattle.endpoint_model.specs.Effects.{open_refusal}
 use Rattle.endpoint_model.specs.Log.{Answers, Step as StepOf}
 use Rattle.rtmfp_text.specs.declared.names.Named.{Named}
 use Rattle.rendezvous_world.specs.declared.end.End.{End as EndKept}

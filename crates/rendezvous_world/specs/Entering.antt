@@ -6,7 +6,7 @@ use Rattle.endpoint_model.specs.declared.entry.Entry.{Entry}
 use Rattle.endpoint_model.specs.declared.answers.Stopped.{Stopped as Stop}
 use Rattle.endpoint_laws.specs.Laws.{AreBytes}
 use Rattle.endpoint_model.specs.State.{State, at_moment}
-use Rattle.endpoint_model.specs.Due.{open_refusal}
+use Rattle.endpoint_model.specs.Effects.{open_refusal}
 use Rattle.endpoint_model.specs.Event.{Call, Open as OpenCall, Cancel as CancelCall, Receive, Tick as TickCall, Event}
 use Rattle.rendezvous_world.specs.declared.bringing.Fetched.{Fetched}
 use Rattle.rendezvous_world.specs.declared.journal.JournalLine.{JournalLine}

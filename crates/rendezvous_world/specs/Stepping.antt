@@ -3,7 +3,7 @@ use Rattle.std.specs.Prelude.{ℕ, ◌≡◌, ◌≢◌, ◌-◌, ◌==◌, true
 use Rattle.sha2.specs.Sha256.{sha256}
 use Rattle.endpoint_model.specs.Event.{Setup}
 use Rattle.endpoint_model.specs.State.{State, fresh, at_moment}
-use Rattle.endpoint_model.specs.Due.{open_refusal}
+use Rattle.endpoint_model.specs.Effects.{open_refusal}
 use Rattle.endpoint_model.specs.Log.{Step as StepOf, not_taken}
 use Rattle.rendezvous_world.specs.declared.journal.JournalLine.{JournalLine}
 use Rattle.rendezvous_world.specs.declared.journal.Refused.{Refused}

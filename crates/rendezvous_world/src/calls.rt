@@ -1,7 +1,7 @@
 //! The calls of ends that steps make.
 
 ghost use Rattle.std.specs.Prelude.{◌≡◌, ◌≢◌, ◌<◌, ◌≤◌, ◌^◌, [], false, length, IfSome, None, true};
-ghost use Rattle.endpoint_model.specs.Due.{open_refusal};
+ghost use Rattle.endpoint_model.specs.Effects.{open_refusal};
 ghost use Rattle.endpoint_model.specs.Event.{Cancel as CancelCall, Open as OpenCall, Receive, Tick as TickCall};
 ghost use Rattle.endpoint_model.specs.Log.{Step as StepOf, not_taken};
 ghost use Rattle.endpoint_model.specs.State.{at_moment};

@@ -6,7 +6,7 @@ use Rattle.startup.specs.Keyings.{keyed, after_keying}
 use Rattle.endpoint_model.specs.declared.row.Row.{Row}
 use Rattle.endpoint_model.specs.declared.entry.Entry.{Entry}
 use Rattle.endpoint_model.specs.declared.entry.Entry.TheVariants.{Fact as FactEntry}
-use Rattle.endpoint_model.specs.Due.{initiator_keyed, with_born}
+use Rattle.endpoint_model.specs.Effects.{initiator_keyed, with_born}
 use Rattle.endpoint.specs.Stored.{IsEndpoint, state_of, table_of}
 use Rattle.endpoint_model.specs.Sending.{sent_answer}
 use Rattle.endpoint_model.specs.State.{State, Done, fact_entries, free_from}

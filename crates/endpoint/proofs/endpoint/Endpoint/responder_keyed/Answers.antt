@@ -3,7 +3,7 @@ use Rattle.rtmfp_chunks.specs.Chunk.{Ping}
 use Rattle.rtmfp_chunks.specs.Writing.{chunk_bytes}
 use Rattle.startup.specs.Keyings.{opened, after_opening}
 use Rattle.endpoint_model.specs.declared.entry.Entry.TheVariants.{Fact as FactEntry}
-use Rattle.endpoint_model.specs.Due.{responder_keyed, with_opened}
+use Rattle.endpoint_model.specs.Effects.{responder_keyed, with_opened}
 use Rattle.endpoint.specs.Stored.{IsEndpoint, state_of}
 use Rattle.endpoint_model.specs.Sending.{sent_in_session}
 use Rattle.endpoint_model.specs.State.{State, Done, with_startup}

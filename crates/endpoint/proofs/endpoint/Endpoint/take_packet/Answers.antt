@@ -3,7 +3,7 @@ use Rattle.rtmfp_packet.specs.Walk.{Placed}
 use Rattle.rtmfp_packet.specs.declared.head.PacketHead.{PacketHead}
 use Rattle.endpoint_model.specs.State.{Done}
 use Rattle.endpoint_model.specs.Admission.{confirming, counted_at, timed_at}
-use Rattle.endpoint_model.specs.Due.{AreQuiet, discards_among, outset}
+use Rattle.endpoint_model.specs.Effects.{AreQuiet, discards_among, outset}
 use Rattle.endpoint.proofs.Confirms.{stopped_before, not_refused, refused_chunks}
 use Rattle.endpoint.proofs.endpoint.Endpoint.take_packet.Goals as goal
 

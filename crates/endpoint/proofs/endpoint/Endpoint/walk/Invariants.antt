@@ -1,7 +1,7 @@
 use Rattle.std.proofs.Common.{◌≡◌, ◌+◌, ◌<◌, ◌≤◌, ◌^◌, length}
 use Rattle.std.specs.List.{AllByRecursion}
 use Rattle.rtmfp_packet.specs.Chunks.{left}
-use Rattle.endpoint_model.specs.Due.{AreQuiet, discards_among, outset}
+use Rattle.endpoint_model.specs.Effects.{AreQuiet, discards_among, outset}
 use Rattle.endpoint_model.proofs.Steps.{IsGone}
 use Rattle.endpoint.proofs.Refusals.{IsRoomy}
 use Rattle.endpoint.proofs.endpoint.Endpoint.walk.Given as goal
