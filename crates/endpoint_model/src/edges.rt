@@ -8,7 +8,7 @@ ghost use Rattle.session_core.specs.Session.{SessionState};
 ghost use Rattle.endpoint_model.specs.declared.answers.OpenRefusal.TheVariants.{Candidates};
 ghost use Rattle.endpoint_model.specs.Effects.{candidates_refusal};
 ghost use Rattle.endpoint_model.specs.Sending.{sent_by, sent_startup, startup_number};
-ghost use Rattle.endpoint_model.specs.State.{State, is_free, next_id, nothing, with_sealed};
+ghost use Rattle.endpoint_model.specs.State.{State, is_free, new_row, next_id, nothing, with_sealed};
 
 /// A startup packet's number is the first 8 bytes of the fingerprint and the packet's count, of
 /// which 2^64 - 1 is the last: then nothing goes out any more.
@@ -23,7 +23,7 @@ pub fn startup_packets_are_counted_to_the_end()
         ≡ nothing (with_sealed s (2 ^ 64 - 1)) }
     ensures in_a_session { (s : State) (near : ℕ) (to : AddressParts) (body : List ℕ)
         (session : SessionState) →
-        sent_by s near to body (Some (record session { sealed = 2 ^ 64 - 1 })) ≡ nothing s }
+        sent_by s near to body (Some (new_row (record session { sealed = 2 ^ 64 - 1 }))) ≡ nothing s }
 {}
 
 /// The session ID after 2^32 - 1 is 0, which no session has.

@@ -94,26 +94,66 @@ fn taken(end: &mut Startup, payload: &[u8], last: u8) -> Result<(Answer, &'stati
     }
 }
 
+/// The packets up to the caller's keying, which is given.
+fn calls(
+    alloc: Global,
+    caller: &mut Startup,
+    answerer: &Startup,
+    lines: &mut String,
+) -> Result<Answer, Fail>
+    requires { get caller.old.attempts 6 ≡ None }
+{
+    let hello = called(caller)?;
+    put(alloc, "ihello", hello.bytes(), lines)?;
+    let answer = answered(answerer, &hello)?;
+    put(alloc, "rhello", answer.plain.bytes(), lines)?;
+    let keying = keyed_to(caller, &answer.plain)?;
+    put(alloc, "iikeying", keying.plain.bytes(), lines)?;
+    Ok(keying)
+}
+
+/// The answer to a keying, and whether it bears a session once.
+fn bears(
+    alloc: Global,
+    answerer: &mut Startup,
+    keying: &Outgoing,
+    lines: &mut String,
+) -> Result<(Answer, bool), Fail> {
+    let (first, born) = taken(answerer, payload_of(keying), 1)?;
+    put(alloc, "rikeying", first.plain.bytes(), lines)?;
+    let (again, same) = taken(answerer, payload_of(keying), 1)?;
+    let alike = again.plain.bytes() == first.plain.bytes();
+    Ok((again, born == "born" && same == "again" && alike))
+}
+
+/// Whether a keying from another place gets another cookie.
+fn changes(
+    alloc: Global,
+    answerer: &mut Startup,
+    keying: &Outgoing,
+    lines: &mut String,
+) -> Result<bool, Fail> {
+    let (change, moved) = taken(answerer, payload_of(keying), 2)?;
+    put(alloc, "cookiechange", change.plain.bytes(), lines)?;
+    Ok(moved == "change")
+}
+
+/// Whether an answer opens the caller's session once.
+fn opens_once(caller: &mut Startup, answer: &Outgoing) -> bool {
+    let opens = caller.responder_keying(6, payload_of(answer)).is_ok();
+    opens && caller.responder_keying(6, payload_of(answer)).is_err()
+}
+
 /// The packets of a handshake, and whether they bear a session once and open it once.
 fn handshake(alloc: Global) -> Result<(String, bool), Fail> {
     let mut lines = String::new(alloc);
     let mut caller = end_of(alloc, CALLER)?;
     let mut answerer = end_of(alloc, ANSWERER)?;
-    let hello = called(&mut caller)?;
-    put(alloc, "ihello", hello.bytes(), &mut lines)?;
-    let answer = answered(&answerer, &hello)?;
-    put(alloc, "rhello", answer.plain.bytes(), &mut lines)?;
-    let keying = keyed_to(&mut caller, &answer.plain)?;
-    put(alloc, "iikeying", keying.plain.bytes(), &mut lines)?;
-    let (first, born) = taken(&mut answerer, payload_of(&keying.plain), 1)?;
-    put(alloc, "rikeying", first.plain.bytes(), &mut lines)?;
-    let (again, same) = taken(&mut answerer, payload_of(&keying.plain), 1)?;
-    let (change, moved) = taken(&mut answerer, payload_of(&keying.plain), 2)?;
-    put(alloc, "cookiechange", change.plain.bytes(), &mut lines)?;
-    let opens = caller.responder_keying(6, payload_of(&again.plain)).is_ok();
-    let twice = caller.responder_keying(6, payload_of(&first.plain)).is_ok();
-    let once = born == "born" && same == "again" && moved == "change" && opens && !twice;
-    Ok((lines, once && again.plain.bytes() == first.plain.bytes()))
+    let keying = calls(alloc, &mut caller, &answerer, &mut lines)?;
+    let (answer, born) = bears(alloc, &mut answerer, &keying.plain, &mut lines)?;
+    let moved = changes(alloc, &mut answerer, &keying.plain, &mut lines)?;
+    let once = born && moved && opens_once(&mut caller, &answer.plain);
+    Ok((lines, once))
 }
 
 /// Whether longer spellings are taken, and what has no form stands where it does among them.
