@@ -60,7 +60,7 @@ pub fn open_refusal(keys: &Keys, sid: u32, part: &[u8]) -> Option<SealFault>
 /// Opens a sealed part in place, under the keys and the session ID: its plain packet then stands at
 /// the offsets that are given, from byte 32 to the end. `buf` stays as it was on both faults.
 pub fn open_in_place(keys: &Keys, sid: u32, buf: &mut [u8]) -> Result<Range<usize>, SealFault>
-    ensures place { IfOk result (λ place. (place.start ≡ 32) × (place.end ≡ length buf.old)) }
+    ensures range { IfOk result (λ range. (range.start ≡ 32) × (range.end ≡ length buf.old)) }
     ensures plain { IfOk result (λ _. buf.new ≡ take 32 buf.old ++ plain_of keys.now buf.old) }
     ensures sealed { IfOk result (λ _. buf.old
         ≡ sealed keys.now sid (number_of buf.old) (drop 32 buf.new)) }

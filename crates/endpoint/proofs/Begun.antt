@@ -1,5 +1,5 @@
 -- Keyings that bear and open sessions, and attempts that begin.
-use Rattle.std.proofs.Common.{◌^◌, zero, suc, nat_le, is_some, ◌≡◌, ◌≤◌, ◌<◌, ◌+◌, ◌++◌, ◌==◌, ◌&&◌, ◌||◌, not, ℕ, Bool, true, false, if◌then◌else◌, List, [], ◌∷◌, length, Option, Some, None, Result, Ok, Err, refl, sym, ap, ◌∙◌, subst, arith, append_assoc, length-append}
+use Rattle.std.proofs.Common.{◌^◌, zero, suc, nat_le, is_some, ◌≡◌, ◌≤◌, ◌<◌, ◌+◌, ◌++◌, ◌==◌, ◌&&◌, ◌||◌, not, ℕ, Bool, true, false, if◌then◌else◌, List, [], ◌∷◌, length, Option, Some, None, refl, sym, ap, ◌∙◌, subst, arith, append_assoc, length-append}
 use Rattle.std.specs.FinMap.{len, get, contains_key}
 use Rattle.std.specs.List.{fold, list_any}
 use Rattle.std.proofs.lemmas.Bool.Decides.{nat_tests}
@@ -13,12 +13,11 @@ use Rattle.crypto_profile.specs.Keys.{Keys}
 use Rattle.rtmfp_forms.specs.Address.{AddressParts, is_same_place}
 use Rattle.rtmfp_chunks.specs.Chunk.{Ping}
 use Rattle.glare_core.specs.declared.facts.Fact.{Fact}
-use Rattle.glare_core.specs.declared.facts.Fact.TheVariants.{Started, Born, Opened, Confirmed, Ended}
 use Rattle.startup.specs.declared.cause.Cause.{Cause}
 use Rattle.startup.specs.declared.cause.Cause.TheVariants.{NoAttempt}
 use Rattle.startup.specs.declared.answer.Keyed.{Keyed}
 use Rattle.startup.specs.State.{AttemptState, StartupState}
-use Rattle.startup.specs.Keyings.{ResponderKeying, responder_keying_in, keyed, after_keying, opened_with, opened_reading, opened, after_opening}
+use Rattle.startup.specs.Keyings.{keyed, after_keying, opened, after_opening}
 use Rattle.endpoint_model.specs.declared.config.Config.{Config}
 use Rattle.endpoint_model.specs.declared.config.Draws.{Draws}
 use Rattle.endpoint_model.specs.declared.entry.Entry.{Entry}
@@ -79,45 +78,24 @@ keyed_so s t from draws payload near k new before after near_is keyed_is t_is do
     subst (λ o. Done (keying_done (left near) from o) new before after) (sym keyed_is) here in
     subst (λ n. Done (keying_done (left n) from (keyed s.startup payload from s.moment n draws.nonce)) new before after) near_is there
 
-born_so : (s : State) (ended : Option Fact) (born : Fact) (from : AddressParts) →
-    with_born s ended born from ≡ with_sessions s (sessions_born s.sessions ended born s.startup.ledger.own from s.startup.secret s.moment)
-born_so s ended (Started peer n near ni) from = refl
-born_so s ended (Born j) from = refl
-born_so s ended (Opened j) from = refl
-born_so s ended (Confirmed peer near) from = refl
-born_so s ended (Ended peer near why) from = refl
-
 pub born_state : (config : Config) (moment sealed : ℕ) (startup : StartupState) (rows new : List Row) (ended : Option Fact) (born : Fact) (from : AddressParts) (print secret : List ℕ) →
     print ≡ startup.ledger.own → secret ≡ startup.secret → table_of new ≡ sessions_born (table_of rows) ended born print from secret moment →
     state_of config moment sealed startup new ≡ with_born (state_of config moment sealed startup rows) ended born from
 born_state config moment sealed startup rows new ended born from print secret print_is secret_is table =
     ap (with_sessions (state_of config moment sealed startup rows))
     (table ∙ ap (λ p. sessions_born (table_of rows) ended born p from secret moment) print_is ∙ ap (λ x. sessions_born (table_of rows) ended born startup.ledger.own from x moment) secret_is)
-    ∙ sym (born_so (state_of config moment sealed startup rows) ended born from)
 
 -- ---- a responder's keying
 
-opened_near : (t : State) (near : ℕ) (from : AddressParts) (fact : Fact) (attempt : Option AttemptState) (reading : Result ResponderKeying Cause) →
-    opened_reading near attempt reading ≡ Some fact →
-    with_opened t near fact from ≡ with_sessions t (sessions_opened t.sessions fact t.startup.ledger.own from t.startup.secret t.moment)
-opened_near t near from fact None reading is = absurd (cc)
-opened_near t near from fact (Some a) (Err cause) is = absurd (cc)
-opened_near t near from fact (Some a) (Ok keying) is =
-    let same : opened_with near keying a ≡ fact = cc in
-    subst (λ f. with_opened t near f from ≡ with_sessions t (sessions_opened t.sessions f t.startup.ledger.own from t.startup.secret t.moment)) same refl
-
-pub opened_state : (config : Config) (moment sealed : ℕ) (startup before : StartupState) (rows new : List Row) (near : ℕ) (fact : Fact) (from : AddressParts) (payload print secret : List ℕ) →
-    opened before near payload ≡ Some fact → print ≡ startup.ledger.own → secret ≡ startup.secret →
-    table_of new ≡ sessions_opened (table_of rows) fact print from secret moment →
-    state_of config moment sealed startup new ≡ with_opened (state_of config moment sealed startup rows) near fact from
-opened_state config moment sealed startup before rows new near fact from payload print secret is print_is secret_is table =
-    let t : State = state_of config moment sealed startup rows in
-    ap (with_sessions t)
+pub opened_state : (config : Config) (moment sealed : ℕ) (startup : StartupState) (rows new : List Row) (fact : Fact) (from : AddressParts) (print secret : List ℕ) →
+    print ≡ startup.ledger.own → secret ≡ startup.secret → table_of new ≡ sessions_opened (table_of rows) fact print from secret moment →
+    state_of config moment sealed startup new ≡ with_opened (state_of config moment sealed startup rows) fact from
+opened_state config moment sealed startup rows new fact from print secret print_is secret_is table =
+    ap (with_sessions (state_of config moment sealed startup rows))
     (table ∙ ap (λ p. sessions_opened (table_of rows) fact p from secret moment) print_is ∙ ap (λ x. sessions_opened (table_of rows) fact startup.ledger.own from x moment) secret_is)
-    ∙ sym (opened_near t near from fact _ (responder_keying_in payload) is)
 
 pub opened_so : (s t : State) (near : ℕ) (from : AddressParts) (payload : List ℕ) (fact : Fact) (new : State) (before after : Added) →
-    opened s.startup near payload ≡ Some fact → t ≡ with_opened (with_startup s (after_opening s.startup near fact)) near fact from →
+    opened s.startup near payload ≡ Some fact → t ≡ with_opened (with_startup s (after_opening s.startup near fact)) fact from →
     Done (after_entries (FactEntry fact ∷ []) (sent_in_session t near from (chunk_bytes (Ping [])))) new before after → Done (responder_keyed s near from payload) new before after
 opened_so s t near from payload fact new before after is t_is done =
     let here : Done (opening_done s near from (Some fact)) new before after =

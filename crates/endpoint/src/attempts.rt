@@ -35,11 +35,12 @@ impl Endpoint {
         ensures ok { OnOk result
             (Done (opening (at_moment self.old moment) epd.now.print candidates.now draws.now)
             self.new out.old out.new) }
-        ensures refused { IfSome (open_refusal (at_moment self.old moment) epd.now.print candidates.now)
-            (λ refusal. result ≡ Err refusal) }
-        ensures memory { IfNone (open_refusal (at_moment self.old moment) epd.now.print candidates.now)
-            (IfErr result (λ refusal. refusal ≡ OpenRefusal.Memory)) }
-        ensures err { OnErr result (Done (nothing (at_moment self.old moment)) self.new out.old out.new) }
+        ensures refused { IfSome (open_refusal (at_moment self.old moment) epd.now.print
+            candidates.now) (λ refusal. result ≡ Err refusal) }
+        ensures memory { IfNone (open_refusal (at_moment self.old moment) epd.now.print
+            candidates.now) (IfErr result (λ refusal. refusal ≡ OpenRefusal.Memory)) }
+        ensures err { OnErr result (Done (nothing (at_moment self.old moment)) self.new out.old
+            out.new) }
 
         // The end stands for its log with this call.
         ensures stands { Extends self.old self.new
@@ -62,11 +63,12 @@ impl Endpoint {
         ensures ok { OnOk result
             (Done (opening (at_moment self.old moment) epd.now.print candidates.now draws.now)
             self.new out.old out.new) }
-        ensures refused { IfSome (open_refusal (at_moment self.old moment) epd.now.print candidates.now)
-            (λ refusal. result ≡ Err refusal) }
-        ensures memory { IfNone (open_refusal (at_moment self.old moment) epd.now.print candidates.now)
-            (IfErr result (λ refusal. refusal ≡ OpenRefusal.Memory)) }
-        ensures err { OnErr result (Done (nothing (at_moment self.old moment)) self.new out.old out.new) }
+        ensures refused { IfSome (open_refusal (at_moment self.old moment) epd.now.print
+            candidates.now) (λ refusal. result ≡ Err refusal) }
+        ensures memory { IfNone (open_refusal (at_moment self.old moment) epd.now.print
+            candidates.now) (IfErr result (λ refusal. refusal ≡ OpenRefusal.Memory)) }
+        ensures err { OnErr result (Done (nothing (at_moment self.old moment)) self.new out.old
+            out.new) }
     {
         self.advance(moment);
         if let Some(refusal) = self.open_refusal(epd, candidates) {
@@ -105,8 +107,8 @@ impl Endpoint {
     ) -> Result<u64, AllocError>
         requires { open_refusal self.old epd.now.print candidates.now ≡ None }
         ensures number { IfOk result (λ n. n ≡ self.old.startup.ledger.started + 1) }
-        ensures ok { OnOk result (Done (opening self.old epd.now.print candidates.now draws.now) self.new
-            out.old out.new) }
+        ensures ok { OnOk result (Done (opening self.old epd.now.print candidates.now draws.now)
+            self.new out.old out.new) }
         ensures err { OnErr result (Done (nothing self.old) self.new out.old out.new) }
     {
         let near = self.free_from(draws.word);
@@ -119,7 +121,7 @@ impl Endpoint {
         {
             Ok((fact, spread)) => {
                 out.add(Entry::Fact(fact));
-                self.send_each(blanks, spread.places(), &spread.plain, out);
+                self.send_each(blanks, spread.addresses(), &spread.plain, out);
                 Ok(n)
             }
             Err(_) => Err(AllocError),

@@ -35,8 +35,8 @@ impl Endpoint {
         out: &mut Outbox,
     ) -> Result<(), AllocError>
         requires { IsSo self.old place from.now verdict.now }
-        ensures ok { OnOk result (Done (verdict_did self.old place from.now draws.now verdict.now) self.new
-            out.old out.new) }
+        ensures ok { OnOk result (Done (verdict_did self.old place from.now draws.now verdict.now)
+            self.new out.old out.new) }
         ensures err { OnErr result (Done (nothing self.old) self.new out.old out.new) }
         ensures quiet { verdict.now ≡ Verdict.Quiet → IsOk result }
     {

@@ -39,13 +39,15 @@ impl Model for Endpoint {
 
     ghost Value = { State };
 
-    ghost coded = { state_code config_type.the_row.coded startup_type.the_row.coded row_type.the_row.coded };
+    ghost coded = { state_code config_type.the_row.coded startup_type.the_row.coded
+        row_type.the_row.coded };
 
     ghost use Rattle.endpoint.specs.Stored.{state_of, IsEndpoint};
 
     ghost view = { λ e. state_of e.config e.moment e.sealed e.startup e.sessions.items };
 
-    ghost invariant = { λ e. IsEndpoint e.config e.secret e.print e.keys e.startup e.sessions.items };
+    ghost invariant = { λ e. IsEndpoint e.config e.secret e.print e.keys e.startup
+        e.sessions.items };
 }
 
 impl Endpoint {

@@ -122,10 +122,10 @@ fn view_fault(len: usize, view: &ChunkView<'_>) -> Option<Cause>
 fn read_formed(kind: u8, payload: &[u8]) -> Result<ChunkView<'_>, Cause>
     ensures reads { IfOk result (λ view. chunk_reading kind payload.now ≡ Ok (chunk_of view)) }
     ensures kind { IfOk result (λ view. kind_of (chunk_of view) ≡ kind) }
-    ensures none { IfOk result (λ _. read_fault (length payload.now) (chunk_reading kind payload.now)
-        ≡ None) }
-    ensures refused { IfErr result (λ cause. read_fault (length payload.now) (chunk_reading kind payload.now)
-        ≡ Some cause) }
+    ensures none { IfOk result (λ _. read_fault (length payload.now) (chunk_reading kind
+        payload.now) ≡ None) }
+    ensures refused { IfErr result (λ cause. read_fault (length payload.now) (chunk_reading kind
+        payload.now) ≡ Some cause) }
 {
     match read_chunk(kind, payload) {
         Ok(view) => match view_fault(payload.len(), &view) {
@@ -158,9 +158,10 @@ impl Endpoint {
     ) -> Result<Verdict<'a>, Cause>
         ensures ok { IfOk result (Stands self.now place from.now
             (λ _. read_done self.now place from.now (Ok (chunk_of view.entry)))) }
-        ensures none { IfOk result (λ _. read_cause self.now place (Ok (chunk_of view.entry)) ≡ None) }
-        ensures refused { IfErr result (λ cause. read_cause self.now place (Ok (chunk_of view.entry))
-            ≡ Some cause) }
+        ensures none { IfOk result (λ _. read_cause self.now place (Ok (chunk_of view.entry)) ≡
+            None) }
+        ensures refused { IfErr result (λ cause. read_cause self.now place (Ok (chunk_of
+            view.entry)) ≡ Some cause) }
         ensures quiet { kind_of (chunk_of view.entry) ≡ 0x41 →
             IfOk result (λ verdict. verdict ≡ Verdict.Quiet) }
     {
@@ -211,8 +212,8 @@ impl Endpoint {
             (λ draws. initiator_keyed self.now from.now draws payload.now)) }
         ensures none { IfOk result (λ _. known_cause place 0x38 (keying_fault 0x38 payload.now)
             (initiator_keying_cause self.now walk from.now payload.now) ≡ None) }
-        ensures refused { IfErr result (λ cause. known_cause place 0x38 (keying_fault 0x38 payload.now)
-            (initiator_keying_cause self.now walk from.now payload.now) ≡ Some cause) }
+        ensures refused { IfErr result (λ cause. known_cause place 0x38 (keying_fault 0x38
+            payload.now) (initiator_keying_cause self.now walk from.now payload.now) ≡ Some cause) }
     {
         let fields = match read_initiator_keying(payload) {
             Ok(fields) => fields,
@@ -240,7 +241,8 @@ impl Endpoint {
             (λ _. responder_keyed self.now (sid_at place) from payload.now) verdict) }
         ensures none { IfOk result (λ _. known_cause place 0x78 (keying_fault 0x78 payload.now)
             (responder_keying_cause self.now (sid_at place) payload.now) ≡ None) }
-        ensures refused { IfErr result (λ cause. known_cause place 0x78 (keying_fault 0x78 payload.now)
+        ensures refused { IfErr result (λ cause. known_cause place 0x78 (keying_fault 0x78
+            payload.now)
             (responder_keying_cause self.now (sid_at place) payload.now) ≡ Some cause) }
     {
         let fields = match read_responder_keying(payload) {

@@ -37,8 +37,8 @@ impl Endpoint {
         requires reads { initiator_keying_in fields.now.payload.now ≡ Ok (initiator_of fields.now) }
         requires judged { judged_initiator self.old.startup fields.now.payload.now from.now
             self.old.moment (full self.old) (initiator_of fields.now) ≡ Ok hearing.now }
-        ensures ok { OnOk result (Done (initiator_keyed self.old from.now draws.now fields.now.payload.now)
-            self.new out.old out.new) }
+        ensures ok { OnOk result (Done (initiator_keyed self.old from.now draws.now
+            fields.now.payload.now) self.new out.old out.new) }
         ensures err { OnErr result (Done (nothing self.old) self.new out.old out.new) }
     {
         let near = self.free_from(draws.word);
@@ -94,8 +94,8 @@ impl Endpoint {
     ) -> Result<(), AllocError>
         requires reads { responder_keying_in fields.now.payload.now ≡ Ok (responder_of fields.now) }
         requires peer { peer_of_attempt (get self.old.startup.attempts near) ≡ Some peer.now }
-        ensures ok { OnOk result (Done (responder_keyed self.old near from.now fields.now.payload.now)
-            self.new out.old out.new) }
+        ensures ok { OnOk result (Done (responder_keyed self.old near from.now
+            fields.now.payload.now) self.new out.old out.new) }
         ensures err { OnErr result (Done (nothing self.old) self.new out.old out.new) }
     {
         let blank = blank(self.alloc)?;

@@ -52,8 +52,8 @@ impl Endpoint {
         ensures ok { OnOk result
             (Done (received from draws.now (admission (at_moment self.old moment) datagram.old))
             self.new out.old out.new) }
-        ensures stop { IfErr result (λ stop. IsStop (admission (at_moment self.old moment) datagram.old)
-            stop) }
+        ensures stop { IfErr result (λ stop. IsStop (admission (at_moment self.old moment)
+            datagram.old) stop) }
         ensures stopped { IfErr result
             (λ stop. Done (stopped (at_moment self.old moment) from draws.now
             (admission (at_moment self.old moment) datagram.old) stop) self.new out.old out.new) }
@@ -160,8 +160,8 @@ impl Endpoint {
         out: &mut Outbox,
     ) -> Result<(), Stopped>
         requires { 32 ≤ length part.now }
-        ensures ok { OnOk result (Done (discarded (counted_at self.old place part.now) 0 cause) self.new
-            out.old out.new) }
+        ensures ok { OnOk result (Done (discarded (counted_at self.old place part.now) 0 cause)
+            self.new out.old out.new) }
         ensures stop { IfErr result (λ stop. (stop ≡ not_taken) ×
             Done (nothing self.old) self.new out.old out.new) }
         ensures enough { 0 < out.old.free → IsOk result }
@@ -286,7 +286,8 @@ impl Endpoint {
         ensures ok { OnOk result
             (Done (received from.now draws.now (taken_packet self.old place part.now packet.now))
             self.new out.old out.new) }
-        ensures stop { IfErr result (λ stop. IsStop (taken_packet self.old place part.now packet.now) stop) }
+        ensures stop { IfErr result (λ stop. IsStop (taken_packet self.old place part.now
+            packet.now) stop) }
         ensures stopped { IfErr result
             (λ stop. Done (stopped self.old from.now draws.now
             (taken_packet self.old place part.now packet.now) stop) self.new out.old out.new) }

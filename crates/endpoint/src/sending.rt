@@ -77,16 +77,16 @@ impl Endpoint {
     pub(crate) fn send_each(
         &mut self,
         mut blanks: Vec<Vec<u8>>,
-        places: &[Address],
+        addresses: &[Address],
         plain: &Outgoing,
         out: &mut Outbox,
     )
         requires blanks { All (λ bytes. length bytes.items ≡ 1200) blanks.items }
-        requires enough { length places.now ≤ length blanks.items }
-        requires room { length places.now ≤ out.old.free }
-        ensures { Done (sent_each self.old plain.now places.now) self.new out.old out.new }
+        requires enough { length addresses.now ≤ length blanks.items }
+        requires room { length addresses.now ≤ out.old.free }
+        ensures { Done (sent_each self.old plain.now addresses.now) self.new out.old out.new }
     {
-        for to in places {
+        for to in addresses {
             let Some(blank) = blanks.pop() else {
                 return;
             };
@@ -119,7 +119,8 @@ pub(crate) fn session_datagram(
     requires spent { is_spent session.old ≡ false }
     requires writable { IsWritable (chunk_of chunk.now) }
     requires fits { length (chunk_bytes (chunk_of chunk.now)) ≤ 1159 }
-    ensures datagram { result ≡ session_datagram session.old moment (chunk_bytes (chunk_of chunk.now)) }
+    ensures datagram { result ≡ session_datagram session.old moment (chunk_bytes (chunk_of
+        chunk.now)) }
     ensures short { length result ≤ 1200 }
     ensures session { session.new ≡ after_seal session.old }
 {

@@ -62,7 +62,7 @@ impl Endpoint {
         match self.startup.due(self.moment) {
             Some(Due::Ended(fact)) => out.add(Entry::Fact(fact)),
             Some(Due::Hello(spread)) => {
-                self.send_each(blanks, spread.places(), &spread.plain, out);
+                self.send_each(blanks, spread.addresses(), &spread.plain, out);
             }
             Some(Due::Keying(answer)) => {
                 if let Some(blank) = blanks.pop() {

@@ -428,7 +428,7 @@ module _ (s : State) (near : ℕ) (from : AddressParts) (draws : Draws) (c : Pla
   opened_as = ap (λ o. opened_reading near o (responder_keying_in c.payload)) opens.there ∙ ap (opened_reading near (Some opens.a)) opens.reads
 
   abbrev after_it : State
-  after_it = with_opened (with_startup s (after_opening s.startup near (Opened session))) near (Opened session) from
+  after_it = with_opened (with_startup s (after_opening s.startup near (Opened session))) (Opened session) from
 
   entries_are : (responder_keyed s near from c.payload).entries ≡ FactEntry (Opened session) ∷ (sent_by after_it near from (chunk_bytes (Ping [])) (Some kept)).entries
   entries_are =

@@ -7,7 +7,6 @@ use Rattle.rtmfp_chunks.specs.declared.reading.ChunkFault.{ChunkFault}
 use Rattle.rtmfp_chunks.specs.Chunk.{Chunk, Ping}
 use Rattle.rtmfp_chunks.specs.FieldReading.{chunk_reading}
 use Rattle.glare_core.specs.declared.facts.Fact.{Fact}
-use Rattle.glare_core.specs.declared.facts.Fact.TheVariants.{Started, Born, Opened, Confirmed, Ended}
 use Rattle.startup.specs.declared.cause.Cause.{Cause}
 use Rattle.startup.specs.declared.answer.Answer.{Answer}
 use Rattle.startup.specs.declared.answer.Keyed.{Keyed}
@@ -99,11 +98,7 @@ few_session s near to body = few_by s near to body (get s.sessions near)
 -- ---- chunks
 
 born_sealed : (s : State) (ended : Option Fact) (born : Fact) (from : AddressParts) → (with_born s ended born from).sealed ≡ s.sealed
-born_sealed s ended (Started peer n near ni) from = refl
-born_sealed s ended (Born j) from = refl
-born_sealed s ended (Opened j) from = refl
-born_sealed s ended (Confirmed peer near) from = refl
-born_sealed s ended (Ended peer near why) from = refl
+born_sealed s ended born from = refl
 
 few_keying : (s : State) (from : AddressParts) (o : Option Keyed) → Few s (keying_done s from o)
 few_keying s from None = few_nothing s
@@ -113,17 +108,13 @@ few_keying s from (Some (Birth ended born answer)) =
     let t : State = with_born s ended born from in
     few_after s t (fact_entries ended ++ FactEntry born ∷ []) (sent_answer t answer) (born_sealed s ended born from) (few_startup t answer.to answer.sid answer.plain)
 
-opened_sealed : (s : State) (near : ℕ) (fact : Fact) (from : AddressParts) → (with_opened s near fact from).sealed ≡ s.sealed
-opened_sealed s near (Started peer n n2 ni) from = refl
-opened_sealed s near (Born j) from = refl
-opened_sealed s near (Opened j) from = refl
-opened_sealed s near (Confirmed peer n2) from = refl
-opened_sealed s near (Ended peer n2 why) from = refl
+opened_sealed : (s : State) (fact : Fact) (from : AddressParts) → (with_opened s fact from).sealed ≡ s.sealed
+opened_sealed s fact from = refl
 
-few_opened : (s t : State) (near : ℕ) (from : AddressParts) (fact : Fact) → t.sealed ≡ s.sealed → Few s (after_entries (FactEntry fact ∷ []) (sent_in_session (with_opened t near fact from) near from (chunk_bytes (Ping []))))
+few_opened : (s t : State) (near : ℕ) (from : AddressParts) (fact : Fact) → t.sealed ≡ s.sealed → Few s (after_entries (FactEntry fact ∷ []) (sent_in_session (with_opened t fact from) near from (chunk_bytes (Ping []))))
 few_opened s t near from fact e =
-    few_after s (with_opened t near fact from) (FactEntry fact ∷ []) (sent_in_session (with_opened t near fact from) near from (chunk_bytes (Ping [])))
-    (opened_sealed t near fact from ∙ e) (few_session (with_opened t near fact from) near from (chunk_bytes (Ping [])))
+    few_after s (with_opened t fact from) (FactEntry fact ∷ []) (sent_in_session (with_opened t fact from) near from (chunk_bytes (Ping [])))
+    (opened_sealed t fact from ∙ e) (few_session (with_opened t fact from) near from (chunk_bytes (Ping [])))
 
 few_opening_done : (s : State) (near : ℕ) (from : AddressParts) (o : Option Fact) → Few s (opening_done s near from o)
 few_opening_done s near from None = few_nothing s

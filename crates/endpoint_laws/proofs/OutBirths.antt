@@ -2,7 +2,7 @@
 use Rattle.std.proofs.Common.{◌≡◌, ℕ, zero, suc, ◌^◌, ◌<◌, ◌≤◌, List, [], ◌∷◌, ◌++◌, length, take, drop, Option, Some, None, Ok, Err, Result, inl, inr, ◌⊎◌, refl, sym, ap, subst, ◌∙◌, Bool, true, false, if◌then◌else◌, nat_lt, arith}
 use Rattle.std.specs.Prelude.{◌==◌, is_some, not}
 use Rattle.std.specs.Int.{w64, from_be_bytes}
-use Rattle.std.specs.FinMap.{get, insert}
+use Rattle.std.specs.FinMap.{get}
 use Rattle.std.proofs.lemmas.Bool.{ltb-false}
 use Rattle.std.proofs.lemmas.List.{length-take}
 use Rattle.rtmfp_base.proofs.Maps.{get_inserted}
@@ -264,27 +264,26 @@ held_opened : (j : Joined) (earlier : List Fact) → held j.peer earlier ≡ Som
 held_opened j earlier was = elim (same_end j.peer j.peer) [ inl d ↦ rw d.1 (ap (opened_thing j) was) | inr d ↦ absurd (d.0 refl) ]
 
 module _ (setup : Setup) (now : ℕ) (call : Call) (past : List Stamped) (s : State) (sent : Sent setup past s) (tied : Tied setup past s) (from : AddressParts) (near : ℕ) where
-  meets_opened : (j : Joined) → j.near ≡ near → held j.peer (facts_of past) ≡ Some (OpeningHeld j.n j.near j.ni) → Meets setup now call past (opening_done s near from (Some (Opened j)))
-  meets_opened j is was =
+  meets_opened : (j : Joined) → held j.peer (facts_of past) ≡ Some (OpeningHeld j.n j.near j.ni) → Meets setup now call past (opening_done s j.near from (Some (Opened j)))
+  meets_opened j was =
       let after : List Stamped = stamped now (FactEntry (Opened j)) ∷ past in
       let new : Row = new_row (new_session j s.startup.ledger.own Initiator from s.startup.secret s.moment) in
-      let state : State = with_row (with_startup s (after_opening s.startup near (Opened j))) near new in
+      let state : State = with_row (with_startup s (after_opening s.startup j.near (Opened j))) j.near new in
       let lawful : AreLawful (own_of setup) 0 (facts_of past) = subst (λ (o : List ℕ). AreLawful o 0 (facts_of past)) tied.own tied.account.lawful in
       let kept : Sent setup after state = record {
-        numbered = subst (λ (n : ℕ). Numbered (own_of setup) after s.sealed (insert s.sessions n new)) is
-            (numbered_opened (own_of setup) past s.sealed s.sessions sent.numbered now j new refl refl refl lawful was);
+        numbered = numbered_opened (own_of setup) past s.sealed s.sessions sent.numbered now j new refl refl refl lawful was;
         sized = (tt, sent.sized);
-        short = short_left s.startup.attempts near sent.short;
+        short = short_left s.startup.attempts j.near sent.short;
       } in
-      let there : get state.sessions near ≡ Some new = get_inserted s.sessions near new in
-      let ping : Meets setup now call after (sent_by state near from (chunk_bytes (Ping [])) (Some new)) =
-      meets_session setup now call after state kept near new there tied.secret tied.own (held_opened j (facts_of past) was) from (Ping []) (omega arith) (omega arith) (omega arith) in
-      meets_after setup now call past (FactEntry (Opened j) ∷ []) (sent_in_session state near from (chunk_bytes (Ping []))) (tt, tt)
-      (subst (λ (o : Option Row). Meets setup now call after (sent_by state near from (chunk_bytes (Ping [])) o)) (sym there) ping)
+      let there : get state.sessions j.near ≡ Some new = get_inserted s.sessions j.near new in
+      let ping : Meets setup now call after (sent_by state j.near from (chunk_bytes (Ping [])) (Some new)) =
+      meets_session setup now call after state kept j.near new there tied.secret tied.own (held_opened j (facts_of past) was) from (Ping []) (omega arith) (omega arith) (omega arith) in
+      meets_after setup now call past (FactEntry (Opened j) ∷ []) (sent_in_session state j.near from (chunk_bytes (Ping []))) (tt, tt)
+      (subst (λ (o : Option Row). Meets setup now call after (sent_by state j.near from (chunk_bytes (Ping [])) o)) (sym there) ping)
 
   by_attempt : (o : Option AttemptState) → get s.startup.attempts near ≡ o → (read : Result ResponderKeying Cause) → Meets setup now call past (opening_done s near from (opened_reading near o read))
   by_attempt None is read = meets_nothing setup now call past s sent
-  by_attempt (Some a) is (Ok keying) = meets_opened _ refl (attempt_held setup past s sent tied near a is)
+  by_attempt (Some a) is (Ok keying) = meets_opened _ (attempt_held setup past s sent tied near a is)
   by_attempt (Some a) is (Err cause) = meets_nothing setup now call past s sent
 
   -- a keying of a responder

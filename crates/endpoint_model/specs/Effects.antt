@@ -129,10 +129,8 @@ sessions_born sessions ended (Ended peer near why) own from secret moment = sess
 
 -- the session that was born is kept, half-open, at the address that its keying came from
 abbrev pub with_born : State → Option Fact → Fact → AddressParts → State
-with_born s ended (Born j) from =
-    with_sessions s (insert (without_ended s.sessions ended) j.near
-    (new_row (new_session j s.startup.ledger.own Responder from s.startup.secret s.moment)))
-with_born s ended fact from = s
+with_born s ended born from = with_sessions s
+    (sessions_born s.sessions ended born s.startup.ledger.own from s.startup.secret s.moment)
 
 -- a new cookie; the keying of the held session again; or the facts of a birth, and the session's
 -- keying
@@ -161,18 +159,17 @@ sessions_opened sessions (Confirmed peer near) own from secret moment = sessions
 sessions_opened sessions (Ended peer near why) own from secret moment = sessions
 
 -- the session that was opened is kept, at the address that its keying came from
-abbrev pub with_opened : State → ℕ → Fact → AddressParts → State
-with_opened s near (Opened j) from = with_row s near
-    (new_row (new_session j s.startup.ledger.own Initiator from s.startup.secret s.moment))
-with_opened s near fact from = s
+abbrev pub with_opened : State → Fact → AddressParts → State
+with_opened s fact from = with_sessions s
+    (sessions_opened s.sessions fact s.startup.ledger.own from s.startup.secret s.moment)
 
 -- an Opened, then a ping without bytes
 abbrev pub opening_done : State → ℕ → AddressParts → Option Fact → Did
 opening_done s near from None = nothing s
 opening_done s near from (Some fact) =
     after_entries (FactEntry fact ∷ [])
-    (sent_in_session (with_opened (with_startup s (after_opening s.startup near fact)) near fact
-    from) near from (chunk_bytes (Ping [])))
+    (sent_in_session (with_opened (with_startup s (after_opening s.startup near fact)) fact from)
+    near from (chunk_bytes (Ping [])))
 
 abbrev pub responder_keyed : State → ℕ → AddressParts → List ℕ → Did
 responder_keyed s near from payload = opening_done s near from (opened s.startup near payload)

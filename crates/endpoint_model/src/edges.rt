@@ -23,7 +23,8 @@ pub fn startup_packets_are_counted_to_the_end()
         ≡ nothing (with_sealed s (2 ^ 64 - 1)) }
     ensures in_a_session { (s : State) (near : ℕ) (to : AddressParts) (body : List ℕ)
         (session : SessionState) →
-        sent_by s near to body (Some (new_row (record session { sealed = 2 ^ 64 - 1 }))) ≡ nothing s }
+        sent_by s near to body (Some (new_row (record session { sealed = 2 ^ 64 - 1 }))) ≡ nothing
+        s }
 {}
 
 /// The session ID after 2^32 - 1 is 0, which no session has.

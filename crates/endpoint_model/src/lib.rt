@@ -1,5 +1,5 @@
-//! What an end is made of, as contracts see it: the values that its calls are given, what they answer
-//! and add, and, in `specs/`, what it keeps and what each call does, item by item.
+//! What an end is made of, as contracts see it: the values that its calls are given, what they
+//! answer and add, and, in `specs/`, what it keeps and what each call does, item by item.
 #![tactic(auto)]
 
 mod answers;

@@ -19,8 +19,8 @@ ghost use Rattle.glare_core.specs.Standing.{count, held, seen};
 ghost use Rattle.glare_core.specs.Edges.{keying, row, session};
 
 /// A keying is stale whose number isn't above the greatest one of its peer, whatever is held. Then
-/// comes glare, then that there is no row for the peer, and then that nothing is held and no session
-/// is free.
+/// comes glare, then that there is no row for the peer, and then that nothing is held and no
+/// session is free.
 pub fn a_keying_is_refused_for_the_first_reason()
     ensures stale { (l : Ledger) → get l.rows (5 ∷ []) ≡ Some (row (Some (Opening 2 7 [])) 3) →
         hear_refusal l (keying 3) false ≡ Some (Stale 3) }

@@ -49,7 +49,8 @@ impl Model for Certificate {
 
     ghost inverse = { λ v. record { bytes = v ++ replicate (80 - length v) 0; len = length v } };
 
-    ghost inverse_ok = { λ c kept. kept_again (λ bytes len. record { bytes = bytes; len = len }) c.bytes c.len kept };
+    ghost inverse_ok = { λ c kept. kept_again (λ bytes len. record { bytes = bytes; len = len })
+        c.bytes c.len kept };
 }
 
 /// Whether each byte is an ASCII character.

@@ -1,5 +1,5 @@
-//! Whom an introducer forwards a hello to, and with which addresses it answers one (RFC 7016 sections
-//! 3.5.1.4 and 3.5.1.5; rows, their limits and the choice of a session are own).
+//! Whom an introducer forwards a hello to, and with which addresses it answers one (RFC 7016
+//! sections 3.5.1.4 and 3.5.1.5; rows, their limits and the choice of a session are own).
 #![tactic(auto)]
 
 mod directory;

@@ -43,8 +43,8 @@ pub(crate) fn call_end(
     requires fits { line < 2 ^ 32 }
     requires short { length bytes.old ≤ 2048 }
     requires empty { out.old.entries ≡ [] }
-    ensures event { StepOf endpoint.old (event_by print.now line moment step.now bytes.old result.refused
-        result.stopped out.new.entries) endpoint.new }
+    ensures event { StepOf endpoint.old (event_by print.now line moment step.now bytes.old
+        result.refused result.stopped out.new.entries) endpoint.new }
     ensures answer { result.undone ≡ false → HasItsAnswer step.now result.refused result.stopped }
     ensures undone { result.undone ≡ true →
         IsUndone print.now moment step.now endpoint.old endpoint.new }

@@ -41,13 +41,15 @@ impl Model for World {
 
     ghost Value = { Seen };
 
-    ghost coded = { seen_code config_type.the_row.coded endpoint_type.the_row.coded line_type.the_row.coded };
+    ghost coded = { seen_code config_type.the_row.coded endpoint_type.the_row.coded
+        line_type.the_row.coded };
 
     ghost use Rattle.rendezvous_world.specs.Inside.{world_seen, IsKept};
 
     ghost view = { λ w. world_seen w.moment w.ends.items w.journal };
 
-    ghost invariant = { λ w. IsKept w.moment w.ends.items w.named w.journal w.starts.items w.sent w.keyed };
+    ghost invariant = { λ w. IsKept w.moment w.ends.items w.named w.journal w.starts.items w.sent
+        w.keyed };
 }
 
 impl World {

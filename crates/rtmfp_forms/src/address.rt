@@ -25,7 +25,8 @@ impl Model for Address {
 
     ghost view = { λ a. record { v6 = a.v6; origin = a.origin; host = a.host; port = a.port } };
 
-    ghost invariant = { λ a. IsAddress (record { v6 = a.v6; origin = a.origin; host = a.host; port = a.port }) };
+    ghost invariant = { λ a. IsAddress
+        (record { v6 = a.v6; origin = a.origin; host = a.host; port = a.port }) };
 
     ghost inverse = { λ a. record { v6 = a.v6; origin = a.origin; host = a.host; port = a.port } };
 }

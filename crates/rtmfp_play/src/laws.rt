@@ -24,8 +24,8 @@ pub fn generated_values()
     ensures name { end_name 3 ≡ 101 ∷ 51 ∷ [] }
     ensures cert { end_cert 7 ≡ 103 ∷ 101 ∷ 110 ∷ 101 ∷ 114 ∷ 97 ∷ 116 ∷ 101 ∷ 100 ∷ 45 ∷ 101 ∷ 110
         ∷ 100 ∷ 45 ∷ 48 ∷ 55 ∷ 101 ∷ 55 ∷ [] }
-    ensures first { (end_address 0).host ≡ 10 ∷ 0 ∷ 0 ∷ 1 ∷ 0 ∷ 0 ∷ 0 ∷ 0 ∷ 0 ∷ 0 ∷ 0 ∷ 0 ∷ 0 ∷ 0 ∷ 0
-        ∷ 0 ∷ [] }
+    ensures first { (end_address 0).host ≡ 10 ∷ 0 ∷ 0 ∷ 1 ∷ 0 ∷ 0 ∷ 0 ∷ 0 ∷ 0 ∷ 0 ∷ 0 ∷ 0 ∷ 0 ∷ 0
+        ∷ 0 ∷ 0 ∷ [] }
     ensures last { (end_address 7).host ≡ 10 ∷ 0 ∷ 0 ∷ 8 ∷ 0 ∷ 0 ∷ 0 ∷ 0 ∷ 0 ∷ 0 ∷ 0 ∷ 0 ∷ 0 ∷ 0 ∷ 0
         ∷ 0 ∷ [] }
     ensures port { (end_address 0).port ≡ 1935 }

@@ -34,7 +34,8 @@ pub(crate) fn play_in(
     requires short { length line.now ≤ LINE_LIMIT }
     requires above { AreBelow world.old.lines number }
     requires fits { number < 2 ^ 32 }
-    ensures played { IfOk result (λ said. PlayedAs said world.old number line.now world.new text.new) }
+    ensures played { IfOk result (λ said. PlayedAs said world.old number line.now world.new
+        text.new) }
     ensures above { IfOk result (λ said. said ≡ Said.Text → AreBelow world.new.lines (number + 1)) }
     ensures keys { keys.new ≡ keys.old }
 {
@@ -62,8 +63,8 @@ fn take_step(
     requires keys { keys.old ≡ group_secret }
     requires above { AreBelow world.old.lines number }
     requires fits { number < 2 ^ 32 }
-    ensures stepped { IfOk result (λ said. SteppedAs said world.old number step.now world.new text.old
-        text.new) }
+    ensures stepped { IfOk result (λ said. SteppedAs said world.old number step.now world.new
+        text.old text.new) }
     ensures above { IfOk result (λ said. said ≡ Said.Text → AreBelow world.new.lines (number + 1)) }
     ensures keys { keys.new ≡ keys.old }
 {

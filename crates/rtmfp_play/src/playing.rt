@@ -69,7 +69,8 @@ pub fn play_line(
     requires short { length line.now ≤ LINE_LIMIT }
     requires above { AreBelow playing.old.lines number }
     requires fits { number < 2 ^ 32 }
-    ensures played { IfOk result (λ said. PlayedAs said playing.old number line.now playing.new text.new) }
+    ensures played { IfOk result (λ said. PlayedAs said playing.old number line.now playing.new
+        text.new) }
     ensures above { IfOk result (λ said. said ≡ Said.Text →
         AreBelow playing.new.lines (number + 1)) }
 {

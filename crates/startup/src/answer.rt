@@ -48,8 +48,8 @@ impl Spread {
     ghost use Rattle.std.specs.Prelude.{◌≡◌, ◌≤◌, length};
 
     /// The addresses, in order.
-    pub fn places(&self) -> &[Address]
-        ensures places { result.now ≡ self.now.to }
+    pub fn addresses(&self) -> &[Address]
+        ensures addresses { result.now ≡ self.now.to }
         ensures few { length result.now ≤ 16 }
     {
         &self.to[..self.count]

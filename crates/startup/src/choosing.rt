@@ -53,10 +53,10 @@ pub(crate) fn answered_index(
     ensures ok { IfOk result (λ i. IsChosen (lowest (has_tag tag.now) (table_of rows.now)) rows.now
         (Some i)) }
     ensures cookie { IfOk result (λ _. length cookie.now ≤ 128) }
-    ensures cause { IfOk result (λ _. hello_cause_among (table_of rows.now) tag.now cookie.now print.now
-        ≡ None) }
-    ensures refused { IfErr result (λ e. hello_cause_among (table_of rows.now) tag.now cookie.now print.now
-        ≡ Some e) }
+    ensures cause { IfOk result (λ _. hello_cause_among (table_of rows.now) tag.now cookie.now
+        print.now ≡ None) }
+    ensures refused { IfErr result (λ e. hello_cause_among (table_of rows.now) tag.now cookie.now
+        print.now ≡ Some e) }
 {
     match wide(tag) {
         Some(cause) => return Err(cause),

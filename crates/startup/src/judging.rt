@@ -240,8 +240,8 @@ impl Startup {
         requires reads { initiator_keying_in fields.now.payload.now ≡ Ok (initiator_of fields.now) }
         requires judged { (full : Option ℕ) × (judged_initiator self.old fields.now.payload.now
             from.now moment full (initiator_of fields.now) ≡ Ok hearing.now) }
-        ensures ok { IfOk result (λ a. (keyed self.old fields.now.payload.now from.now moment near nr
-            ≡ Some a) ×
+        ensures ok { IfOk result (λ a. (keyed self.old fields.now.payload.now from.now moment near
+            nr ≡ Some a) ×
             (self.new ≡ after_keying self.old fields.now.payload.now from.now moment near nr)) }
         ensures memory { IfErr result (λ refusal. (refusal ≡ KeyRefusal.Memory) ×
             IsTrue (needs_row self.old fields.now.payload.now from.now moment)) }

@@ -40,7 +40,8 @@ impl Model for Startup {
 
     ghost view = { λ s. state_of s.cert s.secret s.cookies s.peers s.attempts.items };
 
-    ghost invariant = { λ s. IsStartup s.cert s.print s.secret s.sign s.cookies s.peers s.attempts.items };
+    ghost invariant = { λ s. IsStartup s.cert s.print s.secret s.sign s.cookies s.peers
+        s.attempts.items };
 }
 
 impl Startup {

@@ -19,11 +19,11 @@ begin-requires-clause-free c =
 
 pub send_each-requires-clause-enough : goal.send_each-requires-clause-enough
 send_each-requires-clause-enough c =
-    omega (arith, few_places c.args.candidates.now, ap length (c.places.ensures.places ∙ ap (λ (s : SpreadParts). s.to) c.in-Ok.ensures.spread), c.in_ok-blanks.ensures.count)
+    omega (arith, few_places c.args.candidates.now, ap length (c.addresses.ensures.addresses ∙ ap (λ (s : SpreadParts). s.to) c.in-Ok.ensures.spread), c.in_ok-blanks.ensures.count)
 
 pub send_each-requires-clause-room : goal.send_each-requires-clause-room
 send_each-requires-clause-room c =
-    omega (arith, few_places c.args.candidates.now, ap length (c.places.ensures.places ∙ ap (λ (s : SpreadParts). s.to) c.in-Ok.ensures.spread), c.in_ok-make_room.ensures.ok, c.add.ensures.free)
+    omega (arith, few_places c.args.candidates.now, ap length (c.addresses.ensures.addresses ∙ ap (λ (s : SpreadParts). s.to) c.in-Ok.ensures.spread), c.in_ok-make_room.ensures.ok, c.add.ensures.free)
 
 -- so that a wrong body is refused fast
 pub returns-in-Ok-clause-ok : goal.returns-in-Ok-clause-ok

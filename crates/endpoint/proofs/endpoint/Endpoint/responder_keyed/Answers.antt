@@ -24,12 +24,12 @@ returns-clause-ok c =
     let put : u ≡ with_startup v (after_opening c.self.inside.startup c.args.near c.apply_responder_keying-fact.result) =
     startup_put c.self.inside.config c.self.inside.moment c.self.inside.sealed c.self.inside.startup c.apply_responder_keying-fact.new.self
     (after_opening c.self.inside.startup c.args.near c.apply_responder_keying-fact.result) c.self.inside.sessions.items c.reserve.new.self.items c.reserve.ensures.items h.1 in
-    let opens : t ≡ with_opened u c.args.near c.apply_responder_keying-fact.result c.args.from.now =
-    opened_state c.self.inside.config c.self.inside.moment c.self.inside.sealed c.apply_responder_keying-fact.new.self c.self.inside.startup c.reserve.new.self.items c.keep_opened.new.sessions.items
-    c.args.near c.apply_responder_keying-fact.result c.args.from.now c.args.fields.now.payload.now c.self.inside.print c.self.inside.secret h.0 kept.print_is kept.secret_is c.keep_opened.ensures.table in
+    let opens : t ≡ with_opened u c.apply_responder_keying-fact.result c.args.from.now =
+    opened_state c.self.inside.config c.self.inside.moment c.self.inside.sealed c.apply_responder_keying-fact.new.self c.reserve.new.self.items c.keep_opened.new.sessions.items
+    c.apply_responder_keying-fact.result c.args.from.now c.self.inside.print c.self.inside.secret kept.print_is kept.secret_is c.keep_opened.ensures.table in
     let added : IsAdded c.args.out.now c.add.new.self (FactEntry c.apply_responder_keying-fact.result ∷ []) =
     record { entries_are = c.add.ensures.entries ∙ ap (λ xs. xs ++ FactEntry c.apply_responder_keying-fact.result ∷ []) c.make_room.ensures.entries; free = omega (arith, c.add.ensures.free, c.make_room.ensures.free); room = c.add.ensures.room ∙ c.make_room.ensures.room } in
     subst (λ (s : State). Done (responder_keyed s c.args.near c.args.from.now c.args.fields.now.payload.now) c.send_in_session.new.self c.args.out.now c.send_in_session.new.out) c.self.view_is
     (opened_so v t c.args.near c.args.from.now c.args.fields.now.payload.now c.apply_responder_keying-fact.result c.send_in_session.new.self c.args.out.now c.send_in_session.new.out h.0
-    (opens ∙ ap (λ (s : State). with_opened s c.args.near c.apply_responder_keying-fact.result c.args.from.now) put)
+    (opens ∙ ap (λ (s : State). with_opened s c.apply_responder_keying-fact.result c.args.from.now) put)
     (added_first (FactEntry c.apply_responder_keying-fact.result ∷ []) (sent_in_session t c.args.near c.args.from.now (chunk_bytes (Ping []))) c.send_in_session.new.self c.args.out.now c.add.new.self c.send_in_session.new.out added c.send_in_session.ensures))

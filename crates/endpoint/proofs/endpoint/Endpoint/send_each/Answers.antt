@@ -12,14 +12,14 @@ popped xs ys r x e is = ap length (e ∙ ap (λ o. ys ++ option_to_list o) is) �
 
 pub loop-to-preserved : goal.loop-to-preserved
 loop-to-preserved c =
-    let sent : sent_each c.args.self.now c.args.plain.now (take (c.loop-to.to-index + 1) c.args.places.now)
-    ≡ then_do (sent_each c.args.self.now c.args.plain.now (take c.loop-to.to-index c.args.places.now)) (λ t. sent_startup t c.to-item.result 0 c.args.plain.now) =
-    ap (sent_each c.args.self.now c.args.plain.now) (take_more c.args.places.now c.loop-to.to-index c.to-item.result c.loop-to-test.true ∙ ap (λ to. take c.loop-to.to-index c.args.places.now ++ to ∷ []) (sym c.to-item.is))
-    ∙ each_more c.args.self.now c.args.plain.now (take c.loop-to.to-index c.args.places.now) c.to-item.result in
+    let sent : sent_each c.args.self.now c.args.plain.now (take (c.loop-to.to-index + 1) c.args.addresses.now)
+    ≡ then_do (sent_each c.args.self.now c.args.plain.now (take c.loop-to.to-index c.args.addresses.now)) (λ t. sent_startup t c.to-item.result 0 c.args.plain.now) =
+    ap (sent_each c.args.self.now c.args.plain.now) (take_more c.args.addresses.now c.loop-to.to-index c.to-item.result c.loop-to-test.true ∙ ap (λ to. take c.loop-to.to-index c.args.addresses.now ++ to ∷ []) (sym c.to-item.is))
+    ∙ each_more c.args.self.now c.args.plain.now (take c.loop-to.to-index c.args.addresses.now) c.to-item.result in
     record {
       done =
           subst (λ d. Done d c.send_startup.new.self c.args.out.now c.send_startup.new.out) (sym sent)
-          (joined (sent_each c.args.self.now c.args.plain.now (take c.loop-to.to-index c.args.places.now)) (λ t. sent_startup t c.to-item.result 0 c.args.plain.now) c.loop-to.self c.send_startup.new.self c.args.out.now c.loop-to.out c.send_startup.new.out c.loop-to.invariant.done c.send_startup.ensures);
+          (joined (sent_each c.args.self.now c.args.plain.now (take c.loop-to.to-index c.args.addresses.now)) (λ t. sent_startup t c.to-item.result 0 c.args.plain.now) c.loop-to.self c.send_startup.new.self c.args.out.now c.loop-to.out c.send_startup.new.out c.loop-to.invariant.done c.send_startup.ensures);
       each = (All-pop (λ (bytes : Vec ℕ Global). length bytes.items ≡ 1200) c.loop-to.blanks.items c.pop.new.self.items c.pop.result c.pop.ensures.items c.loop-to.invariant.each).0;
       enough = omega (arith, c.loop-to.invariant.enough, popped c.loop-to.blanks.items c.pop.new.self.items c.pop.result c.in-Some.blank c.pop.ensures.items c.in-Some.is);
       room = omega (arith, c.loop-to.invariant.room, c.send_startup.ensures.free, startup_entry c.loop-to.self c.to-item.result 0 c.args.plain.now);

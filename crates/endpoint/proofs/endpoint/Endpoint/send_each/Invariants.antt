@@ -6,8 +6,8 @@ use Rattle.endpoint.proofs.endpoint.Endpoint.send_each.Given as goal
 
 abbrev pub invariant-loop-to : goal.invariant-loop-to
 invariant-loop-to l = record {
-  done : Done (sent_each l.fn.self l.plain (take l.to-index l.places)) l.self l.fn.out l.out;
+  done : Done (sent_each l.fn.self l.plain (take l.to-index l.addresses)) l.self l.fn.out l.out;
   each : All (λ bytes. length bytes.items ≡ 1200) l.blanks.items;
-  enough : length l.places ≤ l.to-index + length l.blanks.items;
-  room : length l.places ≤ l.to-index + l.out.free;
+  enough : length l.addresses ≤ l.to-index + length l.blanks.items;
+  room : length l.addresses ≤ l.to-index + l.out.free;
 }
