@@ -12,11 +12,6 @@ use Rattle.flow_send.proofs.Summing.{default_row, moved_at}
 
 -- ---- rows in a row
 
-pub acked_length : (k : ℕ) (rows : List Row) → AllAcked k rows → k ≤ length rows
-acked_length zero rows h = omega arith
-acked_length (suc k) [] h = absurd h
-acked_length (suc k) (r ∷ rows) h = omega (arith, acked_length k rows h.1)
-
 pub acked_less : (j k : ℕ) (rows : List Row) → j ≤ k → AllAcked k rows → AllAcked j rows
 acked_less zero k rows le h = tt
 acked_less (suc j) zero rows le h = absurd (omega arith)
