@@ -1,6 +1,6 @@
 -- Why a chunk is discarded, in the order of the causes.
-use Rattle.std.specs.Prelude.{ℕ, ◌-◌, ◌==◌, ◌||◌, nat_lt, not, Bool, is_some, if◌then◌else◌, List, [], ◌∷◌, length, Option, Some, None, Result, Ok, Err}
-use Rattle.std.specs.FinMap.{contains_key}
+use Rattle.std.specs.Prelude.{ℕ, ◌-◌, ◌==◌, ◌||◌, nat_lt, not, Bool, true, false, is_some, if◌then◌else◌, List, [], ◌∷◌, length, Option, Some, None, Result, Ok, Err}
+use Rattle.std.specs.FinMap.{get, contains_key}
 use Rattle.rtmfp_forms.specs.Address.{AddressParts}
 use Rattle.rtmfp_chunks.specs.declared.reading.ChunkFault.{ChunkFault}
 use Rattle.rtmfp_chunks.specs.declared.reading.ChunkFault.TheVariants.{Unknown, Malformed as BadField}
@@ -10,9 +10,11 @@ use Rattle.rtmfp_packet.specs.Walk.{Placed}
 use Rattle.identity.specs.Certificates.{certificate_fault}
 use Rattle.glare_core.specs.Calls.{where_true, first_that_stands}
 use Rattle.startup.specs.declared.cause.Cause.{Cause}
-use Rattle.startup.specs.declared.cause.Cause.TheVariants.{UnknownChunk, Malformed, WrongPlace, NoAttempt, SecondKeying, Fragment as FragmentCause, Wide}
+use Rattle.startup.specs.declared.cause.Cause.TheVariants.{UnknownChunk, Malformed, WrongPlace, WrongState, NoAttempt, SecondKeying, Fragment as FragmentCause, Wide}
 use Rattle.startup.specs.Attempts.{rhello_cause, cookie_change_cause}
 use Rattle.startup.specs.Keyings.{keying_fault, initiator_hello_cause, iikeying_cause, rikeying_cause}
+use Rattle.session_core.specs.Closing.{is_held, is_near_close}
+use Rattle.endpoint_model.specs.declared.row.Row.{Row}
 use Rattle.endpoint_model.specs.declared.place.Place.{Place}
 use Rattle.endpoint_model.specs.declared.walk.Walk.{Walk}
 use Rattle.endpoint_model.specs.declared.place.Place.TheVariants.{Startup, Attempt, Session}
@@ -26,7 +28,7 @@ is_hello kind = (kind == 0x30) || (kind == 0x0f)
 abbrev pub is_known : ℕ → Bool
 is_known kind =
     is_hello kind || (kind == 0x70) || (kind == 0x79) || (kind == 0x38) || (kind == 0x78)
-    || (kind == 0x01) || (kind == 0x41) || (kind == 0x7f)
+    || (kind == 0x01) || (kind == 0x41) || (kind == 0x0c) || (kind == 0x4c) || (kind == 0x7f)
 
 -- The certificate of a responder's hello, which ends a payload of this length, isn't one.
 abbrev pub view_fault : ℕ → Chunk → Option Cause
@@ -50,7 +52,22 @@ form_cause kind payload =
 abbrev pub takes : Place → ℕ → Bool
 takes Startup kind = (kind == 0x30) || (kind == 0x70) || (kind == 0x79) || (kind == 0x38)
 takes (Attempt near) kind = (kind == 0x79) || (kind == 0x78)
-takes (Session near) kind = (kind == 0x0f) || (kind == 0x01) || (kind == 0x41)
+takes (Session near) kind =
+    (kind == 0x0f) || (kind == 0x01) || (kind == 0x41) || (kind == 0x0c) || (kind == 0x4c)
+
+-- A session that is held takes all of them but the answer to a close. One that is closing takes a
+-- close, and where this end closes it the answer. One that is over takes none.
+abbrev pub row_takes : Option Row → ℕ → Bool
+row_takes None kind = false
+row_takes (Some row) kind =
+    if kind == 0x0c then true
+    else if kind == 0x4c then is_near_close row.session.stage
+    else is_held row.session.stage
+
+abbrev pub has_state_for : State → Place → ℕ → Bool
+has_state_for s Startup kind = true
+has_state_for s (Attempt near) kind = true
+has_state_for s (Session near) kind = row_takes (get s.sessions near) kind
 
 -- the causes of hellos, of changes of cookies and of keyings
 abbrev pub read_cause : State → Place → Result Chunk ChunkFault → Option Cause
@@ -78,7 +95,8 @@ abbrev pub last_cause : State → Place → Walk → AddressParts → Placed →
 last_cause s place walk from c =
     if c.kind == 0x38 then initiator_keying_cause s walk from c.payload
     else if c.kind == 0x78 then responder_keying_cause s (sid_at place) c.payload
-    else read_cause s place (chunk_reading c.kind c.payload)
+    else first_that_stands (where_true (not (has_state_for s place c.kind)) WrongState
+    ∷ read_cause s place (chunk_reading c.kind c.payload) ∷ [])
 
 abbrev pub chunk_cause : State → Place → Walk → AddressParts → Placed → Option Cause
 chunk_cause s place walk from c =

@@ -1,6 +1,6 @@
 -- What each call of an end does, item by item.
-use Rattle.std.specs.Prelude.{IsSome, ℕ, zero, suc, ◌+◌, ◌⊎◌, ◌==◌, ◌||◌, ◌≡◌, nat_lt, false, if◌then◌else◌, List, [], ◌∷◌, ◌++◌, length, take, Option, Some, None, Result, Ok}
-use Rattle.std.specs.FinMap.{remove, insert}
+use Rattle.std.specs.Prelude.{IsSome, ℕ, zero, suc, ◌+◌, ◌⊎◌, ◌==◌, ◌||◌, ◌≡◌, nat_lt, Bool, false, if◌then◌else◌, List, [], ◌∷◌, ◌++◌, length, take, Option, Some, None, Result, Ok}
+use Rattle.std.specs.FinMap.{get, remove, insert}
 use Rattle.rtmfp_forms.specs.Address.{AddressParts}
 use Rattle.rtmfp_chunks.specs.declared.reading.ChunkFault.{ChunkFault}
 use Rattle.rtmfp_chunks.specs.Chunk.{Chunk, IHello, FIHello, RHello, CookieChange, Ping, PingReply}
@@ -21,15 +21,19 @@ use Rattle.startup.specs.Attempts.{begin_spread, after_begin, cancel_fact, after
 use Rattle.startup.specs.Due.{due, after_due}
 use Rattle.startup.specs.Keyings.{initiator_hello_answer, keyed, after_keying, opened, after_opening}
 use Rattle.session_core.specs.declared.stage.Role.TheVariants.{Initiator, Responder}
+use Rattle.session_core.specs.declared.stage.SessionDue.{SessionDue}
 use Rattle.session_core.specs.Session.{new_session}
+use Rattle.session_core.specs.Closing.{first_due as first_due_in}
 use Rattle.endpoint_model.specs.declared.config.Draws.{Draws}
 use Rattle.endpoint_model.specs.declared.place.Place.{Place}
 use Rattle.endpoint_model.specs.declared.walk.Walk.{Walk}
+use Rattle.endpoint_model.specs.declared.row.Row.{Row}
 use Rattle.endpoint_model.specs.declared.entry.Entry.TheVariants.{Fact as FactEntry, Discard}
 use Rattle.endpoint_model.specs.declared.answers.OpenRefusal.{OpenRefusal}
 use Rattle.endpoint_model.specs.declared.answers.OpenRefusal.TheVariants.{Candidates, Start, SessionsFull}
 use Rattle.endpoint_model.specs.State.{State, Sessions, Did, nothing, after_entries, then_do, fact_entries, with_startup, with_row, with_sessions, new_row, free_from, full}
 use Rattle.endpoint_model.specs.Sending.{sent_answer, sent_if, sent_spread, sent_in_session}
+use Rattle.endpoint_model.specs.InSessions.{told_in_session, tested, asks_at, answers_by, due_row, row_due_done}
 use Rattle.endpoint_model.specs.Admission.{Admission, Rejected, Admitted, sid_at, confirming, confirms}
 use Rattle.endpoint_model.specs.Causes.{chunk_cause}
 use Rattle.endpoint_model.specs.Keying.{chunks_of}
@@ -78,15 +82,23 @@ cancelling s n = record {
 pub data Item : Type 0 where
   -- the end of an attempt, or its hellos or its keying again
   OfAttempt : (due : Due) → Item
+  -- of a session its end, the end of its closing, or its close again; and else that it is kept
+  -- alive
+  OfSession : (near : ℕ) → (row : Row) → (due : Option SessionDue) → Item
 
 abbrev pub attempt_item : Option Due → Option Item
 attempt_item None = None
 attempt_item (Some due) = Some (OfAttempt due)
 
--- The first thing that is due, over all kinds of things. There are those of attempts alone, by rising
--- session IDs.
+abbrev pub session_item : ℕ → Option (ℕ × Row) → Option Item
+session_item moment None = None
+session_item moment (Some e) = Some (OfSession e.0 e.1 (first_due_in e.1.session moment))
+
+-- The first thing that is due, over all kinds of things: those of attempts by rising session IDs,
+-- and then those of sessions.
 abbrev pub first_due : State → Option Item
-first_due s = attempt_item (due s.startup s.moment)
+first_due s = first_that_stands
+    (attempt_item (due s.startup s.moment) ∷ session_item s.moment (due_row s) ∷ [])
 
 -- what a thing of an attempt adds
 abbrev pub due_done : State → Due → Did
@@ -94,14 +106,16 @@ due_done s (EndDue fact) = record { state = s; entries = FactEntry fact ∷ [] }
 due_done s (HelloDue spread) = sent_spread s spread
 due_done s (KeyingDue answer) = sent_answer s answer
 
--- what a thing leaves and adds in a state, where it leaves the attempts of another
-abbrev pub item_done : State → State → Option Item → Did
-item_done s left None = nothing s
-item_done s left (Some (OfAttempt due)) = due_done left due
+-- what a thing leaves and adds
+abbrev pub item_done : State → Option Item → Did
+item_done s None = nothing s
+item_done s (Some (OfAttempt due)) =
+    due_done (with_startup s (after_due s.startup s.moment)) due
+item_done s (Some (OfSession near row due)) = row_due_done s near row due
 
 -- the first thing that is due
 abbrev pub tick_once : State → Did
-tick_once s = item_done s (with_startup s (after_due s.startup s.moment)) (first_due s)
+tick_once s = item_done s (first_due s)
 
 -- so many things of a tick, one after another
 abbrev pub ticks : ℕ → State → Did
@@ -215,10 +229,15 @@ read_done s place from read =
 
 -- ---- what a chunk does
 
+-- closes, their answers, and the answers to pings
+abbrev pub is_told_in_session : ℕ → Bool
+is_told_in_session kind = (kind == 0x0c) || (kind == 0x4c) || (kind == 0x41)
+
 abbrev pub effect : State → Place → AddressParts → Draws → Placed → Did
 effect s place from draws c =
     if c.kind == 0x38 then initiator_keyed s from draws c.payload
     else if c.kind == 0x78 then responder_keyed s (sid_at place) from c.payload
+    else if is_told_in_session c.kind then told_in_session s (sid_at place) from c
     else read_done s place from (chunk_reading c.kind c.payload)
 
 -- ---- the chunks of a datagram
@@ -251,24 +270,29 @@ chunks_did place from draws walk s (c ∷ cs) =
 
 -- ---- a datagram
 
+-- a half-open session is confirmed, and then come these chunks
+abbrev pub gone_through : AddressParts → Draws → State → Place → List Placed → Did
+gone_through from draws s place cs =
+    then_do (confirming s place) (λ t. chunks_did place from draws outset t cs)
+
+-- and after them a test of the address that it came from
 abbrev pub received : AddressParts → Draws → Admission → Did
 received from draws (Rejected s cause) = discarded s 0 cause
 received from draws (Admitted s place packet) =
-    then_do (confirming s place) (λ t. chunks_did place from draws outset t (chunks_of packet))
+    then_do (gone_through from draws s place (chunks_of packet)) (λ t. tested t place from draws)
 
 -- what was done of a datagram of which so many chunks were gone through
 abbrev pub part_received : AddressParts → Draws → Admission → ℕ → Did
 part_received from draws (Rejected s cause) count = nothing s
 part_received from draws (Admitted s place packet) count =
-    then_do (confirming s place) (λ t. chunks_did place from draws outset t
-    (take count (chunks_of packet)))
+    gone_through from draws s place (take count (chunks_of packet))
 
 -- ---- datagrams that add nothing but discards
 
--- The chunk is discarded, or it is an answer to a ping, which does nothing.
+-- The chunk is discarded, or it is an answer to a ping that moves nothing.
 abbrev pub IsQuiet : State → Place → Walk → AddressParts → Placed → Type 0
 IsQuiet s place walk from c = IsSome (chunk_cause s place walk from c) ⊎
-    (c.kind ≡ 0x41)
+    ((c.kind ≡ 0x41) × (answers_by from c.payload (get s.sessions (sid_at place)) ≡ false))
 
 abbrev pub AreQuiet : State → Place → AddressParts → Walk → List Placed → Type 0
 AreQuiet s place from walk [] = Unit {0}
@@ -287,12 +311,12 @@ discards_among s place from walk (c ∷ cs) =
     discards_for (chunk_cause s place walk from c)
     + discards_among s place from (walked walk c) cs
 
--- The datagram adds discards alone, or nothing: it is refused, or it confirms nothing and each of
--- its chunks is discarded or does nothing.
+-- The datagram adds discards alone, or nothing: it is refused, or it confirms nothing, each of its
+-- chunks is discarded or does nothing, and its address isn't tested.
 abbrev pub AddsDiscards : AddressParts → Admission → Type 0
 AddsDiscards from (Rejected s cause) = Unit {0}
 AddsDiscards from (Admitted s place packet) = (confirms s place ≡ false) ×
-    AreQuiet s place from outset (chunks_of packet)
+    AreQuiet s place from outset (chunks_of packet) × (asks_at s place from ≡ false)
 
 -- how many discards these are
 abbrev pub discards : AddressParts → Admission → ℕ

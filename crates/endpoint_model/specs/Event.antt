@@ -26,6 +26,7 @@ own_of setup = sha256 setup.cert
 pub data Call : Type 0 where
   Open : (peer : List ℕ) → (candidates : List AddressParts) → (draws : Draws) → Call
   Cancel : (n : ℕ) → Call
+  Close : (near : ℕ) → Call
   Receive : (from : AddressParts) → (datagram : List ℕ) → (draws : Draws) → Call
   Tick : (draws : Draws) → Call
 
@@ -49,6 +50,10 @@ open_in call = None
 abbrev pub cancel_in : Call → Option ℕ
 cancel_in (Cancel n) = Some n
 cancel_in call = None
+
+abbrev pub close_in : Call → Option ℕ
+close_in (Close near) = Some near
+close_in call = None
 
 abbrev pub receive_in : Call → Option ReceiveCall
 receive_in (Receive from datagram draws) =

@@ -4,6 +4,7 @@ pub mod Event
 pub mod Keying
 pub mod State
 pub mod Sending
+pub mod InSessions
 pub mod Admission
 pub mod Causes
 pub mod Effects

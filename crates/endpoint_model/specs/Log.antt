@@ -1,21 +1,23 @@
 -- The log of an end: its calls, their answers and what they added, and the states that it leads to.
-use Rattle.std.specs.Prelude.{ℕ, ◌+◌, ◌<◌, ◌≡◌, true, false, if◌then◌else◌, List, [], ◌∷◌, ◌++◌, drop, length, Option, Some, None, IsSome, IfSome, IfNone, OnOk, IfErr, IsOk, ◌≤◌, Result, Ok, Err}
+use Rattle.std.specs.Prelude.{ℕ, ◌+◌, ◌<◌, ◌≡◌, ◌⊎◌, true, false, if◌then◌else◌, List, [], ◌∷◌, ◌++◌, drop, length, Option, Some, None, IsSome, IfSome, IfNone, OnOk, IfErr, IsOk, ◌≤◌, Result, Ok, Err}
 use Rattle.rtmfp_base.specs.declared.memory.Memory.{Memory}
 use Rattle.rtmfp_forms.specs.Address.{AddressParts}
+use Rattle.rtmfp_packet.specs.Whole.{Whole}
 use Rattle.startup.specs.Attempts.{cancel_fact}
 use Rattle.endpoint_model.specs.declared.config.Draws.{Draws}
 use Rattle.endpoint_model.specs.declared.entry.Entry.{Entry}
 use Rattle.endpoint_model.specs.declared.answers.OpenRefusal.{OpenRefusal}
 use Rattle.endpoint_model.specs.declared.answers.OpenRefusal.TheVariants.{Memory as NoMemoryToOpen}
 use Rattle.endpoint_model.specs.declared.answers.CallRefusal.{CallRefusal}
-use Rattle.endpoint_model.specs.declared.answers.CallRefusal.TheVariants.{NoAttempt, Memory as NoMemory}
+use Rattle.endpoint_model.specs.declared.answers.CallRefusal.TheVariants.{NoAttempt, NoSession, Memory as NoMemory}
 use Rattle.endpoint_model.specs.declared.answers.Stopped.{Stopped as Stop}
-use Rattle.endpoint_model.specs.Event.{Setup, Call, Open, Cancel, Receive, Tick, Answer, Began, Done, NotOpened, Refused, Stopped, OutOfMemory, Event}
+use Rattle.endpoint_model.specs.Event.{Setup, Call, Open, Cancel, Close, Receive, Tick, Answer, Began, Done, NotOpened, Refused, Stopped, OutOfMemory, Event}
 use Rattle.endpoint_model.specs.Added.{Added}
 use Rattle.endpoint_model.specs.State.{State, Did, Does, nothing, fresh, at_moment, Done as DoneIn}
 use Rattle.endpoint_model.specs.Admission.{Admission, Rejected, Admitted, admission, confirms}
 use Rattle.endpoint_model.specs.Keying.{chunks_of}
-use Rattle.endpoint_model.specs.Effects.{open_refusal, opening, cancelling, ticks, received, part_received, AddsDiscards, discards, first_due}
+use Rattle.endpoint_model.specs.InSessions.{held_row, closing, asks_at}
+use Rattle.endpoint_model.specs.Effects.{open_refusal, opening, cancelling, ticks, gone_through, received, part_received, AddsDiscards, discards, first_due}
 
 -- ---- what a call may answer, add and leave, from a state in which its moment is noted
 
@@ -30,22 +32,25 @@ abbrev pub IsStopBefore : Admission → Type 0
 IsStopBefore (Rejected s cause) = Unit {0}
 IsStopBefore (Admitted s place packet) = confirms s place ≡ true
 
--- No memory was found at a chunk, which isn't gone through.
-abbrev pub IsStopAt : Admission → ℕ → Type 0
-IsStopAt (Rejected s cause) count = ⊥
-IsStopAt (Admitted s place packet) count = count < length (chunks_of packet)
+-- No memory was found at a chunk, which isn't gone through, or after the last one for the test of
+-- the address.
+abbrev pub IsStopAt : AddressParts → Draws → Admission → ℕ → Type 0
+IsStopAt from draws (Rejected s cause) count = ⊥
+IsStopAt from draws (Admitted s place packet) count =
+    (count < length (chunks_of packet)) ⊎
+    ((count ≡ length (chunks_of packet)) ×
+    (asks_at (gone_through from draws s place (chunks_of packet)).state place from ≡ true))
 
 -- the answer where the datagram wasn't taken
 abbrev pub not_taken : Stop
 not_taken = record { taken = false; chunks = 0 }
 
 -- where a datagram can be stopped
-pub record IsStop (a : Admission) (stop : Stop) : Type 0 where
-  pub taken : stop.taken ≡ true → IsStopAt a stop.chunks
+pub record IsStop (from : AddressParts) (draws : Draws) (a : Admission) (stop : Stop) : Type 0 where
+  pub taken : stop.taken ≡ true → IsStopAt from draws a stop.chunks
   pub not_taken : stop.taken ≡ false → IsStopBefore a × (stop.chunks ≡ 0)
 
--- what was done of a datagram that found no memory: nothing, or the chunks before the one that
--- found none
+-- what was done of a datagram that found no memory: nothing, or the chunks before what found none
 abbrev pub stopped : State → AddressParts → Draws → Admission → Stop → Did
 stopped s from draws a stop = if stop.taken then part_received from draws a stop.chunks
     else nothing s
@@ -65,10 +70,14 @@ Answers s (Cancel n) Done entries t = IsSome (cancel_fact s.startup n) ×
 Answers s (Cancel n) (Refused refusal) entries t =
     IfNone (cancel_fact s.startup n) (refusal ≡ NoAttempt) ×
     IfSome (cancel_fact s.startup n) (λ fact. refusal ≡ NoMemory) × Does (nothing s) t [] entries
+Answers s (Close near) Done entries t = IsSome (held_row s near) × Does (closing s near) t [] entries
+Answers s (Close near) (Refused refusal) entries t =
+    IfNone (held_row s near) (refusal ≡ NoSession) ×
+    IfSome (held_row s near) (λ row. refusal ≡ NoMemory) × Does (nothing s) t [] entries
 Answers s (Receive from datagram draws) Done entries t =
     Does (received from draws (admission s datagram)) t [] entries
 Answers s (Receive from datagram draws) (Stopped stop) entries t =
-    IsStop (admission s datagram) stop ×
+    IsStop from draws (admission s datagram) stop ×
     Does (stopped s from draws (admission s datagram) stop) t [] entries
 Answers s (Tick draws) Done entries t = SomeTicks s t entries × (first_due t ≡ None)
 Answers s (Tick draws) OutOfMemory entries t = SomeTicks s t entries
@@ -113,12 +122,16 @@ abbrev pub open_event : ℕ → List ℕ → List AddressParts → Draws → Res
 open_event moment peer candidates draws result before after =
     event moment (Open peer candidates draws) (answer_of_open result) before after
 
-abbrev pub answer_of_cancel : Result (Unit {0}) CallRefusal → Answer
-answer_of_cancel (Ok done) = Done
-answer_of_cancel (Err refusal) = Refused refusal
+abbrev pub answer_of_call : Result (Unit {0}) CallRefusal → Answer
+answer_of_call (Ok done) = Done
+answer_of_call (Err refusal) = Refused refusal
 
 abbrev pub cancel_event : ℕ → Result (Unit {0}) CallRefusal → List Entry → List Entry → Event
-cancel_event n result before after = event 0 (Cancel n) (answer_of_cancel result) before after
+cancel_event n result before after = event 0 (Cancel n) (answer_of_call result) before after
+
+abbrev pub close_event : ℕ → ℕ → Result (Unit {0}) CallRefusal → List Entry → List Entry → Event
+close_event near moment result before after =
+    event moment (Close near) (answer_of_call result) before after
 
 abbrev pub answer_of_receive : Result (Unit {0}) Stop → Answer
 answer_of_receive (Ok done) = Done
@@ -142,6 +155,6 @@ tick_event moment draws result before after =
 pub record IsTaken (s : State) (from : AddressParts) (draws : Draws) (a : Admission)
     (result : Result (Unit {0}) Stop) (new : State) (before after : Added) : Type 0 where
   pub ok : OnOk result (DoneIn (received from draws a) new before after)
-  pub stop : IfErr result (λ stop. IsStop a stop)
+  pub stop : IfErr result (λ stop. IsStop from draws a stop)
   pub stopped : IfErr result (λ stop. DoneIn (stopped s from draws a stop) new before after)
   pub enough : AddsDiscards from a → discards from a ≤ before.free → IsOk result

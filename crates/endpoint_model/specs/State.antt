@@ -1,7 +1,7 @@
 -- What an end keeps, and what one thing that it does leaves and adds.
 use Rattle.std.specs.Prelude.{ℕ, zero, suc, ◌+◌, ◌%◌, ◌^◌, ◌==◌, ◌≤◌, ◌&&◌, ◌||◌, not, Bool, max, nat_le, if◌then◌else◌, List, [], ◌∷◌, ◌++◌, length, Option, Some, None, ◌≡◌, refl}
 use Rattle.std.specs.Ordering.{nat_cmp}
-use Rattle.std.specs.FinMap.{FinMap, insert, empty, contains_key, len, code}
+use Rattle.std.specs.FinMap.{FinMap, insert, remove, empty, contains_key, len, code}
 use Rattle.std.specs.Coded.{Coded, code_by, coded×, coded_ℕ}
 use Rattle.glare_core.specs.declared.facts.Fact.{Fact}
 use Rattle.startup.specs.State.{StartupState, new_startup}
@@ -19,7 +19,7 @@ Sessions = FinMap nat_cmp Row
 
 -- the row of a session that begins
 abbrev pub new_row : SessionState → Row
-new_row session = record { session = session }
+new_row session = record { session = session; moves = None }
 
 pub record State : Type 0 where
   pub config : Config
@@ -71,6 +71,10 @@ with_sessions s sessions = record {
 
 abbrev pub with_row : State → ℕ → Row → State
 with_row s near row = with_sessions s (insert s.sessions near row)
+
+-- a session is forgotten
+abbrev pub without_row : State → ℕ → State
+without_row s near = with_sessions s (remove s.sessions near)
 
 -- the session in a row is changed
 abbrev pub with_session : State → ℕ → Row → SessionState → State

@@ -1,11 +1,11 @@
--- What an entry has for those who ask of one thing alone: a fact, or a datagram. Whoever asks by these
--- isn't touched by entries of other kinds.
+-- What an entry has for those who ask of one thing alone: a fact, a datagram, or a session that is
+-- over. Whoever asks by these isn't touched by entries of other kinds.
 use Rattle.std.specs.Prelude.{ℕ, List, Option, Some, None}
 use Rattle.rtmfp_forms.specs.Address.{AddressParts}
 use Rattle.crypto_profile.specs.declared.keys.Context.{Context}
 use Rattle.glare_core.specs.declared.facts.Fact.{Fact}
 use Rattle.endpoint_model.specs.declared.entry.Entry.{Entry}
-use Rattle.endpoint_model.specs.declared.entry.Entry.TheVariants.{Fact as FactEntry, Out}
+use Rattle.endpoint_model.specs.declared.entry.Entry.TheVariants.{Fact as FactEntry, Closed, Out}
 
 -- the fact that an entry is
 abbrev pub fact_in : Entry → Option Fact
@@ -23,3 +23,8 @@ abbrev pub out_in : Entry → Option Sending
 out_in (Out to datagram context) =
     Some (record { to = to; datagram = datagram; context = context })
 out_in entry = None
+
+-- the session ID of the session that was closing and is over
+abbrev pub closed_in : Entry → Option ℕ
+closed_in (Closed near) = Some near
+closed_in entry = None

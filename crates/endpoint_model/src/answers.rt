@@ -27,6 +27,9 @@ pub enum CallRefusal {
     /// No held attempt has this number.
     #[error("no attempt has this number")]
     NoAttempt,
+    /// No held session has this session ID.
+    #[error("no session has this session ID")]
+    NoSession,
     #[error("out of memory")]
     Memory,
 }

@@ -11,6 +11,18 @@ use startup::Cause;
 pub enum Entry {
     /// A fact about what is held with a peer.
     Fact(Fact),
+    /// A session that was closing is over.
+    Closed {
+        /// Its session ID at this end.
+        near: u32,
+    },
+    /// A session moved: its datagrams go to this address from now on.
+    Moved {
+        /// Its session ID at this end.
+        near: u32,
+        /// The new address.
+        to: Address,
+    },
     /// A datagram, or a chunk of one, was discarded.
     Discard {
         /// The place of the chunk's type byte in the plain packet; 0 for the datagram.

@@ -1,5 +1,6 @@
 //! What an end keeps of a session.
 
+use mobility::Moves;
 use session_core::Session;
 
 /// A session as an end keeps it: what the end itself has to keep of it stands here, beside the
@@ -8,4 +9,6 @@ use session_core::Session;
 pub struct Row {
     /// The session.
     pub session: Session,
+    /// The test of another address of the peer.
+    pub moves: Moves,
 }
