@@ -1,4 +1,4 @@
--- The keying of which a session is born, judged by the facts before.
+-- The keying of which a session is born, judged by what was done before.
 use Rattle.std.specs.Prelude.{ℕ, ◌≡◌, ◌≢◌, ◌<◌, ◌≤◌, ◌^◌, ◌⊎◌, List, length, Some, None, true}
 use Rattle.std.specs.List.{list_any}
 use Rattle.std.specs.Str.{bytes_eq}
@@ -13,12 +13,11 @@ use Rattle.cookies.specs.Cookie.{IsAnswer}
 use Rattle.cookies.specs.declared.CookieTest.TheVariants.{Current}
 use Rattle.identity.specs.Certificates.{IsCertificate}
 use Rattle.identity.specs.Order.{Prevails}
-use Rattle.glare_core.specs.declared.facts.Fact.{Fact}
 use Rattle.glare_core.specs.declared.facts.Held.{Held}
 use Rattle.glare_core.specs.Standing.{held, seen, peers_in}
 use Rattle.glare_core.specs.Things.{IsAttempt}
 use Rattle.endpoint_model.specs.Event.{Setup, own_of}
-use Rattle.endpoint_laws.specs.Past.{ids_in_use}
+use Rattle.endpoint_laws.specs.Past.{Stamped, facts_of, ids_in_use}
 use Rattle.endpoint_laws.specs.Contexts.{ReadsUnder}
 use Rattle.endpoint_model.specs.Keying.{IsFirst, IsSigned, chunks_of, initiator_part}
 
@@ -31,8 +30,8 @@ pub record Offer : Type 0 where
   pub far : ℕ
 
 -- The datagram opens in the startup context under session ID 0 with the startup mode, its first
--- initiator's keying makes this offer, and what the end has stated lets a session be born of it.
-pub record Admissible (setup : Setup) (facts : List Fact) (now : ℕ) (from : AddressParts)
+-- initiator's keying makes this offer, and what the end has done lets a session be born of it.
+pub record Admissible (setup : Setup) (past : List Stamped) (now : ℕ) (from : AddressParts)
     (datagram : List ℕ) (offer : Offer) : Type 0 where
   -- the chunk
   pub packet : Whole
@@ -56,10 +55,11 @@ pub record Admissible (setup : Setup) (facts : List Fact) (now : ℕ) (from : Ad
   pub narrow : length cookie ≤ 128
   pub current : IsAnswer setup.cookie_secret cookie from now Current
   pub other : cert ≢ setup.cert
-  -- what the end has stated
-  pub above : seen offer.peer facts < offer.n
-  pub prevails : (thing : Held) → held offer.peer facts ≡ Some thing → IsAttempt thing →
+  -- what the end has stated, and the session IDs in use
+  pub above : seen offer.peer (facts_of past) < offer.n
+  pub prevails : (thing : Held) → held offer.peer (facts_of past) ≡ Some thing → IsAttempt thing →
       Prevails offer.peer (own_of setup)
-  pub row : (list_any (bytes_eq offer.peer) (peers_in facts) ≡ true) ⊎
-      (length (peers_in facts) < setup.config.max_peers)
-  pub place : held offer.peer facts ≡ None → length (ids_in_use facts) < setup.config.max_sessions
+  pub row : (list_any (bytes_eq offer.peer) (peers_in (facts_of past)) ≡ true) ⊎
+      (length (peers_in (facts_of past)) < setup.config.max_peers)
+  pub place : held offer.peer (facts_of past) ≡ None →
+      length (ids_in_use past) < setup.config.max_sessions

@@ -113,7 +113,7 @@ AdmissibleKeyingsBear = (setup : Setup) (log : List Event) (s t : State) (moment
     (entries : List Entry) (offer : Offer) (gone : List Placed)
     → IsSetup setup → AreCalls log → StandsFor setup log s → IsCall (Receive from datagram draws)
     → Step s (taken_event moment from datagram draws answer entries) t
-    → (a : Admissible setup (facts_of (past_of 0 [] log))
+    → (a : Admissible setup (past_of 0 [] log)
     (moment_at (last_moment 0 log) (taken_event moment from datagram draws answer entries)) from
     datagram offer)
     → WentThrough answer (chunks_of a.packet) gone → IsFirst a.chunk gone

@@ -12,6 +12,7 @@ use Rattle.glare_core.specs.declared.facts.Held.TheVariants.{Opening, HalfOpen, 
 use Rattle.glare_core.specs.Standing.{held}
 use Rattle.glare_core.specs.Things.{near_of}
 use Rattle.glare_core.specs.Tells.{Values, as_initiator, as_responder}
+use Rattle.endpoint_laws.specs.Past.{Stamped, facts_of, IsClosing}
 
 -- the context of a session, in one direction
 abbrev pub session_context : Values → Bool → Context
@@ -39,11 +40,16 @@ pub record HeldUnder (facts : List Fact) (near : ℕ) (thing : Held) : Type 0 wh
   pub is_held : held peer facts ≡ Some thing
   pub id : near_of thing ≡ near
 
--- The context of a session ID at an end that stated these facts: startup for 0 and for an
--- attempt's, and a session's own for that of a session.
-abbrev pub ContextOf : List ℕ → List Fact → ℕ → Context → Type 0
-ContextOf own facts sid context =
-    ((sid ≡ 0) × (context ≡ Startup)) ⊎ ((thing : Held) × HeldUnder facts sid thing ×
+-- This is held or closing under this session ID.
+abbrev pub StandsUnder : List Stamped → ℕ → Held → Type 0
+StandsUnder past near thing = HeldUnder (facts_of past) near thing ⊎
+    ((at : ℕ) × IsClosing near thing at past)
+
+-- The context of a session ID at an end that did this: startup for 0 and for an attempt's, and a
+-- session's own for that of a session that is held or closing.
+abbrev pub ContextOf : List ℕ → List Stamped → ℕ → Context → Type 0
+ContextOf own past sid context =
+    ((sid ≡ 0) × (context ≡ Startup)) ⊎ ((thing : Held) × StandsUnder past sid thing ×
     (context ≡ inward own thing))
 
 -- The datagram goes under this session ID, opens in this context, and has this plain packet.

@@ -8,7 +8,7 @@ use Rattle.packet_scramble.specs.Datagram.{datagram}
 use Rattle.rtmfp_packet.specs.Whole.{Whole}
 use Rattle.rtmfp_packet.specs.Walk.{Placed}
 use Rattle.rtmfp_packet.specs.Reading.{PacketReading}
-use Rattle.rtmfp_chunks.specs.Chunk.{RIKeying, Spells}
+use Rattle.rtmfp_chunks.specs.Chunk.{RIKeying, Close as CloseChunk, CloseAck, Spells}
 use Rattle.glare_core.specs.declared.facts.Why.{Why}
 use Rattle.glare_core.specs.declared.facts.Why.TheVariants.{Cancelled, Expired, Glare, Override, Unconfirmed, Near, Far, Idle}
 use Rattle.glare_core.specs.declared.facts.Fact.{Fact}
@@ -21,18 +21,19 @@ use Rattle.glare_core.specs.Stands.{Stands, IsBornOf, IsForBorn}
 use Rattle.glare_core.specs.Told.{AllDifferent}
 use Rattle.endpoint_model.specs.declared.entry.Entry.{Entry}
 use Rattle.endpoint_model.specs.declared.entry.Entry.TheVariants.{Fact as FactEntry}
-use Rattle.endpoint_model.specs.Views.{Sending, fact_in, out_in}
+use Rattle.endpoint_model.specs.Views.{Sending, fact_in, out_in, closed_in}
 use Rattle.endpoint_model.specs.declared.config.Draws.{Draws}
-use Rattle.endpoint_model.specs.Event.{Setup, own_of, Call, OpenCall, ReceiveCall, open_in, cancel_in, receive_in, tick_in, Event, moment_at}
-use Rattle.endpoint_laws.specs.Past.{Stamped, begun, stamped, with_event, out_done, facts_of, is_in_use, WasDone}
-use Rattle.endpoint_laws.specs.Contexts.{ReadsUnder, HeldUnder, inward, outward, OpensUnder}
+use Rattle.endpoint_model.specs.Event.{Setup, own_of, Call, OpenCall, ReceiveCall, open_in, cancel_in, close_in, receive_in, tick_in, Event, moment_at}
+use Rattle.endpoint_laws.specs.Past.{Stamped, begun, stamped, with_event, out_done, facts_of, is_in_use, IsClosing, WasDone}
+use Rattle.endpoint_laws.specs.Contexts.{ReadsUnder, StandsUnder, inward, outward, OpensUnder}
+use Rattle.endpoint_laws.specs.Taken.{taken_since, TookAt, TakesChunkIn}
 use Rattle.endpoint_model.specs.Keying.{IsSigned, IsAmong, KeyingsAre, chunks_of, initiator_part, responder_part}
 use Rattle.endpoint_laws.specs.Admissible.{Admissible, Offer}
 
 -- The session ID isn't 0, and none that is in use.
-pub record IsFree (near : ℕ) (facts : List Fact) : Type 0 where
+pub record IsFree (near : ℕ) (past : List Stamped) : Type 0 where
   pub some : near ≢ 0
-  pub unused : is_in_use near facts ≡ false
+  pub unused : is_in_use near past ≡ false
 
 -- ---- the call that an entry comes of
 
@@ -51,6 +52,13 @@ CancelsIn (Some m) n = m ≡ n
 abbrev pub Cancels : Call → ℕ → Type 0
 Cancels call n = CancelsIn (cancel_in call) n
 
+abbrev pub ClosesIn : Option ℕ → ℕ → Type 0
+ClosesIn None near = ⊥
+ClosesIn (Some id) near = id ≡ near
+
+abbrev pub ClosesSession : Call → ℕ → Type 0
+ClosesSession call near = ClosesIn (close_in call) near
+
 abbrev pub TicksIn : Option Draws → Type 0
 TicksIn None = ⊥
 TicksIn (Some draws) = Unit {0}
@@ -60,13 +68,13 @@ IsTick call = TicksIn (tick_in call)
 
 -- The call takes a datagram with an admissible keying that makes this offer, and the nonce is of
 -- its draws.
-abbrev pub BearsIn : Setup → List Fact → ℕ → Option ReceiveCall → Offer → List ℕ → Type 0
-BearsIn setup facts now None offer nr = ⊥
-BearsIn setup facts now (Some r) offer nr =
-    Admissible setup facts now r.from r.datagram offer × (nr ≡ r.draws.nonce)
+abbrev pub BearsIn : Setup → List Stamped → ℕ → Option ReceiveCall → Offer → List ℕ → Type 0
+BearsIn setup past now None offer nr = ⊥
+BearsIn setup past now (Some r) offer nr =
+    Admissible setup past now r.from r.datagram offer × (nr ≡ r.draws.nonce)
 
-abbrev pub Bears : Setup → List Fact → ℕ → Call → Offer → List ℕ → Type 0
-Bears setup facts now call offer nr = BearsIn setup facts now (receive_in call) offer nr
+abbrev pub Bears : Setup → List Stamped → ℕ → Call → Offer → List ℕ → Type 0
+Bears setup past now call offer nr = BearsIn setup past now (receive_in call) offer nr
 
 -- The datagram opens in the startup context under the attempt's session ID, and a responder's
 -- keying in it answers the attempt.
@@ -100,24 +108,24 @@ TakesUnder setup call near thing = TakesUnderIn setup (receive_in call) near thi
 
 -- ---- the lines of facts
 
-pub record StartedLine (call : Call) (facts : List Fact) (peer : List ℕ) (near : ℕ) (ni : List ℕ)
-    : Type 0 where
+pub record StartedLine (call : Call) (past : List Stamped) (peer : List ℕ) (near : ℕ)
+    (ni : List ℕ) : Type 0 where
   pub by : Opens call peer ni
-  pub id : IsFree near facts
+  pub id : IsFree near past
 
--- The facts before a Born, and before the Ended directly before it that makes way for it, if there
--- is one.
-abbrev pub WayMade : List Fact → List Fact → List ℕ → Type 0
-WayMade facts before peer = (facts ≡ before) ⊎
-    ((near : ℕ) × (why : Why) × IsForBorn why × (facts ≡ Ended peer near why ∷ before))
+-- What was done before a Born, and before the Ended directly before it that makes way for it, if
+-- there is one.
+abbrev pub WayMade : ℕ → List Stamped → List Stamped → List ℕ → Type 0
+WayMade now past before peer = (past ≡ before) ⊎ ((near : ℕ) × (why : Why) × IsForBorn why ×
+    (past ≡ stamped now (FactEntry (Ended peer near why)) ∷ before))
 
-pub record BornLine (setup : Setup) (now : ℕ) (call : Call) (facts : List Fact) (j : Joined)
+pub record BornLine (setup : Setup) (now : ℕ) (call : Call) (past : List Stamped) (j : Joined)
     : Type 0 where
-  pub before : List Fact
-  pub way : WayMade facts before j.peer
+  pub before : List Stamped
+  pub way : WayMade now past before j.peer
   pub by : Bears setup before now call (record { peer = j.peer; n = j.n; ni = j.ni; far = j.far })
       j.nr
-  pub id : IsFree j.near facts
+  pub id : IsFree j.near past
 
 pub record ConfirmedLine (setup : Setup) (call : Call) (facts : List Fact) (peer : List ℕ)
     (near : ℕ) : Type 0 where
@@ -155,26 +163,61 @@ abbrev pub BornFollows : List ℕ → List Entry → Type 0
 BornFollows peer [] = ⊥
 BornFollows peer (entry ∷ rest) = IsBornIn peer (fact_in entry)
 
--- An end doesn't end sessions yet but for Override.
-abbrev pub EndedLine : ℕ → Call → List Stamped → List Entry → List ℕ → ℕ → Why → Type 0
-EndedLine now call past rest peer near Cancelled = CancelledLine call (facts_of past) peer
-EndedLine now call past rest peer near Expired = IsTick call × IsOverdue now past peer near
-EndedLine now call past rest peer near Glare = BornFollows peer rest
-EndedLine now call past rest peer near Override = BornFollows peer rest
-EndedLine now call past rest peer near Unconfirmed = ⊥
-EndedLine now call past rest peer near Near = ⊥
-EndedLine now call past rest peer near Far = ⊥
-EndedLine now call past rest peer near Idle = ⊥
+-- The half-open session with this peer was born at least 20,000 ms ago.
+pub record IsUnconfirmed (now : ℕ) (past : List Stamped) (peer : List ℕ) : Type 0 where
+  pub j : Joined
+  pub is_held : held peer (facts_of past) ≡ Some (HalfOpen j)
+  pub birth : ℕ
+  pub born : WasDone (stamped birth (FactEntry (Born j))) past
+  pub over : birth + 20000 ≤ now
+
+-- The session is held, and the call takes a datagram in it that has a close.
+pub record FarLine (setup : Setup) (call : Call) (past : List Stamped) (peer : List ℕ) (near : ℕ)
+    : Type 0 where
+  pub thing : Held
+  pub is_held : held peer (facts_of past) ≡ Some thing
+  pub by : TakesChunkIn setup past thing near (receive_in call) CloseChunk
+
+-- the fact with which a session that is kept began here
+abbrev pub BeganWith : Held → Fact → Type 0
+BeganWith (Opening n near ni) fact = ⊥
+BeganWith (HalfOpen j) fact = fact ≡ Born j
+BeganWith (KeptAsResponder j) fact = fact ≡ Born j
+BeganWith (KeptAsInitiator j) fact = fact ≡ Opened j
+
+-- The session began at least 120,000 ms ago, and took nothing since then.
+pub record IsIdle (setup : Setup) (now : ℕ) (past : List Stamped) (peer : List ℕ) (near : ℕ)
+    : Type 0 where
+  pub thing : Held
+  pub is_held : held peer (facts_of past) ≡ Some thing
+  pub first : ℕ
+  pub fact : Fact
+  pub began_with : BeganWith thing fact
+  pub began : WasDone (stamped first (FactEntry fact)) past
+  pub old : first + 120000 ≤ now
+  pub quiet : (moment : ℕ) → TookAt setup thing near moment (taken_since near past) →
+      moment + 120000 ≤ now
+
+abbrev pub EndedLine : Setup → ℕ → Call → List Stamped → List Entry → List ℕ → ℕ → Why → Type 0
+EndedLine setup now call past rest peer near Cancelled = CancelledLine call (facts_of past) peer
+EndedLine setup now call past rest peer near Expired = IsTick call × IsOverdue now past peer near
+EndedLine setup now call past rest peer near Glare = BornFollows peer rest
+EndedLine setup now call past rest peer near Override = BornFollows peer rest
+EndedLine setup now call past rest peer near Unconfirmed = IsTick call × IsUnconfirmed now past peer
+EndedLine setup now call past rest peer near Near = ClosesSession call near
+EndedLine setup now call past rest peer near Far = FarLine setup call past peer near
+EndedLine setup now call past rest peer near Idle = IsTick call × IsIdle setup now past peer near
 
 -- What a fact asks of its event, beside what the facts before it ask.
 abbrev pub FactLine : Setup → ℕ → Call → List Stamped → List Entry → Fact → Type 0
 FactLine setup now call past rest (Started peer n near ni) =
-    StartedLine call (facts_of past) peer near ni
-FactLine setup now call past rest (Born j) = BornLine setup now call (facts_of past) j
+    StartedLine call past peer near ni
+FactLine setup now call past rest (Born j) = BornLine setup now call past j
 FactLine setup now call past rest (Opened j) = TakesAnswer setup call j
 FactLine setup now call past rest (Confirmed peer near) =
     ConfirmedLine setup call (facts_of past) peer near
-FactLine setup now call past rest (Ended peer near why) = EndedLine now call past rest peer near why
+FactLine setup now call past rest (Ended peer near why) =
+    EndedLine setup now call past rest peer near why
 
 -- The number of an attempt is one of 64 bits, as its keying has 8 bytes for it.
 abbrev pub IsCounted : Fact → Type 0
@@ -246,12 +289,12 @@ IsFarOf (HalfOpen j) sid = sid ≡ j.far
 IsFarOf (KeptAsResponder j) sid = sid ≡ j.far
 IsFarOf (KeptAsInitiator j) sid = sid ≡ j.far
 
--- A datagram in a session's context goes under the far ID of a session that is held, in the
--- direction away from this end.
-abbrev pub InSession : Setup → List Fact → ℕ → Context → Type 0
-InSession setup facts sid Startup = Unit {0}
-InSession setup facts sid (Session ni nr fp_i fp_r sid_i sid_r to_responder) =
-    (thing : Held) × (near : ℕ) × HeldUnder facts near thing ×
+-- A datagram in a session's context goes under the far ID of a session that is held or closing, in
+-- the direction away from this end.
+abbrev pub InSession : Setup → List Stamped → ℕ → Context → Type 0
+InSession setup past sid Startup = Unit {0}
+InSession setup past sid (Session ni nr fp_i fp_r sid_i sid_r to_responder) =
+    (thing : Held) × (near : ℕ) × StandsUnder past near thing ×
     (Session ni nr fp_i fp_r sid_i sid_r to_responder ≡ outward (own_of setup) thing) ×
     IsFarOf thing sid
 
@@ -267,22 +310,37 @@ pub record OutLine (setup : Setup) (past : List Stamped) (sent : List ℕ) (cont
       KeyingsAre (λ near cookie cert part sign. KeyingOfAttempt setup context (facts_of past) near
       cert part) (λ near part sign. KeyingOfBorn setup context (facts_of past) sid near part)
       packet
-  pub session : InSession setup (facts_of past) sid context
+  pub session : InSession setup past sid context
+
+-- ---- the line of a session that is over
+
+-- The session under this session ID is closing; the call takes a datagram in it that has the answer
+-- to a close, or time has gone on for 19,000 ms since it was closed.
+pub record ClosedLine (setup : Setup) (now : ℕ) (call : Call) (past : List Stamped) (near : ℕ)
+    : Type 0 where
+  pub thing : Held
+  pub at : ℕ
+  pub closing : IsClosing near thing at past
+  pub by : TakesChunkIn setup past thing near (receive_in call) CloseAck ⊎
+      (IsTick call × (at + 19000 ≤ now))
 
 -- ---- the table
 
--- the line of an entry, which is a fact, a datagram that goes out, or neither
+-- the line of an entry, which is a fact, a datagram that goes out, the end of a closing, or none of
+-- these
 abbrev pub LineOf : Setup → ℕ → Call → List Stamped → List Entry → Option Fact → Option Sending →
-    Type 0
-LineOf setup now call past rest (Some fact) sent =
+    Option ℕ → Type 0
+LineOf setup now call past rest (Some fact) sent over =
     Stands (own_of setup) (count (facts_of past)) (facts_of past) fact ×
     FactLine setup now call past rest fact × IsCounted fact
-LineOf setup now call past rest None (Some sent) = OutLine setup past sent.datagram sent.context
-LineOf setup now call past rest None None = Unit {0}
+LineOf setup now call past rest None (Some sent) over =
+    OutLine setup past sent.datagram sent.context
+LineOf setup now call past rest None None (Some near) = ClosedLine setup now call past near
+LineOf setup now call past rest None None None = Unit {0}
 
 abbrev pub Line : Setup → ℕ → Call → List Stamped → List Entry → Entry → Type 0
 Line setup now call past rest entry =
-    LineOf setup now call past rest (fact_in entry) (out_in entry)
+    LineOf setup now call past rest (fact_in entry) (out_in entry) (closed_in entry)
 
 -- the entries of an event, in order
 abbrev pub EntriesLawful : Setup → ℕ → Call → List Stamped → List Entry → Type 0

@@ -24,7 +24,7 @@ abbrev pub IsCall : Call → Type 0
 IsCall (Open peer candidates draws) = (length peer ≡ 32) × (length draws.nonce ≡ 16) ×
     (draws.word < 2 ^ 32) × (length draws.tag ≡ 16)
 IsCall (Receive from datagram draws) = AreBytes datagram × (length draws.nonce ≡ 16) ×
-    (draws.word < 2 ^ 32)
+    (draws.word < 2 ^ 32) × (length draws.token ≡ 16)
 IsCall call = Unit {0}
 
 abbrev pub AreCalls : List Event → Type 0

@@ -1,5 +1,6 @@
 pub mod Past
 pub mod Contexts
+pub mod Taken
 pub mod Admissible
 pub mod Lawful
 pub mod History

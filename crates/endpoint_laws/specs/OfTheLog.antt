@@ -1,9 +1,8 @@
 -- What an end keeps is what its log says.
-use Rattle.std.specs.Prelude.{ℕ, ◌≡◌, List, [], length, Some}
+use Rattle.std.specs.Prelude.{ℕ, ◌≡◌, ◌⊎◌, List, [], length, Some}
 use Rattle.std.specs.List.{list_any}
 use Rattle.std.specs.Str.{bytes_eq}
 use Rattle.std.specs.FinMap.{get}
-use Rattle.glare_core.specs.declared.facts.Fact.{Fact}
 use Rattle.glare_core.specs.declared.facts.Fact.TheVariants.{Started}
 use Rattle.glare_core.specs.declared.facts.Held.{Held}
 use Rattle.glare_core.specs.declared.facts.Held.TheVariants.{Opening as AttemptHeld, HalfOpen, KeptAsResponder, KeptAsInitiator}
@@ -20,14 +19,14 @@ use Rattle.session_core.specs.Session.{SessionState}
 use Rattle.endpoint_model.specs.declared.row.Row.{Row}
 use Rattle.endpoint_model.specs.declared.entry.Entry.TheVariants.{Fact as FactEntry}
 use Rattle.endpoint_model.specs.Event.{Setup, own_of, Event}
-use Rattle.endpoint_laws.specs.Past.{Stamped, stamped, facts_of, ids_in_use, is_in_use, WasDone, past_of, last_moment}
+use Rattle.endpoint_laws.specs.Past.{Stamped, stamped, facts_of, ids_in_use, is_in_use, IsClosing, WasDone, past_of, last_moment}
 use Rattle.endpoint_model.specs.State.{State, uses, is_used}
 use Rattle.endpoint_model.specs.Log.{StandsFor}
 use Rattle.endpoint_laws.specs.Laws.{IsSetup, AreCalls}
 
--- The session with this role and stage is that thing: a session that was opened here is open, and
--- one that was born here is half-open until it is confirmed, and open then. No end closes sessions
--- yet.
+-- The session with this role and stage is held as that thing: a session that was opened here is
+-- open, and one that was born here is half-open until it is confirmed, and open then. One that is
+-- closing isn't held.
 abbrev pub IsThing : Role → Stage → Joined → Held → Type 0
 IsThing Initiator Opening j thing = ⊥
 IsThing Initiator Open j thing = thing ≡ KeptAsInitiator j
@@ -53,12 +52,31 @@ pub record AttemptIsThere (s : State) (peer : List ℕ) (n near : ℕ) (ni : Lis
   pub n_is : attempt.n ≡ n
   pub ni_is : attempt.ni ≡ ni
 
--- The session under this session ID is held with its peer, in its stage.
-pub record SessionIsHeld (setup : Setup) (facts : List Fact) (near : ℕ) (session : SessionState)
-    : Type 0 where
-  pub thing : Held
-  pub is : IsThing session.role session.stage session.joined thing
-  pub is_held : held session.joined.peer facts ≡ Some thing
+-- The session with this role was that thing while it was held.
+abbrev pub WasThing : Role → Joined → Held → Type 0
+WasThing Initiator j thing = thing ≡ KeptAsInitiator j
+WasThing Responder j thing = (thing ≡ HalfOpen j) ⊎ (thing ≡ KeptAsResponder j)
+
+-- The session is closing, which this end or the peer began.
+abbrev pub IsClosingStage : Stage → Type 0
+IsClosingStage Opening = ⊥
+IsClosingStage Open = ⊥
+IsClosingStage NearClose = Unit {0}
+IsClosingStage FarLinger = Unit {0}
+IsClosingStage Closed = ⊥
+
+-- A session with this role and stage is held, or it is closing.
+abbrev pub SessionStands : List Stamped → ℕ → SessionState → Type 0
+SessionStands past near session =
+    ((thing : Held) × IsThing session.role session.stage session.joined thing ×
+    (held session.joined.peer (facts_of past) ≡ Some thing)) ⊎
+    (IsClosingStage session.stage × ((thing : Held) × (at : ℕ) ×
+    WasThing session.role session.joined thing × IsClosing near thing at past))
+
+-- The session under this session ID is held with its peer, in its stage, or closing.
+pub record SessionIsOfTheLog (setup : Setup) (past : List Stamped) (near : ℕ)
+    (session : SessionState) : Type 0 where
+  pub stands : SessionStands past near session
   pub id : session.joined.near ≡ near
   pub own : session.own ≡ own_of setup
 
@@ -68,11 +86,18 @@ pub record SessionIsThere (s : State) (thing : Held) : Type 0 where
   pub there : get s.sessions (near_of thing) ≡ Some row
   pub is : IsThing row.session.role row.session.stage row.session.joined thing
 
+-- A session that is closing is there under its session ID, in such a stage.
+pub record ClosingIsThere (s : State) (near : ℕ) (thing : Held) : Type 0 where
+  pub row : Row
+  pub there : get s.sessions near ≡ Some row
+  pub stage : IsClosingStage row.session.stage
+  pub is : WasThing row.session.role row.session.joined thing
+
 pub record IsOfTheLog (setup : Setup) (s : State) (now : ℕ) (past : List Stamped) : Type 0 where
   pub moment : s.moment ≡ now
   -- the session IDs in use, and how many there are
-  pub ids : (near : ℕ) → is_used s near ≡ is_in_use near (facts_of past)
-  pub uses_are : uses s ≡ length (ids_in_use (facts_of past))
+  pub ids : (near : ℕ) → is_used s near ≡ is_in_use near past
+  pub uses_are : uses s ≡ length (ids_in_use past)
   -- the attempts
   pub attempts : (near : ℕ) (a : AttemptState) → get s.startup.attempts near ≡ Some a →
       AttemptIsHeld past near a
@@ -80,9 +105,11 @@ pub record IsOfTheLog (setup : Setup) (s : State) (now : ℕ) (past : List Stamp
       held peer (facts_of past) ≡ Some (AttemptHeld n near ni) → AttemptIsThere s peer n near ni
   -- the sessions, with their stages
   pub sessions : (near : ℕ) (row : Row) → get s.sessions near ≡ Some row →
-      SessionIsHeld setup (facts_of past) near row.session
+      SessionIsOfTheLog setup past near row.session
   pub sessions_there : (peer : List ℕ) (thing : Held) → held peer (facts_of past) ≡ Some thing →
       IsSession thing → SessionIsThere s thing
+  pub closing_there : (near : ℕ) (thing : Held) (at : ℕ) → IsClosing near thing at past →
+      ClosingIsThere s near thing
   -- what is held with each peer, the greatest number seen of it, and whether it has a row
   pub held_is : (peer : List ℕ) → held_with s.startup.ledger peer ≡ held peer (facts_of past)
   pub floor_is : (peer : List ℕ) → floor_of s.startup.ledger peer ≡ seen peer (facts_of past)

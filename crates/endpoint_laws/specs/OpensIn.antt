@@ -8,12 +8,11 @@ use Rattle.crypto_profile.specs.Opening.{open_refusal}
 use Rattle.packet_scramble.specs.Datagram.{sid_of}
 use Rattle.session_core.specs.Session.{context_of}
 use Rattle.session_core.specs.Hearing.{opens_in as opens_in_session}
-use Rattle.glare_core.specs.declared.facts.Fact.{Fact}
 use Rattle.endpoint_model.specs.declared.row.Row.{Row}
 use Rattle.endpoint_model.specs.declared.place.Place.{Place}
 use Rattle.endpoint_model.specs.declared.place.Place.TheVariants.{Startup, Attempt, Session}
 use Rattle.endpoint_model.specs.Event.{Setup, Event, own_of}
-use Rattle.endpoint_laws.specs.Past.{facts_of, past_of}
+use Rattle.endpoint_laws.specs.Past.{Stamped, past_of}
 use Rattle.endpoint_laws.specs.Contexts.{ContextOf, OpensUnder}
 use Rattle.endpoint_model.specs.State.{State}
 use Rattle.endpoint_model.specs.Admission.{place_of, startup_keys}
@@ -52,13 +51,13 @@ abbrev pub opens_in : State → List ℕ → Option Context
 opens_in s datagram = if nat_lt (length datagram) 36 then None
     else context_found s (place_of s (sid_of datagram)) (drop 4 datagram)
 
--- ---- by what was stated
+-- ---- by what was done
 
--- At an end that stated these facts the context is that of the datagram's session ID, and the
+-- At an end that did this the context is that of the datagram's session ID, and the
 -- datagram opens in it.
-pub record OpensAt (setup : Setup) (facts : List Fact) (datagram : List ℕ) (context : Context)
+pub record OpensAt (setup : Setup) (past : List Stamped) (datagram : List ℕ) (context : Context)
     : Type 0 where
-  pub named : ContextOf (own_of setup) facts (sid_of datagram) context
+  pub named : ContextOf (own_of setup) past (sid_of datagram) context
   pub plain : List ℕ
   pub opens : OpensUnder setup.secret context (sid_of datagram) datagram plain
 
@@ -67,8 +66,8 @@ pub record OpensAt (setup : Setup) (facts : List Fact) (datagram : List ℕ) (co
 pub record IsContextAt (setup : Setup) (log : List Event) (datagram : List ℕ)
     (answer : Option Context) : Type 0 where
   pub opens : (context : Context) → answer ≡ Some context →
-      OpensAt setup (facts_of (past_of 0 [] log)) datagram context
-  pub all : (context : Context) → OpensAt setup (facts_of (past_of 0 [] log)) datagram context →
+      OpensAt setup (past_of 0 [] log) datagram context
+  pub all : (context : Context) → OpensAt setup (past_of 0 [] log) datagram context →
       answer ≡ Some context
 
 -- It is so for every log that the end stands for.

@@ -1,12 +1,16 @@
 -- What an end did so far: the events that began and the entries that were added, the newest first,
 -- each with the moment of its event. Whoever asks of the past does so by the names below.
-use Rattle.std.specs.Prelude.{ℕ, List, [], ◌∷◌, ◌==◌, ◌≡◌, ◌⊎◌, not, filter, Bool, Option, Some, None}
+use Rattle.std.specs.Prelude.{ℕ, List, [], ◌∷◌, ◌==◌, ◌≡◌, ◌≢◌, ◌⊎◌, not, filter, Bool, true, false, if◌then◌else◌, Option, Some, None}
 use Rattle.std.specs.List.{list_any}
+use Rattle.glare_core.specs.declared.facts.Why.{Why}
+use Rattle.glare_core.specs.declared.facts.Why.TheVariants.{Cancelled, Expired, Glare, Override, Unconfirmed, Near, Far, Idle}
+use Rattle.glare_core.specs.declared.facts.Held.{Held}
 use Rattle.glare_core.specs.declared.facts.Fact.{Fact}
 use Rattle.glare_core.specs.declared.facts.Fact.TheVariants.{Started, Born, Opened, Confirmed, Ended}
+use Rattle.glare_core.specs.Standing.{held}
 use Rattle.endpoint_model.specs.declared.entry.Entry.{Entry}
 use Rattle.endpoint_model.specs.Event.{Event, moment_at}
-use Rattle.endpoint_model.specs.Views.{Sending, fact_in, out_in}
+use Rattle.endpoint_model.specs.Views.{Sending, fact_in, out_in, closed_in}
 
 -- what happened: an event began, or an entry was added in it
 pub data Happening : Type 0 where
@@ -40,6 +44,10 @@ abbrev pub out_done : Happening → Option Sending
 out_done (OfEvent event) = None
 out_done (OfEntry entry) = out_in entry
 
+abbrev pub closed_done : Happening → Option ℕ
+closed_done (OfEvent event) = None
+closed_done (OfEntry entry) = closed_in entry
+
 -- a fact on top of others, where there is one
 abbrev pub fact_and : Option Fact → List Fact → List Fact
 fact_and None facts = facts
@@ -50,19 +58,69 @@ abbrev pub facts_of : List Stamped → List Fact
 facts_of [] = []
 facts_of (s ∷ earlier) = fact_and (fact_done s.what) (facts_of earlier)
 
--- The session IDs that are in use: those of the things that are held, from their Started or Born
--- until their Ended.
-abbrev pub ids_in_use : List Fact → List ℕ
+-- ---- closing
+
+-- After these ends a session is closing: this end or the peer closed it.
+abbrev pub is_close : Why → Bool
+is_close Cancelled = false
+is_close Expired = false
+is_close Glare = false
+is_close Override = false
+is_close Unconfirmed = false
+is_close Near = true
+is_close Far = true
+is_close Idle = false
+
+-- The fact closes this thing, which was held under this session ID.
+abbrev pub Closes : ℕ → Held → List Fact → Option Fact → Type 0
+Closes near thing before None = ⊥
+Closes near thing before (Some (Started peer n id ni)) = ⊥
+Closes near thing before (Some (Born j)) = ⊥
+Closes near thing before (Some (Opened j)) = ⊥
+Closes near thing before (Some (Confirmed peer id)) = ⊥
+Closes near thing before (Some (Ended peer id why)) =
+    (id ≡ near) × (is_close why ≡ true) × (held peer before ≡ Some thing)
+
+-- It isn't over.
+abbrev pub GoesOn : ℕ → Option ℕ → Type 0
+GoesOn near None = Unit {0}
+GoesOn near (Some id) = id ≢ near
+
+-- The session under this session ID is closing: this thing was closed at this moment, and its
+-- closing isn't over since.
+abbrev pub IsClosing : ℕ → Held → ℕ → List Stamped → Type 0
+IsClosing near thing at [] = ⊥
+IsClosing near thing at (s ∷ earlier) =
+    (Closes near thing (facts_of earlier) (fact_done s.what) × (s.moment ≡ at)) ⊎
+    (GoesOn near (closed_done s.what) × IsClosing near thing at earlier)
+
+-- ---- session IDs
+
+-- the session IDs in use after a fact
+abbrev pub ids_after : Option Fact → List ℕ → List ℕ
+ids_after None ids = ids
+ids_after (Some (Started peer n near ni)) ids = near ∷ ids
+ids_after (Some (Born j)) ids = j.near ∷ ids
+ids_after (Some (Opened j)) ids = ids
+ids_after (Some (Confirmed peer near)) ids = ids
+ids_after (Some (Ended peer near why)) ids =
+    if is_close why then ids else filter (λ id. not (id == near)) ids
+
+-- and after a closing is over
+abbrev pub ids_left : Option ℕ → List ℕ → List ℕ
+ids_left None ids = ids
+ids_left (Some near) ids = filter (λ id. not (id == near)) ids
+
+-- The session IDs that are in use: those of the things that are held or closing, from their Started
+-- or Born until their Ended or Closed.
+abbrev pub ids_in_use : List Stamped → List ℕ
 ids_in_use [] = []
-ids_in_use (Started peer n near ni ∷ earlier) = near ∷ ids_in_use earlier
-ids_in_use (Born j ∷ earlier) = j.near ∷ ids_in_use earlier
-ids_in_use (Opened j ∷ earlier) = ids_in_use earlier
-ids_in_use (Confirmed peer near ∷ earlier) = ids_in_use earlier
-ids_in_use (Ended peer near why ∷ earlier) = filter (λ id. not (id == near)) (ids_in_use earlier)
+ids_in_use (s ∷ earlier) =
+    ids_left (closed_done s.what) (ids_after (fact_done s.what) (ids_in_use earlier))
 
 -- whether a session ID is in use
-abbrev pub is_in_use : ℕ → List Fact → Bool
-is_in_use near facts = list_any (λ id. id == near) (ids_in_use facts)
+abbrev pub is_in_use : ℕ → List Stamped → Bool
+is_in_use near past = list_any (λ id. id == near) (ids_in_use past)
 
 -- This was done before.
 abbrev pub WasDone : Stamped → List Stamped → Type 0
