@@ -204,7 +204,7 @@ counted_leaves setup past s datagram part near None is tied sent heard = record 
 counted_leaves setup past s datagram part near (Some row) is tied sent heard =
     let new : Row = record row { session = counted row.session part } in
     record {
-      tied = tied_session setup past s near row new tied is refl (λ ours. record { own = ours.own; secret = ours.secret; stage = ours.stage });
+      tied = tied_session setup past s near row new tied is (record { joined = refl; own = refl; secret = refl; role = refl; held = refl; thing = λ e. refl; stage = λ f. f; since = λ e. inl refl });
       sent = sent_session_changed setup past s near row new sent is refl refl refl refl;
       same = record { moment = refl; sealed = refl };
       heard = subst (HeardIn datagram near) (sym (get_inserted s.sessions near new)) heard;
@@ -216,7 +216,7 @@ timed_leaves setup past s datagram head near None is tied sent heard = record { 
 timed_leaves setup past s datagram head near (Some row) is tied sent heard =
     let new : Row = record row { session = with_stamps head s.moment row.session } in
     record {
-      tied = tied_session setup past s near row new tied is refl (λ ours. record { own = ours.own; secret = ours.secret; stage = ours.stage });
+      tied = tied_session setup past s near row new tied is (record { joined = refl; own = refl; secret = refl; role = refl; held = refl; thing = λ e. refl; stage = λ f. f; since = λ e. inl refl });
       sent = sent_session_changed setup past s near row new sent is refl refl refl refl;
       same = record { moment = refl; sealed = refl };
       heard = subst (HeardIn datagram near) (sym (get_inserted s.sessions near new)) heard;

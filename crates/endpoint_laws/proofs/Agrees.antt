@@ -1,5 +1,5 @@
 -- The state agrees with what was done, the account of the ledger aside; and what is kept of that when one thing changes.
-use Rattle.std.proofs.Common.{◌≡◌, ℕ, ◌≤◌, List, Option, Some, None, is_some, ◌||◌, inl, inr, refl, sym, ap, subst, ◌∙◌}
+use Rattle.std.proofs.Common.{◌≡◌, ℕ, ◌≤◌, List, Bool, true, false, if◌then◌else◌, Option, Some, None, is_some, ◌||◌, inl, inr, refl, sym, ap, subst, ◌∙◌}
 use Rattle.std.specs.FinMap.{get}
 use Rattle.sha2.specs.Sha256.{sha256}
 use Rattle.glare_core.specs.declared.facts.Fact.TheVariants.{Started}
@@ -16,28 +16,30 @@ use Rattle.session_core.specs.declared.stage.Role.TheVariants.{Initiator, Respon
 use Rattle.session_core.specs.declared.stage.Stage.{Stage}
 use Rattle.session_core.specs.declared.stage.Stage.TheVariants.{Opening, Open, NearClose, FarLinger, Closed}
 use Rattle.session_core.specs.Session.{SessionState}
+use Rattle.session_core.specs.Closing.{is_held}
 use Rattle.endpoint_model.specs.declared.row.Row.{Row}
 use Rattle.endpoint_model.specs.declared.entry.Entry.TheVariants.{Fact as FactEntry}
 use Rattle.endpoint_model.specs.Event.{Setup, own_of}
-use Rattle.endpoint_laws.specs.Past.{Stamped, stamped, facts_of, ids_in_use, WasDone}
+use Rattle.endpoint_laws.specs.Past.{Stamped, stamped, facts_of, ids_in_use, IsClosing, WasDone}
 use Rattle.endpoint_model.specs.State.{State, is_used}
-use Rattle.endpoint_laws.proofs.Matching.{Found, of_peer, Matches, Ids}
-use Rattle.endpoint_laws.proofs.Tied.{Tied, StageFits, thing_of, peer_at}
+use Rattle.endpoint_laws.proofs.Matching.{Found, of_peer, of_some, Matches, Ids}
+use Rattle.endpoint_laws.proofs.Tied.{Tied, AreBy, StageFits, IsClosed, IsClosedThing, thing_of, held_of, found_in}
 
 -- what stands under a session ID, with its peer
 abbrev pub combined : ℕ → Option AttemptState → Option Row → Found
 combined near (Some a) o = Some (a.peer, OpeningHeld a.n near a.ni)
-combined near None (Some row) = Some (row.session.joined.peer, thing_of row.session.role row.session.stage row.session.joined)
-combined near None None = None
+combined near None o = found_in o
 
 abbrev pub thing_at : State → ℕ → Found
 thing_at s near = combined near (get s.startup.attempts near) (get s.sessions near)
 
--- The session is one of this end.
-pub record IsOurs (setup : Setup) (session : SessionState) : Type 0 where
+-- The session under this session ID is one of this end.
+pub record IsOurs (setup : Setup) (past : List Stamped) (near : ℕ) (session : SessionState) : Type 0 where
+  pub id : session.joined.near ≡ near
   pub own : session.own ≡ own_of setup
   pub secret : session.secret ≡ setup.secret
   pub stage : StageFits session.role session.stage
+  pub closed : is_held session.stage ≡ false → IsClosed past near session
 
 -- what was given at the beginning
 pub record IsGiven (setup : Setup) (s : State) : Type 0 where
@@ -51,13 +53,19 @@ pub record IsGiven (setup : Setup) (s : State) : Type 0 where
 abbrev pub WasStarted : List Stamped → ℕ → AttemptState → Type 0
 WasStarted past near a = WasDone (stamped a.start (FactEntry (Started a.peer a.n near a.ni))) past
 
+-- What closes by what was done is closing under its session ID.
+abbrev pub ClosesAt : List Stamped → ℕ → Option Row → Type 0
+ClosesAt past near o = (thing : Held) (at : ℕ) → IsClosing near thing at past → IsClosedThing o thing
+
 pub record Agrees (setup : Setup) (past : List Stamped) (s : State) : Type 0 where
   pub given : IsGiven setup s
   pub matches : Matches (thing_at s) (held_with s.startup.ledger)
-  pub ours : (near : ℕ) (row : Row) → get s.sessions near ≡ Some row → IsOurs setup row.session
+  pub ours : (near : ℕ) (row : Row) → get s.sessions near ≡ Some row → IsOurs setup past near row.session
+  pub closing : (near : ℕ) → ClosesAt past near (get s.sessions near)
   pub apart : (near : ℕ) (a : AttemptState) → get s.startup.attempts near ≡ Some a → get s.sessions near ≡ None
   pub started : (near : ℕ) (a : AttemptState) → get s.startup.attempts near ≡ Some a → WasStarted past near a
-  pub ids : Ids setup.config.max_sessions (ids_in_use (facts_of past)) s
+  pub ids : Ids setup.config.max_sessions (ids_in_use past) s
+  pub by_now : AreBy s.moment past
   pub rows : row_count s.startup.ledger ≤ setup.config.max_peers
 
 -- ---- both ways between this and the whole
@@ -81,12 +89,46 @@ is_session Responder Closed j = tt
 not_opening : (h : Held) (n near : ℕ) (ni : List ℕ) → IsSession h → h ≡ OpeningHeld n near ni → ⊥
 not_opening h n near ni is e = subst IsSession e is
 
+-- what is held for a session is the thing that it is, and then it is held
+held_if : (b : Bool) (thing h : Held) → ◌≡◌ {A = Option Held} (if b then Some thing else None) (Some h) → (b ≡ true) × (thing ≡ h)
+held_if true thing h e = (refl, let same : thing ≡ h = cc in same)
+held_if false thing h e = absurd (cc)
+
+pub held_in : (session : SessionState) (h : Held) → held_of session ≡ Some h → (is_held session.stage ≡ true) × (thing_of session.role session.stage session.joined ≡ h)
+held_in session h e = held_if (is_held session.stage) (thing_of session.role session.stage session.joined) h e
+
+-- what is found of a session with its peer
+pub record IsFoundIn (row : Row) (p : List ℕ) (h : Held) : Type 0 where
+  pub peer : row.session.joined.peer ≡ p
+  pub held : is_held row.session.stage ≡ true
+  pub thing : thing_of row.session.role row.session.stage row.session.joined ≡ h
+
+pub in_row : (row : Row) (p : List ℕ) (h : Held) → found_in (Some row) ≡ Some (p, h) → IsFoundIn row p h
+in_row row p h e =
+    let both = of_some row.session.joined.peer (held_of row.session) p h e in
+    let is = held_in row.session h both.1 in
+    record { peer = both.0; held = is.0; thing = is.1 }
+
+-- it is there
+pub found_row : (o : Option Row) (p : List ℕ) (h : Held) → found_in o ≡ Some (p, h) → (row : Row) × (o ≡ Some row) × IsFoundIn row p h
+found_row None p h e = absurd (cc)
+found_row (Some row) p h e = (row, refl, in_row row p h e)
+
+pub held_row_is : (row : Row) → is_held row.session.stage ≡ true → found_in (Some row) ≡ Some (row.session.joined.peer, thing_of row.session.role row.session.stage row.session.joined)
+held_row_is row e = ap (λ (b : Bool). of_peer row.session.joined.peer (if b then Some (thing_of row.session.role row.session.stage row.session.joined) else None)) e
+
+pub closing_row_is : (row : Row) → is_held row.session.stage ≡ false → found_in (Some row) ≡ None
+closing_row_is row e = ap (λ (b : Bool). of_peer row.session.joined.peer (if b then Some (thing_of row.session.role row.session.stage row.session.joined) else None)) e
+
 pub found_of_attempt : (s : State) (near : ℕ) (a : AttemptState) → get s.startup.attempts near ≡ Some a → thing_at s near ≡ Some (a.peer, OpeningHeld a.n near a.ni)
 found_of_attempt s near a e = ap (λ (o : Option AttemptState). combined near o (get s.sessions near)) e
 
-pub found_of_session : (s : State) (near : ℕ) (row : Row) → get s.startup.attempts near ≡ None → get s.sessions near ≡ Some row →
+pub found_at : (s : State) (near : ℕ) (row : Row) → get s.startup.attempts near ≡ None → get s.sessions near ≡ Some row → thing_at s near ≡ found_in (Some row)
+found_at s near row none e = ap (λ (o : Option AttemptState). combined near o (get s.sessions near)) none ∙ ap found_in e
+
+pub found_of_session : (s : State) (near : ℕ) (row : Row) → get s.startup.attempts near ≡ None → get s.sessions near ≡ Some row → is_held row.session.stage ≡ true →
     thing_at s near ≡ Some (row.session.joined.peer, thing_of row.session.role row.session.stage row.session.joined)
-found_of_session s near row none e = ap (λ (o : Option AttemptState). combined near o (get s.sessions near)) none ∙ ap (combined near None) e
+found_of_session s near row none e held = found_at s near row none e ∙ held_row_is row held
 
 -- under the session ID of a session there is no attempt
 pub no_attempt : (s : State) (near : ℕ) (row : Row) → ((a : AttemptState) → get s.startup.attempts near ≡ Some a → get s.sessions near ≡ None) →
@@ -99,18 +141,19 @@ no_attempt s near row apart e = go (get s.startup.attempts near) refl
 
 -- what is found is an attempt or a session
 peer_of_found : (near : ℕ) (oa : Option AttemptState) (os : Option Row) (peer : List ℕ) (h : Held) → combined near oa os ≡ Some (peer, h) →
-    (((n m : ℕ) (ni : List ℕ) → h ≡ OpeningHeld n m ni → peer_of_attempt oa ≡ Some peer) × (IsSession h → peer_at os ≡ Some peer))
+    (((n m : ℕ) (ni : List ℕ) → h ≡ OpeningHeld n m ni → peer_of_attempt oa ≡ Some peer) × (IsSession h → found_in os ≡ Some (peer, h)))
 peer_of_found near (Some a) os peer h e =
     let same : (a.peer, OpeningHeld a.n near a.ni) ≡ (peer, h) = cc in
     let p : a.peer ≡ peer = ap (λ (x : List ℕ × Held). x.0) same in
     let t : OpeningHeld a.n near a.ni ≡ h = ap (λ (x : List ℕ × Held). x.1) same in
     ((λ n m ni is. ap (λ (q : List ℕ). Some q) p), (λ is. absurd (not_opening h a.n near a.ni is (sym t))))
-peer_of_found near None (Some row) peer h e =
-    let same : (row.session.joined.peer, thing_of row.session.role row.session.stage row.session.joined) ≡ (peer, h) = cc in
-    let p : row.session.joined.peer ≡ peer = ap (λ (x : List ℕ × Held). x.0) same in
-    let t : thing_of row.session.role row.session.stage row.session.joined ≡ h = ap (λ (x : List ℕ × Held). x.1) same in
-    ((λ n m ni is. absurd (not_opening (thing_of row.session.role row.session.stage row.session.joined) n m ni (is_session row.session.role row.session.stage row.session.joined) (t ∙ is))), (λ is. ap (λ (q : List ℕ). Some q) p))
-peer_of_found near None None peer h e = absurd (cc)
+peer_of_found near None os peer h e = (
+  (λ n m ni is.
+      let found = found_row os peer h e in
+      let row : Row = found.0 in
+      absurd (not_opening (thing_of row.session.role row.session.stage row.session.joined) n m ni (is_session row.session.role row.session.stage row.session.joined) (found.2.thing ∙ is))),
+  (λ is. e),
+)
 
 pub tied_of : (setup : Setup) (past : List Stamped) (s : State) → Agrees setup past s → StandsFor 0 s.startup.ledger (facts_of past) → Tied setup past s
 tied_of setup past s a account = record {
@@ -128,23 +171,26 @@ tied_of setup past s a account = record {
         (peer_of_found near (get s.startup.attempts near) (get s.sessions near) peer (OpeningHeld n near ni) (a.matches.there peer (OpeningHeld n near ni) e)).0 n near ni refl;
   };
   sessions = λ near row e.
-      let found = a.matches.found near row.session.joined.peer (thing_of row.session.role row.session.stage row.session.joined) (found_of_session s near row (no_attempt s near row (a.apart near) e) e) in
       let ours = a.ours near row e in
       record {
-        id = sym (near_of_session row.session.role row.session.stage row.session.joined) ∙ found.1;
+        id = ours.id;
         own = ours.own;
         secret = ours.secret;
         stage = ours.stage;
-        thing = found.0;
+        thing = λ held.
+            (a.matches.found near row.session.joined.peer (thing_of row.session.role row.session.stage row.session.joined) (found_of_session s near row (no_attempt s near row (a.apart near) e) e held)).0;
+        closed = ours.closed;
       };
   there = λ peer thing e is.
       (peer_of_found (near_of thing) (get s.startup.attempts (near_of thing)) (get s.sessions (near_of thing)) peer thing (a.matches.there peer thing e)).1 is;
+  closing = a.closing;
   apart = a.apart;
   started = a.started;
   used = a.ids.used;
   count = a.ids.count;
   once = a.ids.once;
   not_zero = a.ids.not_zero;
+  by_now = a.by_now;
   within = a.ids.within;
   rows = a.rows;
 }
@@ -156,11 +202,13 @@ found_is setup past s t near (Some a) os ea es p h e =
     let same : (a.peer, OpeningHeld a.n near a.ni) ≡ (p, h) = cc in
     let is : held_with s.startup.ledger a.peer ≡ Some (OpeningHeld a.n near a.ni) = t.sound.held near a ea in
     (subst (λ (x : List ℕ × Held). (held_with s.startup.ledger x.0 ≡ Some x.1) × (near_of x.1 ≡ near)) same (is, refl))
-found_is setup past s t near None (Some row) ea es p h e =
-    let same : (row.session.joined.peer, thing_of row.session.role row.session.stage row.session.joined) ≡ (p, h) = cc in
-    let is = t.sessions near row es in
-    (subst (λ (x : List ℕ × Held). (held_with s.startup.ledger x.0 ≡ Some x.1) × (near_of x.1 ≡ near)) same (is.thing, near_of_session row.session.role row.session.stage row.session.joined ∙ is.id))
-found_is setup past s t near None None ea es p h e = absurd (cc)
+found_is setup past s t near None os ea es p h e =
+    let found = found_row os p h e in
+    let row : Row = found.0 in
+    let is = t.sessions near row (es ∙ found.1) in
+    let held : held_with s.startup.ledger p ≡ Some h =
+    ap (held_with s.startup.ledger) (sym found.2.peer) ∙ is.thing found.2.held ∙ ap (λ (x : Held). Some x) found.2.thing in
+    (held, ap near_of (sym found.2.thing) ∙ near_of_session row.session.role row.session.stage row.session.joined ∙ is.id)
 
 attempt_there : (setup : Setup) (past : List Stamped) (s : State) → Tied setup past s → (peer : List ℕ) (n near : ℕ) (ni : List ℕ) → held_with s.startup.ledger peer ≡ Some (OpeningHeld n near ni) →
     thing_at s near ≡ Some (peer, OpeningHeld n near ni)
@@ -175,15 +223,10 @@ attempt_there setup past s t peer n near ni e = go (get s.startup.attempts near)
 
 session_there : (setup : Setup) (past : List Stamped) (s : State) → Tied setup past s → (peer : List ℕ) (thing : Held) → held_with s.startup.ledger peer ≡ Some thing → IsSession thing →
     thing_at s (near_of thing) ≡ Some (peer, thing)
-session_there setup past s t peer thing e sess = go (get s.sessions (near_of thing)) refl (t.there peer thing e sess)
-  where
-    go : (o : Option Row) → get s.sessions (near_of thing) ≡ o → peer_at o ≡ Some peer → thing_at s (near_of thing) ≡ Some (peer, thing)
-    go None is at = absurd (cc)
-    go (Some row) is at =
-        let p : row.session.joined.peer ≡ peer = cc in
-        let both : Some (thing_of row.session.role row.session.stage row.session.joined) ≡ Some thing = sym (t.sessions (near_of thing) row is).thing ∙ ap (held_with s.startup.ledger) p ∙ e in
-        found_of_session s (near_of thing) row (no_attempt s (near_of thing) row (t.apart (near_of thing)) is) is
-        ∙ ap (λ (q : List ℕ). Some (q, thing_of row.session.role row.session.stage row.session.joined)) p ∙ ap (of_peer peer) both
+session_there setup past s t peer thing e sess =
+    let found = t.there peer thing e sess in
+    let row = found_row (get s.sessions (near_of thing)) peer thing found in
+    ap (λ (o : Option AttemptState). combined (near_of thing) o (get s.sessions (near_of thing))) (no_attempt s (near_of thing) row.0 (t.apart (near_of thing)) row.1) ∙ found
 
 held_there : (setup : Setup) (past : List Stamped) (s : State) → Tied setup past s → (peer : List ℕ) (thing : Held) → held_with s.startup.ledger peer ≡ Some thing →
     thing_at s (near_of thing) ≡ Some (peer, thing)
@@ -199,12 +242,36 @@ agrees_of setup past s t = record {
     found = λ near p h e. found_is setup past s t near (get s.startup.attempts near) (get s.sessions near) refl refl p h e;
     there = held_there setup past s t;
   };
-  ours = λ near row e. let is = t.sessions near row e in record { own = is.own; secret = is.secret; stage = is.stage };
+  ours = λ near row e. let is = t.sessions near row e in record { id = is.id; own = is.own; secret = is.secret; stage = is.stage; closed = is.closed };
+  closing = t.closing;
   apart = t.apart;
   started = t.started;
   ids = record { used = t.used; count = t.count; once = t.once; not_zero = t.not_zero; within = t.within };
+  by_now = t.by_now;
   rows = t.rows;
 }
+
+-- ---- nothing closes where something is held, or nothing stands
+
+clash : (b : Bool) → b ≡ true → b ≡ false → ⊥
+clash b p q = let e : true ≡ false = sym p ∙ q in cc
+
+-- under the session ID of what is held nothing closes
+pub none_closes : (setup : Setup) (past : List Stamped) (s : State) → Agrees setup past s → (near : ℕ) (p : List ℕ) (h : Held) → thing_at s near ≡ Some (p, h) → (thing : Held) (at : ℕ) → IsClosing near thing at past → ⊥
+none_closes setup past s a near p h is thing at c = by (get s.startup.attempts near) refl (get s.sessions near) refl (a.closing near thing at c)
+  where
+    in_session : (o : Option Row) → found_in o ≡ Some (p, h) → IsClosedThing o thing → ⊥
+    in_session None e closed = closed
+    in_session (Some row) e closed = clash (is_held row.session.stage) (in_row row p h e).held closed.0
+
+    by : (oa : Option AttemptState) → get s.startup.attempts near ≡ oa → (os : Option Row) → get s.sessions near ≡ os → IsClosedThing os thing → ⊥
+    by (Some b) ea None es closed = closed
+    by (Some b) ea (Some row) es closed = none_is_some row (get s.sessions near) (a.apart near b ea) es
+    by None ea os es closed = in_session os (sym (ap (λ (o : Option AttemptState). combined near o os) ea) ∙ ap (combined near (get s.startup.attempts near)) (sym es) ∙ is) closed
+
+-- and under one that isn't used
+pub none_closes_there : (past : List Stamped) (near : ℕ) (o : Option Row) → ClosesAt past near o → o ≡ None → (thing : Held) (at : ℕ) → IsClosing near thing at past → ⊥
+none_closes_there past near o closing none thing at c = subst (λ (x : Option Row). IsClosedThing x thing) none (closing thing at c)
 
 -- ---- one thing changes
 
@@ -215,10 +282,16 @@ pub record IsAt (near : ℕ) (oa : Option AttemptState) (os : Option Row) (s t :
   pub attempts : (q : ℕ) → (q ≡ near → ⊥) → get t.startup.attempts q ≡ get s.startup.attempts q
   pub sessions : (q : ℕ) → (q ≡ near → ⊥) → get t.sessions q ≡ get s.sessions q
 
+-- More was done, that begins and ends no closing but under one session ID.
+pub record GoesOnBeside (near : ℕ) (past now : List Stamped) : Type 0 where
+  pub done : (x : Stamped) → WasDone x past → WasDone x now
+  pub closing : (q : ℕ) → (q ≡ near → ⊥) → (thing : Held) (at : ℕ) → IsClosing q thing at past → IsClosing q thing at now
+  pub back : (q : ℕ) → (q ≡ near → ⊥) → (thing : Held) (at : ℕ) → IsClosing q thing at now → IsClosing q thing at past
+
 -- an attempt or a session of this end, and not both
 abbrev pub Fits : Setup → List Stamped → ℕ → Option AttemptState → Option Row → Type 0
 Fits setup past near None None = Unit {0}
-Fits setup past near None (Some row) = IsOurs setup row.session
+Fits setup past near None (Some row) = IsOurs setup past near row.session
 Fits setup past near (Some a) None = WasStarted past near a
 Fits setup past near (Some a) (Some row) = ⊥
 
@@ -237,9 +310,9 @@ pub used_here : (near : ℕ) (oa : Option AttemptState) (os : Option Row) (s t :
 used_here near oa os s t at =
     ap (λ (o : Option AttemptState). is_some o || is_some (get t.sessions near)) at.attempt ∙ ap (λ (o : Option Row). is_some oa || is_some o) at.session
 
-fits_session : (setup : Setup) (past : List Stamped) (near : ℕ) (oa : Option AttemptState) (os : Option Row) (row : Row) → Fits setup past near oa os → os ≡ Some row → IsOurs setup row.session
+fits_session : (setup : Setup) (past : List Stamped) (near : ℕ) (oa : Option AttemptState) (os : Option Row) (row : Row) → Fits setup past near oa os → os ≡ Some row → IsOurs setup past near row.session
 fits_session setup past near oa None row f e = absurd (cc)
-fits_session setup past near None (Some x) row f e = let same : x ≡ row = cc in subst (λ (r : Row). IsOurs setup r.session) same f
+fits_session setup past near None (Some x) row f e = let same : x ≡ row = cc in subst (λ (r : Row). IsOurs setup past near r.session) same f
 fits_session setup past near (Some a) (Some x) row f e = absurd f
 
 fits_attempt : (setup : Setup) (past : List Stamped) (near : ℕ) (oa : Option AttemptState) (os : Option Row) (a : AttemptState) → Fits setup past near oa os → oa ≡ Some a → (os ≡ None) × WasStarted past near a
@@ -247,15 +320,26 @@ fits_attempt setup past near None os a f e = absurd (cc)
 fits_attempt setup past near (Some x) None a f e = let same : x ≡ a = cc in (refl, subst (WasStarted past near) same f)
 fits_attempt setup past near (Some x) (Some row) a f e = absurd f
 
+-- what closes elsewhere goes on
+closed_on : (past now : List Stamped) (near q : ℕ) (session : SessionState) → GoesOnBeside near past now → (q ≡ near → ⊥) → IsClosed past q session → IsClosed now q session
+closed_on past now near q session more other c = record { thing = c.thing; at = c.at; was = c.was; closing = more.closing q other c.thing c.at c.closing; since = c.since }
+
 pub agrees_changed : (setup : Setup) (past now : List Stamped) (s t : State) (near : ℕ) (oa : Option AttemptState) (os : Option Row) → Agrees setup past s → IsGiven setup t → IsAt near oa os s t →
-    Matches (thing_at t) (held_with t.startup.ledger) → Fits setup now near oa os → ((done : Stamped) → WasDone done past → WasDone done now) →
-    Ids setup.config.max_sessions (ids_in_use (facts_of now)) t → row_count t.startup.ledger ≤ setup.config.max_peers → Agrees setup now t
-agrees_changed setup past now s t near oa os a given at matches fits more ids rows = record {
+    Matches (thing_at t) (held_with t.startup.ledger) → Fits setup now near oa os → GoesOnBeside near past now → ClosesAt now near os →
+    Ids setup.config.max_sessions (ids_in_use now) t → AreBy t.moment now → row_count t.startup.ledger ≤ setup.config.max_peers → Agrees setup now t
+agrees_changed setup past now s t near oa os a given at matches fits more closes ids by_now rows = record {
   given = given;
   matches = matches;
   ours = λ q row e. elim (same_or_not q near) [
-    | inl is ↦ fits_session setup now near oa os row fits (sym at.session ∙ ap (get t.sessions) (sym is.0) ∙ e)
-    | inr is ↦ a.ours q row (sym (at.sessions q is.0) ∙ e)
+    | inl is ↦ subst (λ (k : ℕ). IsOurs setup now k row.session) (sym is.0) (fits_session setup now near oa os row fits (sym at.session ∙ ap (get t.sessions) (sym is.0) ∙ e))
+    | inr is ↦
+        let before = a.ours q row (sym (at.sessions q is.0) ∙ e) in
+        record { id = before.id; own = before.own; secret = before.secret; stage = before.stage; closed = λ c. closed_on past now near q row.session more is.0 (before.closed c) }
+  ];
+  closing = λ q thing m c. elim (same_or_not q near) [
+    | inl is ↦
+        subst (λ (o : Option Row). IsClosedThing o thing) (sym (ap (get t.sessions) is.0 ∙ at.session)) (closes thing m (subst (λ (k : ℕ). IsClosing k thing m now) is.0 c))
+    | inr is ↦ subst (λ (o : Option Row). IsClosedThing o thing) (sym (at.sessions q is.0)) (a.closing q thing m (more.back q is.0 thing m c))
   ];
   apart = λ q b e. elim (same_or_not q near) [
     | inl is ↦ ap (get t.sessions) is.0 ∙ at.session ∙ (fits_attempt setup now near oa os b fits (sym at.attempt ∙ ap (get t.startup.attempts) (sym is.0) ∙ e)).0
@@ -264,8 +348,9 @@ agrees_changed setup past now s t near oa os a given at matches fits more ids ro
   started = λ q b e. elim (same_or_not q near) [
     | inl is ↦
         subst (λ (k : ℕ). WasStarted now k b) (sym is.0) (fits_attempt setup now near oa os b fits (sym at.attempt ∙ ap (get t.startup.attempts) (sym is.0) ∙ e)).1
-    | inr is ↦ more _ (a.started q b (sym (at.attempts q is.0) ∙ e))
+    | inr is ↦ more.done _ (a.started q b (sym (at.attempts q is.0) ∙ e))
   ];
   ids = ids;
+  by_now = by_now;
   rows = rows;
 }

@@ -36,7 +36,7 @@ use Rattle.endpoint_laws.proofs.Matching.{of_peer, ids_same}
 use Rattle.endpoint_model.proofs.Members.{tested}
 use Rattle.endpoint_laws.proofs.Tied.{Tied}
 use Rattle.endpoint_laws.proofs.Agrees.{IsAt, found_of_attempt, used_here, used_elsewhere, agrees_changed, agrees_of, tied_of}
-use Rattle.endpoint_laws.proofs.Moving.{noted_matches, rows_after_known, knows_held}
+use Rattle.endpoint_laws.proofs.Moving.{beside_fact, still_none, noted_matches, rows_after_known, knows_held}
 use Rattle.endpoint_laws.proofs.Facts.{stands_of}
 use Rattle.endpoint_laws.proofs.Going.{Goes, goes_then, goes_in_session}
 use Rattle.endpoint_laws.proofs.Ending.{some_entry}
@@ -87,6 +87,7 @@ module _ (setup : Setup) (from : AddressParts) (datagram : List ℕ) (draws : Dr
   opened_tied =
       let g = agrees_of setup past s tied in
       let no_session : get s.sessions near ≡ None = tied.apart near a opens.there in
+      let was = found_of_attempt s near a opens.there in
       let at : IsAt near None (Some new) s t = record {
         attempt = get_removed s.startup.attempts near;
         session = get_inserted s.sessions near new;
@@ -102,14 +103,15 @@ module _ (setup : Setup) (from : AddressParts) (datagram : List ℕ) (draws : Dr
       tied_of setup now t
       (agrees_changed setup past now s t near None (Some new) g
       (record { config = g.given.config; cert = g.given.cert; secret = g.given.secret; cookie_secret = g.given.cookie_secret; own = g.given.own; max_peers = g.given.max_peers }) at
-      (noted_matches s t (Opened j) near None (Some new) g.matches at refl (found_of_attempt s near a opens.there ∙ sym (ap (of_peer a.peer) held_is))
+      (noted_matches s t (Opened j) near None (Some new) g.matches at refl (was ∙ sym (ap (of_peer a.peer) held_is))
       (sym (ap (λ o. of_peer a.peer (opened_held j o)) held_is))
       (λ h e. let same : Some (KeptAsInitiator j) ≡ Some h = sym (ap (opened_held j) held_is) ∙ e in let thing : KeptAsInitiator j ≡ h = cc in ap near_of (sym thing)))
-      (record { own = tied.own; secret = tied.secret; stage = tt })
-      (λ done w. inr w)
-      (ids_same setup.config.max_sessions (ids_in_use (facts_of past)) s t g.ids all_used
+      (record { id = refl; own = tied.own; secret = tied.secret; stage = tt; closed = λ e. absurd (cc) })
+      (beside_fact near s.moment past (Opened j) tt) (still_none setup past s g near a.peer (Opening a.n near a.ni) was s.moment (Opened j) tt (Some new))
+      (ids_same setup.config.max_sessions (ids_in_use past) s t g.ids all_used
       (moved_one (len (remove s.startup.attempts near)) (len (insert s.sessions near new)) (len s.startup.attempts) (len s.sessions)
       (len_less s.startup.attempts near a opens.there) (some_entry s.startup.attempts near a opens.there) (len_new s.sessions near new no_session)))
+      (omega arith, g.by_now)
       (rows_after_known s.startup.ledger (Opened j) setup.config.max_peers (knows_held s.startup.ledger a.peer (Opening a.n near a.ni) held_is) tied.rows))
       ((subst gave held_is (gave_opened s.startup.ledger a.peer j.nr j.far j.k)) 0 (facts_of past) tied.account)
 
@@ -139,7 +141,7 @@ module _ (setup : Setup) (from : AddressParts) (datagram : List ℕ) (draws : Dr
   goes_responder read among kind =
       let first : Did = record { state = t; entries = FactEntry (Opened j) ∷ [] } in
       let one : Goes setup (Receive from datagram draws) past s first = record {
-        meets = ((stands_of (own_of setup) t.startup.ledger (Opened j) (facts_of past) opened_tied.own opened_tied.account, answers read among kind), tt);
+        meets = (((stands_of (own_of setup) t.startup.ledger (Opened j) (facts_of past) opened_tied.own opened_tied.account, answers read among kind), tt), tt);
         tied = opened_tied;
         moment = refl;
       } in

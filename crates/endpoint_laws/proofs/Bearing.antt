@@ -203,7 +203,7 @@ offer_of keying = record { peer = sha256 keying.cert; n = keying.part.n; ni = ke
 
 pub admissible : (setup : Setup) (past : List Stamped) (s : State) (from : AddressParts) (datagram : List ℕ) (packet : Whole) (c : Placed) (keying : InitiatorKeying) → Tied setup past s →
     IsRead setup.secret 0 datagram packet → packet.head.mode ≡ StartupMode → IsAmong c (chunks_of packet) → IsFirst c (chunks_of packet) → c.kind ≡ 0x38 → IsHeard s from c.payload keying →
-    cookie_test s.startup.cookie_secret keying.cookie from s.moment ≡ Current → IsNamed s keying → MayBear s (keying_of keying) → Admissible setup (facts_of past) s.moment from datagram (offer_of keying)
+    cookie_test s.startup.cookie_secret keying.cookie from s.moment ≡ Current → IsNamed s keying → MayBear s (keying_of keying) → Admissible setup past s.moment from datagram (offer_of keying)
 admissible setup past s from datagram packet c keying tied read mode among first kind heard current named may =
     let facts : List Fact = facts_of past in
     let peer : List ℕ = sha256 keying.cert in

@@ -1,5 +1,5 @@
 -- A session is born: what the state agrees with, after the end of what makes way and after the birth.
-use Rattle.std.proofs.Common.{◌≡◌, ℕ, ◌+◌, ◌-◌, ◌<◌, ◌≤◌, List, ◌∷◌, cond, true, Option, Some, None, is_some, ◌||◌, inr, refl, sym, ap, subst, ◌∙◌, arith}
+use Rattle.std.proofs.Common.{◌≡◌, ℕ, ◌+◌, ◌-◌, ◌<◌, ◌≤◌, List, ◌∷◌, cond, true, false, Option, Some, None, is_some, ◌||◌, inr, refl, sym, ap, subst, ◌∙◌, arith}
 use Rattle.std.specs.Ordering.{nat_cmp}
 use Rattle.std.specs.Cmp.{nat_cmp_total}
 use Rattle.std.specs.FinMap.{FinMap, get, remove, len, len-remove}
@@ -16,13 +16,13 @@ use Rattle.startup.specs.State.{AttemptState, Attempts}
 use Rattle.endpoint_model.specs.declared.row.Row.{Row}
 use Rattle.endpoint_model.specs.declared.entry.Entry.TheVariants.{Fact as FactEntry}
 use Rattle.endpoint_model.specs.Event.{Setup}
-use Rattle.endpoint_laws.specs.Past.{Stamped, stamped, facts_of, ids_in_use}
+use Rattle.endpoint_laws.specs.Past.{Stamped, stamped, is_close, ids_in_use}
 use Rattle.endpoint_model.specs.State.{State, uses, is_used}
 use Rattle.endpoint_laws.proofs.Matching.{of_peer, ids_more, ids_less}
-use Rattle.endpoint_laws.proofs.Tied.{thing_of}
-use Rattle.endpoint_laws.proofs.Agrees.{Agrees, IsGiven, IsOurs, IsAt, combined, thing_at, is_session, no_attempt, used_here, used_elsewhere, agrees_changed}
-use Rattle.endpoint_laws.proofs.Moving.{noted_matches, rows_after_known, knows_held}
-use Rattle.endpoint_laws.proofs.Ending.{some_entry}
+use Rattle.endpoint_laws.proofs.Tied.{by_later, thing_of, found_in}
+use Rattle.endpoint_laws.proofs.Agrees.{Agrees, IsGiven, IsOurs, IsAt, combined, thing_at, is_session, found_row, no_attempt, used_here, used_elsewhere, agrees_changed}
+use Rattle.endpoint_laws.proofs.Moving.{beside_fact, still_none, none_there_still, noted_matches, rows_after_known, knows_held}
+use Rattle.endpoint_laws.proofs.Ending.{some_entry, ids_gone}
 use Rattle.endpoint_laws.proofs.Starting.{IsNew}
 
 some_used : (near : ℕ) (oa : Option AttemptState) (os : Option Row) (x : List ℕ × Held) → combined near oa os ≡ Some x → (is_some oa || is_some os) ≡ true
@@ -35,32 +35,36 @@ pub held_used : (setup : Setup) (past : List Stamped) (s : State) (peer : List �
 held_used setup past s peer thing a is = some_used (near_of thing) (get s.startup.attempts (near_of thing)) (get s.sessions (near_of thing)) (peer, thing) (a.matches.there peer thing is)
 
 -- a thing has ended
-pub agrees_end : (setup : Setup) (past : List Stamped) (s t : State) (moment : ℕ) (peer : List ℕ) (thing : Held) (why : Why) → Agrees setup past s → held_with s.startup.ledger peer ≡ Some thing → IsGiven setup t →
-    IsAt (near_of thing) None None s t → t.startup.ledger ≡ noted s.startup.ledger (Ended peer (near_of thing) why) → uses t + 1 ≡ uses s →
+pub agrees_end : (setup : Setup) (past : List Stamped) (s t : State) (moment : ℕ) (peer : List ℕ) (thing : Held) (why : Why) → Agrees setup past s → held_with s.startup.ledger peer ≡ Some thing → IsGiven setup t → is_close why ≡ false →
+    IsAt (near_of thing) None None s t → t.startup.ledger ≡ noted s.startup.ledger (Ended peer (near_of thing) why) → uses t + 1 ≡ uses s → (s.moment ≤ t.moment) × (moment ≤ t.moment) →
     Agrees setup (stamped moment (FactEntry (Ended peer (near_of thing) why)) ∷ past) t
-agrees_end setup past s t moment peer thing why a is given at ledger count =
+agrees_end setup past s t moment peer thing why a is given opens at ledger count in_time =
     let near : ℕ = near_of thing in
     let fact : Fact = Ended peer near why in
     let now : List Stamped = stamped moment (FactEntry fact) ∷ past in
+    let was = a.matches.there peer thing is in
     agrees_changed setup past now s t near None None a given at
-    (noted_matches s t fact near None None a.matches at ledger (a.matches.there peer thing is ∙ sym (ap (of_peer peer) is)) refl (λ h e. absurd (cc)))
-    tt (λ done w. inr w)
-    (ids_less setup.config.max_sessions (ids_in_use (facts_of past)) s t near a.ids (used_elsewhere near None None s t at) (used_here near None None s t at) (held_used setup past s peer thing a is) count)
+    (noted_matches s t fact near None None a.matches at ledger (was ∙ sym (ap (of_peer peer) is)) refl (λ h e. absurd (cc)))
+    tt (beside_fact near moment past fact refl) (still_none setup past s a near peer thing was moment fact opens None)
+    (ids_gone why (ids_in_use past) near t opens
+    (ids_less setup.config.max_sessions (ids_in_use past) s t near a.ids (used_elsewhere near None None s t at) (used_here near None None s t at) (held_used setup past s peer thing a is) count))
+    (in_time.1, by_later s.moment t.moment past in_time.0 a.by_now)
     (subst (λ l. row_count l ≤ setup.config.max_peers) (sym ledger) (rows_after_known s.startup.ledger fact setup.config.max_peers (knows_held s.startup.ledger peer thing is) a.rows))
 
 -- a session is born
 pub agrees_born : (setup : Setup) (past : List Stamped) (s t : State) (moment : ℕ) (j : Joined) (new : Row) → Agrees setup past s → held_with s.startup.ledger j.peer ≡ None → IsNew s j.near → IsGiven setup t →
-    IsAt j.near None (Some new) s t → t.startup.ledger ≡ noted s.startup.ledger (Born j) → uses t ≡ uses s + 1 → uses s < setup.config.max_sessions →
-    row_count (noted s.startup.ledger (Born j)) ≤ setup.config.max_peers → combined j.near None (Some new) ≡ Some (j.peer, HalfOpen j) → IsOurs setup new.session →
+    IsAt j.near None (Some new) s t → t.startup.ledger ≡ noted s.startup.ledger (Born j) → uses t ≡ uses s + 1 → (s.moment ≤ t.moment) × (moment ≤ t.moment) → uses s < setup.config.max_sessions →
+    row_count (noted s.startup.ledger (Born j)) ≤ setup.config.max_peers → found_in (Some new) ≡ Some (j.peer, HalfOpen j) → IsOurs setup (stamped moment (FactEntry (Born j)) ∷ past) j.near new.session →
     Agrees setup (stamped moment (FactEntry (Born j)) ∷ past) t
-agrees_born setup past s t moment j new a unheld free given at ledger count room rows is ours =
+agrees_born setup past s t moment j new a unheld free given at ledger count in_time room rows is ours =
     let now : List Stamped = stamped moment (FactEntry (Born j)) ∷ past in
     let was : thing_at s j.near ≡ of_peer j.peer (held_with s.startup.ledger j.peer) =
     ap (λ (o : Option AttemptState). combined j.near o (get s.sessions j.near)) free.attempt ∙ ap (combined j.near None) free.session ∙ sym (ap (of_peer j.peer) unheld) in
     agrees_changed setup past now s t j.near None (Some new) a given at
     (noted_matches s t (Born j) j.near None (Some new) a.matches at ledger was is (λ h e. let same : HalfOpen j ≡ h = cc in ap near_of (sym same)))
-    ours (λ done w. inr w)
-    (ids_more setup.config.max_sessions (ids_in_use (facts_of past)) s t j.near a.ids (used_elsewhere j.near None (Some new) s t at) (used_here j.near None (Some new) s t at) count free.unused free.some room)
+    ours (beside_fact j.near moment past (Born j) tt) (none_there_still past j.near (get s.sessions j.near) (a.closing j.near) free.session moment (Born j) tt (Some new))
+    (ids_more setup.config.max_sessions (ids_in_use past) s t j.near a.ids (used_elsewhere j.near None (Some new) s t at) (used_here j.near None (Some new) s t at) count free.unused free.some room)
+    (in_time.1, by_later s.moment t.moment past in_time.0 a.by_now)
     (subst (λ l. row_count l ≤ setup.config.max_peers) (sym ledger) rows)
 
 -- ---- the tables without a thing
@@ -105,11 +109,10 @@ attempt_found setup past s peer n near ni g is = go (get s.startup.attempts near
   where
     go : (oa : Option AttemptState) (os : Option Row) → combined near oa os ≡ Some (peer, Opening n near ni) → (a : AttemptState) × (oa ≡ Some a)
     go (Some a) os e = (a, refl)
-    go None (Some row) e =
-        let same : (row.session.joined.peer, thing_of row.session.role row.session.stage row.session.joined) ≡ (peer, Opening n near ni) = cc in
-        let thing : thing_of row.session.role row.session.stage row.session.joined ≡ Opening n near ni = ap (λ (x : List ℕ × Held). x.1) same in
-        absurd (subst IsSession thing (is_session row.session.role row.session.stage row.session.joined))
-    go None None e = absurd (cc)
+    go None os e =
+        let found = found_row os peer (Opening n near ni) e in
+        let row : Row = found.0 in
+        absurd (subst IsSession found.2.thing (is_session row.session.role row.session.stage row.session.joined))
 
 session_found : (setup : Setup) (past : List Stamped) (s : State) (peer : List ℕ) (thing : Held) → Agrees setup past s → held_with s.startup.ledger peer ≡ Some thing → IsSession thing →
     (row : Row) × (get s.sessions (near_of thing) ≡ Some row)
@@ -120,8 +123,7 @@ session_found setup past s peer thing g is sess = go (get s.startup.attempts (ne
         let same : (a.peer, Opening a.n (near_of thing) a.ni) ≡ (peer, thing) = cc in
         let is : Opening a.n (near_of thing) a.ni ≡ thing = ap (λ (x : List ℕ × Held). x.1) same in
         absurd (subst IsSession (sym is) sess)
-    go None (Some row) e = (row, refl)
-    go None None e = absurd (cc)
+    go None os e = let found = found_row os peer thing e in (found.0, found.1)
 
 without_attempt_is : (setup : Setup) (past : List Stamped) (s : State) (fact : Fact) (peer : List ℕ) (n near : ℕ) (ni : List ℕ) → Agrees setup past s → held_with s.startup.ledger peer ≡ Some (Opening n near ni) → IsWithout s fact (Opening n near ni)
 without_attempt_is setup past s fact peer n near ni g is =

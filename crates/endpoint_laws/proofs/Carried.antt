@@ -24,8 +24,8 @@ use Rattle.glare_core.specs.Tells.{Tell, Keying, Answer, Under, Values}
 use Rattle.glare_core.specs.Steps.{Step}
 use Rattle.glare_core.specs.Told.{WasSent}
 use Rattle.endpoint_model.specs.Event.{Setup, own_of}
-use Rattle.endpoint_laws.specs.Past.{Stamped, facts_of}
-use Rattle.endpoint_laws.specs.Contexts.{session_context, outward, OpensUnder}
+use Rattle.endpoint_laws.specs.Past.{Stamped, facts_of, IsClosing}
+use Rattle.endpoint_laws.specs.Contexts.{session_context, outward, OpensUnder, StandsUnder}
 use Rattle.endpoint_model.specs.Keying.{chunks_of, IsAmong, initiator_part, responder_part}
 use Rattle.endpoint_laws.specs.Lawful.{OutLine}
 use Rattle.endpoint_laws.specs.Laws.{AreBytes}
@@ -37,6 +37,10 @@ pub record WasTold (own peer : List ℕ) (h : Held) (steps : List Step) : Type 0
   pub sent : WasSent (tell_of own peer h) steps
   pub sizes : SizesOf peer h
 
+-- What closes at an end was told in these steps, with its peer.
+abbrev pub ClosingTold : List ℕ → List Stamped → List Step → Type 0
+ClosingTold own past steps = (near : ℕ) (thing : Held) (at : ℕ) → IsClosing near thing at past → (peer : List ℕ) × WasSent (tell_of own peer thing) steps
+
 -- A datagram went out in this context, of an end of the group that told in these steps what it held then.
 pub record Carried (secret sent : List ℕ) (context : Context) (steps : List Step) : Type 0 where
   pub setup : Setup
@@ -44,6 +48,7 @@ pub record Carried (secret sent : List ℕ) (context : Context) (steps : List St
   pub past : List Stamped
   pub line : OutLine setup past sent context
   pub told : (peer : List ℕ) (h : Held) → held peer (facts_of past) ≡ Some h → WasTold (own_of setup) peer h steps
+  pub closing : ClosingTold (own_of setup) past steps
 
 -- ---- what opens is what was sealed
 
@@ -137,4 +142,11 @@ initiators own peer (KeptAsInitiator j) v steps e w = subst (λ (x : Values). Wa
 pub under_carried : (secret sent : List ℕ) (v : Values) (steps : List Step) → Carried secret sent (session_context v true) steps → WasSent (Under v true 0) steps
 under_carried secret sent v steps there =
     let s = there.line.session in
-    initiators (own_of there.setup) s.2.peer s.0 v steps s.3 (there.told s.2.peer s.0 s.2.is_held).sent
+    stands s.0 s.1 s.2 s.3
+  where
+    own : List ℕ
+    own = own_of there.setup
+
+    stands : (thing : Held) (near : ℕ) → StandsUnder there.past near thing → session_context v true ≡ outward own thing → WasSent (Under v true 0) steps
+    stands thing near (inl h) e = initiators own h.peer thing v steps e (there.told h.peer thing h.is_held).sent
+    stands thing near (inr c) e = let told = there.closing near thing c.0 c.1 in initiators own told.0 thing v steps e told.1

@@ -1,5 +1,5 @@
 -- A chunk of a datagram: what is stated is lawful, and the state agrees with it.
-use Rattle.std.proofs.Common.{◌≡◌, ℕ, ◌≤◌, ◌<◌, ◌^◌, List, [], ◌∷◌, length, nat_lt, Bool, true, false, not, ◌||◌, if◌then◌else◌, Option, Some, None, Result, Ok, Err, inl, inr, refl, sym, ap, subst, ◌∙◌}
+use Rattle.std.proofs.Common.{◌≡◌, ℕ, ◌≤◌, ◌<◌, ◌^◌, List, [], ◌∷◌, length, nat_lt, Bool, true, false, not, ◌||◌, if◌then◌else◌, Option, Some, None, Result, Ok, Err, inl, inr, ◌⊎◌, refl, sym, ap, subst, ◌∙◌}
 use Rattle.std.specs.Prelude.{◌==◌}
 use Rattle.std.specs.Str.{bytes_eq}
 use Rattle.std.specs.FinMap.{get, contains_key}
@@ -24,13 +24,16 @@ use Rattle.endpoint_laws.specs.Past.{Stamped}
 use Rattle.endpoint_model.specs.Keying.{IsAmong, IsFirst, chunks_of}
 use Rattle.endpoint_model.specs.State.{State, full}
 use Rattle.endpoint_model.specs.Admission.{sid_at}
-use Rattle.endpoint_model.specs.Effects.{initiator_keyed, responder_keyed, effect, discarded_or, chunk_did}
-use Rattle.endpoint_model.specs.Causes.{is_known, form_cause, read_fault, takes, initiator_keying_cause, responder_keying_cause, last_cause, chunk_cause}
+use Rattle.endpoint_model.specs.Effects.{initiator_keyed, responder_keyed, is_told_in_session, effect, discarded_or, chunk_did}
+use Rattle.endpoint_model.specs.InSessions.{told_in_session}
+use Rattle.endpoint_model.specs.Causes.{is_known, form_cause, read_fault, takes, initiator_keying_cause, responder_keying_cause, has_state_for, read_cause, last_cause, chunk_cause}
 use Rattle.endpoint_model.proofs.Members.{tested}
 use Rattle.endpoint_laws.proofs.Tied.{Tied}
 use Rattle.endpoint_laws.proofs.Facts.{all_none, test_fails}
 use Rattle.endpoint_laws.proofs.Going.{Goes, goes_discarded}
 use Rattle.endpoint_laws.proofs.Replies.{goes_read}
+use Rattle.endpoint_laws.proofs.Passing.{PassedAt}
+use Rattle.endpoint_laws.proofs.SessionChunks.{goes_told}
 use Rattle.endpoint_laws.proofs.Admitting.{Came}
 use Rattle.endpoint_laws.proofs.Bearing.{IsHeard}
 use Rattle.endpoint_laws.proofs.Keyed.{goes_initiator}
@@ -60,7 +63,7 @@ second_form true b x y z other is e = absurd (cc)
 second_form false true x y z other is e = e
 second_form false false x y z other is e = absurd (cc)
 
-not_false : (b : Bool) → not b ≡ false → b ≡ true
+pub not_false : (b : Bool) → not b ≡ false → b ≡ true
 not_false true e = refl
 not_false false e = absurd (cc)
 
@@ -140,6 +143,34 @@ causes s place walk from c =
 pub last_none : (s : State) (place : Place) (walk : Walk) (from : AddressParts) (c : Placed) → chunk_cause s place walk from c ≡ None → last_cause s place walk from c ≡ None
 last_none s place walk from c none = (all_none (causes s place walk from c) none).1.1.1.1.0
 
+-- ---- chunks that are told in a session
+
+pub told_kinds : (k : ℕ) → is_told_in_session k ≡ true → (k ≡ 0x0c) ⊎ ((k ≡ 0x4c) ⊎ (k ≡ 0x41))
+told_kinds k told = elim (tested k 0x0c) [
+  | inl is ↦ inl is.0
+  | inr a ↦ elim (tested k 0x4c) [
+    | inl is ↦ inr (inl is.0)
+    | inr b ↦ elim (tested k 0x41) [
+      | inl is ↦ inr (inr is.0)
+      | inr c ↦ absurd (let clash : true ≡ false = sym told ∙ ap (λ t. t || (k == 0x4c) || (k == 0x41)) a.1 ∙ ap (λ t. t || (k == 0x41)) b.1 ∙ c.1 in cc)
+    ]
+  ]
+]
+
+pub not_at_startup : (k : ℕ) → (k ≡ 0x0c) ⊎ ((k ≡ 0x4c) ⊎ (k ≡ 0x41)) → takes Startup k ≡ true → ⊥
+not_at_startup k (inl e) taken = let clash : true ≡ false = sym taken ∙ ap (takes Startup) e in cc
+not_at_startup k (inr (inl e)) taken = let clash : true ≡ false = sym taken ∙ ap (takes Startup) e in cc
+not_at_startup k (inr (inr e)) taken = let clash : true ≡ false = sym taken ∙ ap (takes Startup) e in cc
+
+pub not_at_attempt : (near k : ℕ) → (k ≡ 0x0c) ⊎ ((k ≡ 0x4c) ⊎ (k ≡ 0x41)) → takes (Attempt near) k ≡ true → ⊥
+not_at_attempt near k (inl e) taken = let clash : true ≡ false = sym taken ∙ ap (takes (Attempt near)) e in cc
+not_at_attempt near k (inr (inl e)) taken = let clash : true ≡ false = sym taken ∙ ap (takes (Attempt near)) e in cc
+not_at_attempt near k (inr (inr e)) taken = let clash : true ≡ false = sym taken ∙ ap (takes (Attempt near)) e in cc
+
+pub either_way : (b : Bool) → (b ≡ true) ⊎ (b ≡ false)
+either_way true = inl refl
+either_way false = inr refl
+
 module _ (setup : Setup) (from : AddressParts) (datagram : List ℕ) (draws : Draws) (most : setup.config.max_sessions ≤ 65536) (small : draws.word < 2 ^ 32) (packet : Whole) where
   abbrev call : Call
   call = Receive from datagram draws
@@ -161,9 +192,15 @@ module _ (setup : Setup) (from : AddressParts) (datagram : List ℕ) (draws : Dr
       goes_responder setup from datagram draws packet past s tied near c (opening_of s near c.payload reads.0 reads.1 none) came among kind
   responder_goes s past (Session near) c tied came among kind taken none formed = absurd (cc)
 
-  effect_goes : (s : State) (past : List Stamped) (place : Place) (walk : Walk) (c : Placed) → Tied setup past s → Came setup datagram place packet → IsAmong c (chunks_of packet) → (walk.keyed ≡ false → c.kind ≡ 0x38 → IsFirst c (chunks_of packet)) →
+  told_goes : (s : State) (past : List Stamped) (place : Place) (c : Placed) → Tied setup past s → PassedAt past place datagram packet s → IsAmong c (chunks_of packet) → is_told_in_session c.kind ≡ true →
+      takes place c.kind ≡ true → has_state_for s place c.kind ≡ true → Goes setup call past s (told_in_session s (sid_at place) from c)
+  told_goes s past Startup c tied passed among told taken has = absurd (not_at_startup c.kind (told_kinds c.kind told) taken)
+  told_goes s past (Attempt near) c tied passed among told taken has = absurd (not_at_attempt near c.kind (told_kinds c.kind told) taken)
+  told_goes s past (Session near) c tied passed among told taken has = goes_told setup from datagram draws packet past s tied near passed c among has
+
+  effect_goes : (s : State) (past : List Stamped) (place : Place) (walk : Walk) (c : Placed) → Tied setup past s → Came setup datagram place packet → PassedAt past place datagram packet s → IsAmong c (chunks_of packet) → (walk.keyed ≡ false → c.kind ≡ 0x38 → IsFirst c (chunks_of packet)) →
       chunk_cause s place walk from c ≡ None → Goes setup call past s (effect s place from draws c)
-  effect_goes s past place walk c tied came among first none =
+  effect_goes s past place walk c tied came passed among first none =
       let all = all_none (causes s place walk from c) none in
       let taken : takes place c.kind ≡ true = not_false (takes place c.kind) (test_fails (not (takes place c.kind)) WrongPlace all.1.1.1.0) in
       elim (tested c.kind 0x38) [
@@ -180,15 +217,22 @@ module _ (setup : Setup) (from : AddressParts) (datagram : List ℕ) (draws : Dr
                   (sym (if_is (c.kind == 0x78) (responder_keying_cause s (sid_at place) c.payload) _ is.1) ∙ sym (if_not (c.kind == 0x38) (initiator_keying_cause s walk from c.payload) _ other.1) ∙ all.1.1.1.1.0)
                   (second_form (c.kind == 0x38) (c.kind == 0x78) (fault_in (initiator_keying_in c.payload)) (fault_in (responder_keying_in c.payload)) (read_fault (length c.payload) (chunk_reading c.kind c.payload)) other.1 is.1 all.1.0))
               | inr neither ↦
-                  subst (λ d. Goes setup call past s d) (sym (if_not (c.kind == 0x78) (responder_keyed s (sid_at place) from c.payload) _ neither.1))
-                  (goes_read setup call s place from (chunk_reading c.kind c.payload) past tied)
+                  let last = all_none (where_true (not (has_state_for s place c.kind)) WrongState ∷ read_cause s place (chunk_reading c.kind c.payload) ∷ [])
+                  (sym (if_not (c.kind == 0x78) (responder_keying_cause s (sid_at place) c.payload) _ neither.1) ∙ sym (if_not (c.kind == 0x38) (initiator_keying_cause s walk from c.payload) _ other.1) ∙ all.1.1.1.1.0) in
+                  let has : has_state_for s place c.kind ≡ true = not_false (has_state_for s place c.kind) (test_fails (not (has_state_for s place c.kind)) WrongState last.0) in
+                  subst (λ d. Goes setup call past s d) (sym (if_not (c.kind == 0x78) (responder_keyed s (sid_at place) from c.payload) _ neither.1)) (elim (either_way (is_told_in_session c.kind)) [
+                    | inl told ↦
+                        subst (λ d. Goes setup call past s d) (sym (if_is (is_told_in_session c.kind) (told_in_session s (sid_at place) from c) _ told)) (told_goes s past place c tied passed among told taken has)
+                    | inr other_kind ↦
+                        subst (λ d. Goes setup call past s d) (sym (if_not (is_told_in_session c.kind) (told_in_session s (sid_at place) from c) _ other_kind)) (goes_read setup call s place from (chunk_reading c.kind c.payload) past tied)
+                  ])
             ])
       ]
 
-  pub chunk_goes : (s : State) (past : List Stamped) (place : Place) (walk : Walk) (c : Placed) → Tied setup past s → Came setup datagram place packet → IsAmong c (chunks_of packet) → (walk.keyed ≡ false → c.kind ≡ 0x38 → IsFirst c (chunks_of packet)) →
+  pub chunk_goes : (s : State) (past : List Stamped) (place : Place) (walk : Walk) (c : Placed) → Tied setup past s → Came setup datagram place packet → PassedAt past place datagram packet s → IsAmong c (chunks_of packet) → (walk.keyed ≡ false → c.kind ≡ 0x38 → IsFirst c (chunks_of packet)) →
       Goes setup call past s (chunk_did place from draws walk s c)
-  chunk_goes s past place walk c tied came among first = by (chunk_cause s place walk from c) refl
+  chunk_goes s past place walk c tied came passed among first = by (chunk_cause s place walk from c) refl
     where
       by : (o : Option Cause) → chunk_cause s place walk from c ≡ o → Goes setup call past s (discarded_or s c.at o (effect s place from draws c))
-      by None is = effect_goes s past place walk c tied came among first is
+      by None is = effect_goes s past place walk c tied came passed among first is
       by (Some cause) is = goes_discarded setup call s c.at cause past tied

@@ -44,7 +44,7 @@ use Rattle.session_core.specs.Session.{new_session, head_at}
 use Rattle.session_core.specs.Sealed.{number_bytes}
 use Rattle.glare_core.specs.Tells.{as_initiator}
 use Rattle.rtmfp_chunks.specs.Writing.{chunk_bytes}
-use Rattle.endpoint_laws.proofs.NoFacts.{NoFacts, facts_stay, none_in_both, none_read}
+use Rattle.endpoint_laws.proofs.NoFacts.{NoFacts, facts_stay, none_in_both, none_read, NoneOver, none_over_both, ids_stay, over_read}
 use Rattle.endpoint_laws.specs.Contexts.{session_context}
 use Rattle.session_core.specs.declared.stage.Role.TheVariants.{Initiator}
 use Rattle.endpoint_model.specs.declared.row.Row.{Row}
@@ -55,7 +55,7 @@ use Rattle.endpoint_model.specs.declared.place.Place.TheVariants.{Startup, Attem
 use Rattle.endpoint_model.specs.declared.entry.Entry.{Entry}
 use Rattle.endpoint_model.specs.declared.entry.Entry.TheVariants.{Fact as FactEntry, Out}
 use Rattle.endpoint_model.specs.Event.{Setup, own_of, Receive, Answer as CallAnswer, Began, Done, NotOpened, Refused, Stopped, OutOfMemory}
-use Rattle.endpoint_laws.specs.Past.{Stamped, onto, facts_of, past_of, last_moment}
+use Rattle.endpoint_laws.specs.Past.{Stamped, onto, facts_of, ids_in_use, past_of, last_moment}
 use Rattle.endpoint_model.specs.Keying.{IsFirst, chunks_of}
 use Rattle.endpoint_laws.specs.Admissible.{Admissible, Offer}
 use Rattle.endpoint_laws.specs.Lawful.{AnswersAttempt}
@@ -63,7 +63,9 @@ use Rattle.endpoint_model.specs.State.{State, new_row, Did, nothing, after_entri
 use Rattle.endpoint_model.specs.Sending.{last_count, startup_number, startup_datagram, session_packet, session_datagram, sent_by}
 use Rattle.endpoint_model.specs.Admission.{Admission, Rejected, Admitted, place_of, opened_by, placed, opened_found, opened_datagram, admission, admitted, admitted_packet, packet_in, has_mode, confirming}
 use Rattle.endpoint_model.specs.Causes.{form_cause, takes, last_cause, chunk_cause}
-use Rattle.endpoint_model.specs.Effects.{with_born, keying_done, initiator_keyed, responder_keyed, with_opened, opening_done, read_done, effect, discarded_or, chunk_did, walked, chunks_did, received, part_received, outset}
+use Rattle.endpoint_model.specs.InSessions.{told_in_session, tested as tested_at}
+use Rattle.endpoint_laws.proofs.Hearing.{HeardWell, known_more}
+use Rattle.endpoint_model.specs.Effects.{with_born, keying_done, initiator_keyed, responder_keyed, with_opened, opening_done, read_done, effect, discarded_or, chunk_did, walked, chunks_did, received, part_received, outset, is_told_in_session, gone_through}
 use Rattle.endpoint_model.specs.Log.{Answers}
 use Rattle.endpoint_laws.specs.Laws.{IsSetup, IsCall}
 use Rattle.endpoint_laws.specs.Complete.{WentThrough, IsPing, outs_in, at_initiator, IsOfOffer, IsBornAndTold, AdmissibleKeyingsBear, OpensItsSession, KeyingsWithoutCauseOpen}
@@ -74,10 +76,10 @@ use Rattle.endpoint_model.proofs.Members.{tested}
 use Rattle.endpoint_laws.proofs.Tied.{Tied}
 use Rattle.endpoint_laws.proofs.Moving.{tied_alike}
 use Rattle.endpoint_laws.proofs.Going.{Goes}
-use Rattle.endpoint_model.proofs.Steps.{then_then, walk_through}
+use Rattle.endpoint_model.proofs.Steps.{then_then, walk_through, then_nothing}
 use Rattle.endpoint_laws.proofs.Admitting.{Came, AdmissionIs, admission_is}
 use Rattle.endpoint_laws.proofs.Answering.{OpensAttempt}
-use Rattle.endpoint_laws.proofs.Chunked.{causes, read_ok, opening_of}
+use Rattle.endpoint_laws.proofs.Chunked.{causes, read_ok, opening_of, told_kinds, not_at_startup, not_false}
 use Rattle.endpoint_laws.proofs.OutSends.{Sent}
 use Rattle.endpoint_laws.proofs.Orderly.{Orderly, chunks_orderly}
 use Rattle.endpoint_laws.proofs.Logged.{LogIs, log_is}
@@ -120,37 +122,51 @@ true_is : {A : Type 0} (b : Bool) (x y : A) → b ≡ true → (if b then x else
 true_is true x y e = refl
 true_is false x y e = absurd (cc)
 
+-- no fact, and no end of a closing
+abbrev Quiet : List Entry → Type 0
+Quiet entries = NoFacts entries × NoneOver entries
+
 module _ (from : AddressParts) (draws : Draws) where
-  -- another chunk at the place of startup states nothing
-  none_other : (s : State) (c : Placed) → c.kind ≢ 0x38 → NoFacts (chunk_did Startup from draws outset s c).entries
+  -- another chunk at the place of startup states nothing, and ends no closing
+  none_other : (s : State) (c : Placed) → c.kind ≢ 0x38 → Quiet (chunk_did Startup from draws outset s c).entries
   none_other s c other = by (chunk_cause s Startup outset from c) refl
     where
       first : (c.kind == 0x38) ≡ false
       first = elim (tested c.kind 0x38) [ inl is ↦ absurd (other is.0) | inr is ↦ is.1 ]
 
+      last : (t : Bool) → is_told_in_session c.kind ≡ t → chunk_cause s Startup outset from c ≡ None →
+          Quiet (if t then told_in_session s 0 from c else read_done s Startup from (chunk_reading c.kind c.payload)).entries
+      last true is none =
+          let all = all_none (causes s Startup outset from c) none in
+          absurd (not_at_startup c.kind (told_kinds c.kind is) (not_false (takes Startup c.kind) (test_fails (not (takes Startup c.kind)) WrongPlace all.1.1.1.0)))
+      last false is none = (none_read s Startup from (chunk_reading c.kind c.payload), over_read s Startup from (chunk_reading c.kind c.payload))
+
       inner : (b : Bool) → (c.kind == 0x78) ≡ b → chunk_cause s Startup outset from c ≡ None →
-          NoFacts (if b then responder_keyed s 0 from c.payload else read_done s Startup from (chunk_reading c.kind c.payload)).entries
+          Quiet (if b then responder_keyed s 0 from c.payload else if is_told_in_session c.kind then told_in_session s 0 from c else read_done s Startup from (chunk_reading c.kind c.payload)).entries
       inner true is none =
           let all = all_none (causes s Startup outset from c) none in
           let taken : not (takes Startup c.kind) ≡ false = test_fails (not (takes Startup c.kind)) WrongPlace all.1.1.1.0 in
           let kind : c.kind ≡ 0x78 = elim (tested c.kind 0x78) [ inl same ↦ same.0 | inr apart ↦ (let clash : true ≡ false = sym is ∙ apart.1 in absurd (cc)) ] in
           let clash : true ≡ false = ap (λ (k : ℕ). not (takes Startup k)) (sym kind) ∙ taken in
           absurd (cc)
-      inner false is none = none_read s Startup from (chunk_reading c.kind c.payload)
+      inner false is none = last (is_told_in_session c.kind) refl none
 
-      by : (o : Option Cause) → chunk_cause s Startup outset from c ≡ o → NoFacts (discarded_or s c.at o (effect s Startup from draws c)).entries
-      by (Some cause) e = tt
+      by : (o : Option Cause) → chunk_cause s Startup outset from c ≡ o → Quiet (discarded_or s c.at o (effect s Startup from draws c)).entries
+      by (Some cause) e = (tt, (refl, tt))
       by None e =
-          subst (λ (d : Did). NoFacts d.entries)
-          (sym (false_is (c.kind == 0x38) (initiator_keyed s from draws c.payload) (if c.kind == 0x78 then responder_keyed s 0 from c.payload else read_done s Startup from (chunk_reading c.kind c.payload)) first))
+          subst (λ (d : Did). Quiet d.entries)
+          (sym (false_is (c.kind == 0x38) (initiator_keyed s from draws c.payload)
+          (if c.kind == 0x78 then responder_keyed s 0 from c.payload else if is_told_in_session c.kind then told_in_session s 0 from c else read_done s Startup from (chunk_reading c.kind c.payload)) first))
           (inner (c.kind == 0x78) refl e)
 
-  none_front : (front : List Placed) → AreOthers front → (s : State) → NoFacts (chunks_did Startup from draws outset s front).entries
-  none_front [] others s = tt
+  none_front : (front : List Placed) → AreOthers front → (s : State) → Quiet (chunks_did Startup from draws outset s front).entries
+  none_front [] others s = (tt, tt)
   none_front (c ∷ front) others s =
       let d : Did = chunk_did Startup from draws outset s c in
-      none_in_both d.entries (chunks_did Startup from draws (walked outset c) d.state front).entries (none_other s c others.0)
-      (subst (λ (k : Walk). NoFacts (chunks_did Startup from draws k d.state front).entries) (sym (keyed_false c others.0)) (none_front front others.1 d.state))
+      let one = none_other s c others.0 in
+      let rest = subst (λ (k : Walk). Quiet (chunks_did Startup from draws k d.state front).entries) (sym (keyed_false c others.0)) (none_front front others.1 d.state) in
+      let next : List Entry = (chunks_did Startup from draws (walked outset c) d.state front).entries in
+      (none_in_both d.entries next one.0 rest.0, none_over_both d.entries next one.1 rest.1)
 
   -- the chunks after them go on from what they left
   front_then : (front rest : List Placed) → AreOthers front → (s : State) →
@@ -245,8 +261,8 @@ module _ (setup : Setup) (past : List Stamped) (u : State) (tied : Tied setup pa
 
 -- ---- a datagram with an admissible keying
 
-module _ (setup : Setup) (past : List Stamped) (s : State) (tied : Tied setup past s) (sent_so : Sent setup past s) (from : AddressParts) (datagram : List ℕ) (draws : Draws) (offer : Offer) (now : ℕ)
-    (a : Admissible setup (facts_of past) now from datagram offer) (at : s.moment ≡ now) (is : IsSetup setup) (fits : IsCall (Receive from datagram draws))
+module _ (setup : Setup) (past : List Stamped) (s : State) (tied : Tied setup past s) (sent_so : Sent setup past s) (well : HeardWell past s) (from : AddressParts) (datagram : List ℕ) (draws : Draws) (offer : Offer) (now : ℕ)
+    (a : Admissible setup past now from datagram offer) (at : s.moment ≡ now) (is : IsSetup setup) (fits : IsCall (Receive from datagram draws))
     (other : offer.peer ≢ own_of setup) (gone rest : List Placed) (goes : chunks_of a.packet ≡ gone ++ rest) (firstly : IsFirst a.chunk gone) where
   abbrev part : List ℕ
   part = drop 4 datagram
@@ -301,7 +317,7 @@ module _ (setup : Setup) (past : List Stamped) (s : State) (tied : Tied setup pa
   u = first.state
 
   front_orderly : Orderly setup (Receive from datagram draws) past s first
-  front_orderly = chunks_orderly setup is from datagram draws fits a.packet Startup came outset [] cut.front (a.chunk ∷ (cut.back ++ rest)) s past (record { whole = in_all; keyed = λ e c none is. none }) tied sent_so
+  front_orderly = chunks_orderly setup is from datagram draws fits a.packet Startup came outset [] cut.front (a.chunk ∷ (cut.back ++ rest)) s past (record { whole = in_all; keyed = λ e c none is. none }) tied sent_so well tt
 
   abbrev after_front : Goes setup (Receive from datagram draws) past s first
   after_front = front_orderly.goes
@@ -310,13 +326,16 @@ module _ (setup : Setup) (past : List Stamped) (s : State) (tied : Tied setup pa
   told = onto s.moment first.entries past
 
   facts_same : facts_of told ≡ facts_of past
-  facts_same = facts_stay s.moment first.entries past (none_front from draws cut.front cut.others s)
+  facts_same = facts_stay s.moment first.entries past (none_front from draws cut.front cut.others s).0
+
+  ids_same : ids_in_use told ≡ ids_in_use past
+  ids_same = let quiet = none_front from draws cut.front cut.others s in ids_stay s.moment first.entries past quiet.0 quiet.1
 
   abbrev keying : InitiatorKeying
   keying = read_as offer.far a.cookie a.cert offer.ni offer.n (own_of setup) a.sign
 
   bearing : IsBearing u from a.chunk.payload keying
-  bearing = is_bearing setup told u after_front.tied from datagram offer (facts_of past) now a facts_same (after_front.moment ∙ at) other
+  bearing = is_bearing setup told u after_front.tied from datagram offer past now a facts_same ids_same (after_front.moment ∙ at) other
 
   abbrev this : Placed
   this = record { kind = 0x38; at = a.chunk.at; payload = a.chunk.payload }
@@ -362,7 +381,7 @@ module _ (setup : Setup) (past : List Stamped) (s : State) (tied : Tied setup pa
               ∙ ap (λ (es : List Entry). first.entries ++ (es ++ later)) (ap (λ (d : Did). d.entries) chunk_so ∙ born_entries setup told u after_front.tied from draws a.chunk.payload keying bearing some)
               ∙ ap (λ (es : List Entry). first.entries ++ es) (append_assoc facts both later)
               ∙ sym (append_assoc first.entries facts (both ++ later));
-          answers = born_answers setup told u after_front.tied from draws a.chunk.payload keying bearing some a.spells.1.3.0 a.nonce_size (omega (arith, started, counted)) (λ i z lt. absurd (omega (arith, lt)), fits.1, fits.2);
+          answers = born_answers setup told u after_front.tied from draws a.chunk.payload keying bearing some a.spells.1.3.0 a.nonce_size (omega (arith, started, counted)) (λ i z lt. absurd (omega (arith, lt)), fits.1, fits.2, fits.3);
         },
       )
 
@@ -370,21 +389,22 @@ module _ (setup : Setup) (past : List Stamped) (s : State) (tied : Tied setup pa
 
 -- what a call adds that has gone through these chunks of a packet
 went_entries : (noted t u : State) (place : Place) (from : AddressParts) (datagram : List ℕ) (draws : Draws) (answer : CallAnswer) (entries : List Entry) (packet : Whole) (gone : List Placed) →
-    Answers noted (Receive from datagram draws) answer entries t → admission noted datagram ≡ Admitted u place packet → confirming u place ≡ nothing u → WentThrough answer (chunks_of packet) gone →
-    entries ≡ (chunks_did place from draws outset u gone).entries
-went_entries noted t u place from datagram draws (Began n) entries packet gone step at quiet went = absurd went
-went_entries noted t u place from datagram draws Done entries packet gone step at quiet went =
-    step.entries ∙ ap (λ (x : Admission). (received from draws x).entries) at ∙ ap (λ (d : Did). (then_do d (λ v. chunks_did place from draws outset v (chunks_of packet))).entries) quiet
+    Answers noted (Receive from datagram draws) answer entries t → admission noted datagram ≡ Admitted u place packet → confirming u place ≡ nothing u → ((d : Did) → then_do d (λ v. tested_at v place from draws) ≡ d) →
+    WentThrough answer (chunks_of packet) gone → entries ≡ (chunks_did place from draws outset u gone).entries
+went_entries noted t u place from datagram draws (Began n) entries packet gone step at quiet untested went = absurd went
+went_entries noted t u place from datagram draws Done entries packet gone step at quiet untested went =
+    step.entries ∙ ap (λ (x : Admission). (received from draws x).entries) at ∙ ap (λ (d : Did). d.entries) (untested (gone_through from draws u place (chunks_of packet)))
+    ∙ ap (λ (d : Did). (then_do d (λ v. chunks_did place from draws outset v (chunks_of packet))).entries) quiet
     ∙ ap (λ (cs : List Placed). (chunks_did place from draws outset u cs).entries) (sym went)
-went_entries noted t u place from datagram draws (NotOpened refusal) entries packet gone step at quiet went = absurd went
-went_entries noted t u place from datagram draws (Refused refusal) entries packet gone step at quiet went = absurd went
-went_entries noted t u place from datagram draws (Stopped stop) entries packet gone step at quiet went =
+went_entries noted t u place from datagram draws (NotOpened refusal) entries packet gone step at quiet untested went = absurd went
+went_entries noted t u place from datagram draws (Refused refusal) entries packet gone step at quiet untested went = absurd went
+went_entries noted t u place from datagram draws (Stopped stop) entries packet gone step at quiet untested went =
     step.1.entries
     ∙ ap (λ (b : Bool). (if b then part_received from draws (admission noted datagram) stop.chunks else nothing noted).entries) went.0
     ∙ ap (λ (x : Admission). (part_received from draws x stop.chunks).entries) at
     ∙ ap (λ (d : Did). (then_do d (λ v. chunks_did place from draws outset v (take stop.chunks (chunks_of packet)))).entries) quiet
     ∙ ap (λ (cs : List Placed). (chunks_did place from draws outset u cs).entries) (sym went.1)
-went_entries noted t u place from datagram draws OutOfMemory entries packet gone step at quiet went = absurd went
+went_entries noted t u place from datagram draws OutOfMemory entries packet gone step at quiet untested went = absurd went
 
 -- these are the first of the packet's chunks
 went_first : (answer : CallAnswer) (chunks gone : List Placed) → WentThrough answer chunks gone → (rest : List Placed) × (chunks ≡ gone ++ rest)
@@ -400,19 +420,20 @@ admissible_keyings_bear setup log s t moment from datagram draws answer entries 
     let past : List Stamped = past_of 0 [] log in
     let said : LogIs setup [] (fresh setup) log s = log_is setup log s is calls stands in
     let noted : State = at_moment s moment in
-    let tied : Tied setup past noted = tied_alike setup past s (max s.moment moment) s.sealed said.holds.tied in
+    let tied : Tied setup past noted = tied_alike setup past s (max s.moment moment) s.sealed (omega arith) said.holds.tied in
+    let well : HeardWell past noted = λ near row e. known_more past past s.moment noted.moment near row.session (said.holds.well near row e) refl (λ done w. w) (omega arith) in
     let sent_so : Sent setup past noted = record { numbered = said.holds.sent.numbered; sized = said.holds.sent.sized; short = said.holds.sent.short } in
     let last : s.moment ≡ last_moment 0 log = said.moment in
     let now : ℕ = max (last_moment 0 log) moment in
     let at : noted.moment ≡ now = ap (λ (m : ℕ). max m moment) last in
     let cut = went_first answer (chunks_of a.packet) gone went in
-    let so = admission_so setup past noted tied sent_so from datagram draws offer now a at is fits other gone cut.0 cut.1 firstly in
-    let entries_are : entries ≡ (chunks_did Startup from draws outset noted gone).entries = went_entries noted t noted Startup from datagram draws answer entries a.packet gone step so refl went in
-    let left : State = u setup past noted tied sent_so from datagram draws offer now a at is fits other gone cut.0 cut.1 firstly in
+    let so = admission_so setup past noted tied sent_so well from datagram draws offer now a at is fits other gone cut.0 cut.1 firstly in
+    let entries_are : entries ≡ (chunks_did Startup from draws outset noted gone).entries = went_entries noted t noted Startup from datagram draws answer entries a.packet gone step so refl then_nothing went in
+    let left : State = u setup past noted tied sent_so well from datagram draws offer now a at is fits other gone cut.0 cut.1 firstly in
     let sealed_few : left.sealed ≤ noted.sealed + outs_in (chunks_did Startup from draws outset noted gone).entries =
-    few_so setup past noted tied sent_so from datagram draws offer now a at is fits other gone cut.0 cut.1 firstly in
+    few_so setup past noted tied sent_so well from datagram draws offer now a at is fits other gone cut.0 cut.1 firstly in
     let room : left.sealed < last_count = omega (arith, sealed_few, said.few, ap outs_in entries_are, few) in
-    let born = bears setup past noted tied sent_so from datagram draws offer now a at is fits other gone cut.0 cut.1 firstly (less_is_other left.sealed last_count room) said.holds.counted in
+    let born = bears setup past noted tied sent_so well from datagram draws offer now a at is fits other gone cut.0 cut.1 firstly (less_is_other left.sealed last_count room) said.holds.counted in
     (born.0, born.1, subst (IsBornAndTold setup from born.0) (sym entries_are) born.2)
 
 -- ---- responders' keyings
@@ -498,7 +519,7 @@ keyings_without_cause_open s t u moment near from datagram draws answer entries 
     let one = one_opens v near walk (walk_through outset front) from draws c kind none in
     let later : List Entry = (chunks_did (Attempt near) from draws (walked (walk_through outset front) c) (chunk_did (Attempt near) from draws (walk_through outset front) v c).state back).entries in
     let are : entries ≡ (chunks_did (Attempt near) from draws outset u front).entries ++ ((responder_keyed v near from c.payload).entries ++ later) =
-    went_entries (at_moment s moment) t u (Attempt near) from datagram draws answer entries packet (front ++ c ∷ back) step at refl went
+    went_entries (at_moment s moment) t u (Attempt near) from datagram draws answer entries packet (front ++ c ∷ back) step at refl then_nothing went
     ∙ gone_in_two (Attempt near) from draws outset front c back u
     ∙ ap (λ (d : Did). (chunks_did (Attempt near) from draws outset u front).entries ++ (d.entries ++ later)) one.1 in
     opens_its_session v near from draws c one.0 entries (chunks_did (Attempt near) from draws outset u front).entries later are

@@ -20,6 +20,7 @@ use Rattle.session_core.specs.declared.stage.Role.{Role}
 use Rattle.session_core.specs.declared.stage.Role.TheVariants.{Initiator, Responder}
 use Rattle.session_core.specs.declared.stage.Stage.{Stage}
 use Rattle.session_core.specs.declared.stage.Stage.TheVariants.{Opening, Open, NearClose, FarLinger, Closed}
+use Rattle.session_core.specs.Closing.{is_held}
 use Rattle.session_core.specs.Session.{context_of, context_between, is_opening, confirmed_stage, confirmed}
 use Rattle.endpoint_model.specs.declared.row.Row.{Row}
 use Rattle.endpoint_model.specs.declared.config.Draws.{Draws}
@@ -34,8 +35,8 @@ use Rattle.endpoint_model.specs.Admission.{confirming_by, confirming}
 use Rattle.endpoint_laws.proofs.Matching.{of_peer, ids_same}
 use Rattle.endpoint_model.proofs.Members.{tested}
 use Rattle.endpoint_laws.proofs.Tied.{Tied, StageFits, thing_of}
-use Rattle.endpoint_laws.proofs.Agrees.{IsAt, found_of_session, no_attempt, used_here, used_elsewhere, agrees_changed, agrees_of, tied_of}
-use Rattle.endpoint_laws.proofs.Moving.{noted_matches, rows_after_known, knows_held}
+use Rattle.endpoint_laws.proofs.Agrees.{IsAt, held_row_is, found_of_session, no_attempt, used_here, used_elsewhere, agrees_changed, agrees_of, tied_of}
+use Rattle.endpoint_laws.proofs.Moving.{beside_fact, still_none, noted_matches, rows_after_known, knows_held}
 use Rattle.endpoint_laws.proofs.Facts.{stands_of}
 use Rattle.endpoint_laws.proofs.Going.{Keeps, Goes, goes_nothing}
 
@@ -47,13 +48,13 @@ HeardIn datagram near (Some row) = (plain : List ℕ) × OpensUnder row.session.
 half_open : (role : Role) (stage : Stage) → StageFits role stage → is_opening stage ≡ true → (role ≡ Responder) × (stage ≡ Opening)
 half_open Initiator Opening fits e = absurd fits
 half_open Initiator Open fits e = absurd (cc)
-half_open Initiator NearClose fits e = absurd fits
-half_open Initiator FarLinger fits e = absurd fits
+half_open Initiator NearClose fits e = absurd (cc)
+half_open Initiator FarLinger fits e = absurd (cc)
 half_open Initiator Closed fits e = absurd fits
 half_open Responder Opening fits e = (refl, refl)
 half_open Responder Open fits e = absurd (cc)
-half_open Responder NearClose fits e = absurd fits
-half_open Responder FarLinger fits e = absurd fits
+half_open Responder NearClose fits e = absurd (cc)
+half_open Responder FarLinger fits e = absurd (cc)
 half_open Responder Closed fits e = absurd fits
 
 open_or : (a b : Bool) → b ≡ true → (a || b) ≡ true
@@ -91,6 +92,7 @@ module _ (setup : Setup) (from : AddressParts) (datagram : List ℕ) (draws : Dr
       } in
       let was_thing : thing_of row.session.role row.session.stage j ≡ HalfOpen j = ap (λ r. thing_of r row.session.stage j) role ∙ ap (λ g. thing_of Responder g j) stage in
       let new_thing : thing_of row.session.role (confirmed_stage row.session.stage) j ≡ KeptAsResponder j = ap (λ r. thing_of r (confirmed_stage row.session.stage) j) role ∙ ap (λ g. thing_of Responder (confirmed_stage g) j) stage in
+      let now_held : is_held (confirmed_stage row.session.stage) ≡ true = ap (λ g. is_held (confirmed_stage g)) stage in
       let ours = a.ours near row there in
       let id : j.near ≡ near = (tied.sessions near row there).id in
       let P : Option Held → Type 0 = λ o. Gave s.startup.ledger (option_to_list (confirmed_fact o j.peer)) (noted_if s.startup.ledger (confirmed_fact o j.peer)) in
@@ -100,16 +102,24 @@ module _ (setup : Setup) (from : AddressParts) (datagram : List ℕ) (draws : Dr
             ∙ sym (open_or (is_some (get s.startup.attempts near)) (is_some (get s.sessions near)) (ap (λ (o : Option Row). is_some o) there)) ∙ ap (is_used s) (sym e.0)
         | inr e ↦ used_elsewhere near None (Some new) s t at q e.0
       ] in
+      let was = found_of_session s near row none there (ap is_held stage) ∙ ap (λ h. Some (j.peer, h)) was_thing in
       tied_of setup (now past) t
       (agrees_changed setup past (now past) s t near None (Some new) a
       (record { config = a.given.config; cert = a.given.cert; secret = a.given.secret; cookie_secret = a.given.cookie_secret; own = a.given.own; max_peers = a.given.max_peers }) at
       (noted_matches s t fact near None (Some new) a.matches at refl
-      (found_of_session s near row none there ∙ ap (λ h. Some (j.peer, h)) was_thing ∙ sym (ap (of_peer j.peer) is))
-      (ap (λ h. Some (j.peer, h)) new_thing ∙ sym (ap (λ o. of_peer j.peer (confirmed_held o)) is))
+      (was ∙ sym (ap (of_peer j.peer) is))
+      (held_row_is new now_held ∙ ap (λ h. Some (j.peer, h)) new_thing ∙ sym (ap (λ o. of_peer j.peer (confirmed_held o)) is))
       (λ h e. let same : Some (KeptAsResponder j) ≡ Some h = sym (ap confirmed_held is) ∙ e in let thing : KeptAsResponder j ≡ h = cc in ap near_of (sym thing) ∙ id))
-      (record { own = ours.own; secret = ours.secret; stage = subst (λ r. StageFits r (confirmed_stage row.session.stage)) (sym role) (subst (λ g. StageFits Responder (confirmed_stage g)) (sym stage) tt) })
-      (λ done w. inr w)
-      (ids_same setup.config.max_sessions (ids_in_use (facts_of past)) s t a.ids all_used (omega (arith, len_known s.sessions near new row there)))
+      (record {
+        id = ours.id;
+        own = ours.own;
+        secret = ours.secret;
+        stage = subst (λ r. StageFits r (confirmed_stage row.session.stage)) (sym role) (subst (λ g. StageFits Responder (confirmed_stage g)) (sym stage) tt);
+        closed = λ e. let both : true ≡ false = sym now_held ∙ e in absurd (cc);
+      })
+      (beside_fact near s.moment past fact tt) (still_none setup past s a near j.peer (HalfOpen j) was s.moment fact tt (Some new))
+      (ids_same setup.config.max_sessions (ids_in_use past) s t a.ids all_used (omega (arith, len_known s.sessions near new row there)))
+      (omega arith, a.by_now)
       (rows_after_known s.startup.ledger fact setup.config.max_peers (knows_held s.startup.ledger j.peer (HalfOpen j) is) tied.rows))
       ((subst P is (gave_confirmed s.startup.ledger j.peer)) 0 (facts_of past) tied.account)
 
@@ -119,7 +129,7 @@ module _ (setup : Setup) (from : AddressParts) (datagram : List ℕ) (draws : Dr
       let is = tied.sessions near row there in
       let half = half_open row.session.role row.session.stage is.stage opening in
       let held_is : held_with s.startup.ledger j.peer ≡ Some (HalfOpen j) =
-      is.thing ∙ ap (λ h. Some h) (ap (λ r. thing_of r row.session.stage j) half.0 ∙ ap (λ g. thing_of Responder g j) half.1) in
+      is.thing (ap is_held half.1) ∙ ap (λ h. Some h) (ap (λ r. thing_of r row.session.stage j) half.0 ∙ ap (λ g. thing_of Responder g j) half.1) in
       let after = confirmed_tied past tied half.0 half.1 held_is in
       let context : context_of row.session false ≡ inward (own_of setup) (HalfOpen j) = ap (λ r. context_between j row.session.own r false) half.0 ∙ ap (λ own. context_between j own Responder false) is.own in
       let under : OpensUnder setup.secret (inward (own_of setup) (HalfOpen j)) j.near datagram heard.0 =
@@ -128,8 +138,11 @@ module _ (setup : Setup) (from : AddressParts) (datagram : List ℕ) (draws : Dr
       subst (λ o. Goes setup (Receive from datagram draws) past s (did o)) (sym held_is) (record {
         meets = (
           (
-            stands_of (own_of setup) (noted s.startup.ledger fact) fact (facts_of past) after.own after.account,
-            record { j = j; session = sym (reads_held 0 s.startup.ledger (facts_of past) tied.account j.peer) ∙ held_is; by = (heard.0, under) },
+            (
+              stands_of (own_of setup) (noted s.startup.ledger fact) fact (facts_of past) after.own after.account,
+              record { j = j; session = sym (reads_held 0 s.startup.ledger (facts_of past) tied.account j.peer) ∙ held_is; by = (heard.0, under) },
+            ),
+            tt,
           ),
           tt,
         );

@@ -63,7 +63,7 @@ by_counted setup now call past rest (Some fact) other meets = fact_counted setup
 other_counted : (setup : Setup) (now : ℕ) (call : Call) (past : List Stamped) (entries : List Entry) → IsNotOpen call → EntriesMeet FactPart setup now call past entries → EntriesMeet CountPart setup now call past entries
 other_counted setup now call past [] other meets = tt
 other_counted setup now call past (entry ∷ rest) other meets =
-    (by_counted setup now call past rest (fact_in entry) other meets.0, other_counted setup now call (stamped now entry ∷ past) rest other meets.1)
+    (by_counted setup now call past rest (fact_in entry) other meets.0.0, other_counted setup now call (stamped now entry ∷ past) rest other meets.1)
 
 -- ---- the count after an event
 
@@ -76,7 +76,7 @@ pub few_after : (setup : Setup) (now : ℕ) (call : Call) (past : List Stamped) 
     count (facts_of past) < 2 ^ 64 → count (facts_of (onto now entries past)) < 2 ^ 64
 few_after setup now call past [] f n few = few
 few_after setup now call past (entry ∷ rest) f n few =
-    few_after setup now call (stamped now entry ∷ past) rest f.1 n.1 (few_with setup now call past rest (fact_in entry) f.0 n.0 few)
+    few_after setup now call (stamped now entry ∷ past) rest f.1 n.1 (few_with setup now call past rest (fact_in entry) f.0.0 n.0 few)
 
 -- ---- an attempt
 

@@ -1,34 +1,41 @@
 -- The nonces that a call draws: none, or that of its draws, once.
-use Rattle.std.proofs.Common.{◌≡◌, ℕ, zero, suc, List, [], ◌∷◌, ◌++◌, take, Bool, true, false, if◌then◌else◌, Option, Some, None, Result, Ok, Err, inl, inr, ◌⊎◌, refl, sym, ap, ◌∙◌}
+use Rattle.std.proofs.Common.{◌≡◌, ℕ, zero, suc, List, [], ◌∷◌, ◌++◌, take, Bool, true, false, not, if◌then◌else◌, Option, Some, None, Result, Ok, Err, inl, inr, ◌⊎◌, refl, sym, ap, ◌∙◌}
 use Rattle.std.specs.Prelude.{◌==◌}
 use Rattle.std.specs.FinMap.{get}
 use Rattle.rtmfp_forms.specs.Address.{AddressParts}
 use Rattle.rtmfp_packet.specs.Walk.{Placed}
-use Rattle.rtmfp_chunks.specs.Chunk.{Ping}
+use Rattle.rtmfp_chunks.specs.Chunk.{Ping, Close as CloseChunk, CloseAck}
 use Rattle.rtmfp_chunks.specs.FieldReading.{chunk_reading}
 use Rattle.cookies.specs.declared.CookieTest.{CookieTest}
 use Rattle.cookies.specs.declared.CookieTest.TheVariants.{Bad, Moved, Expired as Late, Current}
 use Rattle.cookies.specs.Cookie.{cookie_test}
 use Rattle.glare_core.specs.declared.facts.Why.{Why}
-use Rattle.glare_core.specs.declared.facts.Why.TheVariants.{Cancelled, Expired}
+use Rattle.glare_core.specs.declared.facts.Why.TheVariants.{Cancelled, Expired, Near as NearWhy, Far as FarWhy, Unconfirmed as NotConfirmed, Idle as WasIdle}
 use Rattle.glare_core.specs.declared.facts.Fact.TheVariants.{Started, Born, Opened, Confirmed, Ended}
 use Rattle.glare_core.specs.declared.facts.Joined.{Joined}
 use Rattle.glare_core.specs.declared.facts.Held.{Held}
 use Rattle.glare_core.specs.declared.facts.Held.TheVariants.{Opening as OpeningHeld, HalfOpen, KeptAsResponder, KeptAsInitiator}
 use Rattle.glare_core.specs.declared.answers.Keying.{Keying}
 use Rattle.glare_core.specs.Ledger.{held_with}
-use Rattle.glare_core.specs.Calls.{way_made, born_fact, confirmed_fact}
+use Rattle.glare_core.specs.Calls.{where_true, first_that_stands, way_made, born_fact, confirmed_fact, ended_fact}
 use Rattle.startup.specs.declared.cause.Cause.{Cause}
-use Rattle.startup.specs.declared.cause.Cause.TheVariants.{SecondKeying}
+use Rattle.startup.specs.declared.cause.Cause.TheVariants.{SecondKeying, WrongState}
 use Rattle.startup.specs.declared.answer.Answer.{Answer}
 use Rattle.startup.specs.declared.answer.Due.TheVariants.{Ended as EndDue}
 use Rattle.startup.specs.declared.attempt.Stage.{Stage}
 use Rattle.startup.specs.declared.attempt.Stage.TheVariants.{Hello, Keying as KeyingStage}
 use Rattle.startup.specs.State.{AttemptState, StartupState, SpreadParts}
-use Rattle.startup.specs.Attempts.{begin_spread, after_begin, hello_spread, keying_signed, confirm_fact, after_confirm, end_of, lowest, has_number, ended_attempt}
+use Rattle.startup.specs.Attempts.{begin_spread, after_begin, hello_spread, keying_signed, confirm_fact, after_confirm, end_of, lowest, has_number, ended_attempt, session_in}
 use Rattle.startup.specs.Due.{due_of, after_due, is_due, is_over, repeat_of, repeat_signed}
 use Rattle.startup.specs.Keyings.{InitiatorKeying, ResponderKeying, initiator_keying_in, responder_keying_in, keying_of, repeated_session, again_or_birth, keyed_with, keyed_reading, after_keying, change_answer, session_answer, born_session, opened_reading}
+use Rattle.session_core.specs.declared.stage.SessionDue.{SessionDue}
+use Rattle.session_core.specs.declared.stage.SessionDue.TheVariants.{Unconfirmed, Idle, Over, RepeatClose}
 use Rattle.session_core.specs.Session.{is_opening, confirmed}
+use Rattle.session_core.specs.Closing.{is_held, closed_near, asked_to_close, kept_alive, first_due as first_due_in, after_due as after_due_in}
+use Rattle.mobility.specs.declared.pending.Test.{Test}
+use Rattle.mobility.specs.Tests.{asks, after_seen, address_for, after_reply}
+use Rattle.endpoint_model.specs.InSessions.{sent_home_by, sent_home, ended_as, closed, held_row, closing_by, closing, lingering, close_taken_by, moved_where, moved_by, told_in_session, test_begun, tested_by, tested as tested_at, due_row, row_due_done}
+use Rattle.endpoint_laws.proofs.Ending.{item_left, item_is}
 use Rattle.rtmfp_chunks.specs.Writing.{chunk_bytes}
 use Rattle.glare_core.specs.declared.facts.Fact.{Fact}
 use Rattle.endpoint_model.specs.declared.row.Row.{Row}
@@ -40,17 +47,17 @@ use Rattle.endpoint_model.specs.declared.place.Place.TheVariants.{Startup, Attem
 use Rattle.endpoint_model.specs.declared.entry.Entry.{Entry}
 use Rattle.endpoint_model.specs.declared.entry.Entry.TheVariants.{Fact as FactEntry}
 use Rattle.endpoint_model.specs.declared.answers.Stopped.{Stopped as Stop}
-use Rattle.endpoint_model.specs.Event.{Call, Open, Cancel, Receive, Tick, Answer as CallAnswer, Began, Done, NotOpened, Refused, Stopped, OutOfMemory}
+use Rattle.endpoint_model.specs.Event.{Call, Open, Cancel, Close, Receive, Tick, Answer as CallAnswer, Began, Done, NotOpened, Refused, Stopped, OutOfMemory}
 use Rattle.endpoint_laws.specs.Past.{Stamped, stamped, onto, facts_of, fact_and}
-use Rattle.endpoint_model.specs.State.{State, Did, Does, nothing, fact_entries, with_startup, with_session, free_from}
-use Rattle.endpoint_model.specs.Sending.{sent_answer, sent_each, sent_in_session}
+use Rattle.endpoint_model.specs.State.{State, Did, Does, nothing, then_do, fact_entries, with_startup, with_row, with_session, free_from}
+use Rattle.endpoint_model.specs.Sending.{sent_answer, sent_each, sent_by, sent_in_session}
 use Rattle.endpoint_model.specs.Admission.{Admission, Rejected, Admitted, admission, sid_at, confirming, confirming_by}
 use Rattle.endpoint_model.specs.Keying.{chunks_of}
-use Rattle.endpoint_model.specs.Effects.{opening, cancelling, due_done, tick_once, ticks, keying_done, initiator_keyed, opening_done, responder_keyed, with_born, read_done, effect, discarded_or, chunk_did, chunks_did, received, part_received, outset, item_done, attempt_item}
-use Rattle.endpoint_model.specs.Causes.{initiator_keying_cause, responder_keying_cause, read_cause, last_cause, chunk_cause}
+use Rattle.endpoint_model.specs.Effects.{opening, cancelling, due_done, tick_once, ticks, keying_done, initiator_keyed, opening_done, responder_keyed, with_born, read_done, effect, discarded_or, chunk_did, chunks_did, received, part_received, outset, attempt_item, first_due, session_item, is_told_in_session, gone_through}
+use Rattle.endpoint_model.specs.Causes.{initiator_keying_cause, responder_keying_cause, has_state_for, read_cause, last_cause, chunk_cause}
 use Rattle.endpoint_laws.specs.Lawful.{nonces_of}
 use Rattle.endpoint_laws.proofs.Chunked.{last_none}
-use Rattle.endpoint_laws.proofs.NoFacts.{NoFactAnd, NoFacts, the_rest, none_answer, none_each, none_in_session, none_read}
+use Rattle.endpoint_laws.proofs.NoFacts.{NoFactAnd, NoFacts, the_rest, none_answer, none_each, none_by, none_in_session, none_read}
 use Rattle.endpoint_model.specs.Log.{stopped, Answers}
 
 -- ---- the nonces among entries, in their order
@@ -157,16 +164,78 @@ none_repeat : (t : State) (key cert : List ℕ) (near : ℕ) (a : AttemptState) 
 none_repeat t key cert near a Hello = none_spread t (hello_spread a a.candidates).plain (hello_spread a a.candidates).to
 none_repeat t key cert near a (KeyingStage at cookie) = none_answered t (keying_signed key cert near a at cookie)
 
-none_due : (t left : State) (s : StartupState) (moment : ℕ) (o : Option (ℕ × AttemptState)) → drawn (item_done t left (attempt_item (due_of s moment o))).entries ≡ []
-none_due t left s moment None = refl
-none_due t left s moment (Some e) = by (is_over moment e.1)
+-- ends of sessions
+none_ended : (h : Option Held) (peer : List ℕ) (why : Why) → drawn (fact_entries (ended_fact h peer why)) ≡ []
+none_ended None peer why = refl
+none_ended (Some thing) peer why = refl
+
+none_home_by : (s : State) (near : ℕ) (body : List ℕ) (o : Option Row) → drawn (sent_home_by s near body o).entries ≡ []
+none_home_by s near body None = refl
+none_home_by s near body (Some row) = none_stated (sent_by s near row.session.address body (Some row)).entries (none_by s near row.session.address body (Some row))
+
+none_and_home : (d : Did) (near : ℕ) (body : List ℕ) → drawn d.entries ≡ [] → drawn (then_do d (λ t. sent_home t near body)).entries ≡ []
+none_and_home d near body none = none_after d.entries (sent_home d.state near body).entries [] none (none_home_by d.state near body (get d.state.sessions near))
+
+none_closing : (s : State) (near : ℕ) (o : Option Row) → drawn (closing_by s near o).entries ≡ []
+none_closing s near None = refl
+none_closing s near (Some row) =
+    none_and_home (ended_as s near row NearWhy (closed_near s.moment row.session)) near (chunk_bytes CloseChunk) (none_ended (session_in (held_with s.startup.ledger row.session.joined.peer)) row.session.joined.peer NearWhy)
+
+none_taken : (s : State) (near : ℕ) (o : Option Row) → drawn (close_taken_by s near o).entries ≡ []
+none_taken s near None = refl
+none_taken s near (Some row) =
+    none_and_home (lingering s near row) near (chunk_bytes CloseAck)
+    (none_either (is_held row.session.stage) (ended_as s near row FarWhy (asked_to_close s.moment row.session)) (nothing (with_session s near row (asked_to_close s.moment row.session)))
+    (none_ended (session_in (held_with s.startup.ledger row.session.joined.peer)) row.session.joined.peer FarWhy) refl)
+
+none_moved_where : (s : State) (near : ℕ) (row : Row) (moves : Option Test) (o : Option AddressParts) → drawn (moved_where s near row moves o).entries ≡ []
+none_moved_where s near row moves None = refl
+none_moved_where s near row moves (Some to) = refl
+
+none_moved : (s : State) (near : ℕ) (from : AddressParts) (bytes : List ℕ) (o : Option Row) → drawn (moved_by s near from bytes o).entries ≡ []
+none_moved s near from bytes None = refl
+none_moved s near from bytes (Some row) = none_moved_where s near row (after_reply row.moves from bytes) (address_for row.moves from bytes)
+
+none_told : (s : State) (near : ℕ) (from : AddressParts) (c : Placed) → drawn (told_in_session s near from c).entries ≡ []
+none_told s near from c =
+    none_either (c.kind == 0x0c) (close_taken_by s near (get s.sessions near)) (if c.kind == 0x4c then closed s near else moved_by s near from c.payload (get s.sessions near)) (none_taken s near (get s.sessions near))
+    (none_either (c.kind == 0x4c) (closed s near) (moved_by s near from c.payload (get s.sessions near)) refl (none_moved s near from c.payload (get s.sessions near)))
+
+none_tested_by : (s : State) (near : ℕ) (from : AddressParts) (token : List ℕ) (o : Option Row) → drawn (tested_by s near from token o).entries ≡ []
+none_tested_by s near from token None = refl
+none_tested_by s near from token (Some row) =
+    let t : State = with_row s near (record row { moves = after_seen row.moves row.session.address from token s.moment }) in
+    none_either (asks row.moves row.session.address from s.moment) (test_begun s near row from token) (nothing s) (none_said t near from (chunk_bytes (Ping token))) refl
+
+none_tested : (s : State) (place : Place) (from : AddressParts) (draws : Draws) → drawn (tested_at s place from draws).entries ≡ []
+none_tested s Startup from draws = refl
+none_tested s (Attempt near) from draws = refl
+none_tested s (Session near) from draws = none_tested_by s near from draws.token (held_row s near)
+
+none_row_due : (s : State) (near : ℕ) (row : Row) (o : Option SessionDue) → drawn (row_due_done s near row o).entries ≡ []
+none_row_due s near row None = none_and_home (nothing (with_session s near row (kept_alive s.moment row.session))) near (chunk_bytes (Ping [])) refl
+none_row_due s near row (Some Unconfirmed) = none_ended (session_in (held_with s.startup.ledger row.session.joined.peer)) row.session.joined.peer NotConfirmed
+none_row_due s near row (Some Idle) = none_ended (session_in (held_with s.startup.ledger row.session.joined.peer)) row.session.joined.peer WasIdle
+none_row_due s near row (Some Over) = refl
+none_row_due s near row (Some RepeatClose) = none_and_home (nothing (with_session s near row (after_due_in (Some RepeatClose) s.moment row.session))) near (chunk_bytes CloseChunk) refl
+
+none_row_item : (s : State) (left : StartupState) (o : Option (ℕ × Row)) → drawn (item_left s left (first_that_stands (session_item s.moment o ∷ []))).entries ≡ []
+none_row_item s left None = refl
+none_row_item s left (Some e) = none_row_due s e.0 e.1 (first_due_in e.1.session s.moment)
+
+none_due : (s : State) (left : StartupState) (o : Option (ℕ × AttemptState)) → drawn (item_left s left (first_that_stands (attempt_item (due_of s.startup s.moment o) ∷ session_item s.moment (due_row s) ∷ []))).entries ≡ []
+none_due s left None = none_row_item s left (due_row s)
+none_due s left (Some e) = by (is_over s.moment e.1)
   where
-    by : (b : Bool) → drawn (due_done left (if b then EndDue (ended_attempt e Expired) else repeat_of s e.0 e.1)).entries ≡ []
+    t : State
+    t = with_startup s left
+
+    by : (b : Bool) → drawn (due_done t (if b then EndDue (ended_attempt e Expired) else repeat_of s.startup e.0 e.1)).entries ≡ []
     by true = refl
-    by false = none_repeat left _ _ e.0 e.1 e.1.stage
+    by false = none_repeat t _ _ e.0 e.1 e.1.stage
 
 none_tick : (s : State) → drawn (tick_once s).entries ≡ []
-none_tick s = none_due s (with_startup s (after_due s.startup s.moment)) s.startup s.moment (lowest (is_due s.moment) s.startup.attempts)
+none_tick s = ap (λ (d : Did). drawn d.entries) (sym (item_is s (first_due s))) ∙ none_due s (after_due s.startup s.moment) (lowest (is_due s.moment) s.startup.attempts)
 
 none_ticks : (count : ℕ) (s : State) → drawn (ticks count s).entries ≡ []
 none_ticks zero s = refl
@@ -213,18 +282,23 @@ none_responder s near from payload = none_opening s near from (get s.startup.att
 
 -- ---- a chunk
 
+none_last : (s : State) (place : Place) (from : AddressParts) (c : Placed) → drawn (if is_told_in_session c.kind then told_in_session s (sid_at place) from c else read_done s place from (chunk_reading c.kind c.payload)).entries ≡ []
+none_last s place from c =
+    none_either (is_told_in_session c.kind) (told_in_session s (sid_at place) from c) (read_done s place from (chunk_reading c.kind c.payload)) (none_told s (sid_at place) from c)
+    (none_stated (read_done s place from (chunk_reading c.kind c.payload)).entries (none_read s place from (chunk_reading c.kind c.payload)))
+
 -- the effect by the type: that of an initiator's keying, that of a responder's, or another
 none_other : (s : State) (place : Place) (from : AddressParts) (draws : Draws) (c : Placed) (a b : Bool) → a ≡ false →
-    drawn (if a then initiator_keyed s from draws c.payload else if b then responder_keyed s (sid_at place) from c.payload else read_done s place from (chunk_reading c.kind c.payload)).entries ≡ []
+    drawn (if a then initiator_keyed s from draws c.payload else if b then responder_keyed s (sid_at place) from c.payload else if is_told_in_session c.kind then told_in_session s (sid_at place) from c else read_done s place from (chunk_reading c.kind c.payload)).entries ≡ []
 none_other s place from draws c true b is = absurd (cc)
 none_other s place from draws c false true is = none_responder s (sid_at place) from c.payload
-none_other s place from draws c false false is = none_stated (read_done s place from (chunk_reading c.kind c.payload)).entries (none_read s place from (chunk_reading c.kind c.payload))
+none_other s place from draws c false false is = none_last s place from c
 
 once_effect : (s : State) (place : Place) (from : AddressParts) (draws : Draws) (c : Placed) (a b : Bool) →
-    Once draws.nonce (if a then initiator_keyed s from draws c.payload else if b then responder_keyed s (sid_at place) from c.payload else read_done s place from (chunk_reading c.kind c.payload)).entries
+    Once draws.nonce (if a then initiator_keyed s from draws c.payload else if b then responder_keyed s (sid_at place) from c.payload else if is_told_in_session c.kind then told_in_session s (sid_at place) from c else read_done s place from (chunk_reading c.kind c.payload)).entries
 once_effect s place from draws c true b = once_keyed s from draws c.payload
 once_effect s place from draws c false true = inl (none_responder s (sid_at place) from c.payload)
-once_effect s place from draws c false false = inl (none_stated (read_done s place from (chunk_reading c.kind c.payload)).entries (none_read s place from (chunk_reading c.kind c.payload)))
+once_effect s place from draws c false false = inl (none_last s place from c)
 
 -- a keying came before
 abbrev second : Walk
@@ -238,7 +312,7 @@ not_second s place from c is none =
     let clash : Some SecondKeying ≡ None =
     sym (ap (λ (b : Bool). if b then initiator_keying_cause s second from c.payload
     else if c.kind == 0x78 then responder_keying_cause s (sid_at place) c.payload
-    else read_cause s place (chunk_reading c.kind c.payload)) is) ∙ last in
+    else first_that_stands (where_true (not (has_state_for s place c.kind)) WrongState ∷ read_cause s place (chunk_reading c.kind c.payload) ∷ [])) is) ∙ last in
     cc
 
 module _ (place : Place) (from : AddressParts) (draws : Draws) where
@@ -297,7 +371,9 @@ once_some from draws s place cs =
 
 once_received : (from : AddressParts) (draws : Draws) (a : Admission) → Once draws.nonce (received from draws a).entries
 once_received from draws (Rejected s cause) = inl refl
-once_received from draws (Admitted s place packet) = once_some from draws s place (chunks_of packet)
+once_received from draws (Admitted s place packet) =
+    let d : Did = gone_through from draws s place (chunks_of packet) in
+    once_before draws.nonce d.entries (tested_at d.state place from draws).entries (once_some from draws s place (chunks_of packet)) (none_tested d.state place from draws)
 
 once_part : (from : AddressParts) (draws : Draws) (a : Admission) (count : ℕ) → Once draws.nonce (part_received from draws a count).entries
 once_part from draws (Rejected s cause) count = inl refl
@@ -315,6 +391,7 @@ once_stopped s from draws a stop = by stop.taken
 abbrev pub MayDraw : Call → List Entry → Type 0
 MayDraw (Open peer candidates draws) entries = Once draws.nonce entries
 MayDraw (Cancel n) entries = drawn entries ≡ []
+MayDraw (Close near) entries = drawn entries ≡ []
 MayDraw (Receive from datagram draws) entries = Once draws.nonce entries
 MayDraw (Tick draws) entries = drawn entries ≡ []
 
@@ -333,6 +410,8 @@ answers_draw s t (Open peer candidates draws) (Began n) entries h =
 answers_draw s t (Open peer candidates draws) (NotOpened refusal) entries h = inl (none_of (nothing s) t entries h.1 refl)
 answers_draw s t (Cancel n) Done entries h = none_of (cancelling s n) t entries h.1 (none_end (lowest (has_number n) s.startup.attempts) Cancelled)
 answers_draw s t (Cancel n) (Refused refusal) entries h = none_of (nothing s) t entries h.2 refl
+answers_draw s t (Close near) Done entries h = none_of (closing s near) t entries h.1 (none_closing s near (held_row s near))
+answers_draw s t (Close near) (Refused refusal) entries h = none_of (nothing s) t entries h.2 refl
 answers_draw s t (Receive from datagram draws) Done entries h = once_of draws.nonce (received from draws (admission s datagram)) t entries h (once_received from draws (admission s datagram))
 answers_draw s t (Receive from datagram draws) (Stopped stop) entries h =
     once_of draws.nonce (stopped s from draws (admission s datagram) stop) t entries h.1 (once_stopped s from draws (admission s datagram) stop)

@@ -7,43 +7,45 @@ use Rattle.std.specs.FinMap.{FinMap, get, len, keys, remove}
 use Rattle.rtmfp_base.proofs.Maps.{get_removed, get_left, len_less}
 use Rattle.rtmfp_base.proofs.Lowest.{first_is_there}
 use Rattle.glare_core.specs.declared.facts.Why.{Why}
-use Rattle.glare_core.specs.declared.facts.Why.TheVariants.{Cancelled, Expired}
+use Rattle.glare_core.specs.declared.facts.Why.TheVariants.{Cancelled, Expired, Glare, Override, Unconfirmed, Near, Far, Idle}
 use Rattle.glare_core.specs.declared.facts.Fact.{Fact}
 use Rattle.glare_core.specs.declared.facts.Fact.TheVariants.{Ended}
 use Rattle.glare_core.specs.declared.facts.Held.{Held}
 use Rattle.glare_core.specs.declared.facts.Held.TheVariants.{Opening}
+use Rattle.glare_core.specs.Things.{near_of}
 use Rattle.glare_core.specs.Ledger.{Ledger, held_with, noted, noted_if}
-use Rattle.glare_core.specs.Calls.{ended_fact, MayEnd}
+use Rattle.glare_core.specs.Calls.{first_that_stands, ended_fact, MayEnd}
 use Rattle.glare_core.specs.Account.{Gave}
 use Rattle.glare_core.proofs.Accounts.{reads_held}
 use Rattle.glare_core.proofs.Giving.{gave_ended}
-use Rattle.startup.specs.State.{AttemptState}
+use Rattle.startup.specs.State.{AttemptState, StartupState}
 use Rattle.startup.specs.Attempts.{lowest, has_number, with_attempt, without_attempt, ended_attempt, end_of, after_end_of}
 use Rattle.startup.specs.declared.answer.Due.{Due}
 use Rattle.startup.specs.declared.answer.Due.TheVariants.{Ended as EndDue, Hello as HelloDue, Keying as KeyingDue}
 use Rattle.startup.specs.declared.attempt.Stage.{Stage}
 use Rattle.startup.specs.declared.attempt.Stage.TheVariants.{Hello, Keying}
 use Rattle.crypto_profile.specs.Keys.{sign_key_of}
-use Rattle.startup.specs.Due.{repeat_signed, repeat_of, is_over, is_due, repeated, due_of, after_due_of}
+use Rattle.startup.specs.Due.{repeat_signed, repeat_of, is_over, is_due, repeated, due_of, after_due, after_due_of}
 use Rattle.endpoint_model.specs.declared.row.Row.{Row}
 use Rattle.endpoint_model.specs.declared.entry.Entry.TheVariants.{Fact as FactEntry}
 use Rattle.endpoint_model.specs.Event.{Setup, Call, Cancel, own_of}
-use Rattle.endpoint_laws.specs.Past.{Stamped, stamped, facts_of, ids_in_use}
+use Rattle.endpoint_laws.specs.Past.{Stamped, stamped, is_close, facts_of, ids_in_use}
 use Rattle.endpoint_laws.specs.Lawful.{IsTick}
-use Rattle.endpoint_model.specs.State.{State, Did, fact_entries, with_startup}
-use Rattle.endpoint_model.specs.Effects.{cancelling, due_done, tick_once, item_done, attempt_item}
-use Rattle.endpoint_model.proofs.Members.{has}
+use Rattle.endpoint_model.specs.State.{State, Did, nothing, fact_entries, with_startup}
+use Rattle.endpoint_model.specs.Effects.{Item, OfAttempt, OfSession, cancelling, due_done, item_done, attempt_item, session_item}
+use Rattle.endpoint_model.specs.InSessions.{due_row, row_due_done}
+use Rattle.endpoint_model.proofs.Members.{has, without}
 use Rattle.endpoint_model.proofs.Ids.{has_keys, count_keys}
-use Rattle.endpoint_laws.proofs.Matching.{of_peer, ids_less}
+use Rattle.endpoint_laws.proofs.Matching.{of_peer, Ids, ids_less}
 use Rattle.endpoint_laws.proofs.Tied.{Tied}
 use Rattle.endpoint_laws.proofs.Agrees.{IsAt, found_of_attempt, used_here, used_elsewhere, agrees_changed, agrees_of, tied_of}
-use Rattle.endpoint_laws.proofs.Moving.{noted_matches, rows_after_known, knows_held, tied_attempt}
+use Rattle.endpoint_laws.proofs.Moving.{beside_fact, still_none, noted_matches, rows_after_known, knows_held, tied_attempt}
 use Rattle.endpoint_laws.proofs.Facts.{stands_of}
-use Rattle.endpoint_laws.proofs.Going.{Keeps, goes_nothing, goes_then, goes_spread, goes_answer}
+use Rattle.endpoint_laws.proofs.Going.{Goes, Keeps, goes_nothing, goes_then, goes_spread, goes_answer}
 
--- what the end of a held attempt gives
-gave_end : (l : Ledger) (peer : List ℕ) (n near : ℕ) (ni : List ℕ) (why : Why) → held_with l peer ≡ Some (Opening n near ni) → MayEnd why (Opening n near ni) → Gave l (Ended peer near why ∷ []) (noted l (Ended peer near why))
-gave_end l peer n near ni why is may =
+-- what the end of what is held gives
+pub gave_end : (l : Ledger) (peer : List ℕ) (thing : Held) (why : Why) → held_with l peer ≡ Some thing → MayEnd why thing → Gave l (Ended peer (near_of thing) why ∷ []) (noted l (Ended peer (near_of thing) why))
+gave_end l peer thing why is may =
     let P : Option Held → Type 0 = λ o. Gave l (option_to_list (ended_fact o peer why)) (noted_if l (ended_fact o peer why)) in
     subst P is (gave_ended l peer why (subst (λ (o : Option Held). IfSome o (MayEnd why)) (sym is) may))
 
@@ -62,6 +64,21 @@ less_one n m k e some = omega arith
 pub some_entry : {A : Type 0} (m : FinMap nat_cmp A) (near : ℕ) (a : A) → get m near ≡ Some a → 0 < len m
 some_entry m near a e = some_length (len m) (keys m) near (sym (has_keys m near) ∙ ap is_some e) (sym (count_keys m))
 
+-- a cause that may end attempts closes nothing
+attempt_opens : (why : Why) (n near : ℕ) (ni : List ℕ) → MayEnd why (Opening n near ni) → is_close why ≡ false
+attempt_opens Cancelled n near ni may = refl
+attempt_opens Expired n near ni may = refl
+attempt_opens Glare n near ni may = refl
+attempt_opens Override n near ni may = absurd may
+attempt_opens Unconfirmed n near ni may = absurd may
+attempt_opens Near n near ni may = absurd may
+attempt_opens Far n near ni may = absurd may
+attempt_opens Idle n near ni may = absurd may
+
+-- after an end that closes nothing a session ID isn't in use any more
+pub ids_gone : {most : ℕ} (why : Why) (ids : List ℕ) (near : ℕ) (t : State) → is_close why ≡ false → Ids most (without near ids) t → Ids most (if is_close why then ids else without near ids) t
+ids_gone {most} why ids near t opens i = subst (λ (b : Bool). Ids most (if b then ids else without near ids) t) (sym opens) i
+
 -- the end of an attempt, for a cause that may end attempts
 module _ (setup : Setup) (past : List Stamped) (s : State) (tied : Tied setup past s) (near : ℕ) (a : AttemptState) (there : get s.startup.attempts near ≡ Some a) (why : Why) where
   abbrev the_end : Fact
@@ -75,6 +92,7 @@ module _ (setup : Setup) (past : List Stamped) (s : State) (tied : Tied setup pa
       let now : List Stamped = stamped s.moment (FactEntry the_end) ∷ past in
       let g = agrees_of setup past s tied in
       let is : held_with s.startup.ledger a.peer ≡ Some (Opening a.n near a.ni) = tied.sound.held near a there in
+      let was = found_of_attempt s near a there in
       let at : IsAt near None None s left = record {
         attempt = get_removed s.startup.attempts near;
         session = tied.apart near a there;
@@ -85,12 +103,14 @@ module _ (setup : Setup) (past : List Stamped) (s : State) (tied : Tied setup pa
       (agrees_changed setup past now s left near None None g
       (record { config = g.given.config; cert = g.given.cert; secret = g.given.secret; cookie_secret = g.given.cookie_secret; own = g.given.own; max_peers = g.given.max_peers }) at
       (noted_matches s left the_end near None None g.matches at refl (found_of_attempt s near a there ∙ sym (ap (of_peer a.peer) is)) refl (λ h e. absurd (cc)))
-      tt (λ done w. inr w)
-      (ids_less setup.config.max_sessions (ids_in_use (facts_of past)) s left near g.ids (used_elsewhere near None None s left at) (used_here near None None s left at)
+      tt (beside_fact near s.moment past the_end refl) (still_none setup past s g near _ _ was s.moment the_end (attempt_opens why a.n near a.ni may) None)
+      (ids_gone why (ids_in_use past) near left (attempt_opens why a.n near a.ni may)
+      (ids_less setup.config.max_sessions (ids_in_use past) s left near g.ids (used_elsewhere near None None s left at) (used_here near None None s left at)
       (used_before (get s.startup.attempts near) (get s.sessions near) there)
-      (less_one (len s.startup.attempts) (len (remove s.startup.attempts near)) (len s.sessions) (len_less s.startup.attempts near a there) (some_entry s.startup.attempts near a there)))
+      (less_one (len s.startup.attempts) (len (remove s.startup.attempts near)) (len s.sessions) (len_less s.startup.attempts near a there) (some_entry s.startup.attempts near a there))))
+      (omega arith, g.by_now)
       (rows_after_known s.startup.ledger the_end setup.config.max_peers (knows_held s.startup.ledger a.peer (Opening a.n near a.ni) is) tied.rows))
-      (gave_end s.startup.ledger a.peer a.n near a.ni why is may 0 (facts_of past) tied.account)
+      (gave_end s.startup.ledger a.peer (Opening a.n near a.ni) why is may 0 (facts_of past) tied.account)
 
 -- ---- giving one up
 
@@ -107,8 +127,11 @@ cancel_by setup s n (Some e) is = λ past tied.
     record {
       meets = (
         (
-          stands_of (own_of setup) (noted s.startup.ledger (ended_attempt e Cancelled)) (ended_attempt e Cancelled) (facts_of past) after.own after.account,
-          record { n = e.1.n; near = e.0; ni = e.1.ni; is_held = sym (reads_held 0 s.startup.ledger (facts_of past) tied.account e.1.peer) ∙ held_is; by = number_is e.1.n n found.1 },
+          (
+            stands_of (own_of setup) (noted s.startup.ledger (ended_attempt e Cancelled)) (ended_attempt e Cancelled) (facts_of past) after.own after.account,
+            record { n = e.1.n; near = e.0; ni = e.1.ni; is_held = sym (reads_held 0 s.startup.ledger (facts_of past) tied.account e.1.peer) ∙ held_is; by = number_is e.1.n n found.1 },
+          ),
+          tt,
         ),
         tt,
       );
@@ -123,6 +146,21 @@ goes_cancelling setup s n = cancel_by setup s n (lowest (has_number n) s.startup
 
 over_is : (start moment : ℕ) → nat_le (start + 95000) moment ≡ true → start + 95000 ≤ moment
 over_is start moment e = grind (arith, nat_tests)
+
+-- what a thing leaves and adds, by what it leaves of the attempts
+abbrev pub item_left : State → StartupState → Option Item → Did
+item_left s startup None = nothing s
+item_left s startup (Some (OfAttempt due)) = due_done (with_startup s startup) due
+item_left s startup (Some (OfSession near row due)) = row_due_done s near row due
+
+pub item_is : (s : State) (item : Option Item) → item_left s (after_due s.startup s.moment) item ≡ item_done s item
+item_is s None = refl
+item_is s (Some (OfAttempt due)) = refl
+item_is s (Some (OfSession near row due)) = refl
+
+pub one_stands : {A : Type 0} (o : Option A) → first_that_stands (o ∷ []) ≡ o
+one_stands None = refl
+one_stands (Some a) = refl
 
 -- hellos or a keying
 abbrev IsSending : Due → Type 0
@@ -139,18 +177,21 @@ module _ (setup : Setup) (call : Call) (is_tick : IsTick call) (s : State) where
       record {
         meets = (
           (
-            stands_of (own_of setup) (noted s.startup.ledger (ended_attempt e Expired)) (ended_attempt e Expired) (facts_of past) after.own after.account,
             (
-              is_tick,
-              record {
-                n = e.1.n;
-                ni = e.1.ni;
-                is_held = sym (reads_held 0 s.startup.ledger (facts_of past) tied.account e.1.peer) ∙ held_is;
-                start = e.1.start;
-                started = tied.started e.0 e.1 there;
-                over = over_is e.1.start s.moment over;
-              },
+              stands_of (own_of setup) (noted s.startup.ledger (ended_attempt e Expired)) (ended_attempt e Expired) (facts_of past) after.own after.account,
+              (
+                is_tick,
+                record {
+                  n = e.1.n;
+                  ni = e.1.ni;
+                  is_held = sym (reads_held 0 s.startup.ledger (facts_of past) tied.account e.1.peer) ∙ held_is;
+                  start = e.1.start;
+                  started = tied.started e.0 e.1 there;
+                  over = over_is e.1.start s.moment over;
+                },
+              ),
             ),
+            tt,
           ),
           tt,
         );
@@ -185,10 +226,8 @@ module _ (setup : Setup) (call : Call) (is_tick : IsTick call) (s : State) where
   tick_over e true there is = tick_end e there is
   tick_over e false there is = tick_repeat e there
 
-  tick_by : (e : Option (ℕ × AttemptState)) → lowest (is_due s.moment) s.startup.attempts ≡ e →
-      Keeps setup call s (item_done s (with_startup s (after_due_of s.startup s.moment e)) (attempt_item (due_of s.startup s.moment e)))
-  tick_by None is = goes_nothing setup call s
-  tick_by (Some e) is = tick_over e (is_over s.moment e.1) (first_is_there (is_due s.moment) s.startup.attempts e is).0 refl
-
-  pub goes_tick_once : Keeps setup call s (tick_once s)
-  goes_tick_once = tick_by (lowest (is_due s.moment) s.startup.attempts) refl
+  -- by the first attempt of which something is due; where there is none, this holds of a session's thing
+  pub tick_by : (past : List Stamped) → Tied setup past s → (e : Option (ℕ × AttemptState)) → lowest (is_due s.moment) s.startup.attempts ≡ e → Goes setup call past s (item_left s (after_due_of s.startup s.moment None) (session_item s.moment (due_row s))) →
+      Goes setup call past s (item_left s (after_due_of s.startup s.moment e) (first_that_stands (attempt_item (due_of s.startup s.moment e) ∷ session_item s.moment (due_row s) ∷ [])))
+  tick_by past tied None is later = subst (λ (x : Option Item). Goes setup call past s (item_left s (after_due_of s.startup s.moment None) x)) (sym (one_stands (session_item s.moment (due_row s)))) later
+  tick_by past tied (Some e) is later = tick_over e (is_over s.moment e.1) (first_is_there (is_due s.moment) s.startup.attempts e is).0 refl past tied

@@ -1,7 +1,8 @@
 -- An event is told: its facts are steps that are sound, each with what it heard before it and what its end tells after it.
-use Rattle.std.proofs.Common.{ℕ, ◌<◌, ◌^◌, List, [], ◌∷◌, Option, Some, ◌≡◌, inl, inr, refl, sym, ap, subst, ◌∙◌}
+use Rattle.std.proofs.Common.{ℕ, ◌<◌, ◌^◌, List, [], ◌∷◌, Option, Some, None, ◌≡◌, inl, inr, refl, sym, ap, subst, ◌∙◌}
 use Rattle.crypto_profile.specs.declared.keys.Context.{Context}
 use Rattle.glare_core.specs.declared.facts.Fact.{Fact}
+use Rattle.glare_core.specs.declared.facts.Fact.TheVariants.{Started, Born, Opened, Confirmed, Ended}
 use Rattle.glare_core.specs.declared.facts.Held.{Held}
 use Rattle.glare_core.specs.Standing.{held, count}
 use Rattle.glare_core.specs.Stands.{Stands}
@@ -15,7 +16,7 @@ use Rattle.endpoint_model.specs.Views.{fact_in}
 use Rattle.endpoint_model.specs.declared.entry.Entry.{Entry}
 use Rattle.endpoint_model.specs.declared.entry.Entry.TheVariants.{Fact as FactEntry, Out}
 use Rattle.endpoint_model.specs.Event.{Setup, own_of, Call}
-use Rattle.endpoint_laws.specs.Past.{Stamped, stamped, facts_of, fact_and}
+use Rattle.endpoint_laws.specs.Past.{Stamped, stamped, facts_of, fact_and, onto, Closes}
 use Rattle.endpoint_laws.specs.Lawful.{FactLine, IsCounted, EntriesLawful}
 use Rattle.endpoint_laws.specs.History.{HasOut, IsOut}
 use Rattle.endpoint_laws.specs.Laws.{IsCall}
@@ -24,7 +25,7 @@ use Rattle.endpoint_laws.proofs.FactsAlone.{alone, facts_alone}
 use Rattle.endpoint_laws.proofs.Fresh.{nonces_alone, different_before, is_new}
 use Rattle.endpoint_laws.proofs.HeldTold.{Holds, FactSizes, tell_of}
 use Rattle.endpoint_laws.proofs.Telling.{Telling, SentFor, Grown, grown, telling_told, stated_no_fact, sent_stays}
-use Rattle.endpoint_laws.proofs.Carried.{Carried, WasTold}
+use Rattle.endpoint_laws.proofs.Carried.{Carried, ClosingTold, WasTold}
 use Rattle.endpoint_laws.proofs.Since.{CameSince, came_more}
 use Rattle.endpoint_laws.proofs.Heard.{WasCarried, IsHeardBy, Hears, hears, sizes_of}
 use Rattle.endpoint_laws.proofs.Counted.{count_more}
@@ -36,18 +37,23 @@ pub record Far (setup : Setup) (call : Call) (start : List Fact) (base : List St
   pub stated : facts (view (own_of setup) steps) ≡ facts_of past
   pub came : CameSince call start (facts_of past)
   pub grows : (t : Tell) → WasSent t base → WasSent t steps
+  pub closing : ClosingTold (own_of setup) past steps
 
 -- the steps after the rest of the entries, in which their datagrams carry what was told
-pub record Reached (setup : Setup) (entries : List Entry) (so_far steps : List Step) : Type 0 where
+pub record Reached (setup : Setup) (now : ℕ) (past : List Stamped) (entries : List Entry) (so_far steps : List Step) : Type 0 where
   pub last : List Step
   pub telling : Telling last
   pub is : alone last ≡ stated_onto (own_of setup) entries so_far
   pub grows : (t : Tell) → WasSent t steps → WasSent t last
   pub outs : (sent : List ℕ) (context : Context) → HasOut sent context entries → Carried setup.secret sent context last
+  pub closing : ClosingTold (own_of setup) (onto now entries past) last
 
-module _ (setup : Setup) (now : ℕ) (call : Call) (start : List Fact) (base : List Step) (is_call : IsCall call) (carried : WasCarried setup start base call) where
+module _ (setup : Setup) (now : ℕ) (call : Call) (begin : List Stamped) (base : List Step) (is_call : IsCall call) (carried : WasCarried setup begin base call) where
   abbrev own : List ℕ
   own = own_of setup
+
+  abbrev start : List Fact
+  start = facts_of begin
 
   -- what an entry leaves
   record Next (fact : Fact) (past : List Stamped) (so_far steps : List Step) : Type 0 where
@@ -69,6 +75,17 @@ module _ (setup : Setup) (now : ℕ) (call : Call) (start : List Fact) (base : L
       })
       sizes (subst (λ (fs : List Fact). count (fact ∷ fs) < 2 ^ 64) same (count_more own (facts_of past) fact few stands fits))
 
+  -- what closes was held, and so told
+  closes_told : (past : List Stamped) (so_far steps : List Step) → Far setup call start base past so_far steps → (near : ℕ) (thing : Held) (fact : Fact) → Closes near thing (facts_of past) (Some fact) →
+      (peer : List ℕ) × WasSent (tell_of own peer thing) steps
+  closes_told past so_far steps far near thing (Started p n id ni) c = absurd c
+  closes_told past so_far steps far near thing (Born j) c = absurd c
+  closes_told past so_far steps far near thing (Opened j) c = absurd c
+  closes_told past so_far steps far near thing (Confirmed p id) c = absurd c
+  closes_told past so_far steps far near thing (Ended p id why) c =
+      let is : holding own p steps ≡ Some thing = ap (held p) far.stated ∙ c.2 in
+      (p, subst (λ (o : Option Held). SentFor own p steps o) is (far.telling.sent own p))
+
   after_fact : (fact : Fact) (past : List Stamped) (rest : List Entry) (so_far steps older : List Step) → Far setup call start base past so_far steps → FactLine setup now call past rest fact →
       ((t : Tell) → WasSent t older → WasSent t steps) → Grown own fact steps → Next fact past so_far older
   after_fact fact past rest so_far steps older far line more g = record {
@@ -81,6 +98,10 @@ module _ (setup : Setup) (now : ℕ) (call : Call) (start : List Fact) (base : L
           ∙ ap (λ (fs : List Fact). fact ∷ fs) (facts_alone own steps ∙ far.stated);
       came = came_more setup now call start past rest fact line far.came;
       grows = λ t w. g.grows t (far.grows t w);
+      closing = λ near thing at c. elim c [
+        | inl b ↦ let was = closes_told past so_far steps far near thing fact b.0 in (was.0, g.grows (tell_of own was.0 thing) was.1)
+        | inr p ↦ let was = far.closing near thing at p.1 in (was.0, g.grows (tell_of own was.0 thing) was.1)
+      ];
     };
     more = λ t w. g.grows t (more t w);
   }
@@ -102,6 +123,7 @@ module _ (setup : Setup) (now : ℕ) (call : Call) (start : List Fact) (base : L
         stated = stated_no_fact own own (Told t) steps tt ∙ far.stated;
         came = far.came;
         grows = λ u w. sent_stays (step own (Told t)) steps u (far.grows u w);
+        closing = λ near thing at c. (let was = far.closing near thing at c in (was.0, sent_stays (step own (Told t)) steps (tell_of own was.0 thing) was.1));
       } in
       after_fact fact past rest so_far more steps far' line (λ u w. sent_stays (step own (Told t)) steps u w)
       (fact_grows fact past so_far more far' stands fits sizes (subst (λ (log : List Item). IsHeardBy own log fact) (sym (view_same own (Told t) steps)) told.2) new)
@@ -115,21 +137,27 @@ module _ (setup : Setup) (now : ℕ) (call : Call) (start : List Fact) (base : L
       let sent = subst (λ (o : Option Held). SentFor own peer steps o) is (far.telling.sent own peer) in
       record { sent = more (tell_of own peer h) sent; sizes = holds.1 }
 
-  beside : (entry : Entry) (past : List Stamped) (so_far steps : List Step) → facts_of (stamped now entry ∷ past) ≡ facts_of past → Far setup call start base past so_far steps →
+  beside : (entry : Entry) (past : List Stamped) (so_far steps : List Step) → fact_in entry ≡ None → Far setup call start base past so_far steps →
       Far setup call start base (stamped now entry ∷ past) so_far steps
-  beside entry past so_far steps same far = record {
-    telling = far.telling;
-    is = far.is;
-    stated = far.stated ∙ sym same;
-    came = subst (λ (fs : List Fact). CameSince call start fs) (sym same) far.came;
-    grows = far.grows;
-  }
+  beside entry past so_far steps none far =
+      let same : facts_of (stamped now entry ∷ past) ≡ facts_of past = ap (λ (o : Option Fact). fact_and o (facts_of past)) none in
+      record {
+        telling = far.telling;
+        is = far.is;
+        stated = far.stated ∙ sym same;
+        came = subst (λ (fs : List Fact). CameSince call start fs) (sym same) far.came;
+        grows = far.grows;
+        closing = λ near thing at c. elim c [
+          | inl b ↦ absurd (subst (Closes near thing (facts_of past)) none b.0)
+          | inr p ↦ far.closing near thing at p.1
+        ];
+      }
 
   -- ---- what the rest of the entries reach, after one entry
 
   abbrev ReachedBy : List Entry → List Stamped → List Step → List Step → Type 0
   ReachedBy entries past so_far steps = Far setup call start base past so_far steps → EntriesLawful setup now call past entries → AllDifferent (nonces (stated_onto own entries so_far)) →
-      Reached setup entries so_far steps
+      Reached setup now past entries so_far steps
 
   -- whatever the past, the facts and the steps so far
   abbrev ReachesOn : List Entry → Type 0
@@ -138,7 +166,7 @@ module _ (setup : Setup) (now : ℕ) (call : Call) (start : List Fact) (base : L
   reached_fact : (fact : Fact) (rest : List Entry) → ReachesOn rest → (past : List Stamped) (so_far steps : List Step) → ReachedBy (FactEntry fact ∷ rest) past so_far steps
   reached_fact fact rest later past so_far steps far lawful new =
       let line = lawful.0 in
-      let heard = hears setup now start past base steps far.telling far.stated far.grows call fact rest is_call carried far.came line.0 line.1 lawful.1 in
+      let heard = hears setup now begin past base steps far.telling far.stated far.grows call fact rest is_call carried far.came line.0 line.1 lawful.1 in
       let one = fact_next fact past rest so_far steps far line.0 line.1 line.2 (different_before own rest (step own (Did fact no_generation) ∷ so_far) new) heard in
       let r = later (stamped now (FactEntry fact) ∷ past) (step own (Did fact no_generation) ∷ so_far) one.next one.far lawful.1 new in
       record {
@@ -147,13 +175,14 @@ module _ (setup : Setup) (now : ℕ) (call : Call) (start : List Fact) (base : L
         is = r.is;
         grows = λ t w. r.grows t (one.more t w);
         outs = λ sent context out. elim out [ inl none ↦ absurd none | inr more ↦ r.outs sent context more ];
+        closing = r.closing;
       }
 
   reached_out : (to : AddressParts) (datagram : List ℕ) (context : Context) (rest : List Entry) → ReachesOn rest → (past : List Stamped) (so_far steps : List Step) →
       ReachedBy (Out to datagram context ∷ rest) past so_far steps
   reached_out to datagram context rest later past so_far steps far lawful new =
       let r = later (stamped now (Out to datagram context) ∷ past) so_far steps (beside (Out to datagram context) past so_far steps refl far) lawful.1 new in
-      let here : Carried setup.secret datagram context r.last = record { setup = setup; group = refl; past = past; line = lawful.0; told = was_told past so_far steps r.last far r.grows } in
+      let here : Carried setup.secret datagram context r.last = record { setup = setup; group = refl; past = past; line = lawful.0; told = was_told past so_far steps r.last far r.grows; closing = λ near thing at c. (let was = far.closing near thing at c in (was.0, r.grows (tell_of own was.0 thing) was.1)) } in
       record {
         last = r.last;
         telling = r.telling;
@@ -163,12 +192,13 @@ module _ (setup : Setup) (now : ℕ) (call : Call) (start : List Fact) (base : L
           | inl it ↦ subst (λ (b : List ℕ). Carried setup.secret b sealed_for r.last) it.0 (subst (λ (k : Context). Carried setup.secret datagram k r.last) it.1 here)
           | inr more ↦ r.outs sent sealed_for more
         ];
+        closing = r.closing;
       }
 
   reached_other : (entry : Entry) → IsOther entry → (rest : List Entry) → ReachesOn rest → (past : List Stamped) (so_far steps : List Step) → ReachedBy (entry ∷ rest) past so_far steps
   reached_other entry other rest later past so_far steps far lawful new =
       let as_none : stated_on own (fact_in entry) so_far ≡ so_far = ap (λ (o : Option Fact). stated_on own o so_far) other.no_fact in
-      let r = later (stamped now entry ∷ past) so_far steps (beside entry past so_far steps (ap (λ (o : Option Fact). fact_and o (facts_of past)) other.no_fact) far) lawful.1
+      let r = later (stamped now entry ∷ past) so_far steps (beside entry past so_far steps other.no_fact far) lawful.1
       (subst (λ (before : List Step). AllDifferent (nonces (stated_onto own rest before))) as_none new) in
       record {
         last = r.last;
@@ -176,10 +206,11 @@ module _ (setup : Setup) (now : ℕ) (call : Call) (start : List Fact) (base : L
         is = r.is ∙ ap (stated_onto own rest) (sym as_none);
         grows = r.grows;
         outs = λ sent context out. elim out [ inl it ↦ absurd (subst (IsOut sent context) other.no_out it) | inr more ↦ r.outs sent context more ];
+        closing = r.closing;
       }
 
   pub reached : (entries : List Entry) → ReachesOn entries
-  reached [] = λ past so_far steps far lawful new. record { last = steps; telling = far.telling; is = far.is; grows = λ t w. w; outs = λ sent context none. absurd none }
+  reached [] = λ past so_far steps far lawful new. record { last = steps; telling = far.telling; is = far.is; grows = λ t w. w; outs = λ sent context none. absurd none; closing = far.closing }
   reached (entry ∷ rest) = λ past so_far steps. elim (kind_of entry) [
     | inl fact ↦ subst (λ (e : Entry). ReachedBy (e ∷ rest) past so_far steps) (sym fact.1) (reached_fact fact.0 rest (reached rest) past so_far steps)
     | inr not ↦ elim not [

@@ -4,7 +4,7 @@ use Rattle.std.specs.FinMap.{get}
 use Rattle.rtmfp_forms.specs.Address.{AddressParts}
 use Rattle.rtmfp_packet.specs.Walk.{Placed}
 use Rattle.rtmfp_chunks.specs.declared.reading.ChunkFault.{ChunkFault}
-use Rattle.rtmfp_chunks.specs.Chunk.{Chunk, Ping}
+use Rattle.rtmfp_chunks.specs.Chunk.{Chunk, Ping, Close as CloseChunk, CloseAck}
 use Rattle.rtmfp_chunks.specs.FieldReading.{chunk_reading}
 use Rattle.glare_core.specs.declared.facts.Fact.{Fact}
 use Rattle.startup.specs.declared.cause.Cause.{Cause}
@@ -15,7 +15,14 @@ use Rattle.startup.specs.declared.answer.Due.{Due}
 use Rattle.startup.specs.declared.answer.Due.TheVariants.{Ended as EndDue, Hello as HelloDue, Keying as KeyingDue}
 use Rattle.startup.specs.State.{SpreadParts, StartupState}
 use Rattle.startup.specs.Attempts.{begin_spread, after_begin, after_confirm, confirm_fact}
-use Rattle.startup.specs.Due.{after_due}
+use Rattle.startup.specs.Due.{after_due as after_due_in}
+use Rattle.glare_core.specs.declared.facts.Why.TheVariants.{Near as NearWhy, Far as FarWhy, Unconfirmed as NotConfirmed, Idle as WasIdle}
+use Rattle.session_core.specs.declared.stage.SessionDue.{SessionDue}
+use Rattle.session_core.specs.declared.stage.SessionDue.TheVariants.{Unconfirmed, Idle, Over, RepeatClose}
+use Rattle.session_core.specs.Closing.{is_held, closed_near, asked_to_close, after_due, kept_alive}
+use Rattle.mobility.specs.declared.pending.Test.{Test}
+use Rattle.mobility.specs.Tests.{asks, after_seen, address_for, after_reply}
+use Rattle.endpoint_model.specs.InSessions.{sent_home_by, sent_home, ended_as, dropped, closed, held_row, closing_by, closing, lingering, close_taken_by, moved_where, moved_by, told_in_session, test_begun, tested_by, tested, row_due_done}
 use Rattle.startup.specs.Keyings.{keyed, after_keying, opened, after_opening}
 use Rattle.glare_core.specs.Calls.{started_fact}
 use Rattle.crypto_profile.specs.declared.keys.Context.{Context}
@@ -31,11 +38,11 @@ use Rattle.endpoint_model.specs.declared.place.Place.TheVariants.{Startup, Attem
 use Rattle.endpoint_model.specs.declared.entry.Entry.{Entry}
 use Rattle.endpoint_model.specs.declared.entry.Entry.TheVariants.{Fact as FactEntry, Out}
 use Rattle.endpoint_laws.specs.Past.{Stamped, stamped, onto}
-use Rattle.endpoint_model.specs.State.{State, Did, Does, nothing, after_entries, then_do, fact_entries, with_startup, with_session, with_sealed, free_from}
+use Rattle.endpoint_model.specs.State.{State, Did, Does, nothing, after_entries, then_do, fact_entries, with_startup, with_row, with_session, with_sealed, free_from}
 use Rattle.endpoint_model.specs.Sending.{last_count, startup_datagram, session_datagram, sent_startup, sent_answer, sent_if, sent_each, sent_spread, sent_by, sent_in_session}
 use Rattle.endpoint_model.specs.Admission.{sid_at, confirming_by, confirming}
 use Rattle.endpoint_model.specs.Causes.{chunk_cause}
-use Rattle.endpoint_model.specs.Effects.{opening, due_done, tick_once, with_born, keying_done, initiator_keyed, with_opened, opening_done, responder_keyed, Reply, Silence, InStartup, InSession, replied, read_left, read_reply, read_done, effect, discarded_or, chunk_did, item_done, Item, OfAttempt, first_due}
+use Rattle.endpoint_model.specs.Effects.{opening, due_done, tick_once, with_born, keying_done, initiator_keyed, with_opened, opening_done, responder_keyed, Reply, Silence, InStartup, InSession, replied, read_left, read_reply, read_done, effect, discarded_or, chunk_did, item_done, Item, OfAttempt, OfSession, is_told_in_session, first_due}
 use Rattle.endpoint_laws.proofs.Replies.{left_same}
 use Rattle.endpoint_laws.specs.Complete.{outs_in, outs_of}
 
@@ -133,14 +140,78 @@ either : (s : State) (b : Bool) (d e : Did) → Few s d → Few s e → Few s (i
 either s true d e p q = p
 either s false d e p q = q
 
+-- ---- sessions
+
+few_home_by : (s : State) (near : ℕ) (body : List ℕ) (o : Option Row) → Few s (sent_home_by s near body o)
+few_home_by s near body None = few_nothing s
+few_home_by s near body (Some row) = few_by s near row.session.address body (Some row)
+
+few_home : (s : State) (near : ℕ) (body : List ℕ) → Few s (sent_home s near body)
+few_home s near body = few_home_by s near body (get s.sessions near)
+
+few_and_home : (s : State) (near : ℕ) (body : List ℕ) (d : Did) → d.state.sealed ≡ s.sealed → Few s (then_do d (λ t. sent_home t near body))
+few_and_home s near body d same = few_then s d (λ t. sent_home t near body) (few_same s d same) (few_home d.state near body)
+
+few_closing_by : (s : State) (near : ℕ) (o : Option Row) → Few s (closing_by s near o)
+few_closing_by s near None = few_nothing s
+few_closing_by s near (Some row) = few_and_home s near (chunk_bytes CloseChunk) (ended_as s near row NearWhy (closed_near s.moment row.session)) refl
+
+pub few_closing : (s : State) (near : ℕ) → Few s (closing s near)
+few_closing s near = few_closing_by s near (held_row s near)
+
+lingering_sealed : (s : State) (near : ℕ) (row : Row) (b : Bool) (d e : Did) → d.state.sealed ≡ s.sealed → e.state.sealed ≡ s.sealed → (if b then d else e).state.sealed ≡ s.sealed
+lingering_sealed s near row true d e p q = p
+lingering_sealed s near row false d e p q = q
+
+few_taken : (s : State) (near : ℕ) (o : Option Row) → Few s (close_taken_by s near o)
+few_taken s near None = few_nothing s
+few_taken s near (Some row) = few_and_home s near (chunk_bytes CloseAck) (lingering s near row)
+    (lingering_sealed s near row (is_held row.session.stage) (ended_as s near row FarWhy (asked_to_close s.moment row.session)) (nothing (with_session s near row (asked_to_close s.moment row.session))) refl refl)
+
+few_moved_where : (s : State) (near : ℕ) (row : Row) (moves : Option Test) (o : Option AddressParts) → Few s (moved_where s near row moves o)
+few_moved_where s near row moves None = few_nothing s
+few_moved_where s near row moves (Some to) = omega arith
+
+few_moved : (s : State) (near : ℕ) (from : AddressParts) (bytes : List ℕ) (o : Option Row) → Few s (moved_by s near from bytes o)
+few_moved s near from bytes None = few_nothing s
+few_moved s near from bytes (Some row) = few_moved_where s near row (after_reply row.moves from bytes) (address_for row.moves from bytes)
+
+few_told : (s : State) (near : ℕ) (from : AddressParts) (c : Placed) → Few s (told_in_session s near from c)
+few_told s near from c =
+    either s (c.kind == 0x0c) (close_taken_by s near (get s.sessions near)) (if c.kind == 0x4c then closed s near else moved_by s near from c.payload (get s.sessions near)) (few_taken s near (get s.sessions near))
+    (either s (c.kind == 0x4c) (closed s near) (moved_by s near from c.payload (get s.sessions near)) (few_same s (closed s near) refl) (few_moved s near from c.payload (get s.sessions near)))
+
+few_begun : (s : State) (near : ℕ) (row : Row) (from : AddressParts) (token : List ℕ) → Few s (test_begun s near row from token)
+few_begun s near row from token =
+    let t : State = with_row s near (record row { moves = after_seen row.moves row.session.address from token s.moment }) in
+    few_then s (nothing t) (λ u. sent_in_session u near from (chunk_bytes (Ping token))) (few_same s (nothing t) refl) (few_session t near from (chunk_bytes (Ping token)))
+
+few_tested_by : (s : State) (near : ℕ) (from : AddressParts) (token : List ℕ) (o : Option Row) → Few s (tested_by s near from token o)
+few_tested_by s near from token None = few_nothing s
+few_tested_by s near from token (Some row) = either s (asks row.moves row.session.address from s.moment) (test_begun s near row from token) (nothing s) (few_begun s near row from token) (few_nothing s)
+
+pub few_tested : (s : State) (place : Place) (from : AddressParts) (draws : Draws) → Few s (tested s place from draws)
+few_tested s Startup from draws = few_nothing s
+few_tested s (Attempt near) from draws = few_nothing s
+few_tested s (Session near) from draws = few_tested_by s near from draws.token (held_row s near)
+
+few_row_due : (s : State) (near : ℕ) (row : Row) (o : Option SessionDue) → Few s (row_due_done s near row o)
+few_row_due s near row None = few_and_home s near (chunk_bytes (Ping [])) (nothing (with_session s near row (kept_alive s.moment row.session))) refl
+few_row_due s near row (Some Unconfirmed) = few_same s (dropped s near row NotConfirmed) refl
+few_row_due s near row (Some Idle) = few_same s (dropped s near row WasIdle) refl
+few_row_due s near row (Some Over) = few_same s (closed s near) refl
+few_row_due s near row (Some RepeatClose) = few_and_home s near (chunk_bytes CloseChunk) (nothing (with_session s near row (after_due (Some RepeatClose) s.moment row.session))) refl
+
 few_effect : (s : State) (place : Place) (from : AddressParts) (draws : Draws) (c : Placed) → Few s (effect s place from draws c)
 few_effect s place from draws c =
-    let last : Did = if c.kind == 0x78 then responder_keyed s (sid_at place) from c.payload else read_done s place from (chunk_reading c.kind c.payload) in
+    let other : Did = if is_told_in_session c.kind then told_in_session s (sid_at place) from c else read_done s place from (chunk_reading c.kind c.payload) in
+    let last : Did = if c.kind == 0x78 then responder_keyed s (sid_at place) from c.payload else other in
     let t : State = with_startup s (after_keying s.startup c.payload from s.moment (free_from s draws.word) draws.nonce) in
     either s (c.kind == 0x38) (initiator_keyed s from draws c.payload) last
     (few_keying t from (keyed s.startup c.payload from s.moment (free_from s draws.word) draws.nonce))
-    (either s (c.kind == 0x78) (responder_keyed s (sid_at place) from c.payload) (read_done s place from (chunk_reading c.kind c.payload))
-    (few_opening_done s (sid_at place) from (opened s.startup (sid_at place) c.payload)) (few_read s place from (chunk_reading c.kind c.payload)))
+    (either s (c.kind == 0x78) (responder_keyed s (sid_at place) from c.payload) other
+    (few_opening_done s (sid_at place) from (opened s.startup (sid_at place) c.payload))
+    (either s (is_told_in_session c.kind) (told_in_session s (sid_at place) from c) (read_done s place from (chunk_reading c.kind c.payload)) (few_told s (sid_at place) from c) (few_read s place from (chunk_reading c.kind c.payload))))
 
 few_discarded_or : (s : State) (at : ℕ) (o : Option Cause) (d : Did) → Few s d → Few s (discarded_or s at o d)
 few_discarded_or s at None d p = p
@@ -178,12 +249,13 @@ few_due s (EndDue fact) = omega arith
 few_due s (HelloDue spread) = few_each spread.plain spread.to s
 few_due s (KeyingDue answer) = few_startup s answer.to answer.sid answer.plain
 
-few_item : (s : State) (left : StartupState) (o : Option Item) → Few s (item_done s (with_startup s left) o)
-few_item s left None = few_nothing s
-few_item s left (Some (OfAttempt due)) = few_due (with_startup s left) due
+few_item : (s : State) (o : Option Item) → Few s (item_done s o)
+few_item s None = few_nothing s
+few_item s (Some (OfAttempt due)) = few_due (with_startup s (after_due_in s.startup s.moment)) due
+few_item s (Some (OfSession near row due)) = few_row_due s near row due
 
 pub few_tick_once : (s : State) → Few s (tick_once s)
-few_tick_once s = few_item s (after_due s.startup s.moment) (first_due s)
+few_tick_once s = few_item s (first_due s)
 
 pub few_does : (s t : State) (entries : List Entry) (d : Did) → Few s d → Does d t [] entries → t.sealed ≤ s.sealed + outs_in entries
 few_does s t entries d p does = omega (arith, p, ap (λ (u : State). u.sealed) does.state, ap outs_in does.entries)

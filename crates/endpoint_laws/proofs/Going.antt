@@ -1,5 +1,5 @@
 -- A thing that an end does keeps the agreement, and its facts meet their lines.
-use Rattle.std.proofs.Common.{◌≡◌, ℕ, ◌+◌, List, [], ◌∷◌, ◌++◌, Bool, true, false, if◌then◌else◌, Option, Some, None, refl, sym, subst, ◌∙◌}
+use Rattle.std.proofs.Common.{◌≡◌, ℕ, ◌+◌, List, [], ◌∷◌, ◌++◌, Bool, true, false, if◌then◌else◌, Option, Some, None, inl, refl, sym, subst, ◌∙◌, arith}
 use Rattle.std.specs.Prelude.{◌==◌}
 use Rattle.std.specs.FinMap.{get}
 use Rattle.rtmfp_forms.specs.Address.{AddressParts}
@@ -24,8 +24,7 @@ use Rattle.endpoint_model.specs.Sending.{last_count, sent_startup, sent_answer, 
 use Rattle.endpoint_model.specs.Effects.{discarded}
 use Rattle.endpoint_laws.proofs.Lines.{FactPart, FactMeets, EntriesMeet}
 use Rattle.endpoint_laws.proofs.Tied.{sealed_once, Tied}
-use Rattle.endpoint_laws.proofs.Agrees.{IsOurs, combined}
-use Rattle.endpoint_laws.proofs.Moving.{tied_session, tied_more, tied_alike}
+use Rattle.endpoint_laws.proofs.Moving.{IsAlike, alike_itself, tied_session, tied_more, tied_alike}
 
 -- ---- entries one after another
 
@@ -37,29 +36,29 @@ follows_more : (peer : List ℕ) (xs ys : List Entry) → BornFollows peer xs �
 follows_more peer [] ys f = absurd f
 follows_more peer (entry ∷ xs) ys f = f
 
-ended_more : (now : ℕ) (call : Call) (past : List Stamped) (xs ys : List Entry) (peer : List ℕ) (near : ℕ) (why : Why) → EndedLine now call past xs peer near why → EndedLine now call past (xs ++ ys) peer near why
-ended_more now call past xs ys peer near Cancelled f = f
-ended_more now call past xs ys peer near Expired f = f
-ended_more now call past xs ys peer near Glare f = follows_more peer xs ys f
-ended_more now call past xs ys peer near Override f = follows_more peer xs ys f
-ended_more now call past xs ys peer near Unconfirmed f = f
-ended_more now call past xs ys peer near Near f = f
-ended_more now call past xs ys peer near Far f = f
-ended_more now call past xs ys peer near Idle f = f
+ended_more : (setup : Setup) (now : ℕ) (call : Call) (past : List Stamped) (xs ys : List Entry) (peer : List ℕ) (near : ℕ) (why : Why) → EndedLine setup now call past xs peer near why → EndedLine setup now call past (xs ++ ys) peer near why
+ended_more setup now call past xs ys peer near Cancelled f = f
+ended_more setup now call past xs ys peer near Expired f = f
+ended_more setup now call past xs ys peer near Glare f = follows_more peer xs ys f
+ended_more setup now call past xs ys peer near Override f = follows_more peer xs ys f
+ended_more setup now call past xs ys peer near Unconfirmed f = f
+ended_more setup now call past xs ys peer near Near f = f
+ended_more setup now call past xs ys peer near Far f = f
+ended_more setup now call past xs ys peer near Idle f = f
 
 line_more : (setup : Setup) (now : ℕ) (call : Call) (past : List Stamped) (xs ys : List Entry) (fact : Fact) → FactLine setup now call past xs fact → FactLine setup now call past (xs ++ ys) fact
 line_more setup now call past xs ys (Started peer n near ni) f = f
 line_more setup now call past xs ys (Born j) f = f
 line_more setup now call past xs ys (Opened j) f = f
 line_more setup now call past xs ys (Confirmed peer near) f = f
-line_more setup now call past xs ys (Ended peer near why) f = ended_more now call past xs ys peer near why f
+line_more setup now call past xs ys (Ended peer near why) f = ended_more setup now call past xs ys peer near why f
 
 fact_more : (setup : Setup) (now : ℕ) (call : Call) (past : List Stamped) (xs ys : List Entry) (o : Option Fact) → FactMeets setup now call past xs o → FactMeets setup now call past (xs ++ ys) o
 fact_more setup now call past xs ys None f = tt
 fact_more setup now call past xs ys (Some fact) f = (f.0, line_more setup now call past xs ys fact f.1)
 
 part_more : (setup : Setup) (now : ℕ) (call : Call) (past : List Stamped) (xs ys : List Entry) (entry : Entry) → FactPart setup now call past xs entry → FactPart setup now call past (xs ++ ys) entry
-part_more setup now call past xs ys entry f = fact_more setup now call past xs ys (fact_in entry) f
+part_more setup now call past xs ys entry f = (fact_more setup now call past xs ys (fact_in entry) f.0, f.1)
 
 pub meet_append : (setup : Setup) (now : ℕ) (call : Call) (past : List Stamped) (xs ys : List Entry) → EntriesMeet FactPart setup now call past xs →
     EntriesMeet FactPart setup now call (onto now xs past) ys → EntriesMeet FactPart setup now call past (xs ++ ys)
@@ -100,12 +99,12 @@ keeps_if setup call s false d e f g = g refl
 -- ---- discards and sendings
 
 pub goes_discarded : (setup : Setup) (call : Call) (s : State) (at : ℕ) (cause : Cause) → Keeps setup call s (discarded s at cause)
-goes_discarded setup call s at cause past t = record { meets = (tt, tt); tied = tied_more setup past s (stamped s.moment (Discard at cause)) refl t; moment = refl }
+goes_discarded setup call s at cause past t = record { meets = ((tt, tt), tt); tied = tied_more setup past s (stamped s.moment (Discard at cause)) (omega arith) refl refl t; moment = refl }
 
 pub goes_startup : (setup : Setup) (call : Call) (s : State) (to : AddressParts) (sid : ℕ) (plain : List ℕ) → Keeps setup call s (sent_startup s to sid plain)
 goes_startup setup call s to sid plain = keeps_if setup call s (s.sealed == last_count) (nothing s) _ (λ e. goes_nothing setup call s) (λ e past t. record {
-  meets = (tt, tt);
-  tied = tied_alike setup _ s s.moment (s.sealed + 1) (tied_more setup past s _ refl t);
+  meets = ((tt, tt), tt);
+  tied = tied_alike setup _ s s.moment (s.sealed + 1) (omega arith) (tied_more setup past s _ (omega arith) refl refl t);
   moment = refl;
 })
 
@@ -125,19 +124,15 @@ goes_each setup call plain (to ∷ rest) s = λ past t.
 pub goes_spread : (setup : Setup) (call : Call) (s : State) (spread : SpreadParts) → Keeps setup call s (sent_spread s spread)
 goes_spread setup call s spread = goes_each setup call spread.plain spread.to s
 
-seal_alike : (b : Bool) (near : ℕ) (row : Row) → combined near None (Some (record row { session = if b then row.session else sealed_once row.session })) ≡ combined near None (Some row)
-seal_alike true near row = refl
-seal_alike false near row = refl
-
-seal_ours : (setup : Setup) (b : Bool) (session : SessionState) → IsOurs setup session → IsOurs setup (if b then session else sealed_once session)
-seal_ours setup true session ours = ours
-seal_ours setup false session ours = record { own = ours.own; secret = ours.secret; stage = ours.stage }
+seal_alike : (b : Bool) (moment : ℕ) (session : SessionState) → IsAlike moment session (if b then session else sealed_once session)
+seal_alike true moment session = alike_itself moment session
+seal_alike false moment session = record { joined = refl; own = refl; secret = refl; role = refl; held = refl; thing = λ e. refl; stage = λ f. f; since = λ e. inl refl }
 
 pub goes_by : (setup : Setup) (call : Call) (s : State) (near : ℕ) (to : AddressParts) (body : List ℕ) (o : Option Row) → get s.sessions near ≡ o → Keeps setup call s (sent_by s near to body o)
 goes_by setup call s near to body None is = goes_nothing setup call s
 goes_by setup call s near to body (Some row) is = keeps_if setup call s (row.session.sealed == last_count) (nothing s) _ (λ e. goes_nothing setup call s) (λ e past t. record {
-  meets = (tt, tt);
-  tied = tied_session setup _ s near row (record row { session = after_seal row.session }) (tied_more setup past s _ refl t) is (seal_alike (is_spent row.session) near row) (seal_ours setup (is_spent row.session) row.session);
+  meets = ((tt, tt), tt);
+  tied = tied_session setup _ s near row (record row { session = after_seal row.session }) (tied_more setup past s _ (omega arith) refl refl t) is (seal_alike (is_spent row.session) s.moment row.session);
   moment = refl;
 })
 

@@ -22,7 +22,7 @@ use Rattle.glare_core.proofs.Views.{seen_item}
 use Rattle.glare_core.proofs.Sound.{IsCalledFor}
 use Rattle.endpoint_model.proofs.Apart.{opens_alone, receives_alone}
 use Rattle.endpoint_laws.specs.Agreed.{no_generation}
-use Rattle.endpoint_model.specs.Views.{Sending, fact_in, out_in}
+use Rattle.endpoint_model.specs.Views.{Sending, fact_in, out_in, closed_in}
 use Rattle.endpoint_model.specs.declared.config.Draws.{Draws}
 use Rattle.endpoint_model.specs.declared.entry.Entry.{Entry}
 use Rattle.endpoint_model.specs.declared.entry.Entry.TheVariants.{Fact as FactEntry}
@@ -39,13 +39,13 @@ use Rattle.endpoint_laws.proofs.Carried.{Carried, keying_carried, answer_carried
 use Rattle.endpoint_laws.proofs.Since.{Comes, CameIn, CameSince}
 
 -- The datagram of a call was sent in the context of its session ID, if it opens in it.
-abbrev pub CarriedIn : Setup → List Fact → List Step → Option ReceiveCall → Type 0
-CarriedIn setup start steps None = Unit {0}
-CarriedIn setup start steps (Some r) = (context : Context) (plain : List ℕ) → ContextOf (own_of setup) start (sid_of r.datagram) context →
+abbrev pub CarriedIn : Setup → List Stamped → List Step → Option ReceiveCall → Type 0
+CarriedIn setup begin steps None = Unit {0}
+CarriedIn setup begin steps (Some r) = (context : Context) (plain : List ℕ) → ContextOf (own_of setup) begin (sid_of r.datagram) context →
     OpensUnder setup.secret context (sid_of r.datagram) r.datagram plain → Carried setup.secret r.datagram context steps
 
-abbrev pub WasCarried : Setup → List Fact → List Step → Call → Type 0
-WasCarried setup start steps call = CarriedIn setup start steps (receive_in call)
+abbrev pub WasCarried : Setup → List Stamped → List Step → Call → Type 0
+WasCarried setup begin steps call = CarriedIn setup begin steps (receive_in call)
 
 -- what the table and the cause Override ask to have been told
 abbrev pub IsHeardBy : List ℕ → List Item → Fact → Type 0
@@ -65,9 +65,9 @@ one_half_open o j k p q = let same : HalfOpen k ≡ HalfOpen j = cc in cc
 
 -- ---- the three tells
 
-pub keying_told : (setup : Setup) (start facts : List Fact) (now : ℕ) (base : List Step) (from : AddressParts) (datagram : List ℕ) (draws : Draws) (offer : Offer) →
-    WasCarried setup start base (Receive from datagram draws) → Admissible setup facts now from datagram offer → WasSent (Keying offer.peer (own_of setup) offer.n offer.ni offer.far 0) base
-keying_told setup start facts now base from datagram draws offer carried a =
+pub keying_told : (setup : Setup) (begin past : List Stamped) (now : ℕ) (base : List Step) (from : AddressParts) (datagram : List ℕ) (draws : Draws) (offer : Offer) →
+    WasCarried setup begin base (Receive from datagram draws) → Admissible setup past now from datagram offer → WasSent (Keying offer.peer (own_of setup) offer.n offer.ni offer.far 0) base
+keying_told setup begin past now base from datagram draws offer carried a =
     let plain : List ℕ = a.reads.plain in
     let id : sid_of datagram ≡ 0 = a.reads.opens.id in
     let opens : OpensUnder setup.secret Startup (sid_of datagram) datagram plain = subst (λ (s : ℕ). OpensUnder setup.secret Startup s datagram plain) (sym id) a.reads.opens in
@@ -76,34 +76,37 @@ keying_told setup start facts now base from datagram draws offer carried a =
     (keying_carried setup.secret datagram base there (sid_of datagram) plain opens a.packet a.reads.reads a.chunk offer.far a.cookie a.cert offer.ni offer.n (own_of setup) a.sign
     (first_among a.chunk (chunks_of a.packet) a.first) a.spells a.nonce_size a.number)
 
-pub answer_told : (setup : Setup) (start facts : List Fact) (base : List Step) (from : AddressParts) (datagram : List ℕ) (draws : Draws) (j : Joined) →
-    WasCarried setup start base (Receive from datagram draws) → IsCall (Receive from datagram draws) → held j.peer start ≡ Some (Opening j.n j.near j.ni) → length j.peer ≡ 32 → length j.ni ≡ 16 →
+pub answer_told : (setup : Setup) (begin : List Stamped) (facts : List Fact) (base : List Step) (from : AddressParts) (datagram : List ℕ) (draws : Draws) (j : Joined) →
+    WasCarried setup begin base (Receive from datagram draws) → IsCall (Receive from datagram draws) → held j.peer (facts_of begin) ≡ Some (Opening j.n j.near j.ni) → length j.peer ≡ 32 → length j.ni ≡ 16 →
     AnswersAttempt setup.secret j datagram → WasSent (Answer j.near j.peer j.far j.nr j.k j.ni 0) base
-answer_told setup start facts base from datagram draws j carried is_call is_held peer_size ni_size a =
+answer_told setup begin facts base from datagram draws j carried is_call is_held peer_size ni_size a =
     let plain : List ℕ = a.reads.plain in
     let id : sid_of datagram ≡ j.near = a.reads.opens.id in
     let opens : OpensUnder setup.secret Startup (sid_of datagram) datagram plain = subst (λ (s : ℕ). OpensUnder setup.secret Startup s datagram plain) (sym id) a.reads.opens in
-    let there = carried Startup plain (inr (Opening j.n j.near j.ni, record { peer = j.peer; is_held = is_held; id = sym id }, refl)) opens in
+    let there = carried Startup plain (inr (Opening j.n j.near j.ni, inl (record { peer = j.peer; is_held = is_held; id = sym id }), refl)) opens in
     answer_carried setup.secret datagram base there j.near plain a.reads.opens a.packet a.reads.reads a.chunk j.far j.nr j.k j.peer j.ni a.sign a.among a.spells is_call.0 peer_size ni_size a.number
 
-pub under_told : (setup : Setup) (start : List Fact) (base : List Step) (from : AddressParts) (datagram : List ℕ) (draws : Draws) (peer : List ℕ) (near : ℕ) (j : Joined) →
-    WasCarried setup start base (Receive from datagram draws) → Comes (sid_of datagram) start peer (Some (HalfOpen j)) → near ≡ j.near →
+pub under_told : (setup : Setup) (begin : List Stamped) (base : List Step) (from : AddressParts) (datagram : List ℕ) (draws : Draws) (peer : List ℕ) (near : ℕ) (j : Joined) →
+    WasCarried setup begin base (Receive from datagram draws) → Comes (sid_of datagram) (facts_of begin) peer (Some (HalfOpen j)) → near ≡ j.near →
     ((plain : List ℕ) × OpensUnder setup.secret (inward (own_of setup) (HalfOpen j)) near datagram plain) → WasSent (Under (as_responder (own_of setup) j) true 0) base
-under_told setup start base from datagram draws peer near j carried (inl is_held) near_is by =
+under_told setup begin base from datagram draws peer near j carried (inl is_held) near_is by =
     let plain : List ℕ = by.0 in
     let context : Context = session_context (as_responder (own_of setup) j) true in
     let id : sid_of datagram ≡ near = by.1.id in
     let opens : OpensUnder setup.secret context (sid_of datagram) datagram plain = subst (λ (s : ℕ). OpensUnder setup.secret context s datagram plain) (sym id) by.1 in
     under_carried setup.secret datagram (as_responder (own_of setup) j) base
-    (carried context plain (inr (HalfOpen j, record { peer = peer; is_held = is_held; id = sym near_is ∙ sym id }, refl)) opens)
-under_told setup start base from datagram draws peer near j carried (inr born) near_is by = absurd (born.1 (sym near_is ∙ sym by.1.id ∙ born.0))
+    (carried context plain (inr (HalfOpen j, inl (record { peer = peer; is_held = is_held; id = sym near_is ∙ sym id }), refl)) opens)
+under_told setup begin base from datagram draws peer near j carried (inr born) near_is by = absurd (born.1 (sym near_is ∙ sym by.1.id ∙ born.0))
 
 -- ---- a fact
 
-module _ (setup : Setup) (now : ℕ) (start : List Fact) (past : List Stamped) (base steps : List Step) (is : Telling steps) (stated : facts (view (own_of setup) steps) ≡ facts_of past)
+module _ (setup : Setup) (now : ℕ) (begin past : List Stamped) (base steps : List Step) (is : Telling steps) (stated : facts (view (own_of setup) steps) ≡ facts_of past)
     (grows : (t : Tell) → WasSent t base → WasSent t steps) where
   abbrev own : List ℕ
   own = own_of setup
+
+  abbrev start : List Fact
+  start = facts_of begin
 
   holding_is : (peer : List ℕ) (h : Held) → held peer (facts_of past) ≡ Some h → holding own peer steps ≡ Some h
   holding_is peer h e = ap (held peer) stated ∙ e
@@ -127,89 +130,89 @@ module _ (setup : Setup) (now : ℕ) (start : List Fact) (past : List Stamped) (
       }
 
   -- the keying of which a session is born
-  bears : (call : Call) (before : List Fact) (offer : Offer) (nr : List ℕ) → WasCarried setup start base call → Bears setup before now call offer nr →
+  bears : (call : Call) (before : List Stamped) (offer : Offer) (nr : List ℕ) → WasCarried setup begin base call → Bears setup before now call offer nr →
       WasSent (Keying offer.peer own offer.n offer.ni offer.far 0) steps
   bears call before offer nr carried by = in_receive (receive_in call) carried by
     where
-      in_receive : (o : Option ReceiveCall) → CarriedIn setup start base o → BearsIn setup before now o offer nr → WasSent (Keying offer.peer own offer.n offer.ni offer.far 0) steps
+      in_receive : (o : Option ReceiveCall) → CarriedIn setup begin base o → BearsIn setup before now o offer nr → WasSent (Keying offer.peer own offer.n offer.ni offer.far 0) steps
       in_receive None sent bearing = absurd bearing
       in_receive (Some r) sent bearing =
-          grows (Keying offer.peer own offer.n offer.ni offer.far 0) (keying_told setup start before now base r.from r.datagram r.draws offer sent bearing.0)
+          grows (Keying offer.peer own offer.n offer.ni offer.far 0) (keying_told setup begin before now base r.from r.datagram r.draws offer sent bearing.0)
 
   offer_of : Joined → Offer
   offer_of j = record { peer = j.peer; n = j.n; ni = j.ni; far = j.far }
 
-  hears_born : (call : Call) (facts : List Fact) (j : Joined) → WasCarried setup start base call → BornLine setup now call facts j → Hears own steps (Born j)
+  hears_born : (call : Call) (before : List Stamped) (j : Joined) → WasCarried setup begin base call → BornLine setup now call before j → Hears own steps (Born j)
   unfolding offer_of
-  hears_born call facts j carried line = inr (Keying j.peer own j.n j.ni j.far 0, bears call line.before (offer_of j) j.nr carried line.by, (inl refl, tt))
+  hears_born call before j carried line = inr (Keying j.peer own j.n j.ni j.far 0, bears call line.before (offer_of j) j.nr carried line.by, (inl refl, tt))
 
-  hears_opened : (call : Call) (j : Joined) → IsCall call → WasCarried setup start base call → CameSince call start (facts_of past) → held j.peer (facts_of past) ≡ Some (Opening j.n j.near j.ni) →
+  hears_opened : (call : Call) (j : Joined) → IsCall call → WasCarried setup begin base call → CameSince call start (facts_of past) → held j.peer (facts_of past) ≡ Some (Opening j.n j.near j.ni) →
       FactLine setup now call past [] (Opened j) → Hears own steps (Opened j)
   hears_opened call j is_call carried came stands line = in_receive (receive_in call) refl carried came line
     where
-      in_receive : (o : Option ReceiveCall) → receive_in call ≡ o → CarriedIn setup start base o → CameIn o start (facts_of past) → TakesAnswerIn setup o j → Hears own steps (Opened j)
+      in_receive : (o : Option ReceiveCall) → receive_in call ≡ o → CarriedIn setup begin base o → CameIn o start (facts_of past) → TakesAnswerIn setup o j → Hears own steps (Opened j)
       in_receive None e sent since answer = absurd answer
       in_receive (Some r) e sent since answer =
           let t : Tell = Answer j.near j.peer j.far j.nr j.k j.ni 0 in
           let sizes = (holds_it j.peer (Opening j.n j.near j.ni) stands).1 in
           let was = subst (λ (h : Option Held). Comes (sid_of r.datagram) start j.peer h) stands (since j.peer) in
-          inr (t, grows t (answer_told setup start (facts_of past) base r.from r.datagram r.draws j sent (subst IsCall (receives_alone call r e) is_call) was sizes.0 sizes.1 answer), (inl refl, tt))
+          inr (t, grows t (answer_told setup begin (facts_of past) base r.from r.datagram r.draws j sent (subst IsCall (receives_alone call r e) is_call) was sizes.0 sizes.1 answer), (inl refl, tt))
 
-  hears_confirmed : (call : Call) (peer : List ℕ) (near : ℕ) → WasCarried setup start base call → CameSince call start (facts_of past) → Stands own (count (facts_of past)) (facts_of past) (Confirmed peer near) →
+  hears_confirmed : (call : Call) (peer : List ℕ) (near : ℕ) → WasCarried setup begin base call → CameSince call start (facts_of past) → Stands own (count (facts_of past)) (facts_of past) (Confirmed peer near) →
       FactLine setup now call past [] (Confirmed peer near) → Hears own steps (Confirmed peer near)
   hears_confirmed call peer near carried came stands line = in_receive (receive_in call) carried came line.by
     where
       j : Joined
       j = line.j
 
-      in_receive : (o : Option ReceiveCall) → CarriedIn setup start base o → CameIn o start (facts_of past) → TakesUnderIn setup o near (HalfOpen j) → Hears own steps (Confirmed peer near)
+      in_receive : (o : Option ReceiveCall) → CarriedIn setup begin base o → CameIn o start (facts_of past) → TakesUnderIn setup o near (HalfOpen j) → Hears own steps (Confirmed peer near)
       in_receive None sent since by = absurd by
       in_receive (Some r) sent since by =
           let t : Tell = Under (as_responder own j) true 0 in
           let same : stands.j ≡ j = one_half_open (held peer (facts_of past)) j stands.j line.session stands.session in
           let was = subst (λ (h : Option Held). Comes (sid_of r.datagram) start peer h) line.session (since peer) in
-          let told = under_told setup start base r.from r.datagram r.draws peer near j sent was (stands.id ∙ ap (λ (k : Joined). k.near) same) by in
+          let told = under_told setup begin base r.from r.datagram r.draws peer near j sent was (stands.id ∙ ap (λ (k : Joined). k.near) same) by in
           inr (t, grows t told, (record { j = j; session = holding_is peer (HalfOpen j) line.session; generation = 0; born = inr (holds_it peer (HalfOpen j) line.session).0.1; told = inl refl }, tt))
 
   -- an Ended for Override has heard the keying of the Born that follows
-  hears_way : (call : Call) (peer : List ℕ) (near : ℕ) (why : Why) (rest : List Entry) → WasCarried setup start base call → BornFollows peer rest →
+  hears_way : (call : Call) (peer : List ℕ) (near : ℕ) (why : Why) (rest : List Entry) → WasCarried setup begin base call → BornFollows peer rest →
       EntriesLawful setup now call (stamped now (FactEntry (Ended peer near why)) ∷ past) rest → Hears own steps (Ended peer near why)
   unfolding offer_of
   hears_way call peer near why [] carried follows lawful = absurd follows
-  hears_way call peer near why (entry ∷ rest) carried follows lawful = by (fact_in entry) (out_in entry) follows lawful.0
+  hears_way call peer near why (entry ∷ rest) carried follows lawful = by (fact_in entry) (out_in entry) (closed_in entry) follows lawful.0
     where
-      by : (o : Option Fact) (sent : Option Sending) → IsBornIn peer o → LineOf setup now call (stamped now (FactEntry (Ended peer near why)) ∷ past) rest o sent → Hears own steps (Ended peer near why)
-      by None sent born line = absurd born
-      by (Some (Born j)) sent born line =
+      by : (o : Option Fact) (sent : Option Sending) (over : Option ℕ) → IsBornIn peer o → LineOf setup now call (stamped now (FactEntry (Ended peer near why)) ∷ past) rest o sent over → Hears own steps (Ended peer near why)
+      by None sent over born line = absurd born
+      by (Some (Born j)) sent over born line =
           inr (Keying j.peer own j.n j.ni j.far 0, bears call line.1.before (offer_of j) j.nr carried line.1.by, (tt, called_by peer near why j born line.0.above))
-      by (Some (Started p n m ni)) sent born line = absurd born
-      by (Some (Opened j)) sent born line = absurd born
-      by (Some (Confirmed p m)) sent born line = absurd born
-      by (Some (Ended p m w)) sent born line = absurd born
+      by (Some (Started p n m ni)) sent over born line = absurd born
+      by (Some (Opened j)) sent over born line = absurd born
+      by (Some (Confirmed p m)) sent over born line = absurd born
+      by (Some (Ended p m w)) sent over born line = absurd born
 
-  hears_ended : (call : Call) (peer : List ℕ) (near : ℕ) (why : Why) (rest : List Entry) → WasCarried setup start base call → EndedLine now call past rest peer near why →
+  hears_ended : (call : Call) (peer : List ℕ) (near : ℕ) (why : Why) (rest : List Entry) → WasCarried setup begin base call → EndedLine setup now call past rest peer near why →
       EntriesLawful setup now call (stamped now (FactEntry (Ended peer near why)) ∷ past) rest → Hears own steps (Ended peer near why)
   hears_ended call peer near Cancelled rest carried line lawful = inl (tt, λ e. absurd (cc))
   hears_ended call peer near Expired rest carried line lawful = inl (tt, λ e. absurd (cc))
   hears_ended call peer near Glare rest carried line lawful = inl (tt, λ e. absurd (cc))
   hears_ended call peer near Override rest carried line lawful = hears_way call peer near Override rest carried line lawful
-  hears_ended call peer near Unconfirmed rest carried line lawful = absurd line
-  hears_ended call peer near Near rest carried line lawful = absurd line
-  hears_ended call peer near Far rest carried line lawful = absurd line
-  hears_ended call peer near Idle rest carried line lawful = absurd line
+  hears_ended call peer near Unconfirmed rest carried line lawful = inl (tt, λ e. absurd (cc))
+  hears_ended call peer near Near rest carried line lawful = inl (tt, λ e. absurd (cc))
+  hears_ended call peer near Far rest carried line lawful = inl (tt, λ e. absurd (cc))
+  hears_ended call peer near Idle rest carried line lawful = inl (tt, λ e. absurd (cc))
 
   -- each fact has heard what it asks for
-  pub hears : (call : Call) (fact : Fact) (rest : List Entry) → IsCall call → WasCarried setup start base call → CameSince call start (facts_of past) →
+  pub hears : (call : Call) (fact : Fact) (rest : List Entry) → IsCall call → WasCarried setup begin base call → CameSince call start (facts_of past) →
       Stands own (count (facts_of past)) (facts_of past) fact → FactLine setup now call past rest fact → EntriesLawful setup now call (stamped now (FactEntry fact) ∷ past) rest → Hears own steps fact
   hears call (Started peer n near ni) rest is_call carried came stands line lawful = inl (tt, tt)
-  hears call (Born j) rest is_call carried came stands line lawful = hears_born call (facts_of past) j carried line
+  hears call (Born j) rest is_call carried came stands line lawful = hears_born call past j carried line
   hears call (Opened j) rest is_call carried came stands line lawful = hears_opened call j is_call carried came stands line
   hears call (Confirmed peer near) rest is_call carried came stands line lawful = hears_confirmed call peer near carried came stands line
   hears call (Ended peer near why) rest is_call carried came stands line lawful = hears_ended call peer near why rest carried line lawful
 
 -- ---- the sizes of a fact
 
-born_sizes : (setup : Setup) (now : ℕ) (call : Call) (before : List Fact) (j : Joined) → IsCall call → j.k < 2 ^ 64 → Bears setup before now call (record { peer = j.peer; n = j.n; ni = j.ni; far = j.far }) j.nr → BornSizes j
+born_sizes : (setup : Setup) (now : ℕ) (call : Call) (before : List Stamped) (j : Joined) → IsCall call → j.k < 2 ^ 64 → Bears setup before now call (record { peer = j.peer; n = j.n; ni = j.ni; far = j.far }) j.nr → BornSizes j
 born_sizes setup now call before j is_call few by = in_receive (receive_in call) refl by
   where
     in_receive : (o : Option ReceiveCall) → receive_in call ≡ o → BearsIn setup before now o (record { peer = j.peer; n = j.n; ni = j.ni; far = j.far }) j.nr → BornSizes j

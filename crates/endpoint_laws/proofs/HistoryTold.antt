@@ -6,21 +6,21 @@ use Rattle.glare_core.specs.Tells.{Tell}
 use Rattle.glare_core.specs.Steps.{Step, view, facts}
 use Rattle.glare_core.specs.Told.{WasSent, nonces, AllDifferent}
 use Rattle.endpoint_model.specs.Event.{Setup, own_of, Call, Event, moment_at, ReceiveCall, receive_in}
-use Rattle.endpoint_laws.specs.Past.{Stamped, facts_of, last_moment, past_of, begun}
+use Rattle.endpoint_laws.specs.Past.{Stamped, facts_of, last_moment, past_of, begun, with_event}
 use Rattle.endpoint_laws.specs.Lawful.{IsLawful}
 use Rattle.endpoint_laws.specs.Laws.{AreCalls}
-use Rattle.endpoint_laws.specs.History.{Happened, History, log_of, AreLawful, WasSent as WentOut, IsHonestCall, IsHonest, TakesPart, IsHonestReceive}
+use Rattle.endpoint_laws.specs.History.{Happened, History, log_of, AreLawful, WasSent as WentOut, IsHonestCall, IsHonest, TakesPart, IsHonestReceive, past_at}
 use Rattle.endpoint_laws.specs.Agreed.{stated}
 use Rattle.endpoint_model.proofs.Members.{tested}
 use Rattle.endpoint_laws.proofs.FactsAlone.{alone, facts_alone}
 use Rattle.endpoint_laws.proofs.Fresh.{different_before}
 use Rattle.endpoint_laws.proofs.HeldTold.{tell_of}
 use Rattle.endpoint_laws.proofs.Telling.{Telling, telling_new}
-use Rattle.endpoint_laws.proofs.Carried.{Carried}
+use Rattle.endpoint_laws.proofs.Carried.{Carried, ClosingTold}
 use Rattle.endpoint_laws.proofs.Since.{came_first}
 use Rattle.endpoint_laws.proofs.Heard.{WasCarried, CarriedIn}
 use Rattle.endpoint_laws.proofs.EventTold.{Far, reached}
-use Rattle.endpoint_laws.proofs.StatedFacts.{lawful_more, calls_more, view_stated}
+use Rattle.endpoint_laws.proofs.StatedFacts.{lawful_more, calls_more, view_stated, past_more}
 
 -- ---- what is said of the ends
 
@@ -69,13 +69,14 @@ carried_grows secret sent context steps more c grows = record {
   past = c.past;
   line = c.line;
   told = λ peer h e. (let was = c.told peer h e in record { sent = grows (tell_of (own_of c.setup) peer h) was.sent; sizes = was.sizes });
+  closing = λ near thing at k. (let was = c.closing near thing at k in (was.0, grows (tell_of (own_of c.setup) was.0 thing) was.1));
 }
 
-was_carried : (setup : Setup) (start : List Fact) (earlier : History) (steps : List Step) (call : Call) → IsHonestCall setup start earlier call →
-    ((sent : List ℕ) (context : Context) → WentOut sent context earlier → Carried setup.secret sent context steps) → WasCarried setup start steps call
-was_carried setup start earlier steps call honest outs = in_receive (receive_in call) honest
+was_carried : (setup : Setup) (begin : List Stamped) (earlier : History) (steps : List Step) (call : Call) → IsHonestCall setup begin earlier call →
+    ((sent : List ℕ) (context : Context) → WentOut sent context earlier → Carried setup.secret sent context steps) → WasCarried setup begin steps call
+was_carried setup begin earlier steps call honest outs = in_receive (receive_in call) honest
   where
-    in_receive : (o : Option ReceiveCall) → IsHonestReceive setup start earlier o → CarriedIn setup start steps o
+    in_receive : (o : Option ReceiveCall) → IsHonestReceive setup begin earlier o → CarriedIn setup begin steps o
     in_receive None h = tt
     in_receive (Some r) h = λ context plain of opens. outs r.datagram context (h context plain of opens)
 
@@ -87,9 +88,23 @@ pub record HistoryTold (ends : ℕ → Setup) (secret : List ℕ) (history : His
   pub telling : Telling steps
   pub is : alone steps ≡ stated ends history
   pub outs : (sent : List ℕ) (context : Context) → WentOut sent context history → Carried secret sent context steps
+  pub closing : (who : ℕ) → ClosingTold (own_of (ends who)) (past_at who history) steps
+
+-- what closes at each end after an event is what closed before, but for the end of the event
+closing_after : (ends : ℕ → Setup) (h : Happened) (earlier : History) (steps last : List Step) → ((who : ℕ) → ClosingTold (own_of (ends who)) (past_at who earlier) steps) → ((t : Tell) → WasSent t steps → WasSent t last) →
+    ClosingTold (own_of (ends h.who)) (with_event (moment_at (last_moment 0 (log_of h.who earlier)) h.event) h.event (past_at h.who earlier)) last → (who : ℕ) → ClosingTold (own_of (ends who)) (past_at who (h ∷ earlier)) last
+closing_after ends h earlier steps last before grows here who = elim (tested h.who who) [
+  | inl d ↦
+      subst (λ (w : ℕ). ClosingTold (own_of (ends w)) (past_of 0 [] (if h.who == w then log_of w earlier ++ h.event ∷ [] else log_of w earlier)) last) d.0
+      (subst (λ (l : List Event). ClosingTold (own_of (ends h.who)) (past_of 0 [] l) last) (sym (log_here h earlier))
+      (subst (λ (p : List Stamped). ClosingTold (own_of (ends h.who)) p last) (sym (past_more 0 [] (log_of h.who earlier) h.event)) here))
+  | inr d ↦
+      subst (λ (b : Bool). ClosingTold (own_of (ends who)) (past_of 0 [] (if b then log_of who earlier ++ h.event ∷ [] else log_of who earlier)) last) (sym d.1)
+      (λ near thing at c. (let was = before who near thing at c in (was.0, grows (tell_of (own_of (ends who)) was.0 thing) was.1)))
+]
 
 pub history_told : (ends : ℕ → Setup) (secret : List ℕ) (history : History) → Ends ends secret history → IsHonest ends history → AllDifferent (nonces (stated ends history)) → HistoryTold ends secret history
-history_told ends secret [] e honest new = record { steps = []; telling = telling_new; is = refl; outs = λ sent context none. absurd none }
+history_told ends secret [] e honest new = record { steps = []; telling = telling_new; is = refl; outs = λ sent context none. absurd none; closing = λ who near thing at none. absurd none }
 history_told ends secret (h ∷ earlier) e honest new =
     let setup : Setup = ends h.who in
     let own : List ℕ = own_of setup in
@@ -99,15 +114,15 @@ history_told ends secret (h ∷ earlier) e honest new =
     let group : setup.secret ≡ secret = e.group h.who (inl refl) in
     let is_call = (calls_more log h.event (subst AreCalls (log_here h earlier) (e.calls h.who))).here in
     let lawful = (lawful_more setup 0 [] log h.event (subst (IsLawful setup) (log_here h earlier) (e.lawful h.who))).here in
-    let carried : WasCarried setup (facts_of past) before.steps h.event.call =
-    was_carried setup (facts_of past) earlier before.steps h.event.call honest.0
+    let carried : WasCarried setup past before.steps h.event.call =
+    was_carried setup past earlier before.steps h.event.call honest.0
     (λ sent context out. subst (λ (s : List ℕ). Carried s sent context before.steps) (sym group) (before.outs sent context out)) in
     let view_is : facts (view own before.steps) ≡ facts_of past =
     sym (facts_alone own before.steps) ∙ ap (λ (r : List Step). facts (view own r)) before.is ∙ view_stated ends h.who earlier (λ a part same. e.prints a h.who (inr part) (inl refl) same) in
     let start : List Stamped = begun (moment_at (last_moment 0 log) h.event) h.event ∷ past in
     let far : Far setup h.event.call (facts_of past) before.steps start (stated ends earlier) before.steps =
-    record { telling = before.telling; is = before.is; stated = view_is; came = came_first h.event.call (facts_of past); grows = λ t w. w } in
-    let r = reached setup (moment_at (last_moment 0 log) h.event) h.event.call (facts_of past) before.steps is_call carried h.event.entries start (stated ends earlier) before.steps far lawful new in
+    record { telling = before.telling; is = before.is; stated = view_is; came = came_first h.event.call (facts_of past); grows = λ t w. w; closing = λ near thing at c. elim c [ inl b ↦ absurd b.0 | inr p ↦ before.closing h.who near thing at p.1 ] } in
+    let r = reached setup (moment_at (last_moment 0 log) h.event) h.event.call past before.steps is_call carried h.event.entries start (stated ends earlier) before.steps far lawful new in
     record {
       steps = r.last;
       telling = r.telling;
@@ -116,4 +131,5 @@ history_told ends secret (h ∷ earlier) e honest new =
         | inl here ↦ subst (λ (s : List ℕ). Carried s sent context r.last) group (r.outs sent context here)
         | inr old ↦ carried_grows secret sent context before.steps r.last (before.outs sent context old) r.grows
       ];
+      closing = closing_after ends h earlier before.steps r.last before.closing r.grows r.closing;
     }

@@ -39,7 +39,7 @@ use Rattle.endpoint_model.specs.declared.row.Row.{Row}
 use Rattle.endpoint_model.specs.declared.config.Draws.{Draws}
 use Rattle.endpoint_model.specs.declared.entry.Entry.TheVariants.{Fact as FactEntry}
 use Rattle.endpoint_model.specs.Event.{Setup, Call, Receive, own_of}
-use Rattle.endpoint_laws.specs.Past.{Stamped, stamped, onto, facts_of}
+use Rattle.endpoint_laws.specs.Past.{Stamped, stamped, onto, is_close, facts_of}
 use Rattle.endpoint_model.specs.Keying.{IsAmong, IsFirst, chunks_of}
 use Rattle.endpoint_laws.specs.Admissible.{Admissible}
 use Rattle.endpoint_laws.specs.Lawful.{EndedLine}
@@ -63,17 +63,23 @@ why_of (HalfOpen j) = ForOverride
 why_of (KeptAsResponder j) = ForOverride
 why_of (KeptAsInitiator j) = ForOverride
 
+way_opens : (thing : Held) → is_close (why_of thing) ≡ false
+way_opens (Opening n near ni) = refl
+way_opens (HalfOpen j) = refl
+way_opens (KeptAsResponder j) = refl
+way_opens (KeptAsInitiator j) = refl
+
 for_born : (thing : Held) → IsForBorn (why_of thing)
 for_born (Opening n near ni) = inl refl
 for_born (HalfOpen j) = inr refl
 for_born (KeptAsResponder j) = inr refl
 for_born (KeptAsInitiator j) = inr refl
 
-end_line : (now : ℕ) (call : Call) (past : List Stamped) (peer : List ℕ) (thing : Held) (j : Joined) → j.peer ≡ peer → EndedLine now call past (FactEntry (Born j) ∷ []) peer (near_of thing) (why_of thing)
-end_line now call past peer (Opening n near ni) j is = is
-end_line now call past peer (HalfOpen h) j is = is
-end_line now call past peer (KeptAsResponder h) j is = is
-end_line now call past peer (KeptAsInitiator h) j is = is
+end_line : (setup : Setup) (now : ℕ) (call : Call) (past : List Stamped) (peer : List ℕ) (thing : Held) (j : Joined) → j.peer ≡ peer → EndedLine setup now call past (FactEntry (Born j) ∷ []) peer (near_of thing) (why_of thing)
+end_line setup now call past peer (Opening n near ni) j is = is
+end_line setup now call past peer (HalfOpen h) j is = is
+end_line setup now call past peer (KeptAsResponder h) j is = is
+end_line setup now call past peer (KeptAsInitiator h) j is = is
 
 stands_before : (own : List ℕ) (l : Ledger) (last fact : Fact) (facts : List Fact) → l.own ≡ own → StandsFor 0 l (last ∷ fact ∷ facts) → Stands own (count facts) facts fact
 stands_before own l last fact facts is s =
@@ -120,7 +126,7 @@ module _ (setup : Setup) (from : AddressParts) (datagram : List ℕ) (draws : Dr
     entries = FactEntry (Born j) ∷ [];
   }
 
-  alone_goes : Admissible setup (facts_of past) s.moment from datagram (offer_of keying) → MayBear s k → held_with l k.peer ≡ None → Gave l (Born j ∷ []) (noted l (Born j)) → Goes setup call past s alone
+  alone_goes : Admissible setup past s.moment from datagram (offer_of keying) → MayBear s k → held_with l k.peer ≡ None → Gave l (Born j ∷ []) (noted l (Born j)) → Goes setup call past s alone
   alone_goes admitted may unheld gave =
       let t : State = alone.state in
       let g = agrees_of setup past s tied in
@@ -131,15 +137,18 @@ module _ (setup : Setup) (from : AddressParts) (datagram : List ℕ) (draws : Dr
         session = get_inserted s.sessions j.near new;
         attempts = λ q other. refl;
         sessions = λ q other. get_beside s.sessions j.near new q other;
-      }) refl (omega (arith, len_new s.sessions j.near new fresh_id.session)) (room_left setup past s tied (may.place unheld))
+      }) refl (omega (arith, len_new s.sessions j.near new fresh_id.session)) (omega arith, omega arith) (room_left setup past s tied (may.place unheld))
       (rows_after_either l (Born j) setup.config.max_peers k.peer refl tied.rows (row_left setup past s k.peer tied may.row)) refl
-      (record { own = tied.own; secret = tied.secret; stage = tt }) in
+      (record { id = refl; own = tied.own; secret = tied.secret; stage = tt; closed = λ e. absurd (cc) }) in
       let account = gave 0 (facts_of past) tied.account in
       record {
         meets = (
           (
-            stands_of (own_of setup) (noted l (Born j)) (Born j) (facts_of past) tied.own account,
-            record { before = facts_of past; way = inl refl; by = (admitted, refl); id = is_free_of setup past s j.near tied fresh_id },
+            (
+              stands_of (own_of setup) (noted l (Born j)) (Born j) (facts_of past) tied.own account,
+              record { before = past; way = inl refl; by = (admitted, refl); id = is_free_of setup past s j.near tied fresh_id },
+            ),
+            tt,
           ),
           tt,
         );
@@ -165,7 +174,7 @@ module _ (setup : Setup) (from : AddressParts) (datagram : List ℕ) (draws : Dr
       entries = FactEntry ended ∷ FactEntry (Born j) ∷ [];
     }
 
-    way_goes : Admissible setup (facts_of past) s.moment from datagram (offer_of keying) → held_with l k.peer ≡ Some thing → Gave l (Born j ∷ ended ∷ []) (noted (noted l ended) (Born j)) → Goes setup call past s after_way
+    way_goes : Admissible setup past s.moment from datagram (offer_of keying) → held_with l k.peer ≡ Some thing → Gave l (Born j ∷ ended ∷ []) (noted (noted l ended) (Born j)) → Goes setup call past s after_way
     way_goes admitted is gave =
         let t : State = after_way.state in
         let m : State = without_thing s ended thing in
@@ -173,7 +182,7 @@ module _ (setup : Setup) (from : AddressParts) (datagram : List ℕ) (draws : Dr
         let g = agrees_of setup past s tied in
         let way = without_thing_is setup past s ended k.peer thing g is in
         let given : IsGiven setup m = record { config = g.given.config; cert = g.given.cert; secret = g.given.secret; cookie_secret = g.given.cookie_secret; own = g.given.own; max_peers = g.given.max_peers } in
-        let first : Agrees setup middle m = agrees_end setup past s m s.moment k.peer thing (why_of thing) g is given way.at refl way.count in
+        let first : Agrees setup middle m = agrees_end setup past s m s.moment k.peer thing (why_of thing) g is given (way_opens thing) way.at refl way.count (omega arith, omega arith) in
         let apart : j.near ≡ near_of thing → ⊥ = λ e. let clash : true ≡ false = sym (held_used setup past s k.peer thing g is) ∙ ap (is_used s) (sym e) ∙ fresh_id.unused in cc in
         let free : IsNew m j.near = record {
           some = fresh_id.some;
@@ -190,21 +199,24 @@ module _ (setup : Setup) (from : AddressParts) (datagram : List ℕ) (draws : Dr
           session = get_inserted (remove s.sessions (near_of thing)) j.near new;
           attempts = λ q other. refl;
           sessions = λ q other. get_beside (remove s.sessions (near_of thing)) j.near new q other;
-        }) refl (omega (arith, len_new (remove s.sessions (near_of thing)) j.near new free.session)) (omega (arith, way.count, tied.within)) known refl
-        (record { own = tied.own; secret = tied.secret; stage = tt }) in
+        }) refl (omega (arith, len_new (remove s.sessions (near_of thing)) j.near new free.session)) (omega arith, omega arith) (omega (arith, way.count, tied.within)) known refl
+        (record { id = refl; own = tied.own; secret = tied.secret; stage = tt; closed = λ e. absurd (cc) }) in
         let account = gave 0 (facts_of past) tied.account in
         record {
           meets = (
-            (stands_before (own_of setup) (noted (noted l ended) (Born j)) (Born j) ended (facts_of past) tied.own account, end_line s.moment call past k.peer thing j refl),
+            ((stands_before (own_of setup) (noted (noted l ended) (Born j)) (Born j) ended (facts_of past) tied.own account, end_line setup s.moment call past k.peer thing j refl), tt),
             (
               (
-                stands_of (own_of setup) (noted (noted l ended) (Born j)) (Born j) (ended ∷ facts_of past) tied.own account,
-                record {
-                  before = facts_of past;
-                  way = inr (near_of thing, why_of thing, for_born thing, refl);
-                  by = (admitted, refl);
-                  id = record { some = fresh_id.some; unused = sym (first.ids.used j.near) ∙ free.unused };
-                },
+                (
+                  stands_of (own_of setup) (noted (noted l ended) (Born j)) (Born j) (ended ∷ facts_of past) tied.own account,
+                  record {
+                    before = past;
+                    way = inr (near_of thing, why_of thing, for_born thing, refl);
+                    by = (admitted, refl);
+                    id = record { some = fresh_id.some; unused = sym (first.ids.used j.near) ∙ free.unused };
+                  },
+                ),
+                tt,
               ),
               tt,
             ),
@@ -230,7 +242,7 @@ module _ (setup : Setup) (from : AddressParts) (datagram : List ℕ) (draws : Dr
   then_answer : (d : Did) → Goes setup call past s d → Goes setup call past s (then_do d (λ t. sent_answer t answer))
   then_answer d goes = goes_then setup call past s d (λ t. sent_answer t answer) goes (goes_answer setup call d.state answer (onto s.moment d.entries past) goes.tied)
 
-  born_goes : Admissible setup (facts_of past) s.moment from datagram (offer_of keying) → MayBear s k → (o : Option Held) → held_with l k.peer ≡ o → gave_by o → Goes setup call past s (born_by o)
+  born_goes : Admissible setup past s.moment from datagram (offer_of keying) → MayBear s k → (o : Option Held) → held_with l k.peer ≡ o → gave_by o → Goes setup call past s (born_by o)
   born_goes admitted may None is gave = then_answer alone (alone_goes admitted may is gave)
   born_goes admitted may (Some (Opening n near ni)) is gave = then_answer (after_way (Opening n near ni)) (way_goes (Opening n near ni) admitted is gave)
   born_goes admitted may (Some (HalfOpen h)) is gave = then_answer (after_way (HalfOpen h)) (way_goes (HalfOpen h) admitted is gave)

@@ -1,54 +1,65 @@
-mod Lines
-mod NoFacts
-mod OutFacts
-mod OutNumbers
-mod Tied
-mod Matching
-mod Agrees
-mod OutPackets
-mod OutHeld
-mod OutSends
-mod OutKeyings
-mod OutItems
-mod Replies
-mod Few
-mod Moving
-mod Going
-mod Facts
-mod Starting
-mod Ending
-mod OutBirths
-mod OutChunks
-mod Bytes
-mod Spelled
-mod Confirming
-mod Admitting
-mod Says
-mod Answering
-mod Birth
-mod Bearing
-mod Keyed
-mod Chunked
-mod Counted
-mod Counts
-mod Orderly
+pub mod Matching
+pub mod Tied
+pub mod Agrees
+pub mod Moving
+pub mod Lines
+pub mod Going
+pub mod Facts
+pub mod Starting
+pub mod Ending
+pub mod Birth
+pub mod Confirming
+pub mod Bytes
+pub mod Spelled
+pub mod Says
+pub mod OutFacts
+pub mod OutNumbers
+pub mod OutPackets
+pub mod OutHeld
+pub mod OutSends
+pub mod OutKeyings
+pub mod OutItems
+pub mod NoFacts
+pub mod Replies
+pub mod OutBirths
+pub mod InSessions
+pub mod Admitting
+pub mod Answering
+pub mod Bearing
+pub mod Keyed
+pub mod Numbers
+pub mod Hearing
+pub mod Following
+pub mod HeardChunks
+pub mod Passing
+pub mod SessionChunks
+pub mod Chunked
+pub mod OutSessions
+pub mod Few
+pub mod OutChunks
+pub mod Counted
+pub mod Counts
+pub mod Taking
+pub mod HeardEvents
+pub mod HeardAdmission
+pub mod Orderly
 pub mod Logged
 pub mod Opened
 pub mod Drawn
-mod FactsAlone
-mod HeldTold
-mod Telling
-mod Components
-mod Carried
-mod Since
-mod Heard
-mod Fresh
-mod EventTold
-mod StatedFacts
-mod HistoryTold
+pub mod OfTheLog
 pub mod AgreedLaw
-mod AgreedLogs
-mod ReadsBack
-mod Complete
+pub mod AgreedLogs
 pub mod AnswerCarried
-mod OfTheLog
+pub mod Carried
+pub mod Complete
+pub mod Components
+pub mod EventTold
+pub mod FactsAlone
+pub mod Fresh
+pub mod Heard
+pub mod HeldTold
+pub mod HistoryTold
+pub mod ReadsBack
+pub mod Since
+pub mod StatedFacts
+pub mod Telling

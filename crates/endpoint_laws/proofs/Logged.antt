@@ -1,16 +1,21 @@
 -- Each log that an end stands for is lawful, and its state agrees with it.
-use Rattle.std.proofs.Common.{◌≡◌, ℕ, ◌+◌, ◌≤◌, ◌<◌, ◌^◌, max, List, [], ◌∷◌, refl, sym, ap, subst, ◌∙◌, arith}
+use Rattle.std.proofs.Common.{◌≡◌, ℕ, ◌+◌, ◌≤◌, ◌<◌, ◌^◌, max, List, [], ◌∷◌, Bool, true, false, None, refl, sym, ap, subst, ◌∙◌, arith}
 use Rattle.std.specs.FinMap.{empty, get, get-empty}
 use Rattle.std.specs.Ordering.{nat_cmp}
 use Rattle.rtmfp_base.proofs.Maps.{none_is_some}
 use Rattle.glare_core.specs.Standing.{count}
 use Rattle.endpoint_model.specs.declared.entry.Entry.{Entry}
-use Rattle.endpoint_model.specs.Event.{Setup, own_of, Call, Open, Cancel, Receive, Tick, Answer, Began, Done, NotOpened, Refused, Stopped, OutOfMemory, Event}
+use Rattle.rtmfp_forms.specs.Address.{AddressParts}
+use Rattle.endpoint_model.specs.declared.config.Draws.{Draws}
+use Rattle.endpoint_model.specs.declared.answers.Stopped.{Stopped as Stop}
+use Rattle.endpoint_model.specs.Event.{Setup, own_of, Call, receive_in, Open, Cancel, Close, Receive, Tick, Answer, Began, Done, NotOpened, Refused, Stopped, OutOfMemory, Event}
 use Rattle.endpoint_model.specs.State.{State, Did, Does, nothing, fresh, at_moment}
 use Rattle.endpoint_model.specs.Admission.{admission}
+use Rattle.endpoint_model.specs.InSessions.{closing}
 use Rattle.endpoint_model.specs.Effects.{opening, cancelling, ticks, received}
 use Rattle.endpoint_model.specs.Log.{Answers, Leads, StandsFor, stopped}
-use Rattle.endpoint_laws.specs.Past.{Stamped, onto, facts_of, past_of, last_moment, begun}
+use Rattle.endpoint_laws.specs.Past.{Stamped, OfEvent, onto, facts_of, past_of, last_moment, begun}
+use Rattle.endpoint_laws.specs.Taken.{was_gone_through, datagram_in}
 use Rattle.endpoint_laws.specs.Complete.{outs_in, outs_of}
 use Rattle.endpoint_laws.specs.Laws.{IsSetup, IsCall, AreCalls, EveryLogIsLawful, TheLedgerIsOfTheLog, UsesAreWithin}
 use Rattle.endpoint_laws.proofs.Bytes.{of_bytes}
@@ -19,14 +24,20 @@ use Rattle.endpoint_laws.proofs.Tied.{Tied, fresh_tied}
 use Rattle.endpoint_laws.proofs.Moving.{tied_alike, tied_more}
 use Rattle.endpoint_laws.proofs.Starting.{goes_opening}
 use Rattle.endpoint_laws.proofs.Ending.{goes_cancelling}
+use Rattle.endpoint_laws.proofs.SessionChunks.{goes_closing}
+use Rattle.endpoint_laws.proofs.OutSessions.{meets_closing}
+use Rattle.endpoint_laws.proofs.Hearing.{HeardWell}
+use Rattle.endpoint_laws.proofs.Following.{heard_opening, heard_cancelling, heard_closing}
+use Rattle.endpoint_laws.proofs.HeardEvents.{AreNamed, are_named, heard_fresh, heard_begun, no_datagram, not_gone_through, gone_through_is, AdmissionHeard}
+use Rattle.endpoint_laws.proofs.HeardAdmission.{heard_admission}
 use Rattle.endpoint_laws.proofs.Admitting.{admission_is}
 use Rattle.endpoint_laws.proofs.Counts.{few_after, answers_counted}
-use Rattle.endpoint_laws.proofs.Few.{few_same, few_opening, few_does, onto_outs}
+use Rattle.endpoint_laws.proofs.Few.{few_same, few_opening, few_closing, few_does, onto_outs}
 use Rattle.endpoint_laws.proofs.OutNumbers.{numbered_new, numbered_begun}
 use Rattle.endpoint_laws.proofs.OutSends.{Sent}
 use Rattle.endpoint_laws.proofs.OutBirths.{small_free}
 use Rattle.endpoint_laws.proofs.OutItems.{meets_opening, meets_cancelling}
-use Rattle.endpoint_laws.proofs.Orderly.{Orderly, orderly_nothing, ticks_orderly, received_orderly, stopped_orderly}
+use Rattle.endpoint_laws.proofs.Orderly.{Orderly, StopHeard, orderly_nothing, ticks_orderly, received_orderly, stopped_orderly}
 
 -- ---- calls
 
@@ -36,37 +47,51 @@ pub record CallDid (setup : Setup) (call : Call) (past : List Stamped) (s t : St
   pub orderly : Orderly setup call past s did
   pub does : Does did t [] entries
 
+-- What is known of the sessions when the call was made: of a datagram that is gone through, after its admission.
+abbrev pub KnownFor : List Stamped → State → Call → Answer → Type 0
+KnownFor past s (Receive from datagram draws) Done = AdmissionHeard past s.moment datagram (admission s datagram)
+KnownFor past s (Receive from datagram draws) (Stopped stop) = StopHeard datagram past s stop.taken (admission s datagram)
+KnownFor past s (Receive from datagram draws) answer = Unit {0}
+KnownFor past s call answer = HeardWell past s
+
 module _ (setup : Setup) (is : IsSetup setup) (past : List Stamped) (s t : State) (tied : Tied setup past s) (sent : Sent setup past s) where
-  pub answers_orderly : (call : Call) (answer : Answer) (entries : List Entry) → IsCall call → Answers s call answer entries t → CallDid setup call past s t entries
-  answers_orderly (Open peer candidates draws) (Began n) entries fits h = record {
+  pub answers_orderly : (call : Call) (answer : Answer) (entries : List Entry) → IsCall call → KnownFor past s call answer → Answers s call answer entries t → CallDid setup call past s t entries
+  answers_orderly (Open peer candidates draws) (Began n) entries fits well h = record {
     did = opening s peer candidates draws;
     orderly = record {
       goes = goes_opening setup past s peer candidates draws is.sessions fits.2 h.0 tied;
       meets = meets_opening setup s.moment (Open peer candidates draws) past s sent tied peer candidates draws fits.0 fits.1 fits.3 (small_free s draws.word fits.2);
       few = few_opening s peer candidates draws;
+      heard = heard_opening s peer candidates draws past well;
     };
     does = h.2;
   }
-  answers_orderly (Open peer candidates draws) (NotOpened refusal) entries fits h = record { did = nothing s; orderly = orderly_nothing setup (Open peer candidates draws) past s tied sent; does = h.1 }
-  answers_orderly (Cancel n) Done entries fits h = record {
+  answers_orderly (Open peer candidates draws) (NotOpened refusal) entries fits well h = record { did = nothing s; orderly = orderly_nothing setup (Open peer candidates draws) past s tied sent well; does = h.1 }
+  answers_orderly (Cancel n) Done entries fits well h = record {
     did = cancelling s n;
-    orderly = record { goes = goes_cancelling setup s n past tied; meets = meets_cancelling setup s.moment (Cancel n) past s n sent; few = few_same s (cancelling s n) refl };
+    orderly = record { goes = goes_cancelling setup s n past tied; meets = meets_cancelling setup s.moment (Cancel n) past s n sent; few = few_same s (cancelling s n) refl; heard = heard_cancelling s n past well };
     does = h.1;
   }
-  answers_orderly (Cancel n) (Refused refusal) entries fits h = record { did = nothing s; orderly = orderly_nothing setup (Cancel n) past s tied sent; does = h.2 }
-  answers_orderly (Receive from datagram draws) Done entries fits h = record {
+  answers_orderly (Cancel n) (Refused refusal) entries fits well h = record { did = nothing s; orderly = orderly_nothing setup (Cancel n) past s tied sent well; does = h.2 }
+  answers_orderly (Close near) Done entries fits well h = record {
+    did = closing s near;
+    orderly = record { goes = goes_closing setup s near past tied; meets = meets_closing setup past s sent tied near; few = few_closing s near; heard = heard_closing s near past well };
+    does = h.1;
+  }
+  answers_orderly (Close near) (Refused refusal) entries fits well h = record { did = nothing s; orderly = orderly_nothing setup (Close near) past s tied sent well; does = h.2 }
+  answers_orderly (Receive from datagram draws) Done entries fits well h = record {
     did = received from draws (admission s datagram);
-    orderly = received_orderly setup is from datagram draws fits past s (admission s datagram) (admission_is setup past s datagram tied sent (of_bytes datagram fits.0));
+    orderly = received_orderly setup is from datagram draws fits past s (admission s datagram) (admission_is setup past s datagram tied sent (of_bytes datagram fits.0)) well;
     does = h;
   }
-  answers_orderly (Receive from datagram draws) (Stopped stop) entries fits h = record {
+  answers_orderly (Receive from datagram draws) (Stopped stop) entries fits well h = record {
     did = stopped s from draws (admission s datagram) stop;
-    orderly = stopped_orderly setup is from datagram draws fits past s stop (admission s datagram) tied sent (admission_is setup past s datagram tied sent (of_bytes datagram fits.0));
+    orderly = stopped_orderly setup is from datagram draws fits past s stop (admission s datagram) tied sent (admission_is setup past s datagram tied sent (of_bytes datagram fits.0)) well;
     does = h.1;
   }
-  answers_orderly (Tick draws) Done entries fits h = record { did = ticks h.0.0 s; orderly = ticks_orderly setup (Tick draws) is tt h.0.0 past s tied sent; does = h.0.1 }
-  answers_orderly (Tick draws) OutOfMemory entries fits h = record { did = ticks h.0 s; orderly = ticks_orderly setup (Tick draws) is tt h.0 past s tied sent; does = h.1 }
-  answers_orderly _ _ entries fits h = absurd h
+  answers_orderly (Tick draws) Done entries fits well h = record { did = ticks h.0.0 s; orderly = ticks_orderly setup (Tick draws) is tt h.0.0 past s tied sent well; does = h.0.1 }
+  answers_orderly (Tick draws) OutOfMemory entries fits well h = record { did = ticks h.0 s; orderly = ticks_orderly setup (Tick draws) is tt h.0 past s tied sent well; does = h.1 }
+  answers_orderly _ _ entries fits well h = absurd h
 
 -- ---- logs
 
@@ -75,6 +100,14 @@ pub record Holds (setup : Setup) (past : List Stamped) (s : State) : Type 0 wher
   pub tied : Tied setup past s
   pub sent : Sent setup past s
   pub counted : count (facts_of past) < 2 ^ 64
+  pub well : HeardWell past s
+
+-- What holds when an event began, whose datagram may wait to be admitted.
+record Begun (setup : Setup) (past : List Stamped) (s : State) (call : Call) (answer : Answer) : Type 0 where
+  tied : Tied setup past s
+  sent : Sent setup past s
+  counted : count (facts_of past) < 2 ^ 64
+  known : KnownFor past s call answer
 
 -- what an event leaves, and its entries
 record Went (setup : Setup) (call : Call) (past : List Stamped) (s t : State) (entries : List Entry) : Type 0 where
@@ -85,15 +118,15 @@ record Went (setup : Setup) (call : Call) (past : List Stamped) (s t : State) (e
   moment : t.moment ≡ s.moment
   few : t.sealed ≤ s.sealed + outs_in entries
 
-answers_went : (setup : Setup) → IsSetup setup → (past : List Stamped) (s t : State) (call : Call) (answer : Answer) (entries : List Entry) → Holds setup past s → IsCall call → Answers s call answer entries t →
+answers_went : (setup : Setup) → IsSetup setup → (past : List Stamped) (s t : State) (call : Call) (answer : Answer) (entries : List Entry) → Begun setup past s call answer → IsCall call → Answers s call answer entries t →
     Went setup call past s t entries
-answers_went setup is past s t call answer entries holds fits h =
-    let o = answers_orderly setup is past s t holds.tied holds.sent call answer entries fits h in
+answers_went setup is past s t call answer entries begun fits h =
+    let o = answers_orderly setup is past s t begun.tied begun.sent call answer entries fits begun.known h in
     let d : Did = o.did in
     let added : d.entries ≡ entries = sym o.does.entries in
     let left : d.state ≡ t = sym o.does.state in
     let facts : EntriesMeet FactPart setup s.moment call past entries = subst (λ (es : List Entry). EntriesMeet FactPart setup s.moment call past es) added o.orderly.goes.meets in
-    let counts : EntriesMeet CountPart setup s.moment call past entries = answers_counted setup s.moment past s t call answer entries holds.tied holds.counted facts h in
+    let counts : EntriesMeet CountPart setup s.moment call past entries = answers_counted setup s.moment past s t call answer entries begun.tied begun.counted facts h in
     record {
       facts = facts;
       outs = subst (λ (es : List Entry). EntriesMeet OutPart setup s.moment call past es) added o.orderly.meets.lines;
@@ -101,19 +134,63 @@ answers_went setup is past s t call answer entries holds fits h =
       holds = record {
         tied = subst (λ (u : State). Tied setup (onto s.moment entries past) u) left (subst (λ (es : List Entry). Tied setup (onto s.moment es past) d.state) added o.orderly.goes.tied);
         sent = subst (λ (u : State). Sent setup (onto s.moment entries past) u) left (subst (λ (es : List Entry). Sent setup (onto s.moment es past) d.state) added o.orderly.meets.sent);
-        counted = few_after setup s.moment call past entries facts counts holds.counted;
+        counted = few_after setup s.moment call past entries facts counts begun.counted;
+        well = subst (λ (u : State). HeardWell (onto s.moment entries past) u) left (subst (λ (es : List Entry). HeardWell (onto s.moment es past) d.state) added o.orderly.heard.well);
       };
       moment = ap (λ (u : State). u.moment) o.does.state ∙ o.orderly.goes.moment;
       few = few_does s t entries d o.orderly.few o.does;
     }
 
--- an event began, whose moment is noted
-holds_begun : (setup : Setup) (past : List Stamped) (s : State) (e : Event) → Holds setup past s → Holds setup (begun (max s.moment e.moment) e ∷ past) (at_moment s e.moment)
-holds_begun setup past s e holds = record {
-  tied = tied_alike setup (begun (max s.moment e.moment) e ∷ past) s (max s.moment e.moment) s.sealed (tied_more setup past s (begun (max s.moment e.moment) e) refl holds.tied);
-  sent = record { numbered = numbered_begun (own_of setup) past s.sealed s.sessions holds.sent.numbered (max s.moment e.moment) e; sized = holds.sent.sized; short = holds.sent.short };
-  counted = holds.counted;
-}
+-- the rows' session IDs
+named_by : (setup : Setup) (past : List Stamped) (s : State) → Tied setup past s → AreNamed s
+named_by setup past s tied = are_named s (λ near row e. (tied.sessions near row e).id) tied.apart (tied.used 0 ∙ tied.not_zero)
+
+module _ (setup : Setup) (past : List Stamped) (s : State) (e : Event) (holds : Holds setup past s) (fits : IsCall e.call) where
+  abbrev start : List Stamped
+  start = begun (max s.moment e.moment) e ∷ past
+
+  abbrev noted : State
+  noted = at_moment s e.moment
+
+  -- no datagram waits
+  none_waits : datagram_in (OfEvent e) ≡ None → HeardWell start noted
+  none_waits none = heard_begun past s e none holds.well
+
+  no_receive : (call : Call) → e.call ≡ call → receive_in call ≡ None → HeardWell start noted
+  no_receive call is none = none_waits (no_datagram e (ap receive_in is ∙ none))
+
+  admitted : (from : AddressParts) (datagram : List ℕ) (draws : Draws) → e.call ≡ Receive from datagram draws → was_gone_through e.answer ≡ true → AdmissionHeard start noted.moment datagram (admission noted datagram)
+  admitted from datagram draws is gone =
+      let bytes : IsCall (Receive from datagram draws) = subst IsCall is fits in
+      heard_admission past s e datagram (of_bytes datagram bytes.0) (gone_through_is e (record { from = from; datagram = datagram; draws = draws }) (ap receive_in is) gone) (named_by setup past s holds.tied) holds.well
+
+  waits : (from : AddressParts) (datagram : List ℕ) (draws : Draws) (stop : Stop) → e.call ≡ Receive from datagram draws → e.answer ≡ Stopped stop → StopHeard datagram start noted stop.taken (admission noted datagram)
+  waits from datagram draws stop is answer = by stop.taken (ap was_gone_through answer)
+    where
+      by : (b : Bool) → was_gone_through e.answer ≡ b → StopHeard datagram start noted b (admission noted datagram)
+      by true gone = admitted from datagram draws is gone
+      by false gone = none_waits (not_gone_through e gone)
+
+  known_for : (call : Call) (answer : Answer) → e.call ≡ call → e.answer ≡ answer → KnownFor start noted call answer
+  known_for (Open peer candidates draws) answer is said = no_receive (Open peer candidates draws) is refl
+  known_for (Cancel n) answer is said = no_receive (Cancel n) is refl
+  known_for (Close near) answer is said = no_receive (Close near) is refl
+  known_for (Tick draws) answer is said = no_receive (Tick draws) is refl
+  known_for (Receive from datagram draws) Done is said = admitted from datagram draws is (ap was_gone_through said)
+  known_for (Receive from datagram draws) (Stopped stop) is said = waits from datagram draws stop is said
+  known_for (Receive from datagram draws) (Began n) is said = tt
+  known_for (Receive from datagram draws) (NotOpened refusal) is said = tt
+  known_for (Receive from datagram draws) (Refused refusal) is said = tt
+  known_for (Receive from datagram draws) OutOfMemory is said = tt
+
+  -- an event began, whose moment is noted
+  holds_begun : Begun setup start noted e.call e.answer
+  holds_begun = record {
+    tied = tied_more setup past noted (begun (max s.moment e.moment) e) (omega arith) refl refl (tied_alike setup past s (max s.moment e.moment) s.sealed (omega arith) holds.tied);
+    sent = record { numbered = numbered_begun (own_of setup) past s.sealed s.sessions holds.sent.numbered (max s.moment e.moment) e; sized = holds.sent.sized; short = holds.sent.short };
+    counted = holds.counted;
+    known = known_for e.call e.answer refl refl;
+  }
 
 -- What is said of a log that leads from one state to another. It is the one induction over logs.
 pub record LogIs (setup : Setup) (past : List Stamped) (s : State) (log : List Event) (t : State) : Type 0 where
@@ -138,7 +215,7 @@ leads_go setup is past (e ∷ log) s t calls holds leads =
     let middle : State = leads.0 in
     let start : List Stamped = begun noted.moment e ∷ past in
     let after : List Stamped = onto noted.moment e.entries start in
-    let one : Went setup e.call start noted middle e.entries = answers_went setup is start noted middle e.call e.answer e.entries (holds_begun setup past s e holds) calls.0 leads.1 in
+    let one : Went setup e.call start noted middle e.entries = answers_went setup is start noted middle e.call e.answer e.entries (holds_begun setup past s e holds calls.0) calls.0 leads.1 in
     let rest : LogIs setup after middle log t = leads_go setup is after log middle t calls.1 one.holds leads.2 in
     record {
       facts = (one.facts, subst (λ (m : ℕ). EventsMeet FactPart setup m after log) one.moment rest.facts);
@@ -157,7 +234,7 @@ sent_fresh setup = record {
 }
 
 pub log_is : (setup : Setup) (log : List Event) (s : State) → IsSetup setup → AreCalls log → StandsFor setup log s → LogIs setup [] (fresh setup) log s
-log_is setup log s is calls stands = leads_go setup is [] log (fresh setup) s calls (record { tied = fresh_tied setup; sent = sent_fresh setup; counted = omega arith }) stands
+log_is setup log s is calls stands = leads_go setup is [] log (fresh setup) s calls (record { tied = fresh_tied setup; sent = sent_fresh setup; counted = omega arith; well = heard_fresh setup }) stands
 
 -- the state agrees with its log
 pub tied_to_log : (setup : Setup) (log : List Event) (s : State) → IsSetup setup → AreCalls log → StandsFor setup log s → Tied setup (past_of 0 [] log) s

@@ -1,8 +1,10 @@
 -- What the state agrees with after a change that states no fact, and after one fact.
-use Rattle.std.proofs.Common.{◌≡◌, ℕ, ◌+◌, ◌<◌, ◌≤◌, List, ◌∷◌, Bool, true, false, cond, Option, Some, None, is_some, ◌||◌, inl, inr, ◌⊎◌, refl, sym, ap, subst, ◌∙◌, arith}
+use Rattle.std.proofs.Common.{◌≡◌, ℕ, ◌+◌, ◌<◌, ◌≤◌, List, ◌∷◌, Bool, true, false, if◌then◌else◌, cond, Option, Some, None, is_some, ◌||◌, inl, inr, ◌⊎◌, refl, sym, ap, subst, ◌∙◌, arith}
 use Rattle.std.specs.Str.{bytes_eq}
 use Rattle.std.specs.FinMap.{get}
+use Rattle.glare_core.specs.declared.facts.Why.{Why}
 use Rattle.glare_core.specs.declared.facts.Fact.{Fact}
+use Rattle.glare_core.specs.declared.facts.Fact.TheVariants.{Started, Born, Opened, Confirmed, Ended}
 use Rattle.glare_core.specs.declared.facts.Held.{Held}
 use Rattle.glare_core.specs.Standing.{peer_of, after}
 use Rattle.glare_core.specs.Things.{near_of}
@@ -12,15 +14,19 @@ use Rattle.glare_core.proofs.Maps.{row_inserted, len_inserted}
 use Rattle.rtmfp_base.proofs.Maps.{get_inserted, get_beside, len_known}
 use Rattle.startup.specs.State.{AttemptState}
 use Rattle.startup.specs.Attempts.{with_attempt}
+use Rattle.session_core.specs.Session.{SessionState}
+use Rattle.session_core.specs.Closing.{is_held}
 use Rattle.endpoint_model.specs.declared.row.Row.{Row}
+use Rattle.endpoint_model.specs.declared.entry.Entry.TheVariants.{Fact as FactEntry, Closed}
 use Rattle.endpoint_model.specs.Event.{Setup}
-use Rattle.endpoint_laws.specs.Past.{Stamped, facts_of, ids_in_use, WasDone}
+use Rattle.endpoint_laws.specs.Past.{Stamped, stamped, is_close, Closes, GoesOn, IsClosing, fact_done, fact_and, closed_done, facts_of, ids_in_use, ids_after, ids_left, WasDone}
+use Rattle.endpoint_laws.specs.OfTheLog.{WasThing}
 use Rattle.endpoint_model.specs.State.{State, uses, is_used, with_row, with_startup}
 use Rattle.endpoint_laws.proofs.Matching.{Found, of_peer, Matches, changed_matches, Ids, ids_same}
 use Rattle.glare_core.specs.Account.{StandsFor}
 use Rattle.endpoint_model.proofs.Members.{tested}
-use Rattle.endpoint_laws.proofs.Tied.{Tied}
-use Rattle.endpoint_laws.proofs.Agrees.{Agrees, IsOurs, IsGiven, IsAt, Fits, WasStarted, combined, thing_at, thing_here, thing_elsewhere, used_here, used_elsewhere, found_of_attempt, found_of_session, no_attempt, agrees_changed, agrees_of, tied_of}
+use Rattle.endpoint_laws.proofs.Tied.{Tied, AreBy, by_later, closing_by, StageFits, IsClosed, IsClosedThing, thing_of, found_in}
+use Rattle.endpoint_laws.proofs.Agrees.{Agrees, IsOurs, IsGiven, IsAt, Fits, GoesOnBeside, ClosesAt, WasStarted, combined, thing_at, thing_here, thing_elsewhere, used_here, used_elsewhere, found_of_attempt, found_at, held_row_is, closing_row_is, none_closes, no_attempt, agrees_changed, agrees_of, tied_of}
 
 -- ---- the ledger after a fact
 
@@ -75,9 +81,80 @@ noted_matches s t fact near oa os m at ledger was here id =
       was = was;
     })
 
+-- ---- closings, after one entry
+
+-- A fact ends nothing but under this session ID.
+abbrev pub EndsAt : ℕ → Fact → Type 0
+EndsAt near (Started peer n id ni) = Unit {0}
+EndsAt near (Born j) = Unit {0}
+EndsAt near (Opened j) = Unit {0}
+EndsAt near (Confirmed peer id) = Unit {0}
+EndsAt near (Ended peer id why) = id ≡ near
+
+-- It closes nothing.
+abbrev pub IsNoClose : Fact → Type 0
+IsNoClose (Started peer n id ni) = Unit {0}
+IsNoClose (Born j) = Unit {0}
+IsNoClose (Opened j) = Unit {0}
+IsNoClose (Confirmed peer id) = Unit {0}
+IsNoClose (Ended peer id why) = is_close why ≡ false
+
+closes_elsewhere : (near q : ℕ) (thing : Held) (facts : List Fact) (fact : Fact) → EndsAt near fact → (q ≡ near → ⊥) → Closes q thing facts (Some fact) → ⊥
+closes_elsewhere near q thing facts (Started peer n id ni) ends other c = c
+closes_elsewhere near q thing facts (Born j) ends other c = c
+closes_elsewhere near q thing facts (Opened j) ends other c = c
+closes_elsewhere near q thing facts (Confirmed peer id) ends other c = c
+closes_elsewhere near q thing facts (Ended peer id why) ends other c = other (sym c.0 ∙ ends)
+
+not_both : (b : Bool) → b ≡ true → b ≡ false → ⊥
+not_both b p q = let e : true ≡ false = sym p ∙ q in cc
+
+closes_none : (near : ℕ) (thing : Held) (facts : List Fact) (fact : Fact) → IsNoClose fact → Closes near thing facts (Some fact) → ⊥
+closes_none near thing facts (Started peer n id ni) none c = c
+closes_none near thing facts (Born j) none c = c
+closes_none near thing facts (Opened j) none c = c
+closes_none near thing facts (Confirmed peer id) none c = c
+closes_none near thing facts (Ended peer id why) none c = not_both (is_close why) c.1 none
+
+pub beside_fact : (near moment : ℕ) (past : List Stamped) (fact : Fact) → EndsAt near fact → GoesOnBeside near past (stamped moment (FactEntry fact) ∷ past)
+beside_fact near moment past fact ends = record {
+  done = λ x w. inr w;
+  closing = λ q other thing at c. inr (tt, c);
+  back = λ q other thing at c. elim c [
+    | inl b ↦ absurd (closes_elsewhere near q thing (facts_of past) fact ends other b.0)
+    | inr p ↦ p.1
+  ];
+}
+
+pub beside_closed : (near moment : ℕ) (past : List Stamped) → GoesOnBeside near past (stamped moment (Closed near) ∷ past)
+beside_closed near moment past = record {
+  done = λ x w. inr w;
+  closing = λ q other thing at c. inr ((λ e. other (sym e)), c);
+  back = λ q other thing at c. elim c [ inl b ↦ absurd b.0 | inr p ↦ p.1 ];
+}
+
+pub beside_same : (near : ℕ) (past : List Stamped) → GoesOnBeside near past past
+beside_same near past = record { done = λ x w. w; closing = λ q other thing at c. c; back = λ q other thing at c. c }
+
+-- where something was held, nothing closes after a fact that closes nothing
+pub still_none : (setup : Setup) (past : List Stamped) (s : State) → Agrees setup past s → (near : ℕ) (p : List ℕ) (h : Held) → thing_at s near ≡ Some (p, h) → (moment : ℕ) (fact : Fact) → IsNoClose fact →
+    (o : Option Row) → ClosesAt (stamped moment (FactEntry fact) ∷ past) near o
+still_none setup past s a near p h is moment fact still o thing at c = elim c [
+  | inl b ↦ absurd (closes_none near thing (facts_of past) fact still b.0)
+  | inr q ↦ absurd (none_closes setup past s a near p h is thing at q.1)
+]
+
+-- nor where nothing stood
+pub none_there_still : (past : List Stamped) (near : ℕ) (before : Option Row) → ClosesAt past near before → before ≡ None → (moment : ℕ) (fact : Fact) → IsNoClose fact →
+    (o : Option Row) → ClosesAt (stamped moment (FactEntry fact) ∷ past) near o
+none_there_still past near before closes none moment fact still o thing at c = elim c [
+  | inl b ↦ absurd (closes_none near thing (facts_of past) fact still b.0)
+  | inr q ↦ absurd (subst (λ (x : Option Row). IsClosedThing x thing) none (closes thing at q.1))
+]
+
 -- ---- changes without a fact
 
-same_matches : (at at' : ℕ → Found) (held : List ℕ → Option Held) → ((q : ℕ) → at' q ≡ at q) → Matches at held → Matches at' held
+pub same_matches : (at at' : ℕ → Found) (held : List ℕ → Option Held) → ((q : ℕ) → at' q ≡ at q) → Matches at held → Matches at' held
 same_matches at at' held same m = record {
   found = λ near p h e. m.found near p h (sym (same near) ∙ e);
   there = λ p h e. same (near_of h) ∙ m.there p h e;
@@ -89,10 +166,10 @@ some_or false b (inl e) = absurd (cc)
 some_or false b (inr e) = e
 
 -- what stands under one session ID is replaced by the same thing
-pub agrees_same : (setup : Setup) (past now : List Stamped) (s t : State) (near : ℕ) (oa : Option AttemptState) (os : Option Row) → Agrees setup past s → IsGiven setup t → IsAt near oa os s t →
-    t.startup.ledger ≡ s.startup.ledger → combined near oa os ≡ thing_at s near → (is_some oa || is_some os) ≡ is_used s near → uses t ≡ uses s → Fits setup now near oa os →
-    ((done : Stamped) → WasDone done past → WasDone done now) → facts_of now ≡ facts_of past → Agrees setup now t
-agrees_same setup past now s t near oa os a given at ledger same used count fits more facts =
+pub agrees_same : (setup : Setup) (past : List Stamped) (s t : State) (near : ℕ) (oa : Option AttemptState) (os : Option Row) → Agrees setup past s → IsGiven setup t → IsAt near oa os s t →
+    t.startup.ledger ≡ s.startup.ledger → combined near oa os ≡ thing_at s near → (is_some oa || is_some os) ≡ is_used s near → uses t ≡ uses s → t.moment ≡ s.moment → Fits setup past near oa os → ClosesAt past near os →
+    Agrees setup past t
+agrees_same setup past s t near oa os a given at ledger same used count moment fits closes =
     let all : (q : ℕ) → thing_at t q ≡ thing_at s q = λ q. elim (same_number q near) [
       | inl is ↦ ap (thing_at t) is ∙ thing_here near oa os s t at ∙ same ∙ ap (thing_at s) (sym is)
       | inr is ↦ thing_elsewhere near oa os s t at q is
@@ -101,30 +178,86 @@ agrees_same setup past now s t near oa os a given at ledger same used count fits
       | inl is ↦ ap (is_used t) is ∙ used_here near oa os s t at ∙ used ∙ ap (is_used s) (sym is)
       | inr is ↦ used_elsewhere near oa os s t at q is
     ] in
-    agrees_changed setup past now s t near oa os a given at
+    agrees_changed setup past past s t near oa os a given at
     (subst (λ (l : Ledger). Matches (thing_at t) (held_with l)) (sym ledger) (same_matches (thing_at s) (thing_at t) (held_with s.startup.ledger) all a.matches))
-    fits more
-    (subst (λ (f : List Fact). Ids setup.config.max_sessions (ids_in_use f) t) (sym facts) (ids_same setup.config.max_sessions (ids_in_use (facts_of past)) s t a.ids all_used count))
+    fits (beside_same near past) closes (ids_same setup.config.max_sessions (ids_in_use past) s t a.ids all_used count)
+    (subst (λ (m : ℕ). AreBy m past) (sym moment) a.by_now)
     (subst (λ (l : Ledger). row_count l ≤ setup.config.max_peers) (sym ledger) a.rows)
   where
     same_number : (q k : ℕ) → (q ≡ k) ⊎ (q ≡ k → ⊥)
     same_number q k = elim (tested q k) [ inl is ↦ inl is.0 | inr is ↦ inr is.0 ]
 
--- a session is replaced by one with the same values
+-- a session that is the same one, held or closing as before; its stage may have begun at this moment
+pub record IsAlike (moment : ℕ) (old new : SessionState) : Type 0 where
+  pub joined : new.joined ≡ old.joined
+  pub own : new.own ≡ old.own
+  pub secret : new.secret ≡ old.secret
+  pub role : new.role ≡ old.role
+  pub held : is_held new.stage ≡ is_held old.stage
+  pub thing : is_held old.stage ≡ true → thing_of new.role new.stage new.joined ≡ thing_of old.role old.stage old.joined
+  pub stage : StageFits old.role old.stage → StageFits new.role new.stage
+  pub since : is_held old.stage ≡ false → (new.since ≡ old.since) ⊎ (new.since ≡ moment)
+
+pub alike_itself : (moment : ℕ) (session : SessionState) → IsAlike moment session session
+alike_itself moment session = record { joined = refl; own = refl; secret = refl; role = refl; held = refl; thing = λ e. refl; stage = λ f. f; since = λ e. inl refl }
+
+either_way : (b : Bool) → (b ≡ true) ⊎ (b ≡ false)
+either_way true = inl refl
+either_way false = inr refl
+
+alike_found : (moment : ℕ) (old new : Row) → IsAlike moment old.session new.session → found_in (Some new) ≡ found_in (Some old)
+alike_found moment old new a = elim (either_way (is_held old.session.stage)) [
+  | inl e ↦
+      held_row_is new (a.held ∙ e) ∙ ap (λ (q : List ℕ). Some (q, thing_of new.session.role new.session.stage new.session.joined)) (ap (λ j. j.peer) a.joined)
+      ∙ ap (λ (h : Held). Some (old.session.joined.peer, h)) (a.thing e) ∙ sym (held_row_is old e)
+  | inr e ↦ closing_row_is new (a.held ∙ e) ∙ sym (closing_row_is old e)
+]
+
+was_alike : (moment : ℕ) (old new : SessionState) (thing : Held) → IsAlike moment old new → WasThing old.role old.joined thing → WasThing new.role new.joined thing
+was_alike moment old new thing a w = subst (λ r. WasThing r new.joined thing) (sym a.role) (subst (λ j. WasThing old.role j thing) (sym a.joined) w)
+
+closed_alike : (moment : ℕ) (past : List Stamped) (near : ℕ) (old new : SessionState) → IsAlike moment old new → AreBy moment past → is_held old.stage ≡ false → IsClosed past near old → IsClosed past near new
+closed_alike moment past near old new a are e c = record {
+  thing = c.thing;
+  at = c.at;
+  was = was_alike moment old new c.thing a c.was;
+  closing = c.closing;
+  since = elim (a.since e) [
+    | inl same ↦ omega (arith, c.since, same)
+    | inr now ↦ omega (arith, closing_by moment near c.thing c.at past are c.closing, now)
+  ];
+}
+
+pub ours_alike : (setup : Setup) (moment : ℕ) (past : List Stamped) (near : ℕ) (old new : SessionState) → IsAlike moment old new → AreBy moment past → IsOurs setup past near old → IsOurs setup past near new
+ours_alike setup moment past near old new a are ours = record {
+  id = ap (λ j. j.near) a.joined ∙ ours.id;
+  own = a.own ∙ ours.own;
+  secret = a.secret ∙ ours.secret;
+  stage = a.stage ours.stage;
+  closed = λ e. let before = sym a.held ∙ e in closed_alike moment past near old new a are before (ours.closed before);
+}
+
+closes_alike : (moment : ℕ) (past : List Stamped) (near : ℕ) (o : Option Row) (old new : Row) → ClosesAt past near o → o ≡ Some old → IsAlike moment old.session new.session → ClosesAt past near (Some new)
+closes_alike moment past near o old new closes is a thing at c =
+    let before : IsClosedThing (Some old) thing = subst (λ (x : Option Row). IsClosedThing x thing) is (closes thing at c) in
+    (a.held ∙ before.0, was_alike moment old.session new.session thing a before.1)
+
+-- a session is replaced by one like it
 pub tied_session : (setup : Setup) (past : List Stamped) (s : State) (near : ℕ) (old new : Row) → Tied setup past s → get s.sessions near ≡ Some old →
-    combined near None (Some new) ≡ combined near None (Some old) → (IsOurs setup old.session → IsOurs setup new.session) → Tied setup past (with_row s near new)
-tied_session setup past s near old new tied is same ours =
+    IsAlike s.moment old.session new.session → Tied setup past (with_row s near new)
+tied_session setup past s near old new tied is alike =
     let t : State = with_row s near new in
     let a = agrees_of setup past s tied in
     let none = no_attempt s near old (a.apart near) is in
-    tied_of setup past t (agrees_same setup past past s t near None (Some new) a (record { config = a.given.config; cert = a.given.cert; secret = a.given.secret; cookie_secret = a.given.cookie_secret; own = a.given.own; max_peers = a.given.max_peers }) (record {
+    tied_of setup past t (agrees_same setup past s t near None (Some new) a (record { config = a.given.config; cert = a.given.cert; secret = a.given.secret; cookie_secret = a.given.cookie_secret; own = a.given.own; max_peers = a.given.max_peers }) (record {
       attempt = none;
       session = get_inserted s.sessions near new;
       attempts = λ q other. refl;
       sessions = λ q other. get_beside s.sessions near new q other;
-    }) refl (same ∙ sym (found_of_session s near old none is))
+    }) refl (alike_found s.moment old new alike ∙ sym (found_at s near old none is))
     (sym (some_or (is_some (get s.startup.attempts near)) (is_some (get s.sessions near)) (inr (ap (λ (o : Option Row). is_some o) is))))
-    (omega (arith, len_known s.sessions near new old is)) (ours (a.ours near old is)) (λ done w. w) refl) tied.account
+    (omega (arith, len_known s.sessions near new old is)) refl (ours_alike setup s.moment past near old.session new.session alike a.by_now (a.ours near old is))
+    (closes_alike s.moment past near (get s.sessions near) old new (a.closing near) is alike)) tied.account
 
 -- an attempt is replaced by one with the same values
 pub tied_attempt : (setup : Setup) (past : List Stamped) (s : State) (near : ℕ) (old new : AttemptState) → Tied setup past s → get s.startup.attempts near ≡ Some old →
@@ -132,34 +265,52 @@ pub tied_attempt : (setup : Setup) (past : List Stamped) (s : State) (near : ℕ
 tied_attempt setup past s near old new tied is same was =
     let t : State = with_startup s (with_attempt s.startup near new) in
     let a = agrees_of setup past s tied in
-    tied_of setup past t (agrees_same setup past past s t near (Some new) None a (record { config = a.given.config; cert = a.given.cert; secret = a.given.secret; cookie_secret = a.given.cookie_secret; own = a.given.own; max_peers = a.given.max_peers }) (record {
+    let there = found_of_attempt s near old is in
+    tied_of setup past t (agrees_same setup past s t near (Some new) None a (record { config = a.given.config; cert = a.given.cert; secret = a.given.secret; cookie_secret = a.given.cookie_secret; own = a.given.own; max_peers = a.given.max_peers }) (record {
       attempt = get_inserted s.startup.attempts near new;
       session = a.apart near old is;
       attempts = λ q other. get_beside s.startup.attempts near new q other;
       sessions = λ q other. refl;
-    }) refl (same ∙ sym (found_of_attempt s near old is))
+    }) refl (same ∙ sym there)
     (sym (some_or (is_some (get s.startup.attempts near)) (is_some (get s.sessions near)) (inl (ap (λ (o : Option AttemptState). is_some o) is))))
-    (omega (arith, len_known s.startup.attempts near new old is)) (was (a.started near old is)) (λ done w. w) refl) tied.account
+    (omega (arith, len_known s.startup.attempts near new old is)) refl (was (a.started near old is)) (λ thing at c. none_closes setup past s a near _ _ there thing at c)) tied.account
 
--- more was done that states no fact
-pub tied_more : (setup : Setup) (past : List Stamped) (s : State) (x : Stamped) → facts_of (x ∷ past) ≡ facts_of past → Tied setup past s → Tied setup (x ∷ past) s
-tied_more setup past s x facts t =
-    let P : List Fact → Type 0 = λ f. Ids setup.config.max_sessions (ids_in_use f) s in
+-- more was done that states no fact, and ends no closing
+pub tied_more : (setup : Setup) (past : List Stamped) (s : State) (x : Stamped) → x.moment ≤ s.moment → fact_done x.what ≡ None → closed_done x.what ≡ None → Tied setup past s → Tied setup (x ∷ past) s
+tied_more setup past s x in_time no_fact no_closed t =
+    let facts : facts_of (x ∷ past) ≡ facts_of past = ap (λ (o : Option Fact). fact_and o (facts_of past)) no_fact in
+    let ids : ids_in_use (x ∷ past) ≡ ids_in_use past = ap (λ (o : Option ℕ). ids_left o (ids_after (fact_done x.what) (ids_in_use past))) no_closed ∙ ap (λ (o : Option Fact). ids_after o (ids_in_use past)) no_fact in
+    let on : (q : ℕ) (thing : Held) (at : ℕ) → IsClosing q thing at past → IsClosing q thing at (x ∷ past) = λ q thing at c. inr (subst (GoesOn q) (sym no_closed) tt, c) in
+    let back : (q : ℕ) (thing : Held) (at : ℕ) → IsClosing q thing at (x ∷ past) → IsClosing q thing at past = λ q thing at c. elim c [
+      | inl b ↦ absurd (subst (Closes q thing (facts_of past)) no_fact b.0)
+      | inr p ↦ p.1
+    ] in
+    let P : List ℕ → Type 0 = λ f. Ids setup.config.max_sessions f s in
     let a = agrees_of setup past s t in
     tied_of setup (x ∷ past) s (record {
       given = a.given;
       matches = a.matches;
-      ours = a.ours;
+      ours = λ near row e.
+          let o = a.ours near row e in
+          record {
+            id = o.id;
+            own = o.own;
+            secret = o.secret;
+            stage = o.stage;
+            closed = λ c. let d = o.closed c in record { thing = d.thing; at = d.at; was = d.was; closing = on near d.thing d.at d.closing; since = d.since };
+          };
+      closing = λ near thing at c. a.closing near thing at (back near thing at c);
       apart = a.apart;
       started = λ near b e. inr (a.started near b e);
-      ids = subst P (sym facts) a.ids;
+      ids = subst P (sym ids) a.ids;
+      by_now = (in_time, a.by_now);
       rows = a.rows;
     }) (subst (StandsFor 0 s.startup.ledger) (sym facts) t.account)
 
 -- what doesn't touch what is held
-pub tied_alike : (setup : Setup) (past : List Stamped) (s : State) (moment sealed : ℕ) → Tied setup past s →
+pub tied_alike : (setup : Setup) (past : List Stamped) (s : State) (moment sealed : ℕ) → s.moment ≤ moment → Tied setup past s →
     Tied setup past (record { config = s.config; moment = moment; sealed = sealed; startup = s.startup; sessions = s.sessions })
-tied_alike setup past s moment sealed t = record {
+tied_alike setup past s moment sealed up t = record {
   config = t.config;
   cert = t.cert;
   secret = t.secret;
@@ -170,12 +321,14 @@ tied_alike setup past s moment sealed t = record {
   sound = t.sound;
   sessions = t.sessions;
   there = t.there;
+  closing = t.closing;
   apart = t.apart;
   started = t.started;
   used = t.used;
   count = t.count;
   once = t.once;
   not_zero = t.not_zero;
+  by_now = by_later s.moment moment past up t.by_now;
   within = t.within;
   rows = t.rows;
 }

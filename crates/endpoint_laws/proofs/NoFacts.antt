@@ -1,5 +1,5 @@
 -- Entries that state nothing.
-use Rattle.std.proofs.Common.{ℕ, List, [], ◌∷◌, ◌++◌, ◌≡◌, ◌==◌, Bool, true, false, if◌then◌else◌, Option, Some, None, Result, refl, ◌∙◌}
+use Rattle.std.proofs.Common.{ℕ, List, [], ◌∷◌, ◌++◌, ◌≡◌, ◌==◌, Bool, true, false, if◌then◌else◌, Option, Some, None, Result, refl, ap, ◌∙◌}
 use Rattle.std.specs.FinMap.{get}
 use Rattle.rtmfp_forms.specs.Address.{AddressParts}
 use Rattle.rtmfp_chunks.specs.declared.reading.ChunkFault.{ChunkFault}
@@ -9,12 +9,12 @@ use Rattle.startup.specs.declared.answer.Answer.{Answer}
 use Rattle.endpoint_model.specs.declared.row.Row.{Row}
 use Rattle.endpoint_model.specs.declared.entry.Entry.{Entry}
 use Rattle.endpoint_model.specs.declared.place.Place.{Place}
-use Rattle.endpoint_model.specs.Views.{fact_in}
+use Rattle.endpoint_model.specs.Views.{fact_in, closed_in}
 use Rattle.endpoint_model.specs.State.{State, Did, nothing}
 use Rattle.endpoint_model.specs.Sending.{last_count, sent_startup, sent_answer, sent_if, sent_each, sent_by, sent_in_session}
 use Rattle.endpoint_model.specs.Admission.{sid_at}
 use Rattle.endpoint_model.specs.Effects.{Reply, Silence, InStartup, InSession, replied, read_left, read_reply, read_done}
-use Rattle.endpoint_laws.specs.Past.{Stamped, stamped, onto, fact_and, facts_of}
+use Rattle.endpoint_laws.specs.Past.{Stamped, stamped, onto, fact_and, facts_of, ids_after, ids_left, ids_in_use}
 
 -- there is no fact, and this
 abbrev pub NoFactAnd : Option Fact → Type 0 → Type 0
@@ -68,7 +68,7 @@ none_each s plain (to ∷ rest) =
     let first = sent_startup s to 0 plain in
     none_in_both first.entries (sent_each first.state plain rest).entries (none_startup s to 0 plain) (none_each first.state plain rest)
 
-none_by : (s : State) (near : ℕ) (to : AddressParts) (body : List ℕ) (o : Option Row) → NoFacts (sent_by s near to body o).entries
+pub none_by : (s : State) (near : ℕ) (to : AddressParts) (body : List ℕ) (o : Option Row) → NoFacts (sent_by s near to body o).entries
 none_by s near to body None = tt
 none_by s near to body (Some row) = none_either (row.session.sealed == last_count) (nothing s) _ tt tt
 
@@ -83,3 +83,48 @@ none_replied s place from (InSession body) = none_in_session s (sid_at place) fr
 -- nor does a chunk that is no keying
 pub none_read : (s : State) (place : Place) (from : AddressParts) (read : Result Chunk ChunkFault) → NoFacts (read_done s place from read).entries
 none_read s place from read = none_replied (read_left s place from read) place from (read_reply s place from read)
+
+-- ---- and ends no closing
+
+abbrev pub NoneOver : List Entry → Type 0
+NoneOver [] = Unit {0}
+NoneOver (x ∷ xs) = (closed_in x ≡ None) × NoneOver xs
+
+pub none_over_both : (xs ys : List Entry) → NoneOver xs → NoneOver ys → NoneOver (xs ++ ys)
+none_over_both [] ys p q = q
+none_over_both (x ∷ xs) ys p q = (p.0, none_over_both xs ys p.1 q)
+
+-- so the session IDs in use stay
+pub ids_stay : (now : ℕ) (entries : List Entry) (past : List Stamped) → NoFacts entries → NoneOver entries → ids_in_use (onto now entries past) ≡ ids_in_use past
+ids_stay now [] past none over = refl
+ids_stay now (x ∷ xs) past none over =
+    ids_stay now xs (stamped now x ∷ past) (the_rest (fact_in x) (NoFacts xs) none) over.1
+    ∙ ap (λ (o : Option ℕ). ids_left o (ids_after (fact_in x) (ids_in_use past))) over.0
+    ∙ ids_same (fact_in x) (ids_in_use past) none
+  where
+    ids_same : (o : Option Fact) (ids : List ℕ) → NoFactAnd o (NoFacts xs) → ids_after o ids ≡ ids
+    ids_same None ids n = refl
+    ids_same (Some fact) ids n = absurd n
+
+over_either : (b : Bool) (d e : Did) → NoneOver d.entries → NoneOver e.entries → NoneOver (if b then d else e).entries
+over_either true d e p q = p
+over_either false d e p q = q
+
+over_startup : (s : State) (to : AddressParts) (sid : ℕ) (plain : List ℕ) → NoneOver (sent_startup s to sid plain).entries
+over_startup s to sid plain = over_either (s.sealed == last_count) (nothing s) _ tt (refl, tt)
+
+over_if : (s : State) (answer : Option Answer) → NoneOver (sent_if s answer).entries
+over_if s None = tt
+over_if s (Some answer) = over_startup s answer.to answer.sid answer.plain
+
+over_by : (s : State) (near : ℕ) (to : AddressParts) (body : List ℕ) (o : Option Row) → NoneOver (sent_by s near to body o).entries
+over_by s near to body None = tt
+over_by s near to body (Some row) = over_either (row.session.sealed == last_count) (nothing s) _ tt (refl, tt)
+
+over_replied : (s : State) (place : Place) (from : AddressParts) (reply : Reply) → NoneOver (replied s place from reply).entries
+over_replied s place from Silence = tt
+over_replied s place from (InStartup answer) = over_if s answer
+over_replied s place from (InSession body) = over_by s (sid_at place) from body (get s.sessions (sid_at place))
+
+pub over_read : (s : State) (place : Place) (from : AddressParts) (read : Result Chunk ChunkFault) → NoneOver (read_done s place from read).entries
+over_read s place from read = over_replied (read_left s place from read) place from (read_reply s place from read)

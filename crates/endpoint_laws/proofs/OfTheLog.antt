@@ -1,5 +1,5 @@
 -- What an end keeps is what its log says.
-use Rattle.std.proofs.Common.{ℕ, ◌≡◌, List, [], Option, Some, None, refl, sym, ap, subst, ◌∙◌, arith}
+use Rattle.std.proofs.Common.{ℕ, ◌≡◌, List, [], Bool, true, false, Option, Some, None, inl, inr, refl, sym, ap, subst, ◌∙◌, arith}
 use Rattle.std.specs.FinMap.{get}
 use Rattle.glare_core.specs.declared.facts.Held.{Held}
 use Rattle.glare_core.specs.declared.facts.Held.TheVariants.{Opening as AttemptHeld}
@@ -17,21 +17,36 @@ use Rattle.endpoint_model.specs.declared.row.Row.{Row}
 use Rattle.endpoint_model.specs.Event.{Setup}
 use Rattle.endpoint_laws.specs.Past.{Stamped, facts_of, past_of, last_moment}
 use Rattle.endpoint_model.specs.State.{State}
-use Rattle.endpoint_laws.specs.OfTheLog.{IsThing, AttemptIsThere, SessionIsThere, IsOfTheLog, TheStateIsOfTheLog}
-use Rattle.endpoint_laws.proofs.Tied.{Tied, StageFits, thing_of, peer_at}
+use Rattle.endpoint_laws.specs.OfTheLog.{IsThing, IsClosingStage, AttemptIsThere, SessionStands, SessionIsThere, ClosingIsThere, IsOfTheLog, TheStateIsOfTheLog}
+use Rattle.endpoint_laws.proofs.Tied.{Tied, StageFits, IsClosedThing, thing_of, found_in}
+use Rattle.endpoint_laws.proofs.Agrees.{found_row}
+use Rattle.endpoint_laws.proofs.Chunked.{either_way}
+use Rattle.session_core.specs.Closing.{is_held}
 use Rattle.endpoint_laws.proofs.Logged.{log_is, tied_to_log}
 
-is_thing : (role : Role) (stage : Stage) (j : Joined) → StageFits role stage → IsThing role stage j (thing_of role stage j)
-is_thing Initiator Opening j fits = fits
-is_thing Initiator Open j fits = refl
-is_thing Initiator NearClose j fits = fits
-is_thing Initiator FarLinger j fits = fits
-is_thing Initiator Closed j fits = fits
-is_thing Responder Opening j fits = refl
-is_thing Responder Open j fits = refl
-is_thing Responder NearClose j fits = fits
-is_thing Responder FarLinger j fits = fits
-is_thing Responder Closed j fits = fits
+is_thing : (role : Role) (stage : Stage) (j : Joined) → StageFits role stage → is_held stage ≡ true → IsThing role stage j (thing_of role stage j)
+is_thing Initiator Opening j fits e = fits
+is_thing Initiator Open j fits e = refl
+is_thing Initiator NearClose j fits e = absurd (cc)
+is_thing Initiator FarLinger j fits e = absurd (cc)
+is_thing Initiator Closed j fits e = fits
+is_thing Responder Opening j fits e = refl
+is_thing Responder Open j fits e = refl
+is_thing Responder NearClose j fits e = absurd (cc)
+is_thing Responder FarLinger j fits e = absurd (cc)
+is_thing Responder Closed j fits e = fits
+
+closing_stage : (role : Role) (stage : Stage) → StageFits role stage → is_held stage ≡ false → IsClosingStage stage
+closing_stage Initiator Opening fits e = absurd fits
+closing_stage Initiator Open fits e = absurd (cc)
+closing_stage Initiator NearClose fits e = tt
+closing_stage Initiator FarLinger fits e = tt
+closing_stage Initiator Closed fits e = absurd fits
+closing_stage Responder Opening fits e = absurd (cc)
+closing_stage Responder Open fits e = absurd (cc)
+closing_stage Responder NearClose fits e = tt
+closing_stage Responder FarLinger fits e = tt
+closing_stage Responder Closed fits e = absurd fits
 
 same_thing : (x y : Held) → Some x ≡ Some y → x ≡ y
 same_thing x y e = cc
@@ -64,13 +79,29 @@ module _ (setup : Setup) (past : List Stamped) (s : State) (tied : Tied setup pa
       let both : Some (AttemptHeld a.n near a.ni) ≡ Some (AttemptHeld n near ni) = sym (tied.sound.held near a e) ∙ ap (held_with s.startup.ledger) same ∙ thing in
       record { attempt = a; there = e; peer_is = same; n_is = same_n a.n n near near a.ni ni both; ni_is = same_ni a.n n near near a.ni ni both }
 
-  session_there : (peer : List ℕ) (thing : Held) (o : Option Row) → get s.sessions (near_of thing) ≡ o → peer_at o ≡ Some peer → held_with s.startup.ledger peer ≡ Some thing → SessionIsThere s thing
-  session_there peer thing None e is holding = absurd (cc)
-  session_there peer thing (Some x) e is holding =
-      let same : x.session.joined.peer ≡ peer = cc in
-      let ties = tied.sessions (near_of thing) x e in
-      let one : thing_of x.session.role x.session.stage x.session.joined ≡ thing = same_thing (thing_of x.session.role x.session.stage x.session.joined) thing (sym ties.thing ∙ ap (held_with s.startup.ledger) same ∙ holding) in
-      record { row = x; there = e; is = subst (IsThing x.session.role x.session.stage x.session.joined) one (is_thing x.session.role x.session.stage x.session.joined ties.stage) }
+  session_there : (peer : List ℕ) (thing : Held) → found_in (get s.sessions (near_of thing)) ≡ Some (peer, thing) → SessionIsThere s thing
+  session_there peer thing e =
+      let found = found_row (get s.sessions (near_of thing)) peer thing e in
+      let x : Row = found.0 in
+      let ties = tied.sessions (near_of thing) x found.1 in
+      record { row = x; there = found.1; is = subst (IsThing x.session.role x.session.stage x.session.joined) found.2.thing (is_thing x.session.role x.session.stage x.session.joined ties.stage found.2.held) }
+
+  closing_there : (near : ℕ) (thing : Held) (o : Option Row) → get s.sessions near ≡ o → IsClosedThing o thing → ClosingIsThere s near thing
+  closing_there near thing None e closed = absurd closed
+  closing_there near thing (Some x) e closed =
+      let ties = tied.sessions near x e in
+      record { row = x; there = e; stage = closing_stage x.session.role x.session.stage ties.stage closed.0; is = closed.1 }
+
+  stands : (near : ℕ) (x : Row) → get s.sessions near ≡ Some x → SessionStands past near x.session
+  stands near x e =
+      let ties = tied.sessions near x e in
+      elim (either_way (is_held x.session.stage)) [
+        | inl h ↦
+            inl (thing_of x.session.role x.session.stage x.session.joined, is_thing x.session.role x.session.stage x.session.joined ties.stage h, sym (holds x.session.joined.peer) ∙ ties.thing h)
+        | inr c ↦
+            let closed = ties.closed c in
+            inr (closing_stage x.session.role x.session.stage ties.stage c, (closed.thing, closed.at, closed.was, closed.closing))
+      ]
 
   of_the_log : (now : ℕ) → s.moment ≡ now → IsOfTheLog setup s now past
   of_the_log now at = record {
@@ -79,10 +110,9 @@ module _ (setup : Setup) (past : List Stamped) (s : State) (tied : Tied setup pa
     uses_are = tied.count;
     attempts = λ near a e. record { is_held = sym (holds a.peer) ∙ tied.sound.held near a e; started = tied.started near a e };
     attempts_there = λ peer n near ni e. let thing = holds peer ∙ e in attempt_there peer n near ni (get s.startup.attempts near) refl (tied.sound.there peer n near ni thing) thing;
-    sessions = λ near x e.
-        let ties = tied.sessions near x e in
-        record { thing = thing_of x.session.role x.session.stage x.session.joined; is = is_thing x.session.role x.session.stage x.session.joined ties.stage; is_held = sym (holds x.session.joined.peer) ∙ ties.thing; id = ties.id; own = ties.own };
-    sessions_there = λ peer thing e is. let holding = holds peer ∙ e in session_there peer thing (get s.sessions (near_of thing)) refl (tied.there peer thing holding is) holding;
+    sessions = λ near x e. let ties = tied.sessions near x e in record { stands = stands near x e; id = ties.id; own = ties.own };
+    sessions_there = λ peer thing e is. session_there peer thing (tied.there peer thing (holds peer ∙ e) is);
+    closing_there = λ near thing at c. closing_there near thing (get s.sessions near) refl (tied.closing near thing at c);
     held_is = holds;
     floor_is = reads_floor 0 s.startup.ledger (facts_of past) tied.account;
     row_is = reads_knows 0 s.startup.ledger (facts_of past) tied.account;

@@ -27,8 +27,10 @@ use Rattle.endpoint_model.specs.declared.row.Row.{Row}
 use Rattle.endpoint_model.specs.declared.place.Place.{Place}
 use Rattle.endpoint_model.specs.declared.place.Place.TheVariants.{Startup, Attempt, Session}
 use Rattle.endpoint_model.specs.Event.{Setup, Event, own_of}
-use Rattle.endpoint_laws.specs.Past.{Stamped, facts_of, past_of}
-use Rattle.endpoint_laws.specs.Contexts.{ContextOf, HeldUnder, OpensUnder, inward}
+use Rattle.endpoint_laws.specs.Past.{Stamped, facts_of, IsClosing, past_of}
+use Rattle.endpoint_laws.specs.Contexts.{ContextOf, HeldUnder, StandsUnder, OpensUnder, inward}
+use Rattle.endpoint_laws.specs.OfTheLog.{WasThing}
+use Rattle.session_core.specs.Closing.{is_held as is_held_stage}
 use Rattle.endpoint_model.specs.State.{State, is_used}
 use Rattle.endpoint_model.specs.Admission.{place_of, startup_keys}
 use Rattle.endpoint_model.specs.Log.{StandsFor}
@@ -36,20 +38,14 @@ use Rattle.endpoint_laws.specs.Laws.{IsSetup, AreCalls}
 use Rattle.endpoint_laws.specs.OpensIn.{startup_unless, context_in_startup, context_in_session, context_found, opens_in, OpensAt, IsContextAt, OpensByTheLog}
 use Rattle.endpoint_model.proofs.Naming.{place_by}
 use Rattle.endpoint_model.proofs.Members.{tested}
-use Rattle.endpoint_laws.proofs.Tied.{Tied, thing_of}
-use Rattle.endpoint_laws.proofs.Agrees.{agrees_of, combined, thing_at, found_of_attempt, found_of_session}
+use Rattle.endpoint_laws.proofs.Tied.{Tied, IsClosedThing, thing_of}
+use Rattle.endpoint_laws.proofs.InSessions.{was_itself}
+use Rattle.endpoint_laws.proofs.SessionChunks.{was_inward}
+use Rattle.endpoint_laws.proofs.Chunked.{either_way}
+use Rattle.endpoint_laws.proofs.Agrees.{agrees_of, combined, thing_at, in_row, no_attempt, found_of_attempt, found_of_session}
 use Rattle.endpoint_laws.proofs.Logged.{tied_to_log}
 
 -- ---- contexts
-
--- the context of a session towards this end is that of what is held for it
-inward_is : (own : List ℕ) (role : Role) (stage : Stage) (j : Joined) → context_between j own role false ≡ inward own (thing_of role stage j)
-inward_is own Initiator stage j = refl
-inward_is own Responder Opening j = refl
-inward_is own Responder Open j = refl
-inward_is own Responder NearClose j = refl
-inward_is own Responder FarLinger j = refl
-inward_is own Responder Closed j = refl
 
 unrefused : (o : Option SealFault) (c : Context) → startup_unless o ≡ Some c → (o ≡ None) × (StartupContext ≡ c)
 unrefused None c e = (refl, let same : StartupContext ≡ c = cc in same)
@@ -65,6 +61,10 @@ used_if_found : (near : ℕ) (oa : Option AttemptState) (os : Option Row) (peer 
 used_if_found near (Some a) os peer thing e = refl
 used_if_found near None (Some row) peer thing e = refl
 used_if_found near None None peer thing e = absurd (cc)
+
+or_true : (a : Bool) → (a || true) ≡ true
+or_true true = refl
+or_true false = refl
 
 place_zero : (s : State) (sid : ℕ) → (sid == 0) ≡ true → place_of s sid ≡ Some Startup
 place_zero s sid zero =
@@ -95,17 +95,16 @@ module _ (setup : Setup) (past : List Stamped) (s : State) (tied : Tied setup pa
       let none : open_refusal (keys_of setup.secret StartupContext) sid part ≡ None = ((opens_by_its_tag setup.secret StartupContext sid part plain).0 opens).0 in
       ap (λ (secret : List ℕ). startup_unless (open_refusal (keys_of secret StartupContext) sid part)) tied.secret ∙ ap startup_unless none
 
-  session_found : (sid : ℕ) (row : Row) (plain : List ℕ) → get s.sessions sid ≡ Some row →
-      Opens setup.secret (inward own (thing_of row.session.role row.session.stage row.session.joined)) sid part plain →
-      context_in_session (get s.sessions sid) part ≡ Some (inward own (thing_of row.session.role row.session.stage row.session.joined))
-  session_found sid row plain at opens =
+  session_found : (sid : ℕ) (row : Row) (thing : Held) (plain : List ℕ) → get s.sessions sid ≡ Some row → WasThing row.session.role row.session.joined thing →
+      Opens setup.secret (inward own thing) sid part plain → context_in_session (get s.sessions sid) part ≡ Some (inward own thing)
+  session_found sid row thing plain at was opens =
       let ours = tied.sessions sid row at in
-      let context : context_of row.session false ≡ inward own (thing_of row.session.role row.session.stage row.session.joined) =
-      ap (λ (o : List ℕ). context_between row.session.joined o row.session.role false) ours.own ∙ inward_is own row.session.role row.session.stage row.session.joined in
+      let context : context_of row.session false ≡ inward own thing =
+      ap (λ (o : List ℕ). context_between row.session.joined o row.session.role false) ours.own ∙ was_inward own row.session.role row.session.joined thing was in
       let of_session : Opens row.session.secret (context_of row.session false) row.session.joined.near part plain =
       subst (λ (secret : List ℕ). Opens secret (context_of row.session false) row.session.joined.near part plain) (sym ours.secret)
       (subst (λ (c : Context). Opens setup.secret c row.session.joined.near part plain) (sym context)
-      (subst (λ (near : ℕ). Opens setup.secret (inward own (thing_of row.session.role row.session.stage row.session.joined)) near part plain) (sym ours.id) opens)) in
+      (subst (λ (near : ℕ). Opens setup.secret (inward own thing) near part plain) (sym ours.id) opens)) in
       let is : opens_in_session row.session part ≡ true = (opens_some_plain row.session part).1 (plain, of_session) in
       ap (λ (o : Option Row). context_in_session o part) at
       ∙ ap (λ (b : Bool). if b then Some (context_of row.session false) else None) is
@@ -122,37 +121,66 @@ module _ (setup : Setup) (past : List Stamped) (s : State) (tied : Tied setup pa
       ∙ startup_found sid plain (subst (λ (c : Context). Opens setup.secret c sid part plain) (sym context) opens)
       ∙ ap (λ (c : Context). Some c) context
   thing_found sid None (Some row) peer thing plain other ea es is opens =
-      let same : (row.session.joined.peer, thing_of row.session.role row.session.stage row.session.joined) ≡ (peer, thing) = cc in
-      let context : inward own (thing_of row.session.role row.session.stage row.session.joined) ≡ inward own thing = ap (λ (x : List ℕ × Held). inward own x.1) same in
+      let found = in_row row peer thing is in
       let place : place_of s sid ≡ Some (Session sid) = place_by s sid false true other (ap is_some ea) (ap is_some es) in
-      ap (λ (p : Option Place). context_found s p part) place
-      ∙ session_found sid row plain es (subst (λ (c : Context). Opens setup.secret c sid part plain) (sym context) opens)
-      ∙ ap (λ (c : Context). Some c) context
+      let was : WasThing row.session.role row.session.joined thing = subst (λ (h : Held). WasThing row.session.role row.session.joined h) found.thing (was_itself row.session.role row.session.stage row.session.joined) in
+      ap (λ (p : Option Place). context_found s p part) place ∙ session_found sid row thing plain es was opens
   thing_found sid None None peer thing plain other ea es is opens = absurd (cc)
 
+  -- one that closes is there
+  closing_row : (sid : ℕ) (thing : Held) (at : ℕ) → IsClosing sid thing at past → (row : Row) × (get s.sessions sid ≡ Some row) × WasThing row.session.role row.session.joined thing
+  closing_row sid thing at c = go (get s.sessions sid) refl (tied.closing sid thing at c)
+    where
+      go : (o : Option Row) → get s.sessions sid ≡ o → IsClosedThing o thing → (row : Row) × (get s.sessions sid ≡ Some row) × WasThing row.session.role row.session.joined thing
+      go None e closed = absurd closed
+      go (Some row) e closed = (row, e, closed.1)
+
+  closing_found : (sid : ℕ) (thing : Held) (at : ℕ) (plain : List ℕ) → sid ≢ 0 → IsClosing sid thing at past → Opens setup.secret (inward own thing) sid part plain → context_found s (place_of s sid) part ≡ Some (inward own thing)
+  closing_found sid thing at plain other c opens =
+      let found = closing_row sid thing at c in
+      let row : Row = found.0 in
+      let none = no_attempt s sid row (tied.apart sid) found.1 in
+      let place : place_of s sid ≡ Some (Session sid) = place_by s sid false true other (ap is_some none) (ap is_some found.1) in
+      ap (λ (p : Option Place). context_found s p part) place ∙ session_found sid row thing plain found.1 found.2 opens
+
   -- nothing stands under session ID 0
+  none_closes_at_zero : (sid : ℕ) (thing : Held) (at : ℕ) → sid ≡ 0 → IsClosing sid thing at past → ⊥
+  none_closes_at_zero sid thing at zero c =
+      let found = closing_row sid thing at c in
+      let used : is_used s sid ≡ true = ap (λ (b : Bool). is_some (get s.startup.attempts sid) || b) (ap is_some found.1) ∙ or_true (is_some (get s.startup.attempts sid)) in
+      let clash : true ≡ false = sym used ∙ ap (is_used s) zero ∙ tied.used 0 ∙ tied.not_zero in
+      cc
+
   none_at_zero : (sid : ℕ) (thing : Held) → sid ≡ 0 → HeldUnder facts sid thing → ⊥
   none_at_zero sid thing zero under =
       let used : is_used s sid ≡ true = used_if_found sid (get s.startup.attempts sid) (get s.sessions sid) under.peer thing (stands_there sid thing under) in
       let clash : true ≡ false = sym used ∙ ap (is_used s) zero ∙ tied.used 0 ∙ tied.not_zero in
       cc
 
-  found_at_zero : (sid : ℕ) (c : Context) (plain : List ℕ) → sid ≡ 0 → (sid == 0) ≡ true → ContextOf own facts sid c → Opens setup.secret c sid part plain →
+  found_at_zero : (sid : ℕ) (c : Context) (plain : List ℕ) → sid ≡ 0 → (sid == 0) ≡ true → ContextOf own past sid c → Opens setup.secret c sid part plain →
       context_found s (place_of s sid) part ≡ Some c
   found_at_zero sid c plain zero is (inl named) opens =
       ap (λ (p : Option Place). context_found s p part) (place_zero s sid is)
       ∙ startup_found 0 plain (subst (λ (id : ℕ). Opens setup.secret StartupContext id part plain) zero (subst (λ (x : Context). Opens setup.secret x sid part plain) named.1 opens))
       ∙ ap (λ (x : Context). Some x) (sym named.1)
-  found_at_zero sid c plain zero is (inr named) opens = absurd (none_at_zero sid named.0 zero named.1)
+  found_at_zero sid c plain zero is (inr named) opens = absurd (stands named.1)
+    where
+      stands : StandsUnder past sid named.0 → ⊥
+      stands (inl held) = none_at_zero sid named.0 zero held
+      stands (inr closing) = none_closes_at_zero sid named.0 closing.0 zero closing.1
 
-  found_elsewhere : (sid : ℕ) (c : Context) (plain : List ℕ) → sid ≢ 0 → ContextOf own facts sid c → Opens setup.secret c sid part plain → context_found s (place_of s sid) part ≡ Some c
+  found_elsewhere : (sid : ℕ) (c : Context) (plain : List ℕ) → sid ≢ 0 → ContextOf own past sid c → Opens setup.secret c sid part plain → context_found s (place_of s sid) part ≡ Some c
   found_elsewhere sid c plain other (inl named) opens = absurd (other named.0)
-  found_elsewhere sid c plain other (inr named) opens =
-      thing_found sid (get s.startup.attempts sid) (get s.sessions sid) named.1.peer named.0 plain other refl refl (stands_there sid named.0 named.1)
-      (subst (λ (x : Context). Opens setup.secret x sid part plain) named.2 opens)
-      ∙ ap (λ (x : Context). Some x) (sym named.2)
+  found_elsewhere sid c plain other (inr named) opens = stands named.1 ∙ ap (λ (x : Context). Some x) (sym named.2)
+    where
+      here : Opens setup.secret (inward own named.0) sid part plain
+      here = subst (λ (x : Context). Opens setup.secret x sid part plain) named.2 opens
 
-  context_is_found : (sid : ℕ) (c : Context) (plain : List ℕ) → ContextOf own facts sid c → Opens setup.secret c sid part plain → context_found s (place_of s sid) part ≡ Some c
+      stands : StandsUnder past sid named.0 → context_found s (place_of s sid) part ≡ Some (inward own named.0)
+      stands (inl held) = thing_found sid (get s.startup.attempts sid) (get s.sessions sid) held.peer named.0 plain other refl refl (stands_there sid named.0 held) here
+      stands (inr closing) = closing_found sid named.0 closing.0 plain other closing.1 here
+
+  context_is_found : (sid : ℕ) (c : Context) (plain : List ℕ) → ContextOf own past sid c → Opens setup.secret c sid part plain → context_found s (place_of s sid) part ≡ Some c
   context_is_found sid c plain named opens = elim (tested sid 0) [
     | inl is ↦ found_at_zero sid c plain is.0 is.1 named opens
     | inr is ↦ found_elsewhere sid c plain is.0 named opens
@@ -161,7 +189,7 @@ module _ (setup : Setup) (past : List Stamped) (s : State) (tied : Tied setup pa
   -- ---- and what is found is such a context
 
   pub record Named (sid : ℕ) (c : Context) : Type 0 where
-    pub context : ContextOf own facts sid c
+    pub context : ContextOf own past sid c
     pub plain : List ℕ
     pub opens : Opens setup.secret c sid part plain
 
@@ -186,11 +214,17 @@ module _ (setup : Setup) (past : List Stamped) (s : State) (tied : Tied setup pa
       let ours = tied.sessions sid row at in
       let both = chosen (opens_in_session row.session part) (context_of row.session false) c e in
       let found = (opens_some_plain row.session part).0 both.0 in
-      let thing : Held = thing_of row.session.role row.session.stage row.session.joined in
-      let context : context_of row.session false ≡ inward own thing =
-      ap (λ (o : List ℕ). context_between row.session.joined o row.session.role false) ours.own ∙ inward_is own row.session.role row.session.stage row.session.joined in
+      let own_context : (thing : Held) → WasThing row.session.role row.session.joined thing → c ≡ inward own thing =
+      λ thing was. sym both.1 ∙ ap (λ (o : List ℕ). context_between row.session.joined o row.session.role false) ours.own ∙ was_inward own row.session.role row.session.joined thing was in
       record {
-        context = inr (thing, is_held sid row.session.joined.peer thing (found_of_session s sid row none at), sym both.1 ∙ context);
+        context = elim (either_way (is_held_stage row.session.stage)) [
+          | inl e ↦
+              let thing : Held = thing_of row.session.role row.session.stage row.session.joined in
+              inr (thing, inl (is_held sid row.session.joined.peer thing (found_of_session s sid row none at e)), own_context thing (was_itself row.session.role row.session.stage row.session.joined))
+          | inr e ↦
+              let closed = ours.closed e in
+              inr (closed.thing, inr (closed.at, closed.closing), own_context closed.thing closed.was)
+        ];
         plain = found.0;
         opens =
             subst (λ (near : ℕ). Opens setup.secret c near part found.0) ours.id
@@ -204,7 +238,7 @@ module _ (setup : Setup) (past : List Stamped) (s : State) (tied : Tied setup pa
       let place : place_of s sid ≡ Some (Attempt sid) = place_by s sid true (contains_key s.sessions sid) other (ap is_some ea) refl in
       let found = opens_in_startup sid c (sym (ap (λ (p : Option Place). context_found s p part) place) ∙ e) in
       record {
-        context = inr (OpeningHeld a.n sid a.ni, is_held sid a.peer (OpeningHeld a.n sid a.ni) (found_of_attempt s sid a ea), sym found.0);
+        context = inr (OpeningHeld a.n sid a.ni, inl (is_held sid a.peer (OpeningHeld a.n sid a.ni) (found_of_attempt s sid a ea)), sym found.0);
         plain = found.1.0;
         opens = found.1.1;
       }
@@ -235,14 +269,14 @@ whole secret datagram plain c sid opens =
 
 module _ (setup : Setup) (log : List Event) (s : State) (datagram : List ℕ) (is : IsSetup setup) (calls : AreCalls log) (stands : StandsFor setup log s) where
   -- The context of the datagram's session ID in which it opens is what the end finds.
-  pub opens_in_found : (c : Context) (plain : List ℕ) → ContextOf (own_of setup) (facts_of (past_of 0 [] log)) (sid_of datagram) c →
+  pub opens_in_found : (c : Context) (plain : List ℕ) → ContextOf (own_of setup) (past_of 0 [] log) (sid_of datagram) c →
       OpensUnder setup.secret c (sid_of datagram) datagram plain → opens_in s datagram ≡ Some c
   opens_in_found c plain named under =
       ap (λ (b : Bool). if b then None else context_found s (place_of s (sid_of datagram)) (drop 4 datagram)) (whole setup.secret datagram plain c (sid_of datagram) under.opens)
       ∙ context_is_found setup (past_of 0 [] log) s (tied_to_log setup log s is calls stands) (drop 4 datagram) (sid_of datagram) c plain named under.opens
 
   -- And what it finds is such a context.
-  pub opens_in_told : (c : Context) → opens_in s datagram ≡ Some c → OpensAt setup (facts_of (past_of 0 [] log)) datagram c
+  pub opens_in_told : (c : Context) → opens_in s datagram ≡ Some c → OpensAt setup (past_of 0 [] log) datagram c
   opens_in_told c e =
       let told = context_is_told setup (past_of 0 [] log) s (tied_to_log setup log s is calls stands) (drop 4 datagram) (sid_of datagram) c
       (long_if (nat_lt (length datagram) 36) (context_found s (place_of s (sid_of datagram)) (drop 4 datagram)) c e) in

@@ -1,5 +1,5 @@
 -- What every thing that an end does keeps and adds. A thing after an orderly one is orderly, so the chunks of a datagram and the things of a tick are gone through once, for all that is said of them.
-use Rattle.std.proofs.Common.{◌≡◌, ℕ, zero, suc, ◌==◌, List, [], ◌∷◌, ◌++◌, take, drop, Bool, true, false, ◌||◌, if◌then◌else◌, inl, inr, ◌⊎◌, refl, sym, ap, subst, ◌∙◌, append_assoc, arith}
+use Rattle.std.proofs.Common.{◌≡◌, ℕ, zero, suc, ◌==◌, List, [], ◌∷◌, ◌++◌, take, drop, Bool, true, false, ◌||◌, if◌then◌else◌, Option, Some, None, inl, inr, ◌⊎◌, refl, sym, ap, subst, ◌∙◌, append_assoc, arith}
 use Rattle.std.proofs.lemmas.List.{take-append-drop, append-nil}
 use Rattle.rtmfp_forms.specs.Address.{AddressParts}
 use Rattle.rtmfp_packet.specs.Walk.{Placed}
@@ -7,12 +7,21 @@ use Rattle.rtmfp_packet.specs.Whole.{Whole}
 use Rattle.endpoint_model.specs.declared.walk.Walk.{Walk}
 use Rattle.endpoint_model.specs.declared.config.Draws.{Draws}
 use Rattle.endpoint_model.specs.declared.place.Place.{Place}
+use Rattle.endpoint_model.specs.declared.place.Place.TheVariants.{Startup, Attempt, Session}
+use Rattle.endpoint_model.specs.declared.row.Row.{Row}
+use Rattle.rtmfp_base.proofs.Lowest.{first_is_there}
+use Rattle.startup.specs.declared.cause.Cause.{Cause}
+use Rattle.startup.specs.State.{StartupState}
+use Rattle.startup.specs.Attempts.{lowest}
+use Rattle.startup.specs.Due.{is_due, after_due_of}
+use Rattle.session_core.specs.Closing.{first_due as first_due_in}
 use Rattle.endpoint_model.specs.declared.answers.Stopped.{Stopped as Stop}
 use Rattle.endpoint_model.specs.Event.{Setup, Call, Receive}
 use Rattle.endpoint_model.specs.Keying.{IsAmong, IsFirst, chunks_of}
 use Rattle.endpoint_model.specs.State.{State, Did, nothing, then_do}
 use Rattle.endpoint_model.specs.Admission.{Admission, Rejected, Admitted, confirming}
-use Rattle.endpoint_model.specs.Effects.{tick_once, ticks, discarded, chunk_did, walked, chunks_did, received, part_received, outset}
+use Rattle.endpoint_model.specs.Effects.{first_due, session_item, tick_once, ticks, discarded, chunk_did, walked, chunks_did, gone_through, received, part_received, outset}
+use Rattle.endpoint_model.specs.InSessions.{tested as tested_at, is_row_due, due_row}
 use Rattle.endpoint_model.specs.Log.{stopped}
 use Rattle.endpoint_model.proofs.Members.{tested}
 use Rattle.endpoint_laws.specs.Past.{Stamped, onto}
@@ -22,23 +31,32 @@ use Rattle.endpoint_laws.proofs.Lines.{FactPart, EntriesMeet}
 use Rattle.endpoint_laws.proofs.Tied.{Tied}
 use Rattle.endpoint_laws.proofs.Going.{Goes, goes_nothing, goes_then, goes_discarded}
 use Rattle.endpoint_laws.proofs.OutSends.{Sent, Meets, meets_nothing, meets_then}
-use Rattle.endpoint_laws.proofs.OutItems.{meets_tick_once, meets_confirming, meets_discarded}
+use Rattle.endpoint_laws.proofs.OutItems.{meets_item, meets_confirming, meets_discarded}
+use Rattle.endpoint_laws.proofs.OutSessions.{meets_tested, meets_row_due}
 use Rattle.endpoint_laws.proofs.Replies.{SameCounts}
-use Rattle.endpoint_laws.proofs.Few.{Few, few_nothing, few_then, few_from, few_chunk, few_confirming, few_tick_once}
-use Rattle.endpoint_laws.proofs.Ending.{goes_tick_once}
+use Rattle.endpoint_laws.proofs.Few.{Few, few_nothing, few_then, few_from, few_chunk, few_confirming, few_tested, few_tick_once}
+use Rattle.endpoint_laws.proofs.Ending.{item_left, item_is, tick_by}
+use Rattle.endpoint_laws.proofs.SessionChunks.{goes_tested, goes_row_due}
+use Rattle.endpoint_laws.proofs.Hearing.{HeardWell, Heard, heard_then, heard_from}
+use Rattle.endpoint_laws.proofs.Following.{heard_nothing, heard_discarded, heard_confirming, heard_tested, heard_tick_once}
+use Rattle.endpoint_laws.proofs.HeardChunks.{heard_chunk}
+use Rattle.endpoint_laws.proofs.Passing.{PassedAt}
+use Rattle.endpoint_laws.proofs.Taking.{passed_confirming, passed_chunk}
+use Rattle.endpoint_laws.proofs.HeardEvents.{AdmissionHeard}
 use Rattle.endpoint_laws.proofs.Confirming.{goes_confirming}
-use Rattle.endpoint_laws.proofs.Admitting.{Came, AdmissionIs, IsTaken}
+use Rattle.endpoint_laws.proofs.Admitting.{Came, AdmissionIs, IsTaken, IsRejected}
 use Rattle.endpoint_laws.proofs.Chunked.{chunk_goes}
 use Rattle.endpoint_laws.proofs.OutChunks.{meets_chunk}
 
--- The facts of the thing meet their lines, and the state after it agrees with what was done; its datagrams meet theirs, and what went out is counted; and no more startup packets were sealed than datagrams go out.
+-- The facts of the thing meet their lines, and the state after it agrees with what was done; its datagrams meet theirs, and what went out is counted; no more startup packets were sealed than datagrams go out; and what is known of the sessions stays true.
 pub record Orderly (setup : Setup) (call : Call) (past : List Stamped) (s : State) (d : Did) : Type 0 where
   pub goes : Goes setup call past s d
   pub meets : Meets setup s.moment call past d
   pub few : Few s d
+  pub heard : Heard past s d
 
-pub orderly_nothing : (setup : Setup) (call : Call) (past : List Stamped) (s : State) → Tied setup past s → Sent setup past s → Orderly setup call past s (nothing s)
-orderly_nothing setup call past s tied sent = record { goes = goes_nothing setup call s past tied; meets = meets_nothing setup s.moment call past s sent; few = few_nothing s }
+pub orderly_nothing : (setup : Setup) (call : Call) (past : List Stamped) (s : State) → Tied setup past s → Sent setup past s → HeardWell past s → Orderly setup call past s (nothing s)
+orderly_nothing setup call past s tied sent well = record { goes = goes_nothing setup call s past tied; meets = meets_nothing setup s.moment call past s sent; few = few_nothing s; heard = heard_nothing s past well }
 
 orderly_then : (setup : Setup) (call : Call) (past : List Stamped) (s : State) (d : Did) (next : State → Did) → Orderly setup call past s d →
     Orderly setup call (onto s.moment d.entries past) d.state (next d.state) → Orderly setup call past s (then_do d next)
@@ -48,6 +66,7 @@ orderly_then setup call past s d next first later =
       goes = goes_then setup call past s d next first.goes later.goes;
       meets = meets_then setup s.moment call past d next first.meets (subst P first.goes.moment later.meets);
       few = few_then s d next first.few later.few;
+      heard = heard_then past s d next first.heard later.heard;
     }
 
 -- in a state that was reached without entries
@@ -60,20 +79,43 @@ orderly_from setup call past s t d same orderly =
       goes = record { meets = subst P same.moment orderly.goes.meets; tied = subst Q same.moment orderly.goes.tied; moment = orderly.goes.moment ∙ same.moment };
       meets = subst R same.moment orderly.meets;
       few = few_from s t d same.sealed orderly.few;
+      heard = heard_from past s t d same.moment orderly.heard;
     }
 
 -- ---- the things of a tick
 
-pub ticks_orderly : (setup : Setup) (call : Call) → IsSetup setup → IsTick call → (count : ℕ) (past : List Stamped) (s : State) → Tied setup past s → Sent setup past s → Orderly setup call past s (ticks count s)
-ticks_orderly setup call is is_tick zero past s tied sent = orderly_nothing setup call past s tied sent
-ticks_orderly setup call is is_tick (suc count) past s tied sent =
+module _ (setup : Setup) (call : Call) (is : IsSetup setup) (is_tick : IsTick call) (past : List Stamped) (s : State) (tied : Tied setup past s) (sent : Sent setup past s) (well : HeardWell past s) where
+  -- what is due of a session
+  row_goes : (left : StartupState) (o : Option (ℕ × Row)) → due_row s ≡ o → Goes setup call past s (item_left s left (session_item s.moment o))
+  row_goes left None e = goes_nothing setup call s past tied
+  row_goes left (Some x) e =
+      let there = (first_is_there (is_row_due s.moment) s.sessions x e).0 in
+      goes_row_due setup call is_tick past s tied x.0 x.1 there (well x.0 x.1 there) (first_due_in x.1.session s.moment) refl
+
+  row_meets : (left : StartupState) (o : Option (ℕ × Row)) → due_row s ≡ o → Meets setup s.moment call past (item_left s left (session_item s.moment o))
+  row_meets left None e = meets_nothing setup s.moment call past s sent
+  row_meets left (Some x) e =
+      let there = (first_is_there (is_row_due s.moment) s.sessions x e).0 in
+      meets_row_due setup call is_tick past s sent tied x.0 x.1 there (well x.0 x.1 there) (first_due_in x.1.session s.moment)
+
+  -- the first thing that is due
+  tick_orderly : Orderly setup call past s (tick_once s)
+  tick_orderly =
+      let left : StartupState = after_due_of s.startup s.moment None in
+      record {
+        goes = subst (λ d. Goes setup call past s d) (item_is s (first_due s)) (tick_by setup call is_tick s past tied (lowest (is_due s.moment) s.startup.attempts) refl (row_goes left (due_row s) refl));
+        meets = subst (λ d. Meets setup s.moment call past d) (item_is s (first_due s))
+            (meets_item setup past s sent tied s.moment call is.cert.short_named (lowest (is_due s.moment) s.startup.attempts) refl (row_meets left (due_row s) refl));
+        few = few_tick_once s;
+        heard = heard_tick_once s past well;
+      }
+
+pub ticks_orderly : (setup : Setup) (call : Call) → IsSetup setup → IsTick call → (count : ℕ) (past : List Stamped) (s : State) → Tied setup past s → Sent setup past s → HeardWell past s → Orderly setup call past s (ticks count s)
+ticks_orderly setup call is is_tick zero past s tied sent well = orderly_nothing setup call past s tied sent well
+ticks_orderly setup call is is_tick (suc count) past s tied sent well =
     let d : Did = tick_once s in
-    let one : Orderly setup call past s d = record {
-      goes = goes_tick_once setup call is_tick s past tied;
-      meets = meets_tick_once setup past s sent tied s.moment call is.cert.short_named;
-      few = few_tick_once s;
-    } in
-    orderly_then setup call past s d (ticks count) one (ticks_orderly setup call is is_tick count (onto s.moment d.entries past) d.state one.goes.tied one.meets.sent)
+    let one : Orderly setup call past s d = tick_orderly setup call is is_tick past s tied sent well in
+    orderly_then setup call past s d (ticks count) one (ticks_orderly setup call is is_tick count (onto s.moment d.entries past) d.state one.goes.tied one.meets.sent one.heard.well)
 
 -- ---- the chunks of a datagram
 
@@ -111,61 +153,97 @@ one_next packet walk before c rest next = record {
       ];
 }
 
+-- a session's datagram still passes after a chunk
+passed_on : (place : Place) (from : AddressParts) (datagram : List ℕ) (draws : Draws) (packet : Whole) (walk : Walk) (past : List Stamped) (s : State) (c : Placed) → PassedAt past place datagram packet s →
+    PassedAt (onto s.moment (chunk_did place from draws walk s c).entries past) place datagram packet (chunk_did place from draws walk s c).state
+passed_on Startup from datagram draws packet walk past s c passed = tt
+passed_on (Attempt near) from datagram draws packet walk past s c passed = tt
+passed_on (Session near) from datagram draws packet walk past s c passed = passed_chunk past near datagram packet from draws walk s c passed
+
+-- and after it is confirmed
+passed_in : (place : Place) (datagram : List ℕ) (packet : Whole) (past : List Stamped) (s : State) → PassedAt past place datagram packet s →
+    PassedAt (onto s.moment (confirming s place).entries past) place datagram packet (confirming s place).state
+passed_in Startup datagram packet past s passed = tt
+passed_in (Attempt near) datagram packet past s passed = tt
+passed_in (Session near) datagram packet past s passed = passed_confirming past near datagram packet s passed
+
 module _ (setup : Setup) (is : IsSetup setup) (from : AddressParts) (datagram : List ℕ) (draws : Draws) (fits : IsCall (Receive from datagram draws)) (packet : Whole) where
   abbrev call : Call
   call = Receive from datagram draws
 
   pub chunks_orderly : (place : Place) → Came setup datagram place packet → (walk : Walk) (before cs rest : List Placed) (s : State) (past : List Stamped) → IsNext packet walk before (cs ++ rest) →
-      Tied setup past s → Sent setup past s → Orderly setup call past s (chunks_did place from draws walk s cs)
-  chunks_orderly place came walk before [] rest s past next tied sent = orderly_nothing setup call past s tied sent
-  chunks_orderly place came walk before (c ∷ cs) rest s past next tied sent =
+      Tied setup past s → Sent setup past s → HeardWell past s → PassedAt past place datagram packet s → Orderly setup call past s (chunks_did place from draws walk s cs)
+  chunks_orderly place came walk before [] rest s past next tied sent well passed = orderly_nothing setup call past s tied sent well
+  chunks_orderly place came walk before (c ∷ cs) rest s past next tied sent well passed =
       let among : IsAmong c (chunks_of packet) = subst (IsAmong c) (sym next.whole) (among_back before c (cs ++ rest)) in
       let first : walk.keyed ≡ false → c.kind ≡ 0x38 → IsFirst c (chunks_of packet) = λ e kind. subst (IsFirst c) (sym next.whole) (first_back before c (cs ++ rest) (next.keyed e) kind) in
       let d : Did = chunk_did place from draws walk s c in
       let one : Orderly setup call past s d = record {
-        goes = chunk_goes setup from datagram draws is.sessions fits.2 packet s past place walk c tied came among first;
-        meets = meets_chunk setup s.moment call past s sent tied is.cert.short_named place from draws fits.2 fits.1 walk c;
+        goes = chunk_goes setup from datagram draws is.sessions fits.2 packet s past place walk c tied came passed among first;
+        meets = meets_chunk setup from datagram draws packet past s sent tied is.cert.short_named place passed fits.2 fits.1 walk c among;
         few = few_chunk place from draws walk s c;
+        heard = heard_chunk place from draws walk s c past well;
       } in
       orderly_then setup call past s d (λ t. chunks_did place from draws (walked walk c) t cs) one
-      (chunks_orderly place came (walked walk c) (before ++ c ∷ []) cs rest d.state (onto s.moment d.entries past) (one_next packet walk before c (cs ++ rest) next) one.goes.tied one.meets.sent)
+      (chunks_orderly place came (walked walk c) (before ++ c ∷ []) cs rest d.state (onto s.moment d.entries past) (one_next packet walk before c (cs ++ rest) next) one.goes.tied one.meets.sent one.heard.well
+      (passed_on place from datagram draws packet walk past s c passed))
 
 -- ---- a datagram
+
+-- What is known before a datagram that was stopped: where it was taken, after its admission.
+abbrev pub StopHeard : List ℕ → List Stamped → State → Bool → Admission → Type 0
+StopHeard datagram past s true a = AdmissionHeard past s.moment datagram a
+StopHeard datagram past s false a = HeardWell past s
 
 module _ (setup : Setup) (is : IsSetup setup) (from : AddressParts) (datagram : List ℕ) (draws : Draws) (fits : IsCall (Receive from datagram draws)) (past : List Stamped) (s : State) where
   abbrev this : Call
   this = Receive from datagram draws
 
   -- what it leaves before its chunks, and then these, which are the first of them
-  first_orderly : (t : State) (place : Place) (packet : Whole) (cs rest : List Placed) → chunks_of packet ≡ cs ++ rest → IsTaken setup past s datagram t place packet →
-      Orderly setup this past t (then_do (confirming t place) (λ u. chunks_did place from draws outset u cs))
-  first_orderly t place packet cs rest whole taken =
+  first_orderly : (t : State) (place : Place) (packet : Whole) (cs rest : List Placed) → chunks_of packet ≡ cs ++ rest → IsTaken setup past s datagram t place packet → HeardWell past t → PassedAt past place datagram packet t →
+      Orderly setup this past t (gone_through from draws t place cs)
+  first_orderly t place packet cs rest whole taken well passed =
       let d : Did = confirming t place in
       let one : Orderly setup this past t d = record {
         goes = goes_confirming setup from datagram draws t place taken.leaves.heard past taken.leaves.tied;
         meets = meets_confirming setup t.moment this past t place taken.leaves.sent;
         few = few_confirming t place;
+        heard = heard_confirming t place past well;
       } in
       orderly_then setup this past t d (λ u. chunks_did place from draws outset u cs) one
-      (chunks_orderly setup is from datagram draws fits packet place taken.came outset [] cs rest d.state (onto t.moment d.entries past) (record { whole = whole; keyed = λ e c none kind. none }) one.goes.tied one.meets.sent)
+      (chunks_orderly setup is from datagram draws fits packet place taken.came outset [] cs rest d.state (onto t.moment d.entries past) (record { whole = whole; keyed = λ e c none kind. none }) one.goes.tied one.meets.sent one.heard.well
+      (passed_in place datagram packet past t passed))
 
-  pub received_orderly : (a : Admission) → AdmissionIs setup past s datagram a → Orderly setup this past s (received from draws a)
-  received_orderly (Rejected t cause) so =
-      orderly_from setup this past s t (discarded t 0 cause) so.same
-      (record { goes = goes_discarded setup this t 0 cause past so.tied; meets = meets_discarded setup t.moment this past t 0 cause so.sent; few = omega arith })
-  received_orderly (Admitted t place packet) so =
-      orderly_from setup this past s t (then_do (confirming t place) (λ u. chunks_did place from draws outset u (chunks_of packet))) so.leaves.same
-      (first_orderly t place packet (chunks_of packet) [] (sym (append-nil (chunks_of packet))) so)
+  -- and then the test of its address
+  whole_orderly : (t : State) (place : Place) (packet : Whole) → IsTaken setup past s datagram t place packet → HeardWell past t → PassedAt past place datagram packet t →
+      Orderly setup this past t (received from draws (Admitted t place packet))
+  whole_orderly t place packet taken well passed =
+      let d : Did = gone_through from draws t place (chunks_of packet) in
+      let one : Orderly setup this past t d = first_orderly t place packet (chunks_of packet) [] (sym (append-nil (chunks_of packet))) taken well passed in
+      let middle : List Stamped = onto t.moment d.entries past in
+      orderly_then setup this past t d (λ u. tested_at u place from draws) one (record {
+        goes = goes_tested setup this d.state from draws place middle one.goes.tied;
+        meets = meets_tested setup this middle d.state one.meets.sent one.goes.tied from draws fits.3 place;
+        few = few_tested d.state place from draws;
+        heard = heard_tested d.state place from draws middle one.heard.well;
+      })
 
-  part_orderly : (count : ℕ) (a : Admission) → AdmissionIs setup past s datagram a → Orderly setup this past s (part_received from draws a count)
-  part_orderly count (Rejected t cause) so = orderly_from setup this past s t (nothing t) so.same (orderly_nothing setup this past t so.tied so.sent)
-  part_orderly count (Admitted t place packet) so =
-      orderly_from setup this past s t (then_do (confirming t place) (λ u. chunks_did place from draws outset u (take count (chunks_of packet)))) so.leaves.same
-      (first_orderly t place packet (take count (chunks_of packet)) (drop count (chunks_of packet)) (sym (take-append-drop count (chunks_of packet))) so)
+  rejected_orderly : (t : State) (cause : Cause) → IsRejected setup past s t → HeardWell past t → Orderly setup this past t (discarded t 0 cause)
+  rejected_orderly t cause so well = record { goes = goes_discarded setup this t 0 cause past so.tied; meets = meets_discarded setup t.moment this past t 0 cause so.sent; few = omega arith; heard = heard_discarded t 0 cause past well }
 
-  pub stopped_orderly : (stop : Stop) (a : Admission) → Tied setup past s → Sent setup past s → AdmissionIs setup past s datagram a → Orderly setup this past s (stopped s from draws a stop)
-  stopped_orderly stop a tied sent so = by stop.taken
+  pub received_orderly : (a : Admission) → AdmissionIs setup past s datagram a → AdmissionHeard past s.moment datagram a → Orderly setup this past s (received from draws a)
+  received_orderly (Rejected t cause) so heard = orderly_from setup this past s t (discarded t 0 cause) so.same (rejected_orderly t cause so heard.well)
+  received_orderly (Admitted t place packet) so heard = orderly_from setup this past s t (received from draws (Admitted t place packet)) so.leaves.same (whole_orderly t place packet so heard.0.well heard.1)
+
+  part_orderly : (count : ℕ) (a : Admission) → AdmissionIs setup past s datagram a → AdmissionHeard past s.moment datagram a → Orderly setup this past s (part_received from draws a count)
+  part_orderly count (Rejected t cause) so heard = orderly_from setup this past s t (nothing t) so.same (orderly_nothing setup this past t so.tied so.sent heard.well)
+  part_orderly count (Admitted t place packet) so heard =
+      orderly_from setup this past s t (gone_through from draws t place (take count (chunks_of packet))) so.leaves.same
+      (first_orderly t place packet (take count (chunks_of packet)) (drop count (chunks_of packet)) (sym (take-append-drop count (chunks_of packet))) so heard.0.well heard.1)
+
+  pub stopped_orderly : (stop : Stop) (a : Admission) → Tied setup past s → Sent setup past s → AdmissionIs setup past s datagram a → StopHeard datagram past s stop.taken a → Orderly setup this past s (stopped s from draws a stop)
+  stopped_orderly stop a tied sent so heard = by stop.taken heard
     where
-      by : (b : Bool) → Orderly setup this past s (if b then part_received from draws a stop.chunks else nothing s)
-      by true = part_orderly stop.chunks a so
-      by false = orderly_nothing setup this past s tied sent
+      by : (b : Bool) → StopHeard datagram past s b a → Orderly setup this past s (if b then part_received from draws a stop.chunks else nothing s)
+      by true known = part_orderly stop.chunks a so known
+      by false known = orderly_nothing setup this past s tied sent known

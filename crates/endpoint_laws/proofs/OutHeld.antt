@@ -1,5 +1,5 @@
 -- What is held has nonces of the facts, and their sizes.
-use Rattle.std.proofs.Common.{◌≡◌, ℕ, ◌^◌, ◌<◌, ◌≤◌, List, [], ◌∷◌, length, Option, Some, None, inl, inr, refl, sym, ap, subst, ◌∙◌, true}
+use Rattle.std.proofs.Common.{◌≡◌, ℕ, ◌^◌, ◌<◌, ◌≤◌, List, [], ◌∷◌, length, Bool, true, false, Option, Some, None, inl, inr, ◌⊎◌, refl, sym, ap, subst, ◌∙◌}
 use Rattle.glare_core.specs.declared.facts.Fact.{Fact}
 use Rattle.glare_core.specs.declared.facts.Fact.TheVariants.{Started, Born, Opened, Confirmed, Ended}
 use Rattle.glare_core.specs.declared.facts.Held.{Held}
@@ -12,10 +12,18 @@ use Rattle.session_core.specs.declared.stage.Role.{Role}
 use Rattle.session_core.specs.declared.stage.Role.TheVariants.{Initiator, Responder}
 use Rattle.session_core.specs.declared.stage.Stage.{Stage}
 use Rattle.session_core.specs.declared.stage.Stage.TheVariants.{Opening as StageOpening, Open, NearClose, FarLinger, Closed}
-use Rattle.session_core.specs.Session.{context_between}
+use Rattle.session_core.specs.Session.{SessionState, context_between, context_of}
+use Rattle.session_core.specs.Closing.{is_held}
+use Rattle.std.specs.FinMap.{get}
+use Rattle.glare_core.proofs.Accounts.{reads_held}
+use Rattle.endpoint_model.specs.declared.row.Row.{Row}
+use Rattle.endpoint_model.specs.State.{State}
+use Rattle.endpoint_laws.specs.Past.{Stamped, facts_of, fact_and, fact_done, Closes, IsClosing}
+use Rattle.endpoint_laws.specs.Contexts.{outward}
+use Rattle.endpoint_laws.specs.OfTheLog.{WasThing}
 use Rattle.endpoint_model.specs.Event.{Setup, own_of}
-use Rattle.endpoint_laws.specs.Lawful.{nonces_of, InSession}
-use Rattle.endpoint_laws.proofs.Tied.{thing_of}
+use Rattle.endpoint_laws.specs.Lawful.{nonces_of, InSession, IsFarOf}
+use Rattle.endpoint_laws.proofs.Tied.{Tied, thing_of}
 use Rattle.endpoint_laws.proofs.OutFacts.{opened_nonces, nonce_stays, opened_stays}
 use Rattle.endpoint_laws.proofs.OutNumbers.{Known}
 
@@ -67,7 +75,7 @@ known_thing facts own Responder FarLinger j h = h
 known_thing facts own Responder Closed j h = h
 
 -- the context of a session that is held is known
-pub held_known : (facts : List Fact) (own : List ℕ) (role : Role) (stage : Stage) (j : Joined) → held j.peer facts ≡ Some (thing_of role stage j) → Known (context_between j own role true) facts
+held_known : (facts : List Fact) (own : List ℕ) (role : Role) (stage : Stage) (j : Joined) → held j.peer facts ≡ Some (thing_of role stage j) → Known (context_between j own role true) facts
 held_known facts own role stage j is = known_thing facts own role stage j (subst (λ (o : Option Held). HasNonce facts o) is (has_nonce j.peer facts))
 
 -- ---- sizes
@@ -117,16 +125,78 @@ held_sized p facts thing sized is = subst (λ (o : Option Held). HasSizes p o) i
 
 -- ---- the session in whose context a datagram goes
 
-in_session : (setup : Setup) (facts : List Fact) (role : Role) (stage : Stage) (j : Joined) → held j.peer facts ≡ Some (thing_of role stage j) →
-    InSession setup facts j.far (context_between j (own_of setup) role true)
-in_session setup facts Initiator stage j is = (KeptAsInitiator j, j.near, record { peer = j.peer; is_held = is; id = refl }, refl, refl)
-in_session setup facts Responder StageOpening j is = (HalfOpen j, j.near, record { peer = j.peer; is_held = is; id = refl }, refl, refl)
-in_session setup facts Responder Open j is = (KeptAsResponder j, j.near, record { peer = j.peer; is_held = is; id = refl }, refl, refl)
-in_session setup facts Responder NearClose j is = (KeptAsResponder j, j.near, record { peer = j.peer; is_held = is; id = refl }, refl, refl)
-in_session setup facts Responder FarLinger j is = (KeptAsResponder j, j.near, record { peer = j.peer; is_held = is; id = refl }, refl, refl)
-in_session setup facts Responder Closed j is = (KeptAsResponder j, j.near, record { peer = j.peer; is_held = is; id = refl }, refl, refl)
+in_session : (setup : Setup) (past : List Stamped) (role : Role) (stage : Stage) (j : Joined) → held j.peer (facts_of past) ≡ Some (thing_of role stage j) →
+    InSession setup past j.far (context_between j (own_of setup) role true)
+in_session setup past Initiator stage j is = (KeptAsInitiator j, j.near, inl (record { peer = j.peer; is_held = is; id = refl }), refl, refl)
+in_session setup past Responder StageOpening j is = (HalfOpen j, j.near, inl (record { peer = j.peer; is_held = is; id = refl }), refl, refl)
+in_session setup past Responder Open j is = (KeptAsResponder j, j.near, inl (record { peer = j.peer; is_held = is; id = refl }), refl, refl)
+in_session setup past Responder NearClose j is = (KeptAsResponder j, j.near, inl (record { peer = j.peer; is_held = is; id = refl }), refl, refl)
+in_session setup past Responder FarLinger j is = (KeptAsResponder j, j.near, inl (record { peer = j.peer; is_held = is; id = refl }), refl, refl)
+in_session setup past Responder Closed j is = (KeptAsResponder j, j.near, inl (record { peer = j.peer; is_held = is; id = refl }), refl, refl)
 
-pub held_session : (setup : Setup) (facts : List Fact) (role : Role) (stage : Stage) (j : Joined) (own : List ℕ) → own ≡ own_of setup → held j.peer facts ≡ Some (thing_of role stage j) →
-    InSession setup facts j.far (context_between j own role true)
-held_session setup facts role stage j own mine is =
-    subst (λ (o : List ℕ). InSession setup facts j.far (context_between j o role true)) (sym mine) (in_session setup facts role stage j is)
+-- one that is closing has a nonce of the facts, too
+
+nonce_and : (o : Option Fact) (earlier : List Fact) (h : Option Held) → HasNonce earlier h → HasNonce (fact_and o earlier) h
+nonce_and None earlier h n = n
+nonce_and (Some fact) earlier h n = nonce_kept fact earlier h n
+
+closed_nonce : (near : ℕ) (thing : Held) (facts : List Fact) (o : Option Fact) → Closes near thing facts o → HasNonce facts (Some thing)
+closed_nonce near thing facts None c = absurd c
+closed_nonce near thing facts (Some (Started peer n id ni)) c = absurd c
+closed_nonce near thing facts (Some (Born j)) c = absurd c
+closed_nonce near thing facts (Some (Opened j)) c = absurd c
+closed_nonce near thing facts (Some (Confirmed peer id)) c = absurd c
+closed_nonce near thing facts (Some (Ended peer id why)) c = subst (λ (o : Option Held). HasNonce facts o) c.2 (has_nonce peer facts)
+
+closing_nonce : (near : ℕ) (thing : Held) (at : ℕ) (past : List Stamped) → IsClosing near thing at past → HasNonce (facts_of past) (Some thing)
+closing_nonce near thing at [] c = absurd c
+closing_nonce near thing at (s ∷ earlier) (inl b) = nonce_and (fact_done s.what) (facts_of earlier) (Some thing) (closed_nonce near thing (facts_of earlier) (fact_done s.what) b.0)
+closing_nonce near thing at (s ∷ earlier) (inr p) = nonce_and (fact_done s.what) (facts_of earlier) (Some thing) (closing_nonce near thing at earlier p.1)
+
+was_known : (facts : List Fact) (own : List ℕ) (role : Role) (j : Joined) (thing : Held) → WasThing role j thing → HasNonce facts (Some thing) → Known (context_between j own role true) facts
+was_known facts own Initiator j thing w h = subst (λ (t : Held). HasNonce facts (Some t)) w h
+was_known facts own Responder j thing (inl w) h = subst (λ (t : Held). HasNonce facts (Some t)) w h
+was_known facts own Responder j thing (inr w) h = subst (λ (t : Held). HasNonce facts (Some t)) w h
+
+was_in_session : (setup : Setup) (past : List Stamped) (near : ℕ) (role : Role) (j : Joined) (thing : Held) (at : ℕ) → WasThing role j thing → IsClosing near thing at past →
+    InSession setup past j.far (context_between j (own_of setup) role true)
+was_in_session setup past near Initiator j thing at w c = (thing, near, inr (at, c), ap (outward (own_of setup)) (sym w), subst (λ (t : Held). IsFarOf t j.far) (sym w) refl)
+was_in_session setup past near Responder j thing at (inl w) c = (thing, near, inr (at, c), ap (outward (own_of setup)) (sym w), subst (λ (t : Held). IsFarOf t j.far) (sym w) refl)
+was_in_session setup past near Responder j thing at (inr w) c = (thing, near, inr (at, c), ap (outward (own_of setup)) (sym w), subst (λ (t : Held). IsFarOf t j.far) (sym w) refl)
+
+-- A datagram may go out in the session: its nonce is known, and it is held or closing.
+pub record MaySend (setup : Setup) (past : List Stamped) (session : SessionState) : Type 0 where
+  pub secret : session.secret ≡ setup.secret
+  pub known : Known (context_of session true) (facts_of past)
+  pub stands : InSession setup past session.joined.far (context_of session true)
+
+either_way : (b : Bool) → (b ≡ true) ⊎ (b ≡ false)
+either_way true = inl refl
+either_way false = inr refl
+
+-- one that is held
+pub may_send_held : (setup : Setup) (past : List Stamped) (session : SessionState) → session.secret ≡ setup.secret → session.own ≡ own_of setup →
+    held session.joined.peer (facts_of past) ≡ Some (thing_of session.role session.stage session.joined) → MaySend setup past session
+may_send_held setup past session secret own thing = record {
+  secret = secret;
+  known = held_known (facts_of past) session.own session.role session.stage session.joined thing;
+  stands = subst (λ (o : List ℕ). InSession setup past session.joined.far (context_between session.joined o session.role true)) (sym own) (in_session setup past session.role session.stage session.joined thing);
+}
+
+pub may_send : (setup : Setup) (past : List Stamped) (s : State) (near : ℕ) (row : Row) → Tied setup past s → get s.sessions near ≡ Some row → MaySend setup past row.session
+may_send setup past s near row tied there =
+    let session : SessionState = row.session in
+    let j : Joined = session.joined in
+    let is = tied.sessions near row there in
+    let in_own : InSession setup past j.far (context_between j (own_of setup) session.role true) → InSession setup past j.far (context_of session true) =
+    λ i. subst (λ (o : List ℕ). InSession setup past j.far (context_between j o session.role true)) (sym is.own) i in
+    elim (either_way (is_held session.stage)) [
+      | inl e ↦ may_send_held setup past session is.secret is.own (sym (reads_held 0 s.startup.ledger (facts_of past) tied.account j.peer) ∙ is.thing e)
+      | inr e ↦
+          let c = is.closed e in
+          record {
+            secret = is.secret;
+            known = was_known (facts_of past) session.own session.role j c.thing c.was (closing_nonce near c.thing c.at past c.closing);
+            stands = in_own (was_in_session setup past near session.role j c.thing c.at c.was c.closing);
+          }
+    ]

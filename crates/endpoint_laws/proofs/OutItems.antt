@@ -10,7 +10,7 @@ use Rattle.glare_core.specs.declared.facts.Held.{Held}
 use Rattle.glare_core.specs.declared.facts.Held.TheVariants.{Opening as OpeningHeld, HalfOpen, KeptAsResponder, KeptAsInitiator}
 use Rattle.glare_core.specs.Standing.{held}
 use Rattle.glare_core.specs.Ledger.{held_with}
-use Rattle.glare_core.specs.Calls.{confirmed_fact, started_fact}
+use Rattle.glare_core.specs.Calls.{first_that_stands, confirmed_fact, started_fact}
 use Rattle.glare_core.proofs.Accounts.{reads_held}
 use Rattle.startup.specs.declared.answer.Answer.{Answer}
 use Rattle.startup.specs.declared.answer.Due.TheVariants.{Ended as EndDue}
@@ -28,16 +28,18 @@ use Rattle.endpoint_model.specs.declared.config.Draws.{Draws}
 use Rattle.endpoint_model.specs.declared.place.Place.{Place}
 use Rattle.endpoint_model.specs.declared.place.Place.TheVariants.{Startup as StartupPlace, Attempt, Session}
 use Rattle.endpoint_model.specs.declared.entry.Entry.{Entry}
-use Rattle.endpoint_model.specs.declared.entry.Entry.TheVariants.{Fact as FactEntry}
+use Rattle.endpoint_model.specs.declared.entry.Entry.TheVariants.{Fact as FactEntry, Discard}
 use Rattle.endpoint_model.specs.Event.{Setup, own_of, Call}
 use Rattle.endpoint_laws.specs.Past.{Stamped, stamped, onto, facts_of}
 use Rattle.endpoint_model.specs.State.{State, Did, nothing, fact_entries, with_startup, with_row, with_session, with_sealed, free_from}
 use Rattle.endpoint_model.specs.Sending.{last_count, sent_startup, sent_answer, sent_each}
 use Rattle.endpoint_model.specs.Admission.{confirming, confirming_by}
-use Rattle.endpoint_model.specs.Effects.{opening, cancelling, due_done, tick_once, discarded, item_done, attempt_item}
+use Rattle.endpoint_model.specs.Effects.{Item, opening, cancelling, due_done, discarded, attempt_item, session_item}
+use Rattle.endpoint_model.specs.InSessions.{due_row}
 use Rattle.endpoint_laws.proofs.Lines.{EntriesMeet, OutPart}
+use Rattle.endpoint_laws.proofs.Ending.{item_left, one_stands}
 use Rattle.endpoint_laws.proofs.Tied.{Tied}
-use Rattle.endpoint_laws.proofs.OutNumbers.{numbered_fact, numbered_discard, numbered_changed}
+use Rattle.endpoint_laws.proofs.OutNumbers.{numbered_fact, numbered_quiet, numbered_changed}
 use Rattle.endpoint_laws.proofs.OutHeld.{IsSized, HasSizes, held_sized}
 use Rattle.endpoint_laws.proofs.OutSends.{IsNarrow, IsShort, AreShort, Sent, Meets, MayGo, meets_nothing, meets_after, meets_then, meets_startup}
 use Rattle.endpoint_laws.proofs.OutKeyings.{ihello_may, iikeying_may}
@@ -88,7 +90,7 @@ pub meets_discarded : (setup : Setup) (now : ℕ) (call : Call) (past : List Sta
 meets_discarded setup now call past s at cause sent = record {
   lines = (tt, tt);
   sent = record {
-    numbered = numbered_discard (own_of setup) past s.sealed s.sessions sent.numbered now at cause;
+    numbered = numbered_quiet (own_of setup) past s.sealed s.sessions sent.numbered (stamped now (Discard at cause)) refl refl;
     sized = sent.sized;
     short = sent.short;
   };
@@ -189,13 +191,11 @@ module _ (setup : Setup) (past : List Stamped) (s : State) (sent : Sent setup pa
         by_stage e e.1.stage there refl (with_attempt s.startup e.0 (repeated e.1 s.moment))
         (short_put s.startup.attempts e.0 (repeated e.1 s.moment) sent.short (record { tag = kept.tag; cookie = kept.cookie })) refl refl
 
-    by_found : (o : Option (ℕ × AttemptState)) → lowest (is_due s.moment) s.startup.attempts ≡ o →
-        Meets setup now call past (item_done s (with_startup s (after_due_of s.startup s.moment o)) (attempt_item (due_of s.startup s.moment o)))
-    by_found None is = meets_nothing setup now call past s sent
-    by_found (Some e) is = by_over (is_over s.moment e.1) e (first_is_there (is_due s.moment) s.startup.attempts e is).0
-
-    pub meets_tick_once : Meets setup now call past (tick_once s)
-    meets_tick_once = by_found (lowest (is_due s.moment) s.startup.attempts) refl
+    -- by the first attempt of which something is due; where there is none, this holds of a session's thing
+    pub meets_item : (o : Option (ℕ × AttemptState)) → lowest (is_due s.moment) s.startup.attempts ≡ o → Meets setup now call past (item_left s (after_due_of s.startup s.moment None) (session_item s.moment (due_row s))) →
+        Meets setup now call past (item_left s (after_due_of s.startup s.moment o) (first_that_stands (attempt_item (due_of s.startup s.moment o) ∷ session_item s.moment (due_row s) ∷ [])))
+    meets_item None is later = subst (λ (x : Option Item). Meets setup now call past (item_left s (after_due_of s.startup s.moment None) x)) (sym (one_stands (session_item s.moment (due_row s)))) later
+    meets_item (Some e) is later = by_over (is_over s.moment e.1) e (first_is_there (is_due s.moment) s.startup.attempts e is).0
 
 -- ---- a session is confirmed
 

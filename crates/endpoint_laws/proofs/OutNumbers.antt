@@ -1,5 +1,5 @@
 -- The numbers of the datagrams that went out: in the startup context, and in the contexts of the sessions that are kept.
-use Rattle.std.proofs.Common.{◌≡◌, ℕ, ◌+◌, ◌^◌, ◌<◌, ◌≤◌, ◌≢◌, List, [], ◌∷◌, length, take, drop, replicate, Some, inl, inr, refl, sym, ap, subst, ◌∙◌, true, false, arith}
+use Rattle.std.proofs.Common.{◌≡◌, ℕ, ◌+◌, ◌^◌, ◌<◌, ◌≤◌, ◌≢◌, List, [], ◌∷◌, length, take, drop, replicate, Option, Some, None, inl, inr, refl, sym, ap, subst, ◌∙◌, true, false, arith}
 use Rattle.std.specs.Int.{w64, to_be_bytes, from_be_bytes}
 use Rattle.std.specs.Ordering.{nat_cmp}
 use Rattle.std.specs.FinMap.{get, insert, remove, empty, get-empty}
@@ -23,12 +23,11 @@ use Rattle.session_core.specs.Session.{SessionState, context_between, context_of
 use Rattle.session_core.specs.Sealed.{number_bytes}
 use Rattle.endpoint_model.specs.declared.row.Row.{Row}
 use Rattle.endpoint_model.specs.Event.{Event}
-use Rattle.endpoint_model.specs.declared.entry.Entry.TheVariants.{Fact as FactEntry, Discard, Out}
-use Rattle.startup.specs.declared.cause.Cause.{Cause}
-use Rattle.endpoint_laws.specs.Past.{Stamped, stamped, facts_of, begun}
+use Rattle.endpoint_model.specs.declared.entry.Entry.TheVariants.{Fact as FactEntry, Out}
+use Rattle.endpoint_laws.specs.Past.{Stamped, stamped, facts_of, fact_and, fact_done, out_done, begun}
 use Rattle.endpoint_model.specs.State.{Sessions}
 use Rattle.endpoint_model.specs.Sending.{last_count, startup_number}
-use Rattle.endpoint_laws.specs.Lawful.{WasNumbered, AsFarAs, nonces_of}
+use Rattle.endpoint_laws.specs.Lawful.{IsNumbered, WasNumbered, AsFarAs, nonces_of}
 use Rattle.endpoint_model.proofs.Parts.{past_front}
 use Rattle.endpoint_laws.proofs.Tied.{sealed_once}
 use Rattle.endpoint_laws.proofs.OutFacts.{opened_nonces, nonce_stays, opened_stays, different_before, not_opened}
@@ -109,25 +108,26 @@ module _ (own : List ℕ) (past : List Stamped) (sealed : ℕ) (sessions : Sessi
     sent = λ near row e d number was. elim was [ inl b ↦ absurd b | inr w ↦ n.sent near row e (different_before fact (facts_of past) d) number w ];
   }
 
-  pub numbered_discard : (now at : ℕ) (cause : Cause) → Numbered own (stamped now (Discard at cause) ∷ past) sealed sessions
-  numbered_discard now at cause = record {
-    few = n.few;
-    startup = λ number was. elim was [ inl b ↦ absurd b | inr w ↦ n.startup number w ];
-    known = λ context number was. elim was [ inl b ↦ absurd b | inr w ↦ n.known context number w ];
-    under = n.under;
-    few_in = n.few_in;
-    sent = λ near row e d number was. elim was [ inl b ↦ absurd b | inr w ↦ n.sent near row e d number w ];
-  }
+  -- what is neither a datagram nor a fact
+  module _ (x : Stamped) (no_out : out_done x.what ≡ None) (no_fact : fact_done x.what ≡ None) where
+    before : (context : Context) (number : List ℕ) → WasNumbered context number (x ∷ past) → WasNumbered context number past
+    before context number was = elim was [ inl b ↦ absurd (subst (IsNumbered context number) no_out b) | inr w ↦ w ]
+
+    facts_are : facts_of (x ∷ past) ≡ facts_of past
+    facts_are = ap (λ (o : Option Fact). fact_and o (facts_of past)) no_fact
+
+    pub numbered_quiet : Numbered own (x ∷ past) sealed sessions
+    numbered_quiet = record {
+      few = n.few;
+      startup = λ number was. n.startup number (before Startup number was);
+      known = λ context number was. subst (Known context) (sym facts_are) (n.known context number (before context number was));
+      under = n.under;
+      few_in = n.few_in;
+      sent = λ near row e d number was. n.sent near row e (subst (λ (f : List Fact). AllDifferent (nonces_of f)) facts_are d) number (before (context_of row.session true) number was);
+    }
 
   pub numbered_begun : (now : ℕ) (e : Event) → Numbered own (begun now e ∷ past) sealed sessions
-  numbered_begun now e = record {
-    few = n.few;
-    startup = λ number was. elim was [ inl b ↦ absurd b | inr w ↦ n.startup number w ];
-    known = λ context number was. elim was [ inl b ↦ absurd b | inr w ↦ n.known context number w ];
-    under = n.under;
-    few_in = n.few_in;
-    sent = λ near row e d number was. elim was [ inl b ↦ absurd b | inr w ↦ n.sent near row e d number w ];
-  }
+  numbered_begun now e = numbered_quiet (begun now e) refl refl
 
   -- a datagram in the startup context
   pub numbered_startup : (now : ℕ) (to : AddressParts) (datagram : List ℕ) → sealed ≢ last_count → number_of (drop 4 datagram) ≡ startup_number own (sealed + 1) →

@@ -16,7 +16,6 @@ use Rattle.crypto_profile.specs.Keys.{keys_of}
 use Rattle.crypto_profile.specs.Sealing.{number_of, sealed_in}
 use Rattle.crypto_profile.proofs.Opened.{sealed_carries}
 use Rattle.packet_scramble.specs.Datagram.{datagram}
-use Rattle.glare_core.specs.Standing.{held}
 use Rattle.startup.specs.State.{AttemptState, Attempts}
 use Rattle.startup.specs.declared.attempt.Stage.{Stage}
 use Rattle.startup.specs.declared.attempt.Stage.TheVariants.{Hello, Keying}
@@ -32,11 +31,11 @@ use Rattle.endpoint_model.specs.Sending.{last_count, startup_number, startup_dat
 use Rattle.endpoint_model.specs.Keying.{KeyingsAre}
 use Rattle.endpoint_laws.specs.Lawful.{OutLine, KeyingOfAttempt, KeyingOfBorn}
 use Rattle.endpoint_laws.proofs.Lines.{EntriesMeet, OutPart}
-use Rattle.endpoint_laws.proofs.Tied.{sealed_once, thing_of}
+use Rattle.endpoint_laws.proofs.Tied.{sealed_once}
 use Rattle.endpoint_laws.proofs.Going.{onto_append}
 use Rattle.endpoint_laws.proofs.OutNumbers.{Numbered, numbered_startup, once_startup, once_session, numbered_session}
 use Rattle.endpoint_laws.proofs.OutPackets.{session_alone, no_keyings}
-use Rattle.endpoint_laws.proofs.OutHeld.{AreSized, held_known, held_session}
+use Rattle.endpoint_laws.proofs.OutHeld.{AreSized, MaySend}
 
 -- a cookie that an attempt keeps has 128 bytes or fewer
 abbrev pub IsNarrow : Stage → Type 0
@@ -134,8 +133,7 @@ module _ (setup : Setup) (now : ℕ) (call : Call) (past : List Stamped) (s : St
 
 -- ---- a packet in a session
 
-module _ (setup : Setup) (now : ℕ) (call : Call) (past : List Stamped) (s : State) (sent : Sent setup past s) (near : ℕ) (row : Row) (there : get s.sessions near ≡ Some row)
-    (secret : row.session.secret ≡ setup.secret) (own : row.session.own ≡ own_of setup) (is_held : held row.session.joined.peer (facts_of past) ≡ Some (thing_of row.session.role row.session.stage row.session.joined)) where
+module _ (setup : Setup) (now : ℕ) (call : Call) (past : List Stamped) (s : State) (sent : Sent setup past s) (near : ℕ) (row : Row) (there : get s.sessions near ≡ Some row) (may : MaySend setup past row.session) where
   pub meets_session : (to : AddressParts) (chunk : Chunk) → length (payload_bytes chunk) < 2 ^ 16 → kind_of chunk ≢ 0x38 → kind_of chunk ≢ 0x78 →
       Meets setup now call past (sent_by s near to (chunk_bytes chunk) (Some row))
   meets_session to chunk short other other' = by_test (row.session.sealed == last_count) refl
@@ -148,7 +146,7 @@ module _ (setup : Setup) (now : ℕ) (call : Call) (past : List Stamped) (s : St
 
       is : session_datagram row.session s.moment (chunk_bytes chunk) ≡
           datagram row.session.joined.far (sealed_in setup.secret (context_of row.session true) row.session.joined.far (number_bytes (row.session.sealed + 1)) (session_packet row.session s.moment (chunk_bytes chunk)))
-      is = ap (λ (k : List ℕ). datagram row.session.joined.far (sealed_in k (context_of row.session true) row.session.joined.far (number_bytes (row.session.sealed + 1)) (session_packet row.session s.moment (chunk_bytes chunk)))) secret
+      is = ap (λ (k : List ℕ). datagram row.session.joined.far (sealed_in k (context_of row.session true) row.session.joined.far (number_bytes (row.session.sealed + 1)) (session_packet row.session s.moment (chunk_bytes chunk)))) may.secret
 
       carries : number_of (drop 4 (session_datagram row.session s.moment (chunk_bytes chunk))) ≡ number_bytes (row.session.sealed + 1)
       carries = (sealed_carries (keys_of row.session.secret (context_of row.session true)) row.session.joined.far (number_bytes (row.session.sealed + 1)) (session_packet row.session s.moment (chunk_bytes chunk)) refl).0
@@ -162,7 +160,7 @@ module _ (setup : Setup) (now : ℕ) (call : Call) (past : List Stamped) (s : St
         is = is;
         once = λ far was. once_session (own_of setup) past s.sealed s.sessions sent.numbered near row there some far was;
         keyings = λ packet reads. no_keyings _ _ packet (kind_of chunk) (payload_bytes chunk) (session_alone row.session s.moment chunk packet short reads) other other';
-        session = held_session setup (facts_of past) row.session.role row.session.stage row.session.joined row.session.own own is_held;
+        session = may.stands;
       }
 
       sealed_more : (b : Bool) → b ≡ false → (if b then row.session else sealed_once row.session) ≡ sealed_once row.session
@@ -175,7 +173,7 @@ module _ (setup : Setup) (now : ℕ) (call : Call) (past : List Stamped) (s : St
         lines = (line (unequal row.session.sealed last_count e), tt);
         sent = record {
           numbered = numbered_session (own_of setup) past s.sealed s.sessions sent.numbered near row there (unequal row.session.sealed last_count e) now to (session_datagram row.session s.moment (chunk_bytes chunk))
-              (record row { session = after_seal row.session }) (sealed_more (row.session.sealed == last_count) e) carries (held_known (facts_of past) row.session.own row.session.role row.session.stage row.session.joined is_held);
+              (record row { session = after_seal row.session }) (sealed_more (row.session.sealed == last_count) e) carries may.known;
           sized = sent.sized;
           short = sent.short;
         };

@@ -243,10 +243,13 @@ pub record IsBearing (s : State) (from : AddressParts) (payload : List ℕ) (key
   pub again : again_of (held_with s.startup.ledger (keying_of keying).peer) (keying_of keying) ≡ None
   pub repeated : repeated_session (held_with s.startup.ledger (keying_of keying).peer) (keying_of keying) ≡ None
 
-module _ (setup : Setup) (past : List Stamped) (s : State) (tied : Tied setup past s) (from : AddressParts) (datagram : List ℕ) (offer : Offer) (facts : List Fact) (now : ℕ) (a : Admissible setup facts now from datagram offer)
-    (same : facts_of past ≡ facts) (at : s.moment ≡ now) (other : offer.peer ≢ own_of setup) where
+module _ (setup : Setup) (past : List Stamped) (s : State) (tied : Tied setup past s) (from : AddressParts) (datagram : List ℕ) (offer : Offer) (before : List Stamped) (now : ℕ) (a : Admissible setup before now from datagram offer)
+    (same : facts_of past ≡ facts_of before) (same_ids : ids_in_use past ≡ ids_in_use before) (at : s.moment ≡ now) (other : offer.peer ≢ own_of setup) where
   abbrev l : Ledger
   l = s.startup.ledger
+
+  abbrev facts : List Fact
+  facts = facts_of before
 
   account : StandsFor 0 l facts
   account = subst (StandsFor 0 l) same tied.account
@@ -290,8 +293,8 @@ module _ (setup : Setup) (past : List Stamped) (s : State) (tied : Tied setup pa
 
   place : held_with l k.peer ≡ None → full s ≡ None
   place none =
-      let few : length (ids_in_use facts) < setup.config.max_sessions = a.place (sym held_is ∙ none) in
-      not_full s.config.max_sessions (uses s) (omega (arith, few, tied.count, ap (λ fs. length (ids_in_use fs)) same, ap (λ config. config.max_sessions) tied.config))
+      let few : length (ids_in_use before) < setup.config.max_sessions = a.place (sym held_is ∙ none) in
+      not_full s.config.max_sessions (uses s) (omega (arith, few, tied.count, ap length same_ids, ap (λ config. config.max_sessions) tied.config))
 
   birth : birth_refusal l k (is_none (full s)) ≡ None
   birth = none_all (

@@ -34,6 +34,7 @@ use Rattle.endpoint_laws.proofs.Tied.{Tied}
 use Rattle.endpoint_laws.proofs.Facts.{test_fails}
 use Rattle.endpoint_laws.proofs.Moving.{tied_attempt}
 use Rattle.endpoint_laws.proofs.Going.{Keeps, goes_nothing, goes_then, goes_if, goes_in_session}
+use Rattle.endpoint_laws.proofs.OutHeld.{may_send}
 use Rattle.endpoint_laws.proofs.OutSends.{IsNarrow, Sent, Meets, MayGo, meets_nothing, meets_session}
 use Rattle.endpoint_laws.proofs.OutKeyings.{rhello_may, length-cookie_of}
 use Rattle.endpoint_laws.proofs.OutItems.{short_put, sent_startup_changed, meets_answer, attempt_may}
@@ -108,12 +109,12 @@ module _ (setup : Setup) (past : List Stamped) (s : State) (tied : Tied setup pa
 -- ---- how it is answered
 
 -- The body is one chunk, which is no keying.
-record IsModest (body : List ℕ) : Type 0 where
-  chunk : Chunk
-  is : body ≡ chunk_bytes chunk
-  short : length (payload_bytes chunk) < 2 ^ 16
-  no_initiator : kind_of chunk ≢ 0x38
-  no_responder : kind_of chunk ≢ 0x78
+pub record IsModest (body : List ℕ) : Type 0 where
+  pub chunk : Chunk
+  pub is : body ≡ chunk_bytes chunk
+  pub short : length (payload_bytes chunk) < 2 ^ 16
+  pub no_initiator : kind_of chunk ≢ 0x38
+  pub no_responder : kind_of chunk ≢ 0x78
 
 abbrev MayReply : Setup → List Stamped → Reply → Type 0
 MayReply setup past Silence = Unit {0}
@@ -193,13 +194,11 @@ module _ (setup : Setup) (call : Call) where
       (goes_replied left place from (read_reply s place from read) past kept)
 
 module _ (setup : Setup) (now : ℕ) (call : Call) (past : List Stamped) where
-  says : (s : State) → Sent setup past s → Tied setup past s → (near : ℕ) (from : AddressParts) (body : List ℕ) → IsModest body → (o : Option Row) → get s.sessions near ≡ o → Meets setup now call past (sent_by s near from body o)
+  pub says : (s : State) → Sent setup past s → Tied setup past s → (near : ℕ) (from : AddressParts) (body : List ℕ) → IsModest body → (o : Option Row) → get s.sessions near ≡ o → Meets setup now call past (sent_by s near from body o)
   says s sent tied near from body modest None is = meets_nothing setup now call past s sent
   says s sent tied near from body modest (Some row) is =
-      let t = tied.sessions near row is in
       subst (λ (b : List ℕ). Meets setup now call past (sent_by s near from b (Some row))) (sym modest.is)
-      (meets_session setup now call past s sent near row is t.secret t.own
-      (sym (reads_held 0 s.startup.ledger (facts_of past) tied.account row.session.joined.peer) ∙ t.thing) from modest.chunk modest.short modest.no_initiator modest.no_responder)
+      (meets_session setup now call past s sent near row is (may_send setup past s near row tied is) from modest.chunk modest.short modest.no_initiator modest.no_responder)
 
   meets_replied : (s : State) → Sent setup past s → Tied setup past s → (place : Place) (from : AddressParts) (reply : Reply) → MayReply setup past reply → Meets setup now call past (replied s place from reply)
   meets_replied s sent tied place from Silence may = meets_nothing setup now call past s sent

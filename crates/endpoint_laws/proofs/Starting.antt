@@ -30,7 +30,7 @@ use Rattle.endpoint_model.proofs.Ids.{free_from_is_free}
 use Rattle.endpoint_laws.proofs.Matching.{of_peer, ids_more}
 use Rattle.endpoint_laws.proofs.Tied.{Tied}
 use Rattle.endpoint_laws.proofs.Agrees.{IsAt, combined, thing_at, used_here, used_elsewhere, agrees_changed, agrees_of, tied_of}
-use Rattle.endpoint_laws.proofs.Moving.{noted_matches, rows_after_known, rows_after_new}
+use Rattle.endpoint_laws.proofs.Moving.{beside_fact, none_there_still, noted_matches, rows_after_known, rows_after_new}
 use Rattle.endpoint_laws.proofs.Facts.{all_none, test_fails, stands_of}
 use Rattle.endpoint_laws.proofs.Going.{Goes, goes_then, goes_spread}
 
@@ -76,7 +76,7 @@ new_id setup past s word t most small =
       session = none_there (get s.sessions near) both.1;
     }
 
-pub is_free_of : (setup : Setup) (past : List Stamped) (s : State) (near : ℕ) → Tied setup past s → IsNew s near → IsFree near (facts_of past)
+pub is_free_of : (setup : Setup) (past : List Stamped) (s : State) (near : ℕ) → Tied setup past s → IsNew s near → IsFree near past
 is_free_of setup past s near t new = record { some = new.some; unused = sym (t.used near) ∙ new.unused }
 
 -- ---- room
@@ -162,9 +162,10 @@ started_tied setup past s peer candidates near ni tag tied may new =
     (agrees_changed setup past now s t near (Some begun) None a
     (record { config = a.given.config; cert = a.given.cert; secret = a.given.secret; cookie_secret = a.given.cookie_secret; own = a.given.own; max_peers = a.given.max_peers }) at
     (noted_matches s t fact near (Some begun) None a.matches at refl was refl (λ h e. let same : Opening (s.startup.ledger.started + 1) near ni ≡ h = cc in sym (ap near_of same)))
-    (inl refl) (λ done w. inr w)
-    (ids_more setup.config.max_sessions (ids_in_use (facts_of past)) s t near a.ids (used_elsewhere near (Some begun) None s t at) (used_here near (Some begun) None s t at)
+    (inl refl) (beside_fact near s.moment past fact tt) (none_there_still past near (get s.sessions near) (a.closing near) new.session s.moment fact tt None)
+    (ids_more setup.config.max_sessions (ids_in_use past) s t near a.ids (used_elsewhere near (Some begun) None s t at) (used_here near (Some begun) None s t at)
     (omega (arith, len_new s.startup.attempts near begun new.attempt)) new.unused new.some (room_left setup past s tied may.place))
+    (omega arith, a.by_now)
     (rows_after_either s.startup.ledger fact setup.config.max_peers peer refl tied.rows (row_left setup past s peer tied may.row)))
     (gave_started s.startup.ledger peer near ni may.start 0 (facts_of past) tied.account)
 
@@ -181,7 +182,7 @@ goes_opening setup past s peer candidates draws most small none tied =
     let spread = begin_spread s.startup peer candidates draws.nonce draws.tag s.moment in
     goes_then setup (Open peer candidates draws) past s first (λ u. sent_spread u spread)
     (record {
-      meets = ((stands_of (own_of setup) t.startup.ledger fact (facts_of past) after.own after.account, record { by = (refl, refl); id = is_free_of setup past s near tied new }), tt);
+      meets = (((stands_of (own_of setup) t.startup.ledger fact (facts_of past) after.own after.account, record { by = (refl, refl); id = is_free_of setup past s near tied new }), tt), tt);
       tied = after;
       moment = refl;
     })

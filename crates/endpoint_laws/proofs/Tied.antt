@@ -1,5 +1,5 @@
 -- The state of an end agrees with what it did.
-use Rattle.std.proofs.Common.{◌≡◌, ℕ, ◌+◌, ◌≤◌, List, [], length, false, Option, Some, None, is_some, ◌||◌, refl, ap, ◌∙◌, arith}
+use Rattle.std.proofs.Common.{◌≡◌, ℕ, ◌+◌, ◌≤◌, List, [], ◌∷◌, length, Bool, true, false, if◌then◌else◌, Option, Some, None, is_some, ◌||◌, inl, inr, refl, ap, ◌∙◌, arith}
 use Rattle.std.specs.Ordering.{nat_cmp}
 use Rattle.std.specs.Cmp.Lexicographic.{slice_cmp}
 use Rattle.std.specs.FinMap.{get, get-empty, len-empty}
@@ -19,14 +19,17 @@ use Rattle.session_core.specs.declared.stage.Role.TheVariants.{Initiator, Respon
 use Rattle.session_core.specs.declared.stage.Stage.{Stage}
 use Rattle.session_core.specs.declared.stage.Stage.TheVariants.{Opening, Open, NearClose, FarLinger, Closed}
 use Rattle.session_core.specs.Session.{SessionState}
+use Rattle.session_core.specs.Closing.{is_held}
 use Rattle.endpoint_model.specs.declared.row.Row.{Row}
 use Rattle.endpoint_model.specs.declared.entry.Entry.TheVariants.{Fact as FactEntry}
 use Rattle.endpoint_model.specs.Event.{Setup, own_of}
-use Rattle.endpoint_laws.specs.Past.{Stamped, stamped, facts_of, ids_in_use, is_in_use, WasDone}
+use Rattle.endpoint_laws.specs.Past.{Stamped, stamped, facts_of, ids_in_use, is_in_use, IsClosing, WasDone}
+use Rattle.endpoint_laws.specs.OfTheLog.{WasThing}
 use Rattle.endpoint_model.specs.State.{State, fresh, uses, is_used}
 use Rattle.endpoint_model.proofs.Members.{IsOnce}
+use Rattle.endpoint_laws.proofs.Matching.{Found, of_peer}
 
--- what the ledger holds for a session of this role and stage
+-- what a session of this role and stage is while it is held
 abbrev pub thing_of : Role → Stage → Joined → Held
 thing_of Initiator stage j = KeptAsInitiator j
 thing_of Responder Opening j = HalfOpen j
@@ -35,35 +38,68 @@ thing_of Responder NearClose j = KeptAsResponder j
 thing_of Responder FarLinger j = KeptAsResponder j
 thing_of Responder Closed j = KeptAsResponder j
 
--- A session of the own attempt is open, and one of the peer's is half-open or open.
+-- what the ledger holds for it
+abbrev pub held_of : SessionState → Option Held
+held_of session = if is_held session.stage then Some (thing_of session.role session.stage session.joined) else None
+
+-- A session of the own attempt is open, and one of the peer's is half-open or open; or it is closing.
 abbrev pub StageFits : Role → Stage → Type 0
 StageFits Initiator Opening = ⊥
 StageFits Initiator Open = Unit {0}
-StageFits Initiator NearClose = ⊥
-StageFits Initiator FarLinger = ⊥
+StageFits Initiator NearClose = Unit {0}
+StageFits Initiator FarLinger = Unit {0}
 StageFits Initiator Closed = ⊥
 StageFits Responder Opening = Unit {0}
 StageFits Responder Open = Unit {0}
-StageFits Responder NearClose = ⊥
-StageFits Responder FarLinger = ⊥
+StageFits Responder NearClose = Unit {0}
+StageFits Responder FarLinger = Unit {0}
 StageFits Responder Closed = ⊥
+
+-- Each of these was done by this moment.
+abbrev pub AreBy : ℕ → List Stamped → Type 0
+AreBy moment [] = Unit {0}
+AreBy moment (x ∷ past) = (x.moment ≤ moment) × AreBy moment past
+
+pub by_later : (moment later : ℕ) (past : List Stamped) → moment ≤ later → AreBy moment past → AreBy later past
+by_later moment later [] up are = tt
+by_later moment later (x ∷ past) up are = (omega (arith, up, are.0), by_later moment later past up are.1)
+
+-- what closes was closed by then
+pub closing_by : (moment near : ℕ) (thing : Held) (at : ℕ) (past : List Stamped) → AreBy moment past → IsClosing near thing at past → at ≤ moment
+closing_by moment near thing at [] are c = absurd c
+closing_by moment near thing at (x ∷ past) are (inl b) = omega (arith, are.0, b.1)
+closing_by moment near thing at (x ∷ past) are (inr p) = closing_by moment near thing at past are.1 p.1
+
+-- The session is closing, and was closed no later than its stage began.
+pub record IsClosed (past : List Stamped) (near : ℕ) (session : SessionState) : Type 0 where
+  pub thing : Held
+  pub at : ℕ
+  pub was : WasThing session.role session.joined thing
+  pub closing : IsClosing near thing at past
+  pub since : at ≤ session.since
 
 -- a session that sealed once more
 abbrev pub sealed_once : SessionState → SessionState
 sealed_once session = record session { sealed = session.sealed + 1 }
 
--- The session under this near id is one of this end, and the ledger holds it.
-pub record SessionTied (setup : Setup) (ledger : Ledger) (near : ℕ) (session : SessionState) : Type 0 where
+-- The session under this near id is one of this end, and the ledger holds it, or it is closing.
+pub record SessionTied (setup : Setup) (past : List Stamped) (ledger : Ledger) (near : ℕ) (session : SessionState) : Type 0 where
   pub id : session.joined.near ≡ near
   pub own : session.own ≡ own_of setup
   pub secret : session.secret ≡ setup.secret
   pub stage : StageFits session.role session.stage
-  pub thing : held_with ledger session.joined.peer ≡ Some (thing_of session.role session.stage session.joined)
+  pub thing : is_held session.stage ≡ true → held_with ledger session.joined.peer ≡ Some (thing_of session.role session.stage session.joined)
+  pub closed : is_held session.stage ≡ false → IsClosed past near session
 
--- the peer of a session, where there is one
-abbrev pub peer_at : Option Row → Option (List ℕ)
-peer_at None = None
-peer_at (Some row) = Some row.session.joined.peer
+-- what is held for a session, with its peer, where there is one
+abbrev pub found_in : Option Row → Found
+found_in None = None
+found_in (Some row) = of_peer row.session.joined.peer (held_of row.session)
+
+-- The session is closing that was this thing.
+abbrev pub IsClosedThing : Option Row → Held → Type 0
+IsClosedThing None thing = ⊥
+IsClosedThing (Some row) thing = (is_held row.session.stage ≡ false) × WasThing row.session.role row.session.joined thing
 
 -- The state agrees with what was done.
 pub record Tied (setup : Setup) (past : List Stamped) (s : State) : Type 0 where
@@ -77,17 +113,20 @@ pub record Tied (setup : Setup) (past : List Stamped) (s : State) : Type 0 where
   -- the ledger is of the facts, and the attempts and the sessions are what it holds
   pub account : StandsFor 0 s.startup.ledger (facts_of past)
   pub sound : IsSound s.startup
-  pub sessions : (near : ℕ) (row : Row) → get s.sessions near ≡ Some row → SessionTied setup s.startup.ledger near row.session
-  pub there : (peer : List ℕ) (thing : Held) → held_with s.startup.ledger peer ≡ Some thing → IsSession thing → peer_at (get s.sessions (near_of thing)) ≡ Some peer
+  pub sessions : (near : ℕ) (row : Row) → get s.sessions near ≡ Some row → SessionTied setup past s.startup.ledger near row.session
+  pub there : (peer : List ℕ) (thing : Held) → held_with s.startup.ledger peer ≡ Some thing → IsSession thing → found_in (get s.sessions (near_of thing)) ≡ Some (peer, thing)
+  pub closing : (near : ℕ) (thing : Held) (at : ℕ) → IsClosing near thing at past → IsClosedThing (get s.sessions near) thing
   -- no attempt and session have one near id
   pub apart : (near : ℕ) (a : AttemptState) → get s.startup.attempts near ≡ Some a → get s.sessions near ≡ None
   -- each attempt was started at its moment
   pub started : (near : ℕ) (a : AttemptState) → get s.startup.attempts near ≡ Some a → WasDone (stamped a.start (FactEntry (Started a.peer a.n near a.ni))) past
   -- the session IDs in use are those of the attempts and the sessions
-  pub used : (near : ℕ) → is_used s near ≡ is_in_use near (facts_of past)
-  pub count : uses s ≡ length (ids_in_use (facts_of past))
-  pub once : IsOnce (ids_in_use (facts_of past))
-  pub not_zero : is_in_use 0 (facts_of past) ≡ false
+  pub used : (near : ℕ) → is_used s near ≡ is_in_use near past
+  pub count : uses s ≡ length (ids_in_use past)
+  pub once : IsOnce (ids_in_use past)
+  pub not_zero : is_in_use 0 past ≡ false
+  -- the moments
+  pub by_now : AreBy s.moment past
   -- the limits
   pub within : uses s ≤ setup.config.max_sessions
   pub rows : row_count s.startup.ledger ≤ setup.config.max_peers
@@ -111,12 +150,14 @@ fresh_tied setup =
       sound = new_is_sound setup.cert setup.secret setup.cookie_secret setup.config.max_peers;
       sessions = λ near row e. absurd (none_is_some row (get s.sessions near) (no_session near) e);
       there = λ peer thing e is. absurd (none_is_some thing (held_with s.startup.ledger peer) (no_thing peer) e);
+      closing = λ near thing at none. absurd none;
       apart = λ near a e. no_session near;
       started = λ near a e. absurd (none_is_some a (get s.startup.attempts near) (no_attempt near) e);
       used = λ near. ap (λ (o : Option AttemptState). is_some o || is_some (get s.sessions near)) (no_attempt near) ∙ ap (λ (o : Option Row). is_some o) (no_session near);
       count = none;
       once = tt;
       not_zero = refl;
+      by_now = tt;
       within = omega (arith, none);
       rows = omega (arith, len-empty (slice_cmp nat_cmp) PeerRow);
     }

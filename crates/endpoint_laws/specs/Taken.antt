@@ -68,9 +68,10 @@ taken_since near (s ∷ earlier) = if begins near (fact_done s.what) then []
 abbrev pub count_in : List ℕ → ℕ
 count_in datagram = count_of (drop 4 datagram)
 
--- Of these, none that opens in the context has this count, or one that is 1,024 or more above it.
+-- The count isn't 0, and of these none that opens in the context has it, or one that is 1,024 or
+-- more above it.
 abbrev pub IsNewAfter : List ℕ → Context → ℕ → ℕ → List Taken → Type 0
-IsNewAfter secret context near count [] = Unit {0}
+IsNewAfter secret context near count [] = count ≢ 0
 IsNewAfter secret context near count (t ∷ before) =
     ((plain : List ℕ) → OpensUnder secret context near t.datagram plain →
     (count_in t.datagram ≢ count) × (count_in t.datagram < count + 1024)) ×
