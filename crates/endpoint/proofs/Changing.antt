@@ -6,9 +6,10 @@ use Rattle.session_core.specs.Session.{SessionState}
 use Rattle.endpoint_model.specs.declared.config.Config.{Config}
 use Rattle.endpoint_model.specs.declared.row.Row.{Row}
 use Rattle.endpoint_model.specs.State.{State, with_sessions, with_session}
-use Rattle.endpoint.specs.Stored.{near_of, table_of, state_of}
+use Rattle.crypto_profile.specs.Keys.{Keys}
+use Rattle.endpoint.specs.Stored.{near_of, table_of, state_of, IsEndpoint}
 use Rattle.rtmfp_base.proofs.Rows.{index_found}
-use Rattle.endpoint.proofs.Rows.{index_in, put_at, found_at, found_nowhere}
+use Rattle.endpoint.proofs.Rows.{index_in, itself, put_at, found_at, found_nowhere}
 
 pub record IsChanged (rows : List Row) (near : ℕ) (old new : Row) (changed : List Row) : Type 0 where
   pub was : get (table_of rows) near ≡ Some old
@@ -18,7 +19,7 @@ pub record IsChanged (rows : List Row) (near : ℕ) (old new : Row) (changed : L
 pub changed_at : (rows : List Row) (near index : ℕ) (old new : Row) → len (table_of rows) ≡ length rows → index_in rows near ≡ Some index →
     old ≡ get_or rows index old → near_of new ≡ near_of old → IsChanged rows near old new (set rows index new)
 changed_at rows near index old new distinct found is same =
-    let at = index_found near_of (λ (r : Row). r) rows near index distinct found in
+    let at = index_found near_of itself rows near index distinct found in
     let id : near_of new ≡ near = same ∙ ap near_of is ∙ at.key_is old in
     let kept = put_at rows new index distinct (ap (index_in rows) id ∙ found) in
     record {
@@ -26,6 +27,19 @@ changed_at rows near index old new distinct found is same =
       table = kept.table ∙ ap (λ (k : ℕ). insert (table_of rows) k new) id;
       distinct = kept.distinct;
     }
+
+-- the same of a session that was found in rows that are these, and kept its session ID
+pub session_changed : (rows seen : List Row) (near index : ℕ) (old : Row) (new made : SessionState) → len (table_of rows) ≡ length rows →
+    Some index ≡ index_in seen near → seen ≡ rows → old ≡ get_or rows index old → new ≡ made → made.joined.near ≡ near_of old →
+    IsChanged rows near old (record old { session = new }) (set rows index (record old { session = new }))
+session_changed rows seen near index old new made distinct found seen_is is new_is same =
+    changed_at rows near index old (record old { session = new }) distinct (sym (found ∙ ap (λ r. index_in r near) seen_is)) is
+    (ap (λ (s : SessionState). s.joined.near) new_is ∙ same)
+
+-- what is kept beside the rows stays as it is
+pub with_rows : {config : Config} {secret print : List ℕ} {keys : Keys} {startup : StartupState} {rows changed : List Row} →
+    IsEndpoint config secret print keys startup rows → len (table_of changed) ≡ length changed → IsEndpoint config secret print keys startup changed
+with_rows e distinct = record { secret_is = e.secret_is; print_is = e.print_is; keys_are = e.keys_are; distinct = distinct; few = e.few }
 
 -- ---- what is done to the session under an ID, where there is one
 

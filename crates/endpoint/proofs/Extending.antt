@@ -1,5 +1,6 @@
 -- A call brings an end from each log that it stands for to that log with its event.
-use Rattle.std.proofs.Common.{◌≡◌, ◌+◌, ℕ, List, [], ◌∷◌, ◌++◌, drop, length, Option, Some, None, Ok, Err, Result, OnOk, OnErr, IfOk, IfErr, IfSome, IfNone, IsSome, refl, sym, ap, ◌∙◌, subst, max, arith}
+use Rattle.std.proofs.Common.{◌≡◌, ◌+◌, ℕ, List, [], ◌∷◌, ◌++◌, drop, length, Bool, true, false, is_some, Option, Some, None, Ok, Err, Result, OnOk, IfErr, IfSome, IfNone, IsSome, refl, sym, ap, ◌∙◌, subst, max, arith}
+use Rattle.std.proofs.lemmas.List.{append-nil}
 use Rattle.glare_core.specs.declared.facts.Fact.{Fact}
 use Rattle.rtmfp_base.specs.declared.memory.Memory.{Memory}
 use Rattle.rtmfp_forms.specs.Address.{AddressParts}
@@ -33,34 +34,22 @@ added (e ∷ before) es = added before es
 pub alone : (d : Did) (t : State) (before after : Added) → Done d t before after → Does d t [] (drop (length before.entries) after.entries)
 alone d t before after h = record { state = h.state; entries = ap (drop (length before.entries)) h.entries ∙ added before.entries d.entries }
 
+pub nothing_done : (s : State) (out : Added) → Done (nothing s) s out out
+nothing_done s out = record { state = refl; entries = sym (append-nil out.entries); free = omega arith; room = refl }
+
 -- ---- the steps of the calls
 
-none_of : (o : Option OpenRefusal) (n : ℕ) (r : Result ℕ OpenRefusal) → r ≡ Ok n → IfSome o (λ refusal. r ≡ Err refusal) → o ≡ None
-none_of None n r e h = refl
-none_of (Some refusal) n r e h = absurd (let clash : Ok n ≡ Err refusal = sym e ∙ h in cc)
+pub begun_extends : (s t : State) (moment : ℕ) (peer : List ℕ) (candidates : List AddressParts) (draws : Draws) (n : ℕ) (before after : Added) →
+    open_refusal (at_moment s moment) peer candidates ≡ None → n ≡ s.startup.ledger.started + 1 → Done (opening (at_moment s moment) peer candidates draws) t before after →
+    Extends s t (open_event moment peer candidates draws (Ok n) before.entries after.entries)
+begun_extends s t moment peer candidates draws n before after none number done =
+    extends s t (open_event moment peer candidates draws (Ok n) before.entries after.entries) (none, number, alone _ t before after done)
 
-refusal_is : (o : Option OpenRefusal) (refusal : OpenRefusal) (r : Result ℕ OpenRefusal) → r ≡ Err refusal → IfSome o (λ x. r ≡ Err x) →
-    IfNone o (IfErr r (λ x. x ≡ NoMemoryToOpen)) → refusal ≡ not_opened o
-refusal_is None refusal r e some none = subst (λ (q : Result ℕ OpenRefusal). IfErr q (λ x. x ≡ NoMemoryToOpen)) e none
-refusal_is (Some x) refusal r e some none = let same : ◌≡◌ {A = Result ℕ OpenRefusal} (Err refusal) (Err x) = sym e ∙ some in cc
-
-pub open_steps : (s t : State) (moment : ℕ) (peer : List ℕ) (candidates : List AddressParts) (draws : Draws) (r : Result ℕ OpenRefusal) (before after : Added) →
-    IfOk r (λ n. n ≡ s.startup.ledger.started + 1) → OnOk r (Done (opening (at_moment s moment) peer candidates draws) t before after) →
-    IfSome (open_refusal (at_moment s moment) peer candidates) (λ refusal. r ≡ Err refusal) →
-    IfNone (open_refusal (at_moment s moment) peer candidates) (IfErr r (λ refusal. refusal ≡ NoMemoryToOpen)) → OnErr r (Done (nothing (at_moment s moment)) t before after) →
-    Step s (open_event moment peer candidates draws r before.entries after.entries) t
-open_steps s t moment peer candidates draws (Ok n) before after number ok refused memory err =
-    (none_of (open_refusal (at_moment s moment) peer candidates) n (Ok n) refl refused, number, alone _ t before after ok)
-open_steps s t moment peer candidates draws (Err refusal) before after number ok refused memory err =
-    (refusal_is (open_refusal (at_moment s moment) peer candidates) refusal (Err refusal) refl refused memory, alone _ t before after err)
-
-pub open_extends : (s t : State) (moment : ℕ) (peer : List ℕ) (candidates : List AddressParts) (draws : Draws) (r : Result ℕ OpenRefusal) (before after : Added) →
-    IfOk r (λ n. n ≡ s.startup.ledger.started + 1) → OnOk r (Done (opening (at_moment s moment) peer candidates draws) t before after) →
-    IfSome (open_refusal (at_moment s moment) peer candidates) (λ refusal. r ≡ Err refusal) →
-    IfNone (open_refusal (at_moment s moment) peer candidates) (IfErr r (λ refusal. refusal ≡ NoMemoryToOpen)) → OnErr r (Done (nothing (at_moment s moment)) t before after) →
-    Extends s t (open_event moment peer candidates draws r before.entries after.entries)
-open_extends s t moment peer candidates draws r before after number ok refused memory err =
-    extends s t (open_event moment peer candidates draws r before.entries after.entries) (open_steps s t moment peer candidates draws r before after number ok refused memory err)
+pub not_opened_extends : (s t : State) (moment : ℕ) (peer : List ℕ) (candidates : List AddressParts) (draws : Draws) (refusal : OpenRefusal) (before after : Added) →
+    refusal ≡ not_opened (open_refusal (at_moment s moment) peer candidates) → Done (nothing (at_moment s moment)) t before after →
+    Extends s t (open_event moment peer candidates draws (Err refusal) before.entries after.entries)
+not_opened_extends s t moment peer candidates draws refusal before after is done =
+    extends s t (open_event moment peer candidates draws (Err refusal) before.entries after.entries) (is, alone _ t before after done)
 
 -- a call that gives no moment
 at_zero : (s : State) → at_moment s 0 ≡ s
@@ -68,31 +57,36 @@ at_zero s =
     let same : max s.moment 0 ≡ s.moment = omega arith in
     ap (λ (m : ℕ). record s { moment = m }) same
 
-is_there : (o : Option Fact) (done : Unit {0}) → IfNone o (◌≡◌ {A = Result (Unit {0}) CallRefusal} (Ok done) (Err NoAttempt)) → IsSome o
-is_there None done h = absurd (cc)
-is_there (Some fact) done h = refl
-
-not_there : (o : Option Fact) (refusal : CallRefusal) → IfNone o (◌≡◌ {A = Result (Unit {0}) CallRefusal} (Err refusal) (Err NoAttempt)) → IfNone o (refusal ≡ NoAttempt)
-not_there None refusal h = cc
-not_there (Some fact) refusal h = tt
-
-pub cancel_steps : (s t : State) (n : ℕ) (r : Result (Unit {0}) CallRefusal) (before after : Added) →
-    OnOk r (Done (cancelling s n) t before after) → IfNone (cancel_fact s.startup n) (r ≡ Err NoAttempt) →
-    IfSome (cancel_fact s.startup n) (λ _. IfErr r (λ refusal. refusal ≡ NoMemory)) → OnErr r (Done (nothing s) t before after) →
-    Step s (cancel_event n r before.entries after.entries) t
-cancel_steps s t n (Ok done) before after ok refused memory err =
+pub cancelled_extends : (s t : State) (n : ℕ) (done : Unit {0}) (before after : Added) →
+    IsSome (cancel_fact s.startup n) → Done (cancelling s n) t before after →
+    Extends s t (cancel_event n (Ok done) before.entries after.entries)
+cancelled_extends s t n done before after some did =
     let entries : List Entry = drop (length before.entries) after.entries in
-    subst (λ (x : State). Answers x (Cancel n) Finished entries t) (sym (at_zero s)) (is_there (cancel_fact s.startup n) done refused, alone (cancelling s n) t before after ok)
-cancel_steps s t n (Err refusal) before after ok refused memory err =
-    let entries : List Entry = drop (length before.entries) after.entries in
-    subst (λ (x : State). Answers x (Cancel n) (Refused refusal) entries t) (sym (at_zero s)) (not_there (cancel_fact s.startup n) refusal refused, memory, alone (nothing s) t before after err)
+    extends s t (cancel_event n (Ok done) before.entries after.entries)
+    (subst (λ (x : State). Answers x (Cancel n) Finished entries t) (sym (at_zero s)) (some, alone (cancelling s n) t before after did))
 
-pub cancel_extends : (s t : State) (n : ℕ) (r : Result (Unit {0}) CallRefusal) (before after : Added) →
-    OnOk r (Done (cancelling s n) t before after) → IfNone (cancel_fact s.startup n) (r ≡ Err NoAttempt) →
-    IfSome (cancel_fact s.startup n) (λ _. IfErr r (λ refusal. refusal ≡ NoMemory)) → OnErr r (Done (nothing s) t before after) →
-    Extends s t (cancel_event n r before.entries after.entries)
-cancel_extends s t n r before after ok refused memory err =
-    extends s t (cancel_event n r before.entries after.entries) (cancel_steps s t n r before after ok refused memory err)
+refused_extends : (s t : State) (n : ℕ) (refusal : CallRefusal) (before after : Added) →
+    IfNone (cancel_fact s.startup n) (refusal ≡ NoAttempt) × IfSome (cancel_fact s.startup n) (λ _. refusal ≡ NoMemory) → Done (nothing s) t before after →
+    Extends s t (cancel_event n (Err refusal) before.entries after.entries)
+refused_extends s t n refusal before after is did =
+    let entries : List Entry = drop (length before.entries) after.entries in
+    extends s t (cancel_event n (Err refusal) before.entries after.entries)
+    (subst (λ (x : State). Answers x (Cancel n) (Refused refusal) entries t) (sym (at_zero s)) (is.0, is.1, alone (nothing s) t before after did))
+
+none_there : (o : Option Fact) → is_some o ≡ false → IfNone o (NoAttempt ≡ NoAttempt) × IfSome o (λ _. NoAttempt ≡ NoMemory)
+none_there None e = (refl, tt)
+none_there (Some fact) e = absurd (cc)
+
+one_there : (o : Option Fact) → is_some o ≡ true → IfNone o (NoMemory ≡ NoAttempt) × IfSome o (λ _. NoMemory ≡ NoMemory)
+one_there None e = absurd (cc)
+one_there (Some fact) e = (tt, refl)
+
+pub no_attempt_extends : (s : State) (n : ℕ) (out : Added) → is_some (cancel_fact s.startup n) ≡ false → Extends s s (cancel_event n (Err NoAttempt) out.entries out.entries)
+no_attempt_extends s n out none = refused_extends s s n NoAttempt out out (none_there (cancel_fact s.startup n) none) (nothing_done s out)
+
+pub no_memory_extends : (s t : State) (n : ℕ) (before after : Added) → is_some (cancel_fact s.startup n) ≡ true → Done (nothing s) t before after →
+    Extends s t (cancel_event n (Err NoMemory) before.entries after.entries)
+no_memory_extends s t n before after some did = refused_extends s t n NoMemory before after (one_there (cancel_fact s.startup n) some) did
 
 pub tick_steps : (s t : State) (moment : ℕ) (draws : Draws) (r : Result (Unit {0}) Memory) (before after : Added) →
     (count : ℕ) × Done (ticks count (at_moment s moment)) t before after → OnOk r (first_due t ≡ None) →

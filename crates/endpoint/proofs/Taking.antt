@@ -31,6 +31,12 @@ pub taken_as : (s : State) (from : AddressParts) (draws : Draws) (a b : Admissio
     IsTaken s from draws a r new before after → IsTaken s from draws b r new before after
 taken_as s from draws a b r new before after e taken = let P : Admission → Type 0 = λ x. IsTaken s from draws x r new before after in subst P e taken
 
+-- the same of a datagram, in a state that is this one
+pub taken_in : (s t : State) (from : AddressParts) (draws : Draws) (datagram : List ℕ) (r : Result (Unit {0}) Stopped) (new : State) (before after : Added) → t ≡ s →
+    IsTaken t from draws (admission t datagram) r new before after → IsTaken s from draws (admission s datagram) r new before after
+taken_in s t from draws datagram r new before after is taken =
+    let P : State → Type 0 = λ x. IsTaken x from draws (admission x datagram) r new before after in subst P is taken
+
 -- ---- a datagram that is refused
 
 pub refused_so : (s t : State) (from : AddressParts) (draws : Draws) (cause : Cause) (r : Result (Unit {0}) Stopped) (new : State) (before after : Added) →

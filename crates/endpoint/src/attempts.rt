@@ -47,29 +47,6 @@ impl Endpoint {
             (open_event moment epd.now.print candidates.now draws.now result out.old.entries
             out.new.entries) }
     {
-        self.try_open(epd, candidates, moment, draws, out)
-    }
-
-    /// Opens an attempt, if nothing refuses it.
-    fn try_open(
-        &mut self,
-        epd: &Epd,
-        candidates: &[Address],
-        moment: u64,
-        draws: &Draws,
-        out: &mut Outbox,
-    ) -> Result<u64, OpenRefusal>
-        ensures number { IfOk result (λ n. n ≡ self.old.startup.ledger.started + 1) }
-        ensures ok { OnOk result
-            (Done (opening (at_moment self.old moment) epd.now.print candidates.now draws.now)
-            self.new out.old out.new) }
-        ensures refused { IfSome (open_refusal (at_moment self.old moment) epd.now.print
-            candidates.now) (λ refusal. result ≡ Err refusal) }
-        ensures memory { IfNone (open_refusal (at_moment self.old moment) epd.now.print
-            candidates.now) (IfErr result (λ refusal. refusal ≡ OpenRefusal.Memory)) }
-        ensures err { OnErr result (Done (nothing (at_moment self.old moment)) self.new out.old
-            out.new) }
-    {
         self.advance(moment);
         if let Some(refusal) = self.open_refusal(epd, candidates) {
             return Err(refusal);
@@ -144,25 +121,21 @@ impl Endpoint {
         ensures stands { Extends self.old self.new
             (cancel_event n result out.old.entries out.new.entries) }
     {
-        self.try_cancel(n, out)
-    }
-
-    /// Gives up an attempt, if there is one with this number.
-    fn try_cancel(&mut self, n: u64, out: &mut Outbox) -> Result<(), CallRefusal>
-        ensures ok { OnOk result (Done (cancelling self.old n) self.new out.old out.new) }
-        ensures refused { IfNone (cancel_fact self.old.startup n) (result
-            ≡ Err CallRefusal.NoAttempt) }
-        ensures memory { IfSome (cancel_fact self.old.startup n)
-            (λ _. IfErr result (λ refusal. refusal ≡ CallRefusal.Memory)) }
-        ensures err { OnErr result (Done (nothing self.old) self.new out.old out.new) }
-    {
         if !self.startup.has_number(n) {
             return Err(CallRefusal::NoAttempt);
         }
-        match out.make_room(1) {
-            Ok(()) => {}
-            Err(_) => return Err(CallRefusal::Memory),
+        match self.give_up(n, out) {
+            Ok(()) => Ok(()),
+            Err(_) => Err(CallRefusal::Memory),
         }
+    }
+
+    /// Gives up the attempt with this number, if there is one.
+    fn give_up(&mut self, n: u64, out: &mut Outbox) -> Result<(), AllocError>
+        ensures ok { OnOk result (Done (cancelling self.old n) self.new out.old out.new) }
+        ensures err { OnErr result (Done (nothing self.old) self.new out.old out.new) }
+    {
+        out.make_room(1)?;
         if let Some(fact) = self.startup.cancel(n) {
             out.add(Entry::Fact(fact));
         }

@@ -49,38 +49,13 @@ impl Endpoint {
         out: &mut Outbox,
     ) -> Result<(), Stopped>
         requires { length datagram.old ≤ 2048 }
-        ensures ok { OnOk result
-            (Done (received from draws.now (admission (at_moment self.old moment) datagram.old))
-            self.new out.old out.new) }
-        ensures stop { IfErr result (λ stop. IsStop (admission (at_moment self.old moment)
-            datagram.old) stop) }
-        ensures stopped { IfErr result
-            (λ stop. Done (stopped (at_moment self.old moment) from draws.now
-            (admission (at_moment self.old moment) datagram.old) stop) self.new out.old out.new) }
-        ensures enough { AddsDiscards from (admission (at_moment self.old moment) datagram.old) →
-            discards from (admission (at_moment self.old moment) datagram.old) ≤ out.old.free →
-            IsOk result }
+        ensures taken { IsTaken (at_moment self.old moment) from draws.now
+            (admission (at_moment self.old moment) datagram.old) result self.new out.old out.new }
 
         // The end stands for its log with this call.
         ensures stands { Extends self.old self.new
             (receive_event from moment datagram.old draws.now result out.old.entries
             out.new.entries) }
-    {
-        self.take_datagram(from, moment, datagram, draws, out)
-    }
-
-    /// Takes a datagram, by what is kept.
-    fn take_datagram(
-        &mut self,
-        from: Address,
-        moment: u64,
-        datagram: &mut [u8],
-        draws: &Draws,
-        out: &mut Outbox,
-    ) -> Result<(), Stopped>
-        requires { length datagram.old ≤ 2048 }
-        ensures { IsTaken (at_moment self.old moment) from draws.now
-            (admission (at_moment self.old moment) datagram.old) result self.new out.old out.new }
     {
         self.advance(moment);
         self.look_up(datagram);

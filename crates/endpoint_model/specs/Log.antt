@@ -150,8 +150,10 @@ abbrev pub tick_event : ℕ → Draws → Result (Unit {0}) Memory → List Entr
 tick_event moment draws result before after =
     event moment (Tick draws) (answer_of_tick result) before after
 
--- ---- what taking a datagram gives
+-- ---- what taking a datagram gives, from a state in which its moment is noted
 
+-- It did what is due, or it stopped where it can, and did what comes before. With room for what it
+-- adds, where these are discards alone or nothing, it doesn't stop.
 pub record IsTaken (s : State) (from : AddressParts) (draws : Draws) (a : Admission)
     (result : Result (Unit {0}) Stop) (new : State) (before after : Added) : Type 0 where
   pub ok : OnOk result (DoneIn (received from draws a) new before after)

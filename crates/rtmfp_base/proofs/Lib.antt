@@ -1,5 +1,6 @@
 pub mod Maps
 pub mod Rows
+pub mod Leaving
 pub mod Lowest
 pub mod Counts
 pub mod Indices

@@ -1,6 +1,24 @@
-use Rattle.endpoint.proofs.Extending.{cancel_extends}
+use Rattle.std.proofs.Common.{◌≡◌, true, false, is_some, ap, sym, ◌∙◌, arith}
+use Rattle.std.proofs.lemmas.Grind.{common_steps}
+use Rattle.startup.specs.Attempts.{cancel_fact}
+use Rattle.endpoint_model.specs.State.{State}
+use Rattle.endpoint.proofs.Extending.{cancelled_extends, no_attempt_extends, no_memory_extends}
 use Rattle.endpoint.proofs.endpoint.Endpoint.cancel.Goals as goal
 
-pub returns-clause-stands : goal.returns-clause-stands
-returns-clause-stands c =
-    cancel_extends c.args.self.now c.try_cancel.new.self c.args.n c.try_cancel.result c.args.out.now c.try_cancel.new.out c.try_cancel.ensures.ok c.try_cancel.ensures.refused c.try_cancel.ensures.memory c.try_cancel.ensures.err
+pub returns-then-not-has_number-clause-stands : goal.returns-then-not-has_number-clause-stands
+returns-then-not-has_number-clause-stands c =
+    let kept = ap (λ (s : State). is_some (cancel_fact s.startup c.args.n)) c.self.view_is in
+    let none : is_some (cancel_fact c.args.self.now.startup c.args.n) ≡ false = grind (arith, common_steps, kept, c.has_number.ensures, c.if-not-has_number.true) in
+    no_attempt_extends c.args.self.now c.args.n c.args.out.now none
+
+pub returns-in-Ok-clause-stands : goal.returns-in-Ok-clause-stands
+returns-in-Ok-clause-stands c =
+    let kept = ap (λ (s : State). is_some (cancel_fact s.startup c.args.n)) c.self.view_is in
+    let some : is_some (cancel_fact c.args.self.now.startup c.args.n) ≡ true = grind (arith, common_steps, kept, c.has_number.ensures, c.if-not-has_number.false) in
+    cancelled_extends c.args.self.now c.give_up.new.self c.args.n c.in-Ok.field-0 c.args.out.now c.give_up.new.out some c.in-Ok.ensures.ok
+
+pub returns-in-Err-clause-stands : goal.returns-in-Err-clause-stands
+returns-in-Err-clause-stands c =
+    let kept = ap (λ (s : State). is_some (cancel_fact s.startup c.args.n)) c.self.view_is in
+    let some : is_some (cancel_fact c.args.self.now.startup c.args.n) ≡ true = grind (arith, common_steps, kept, c.has_number.ensures, c.if-not-has_number.false) in
+    no_memory_extends c.args.self.now c.give_up.new.self c.args.n c.args.out.now c.give_up.new.out some c.in-Err.ensures.err

@@ -1,7 +1,26 @@
-use Rattle.endpoint.proofs.Extending.{open_extends}
+use Rattle.std.proofs.Common.{◌+◌, sym, ap, ◌∙◌, subst}
+use Rattle.endpoint_model.specs.State.{State, Done, nothing}
+use Rattle.endpoint_model.specs.Effects.{open_refusal, opening}
+use Rattle.endpoint_model.specs.Log.{not_opened}
+use Rattle.endpoint_model.specs.declared.answers.OpenRefusal.TheVariants.{Memory as NoMemory}
+use Rattle.endpoint.proofs.Extending.{begun_extends, not_opened_extends, nothing_done}
 use Rattle.endpoint.proofs.endpoint.Endpoint.open.Goals as goal
 
-pub returns-clause-stands : goal.returns-clause-stands
-returns-clause-stands c =
-    open_extends c.args.self.now c.try_open.new.self c.args.moment c.args.epd.now.print c.args.candidates.now c.args.draws.now c.try_open.result c.args.out.now c.try_open.new.out
-    c.try_open.ensures.number c.try_open.ensures.ok c.try_open.ensures.refused c.try_open.ensures.memory c.try_open.ensures.err
+pub returns-in-Some-clause-stands : goal.returns-in-Some-clause-stands
+returns-in-Some-clause-stands c =
+    not_opened_extends c.args.self.now c.advance.new.self c.args.moment c.args.epd.now.print c.args.candidates.now c.args.draws.now c.in-Some.refusal c.args.out.now c.args.out.now
+    (ap not_opened (c.in-Some.ensures ∙ ap (λ (s : State). open_refusal s c.args.epd.now.print c.args.candidates.now) c.advance.ensures))
+    (subst (λ (s : State). Done (nothing s) c.advance.new.self c.args.out.now c.args.out.now) c.advance.ensures (nothing_done c.advance.new.self c.args.out.now))
+
+pub returns-in-Ok-clause-stands : goal.returns-in-Ok-clause-stands
+returns-in-Ok-clause-stands c =
+    begun_extends c.args.self.now c.begin.new.self c.args.moment c.args.epd.now.print c.args.candidates.now c.args.draws.now c.in-Ok.n c.args.out.now c.begin.new.out
+    (sym (c.in_default.ensures ∙ ap (λ (s : State). open_refusal s c.args.epd.now.print c.args.candidates.now) c.advance.ensures))
+    (c.in-Ok.ensures.number ∙ ap (λ (s : State). s.startup.ledger.started + 1) c.advance.ensures)
+    (subst (λ (s : State). Done (opening s c.args.epd.now.print c.args.candidates.now c.args.draws.now) c.begin.new.self c.args.out.now c.begin.new.out) c.advance.ensures c.in-Ok.ensures.ok)
+
+pub returns-in-Err-clause-stands : goal.returns-in-Err-clause-stands
+returns-in-Err-clause-stands c =
+    not_opened_extends c.args.self.now c.begin.new.self c.args.moment c.args.epd.now.print c.args.candidates.now c.args.draws.now NoMemory c.args.out.now c.begin.new.out
+    (ap not_opened (c.in_default.ensures ∙ ap (λ (s : State). open_refusal s c.args.epd.now.print c.args.candidates.now) c.advance.ensures))
+    (subst (λ (s : State). Done (nothing s) c.begin.new.self c.args.out.now c.begin.new.out) c.advance.ensures c.in-Err.ensures.err)

@@ -1,17 +1,34 @@
+use Rattle.std.proofs.Common.{◌∙◌, arith}
+use Rattle.endpoint_model.specs.State.{at_moment}
 use Rattle.endpoint.proofs.Extending.{receive_extends}
+use Rattle.endpoint.proofs.Taking.{taken_as, taken_in, refused_so, unopened_is, opened_long, datagram_taken}
 use Rattle.endpoint.proofs.endpoint.Endpoint.receive.Goals as goal
 
-pub returns-clause-ok : goal.returns-clause-ok
-returns-clause-ok c = c.take_datagram.ensures.ok
+pub take_opened-requires-clause-long : goal.take_opened-requires-clause-long
+take_opened-requires-clause-long c =
+    let long = opened_long c.look_up.new.self c.args.datagram.now _ c.in-Ok.place c.in-Ok.ensures.ok in
+    omega (arith, long, c.open_datagram.ensures.length)
 
-pub returns-clause-stop : goal.returns-clause-stop
-returns-clause-stop c = c.take_datagram.ensures.stop
+pub returns-in-Ok-clause-taken : goal.returns-in-Ok-clause-taken
+returns-in-Ok-clause-taken c =
+    taken_in (at_moment c.args.self.now c.args.moment) c.look_up.new.self c.args.from c.args.draws.now c.args.datagram.now _ _ _ _ (c.look_up.ensures ∙ c.advance.ensures)
+    (datagram_taken c.look_up.new.self c.args.from c.args.draws.now c.args.datagram.now c.open_datagram.new.datagram c.in-Ok.place _ _ _ _ c.in-Ok.ensures.ok c.in-Ok.ensures.front c.take_opened.ensures)
 
-pub returns-clause-stopped : goal.returns-clause-stopped
-returns-clause-stopped c = c.take_datagram.ensures.stopped
+pub returns-in-Ok-clause-stands : goal.returns-in-Ok-clause-stands
+returns-in-Ok-clause-stands c =
+    receive_extends c.args.self.now c.take_opened.new.self c.args.moment c.args.from c.args.datagram.now c.args.draws.now c.take_opened.result c.args.out.now c.take_opened.new.out
+    (taken_in (at_moment c.args.self.now c.args.moment) c.look_up.new.self c.args.from c.args.draws.now c.args.datagram.now _ _ _ _ (c.look_up.ensures ∙ c.advance.ensures)
+    (datagram_taken c.look_up.new.self c.args.from c.args.draws.now c.args.datagram.now c.open_datagram.new.datagram c.in-Ok.place _ _ _ _ c.in-Ok.ensures.ok c.in-Ok.ensures.front c.take_opened.ensures))
 
-pub returns-clause-enough : goal.returns-clause-enough
-returns-clause-enough c = c.take_datagram.ensures.enough
+pub returns-in-Err-clause-taken : goal.returns-in-Err-clause-taken
+returns-in-Err-clause-taken c =
+    taken_in (at_moment c.args.self.now c.args.moment) c.look_up.new.self c.args.from c.args.draws.now c.args.datagram.now _ _ _ _ (c.look_up.ensures ∙ c.advance.ensures)
+    (taken_as c.look_up.new.self c.args.from c.args.draws.now _ _ _ _ _ _ (unopened_is c.look_up.new.self c.args.datagram.now c.in-Err.cause c.in-Err.ensures.err)
+    (refused_so c.look_up.new.self c.look_up.new.self c.args.from c.args.draws.now _ _ _ _ _ c.refuse_unopened.ensures.ok c.refuse_unopened.ensures.stop c.refuse_unopened.ensures.enough))
 
-pub returns-clause-stands : goal.returns-clause-stands
-returns-clause-stands c = receive_extends c.args.self.now c.take_datagram.new.self c.args.moment c.args.from c.args.datagram.now c.args.draws.now c.take_datagram.result c.args.out.now c.take_datagram.new.out c.take_datagram.ensures
+pub returns-in-Err-clause-stands : goal.returns-in-Err-clause-stands
+returns-in-Err-clause-stands c =
+    receive_extends c.args.self.now c.refuse_unopened.new.self c.args.moment c.args.from c.args.datagram.now c.args.draws.now c.refuse_unopened.result c.args.out.now c.refuse_unopened.new.out
+    (taken_in (at_moment c.args.self.now c.args.moment) c.look_up.new.self c.args.from c.args.draws.now c.args.datagram.now _ _ _ _ (c.look_up.ensures ∙ c.advance.ensures)
+    (taken_as c.look_up.new.self c.args.from c.args.draws.now _ _ _ _ _ _ (unopened_is c.look_up.new.self c.args.datagram.now c.in-Err.cause c.in-Err.ensures.err)
+    (refused_so c.look_up.new.self c.look_up.new.self c.args.from c.args.draws.now _ _ _ _ _ c.refuse_unopened.ensures.ok c.refuse_unopened.ensures.stop c.refuse_unopened.ensures.enough)))

@@ -4,6 +4,7 @@ use Rattle.rtmfp_chunks.specs.Chunk.{chunk_of}
 use Rattle.rtmfp_chunks.specs.Writing.{chunk_bytes}
 use Rattle.endpoint_model.specs.State.{State}
 use Rattle.endpoint.proofs.Rows.{index_in, found_at, found_nowhere}
+use Rattle.endpoint.proofs.Changing.{with_rows}
 use Rattle.endpoint.proofs.InSession.{unsent_unknown, unsent_spent, put_back, sent_one}
 use Rattle.endpoint.proofs.endpoint.Endpoint.send_in_session.Goals as goal
 
@@ -23,14 +24,9 @@ returns-then-is_spent c =
     unsent_spent c.args.self.now c.args.near c.args.to.now (chunk_bytes (chunk_of c.args.chunk.now)) c.index.result.now c.args.out.now found (sym c.is_spent.ensures.value ∙ c.if-is_spent.true)
 
 pub invariant_of-self : goal.invariant_of-self
-invariant_of-self c = record {
-  secret_is = c.self.invariant.secret_is;
-  print_is = c.self.invariant.print_is;
-  keys_are = c.self.invariant.keys_are;
-  distinct = (put_back c.self.inside.sessions.items c.args.near c.in-Some.index c.index_mut.result.now c.session_datagram-datagram.new.session c.self.invariant.distinct
-      (sym (c.in-Some.ensures ∙ ap (λ rows. index_in rows c.args.near) c.deref.ensures.value)) c.index_mut.ensures.value c.session_datagram-datagram.ensures.session).distinct;
-  few = c.self.invariant.few;
-}
+invariant_of-self c = with_rows c.self.invariant
+    (put_back c.self.inside.sessions.items c.args.near c.in-Some.index c.index_mut.result.now c.session_datagram-datagram.new.session c.self.invariant.distinct
+    (sym (c.in-Some.ensures ∙ ap (λ rows. index_in rows c.args.near) c.deref.ensures.value)) c.index_mut.ensures.value c.session_datagram-datagram.ensures.session).distinct
 
 pub returns : goal.returns
 returns c =
