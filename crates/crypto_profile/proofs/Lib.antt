@@ -1,7 +1,7 @@
 pub mod Bitmap
 pub mod Buffers
 pub mod Ciphers
-pub mod KeptLaws
+pub mod WindowLaws
 pub mod Opened
 pub mod Streams
 pub mod Tags

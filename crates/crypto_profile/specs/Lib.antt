@@ -1,6 +1,6 @@
 pub mod Hmac
 pub mod Keys
-pub mod Kept
+pub mod Window
 pub mod Macs
 pub mod Opening
 pub mod Sealing

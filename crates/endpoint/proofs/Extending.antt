@@ -88,7 +88,7 @@ pub no_memory_extends : (s t : State) (n : ℕ) (before after : Added) → is_so
     Extends s t (cancel_event n (Err NoMemory) before.entries after.entries)
 no_memory_extends s t n before after some did = refused_extends s t n NoMemory before after (one_there (cancel_fact s.startup n) some) did
 
-pub tick_steps : (s t : State) (moment : ℕ) (draws : Draws) (r : Result (Unit {0}) Memory) (before after : Added) →
+tick_steps : (s t : State) (moment : ℕ) (draws : Draws) (r : Result (Unit {0}) Memory) (before after : Added) →
     (count : ℕ) × Done (ticks count (at_moment s moment)) t before after → OnOk r (first_due t ≡ None) →
     Step s (tick_event moment draws r before.entries after.entries) t
 tick_steps s t moment draws (Ok done) before after some all = ((some.0, alone (ticks some.0 (at_moment s moment)) t before after some.1), all)
@@ -100,7 +100,7 @@ pub tick_extends : (s t : State) (moment : ℕ) (draws : Draws) (r : Result (Uni
 tick_extends s t moment draws r before after some all =
     extends s t (tick_event moment draws r before.entries after.entries) (tick_steps s t moment draws r before after some all)
 
-pub receive_steps : (s t : State) (moment : ℕ) (from : AddressParts) (datagram : List ℕ) (draws : Draws) (r : Result (Unit {0}) Stop) (before after : Added) →
+receive_steps : (s t : State) (moment : ℕ) (from : AddressParts) (datagram : List ℕ) (draws : Draws) (r : Result (Unit {0}) Stop) (before after : Added) →
     OnOk r (Done (received from draws (admission (at_moment s moment) datagram)) t before after) → IfErr r (λ stop. IsStop (admission (at_moment s moment) datagram) stop) →
     IfErr r (λ stop. Done (stopped (at_moment s moment) from draws (admission (at_moment s moment) datagram) stop) t before after) →
     Step s (receive_event from moment datagram draws r before.entries after.entries) t

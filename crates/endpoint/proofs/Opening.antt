@@ -10,10 +10,10 @@ use Rattle.crypto_profile.specs.declared.sealing.SealFault.TheVariants.{Short, B
 use Rattle.crypto_profile.specs.Opening.{open_refusal, plain_of}
 use Rattle.crypto_profile.specs.Sealing.{tag_of}
 use Rattle.session_core.specs.declared.hearing.Unheard.TheVariants.{Short as ShortPart, BadTag as WrongTag, Repeated as OldNumber}
-use Rattle.crypto_profile.specs.Kept.{kept_answer}
+use Rattle.crypto_profile.specs.Window.{window_answer}
 use Rattle.session_core.specs.declared.hearing.Unheard.{Unheard}
 use Rattle.session_core.specs.declared.hearing.Unheard.TheVariants.{Short as ShortPart, BadTag as WrongTag, Repeated as OldNumber}
-use Rattle.crypto_profile.specs.Kept.{kept_answer}
+use Rattle.crypto_profile.specs.Window.{window_answer}
 use Rattle.session_core.specs.Session.{SessionState}
 use Rattle.session_core.specs.Hearing.{answered, count_of, is_new, inward_keys, opened, opens_in, unheard, unheard_by}
 use Rattle.endpoint_model.specs.State.{State}
@@ -90,7 +90,7 @@ heard_by_tests opens new part none = elim (cases_lt (length part) 32) [
         opens_of opens new (sym (ap (λ b. if b then Some ShortPart else after_long opens new) (le-ltb (length part) 32 ge)) ∙ none)
 
 pub is_heard : (session : SessionState) (part : List ℕ) → unheard session part ≡ None → IsHeard session part
-is_heard session part none = let found = heard_by_tests (opens_in session part) (is_new (kept_answer session.window (count_of part))) part none in record { opens = found.0; long = found.1 }
+is_heard session part none = let found = heard_by_tests (opens_in session part) (is_new (window_answer session.window (count_of part))) part none in record { opens = found.0; long = found.1 }
 
 -- what is heard opened in place
 pub heard_in_place : (session : SessionState) (part new : List ℕ) → new ≡ opened session part → IsHeard session part → IsOpened (inward_keys session) part new

@@ -4,7 +4,7 @@ use Rattle.std.specs.Int.{w64, from_be_bytes}
 use Rattle.std.proofs.lemmas.List.{drop-take}
 use Rattle.std.proofs.lemmas.Bool.Decides.{nat_tests}
 use Rattle.std.specs.FinMap.{get}
-use Rattle.crypto_profile.specs.Kept.{kept_after}
+use Rattle.crypto_profile.specs.Window.{window_after}
 use Rattle.crypto_profile.specs.Sealing.{number_of}
 use Rattle.rtmfp_base.proofs.Maps.{get_inserted}
 use Rattle.rtmfp_forms.specs.Address.{AddressParts}
@@ -106,7 +106,7 @@ count_alike old new front =
 
 counted_alike_by : (s : State) (near : ℕ) (a b : List ℕ) (o : Option Row) → count_of a ≡ count_of b → counted_by s near a o ≡ counted_by s near b o
 counted_alike_by s near a b None e = refl
-counted_alike_by s near a b (Some row) e = let session : SessionState = row.session in ap (λ n. with_session s near row (record session { window = kept_after session.window n })) e
+counted_alike_by s near a b (Some row) e = let session : SessionState = row.session in ap (λ n. with_session s near row (record session { window = window_after session.window n })) e
 
 counted_alike : (s : State) (place : Place) (a b : List ℕ) → count_of a ≡ count_of b → counted_at s place a ≡ counted_at s place b
 counted_alike s Startup a b e = refl

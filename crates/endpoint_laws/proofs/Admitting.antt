@@ -28,7 +28,7 @@ use Rattle.session_core.specs.declared.hearing.Unheard.{Unheard}
 use Rattle.session_core.specs.declared.hearing.Unheard.TheVariants.{Short as ShortPart, BadTag as WrongTag, Repeated as OldNumber}
 use Rattle.session_core.specs.Session.{SessionState, context_of, with_stamps}
 use Rattle.session_core.specs.Hearing.{counted, unheard, opens_in, is_new, count_of}
-use Rattle.crypto_profile.specs.Kept.{kept_answer}
+use Rattle.crypto_profile.specs.Window.{window_answer}
 use Rattle.session_core.proofs.Hears.{opens_some_plain}
 use Rattle.endpoint_model.specs.declared.place.Place.{Place}
 use Rattle.endpoint_model.specs.declared.place.Place.TheVariants.{Startup, Attempt, Session}
@@ -120,7 +120,7 @@ session_heard datagram near None plain id same e = tt
 session_heard datagram near (Some row) plain id same e =
     let part : List ℕ = drop 4 datagram in
     let none : unheard row.session part ≡ None = heard_is row.session part (unheard row.session part) plain e in
-    let opens : opens_in row.session part ≡ true = opens_if (nat_lt (length part) 32) (opens_in row.session part) (is_new (kept_answer row.session.window (count_of part))) none in
+    let opens : opens_in row.session part ≡ true = opens_if (nat_lt (length part) 32) (opens_in row.session part) (is_new (window_answer row.session.window (count_of part))) none in
     let found = (opens_some_plain row.session part).0 opens in
     (found.0, record { id = sym id; opens = subst (λ n. Opens row.session.secret (context_of row.session false) n part found.0) (same row refl) found.1 })
 

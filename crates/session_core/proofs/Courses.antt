@@ -6,7 +6,7 @@ use Rattle.session_core.specs.declared.stage.Stage.{Stage}
 use Rattle.session_core.specs.declared.stage.Stage.TheVariants.{Opening, Open, NearClose, FarLinger, Closed}
 use Rattle.session_core.specs.declared.stage.SessionDue.{SessionDue}
 use Rattle.session_core.specs.declared.stage.SessionDue.TheVariants.{Unconfirmed, Idle, Over, RepeatClose}
-use Rattle.crypto_profile.specs.Kept.{kept_after}
+use Rattle.crypto_profile.specs.Window.{window_after}
 use Rattle.session_core.specs.Session.{SessionState}
 use Rattle.session_core.specs.Hearing.{opens_in, count_of}
 use Rattle.session_core.specs.Sealed.{is_spent}
@@ -127,7 +127,7 @@ keepalive_step FarLinger s moment = refl
 keepalive_step Closed s moment = refl
 
 staged : (stage : Stage) (s : SessionState) (call : Call) → course_of (after_call (record s { stage = stage }) call) ≡ course_step call (course_of (record s { stage = stage }))
-staged stage s (Hear part) = unchanged_if course_of (opens_in (record s { stage = stage }) part) (record s { stage = stage; window = kept_after s.window (count_of part) }) (record s { stage = stage }) refl
+staged stage s (Hear part) = unchanged_if course_of (opens_in (record s { stage = stage }) part) (record s { stage = stage; window = window_after s.window (count_of part) }) (record s { stage = stage }) refl
 staged stage s (TakeNumber part) = refl
 staged stage s Seal = sealed_stays (is_spent s) (record s { stage = stage })
   where

@@ -3,7 +3,7 @@ use Rattle.std.proofs.Common.{◌≡◌, ℕ, ◌+◌, Bool, true, false, if◌t
 use Rattle.std.specs.Prelude.{◌||◌}
 use Rattle.session_core.specs.declared.stage.Stage.{Stage}
 use Rattle.session_core.specs.declared.stage.Stage.TheVariants.{NearClose, FarLinger, Closed}
-use Rattle.crypto_profile.specs.Kept.{Kept, kept_after}
+use Rattle.crypto_profile.specs.Window.{WindowState, window_after}
 use Rattle.session_core.specs.Session.{SessionState, confirmed_stage}
 use Rattle.session_core.specs.Closing.{first_due, is_held, is_near_close, needs_keepalive}
 use Rattle.session_core.specs.Hearing.{opens_in, count_of}
@@ -20,7 +20,7 @@ pub record IsBlind {A : Type 0} (value : SessionState → A) : Type 0 where
   pub since : (s : SessionState) (since : ℕ) → value (record s { since = since }) ≡ value s
   pub close_sent : (s : SessionState) (close_sent : Option ℕ) → value (record s { close_sent = close_sent }) ≡ value s
   pub keepalive : (s : SessionState) (keepalive : Option ℕ) → value (record s { keepalive = keepalive }) ≡ value s
-  pub window : (s : SessionState) (window : Kept) → value (record s { window = window }) ≡ value s
+  pub window : (s : SessionState) (window : WindowState) → value (record s { window = window }) ≡ value s
   pub sealed : (s : SessionState) (sealed : ℕ) → value (record s { sealed = sealed }) ≡ value s
 
 -- what such a value owes of a call: nothing of one that may change it
@@ -37,8 +37,8 @@ seal_stays value blind false s = blind.sealed s (s.sealed + 1)
 
 pub stays : {A : Type 0} (value : SessionState → A) → IsBlind value → (s : SessionState) (call : Call) → Stays value s call
 stays value blind s (Hear part) =
-    unchanged_if value (opens_in s part) (record s { window = kept_after s.window (count_of part) }) s (blind.window s (kept_after s.window (count_of part)))
-stays value blind s (TakeNumber part) = blind.window s (kept_after s.window (count_of part))
+    unchanged_if value (opens_in s part) (record s { window = window_after s.window (count_of part) }) s (blind.window s (window_after s.window (count_of part)))
+stays value blind s (TakeNumber part) = blind.window s (window_after s.window (count_of part))
 stays value blind s Seal = seal_stays value blind (is_spent s) s
 stays value blind s (MoveTo address) = tt
 stays value blind s Confirm = blind.stage s (confirmed_stage s.stage)

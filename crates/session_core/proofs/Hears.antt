@@ -4,11 +4,11 @@ use Rattle.std.specs.Bool.{IsTrue}
 use Rattle.std.specs.Option.{is_none}
 use Rattle.std.proofs.lemmas.Slice.Eq.{bytes_eq-Decides}
 use Rattle.crypto_profile.specs.declared.sealing.SealFault.{SealFault}
-use Rattle.crypto_profile.specs.Kept.{kept_answer, kept_after, kept_of}
+use Rattle.crypto_profile.specs.Window.{window_answer, window_after, window_of}
 use Rattle.crypto_profile.specs.Taken.{answer, taken_after}
 use Rattle.crypto_profile.specs.Opening.{open_refusal, plain_of}
 use Rattle.crypto_profile.specs.Sealing.{number_of, NumberFits, Opens}
-use Rattle.crypto_profile.proofs.KeptLaws.{kept_stands}
+use Rattle.crypto_profile.proofs.WindowLaws.{window_stands}
 use Rattle.crypto_profile.proofs.Opened.{opens_by_its_tag}
 use Rattle.glare_core.specs.declared.facts.Joined.{Joined}
 use Rattle.session_core.specs.declared.stage.Role.{Role}
@@ -16,18 +16,18 @@ use Rattle.session_core.specs.declared.stage.Role.TheVariants.{Initiator, Respon
 use Rattle.session_core.specs.Session.{SessionState, context_between, context_of}
 use Rattle.session_core.specs.Hearing.{answered, count_of, HearsByTaken, inward_keys, is_new, is_session_number, opens_in, OpensSomePlain, OpensThisPlain, unheard_by}
 
-window_after : (b : Bool) (s : SessionState) (taken : List ℕ) (n : ℕ) → kept_after s.window n ≡ kept_of (taken_after taken n) → s.window ≡ kept_of taken
-    → (if b then (record s { window = kept_after s.window n }) else s).window ≡ kept_of (if b then taken_after taken n else taken)
-window_after true s taken n after now = after
-window_after false s taken n after now = now
+window_hearing : (b : Bool) (s : SessionState) (taken : List ℕ) (n : ℕ) → window_after s.window n ≡ window_of (taken_after taken n) → s.window ≡ window_of taken
+    → (if b then (record s { window = window_after s.window n }) else s).window ≡ window_of (if b then taken_after taken n else taken)
+window_hearing true s taken n after now = after
+window_hearing false s taken n after now = now
 
 pub hears_by_taken : HearsByTaken
 hears_by_taken s taken part e =
     let n : ℕ = count_of part in
-    let answers : kept_answer s.window n ≡ answer taken n = ap (λ w. kept_answer w n) e ∙ (kept_stands taken n).0 in
-    let after : kept_after s.window n ≡ kept_of (taken_after taken n) = ap (λ w. kept_after w n) e ∙ (kept_stands taken n).1 in (
+    let answers : window_answer s.window n ≡ answer taken n = ap (λ w. window_answer w n) e ∙ (window_stands taken n).0 in
+    let after : window_after s.window n ≡ window_of (taken_after taken n) = ap (λ w. window_after w n) e ∙ (window_stands taken n).1 in (
       ap (λ r. answered (unheard_by (opens_in s part) (is_new r) part) part) answers,
-      window_after (opens_in s part) s taken n after e,
+      window_hearing (opens_in s part) s taken n after e,
     )
 
 -- ---- opening

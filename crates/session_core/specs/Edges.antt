@@ -6,7 +6,7 @@ use Rattle.session_core.specs.declared.stage.Stage.TheVariants.{Opening, Open, N
 use Rattle.session_core.specs.declared.stamps.Stamp.{Stamp}
 use Rattle.session_core.specs.declared.trips.RoundTrip.{RoundTrip}
 use Rattle.session_core.specs.declared.congestion.Congestion.{Congestion}
-use Rattle.crypto_profile.specs.Kept.{kept_of}
+use Rattle.crypto_profile.specs.Window.{window_of}
 use Rattle.session_core.specs.Stamps.{tick_of, echo_of}
 use Rattle.session_core.specs.Session.{SessionState, mode_of}
 
@@ -49,7 +49,7 @@ pub record HasBegun (moment : ℕ) (s : SessionState) : Type 0 where
   pub since : s.since ≡ moment
   pub taken : s.taken ≡ moment
   pub sealed : s.sealed ≡ 0
-  pub window : s.window ≡ kept_of []
+  pub window : s.window ≡ window_of []
   pub stamp : s.stamp ≡ None
   pub keepalive : s.keepalive ≡ None
   pub close_sent : s.close_sent ≡ None

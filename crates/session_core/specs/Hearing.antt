@@ -5,7 +5,7 @@ use Rattle.std.specs.Str.{bytes_eq}
 use Rattle.std.specs.declared.ops.Range.{Range}
 use Rattle.crypto_profile.specs.declared.window.Seen.{Seen}
 use Rattle.crypto_profile.specs.Keys.{Keys, keys_of}
-use Rattle.crypto_profile.specs.Kept.{kept_answer, kept_after, kept_of}
+use Rattle.crypto_profile.specs.Window.{window_answer, window_after, window_of}
 use Rattle.crypto_profile.specs.Taken.{answer, taken_after}
 use Rattle.crypto_profile.specs.Opening.{open_refusal, plain_of}
 use Rattle.crypto_profile.specs.Sealing.{number_of, Opens}
@@ -49,7 +49,7 @@ unheard_by opens new part =
     else None
 
 abbrev pub unheard : SessionState → List ℕ → Option Unheard
-unheard s part = unheard_by (opens_in s part) (is_new (kept_answer s.window (count_of part))) part
+unheard s part = unheard_by (opens_in s part) (is_new (window_answer s.window (count_of part))) part
 
 -- where the plain packet stands, or why it wasn't heard
 abbrev pub answered : Option Unheard → List ℕ → Result (Range ℕ) Unheard
@@ -62,11 +62,11 @@ heard_answer s part = answered (unheard s part) part
 -- the session after a part: what opens leaves its number, where that is new
 abbrev pub after_heard : SessionState → List ℕ → SessionState
 after_heard s part = if opens_in s part then
-    record s { window = kept_after s.window (count_of part) } else s
+    record s { window = window_after s.window (count_of part) } else s
 
 -- the session after the number of a part was taken
 abbrev pub counted : SessionState → List ℕ → SessionState
-counted s part = record s { window = kept_after s.window (count_of part) }
+counted s part = record s { window = window_after s.window (count_of part) }
 
 -- the buffer after a part: what opens leaves its plain packet from byte 32 on, anything else stays
 -- as it was
@@ -84,11 +84,11 @@ taken_hearing s taken part = if opens_in s part then taken_after taken (count_of
 
 -- ---- laws
 
--- what is kept of the numbers taken hears each part as the whole list does, and goes on with it
+-- the window of the numbers taken hears each part as the whole list does, and goes on with it
 abbrev pub HearsByTaken : Type 0
-HearsByTaken = (s : SessionState) (taken part : List ℕ) → s.window ≡ kept_of taken
+HearsByTaken = (s : SessionState) (taken part : List ℕ) → s.window ≡ window_of taken
     → (heard_answer s part ≡ heard_by s taken part) ×
-    ((after_heard s part).window ≡ kept_of (taken_hearing s taken part))
+    ((after_heard s part).window ≡ window_of (taken_hearing s taken part))
 
 -- a part opens exactly where it is the sealed part of a plain packet in the context towards this
 -- end

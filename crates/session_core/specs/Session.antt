@@ -7,7 +7,7 @@ use Rattle.rtmfp_packet.specs.declared.head.Mode.TheVariants.{Initiator as FromI
 use Rattle.crypto_profile.specs.declared.keys.Context.{Context}
 use Rattle.crypto_profile.specs.declared.keys.Context.TheVariants.{Session as SessionContext}
 use Rattle.crypto_profile.specs.Keys.{Keys, keys_of}
-use Rattle.crypto_profile.specs.Kept.{Kept, kept_of}
+use Rattle.crypto_profile.specs.Window.{WindowState, window_of}
 use Rattle.glare_core.specs.declared.facts.Joined.{Joined}
 use Rattle.session_core.specs.declared.stage.Role.{Role}
 use Rattle.session_core.specs.declared.stage.Role.TheVariants.{Initiator, Responder}
@@ -32,8 +32,8 @@ pub record SessionState : Type 0 where
   pub stage : Stage
   -- the moment of the birth or opening, and once it is closing that of its closing or lingering
   pub since : ℕ
-  -- what is kept of the numbers taken
-  pub window : Kept
+  -- the window of the numbers taken
+  pub window : WindowState
   -- how many packets were sealed
   pub sealed : ℕ
   -- the last timestamp of the peer
@@ -81,7 +81,7 @@ new_session joined own role address secret begun = record {
   address = address;
   stage = first_stage role;
   since = begun;
-  window = kept_of [];
+  window = window_of [];
   sealed = 0;
   stamp = None;
   taken = begun;
