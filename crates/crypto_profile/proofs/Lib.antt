@@ -1,6 +1,7 @@
 pub mod Bitmap
 pub mod Buffers
 pub mod Ciphers
+pub mod Contexts
 pub mod WindowLaws
 pub mod Opened
 pub mod Streams

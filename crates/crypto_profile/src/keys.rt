@@ -1,8 +1,7 @@
 //! The keys: each is an HMAC under the group secret.
 
 ghost use Rattle.std.specs.Prelude.{◌≡◌};
-ghost use Rattle.crypto_profile.specs.Hmac.{hmac};
-ghost use Rattle.crypto_profile.specs.Keys.{enc_label, keys_of, mac_label, session_text, sign_key_of};
+ghost use Rattle.crypto_profile.specs.Keys.{keys_of, labelled, same_context, sign_key_of};
 
 use crate::hmac_key::HmacKey;
 use crate::mac::hmac;
@@ -30,6 +29,48 @@ pub enum Context {
         /// Whether the packet goes to the responder.
         to_responder: bool,
     },
+}
+
+impl Context {
+    /// Whether the two contexts are the same.
+    pub fn is_same(&self, other: &Context) -> bool
+        ensures { result ≡ same_context self.now other.now }
+    {
+        match self {
+            Context::Startup => match other {
+                Context::Startup => true,
+                Context::Session { .. } => false,
+            },
+            Context::Session {
+                ni,
+                nr,
+                fp_i,
+                fp_r,
+                sid_i,
+                sid_r,
+                to_responder,
+            } => match other {
+                Context::Startup => false,
+                Context::Session {
+                    ni: other_ni,
+                    nr: other_nr,
+                    fp_i: other_fp_i,
+                    fp_r: other_fp_r,
+                    sid_i: other_sid_i,
+                    sid_r: other_sid_r,
+                    to_responder: other_to_responder,
+                } => {
+                    *ni == *other_ni
+                        && *nr == *other_nr
+                        && *fp_i == *other_fp_i
+                        && *fp_r == *other_fp_r
+                        && *sid_i == *other_sid_i
+                        && *sid_r == *other_sid_r
+                        && *to_responder == *other_to_responder
+                }
+            },
+        }
+    }
 }
 
 /// The keys of a context.
@@ -106,34 +147,34 @@ pub fn stream_key(secret: &HmacKey, context: &Context) -> HmacKey
 fn enc_under(secret: &HmacKey, context: &Context) -> [u8; 32]
     ensures { result ≡ (keys_of secret.now context.now).enc }
 {
-    match context {
-        Context::Startup => secret.hmac(b"rtmfp startup enc"),
-        Context::Session {
-            ni,
-            nr,
-            fp_i,
-            fp_r,
-            sid_i,
-            sid_r,
-            to_responder,
-        } => session_key(
-            secret,
-            enc_label(*to_responder),
-            ni,
-            nr,
-            fp_i,
-            fp_r,
-            *sid_i,
-            *sid_r,
-        ),
-    }
+    labelled(
+        secret,
+        b"rtmfp startup enc",
+        b"rtmfp session enc i",
+        b"rtmfp session enc r",
+        context,
+    )
 }
 
 fn mac_under(secret: &HmacKey, context: &Context) -> [u8; 32]
     ensures { result ≡ (keys_of secret.now context.now).mac }
 {
+    labelled(
+        secret,
+        b"rtmfp startup mac",
+        b"rtmfp session mac i",
+        b"rtmfp session mac r",
+        context,
+    )
+}
+
+/// The key of a context by its labels: the one of startup, and those of sessions for packets to the
+/// responder and to the initiator.
+fn labelled(secret: &HmacKey, startup: &[u8], i: &[u8], r: &[u8], context: &Context) -> [u8; 32]
+    ensures { result ≡ labelled secret.now startup.now i.now r.now context.now }
+{
     match context {
-        Context::Startup => secret.hmac(b"rtmfp startup mac"),
+        Context::Startup => secret.hmac(startup),
         Context::Session {
             ni,
             nr,
@@ -142,61 +183,17 @@ fn mac_under(secret: &HmacKey, context: &Context) -> [u8; 32]
             sid_i,
             sid_r,
             to_responder,
-        } => session_key(
-            secret,
-            mac_label(*to_responder),
-            ni,
-            nr,
-            fp_i,
-            fp_r,
-            *sid_i,
-            *sid_r,
-        ),
+        } => {
+            let mut mac = secret.begin();
+            mac.update(if *to_responder { i } else { r });
+            mac.update(ni);
+            mac.update(nr);
+            mac.update(fp_i);
+            mac.update(fp_r);
+            mac.update(&sid_i.to_be_bytes());
+            mac.finish_with(&sid_r.to_be_bytes())
+        }
     }
-}
-
-fn enc_label(to_responder: bool) -> &'static [u8]
-    ensures { result.now ≡ enc_label to_responder }
-{
-    if to_responder {
-        b"rtmfp session enc i"
-    } else {
-        b"rtmfp session enc r"
-    }
-}
-
-fn mac_label(to_responder: bool) -> &'static [u8]
-    ensures { result.now ≡ mac_label to_responder }
-{
-    if to_responder {
-        b"rtmfp session mac i"
-    } else {
-        b"rtmfp session mac r"
-    }
-}
-
-// A key of a session under the group secret.
-fn session_key(
-    secret: &HmacKey,
-    label: &[u8],
-    ni: &[u8; 16],
-    nr: &[u8; 16],
-    fp_i: &[u8; 32],
-    fp_r: &[u8; 32],
-    sid_i: u32,
-    sid_r: u32,
-) -> [u8; 32]
-    ensures { result ≡ hmac secret.now
-        (session_text label.now ni.now nr.now fp_i.now fp_r.now sid_i sid_r) }
-{
-    let mut mac = secret.begin();
-    mac.update(label);
-    mac.update(ni);
-    mac.update(nr);
-    mac.update(fp_i);
-    mac.update(fp_r);
-    mac.update(&sid_i.to_be_bytes());
-    mac.finish_with(&sid_r.to_be_bytes())
 }
 
 /// The key that signs keying chunks, under the group secret.

@@ -13,7 +13,7 @@ use Rattle.glare_core.specs.Told.{AllDifferent}
 use Rattle.endpoint_model.specs.declared.config.Draws.{Draws}
 use Rattle.endpoint_model.specs.declared.entry.Entry.{Entry}
 use Rattle.endpoint_model.specs.Event.{Setup, own_of, Receive, Event, moment_at}
-use Rattle.endpoint_laws.specs.Past.{facts_of, onto, begun, with_event}
+use Rattle.endpoint_laws.specs.Past.{facts_of, begun, with_event}
 use Rattle.endpoint_model.specs.State.{State, at_moment}
 use Rattle.endpoint_laws.specs.OpensIn.{opens_in}
 use Rattle.endpoint_laws.specs.Lawful.{nonces_of}
@@ -32,7 +32,7 @@ use Rattle.rendezvous_world.specs.Sent.{sent_in}
 use Rattle.rendezvous_world.specs.Datagrams.{datagram_of}
 use Rattle.rendezvous_world.specs.History.{bytes_or_none, call_of, moment_given, event_of, happened, after_lines, history_of}
 use Rattle.rendezvous_world.specs.Sound.{AreBelow, StandsUpTo}
-use Rattle.rendezvous_world.specs.Stepping.{in_state, with_state, called_by, HasItsAnswer, IsAnswered, IsLineOf, Called, StoppedIn}
+use Rattle.rendezvous_world.specs.Stepping.{in_state, with_state, called_by, HasItsAnswer, IsAnswered, IsLineOf, Called}
 use Rattle.rendezvous_world.specs.Faults.{is_missing, lacks_end, lacks_datagram, is_bad, is_forged_by, is_forged, step_fault}
 use Rattle.rendezvous_world.specs.Kept.{IsGiven, name_of, print_of, HasPeer, IsLineIn, IsOfLine, IsWorld}
 use Rattle.endpoint_laws.proofs.Drawn.{Once, MayDraw, answers_draw, nonces_none, nonces_once}

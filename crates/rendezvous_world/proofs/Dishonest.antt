@@ -1,11 +1,12 @@
 -- A step that is refused as forged would break that the history is honest.
-use Rattle.std.proofs.Common.{◌≡◌, ℕ, ◌==◌, List, [], ◌∷◌, ◌++◌, slice_get, Bool, true, false, if◌then◌else◌, not, ◌&&◌, ◌||◌, Option, Some, None, inl, inr, ◌⊎◌, refl, sym, ap, ◌∙◌, subst, arith}
+use Rattle.std.proofs.Common.{◌≡◌, ℕ, List, [], ◌∷◌, ◌++◌, slice_get, Bool, true, false, not, ◌&&◌, ◌||◌, Option, Some, None, inl, inr, ◌⊎◌, refl, sym, ap, ◌∙◌, subst}
 use Rattle.std.specs.Str.{bytes_eq}
 use Rattle.std.specs.List.{list_any}
-use Rattle.std.proofs.lemmas.Bool.Decides.{nat_tests}
 use Rattle.std.proofs.lemmas.Slice.Eq.{bytes_eq-Decides}
 use Rattle.crypto_profile.specs.declared.keys.Context.{Context}
-use Rattle.crypto_profile.specs.declared.keys.Context.TheVariants.{Startup, Session}
+use Rattle.crypto_profile.specs.declared.keys.Context.TheVariants.{Startup}
+use Rattle.crypto_profile.specs.Keys.{same_context}
+use Rattle.crypto_profile.proofs.Contexts.{same_itself}
 use Rattle.endpoint_model.specs.declared.entry.Entry.{Entry}
 use Rattle.endpoint_model.specs.declared.entry.Entry.TheVariants.{Fact, Discard, Out}
 use Rattle.endpoint_model.specs.declared.config.Draws.{Draws}
@@ -18,7 +19,7 @@ use Rattle.rendezvous_world.specs.declared.journal.JournalLine.{JournalLine}
 use Rattle.rendezvous_world.specs.Seen.{EndSeen, Seen, setup_at}
 use Rattle.rendezvous_world.specs.Sent.{Sent, sent_among, sent_in}
 use Rattle.rendezvous_world.specs.History.{happened, after_lines, history_of}
-use Rattle.rendezvous_world.specs.Faults.{same_context, is_sent, is_unsent_in, is_forged_at}
+use Rattle.rendezvous_world.specs.Faults.{is_sent, is_unsent_in}
 use Rattle.rendezvous_world.specs.Sound.{StandsUpTo}
 use Rattle.rendezvous_world.specs.Kept.{IsWorld}
 use Rattle.rendezvous_world.proofs.Ends.{setup_is}
@@ -28,22 +29,6 @@ use Rattle.rendezvous_world.proofs.Noting.{opens_noted}
 
 same_list : (x : List ℕ) → bytes_eq x x ≡ true
 same_list x = (bytes_eq-Decides x x).1 refl
-
-same_nat : (a : ℕ) → (a == a) ≡ true
-same_nat a = grind (arith, nat_tests)
-
-same_flag : (a : Bool) → (if a then a else not a) ≡ true
-same_flag true = refl
-same_flag false = refl
-
-all_true : (a b c d e f g : Bool) → a ≡ true → b ≡ true → c ≡ true → d ≡ true → e ≡ true → f ≡ true → g ≡ true → (a && b && c && d && e && f && g) ≡ true
-all_true a b c d e f g pa pb pc pd pe pf pg = cc
-
-same_itself : (c : Context) → same_context c c ≡ true
-same_itself Startup = refl
-same_itself (Session ni nr fp_i fp_r sid_i sid_r way) =
-    all_true (bytes_eq ni ni) (bytes_eq nr nr) (bytes_eq fp_i fp_i) (bytes_eq fp_r fp_r) (sid_i == sid_i) (sid_r == sid_r) (if way then way else not way)
-    (same_list ni) (same_list nr) (same_list fp_i) (same_list fp_r) (same_nat sid_i) (same_nat sid_r) (same_flag way)
 
 module _ (bytes : List ℕ) (context : Context) where
   sent_itself : (by : ℕ) (to : AddressParts) (datagram : List ℕ) (sealed_for : Context) → datagram ≡ bytes → sealed_for ≡ context →

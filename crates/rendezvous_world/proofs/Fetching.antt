@@ -1,12 +1,11 @@
 -- Steps that bring a datagram.
-use Rattle.std.proofs.Common.{◌≡◌, ℕ, ◌<◌, ◌≤◌, ◌^◌, ◌||◌, ◌&&◌, not, ◌==◌, ◌-◌, Bool, true, false, List, [], ◌∷◌, length, take, Option, Some, None, nat_lt, if◌then◌else◌, refl, sym, ap, ◌∙◌, arith}
+use Rattle.std.proofs.Common.{◌≡◌, ℕ, ◌<◌, ◌≤◌, ◌^◌, ◌||◌, ◌&&◌, ◌==◌, ◌-◌, Bool, true, false, List, [], ◌∷◌, length, take, Option, Some, None, nat_lt, if◌then◌else◌, refl, sym, ap, ◌∙◌, arith}
 use Rattle.std.specs.List.{list_any}
 use Rattle.std.specs.Str.{bytes_eq}
 use Rattle.std.proofs.lemmas.Bool.Decides.{nat_tests}
 use Rattle.std.proofs.lemmas.Slice.Eq.{bytes_eq-Decides}
 use Rattle.rtmfp_forms.specs.Address.{AddressParts}
 use Rattle.crypto_profile.specs.declared.keys.Context.{Context}
-use Rattle.crypto_profile.specs.declared.keys.Context.TheVariants.{Startup, Session}
 use Rattle.glare_core.specs.Calls.{where_true}
 use Rattle.rendezvous_world.specs.declared.step.StepFault.TheVariants.{Forged}
 use Rattle.rendezvous_world.specs.declared.bringing.Fetched.{Fetched}
@@ -14,7 +13,9 @@ use Rattle.rendezvous_world.specs.declared.step.Step.TheVariants.{Forge}
 use Rattle.rendezvous_world.specs.Seen.{Seen}
 use Rattle.rendezvous_world.specs.Sent.{Sent}
 use Rattle.rendezvous_world.specs.Datagrams.{nth, forged}
-use Rattle.rendezvous_world.specs.Faults.{is_missing, is_forged_by, is_sent, same_context}
+use Rattle.crypto_profile.specs.Keys.{same_context}
+use Rattle.crypto_profile.proofs.Contexts.{same_itself}
+use Rattle.rendezvous_world.specs.Faults.{is_missing, is_forged_by, is_sent}
 use Rattle.rendezvous_world.specs.Sound.{AreBelow}
 use Rattle.rendezvous_world.specs.Entering.{IsBringing, IsFetched}
 use Rattle.rendezvous_world.proofs.Refusing.{there_is, fault_left}
@@ -42,21 +43,9 @@ any_nth p (y ∷ xs) n x e h = any_step p y xs x (n == 0) (n == 1) (nth xs (n - 
 bytes_same : (xs : List ℕ) → bytes_eq xs xs ≡ true
 bytes_same xs = (bytes_eq-Decides xs xs).1 refl
 
-number_same : (n : ℕ) → (n == n) ≡ true
-number_same n = grind (arith, nat_tests)
-
-way_same : (b : Bool) → (if b then b else not b) ≡ true
-way_same true = refl
-way_same false = refl
-
-context_same : (c : Context) → same_context c c ≡ true
-context_same Startup = refl
-context_same (Session ni nr fp_i fp_r sid_i sid_r to_responder) =
-    both_true _ _ (both_true _ _ (both_true _ _ (both_true _ _ (both_true _ _ (both_true _ _ (bytes_same ni) (bytes_same nr)) (bytes_same fp_i)) (bytes_same fp_r)) (number_same sid_i)) (number_same sid_r)) (way_same to_responder)
-
 sent_as : (sent : Sent) (bytes : List ℕ) (context : Context) → sent.datagram ≡ bytes → sent.context ≡ context → is_sent bytes context sent ≡ true
 sent_as sent bytes context is same =
-    both_true _ _ (ap (λ (b : List ℕ). bytes_eq b bytes) is ∙ bytes_same bytes) (ap (λ (c : Context). same_context c context) same ∙ context_same context)
+    both_true _ _ (ap (λ (b : List ℕ). bytes_eq b bytes) is ∙ bytes_same bytes) (ap (λ (c : Context). same_context c context) same ∙ same_itself context)
 
 pub sent_known : (sent : List Sent) (o : Option Sent) (which : ℕ) (fetched : Fetched) (room bytes : List ℕ) → o ≡ nth sent which → IsFetched o (Some fetched) room → bytes ≡ take fetched.length room →
     list_any (is_sent bytes fetched.context) sent ≡ true

@@ -1,12 +1,12 @@
 -- A datagram that isn't forged was sent, where it opens.
-use Rattle.std.proofs.Common.{◌≡◌, ℕ, zero, suc, ◌==◌, List, [], ◌∷◌, ◌++◌, slice_get, Bool, true, false, if◌then◌else◌, not, ◌&&◌, ◌||◌, Option, Some, inl, inr, ◌⊎◌, refl, sym, ap, ◌∙◌, arith}
+use Rattle.std.proofs.Common.{◌≡◌, ℕ, zero, suc, List, [], ◌∷◌, ◌++◌, slice_get, Bool, true, false, not, ◌&&◌, ◌||◌, Option, Some, inl, inr, ◌⊎◌, refl, sym, ap, ◌∙◌}
 use Rattle.std.specs.Str.{bytes_eq}
 use Rattle.std.specs.List.{list_any}
-use Rattle.std.proofs.lemmas.Bool.Decides.{nat_tests}
 use Rattle.std.proofs.lemmas.Slice.Eq.{bytes_eq-Decides}
 use Rattle.rtmfp_forms.specs.Address.{AddressParts}
 use Rattle.crypto_profile.specs.declared.keys.Context.{Context}
-use Rattle.crypto_profile.specs.declared.keys.Context.TheVariants.{Startup, Session}
+use Rattle.crypto_profile.specs.Keys.{same_context}
+use Rattle.crypto_profile.proofs.Contexts.{same_context_is}
 use Rattle.endpoint_model.specs.declared.entry.Entry.{Entry}
 use Rattle.endpoint_model.specs.declared.entry.Entry.TheVariants.{Fact, Discard, Out}
 use Rattle.endpoint_laws.specs.History.{History, HasOut, WasSent}
@@ -15,53 +15,17 @@ use Rattle.rendezvous_world.specs.declared.journal.JournalLine.{JournalLine}
 use Rattle.rendezvous_world.specs.Seen.{EndSeen}
 use Rattle.rendezvous_world.specs.Sent.{Sent, sent_among, sent_in}
 use Rattle.rendezvous_world.specs.History.{happened, after_lines}
-use Rattle.rendezvous_world.specs.Faults.{same_context, is_sent, is_unsent_in, is_forged_at}
+use Rattle.rendezvous_world.specs.Faults.{is_sent, is_unsent_in, is_forged_at}
 use Rattle.rendezvous_world.proofs.Ends.{at_suc}
 
--- ---- contexts that are the same
+-- ---- what two tests say
 
 and_is : (a b : Bool) → (a && b) ≡ true → (a ≡ true) × (b ≡ true)
 and_is true b e = (refl, e)
 and_is false b e = absurd (cc)
 
-all_seven : (a b c d e f g : Bool) → (a && b && c && d && e && f && g) ≡ true → (a ≡ true) × (b ≡ true) × (c ≡ true) × (d ≡ true) × (e ≡ true) × (f ≡ true) × (g ≡ true)
-all_seven true true true true true true g h = (refl, refl, refl, refl, refl, refl, h)
-all_seven true true true true true false g h = absurd (cc)
-all_seven true true true true false f g h = absurd (cc)
-all_seven true true true false e f g h = absurd (cc)
-all_seven true true false d e f g h = absurd (cc)
-all_seven true false c d e f g h = absurd (cc)
-all_seven false b c d e f g h = absurd (cc)
-
 same_bytes : (x y : List ℕ) → bytes_eq x y ≡ true → x ≡ y
 same_bytes x y e = (bytes_eq-Decides x y).0 e
-
-same_number : (a b : ℕ) → (a == b) ≡ true → a ≡ b
-same_number a b e = grind (arith, nat_tests)
-
-same_way : (a b : Bool) → (if a then b else not b) ≡ true → a ≡ b
-same_way true true e = refl
-same_way true false e = absurd (cc)
-same_way false true e = absurd (cc)
-same_way false false e = refl
-
-pub same_context_is : (c d : Context) → same_context c d ≡ true → c ≡ d
-same_context_is Startup Startup e = refl
-same_context_is Startup (Session ni nr fp_i fp_r sid_i sid_r towards) e = absurd (cc)
-same_context_is (Session ni nr fp_i fp_r sid_i sid_r towards) Startup e = absurd (cc)
-same_context_is (Session ni nr fp_i fp_r sid_i sid_r a) (Session mi mr hp_i hp_r tid_i tid_r b) e =
-    let p = all_seven (bytes_eq ni mi) (bytes_eq nr mr) (bytes_eq fp_i hp_i) (bytes_eq fp_r hp_r) (sid_i == tid_i) (sid_r == tid_r) (if a then b else not b) e in
-    let e1 : ni ≡ mi = same_bytes ni mi p.0 in
-    let e2 : nr ≡ mr = same_bytes nr mr p.1 in
-    let e3 : fp_i ≡ hp_i = same_bytes fp_i hp_i p.2 in
-    let e4 : fp_r ≡ hp_r = same_bytes fp_r hp_r p.3 in
-    let e5 : sid_i ≡ tid_i = same_number sid_i tid_i p.4 in
-    let e6 : sid_r ≡ tid_r = same_number sid_r tid_r p.5 in
-    let e7 : a ≡ b = same_way a b p.6 in
-    ap (λ (x : List ℕ). Session x nr fp_i fp_r sid_i sid_r a) e1 ∙ ap (λ (x : List ℕ). Session mi x fp_i fp_r sid_i sid_r a) e2
-    ∙ ap (λ (x : List ℕ). Session mi mr x fp_r sid_i sid_r a) e3 ∙ ap (λ (x : List ℕ). Session mi mr hp_i x sid_i sid_r a) e4
-    ∙ ap (λ (x : ℕ). Session mi mr hp_i hp_r x sid_r a) e5 ∙ ap (λ (x : ℕ). Session mi mr hp_i hp_r tid_i x a) e6
-    ∙ ap (λ (x : Bool). Session mi mr hp_i hp_r tid_i tid_r x) e7
 
 -- ---- among what was sent
 

@@ -6,7 +6,8 @@ use Rattle.std.specs.Str.{bytes_eq}
 use Rattle.std.proofs.lemmas.Slice.Eq.{bytes_eq-Decides}
 use Rattle.crypto_profile.specs.declared.keys.Context.{Context}
 use Rattle.rendezvous_world.specs.Datagrams.{nth}
-use Rattle.rendezvous_world.specs.Faults.{is_sent, same_context}
+use Rattle.crypto_profile.specs.Keys.{same_context}
+use Rattle.rendezvous_world.specs.Faults.{is_sent}
 use Rattle.rendezvous_world.specs.Sent.{Sent}
 use Rattle.rendezvous_world.specs.Keyed.{IsLast, key_of, AreKeys, is_one_sent}
 use Rattle.rendezvous_world.proofs.Chained.{within}

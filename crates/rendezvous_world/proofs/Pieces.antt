@@ -20,7 +20,7 @@ use Rattle.rendezvous_world.specs.Entering.{WasSentIn, is_same}
 use Rattle.rendezvous_world.specs.Inside.{end_seen, world_seen, named_of, IsKept}
 use Rattle.rendezvous_world.specs.Kept.{IsWorld}
 use Rattle.rendezvous_world.proofs.Finding.{test_other}
-use Rattle.rendezvous_world.proofs.Forging.{same_context_is}
+use Rattle.crypto_profile.proofs.Contexts.{same_context_is}
 use Rattle.rendezvous_world.proofs.Keeping.{with_moment_is_world, with_end_is_world}
 
 pub past_front : (n : ℕ) (xs ys : List ℕ) → length xs ≡ n → drop n (xs ++ ys) ≡ ys

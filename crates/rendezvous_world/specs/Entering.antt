@@ -19,7 +19,8 @@ use Rattle.rendezvous_world.specs.Draws.{draws_of}
 use Rattle.rendezvous_world.specs.Seen.{Seen}
 use Rattle.rendezvous_world.specs.Sent.{Sent, sent_in}
 use Rattle.rendezvous_world.specs.Datagrams.{datagram_of}
-use Rattle.rendezvous_world.specs.Faults.{step_fault, is_forged, is_forged_by, is_sent, same_context}
+use Rattle.crypto_profile.specs.Keys.{same_context}
+use Rattle.rendezvous_world.specs.Faults.{step_fault, is_forged, is_forged_by, is_sent}
 use Rattle.glare_core.specs.Calls.{where_true}
 use Rattle.rendezvous_world.specs.History.{moment_given, answer_of, bytes_or_none}
 use Rattle.rendezvous_world.specs.Stepping.{Called, Stepped, StoppedIn, Noted, called_by}

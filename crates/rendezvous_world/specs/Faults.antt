@@ -1,9 +1,9 @@
 -- Why a step is refused, in the order of the reasons.
-use Rattle.std.specs.Prelude.{ℕ, ◌-◌, ◌==◌, ◌||◌, ◌&&◌, not, nat_lt, nat_le, Bool, true, false, List, [], ◌∷◌, length, Option, Some, None, is_none, if◌then◌else◌}
+use Rattle.std.specs.Prelude.{ℕ, ◌-◌, ◌==◌, ◌||◌, ◌&&◌, not, nat_lt, nat_le, Bool, false, List, [], ◌∷◌, length, Option, Some, None, is_none, if◌then◌else◌}
 use Rattle.std.specs.List.{list_any}
 use Rattle.std.specs.Str.{bytes_eq}
 use Rattle.crypto_profile.specs.declared.keys.Context.{Context}
-use Rattle.crypto_profile.specs.declared.keys.Context.TheVariants.{Startup, Session}
+use Rattle.crypto_profile.specs.Keys.{same_context}
 use Rattle.sha2.specs.Sha256.{sha256}
 use Rattle.glare_core.specs.Calls.{first_that_stands, where_true}
 use Rattle.endpoint_model.specs.Event.{own_of}
@@ -61,15 +61,6 @@ is_bad w (Forge end from plain) = nat_lt 1164 (length plain)
 is_bad w step = false
 
 -- ---- a datagram that is forged
-
-abbrev pub same_context : Context → Context → Bool
-same_context Startup Startup = true
-same_context Startup (Session ni nr fp_i fp_r sid_i sid_r to_responder) = false
-same_context (Session ni nr fp_i fp_r sid_i sid_r to_responder) Startup = false
-same_context (Session ni nr fp_i fp_r sid_i sid_r to_responder)
-    (Session mi mr hp_i hp_r tid_i tid_r towards) =
-    bytes_eq ni mi && bytes_eq nr mr && bytes_eq fp_i hp_i && bytes_eq fp_r hp_r && (sid_i == tid_i)
-    && (sid_r == tid_r) && (if to_responder then towards else not towards)
 
 -- the datagram was sent with these bytes in this context
 abbrev pub is_sent : List ℕ → Context → Sent → Bool

@@ -8,7 +8,7 @@ ghost use Rattle.rendezvous_world.specs.Faults.{is_forged_by};
 ghost use Rattle.rendezvous_world.specs.Sent.{sent_in};
 ghost use Rattle.rendezvous_world.specs.Sound.{AreBelow};
 
-use crate::forgery::{forge, same_context};
+use crate::forgery::forge;
 use crate::sent::find;
 use crate::step::{Step, StepFault};
 use crate::world::World;
@@ -265,6 +265,6 @@ fn is_same(context: &Option<Context>, other: &Context) -> bool
 {
     match context {
         None => false,
-        Some(context) => same_context(context, other),
+        Some(context) => context.is_same(other),
     }
 }

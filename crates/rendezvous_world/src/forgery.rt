@@ -6,7 +6,7 @@ ghost use Rattle.crypto_profile.specs.Keys.{keys_of};
 ghost use Rattle.crypto_profile.specs.Sealing.{sealed};
 ghost use Rattle.rendezvous_world.specs.Datagrams.{forged, nth};
 ghost use Rattle.rendezvous_world.specs.Seen.{group_secret};
-ghost use Rattle.rendezvous_world.specs.Faults.{is_sent, same_context};
+ghost use Rattle.rendezvous_world.specs.Faults.{is_sent};
 ghost use Rattle.rendezvous_world.specs.Inside.{starts_after};
 ghost use Rattle.rendezvous_world.specs.Keyed.{AreKeys, is_one_sent, key_of};
 ghost use Rattle.rendezvous_world.specs.Sent.{sent_among, sent_in};
@@ -32,46 +32,6 @@ const KEYED_AT: usize = 4;
 
 const KEY_BYTES: usize = 8;
 
-/// Whether two contexts are the same.
-pub(crate) fn same_context(a: &Context, b: &Context) -> bool
-    ensures { result ≡ same_context a.now b.now }
-{
-    match a {
-        Context::Startup => match b {
-            Context::Startup => true,
-            Context::Session { .. } => false,
-        },
-        Context::Session {
-            ni,
-            nr,
-            fp_i,
-            fp_r,
-            sid_i,
-            sid_r,
-            to_responder,
-        } => match b {
-            Context::Startup => false,
-            Context::Session {
-                ni: other_ni,
-                nr: other_nr,
-                fp_i: other_fp_i,
-                fp_r: other_fp_r,
-                sid_i: other_sid_i,
-                sid_r: other_sid_r,
-                to_responder: other_to_responder,
-            } => {
-                *ni == *other_ni
-                    && *nr == *other_nr
-                    && *fp_i == *other_fp_i
-                    && *fp_r == *other_fp_r
-                    && *sid_i == *other_sid_i
-                    && *sid_r == *other_sid_r
-                    && *to_responder == *other_to_responder
-            }
-        },
-    }
-}
-
 /// Whether one of the entries of a call of this end is a datagram with these bytes in this context.
 fn is_sent_among(by: usize, entries: &[Entry], bytes: &[u8], context: &Context) -> bool
     ensures { result ≡ list_any (is_sent bytes.now context.now) (sent_among by entries.now) }
@@ -87,7 +47,7 @@ fn is_sent_among(by: usize, entries: &[Entry], bytes: &[u8], context: &Context) 
                 context: sealed_for,
                 ..
             } => {
-                if datagram.bytes() == bytes && same_context(sealed_for, context) {
+                if datagram.bytes() == bytes && sealed_for.is_same(context) {
                     return true;
                 }
             }
@@ -151,7 +111,7 @@ fn is_sent_as(
     ensures { result ≡ is_one_sent bytes.now context.now (nth (sent_in lines.now) number) }
 {
     match find(lines, starts, lines_of, number) {
-        Some(letter) => letter.datagram == bytes && same_context(&letter.context, context),
+        Some(letter) => letter.datagram == bytes && letter.context.is_same(context),
         None => false,
     }
 }

@@ -101,7 +101,7 @@ impl GroupKeys {
             Some(row) => match row {
                 None => None,
                 Some(kept) => {
-                    if is_same(&kept.context, context) {
+                    if kept.context.is_same(context) {
                         Some(&kept.key)
                     } else {
                         None
@@ -158,46 +158,8 @@ fn keep_in(kept: &mut [Option<KeptKey>], slot: usize, secret: &HmacKey, context:
 /// Whether the key of this context is kept here.
 fn is_kept(row: &Option<KeptKey>, context: &Context) -> bool {
     match row {
-        Some(kept) => is_same(&kept.context, context),
+        Some(kept) => kept.context.is_same(context),
         None => false,
-    }
-}
-
-/// Whether two contexts of sessions are the same.
-fn is_same(a: &Context, b: &Context) -> bool
-    ensures { result ≡ true → a.now ≡ b.now }
-{
-    let Context::Session {
-        ni,
-        nr,
-        fp_i,
-        fp_r,
-        sid_i,
-        sid_r,
-        to_responder,
-    } = a
-    else {
-        return false;
-    };
-    match b {
-        Context::Startup => false,
-        Context::Session {
-            ni: other_ni,
-            nr: other_nr,
-            fp_i: other_fp_i,
-            fp_r: other_fp_r,
-            sid_i: other_sid_i,
-            sid_r: other_sid_r,
-            to_responder: other_to_responder,
-        } => {
-            *sid_i == *other_sid_i
-                && *sid_r == *other_sid_r
-                && *to_responder == *other_to_responder
-                && *ni == *other_ni
-                && *nr == *other_nr
-                && *fp_i == *other_fp_i
-                && *fp_r == *other_fp_r
-        }
     }
 }
 
