@@ -35,24 +35,6 @@ pub fn push_entries(
     ensures keys { keys.new ≡ keys.old }
 {
     keys.learn(entries);
-    push_each(keys, ends, line, name, sent, entries, scratch, text)
-}
-
-/// The same by the keys that are kept.
-fn push_each(
-    keys: &GroupKeys,
-    ends: &Directory,
-    line: u64,
-    name: &Name,
-    sent: u64,
-    entries: &[Entry],
-    scratch: &mut Vec<u8>,
-    text: &mut Text,
-) -> Result<u64, AllocError>
-    ensures text { OnOk result (text.new ≡ text.old
-        ++ entries_text keys.now ends.now line name.now sent entries.now) }
-    ensures count { IfOk result (λ count. count ≡ sent_after sent entries.now) }
-{
     let mut count = sent;
     let mut rest = entries;
     while let [entry, others @ ..] = rest {
