@@ -48,7 +48,8 @@ use Rattle.endpoint_model.specs.Sending.{sent_answer}
 use Rattle.endpoint_model.specs.Effects.{keying_done, initiator_keyed}
 use Rattle.endpoint_laws.proofs.Tied.{Tied}
 use Rattle.endpoint_laws.proofs.Agrees.{Agrees, IsGiven, agrees_of, tied_of, used_elsewhere}
-use Rattle.endpoint_laws.proofs.Moving.{held_after_own, rows_after_known, knows_held}
+use Rattle.startup.proofs.Stepping.{held_after_own}
+use Rattle.endpoint_laws.proofs.Moving.{rows_after_known, knows_held}
 use Rattle.endpoint_laws.proofs.Facts.{stands_of}
 use Rattle.endpoint_laws.proofs.Starting.{IsNew, new_id, is_free_of, room_left, row_left, rows_after_either}
 use Rattle.endpoint_laws.proofs.Going.{Goes, goes_then, goes_answer}

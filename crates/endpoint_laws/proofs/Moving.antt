@@ -1,6 +1,5 @@
 -- What the state agrees with after a change that states no fact, and after one fact.
 use Rattle.std.proofs.Common.{◌≡◌, ℕ, ◌+◌, ◌<◌, ◌≤◌, List, ◌∷◌, Bool, true, false, if◌then◌else◌, cond, Option, Some, None, is_some, ◌||◌, inl, inr, ◌⊎◌, refl, sym, ap, subst, ◌∙◌, arith}
-use Rattle.std.specs.Str.{bytes_eq}
 use Rattle.std.specs.FinMap.{get}
 use Rattle.glare_core.specs.declared.facts.Why.{Why}
 use Rattle.glare_core.specs.declared.facts.Fact.{Fact}
@@ -9,13 +8,13 @@ use Rattle.glare_core.specs.declared.facts.Held.{Held}
 use Rattle.glare_core.specs.Standing.{peer_of, after}
 use Rattle.glare_core.specs.Things.{near_of}
 use Rattle.glare_core.specs.Ledger.{Ledger, PeerRow, row_in, row_or_blank, row_after, held_with, knows, row_count, noted}
-use Rattle.glare_core.proofs.Tails.{same_end}
-use Rattle.glare_core.proofs.Maps.{row_inserted, len_inserted}
+use Rattle.glare_core.proofs.Maps.{len_inserted}
 use Rattle.rtmfp_base.proofs.Maps.{get_inserted, get_beside, len_known}
 use Rattle.startup.specs.State.{AttemptState}
 use Rattle.startup.specs.Attempts.{with_attempt}
 use Rattle.session_core.specs.Session.{SessionState}
 use Rattle.session_core.specs.Closing.{is_held}
+use Rattle.startup.proofs.Stepping.{held_after_own, held_after_other}
 use Rattle.endpoint_model.specs.declared.row.Row.{Row}
 use Rattle.endpoint_model.specs.declared.entry.Entry.TheVariants.{Fact as FactEntry, Closed}
 use Rattle.endpoint_model.specs.Event.{Setup}
@@ -29,18 +28,6 @@ use Rattle.endpoint_laws.proofs.Tied.{Tied, AreBy, by_later, closing_by, StageFi
 use Rattle.endpoint_laws.proofs.Agrees.{Agrees, IsOurs, IsGiven, IsAt, Fits, GoesOnBeside, ClosesAt, WasStarted, combined, thing_at, thing_here, thing_elsewhere, used_here, used_elsewhere, found_of_attempt, found_at, held_row_is, closing_row_is, none_closes, no_attempt, agrees_changed, agrees_of, tied_of}
 
 -- ---- the ledger after a fact
-
-pub held_after : (l : Ledger) (fact : Fact) (q : List ℕ) → held_with (noted l fact) q ≡ cond (bytes_eq (peer_of fact) q) (after fact (held_with l (peer_of fact))) (held_with l q)
-held_after l fact q =
-    ap (λ (r : PeerRow). r.held) (row_inserted l.rows (peer_of fact) (row_after fact (row_in l.rows (peer_of fact))) q)
-    ∙ elim (same_end (peer_of fact) q) [ inl d ↦ rw d.1 refl | inr d ↦ rw d.1 refl ]
-
-pub held_after_own : (l : Ledger) (fact : Fact) → held_with (noted l fact) (peer_of fact) ≡ after fact (held_with l (peer_of fact))
-held_after_own l fact =
-    held_after l fact (peer_of fact) ∙ elim (same_end (peer_of fact) (peer_of fact)) [ inl d ↦ rw d.1 refl | inr d ↦ absurd (d.0 refl) ]
-
-pub held_after_other : (l : Ledger) (fact : Fact) (q : List ℕ) → (peer_of fact ≡ q → ⊥) → held_with (noted l fact) q ≡ held_with l q
-held_after_other l fact q other = held_after l fact q ∙ elim (same_end (peer_of fact) q) [ inl d ↦ absurd (other d.0) | inr d ↦ rw d.1 refl ]
 
 held_known : (o : Option PeerRow) (h : Held) → (row_or_blank o).held ≡ Some h → is_some o ≡ true
 held_known None h e = absurd (cc)

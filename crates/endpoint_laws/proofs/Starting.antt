@@ -6,9 +6,9 @@ use Rattle.std.specs.Str.{bytes_eq}
 use Rattle.std.specs.FinMap.{get}
 use Rattle.rtmfp_forms.specs.Address.{AddressParts}
 use Rattle.rtmfp_base.proofs.Maps.{get_inserted, get_beside, len_new}
+use Rattle.glare_core.proofs.Giving.{none_held}
 use Rattle.glare_core.specs.declared.facts.Fact.{Fact}
-use Rattle.glare_core.specs.declared.facts.Held.{Held}
-use Rattle.glare_core.specs.declared.facts.Held.TheVariants.{Opening, HalfOpen, KeptAsResponder, KeptAsInitiator}
+use Rattle.glare_core.specs.declared.facts.Held.TheVariants.{Opening}
 use Rattle.glare_core.specs.declared.answers.StartRefusal.{StartRefusal}
 use Rattle.glare_core.specs.declared.answers.StartRefusal.TheVariants.{OwnPrint, AttemptsSpent, PeersFull}
 use Rattle.glare_core.specs.Standing.{peer_of}
@@ -107,13 +107,6 @@ rows_after_either l fact most peer is few (inl known) = rows_after_known l fact 
 rows_after_either l fact most peer is few (inr less) = rows_after_new l fact most less
 
 -- ---- an attempt starts
-
-none_held : (h : Option Held) → start_held h ≡ None → h ≡ None
-none_held None e = refl
-none_held (Some (Opening n near ni)) e = absurd (cc)
-none_held (Some (HalfOpen j)) e = absurd (cc)
-none_held (Some (KeptAsResponder j)) e = absurd (cc)
-none_held (Some (KeptAsInitiator j)) e = absurd (cc)
 
 pub record MayStart (s : State) (peer : List ℕ) : Type 0 where
   pub start : start_refusal s.startup.ledger peer ≡ None

@@ -56,7 +56,7 @@ test_fails : {A : Type 0} (b : Bool) (a : A) → where_true b a ≡ None → b �
 test_fails true a e = absurd (cc)
 test_fails false a e = refl
 
-none_held : (h : Option Held) → start_held h ≡ None → h ≡ None
+pub none_held : (h : Option Held) → start_held h ≡ None → h ≡ None
 none_held None e = refl
 none_held (Some (Opening n near ni)) e = absurd (cc)
 none_held (Some (HalfOpen j)) e = absurd (cc)

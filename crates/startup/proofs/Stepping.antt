@@ -45,7 +45,7 @@ pub held_after_own : (l : Ledger) (fact : Fact) → held_with (noted l fact) (pe
 held_after_own l fact =
     held_after l fact (peer_of fact) ∙ elim (same_end (peer_of fact) (peer_of fact)) [ inl d ↦ rw d.1 refl | inr d ↦ absurd (d.0 refl) ]
 
-held_after_other : (l : Ledger) (fact : Fact) (q : List ℕ) → (peer_of fact ≡ q → ⊥) → held_with (noted l fact) q ≡ held_with l q
+pub held_after_other : (l : Ledger) (fact : Fact) (q : List ℕ) → (peer_of fact ≡ q → ⊥) → held_with (noted l fact) q ≡ held_with l q
 held_after_other l fact q ne = held_after l fact q ∙ elim (same_end (peer_of fact) q) [ inl d ↦ absurd (ne d.0) | inr d ↦ rw d.1 refl ]
 
 -- ---- the attempts
