@@ -5,7 +5,7 @@ use Rattle.std.specs.FinMap.{get, insert, contains_key}
 use Rattle.rtmfp_base.proofs.Maps.{same_or_not, get_inserted, get_beside, found_inserted}
 use Rattle.rtmfp_vlu.proofs.Bytes.{IsBytes, IsBytes-drop}
 use Rattle.crypto_profile.specs.declared.window.Seen.{Seen}
-use Rattle.crypto_profile.specs.Kept.{kept_answer}
+use Rattle.crypto_profile.specs.Window.{window_answer}
 use Rattle.crypto_profile.specs.Opening.{plain_of}
 use Rattle.crypto_profile.specs.Sealing.{Opens}
 use Rattle.packet_scramble.specs.Datagram.{sid_of}
@@ -188,7 +188,7 @@ module _ (past : List Stamped) (s : State) (e : Event) (datagram : List ℕ) (ar
     as_before : IsKnown more now sid session → IsWell more now t
     as_before k = all_as_before (λ r found. subst (λ (x : Row). IsKnown more now sid x.session) (same_row r found) k)
 
-    known_refused : (why : Seen) → kept_answer session.window (count_of part) ≡ Err why → IsKnown more now sid session
+    known_refused : (why : Seen) → window_answer session.window (count_of part) ≡ Err why → IsKnown more now sid session
     known_refused why refused = record {
       counts = subst (λ taken. Counts taken sid (lasting session)) (sym (since sid)) (counts_refused sid (lasting session) this (taken_since sid past) known.counts why refused);
       began = record { first = known.began.first; done = inr known.began.done; early = known.began.early };
@@ -241,7 +241,7 @@ module _ (past : List Stamped) (s : State) (e : Event) (datagram : List ℕ) (ar
       moment = refl;
     }
 
-    passed : opens_in session part ≡ true → kept_answer session.window (count_of part) ≡ Ok tt → (packet : Whole) → packet_in plain ≡ Ok packet → packet.head.mode ≡ peers_mode session.role →
+    passed : opens_in session part ≡ true → window_answer session.window (count_of part) ≡ Ok tt → (packet : Whole) → packet_in plain ≡ Ok packet → packet.head.mode ≡ peers_mode session.role →
         PassedIn more sid datagram packet (with_session u sid one (timed packet.head))
     passed open_here fits packet reads mode = λ r found.
         let same : two packet.head ≡ r = (let e : Some (two packet.head) ≡ Some r = sym (get_inserted (insert s.sessions sid one) sid (two packet.head)) ∙ found in cc) in
@@ -258,7 +258,7 @@ module _ (past : List Stamped) (s : State) (e : Event) (datagram : List ℕ) (ar
           is = refl;
         })
 
-    by_packet : opens_in session part ≡ true → kept_answer session.window (count_of part) ≡ Ok tt → (r : Result Whole PacketFault) → packet_in plain ≡ r → AdmissionHeard more now datagram (admitted_packet u (Session sid) r)
+    by_packet : opens_in session part ≡ true → window_answer session.window (count_of part) ≡ Ok tt → (r : Result Whole PacketFault) → packet_in plain ≡ r → AdmissionHeard more now datagram (admitted_packet u (Session sid) r)
     by_packet open_here fits (Err fault) reads = counted_well (known_counted open_here (λ p. let clash : Err fault ≡ Ok p.packet = sym reads ∙ reads_only p in cc))
     by_packet open_here fits (Ok packet) reads =
         subst (λ (o : Option Row). AdmissionHeard more now datagram (if has_mode packet.head (mode_by o) then Admitted (timed_by u sid packet.head o) (Session sid) packet else Rejected u WrongPlace))
@@ -274,17 +274,17 @@ module _ (past : List Stamped) (s : State) (e : Event) (datagram : List ℕ) (ar
             let mode : packet.head.mode ≡ peers_mode session.role = ap (λ (w : Whole). w.head.mode) (sym (same_packet p)) ∙ p.mode_is in
             let clash : true ≡ false = sym (same_number (mode_number packet.head.mode) (mode_number (peers_mode session.role)) (ap mode_number mode)) ∙ e in cc))
 
-    by_tests : (short opens new : Bool) → nat_lt (length part) 32 ≡ short → opens_in session part ≡ opens → is_new (kept_answer session.window (count_of part)) ≡ new →
+    by_tests : (short opens new : Bool) → nat_lt (length part) 32 ≡ short → opens_in session part ≡ opens → is_new (window_answer session.window (count_of part)) ≡ new →
         AdmissionHeard more now datagram (heard_to u (heard_by session part (if short then Some ShortPart else if not opens then Some WrongTag else if not new then Some OldNumber else None)))
     by_tests true opens new a b c = as_before (known_unopened sid row there (λ other under. let long = under.opens.0 in let short : length part < 32 = grind (arith, nat_tests) in absurd (omega arith)))
     by_tests false false new a b c = as_before (known_unopened sid row there (closed_to b))
-    by_tests false true false a b c = let old = old_is (kept_answer session.window (count_of part)) c in as_before (known_refused old.0 old.1)
-    by_tests false true true a b c = by_packet b (new_is (kept_answer session.window (count_of part)) c) (packet_in plain) refl
+    by_tests false true false a b c = let old = old_is (window_answer session.window (count_of part)) c in as_before (known_refused old.0 old.1)
+    by_tests false true true a b c = by_packet b (new_is (window_answer session.window (count_of part)) c) (packet_in plain) refl
 
   at_session : (row : Row) → get s.sessions sid ≡ Some row → AdmissionHeard more now datagram (admitted t datagram (placed (Session sid) (heard_in (get s.sessions sid) part)))
   at_session row there = go (heard_in (get s.sessions sid) part)
       (subst (λ (o : Option Row). AdmissionHeard more now datagram (heard_to (counted_by t sid part o) (heard_in o part))) (sym there)
-      (by_tests row there (nat_lt (length part) 32) (opens_in row.session part) (is_new (kept_answer row.session.window (count_of part))) refl refl refl))
+      (by_tests row there (nat_lt (length part) 32) (opens_in row.session part) (is_new (window_answer row.session.window (count_of part))) refl refl refl))
     where
       go : (r : Result (List ℕ) Cause) → AdmissionHeard more now datagram (heard_to (counted_by t sid part (get s.sessions sid)) r) → AdmissionHeard more now datagram (admitted t datagram (placed (Session sid) r))
       go (Err cause) h = h

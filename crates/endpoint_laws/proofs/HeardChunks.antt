@@ -8,7 +8,7 @@ use Rattle.rtmfp_packet.specs.Walk.{Placed}
 use Rattle.rtmfp_chunks.specs.Chunk.{Ping}
 use Rattle.rtmfp_chunks.specs.FieldReading.{chunk_reading}
 use Rattle.rtmfp_chunks.specs.Writing.{chunk_bytes}
-use Rattle.crypto_profile.specs.Kept.{kept_of, kept_answer}
+use Rattle.crypto_profile.specs.Window.{window_of, window_answer}
 use Rattle.cookies.specs.declared.CookieTest.{CookieTest}
 use Rattle.cookies.specs.declared.CookieTest.TheVariants.{Bad, Moved, Expired, Current}
 use Rattle.cookies.specs.Cookie.{cookie_test}
@@ -68,9 +68,9 @@ half_open : (role : Role) → is_opening (first_stage role) ≡ true → role �
 half_open Initiator e = absurd (cc)
 half_open Responder e = refl
 
-nothing_taken : (near : ℕ) (session : SessionState) → session.window ≡ kept_of [] → Counts [] near (lasting session)
+nothing_taken : (near : ℕ) (session : SessionState) → session.window ≡ window_of [] → Counts [] near (lasting session)
 nothing_taken near session first = record {
-  numbers = λ n. subst (λ w. (kept_answer w n ≡ Ok tt) ↔ (n ≢ 0)) (sym first) (room_at_first n);
+  numbers = λ n. subst (λ w. (window_answer w n ≡ Ok tt) ↔ (n ≢ 0)) (sym first) (room_at_first n);
   times = λ moment none. absurd none;
 }
 

@@ -4,7 +4,7 @@ use Rattle.std.specs.FinMap.{get, insert, remove}
 use Rattle.rtmfp_base.proofs.Maps.{found_inserted, found_left}
 use Rattle.rtmfp_packet.specs.declared.head.Mode.{Mode}
 use Rattle.crypto_profile.specs.declared.keys.Context.{Context}
-use Rattle.crypto_profile.specs.Kept.{Kept, kept_answer}
+use Rattle.crypto_profile.specs.Window.{WindowState, window_answer}
 use Rattle.glare_core.specs.declared.facts.Fact.{Fact}
 use Rattle.glare_core.specs.declared.facts.Fact.TheVariants.{Born, Opened}
 use Rattle.glare_core.specs.declared.facts.Joined.{Joined}
@@ -28,7 +28,7 @@ pub record Lasting : Type 0 where
   pub own : List ℕ
   pub role : Role
   pub secret : List ℕ
-  pub window : Kept
+  pub window : WindowState
   pub taken : ℕ
 
 abbrev pub lasting : SessionState → Lasting
@@ -45,7 +45,7 @@ mode_in l = peers_mode l.role
 
 -- It would take the numbers that are new after these datagrams, and whatever it took of them it took by the moment that it keeps.
 pub record Counts (taken : List Taken) (near : ℕ) (l : Lasting) : Type 0 where
-  pub numbers : (n : ℕ) → (kept_answer l.window n ≡ Ok tt) ↔ IsNewAfter l.secret (inward_of l) near n taken
+  pub numbers : (n : ℕ) → (window_answer l.window n ≡ Ok tt) ↔ IsNewAfter l.secret (inward_of l) near n taken
   pub times : (moment : ℕ) → TookIn l.secret (inward_of l) (mode_in l) near moment taken → moment ≤ l.taken
 
 -- the fact with which a session of this role begins

@@ -1,7 +1,7 @@
 -- One datagram more that a session was given: what it counts then; and that one that passed stays the last.
 use Rattle.std.proofs.Common.{◌≡◌, ◌↔◌, ℕ, ◌≤◌, List, ◌∷◌, Ok, Err, inl, inr, arith}
 use Rattle.crypto_profile.specs.declared.window.Seen.{Seen}
-use Rattle.crypto_profile.specs.Kept.{kept_answer, kept_after}
+use Rattle.crypto_profile.specs.Window.{window_answer, window_after}
 use Rattle.rtmfp_packet.specs.Walk.{Placed}
 use Rattle.rtmfp_packet.specs.Whole.{Whole}
 use Rattle.rtmfp_forms.specs.Address.{AddressParts}
@@ -28,7 +28,7 @@ module _ (near : ℕ) (l : Lasting) (t : Taken) (taken : List Taken) (k : Counts
   PassesHere = PassesIn l.secret (inward_of l) (mode_in l) near taken t.datagram
 
   abbrev pub with_number : Lasting
-  with_number = record l { window = kept_after l.window (count_in t.datagram) }
+  with_number = record l { window = window_after l.window (count_in t.datagram) }
 
   -- one that doesn't open
   pub counts_unopened : ((plain : List ℕ) → OpensHere plain → ⊥) → Counts (t ∷ taken) near l
@@ -38,7 +38,7 @@ module _ (near : ℕ) (l : Lasting) (t : Taken) (taken : List Taken) (k : Counts
   }
 
   -- one that opens, whose number is refused
-  pub counts_refused : (why : Seen) → kept_answer l.window (count_in t.datagram) ≡ Err why → Counts (t ∷ taken) near l
+  pub counts_refused : (why : Seen) → window_answer l.window (count_in t.datagram) ≡ Err why → Counts (t ∷ taken) near l
   counts_refused why refused = record {
     numbers = λ n. (
       (λ ok. let room = refused_after l.window (count_in t.datagram) n why refused ok in ((λ plain opens. (room.1, room.2)), (k.numbers n).0 ok)),
@@ -50,7 +50,7 @@ module _ (near : ℕ) (l : Lasting) (t : Taken) (taken : List Taken) (k : Counts
     ];
   }
 
-  numbers_with : (plain : List ℕ) → OpensHere plain → (n : ℕ) → (kept_answer (kept_after l.window (count_in t.datagram)) n ≡ Ok tt) ↔ IsNewAfter l.secret (inward_of l) near n (t ∷ taken)
+  numbers_with : (plain : List ℕ) → OpensHere plain → (n : ℕ) → (window_answer (window_after l.window (count_in t.datagram)) n ≡ Ok tt) ↔ IsNewAfter l.secret (inward_of l) near n (t ∷ taken)
   numbers_with plain opens n = let c : ℕ = count_in t.datagram in (
     (λ ok. let room = (room_after l.window c n).0 ok in ((λ other there. (room.1, room.2)), (k.numbers n).0 room.0)),
     (λ new. let apart = new.0 plain opens in (room_after l.window c n).1 ((k.numbers n).1 new.1, apart.0, apart.1)),
