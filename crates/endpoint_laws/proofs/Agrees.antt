@@ -269,10 +269,6 @@ none_closes setup past s a near p h is thing at c = by (get s.startup.attempts n
     by (Some b) ea (Some row) es closed = none_is_some row (get s.sessions near) (a.apart near b ea) es
     by None ea os es closed = in_session os (sym (ap (λ (o : Option AttemptState). combined near o os) ea) ∙ ap (combined near (get s.startup.attempts near)) (sym es) ∙ is) closed
 
--- and under one that isn't used
-pub none_closes_there : (past : List Stamped) (near : ℕ) (o : Option Row) → ClosesAt past near o → o ≡ None → (thing : Held) (at : ℕ) → IsClosing near thing at past → ⊥
-none_closes_there past near o closing none thing at c = subst (λ (x : Option Row). IsClosedThing x thing) none (closing thing at c)
-
 -- ---- one thing changes
 
 -- what stands under one session ID after a change, all else as before

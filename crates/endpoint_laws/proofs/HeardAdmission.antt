@@ -309,14 +309,3 @@ module _ (past : List Stamped) (s : State) (e : Event) (datagram : List ℕ) (ar
       by : (b : Bool) → nat_lt (length datagram) 36 ≡ b → AdmissionHeard more now datagram (admitted t datagram (if b then Err Short else opened_found t (place_of t sid) part))
       by true e = unopened (λ row there plain under. let short : length datagram < 36 = grind (arith, nat_tests) in absurd (omega (arith, under.opens.0, length-drop 4 datagram, short)))
       by false e = at_place (sid == 0) (contains_key s.startup.attempts sid) (contains_key s.sessions sid) refl refl refl
-
-  -- of whatever it was admitted to
-
-  pub rejected_well : (v : State) (cause : Cause) → admission t datagram ≡ Rejected v cause → IsWell more now v
-  rejected_well v cause e = subst (AdmissionHeard more now datagram) e heard_admission
-
-  pub admitted_well : (v : State) (place : Place) (packet : Whole) → admission t datagram ≡ Admitted v place packet → IsWell more now v
-  admitted_well v place packet e = (subst (AdmissionHeard more now datagram) e heard_admission).0
-
-  pub passed_admission : (v : State) (near : ℕ) (packet : Whole) → admission t datagram ≡ Admitted v (Session near) packet → PassedIn more near datagram packet v
-  passed_admission v near packet e = (subst (AdmissionHeard more now datagram) e heard_admission).1

@@ -1,65 +1,65 @@
-pub mod Matching
-pub mod Tied
-pub mod Agrees
-pub mod Moving
-pub mod Lines
-pub mod Going
-pub mod Facts
-pub mod Starting
-pub mod Ending
-pub mod Birth
-pub mod Confirming
-pub mod Bytes
-pub mod Spelled
-pub mod Says
-pub mod OutFacts
-pub mod OutNumbers
-pub mod OutPackets
-pub mod OutHeld
-pub mod OutSends
-pub mod OutKeyings
-pub mod OutItems
-pub mod NoFacts
-pub mod Replies
-pub mod OutBirths
-pub mod InSessions
-pub mod Admitting
-pub mod Answering
-pub mod Bearing
-pub mod Keyed
-pub mod Numbers
-pub mod Hearing
-pub mod Following
-pub mod HeardChunks
-pub mod Passing
-pub mod SessionChunks
-pub mod Chunked
-pub mod OutSessions
-pub mod Few
-pub mod OutChunks
-pub mod Counted
-pub mod Counts
-pub mod Taking
-pub mod HeardEvents
-pub mod HeardAdmission
-pub mod Orderly
+mod Matching
+mod Tied
+mod Agrees
+mod Moving
+mod Lines
+mod Going
+mod Facts
+mod Starting
+mod Ending
+mod Birth
+mod Confirming
+mod Bytes
+mod Spelled
+mod Says
+mod OutFacts
+mod OutNumbers
+mod OutPackets
+mod OutHeld
+mod OutSends
+mod OutKeyings
+mod OutItems
+mod NoFacts
+mod Replies
+mod OutBirths
+mod InSessions
+mod Admitting
+mod Answering
+mod Bearing
+mod Keyed
+mod Numbers
+mod Hearing
+mod Following
+mod HeardChunks
+mod Passing
+mod SessionChunks
+mod Chunked
+mod OutSessions
+mod Few
+mod OutChunks
+mod Counted
+mod Counts
+mod Taking
+mod HeardEvents
+mod HeardAdmission
+mod Orderly
 pub mod Logged
 pub mod Opened
 pub mod Drawn
-pub mod OfTheLog
+mod OfTheLog
 pub mod AgreedLaw
-pub mod AgreedLogs
+mod AgreedLogs
 pub mod AnswerCarried
-pub mod Carried
-pub mod Complete
-pub mod Components
-pub mod EventTold
-pub mod FactsAlone
-pub mod Fresh
-pub mod Heard
-pub mod HeldTold
-pub mod HistoryTold
-pub mod ReadsBack
-pub mod Since
-pub mod StatedFacts
-pub mod Telling
+mod Carried
+mod Complete
+mod Components
+mod EventTold
+mod FactsAlone
+mod Fresh
+mod Heard
+mod HeldTold
+mod HistoryTold
+mod ReadsBack
+mod Since
+mod StatedFacts
+mod Telling

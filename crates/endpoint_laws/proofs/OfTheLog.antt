@@ -48,9 +48,6 @@ closing_stage Responder NearClose fits e = tt
 closing_stage Responder FarLinger fits e = tt
 closing_stage Responder Closed fits e = absurd fits
 
-same_thing : (x y : Held) → Some x ≡ Some y → x ≡ y
-same_thing x y e = cc
-
 n_in : ℕ → Option Held → ℕ
 n_in other (Some (AttemptHeld n near ni)) = n
 n_in other held = other

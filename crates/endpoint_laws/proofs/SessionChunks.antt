@@ -315,11 +315,6 @@ and_is false b e = absurd (cc)
 past_is : (span at moment : ℕ) → is_past (suc span) at moment ≡ true → at + suc span ≤ moment
 past_is span at moment e = grind (arith, nat_tests)
 
--- a closing that is over has gone on for 19,000 ms
-record IsOverOf (session : SessionState) (moment : ℕ) : Type 0 where
-  closing : is_held session.stage ≡ false
-  later : session.since + 19000 ≤ moment
-
 over_of : (stage : Stage) (since moment : ℕ) → ((is_near_close stage && is_past 90000 since moment) || (is_far_linger stage && is_past 19000 since moment)) ≡ true → (is_held stage ≡ false) × (since + 19000 ≤ moment)
 over_of Opening since moment e = absurd (cc)
 over_of Open since moment e = absurd (cc)
