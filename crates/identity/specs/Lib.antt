@@ -1,4 +1,4 @@
 pub mod Certificates
 pub mod Discriminators
-pub mod Kept
+pub mod Stored
 pub mod Order

@@ -36,21 +36,21 @@ pub struct Certificate {
 
 impl Model for Certificate {
     ghost use Rattle.std.specs.Prelude.{List, ℕ, take};
-    ghost use Rattle.identity.specs.Kept.{IsKept};
+    ghost use Rattle.identity.specs.Stored.{IsStored};
 
     ghost Value = { List ℕ };
 
     ghost view = { λ c. take c.len c.bytes };
 
-    ghost invariant = { λ c. IsKept c.bytes c.len };
+    ghost invariant = { λ c. IsStored c.bytes c.len };
 
     ghost use Rattle.std.specs.Prelude.{◌++◌, ◌-◌, replicate, length};
-    ghost use Rattle.identity.specs.Kept.{kept_again};
+    ghost use Rattle.identity.specs.Stored.{stored_again};
 
     ghost inverse = { λ v. record { bytes = v ++ replicate (80 - length v) 0; len = length v } };
 
-    ghost inverse_ok = { λ c kept. kept_again (λ bytes len. record { bytes = bytes; len = len })
-        c.bytes c.len kept };
+    ghost inverse_ok = { λ c stored. stored_again (λ bytes len. record { bytes = bytes; len = len })
+        c.bytes c.len stored };
 }
 
 /// Whether each byte is an ASCII character.

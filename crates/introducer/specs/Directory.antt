@@ -1,5 +1,5 @@
--- What a directory knows: rows of addresses, and which sessions are kept, both by the fingerprint of
--- an end.
+-- What a directory knows: rows of addresses, and which sessions are kept, both by the fingerprint
+-- of an end.
 use Rattle.std.specs.Prelude.{ℕ, ◌-◌, ◌==◌, ◌&&◌, ◌||◌, Bool, nat_lt, not, if◌then◌else◌, List, [], ◌∷◌, ◌++◌, length, filter, slice_get, unwrap_or, Option, Some, None, refl}
 use Rattle.std.specs.Ordering.{nat_cmp}
 use Rattle.std.specs.Cmp.Lexicographic.{slice_cmp}

@@ -5,7 +5,7 @@ ghost use Rattle.std.specs.Option.{option_copied};
 ghost use Rattle.std.specs.FinMap.{get, len};
 ghost use Rattle.introducer.specs.Directory.{new_directory, is_full_for, row_refusal, with_row, last_kept, with_kept, without_kept};
 
-use crate::kept::Kept;
+use crate::kept_sessions::KeptSessions;
 use crate::refusal::RowRefusal;
 use crate::rows::Rows;
 use identity::Epd;
@@ -25,7 +25,7 @@ const MOST_ROWS: usize = 1024;
 #[derive(Drop)]
 pub struct Directory {
     rows: Rows,
-    kept: Kept,
+    kept: KeptSessions,
 }
 
 impl Model for Directory {
@@ -50,7 +50,7 @@ impl Directory {
     {
         Directory {
             rows: Rows::new(alloc),
-            kept: Kept::new(alloc),
+            kept: KeptSessions::new(alloc),
         }
     }
 

@@ -5,7 +5,7 @@
 mod directory;
 pub mod edges;
 mod ids;
-mod kept;
+mod kept_sessions;
 pub mod laws;
 mod refusal;
 mod rows;

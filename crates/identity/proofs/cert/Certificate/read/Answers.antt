@@ -1,10 +1,10 @@
 use Rattle.std.proofs.Common.{◌≡◌, ◌-◌, ℕ, List, length, take, replicate, ap, sym, Ok, ◌∙◌}
 use Rattle.std.proofs.Math.Seq.{take-append_seam}
-use Rattle.identity.proofs.Padded.{kept_padded}
+use Rattle.identity.proofs.Padded.{stored_padded}
 use Rattle.identity.proofs.cert.Certificate.read.Goals as goal
 
 pub invariant_of-result : goal.invariant_of-result
-invariant_of-result c = rw c.padded.ensures (kept_padded c.args.bytes.now (sym c.in-None.ensures))
+invariant_of-result c = rw c.padded.ensures (stored_padded c.args.bytes.now (sym c.in-None.ensures))
 
 pub returns-in-None-clause-ok : goal.returns-in-None-clause-ok
 returns-in-None-clause-ok c =
