@@ -38,7 +38,8 @@ pub record CancelsRefused (setup : Setup) (moment : ℕ) (c : Call) (draws : Dra
       : IsRefused setup
       (after_start 0 c peer (doing moment (Tick draws) (says (Ended peer 5 Cancelled))))
   pub of_another : (m : ℕ) → m ≢ 1 →
-      IsRefused setup (after_start 0 c peer (doing moment (Cancel m) (says (Ended peer 5 Cancelled))))
+      IsRefused setup
+      (after_start 0 c peer (doing moment (Cancel m) (says (Ended peer 5 Cancelled))))
   -- another session ID, another peer, nothing held, and a session
   pub other_id : (near : ℕ) → near ≢ 5 →
       IsRefused setup
@@ -130,12 +131,12 @@ pub record WaysRefused (setup : Setup) (moment : ℕ) (c d : Call) (peer : List 
       ∷ FactEntry (Born b) ∷ [])))
   pub override_after_out : (to : AddressParts) (sent : List ℕ) (context : Context) (b : Joined) →
       IsRefused setup
-      (after_birth c j (doing moment d (FactEntry (Ended j.peer j.near Override) ∷ Out to sent context
-      ∷ FactEntry (Born b) ∷ [])))
+      (after_birth c j (doing moment d (FactEntry (Ended j.peer j.near Override)
+      ∷ Out to sent context ∷ FactEntry (Born b) ∷ [])))
   pub override_of_another : (b : Joined) → b.peer ≢ j.peer →
       IsRefused setup
-      (after_birth c j (doing moment d (FactEntry (Ended j.peer j.near Override) ∷ FactEntry (Born b)
-      ∷ [])))
+      (after_birth c j (doing moment d (FactEntry (Ended j.peer j.near Override)
+      ∷ FactEntry (Born b) ∷ [])))
 
 -- No end ends a session for these causes yet.
 pub record OthersRefused (setup : Setup) (moment : ℕ) (c d : Call) (j : Joined) : Type 0 where

@@ -52,7 +52,8 @@ pub record ForgedRefused (ends : ℕ → Setup) (from to : AddressParts) (draws 
   pub sent_later
       : IsHonest ends
       (did 1 (Out to (datagram 0 (sealed_in (ends 0).secret Startup 0 number plain)) Startup ∷ [])
-      ∷ took 0 from (datagram 0 (sealed_in (ends 0).secret Startup 0 number plain)) draws [] ∷ []) → ⊥
+      ∷ took 0 from (datagram 0 (sealed_in (ends 0).secret Startup 0 number plain))
+      draws [] ∷ []) → ⊥
   pub sent_itself
       : IsHonest ends (took 0 from (datagram 0 (sealed_in (ends 0).secret Startup 0 number plain))
       draws (Out to (datagram 0 (sealed_in (ends 0).secret Startup 0 number plain)) Startup ∷ [])

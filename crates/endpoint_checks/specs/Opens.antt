@@ -73,7 +73,8 @@ pub record ConfirmsRefused (setup : Setup) (moment : ℕ) (c : Call) (from : Add
   pub in_tick : IsRefused setup (confirmed_in moment c (Tick draws) j)
   -- nothing is held, or an attempt, or another session ID's
   pub nothing_held
-      : IsRefused setup (doing moment (Receive from sent draws) (says (Confirmed j.peer j.near)) ∷ [])
+      : IsRefused setup
+      (doing moment (Receive from sent draws) (says (Confirmed j.peer j.near)) ∷ [])
   pub attempt_held : IsRefused setup (doing 0 c (says (Started j.peer 1 j.near j.ni))
       ∷ doing moment (Receive from sent draws) (says (Confirmed j.peer j.near)) ∷ [])
   pub other_id : (near : ℕ) → near ≢ j.near →

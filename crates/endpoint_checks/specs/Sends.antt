@@ -37,7 +37,8 @@ pub record NumbersRefused (setup : Setup) (moment : ℕ) (c d : Call) (first sec
     (sent again : List ℕ) : Type 0 where
   -- in the startup context, in one call and in two
   pub in_startup
-      : IsRefused setup (doing moment c (Out first sent Startup ∷ Out second again Startup ∷ []) ∷ [])
+      : IsRefused setup
+      (doing moment c (Out first sent Startup ∷ Out second again Startup ∷ []) ∷ [])
   pub in_two_calls : IsRefused setup (doing 0 c (sends first sent Startup)
       ∷ doing moment d (sends second again Startup) ∷ [])
   -- and in the context of a session, where no nonce was drawn twice
@@ -70,19 +71,19 @@ pub record KeyingsSentRefused (setup : Setup) (moment : ℕ) (c d : Call) (to : 
   -- in another context than startup, with another certificate than the own one, and where no
   -- attempt is held
   pub other_context : context ≢ Startup →
-      IsRefused setup (doing 0 c (says (Started peer 1 5 ni)) ∷ doing moment d (sends to sent context)
-      ∷ [])
+      IsRefused setup (doing 0 c (says (Started peer 1 5 ni))
+      ∷ doing moment d (sends to sent context) ∷ [])
   pub other_cert : cert ≢ setup.cert →
-      IsRefused setup (doing 0 c (says (Started peer 1 5 ni)) ∷ doing moment d (sends to sent context)
-      ∷ [])
+      IsRefused setup (doing 0 c (says (Started peer 1 5 ni))
+      ∷ doing moment d (sends to sent context) ∷ [])
   pub no_attempt : IsRefused setup (doing moment d (sends to sent context) ∷ [])
   -- with another session ID or another component than the attempt's
   pub other_id : near ≢ 5 →
-      IsRefused setup (doing 0 c (says (Started peer 1 5 ni)) ∷ doing moment d (sends to sent context)
-      ∷ [])
+      IsRefused setup (doing 0 c (says (Started peer 1 5 ni))
+      ∷ doing moment d (sends to sent context) ∷ [])
   pub other_part : part ≢ initiator_part ni 1 peer →
-      IsRefused setup (doing 0 c (says (Started peer 1 5 ni)) ∷ doing moment d (sends to sent context)
-      ∷ [])
+      IsRefused setup (doing 0 c (says (Started peer 1 5 ni))
+      ∷ doing moment d (sends to sent context) ∷ [])
   -- of an attempt that is over, and of one that opened
   pub over : IsRefused setup (doing 0 c (FactEntry (Started peer 1 5 ni)
       ∷ FactEntry (Ended peer 5 Cancelled) ∷ []) ∷ doing moment d (sends to sent context) ∷ [])
@@ -108,7 +109,8 @@ pub record AnswersSentRefused (setup : Setup) (moment : ℕ) (c d : Call) (to : 
       IsRefused setup (doing 0 c (says (Born j)) ∷ doing moment d (sends to sent context) ∷ [])
   -- of a session that is over, and of one that was opened here
   pub over : IsRefused setup (doing 0 c (FactEntry (Born j)
-      ∷ FactEntry (Ended j.peer j.near Override) ∷ []) ∷ doing moment d (sends to sent context) ∷ [])
+      ∷ FactEntry (Ended j.peer j.near Override) ∷ [])
+      ∷ doing moment d (sends to sent context) ∷ [])
   pub opened_here : (peer ni : List ℕ) (o : Joined) →
       IsRefused setup (doing 0 c (FactEntry (Started peer 1 5 ni) ∷ FactEntry (Opened o) ∷ [])
       ∷ doing moment d (sends to sent context) ∷ [])

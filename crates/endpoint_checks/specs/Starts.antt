@@ -23,10 +23,12 @@ pub record StartsRefused (setup : Setup) (moment : ℕ) (candidates : List Addre
       IsRefused setup (doing moment (Open towards candidates draws) (says (Started peer n near ni))
       ∷ [])
   pub other_nonce : ni ≢ draws.nonce →
-      IsRefused setup (doing moment (Open peer candidates draws) (says (Started peer n near ni)) ∷ [])
+      IsRefused setup
+      (doing moment (Open peer candidates draws) (says (Started peer n near ni)) ∷ [])
   -- this end itself
   pub itself : peer ≡ own_of setup →
-      IsRefused setup (doing moment (Open peer candidates draws) (says (Started peer n near ni)) ∷ [])
+      IsRefused setup
+      (doing moment (Open peer candidates draws) (says (Started peer n near ni)) ∷ [])
   -- an attempt towards the peer, or a session with it, is held
   pub again : (id : ℕ) (nonce : List ℕ) →
       IsRefused setup (doing moment (Open peer candidates draws) (says (Started peer 1 id nonce))
@@ -36,7 +38,8 @@ pub record StartsRefused (setup : Setup) (moment : ℕ) (candidates : List Addre
       ∷ doing moment (Open peer candidates draws) (says (Started peer n near ni)) ∷ [])
   -- its number isn't the next: the first is 1, and the second 2, whatever became of the first
   pub first_number : n ≢ 1 →
-      IsRefused setup (doing moment (Open peer candidates draws) (says (Started peer n near ni)) ∷ [])
+      IsRefused setup
+      (doing moment (Open peer candidates draws) (says (Started peer n near ni)) ∷ [])
   pub second_number : n ≢ 2 → (c d : Call) (other : List ℕ) (id : ℕ) (nonce : List ℕ) →
       IsRefused setup (doing moment c (says (Started other 1 id nonce))
       ∷ doing moment d (says (Ended other id Cancelled))

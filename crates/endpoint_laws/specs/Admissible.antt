@@ -43,7 +43,8 @@ pub record Admissible (setup : Setup) (past : List Stamped) (now : ℕ) (from : 
   pub cert : List ℕ
   pub sign : List ℕ
   pub spells
-      : Spells (IIKeying offer.far cookie cert (initiator_part offer.ni offer.n (own_of setup)) sign)
+      : Spells
+      (IIKeying offer.far cookie cert (initiator_part offer.ni offer.n (own_of setup)) sign)
       chunk.kind chunk.payload
   -- the number is what these 8 bytes say
   pub number : offer.n < 2 ^ 64

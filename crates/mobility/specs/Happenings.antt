@@ -11,12 +11,14 @@ pub data Happening : Type 0 where
 -- the pending test after these, the newest of which stands first
 abbrev pub pending_after : List Happening → Option Test
 pending_after [] = None
-pending_after (Seen current from token moment ∷ before) = after_seen (pending_after before) current from token moment
+pending_after (Seen current from token moment ∷ before) =
+    after_seen (pending_after before) current from token moment
 pending_after (Replied from bytes ∷ before) = after_reply (pending_after before) from bytes
 
 -- A datagram came from this place while the session's address was another one, and these bytes were
 -- the token.
-pub record WasPinged (happened : List Happening) (place : AddressParts) (bytes : List ℕ) : Type 0 where
+pub record WasPinged (happened : List Happening) (place : AddressParts) (bytes : List ℕ)
+    : Type 0 where
   pub current : AddressParts
   pub from : AddressParts
   pub moment : ℕ
@@ -33,7 +35,8 @@ MovesOnReplyAlone = (happened : List Happening) (from address : AddressParts) (b
 -- A place that is pinged gives the session's new address where its reply has the token, until
 -- another place is pinged.
 abbrev pub MovesOnItsReply : Type 0
-MovesOnItsReply = (pending : Option Test) (current from place : AddressParts) (token : List ℕ) (moment : ℕ)
+MovesOnItsReply = (pending : Option Test) (current from place : AddressParts) (token : List ℕ)
+    (moment : ℕ)
     → asks pending current from moment ≡ true → SamePlace from place
     → address_for (after_seen pending current from token moment) place token ≡ Some place
 
@@ -41,4 +44,5 @@ MovesOnItsReply = (pending : Option Test) (current from place : AddressParts) (t
 abbrev pub IsOverWithItsReply : Type 0
 IsOverWithItsReply = (pending : Option Test) (from address : AddressParts) (bytes : List ℕ)
     → address_for pending from bytes ≡ Some address
-    → (place : AddressParts) (again : List ℕ) → address_for (after_reply pending from bytes) place again ≡ None
+    → (place : AddressParts) (again : List ℕ)
+    → address_for (after_reply pending from bytes) place again ≡ None

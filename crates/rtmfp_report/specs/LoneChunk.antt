@@ -7,7 +7,8 @@ use Rattle.rtmfp_packet.specs.Walk.{is_ignored}
 -- most two.
 abbrev pub filling_kind : ℕ → List ℕ → Option ℕ
 filling_kind size (kind ∷ high ∷ low ∷ rest) =
-    if nat_lt size (3 + (high * 256 + low)) || (nat_lt (5 + (high * 256 + low)) size || is_ignored kind)
+    if nat_lt size (3 + (high * 256 + low))
+    || (nat_lt (5 + (high * 256 + low)) size || is_ignored kind)
     then None else Some kind
 filling_kind size short = None
 
