@@ -18,5 +18,7 @@ pub use comparing::same_bytes;
 pub use hmac_key::HmacKey;
 pub use keys::{Context, Keys, sign_key, stream_key};
 pub use mac::hmac;
-pub use sealing::{SealFault, decipher_in_place, open_in_place, open_refusal, seal_in_place};
+pub use sealing::{
+    CIPHERED_AT, SealFault, TAG_LEN, decipher_in_place, open_in_place, open_refusal, seal_in_place,
+};
 pub use window::{ReplayWindow, Seen};

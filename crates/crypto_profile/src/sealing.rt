@@ -14,9 +14,11 @@ use crate::hmac_key::HmacKey;
 use crate::keys::Keys;
 use std::ops::Range;
 
-const TAG_LEN: usize = 16;
+/// The bytes of a tag, with which a sealed part begins.
+pub const TAG_LEN: usize = 16;
 
-const HEAD_LEN: usize = 32;
+/// The bytes of a sealed part before its ciphertext: its tag and its packet number.
+pub const CIPHERED_AT: usize = 32;
 
 const BLOCK_LEN: usize = 32;
 
@@ -35,8 +37,8 @@ pub fn seal_in_place(keys: &Keys, sid: u32, number: [u8; 16], buf: &mut [u8])
     requires { 32 ≤ length buf.old }
     ensures { buf.new ≡ sealed keys.now sid number (drop 32 buf.old) }
 {
-    cipher(keys.stream(), &number, &mut buf[HEAD_LEN..]);
-    buf[TAG_LEN..HEAD_LEN].copy_from_slice(&number);
+    cipher(keys.stream(), &number, &mut buf[CIPHERED_AT..]);
+    buf[TAG_LEN..CIPHERED_AT].copy_from_slice(&number);
     let tag = tag(keys, sid, &buf[TAG_LEN..]);
     buf[..TAG_LEN].copy_from_slice(&tag);
 }
@@ -46,7 +48,7 @@ pub fn seal_in_place(keys: &Keys, sid: u32, number: [u8; 16], buf: &mut [u8])
 pub fn open_refusal(keys: &Keys, sid: u32, part: &[u8]) -> Option<SealFault>
     ensures { result ≡ open_refusal keys.now sid part.now }
 {
-    if part.len() < HEAD_LEN {
+    if part.len() < CIPHERED_AT {
         return Some(SealFault::Short);
     }
     let right = tag(keys, sid, &part[TAG_LEN..]);
@@ -72,9 +74,9 @@ pub fn open_in_place(keys: &Keys, sid: u32, buf: &mut [u8]) -> Result<Range<usiz
         return Err(fault);
     }
     let mut carried = [0u8; 16];
-    carried.copy_from_slice(&buf[TAG_LEN..HEAD_LEN]);
-    cipher(keys.stream(), &carried, &mut buf[HEAD_LEN..]);
-    Ok(HEAD_LEN..buf.len())
+    carried.copy_from_slice(&buf[TAG_LEN..CIPHERED_AT]);
+    cipher(keys.stream(), &carried, &mut buf[CIPHERED_AT..]);
+    Ok(CIPHERED_AT..buf.len())
 }
 
 /// Deciphers a sealed part in place, whatever its tag: its plain packet then stands from byte 32
@@ -84,7 +86,7 @@ pub fn decipher_in_place(key: &HmacKey, buf: &mut [u8])
     ensures head { take 32 buf.new ≡ take 32 buf.old }
     ensures plain { drop 32 buf.new ≡ ciphered key.now (number_of buf.old) (drop 32 buf.old) }
 {
-    let (head, packet) = buf.split_at_mut(HEAD_LEN);
+    let (head, packet) = buf.split_at_mut(CIPHERED_AT);
     let (_, carried) = head.split_at(TAG_LEN);
     let mut number = [0u8; 16];
     number.copy_from_slice(carried);

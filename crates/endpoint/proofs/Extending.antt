@@ -1,5 +1,5 @@
 -- A call brings an end from each log that it stands for to that log with its event.
-use Rattle.std.proofs.Common.{◌≡◌, ◌+◌, ℕ, List, [], ◌∷◌, ◌++◌, drop, length, Bool, true, false, is_some, Option, Some, None, Ok, Err, Result, OnOk, IfErr, IfSome, IfNone, IsSome, refl, sym, ap, ◌∙◌, subst, max, arith}
+use Rattle.std.proofs.Common.{◌≡◌, ◌+◌, ℕ, List, [], ◌∷◌, ◌++◌, drop, length, true, false, is_some, Option, Some, None, Ok, Err, Result, OnOk, IfErr, IfSome, IfNone, IsSome, refl, sym, ap, ◌∙◌, subst, max, arith}
 use Rattle.std.proofs.lemmas.List.{append-nil}
 use Rattle.glare_core.specs.declared.facts.Fact.{Fact}
 use Rattle.rtmfp_base.specs.declared.memory.Memory.{Memory}
@@ -8,7 +8,6 @@ use Rattle.startup.specs.Attempts.{cancel_fact}
 use Rattle.endpoint_model.specs.declared.config.Draws.{Draws}
 use Rattle.endpoint_model.specs.declared.entry.Entry.{Entry}
 use Rattle.endpoint_model.specs.declared.answers.OpenRefusal.{OpenRefusal}
-use Rattle.endpoint_model.specs.declared.answers.OpenRefusal.TheVariants.{Memory as NoMemoryToOpen}
 use Rattle.endpoint_model.specs.declared.answers.CallRefusal.{CallRefusal}
 use Rattle.endpoint_model.specs.declared.answers.CallRefusal.TheVariants.{NoAttempt, Memory as NoMemory}
 use Rattle.endpoint_model.specs.declared.answers.Stopped.{Stopped as Stop}

@@ -8,17 +8,15 @@ ghost use Rattle.endpoint_model.specs.Admission.{fault_number, has_mode, heard_i
 
 use crate::endpoint::Endpoint;
 use crate::sessions;
-use crypto_profile::open_in_place;
+use crypto_profile::{CIPHERED_AT, open_in_place};
 use endpoint_model::Place;
-use packet_scramble::unscramble;
+use packet_scramble::{SEALED_AT, unscramble};
 use rtmfp_packet::{Mode, PacketFault, PacketHead};
 use session_core::{Role, Unheard};
 use startup::Cause;
 
-/// The bytes of a datagram before its sealed part, and before its plain packet.
-pub(crate) const SEALED_AT: usize = 4;
-
-pub(crate) const PLAIN_AT: usize = 36;
+/// The bytes of a datagram before its plain packet.
+pub(crate) const PLAIN_AT: usize = SEALED_AT + CIPHERED_AT;
 
 impl Endpoint {
     /// What a session ID names.

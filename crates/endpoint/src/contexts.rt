@@ -5,12 +5,12 @@ ghost use Rattle.std.specs.FinMap.{get};
 ghost use Rattle.endpoint.specs.NamedContext.{context_towards, named_context};
 ghost use Rattle.endpoint_laws.specs.OpensIn.{OpensByTheLog, context_in_session, context_in_startup, opens_in};
 
-use crate::admission::{PLAIN_AT, SEALED_AT, word_of};
+use crate::admission::{PLAIN_AT, word_of};
 use crate::endpoint::Endpoint;
 use crate::sessions;
 use crypto_profile::{Context, open_refusal};
 use endpoint_model::Place;
-use packet_scramble::unscramble;
+use packet_scramble::{SEALED_AT, unscramble};
 
 impl Endpoint {
     /// The context of a datagram's session ID at this end, where the datagram opens in it: startup

@@ -10,12 +10,13 @@ ghost use Rattle.endpoint_model.specs.Keying.{AreNear};
 ghost use Rattle.endpoint_model.specs.Log.{Extends, IsStop, IsTaken, not_taken, receive_event, stopped};
 ghost use Rattle.endpoint_model.specs.State.{Done, at_moment, nothing};
 
-use crate::admission::{PLAIN_AT, SEALED_AT, fault_number, has_mode};
+use crate::admission::{PLAIN_AT, fault_number, has_mode};
 use crate::endpoint::Endpoint;
 use crate::keyings::add_fact;
 use crate::outbox::Outbox;
 use crate::sessions::index_near;
 use endpoint_model::{Draws, Entry, Place, Stopped, Walk};
+use packet_scramble::SEALED_AT;
 use rtmfp_chunks::kinds::IIKEYING;
 use rtmfp_forms::Address;
 use rtmfp_packet::{Chunks, Packet, PacketHead, RawChunk, read_packet};

@@ -4,19 +4,15 @@ ghost use Rattle.std.specs.Prelude.{◌≡◌, ◌+◌, ◌≤◌, length, IfOk}
 ghost use Rattle.packet_scramble.specs.Datagram.{datagram};
 ghost use Rattle.crypto_profile.specs.Sealing.{sealed};
 
-use crypto_profile::{Keys, seal_in_place};
-use packet_scramble::scramble;
+use crate::admission::PLAIN_AT;
+use crypto_profile::{CIPHERED_AT, Keys, seal_in_place};
+use packet_scramble::{SEALED_AT, scramble};
 use rtmfp_base::Message;
 use rtmfp_forms::Outgoing;
 use std::alloc::{AllocError, Global};
 
 /// The most bytes of a datagram that is sent.
 pub(crate) const DATAGRAM_LIMIT: usize = 1200;
-
-/// The bytes before the sealed part, and those before the plain packet.
-pub(crate) const SEALED_AT: usize = 4;
-
-const PLAIN_AT: usize = 36;
 
 /// Memory for one datagram, found before anything changes.
 pub(crate) fn blank(alloc: Global) -> Result<Vec<u8>, AllocError>
@@ -60,7 +56,7 @@ fn seal_part(part: &mut [u8], keys: &Keys, sid: u32, number: [u8; 16], plain: &[
     requires { length part.old ≡ 32 + length plain.now }
     ensures { part.new ≡ sealed keys.now sid number plain.now }
 {
-    let (_, packet) = part.split_at_mut(PLAIN_AT - SEALED_AT);
+    let (_, packet) = part.split_at_mut(CIPHERED_AT);
     packet.copy_from_slice(plain);
     seal_in_place(keys, sid, number, part);
 }

@@ -12,10 +12,10 @@ ghost use Rattle.endpoint_model.specs.Sending.{last_count, sent_answer, sent_eac
 
 use crate::endpoint::Endpoint;
 use crate::outbox::Outbox;
-use crate::sealing::{DATAGRAM_LIMIT, SEALED_AT, blank, seal};
+use crate::sealing::{DATAGRAM_LIMIT, blank, seal};
 use crypto_profile::Context;
 use endpoint_model::Entry;
-use packet_scramble::scramble;
+use packet_scramble::{SEALED_AT, scramble};
 use rtmfp_base::Message;
 use rtmfp_chunks::{ChunkView, write_chunk};
 use rtmfp_forms::{Address, Outgoing};

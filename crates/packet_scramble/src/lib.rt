@@ -12,6 +12,9 @@ ghost use Rattle.packet_scramble.specs.Datagram.{datagram, first_word, second_wo
 pub mod edges;
 pub mod laws;
 
+/// The bytes of a datagram before its sealed part: the scrambled session ID.
+pub const SEALED_AT: usize = 4;
+
 // A sealed part's byte at an offset, 0 past its end.
 fn byte_at(sealed: &[u8], at: usize) -> u8
     ensures { result ≡ slice_index sealed.now at }

@@ -8,7 +8,7 @@ ghost use Rattle.rendezvous_world.specs.Faults.{is_forged_by};
 ghost use Rattle.rendezvous_world.specs.Sent.{sent_in};
 ghost use Rattle.rendezvous_world.specs.Sound.{AreBelow};
 
-use crate::forgery::forge;
+use crate::forgery::{PLAIN_AT, forge};
 use crate::sent::find;
 use crate::step::{Step, StepFault};
 use crate::world::World;
@@ -25,9 +25,6 @@ const MOST_SENT: usize = 1200;
 
 /// The most bytes of a plain packet that is forged.
 const MOST_PLAIN: usize = 1164;
-
-/// The bytes of a datagram before its plain packet.
-const PLAIN_AT: usize = 36;
 
 /// A sent datagram that was looked up.
 #[derive(Clone, Copy)]

@@ -15,21 +15,17 @@ use crate::journal::JournalLine;
 use crate::keyed::Keyed;
 use crate::sent::find;
 use crate::world::World;
-use crypto_profile::{Context, Keys, seal_in_place};
+use crypto_profile::{CIPHERED_AT, Context, Keys, seal_in_place};
 use endpoint::Entry;
-use packet_scramble::scramble;
+use packet_scramble::{SEALED_AT, scramble};
 
 /// The secret of the group of every end.
 pub(crate) const GROUP_SECRET: [u8; 32] = [0; 32];
 
-/// The bytes before the sealed part, and those before the plain packet.
-const SEALED_AT: usize = 4;
+/// The bytes of a datagram before its plain packet.
+pub(crate) const PLAIN_AT: usize = SEALED_AT + CIPHERED_AT;
 
-const PLAIN_AT: usize = 36;
-
-/// The bytes before those that a datagram's key is made of, and their number.
-const KEYED_AT: usize = 4;
-
+/// The bytes that a datagram's key is made of, from its sealed part on.
 const KEY_BYTES: usize = 8;
 
 /// Whether one of the entries of a call of this end is a datagram with these bytes in this context.
@@ -75,10 +71,10 @@ fn is_sent_in(lines: &[JournalLine], bytes: &[u8], context: &Context) -> bool
 fn key_of(datagram: &[u8]) -> u64
     ensures { result ≡ key_of datagram.now }
 {
-    if datagram.len() < KEYED_AT + KEY_BYTES {
+    if datagram.len() < SEALED_AT + KEY_BYTES {
         return 0;
     }
-    let (_, part) = datagram.split_at(KEYED_AT);
+    let (_, part) = datagram.split_at(SEALED_AT);
     let (front, _) = part.split_at(KEY_BYTES);
     let mut key = [0; KEY_BYTES];
     key.copy_from_slice(front);
@@ -201,7 +197,7 @@ fn seal_part(part: &mut [u8], keys: &Keys, number: [u8; 16], plain: &[u8])
     requires { length part.old ≡ 32 + length plain.now }
     ensures { part.new ≡ sealed keys.now 0 number plain.now }
 {
-    let (_, packet) = part.split_at_mut(PLAIN_AT - SEALED_AT);
+    let (_, packet) = part.split_at_mut(CIPHERED_AT);
     packet.copy_from_slice(plain);
     seal_in_place(keys, 0, number, part);
 }

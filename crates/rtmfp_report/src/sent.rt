@@ -7,17 +7,12 @@ ghost use Rattle.rtmfp_report.specs.SentText.{behind_pluses, kinds_text, sent_ki
 
 use crate::group_keys::GroupKeys;
 use crate::lone_chunk::lone_kind;
-use crypto_profile::Context;
+use crypto_profile::{CIPHERED_AT, Context};
 use endpoint::{Kinds, outgoing_kinds};
+use packet_scramble::SEALED_AT;
 use rtmfp_forms::Address;
 use rtmfp_text::{Text, kind_name, push_address};
 use std::alloc::AllocError;
-
-/// The bytes of a datagram before its sealed part.
-const SEALED_AT: usize = 4;
-
-/// The bytes of a sealed part before its ciphertext.
-const CIPHERED_AT: usize = 32;
 
 /// The bytes of a plain packet that are deciphered at a time.
 const BLOCK_LEN: usize = 32;

@@ -5,12 +5,8 @@ ghost use Rattle.std.specs.Int.{w64, from_be_bytes};
 ghost use Rattle.crypto_profile.specs.Sealing.{number_of};
 ghost use Rattle.session_core.specs.Hearing.{count_of, is_session_number, opens_under};
 
-use crypto_profile::{Keys, open_refusal, same_bytes};
+use crypto_profile::{CIPHERED_AT, Keys, TAG_LEN, open_refusal, same_bytes};
 use thiserror::Error;
-
-pub(crate) const HEAD_LEN: usize = 32;
-
-const TAG_LEN: usize = 16;
 
 const ZEROS: usize = 8;
 
@@ -34,7 +30,7 @@ fn number_of(part: &[u8]) -> &[u8]
     ensures value { result.now ≡ number_of part.now }
     ensures length { length result.now ≡ 16 }
 {
-    &part[TAG_LEN..HEAD_LEN]
+    &part[TAG_LEN..CIPHERED_AT]
 }
 
 /// Whether the number is one of a session's packets.
@@ -60,7 +56,7 @@ pub(crate) fn count_of(part: &[u8]) -> u64
 pub(crate) fn opens_under(keys: &Keys, sid: u32, part: &[u8]) -> bool
     ensures { result ≡ opens_under keys.now sid part.now }
 {
-    if part.len() < HEAD_LEN {
+    if part.len() < CIPHERED_AT {
         return false;
     }
     if !has_session_number(part) {

@@ -4,8 +4,7 @@ ghost use Rattle.std.specs.Prelude.{◌≡◌, ◌+◌, ◌≤◌, length};
 ghost use Rattle.crypto_profile.specs.Sealing.{sealed};
 ghost use Rattle.session_core.specs.Sealed.{number_bytes, with_part};
 
-use crate::hearing::HEAD_LEN;
-use crypto_profile::{Keys, seal_in_place};
+use crypto_profile::{CIPHERED_AT, Keys, seal_in_place};
 
 /// The bytes of the session ID, before the sealed part.
 const ID_LEN: usize = 4;
@@ -24,7 +23,7 @@ fn seal_part(keys: &Keys, sid: u32, number: [u8; 16], plain: &[u8], part: &mut [
     requires { length part.old ≡ 32 + length plain.now }
     ensures { part.new ≡ sealed keys.now sid number plain.now }
 {
-    let (_, packet) = part.split_at_mut(HEAD_LEN);
+    let (_, packet) = part.split_at_mut(CIPHERED_AT);
     packet.copy_from_slice(plain);
     seal_in_place(keys, sid, number, part);
 }
@@ -42,7 +41,7 @@ pub(crate) fn seal_into(
     ensures length { result ≡ 36 + length plain.now }
     ensures written { out.new ≡ with_part out.old (sealed keys.now sid number plain.now) }
 {
-    let len = HEAD_LEN + plain.len();
+    let len = CIPHERED_AT + plain.len();
     let (_, rest) = out.split_at_mut(ID_LEN);
     let (part, _) = rest.split_at_mut(len);
     seal_part(keys, sid, number, plain, part);

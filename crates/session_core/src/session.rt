@@ -11,12 +11,12 @@ ghost use Rattle.session_core.specs.Sealed.{is_spent, seal_answer, after_seal, s
 ghost use Rattle.session_core.specs.Hearing.{counted, opens_in, unheard, heard_answer, after_heard, opened};
 
 use crate::congestion::{Congestion, first_congestion, grown, shrunk};
-use crate::hearing::{HEAD_LEN, Unheard, count_of, has_session_number, opens_under};
+use crate::hearing::{Unheard, count_of, has_session_number, opens_under};
 use crate::sealing::{number_of_count, seal_into};
 use crate::stage::{Role, SessionDue, Stage, is_held, is_past, is_past_last};
 use crate::stamps::{Stamp, echo_of, stamp_after, tick_of};
 use crate::trips::{RoundTrip, resend_time, trip_after};
-use crypto_profile::{Context, HmacKey, Keys, ReplayWindow, open_in_place};
+use crypto_profile::{CIPHERED_AT, Context, HmacKey, Keys, ReplayWindow, open_in_place};
 use glare_core::Joined;
 use rtmfp_forms::{Address, Outgoing};
 use rtmfp_packet::{Mode, PacketHead};
@@ -229,7 +229,7 @@ impl Session {
         ensures session { self.new ≡ after_heard self.old sealed.old }
         ensures buffer { sealed.new ≡ opened self.old sealed.old }
     {
-        if sealed.len() < HEAD_LEN {
+        if sealed.len() < CIPHERED_AT {
             return Err(Unheard::Short);
         }
         if !has_session_number(sealed) {
@@ -250,7 +250,7 @@ impl Session {
         ensures answer { result ≡ heard_answer self.now sealed.old }
         ensures buffer { sealed.new ≡ opened self.now sealed.old }
     {
-        if sealed.len() < HEAD_LEN {
+        if sealed.len() < CIPHERED_AT {
             return Err(Unheard::Short);
         }
         let is_of_session = has_session_number(sealed);

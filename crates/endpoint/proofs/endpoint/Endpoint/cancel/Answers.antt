@@ -1,4 +1,4 @@
-use Rattle.std.proofs.Common.{◌≡◌, true, false, is_some, ap, sym, ◌∙◌, arith}
+use Rattle.std.proofs.Common.{◌≡◌, true, false, is_some, ap, arith}
 use Rattle.std.proofs.lemmas.Grind.{common_steps}
 use Rattle.startup.specs.Attempts.{cancel_fact}
 use Rattle.endpoint_model.specs.State.{State}
