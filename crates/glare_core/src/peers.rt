@@ -262,14 +262,14 @@ impl Peers {
     /// Ends what is held with the peer: it gives Ended; None exactly where nothing is held. It
     /// takes no memory.
     ///
-    /// An attempt ends here with Cancelled or Expired, a half-open session with Unconfirmed, Near
-    /// or Far, a kept one with Near, Far or Idle.
+    /// An attempt may end here with Cancelled or Expired, a half-open session with Unconfirmed, Near
+    /// or Far, a kept one with Near, Far or Idle: what is given is lawful then.
     pub fn end(&mut self, peer: &[u8; 32], why: Why) -> Option<Fact>
-        requires { IfSome (held_with self.old peer.now) (MayEnd why) }
         ensures fact { result ≡ ended_fact (held_with self.old peer.now) peer.now why }
         ensures ledger { self.new ≡ noted_if self.old result }
         ensures own { self.new.own ≡ self.old.own }
-        ensures gave { Gave self.old (option_to_list result) self.new }
+        ensures gave { IfSome (held_with self.old peer.now) (MayEnd why) →
+            Gave self.old (option_to_list result) self.new }
     {
         let seat = seat_of(&self.rows, peer);
         let fact = ended_fact(&seat.held, peer, why);

@@ -29,11 +29,9 @@ impl Startup {
     ghost use Rattle.std.specs.Prelude.{◌≡◌, ◌≢◌, ◌≤◌, length, None, Some, Err, IfSome, IfNone};
     ghost use Rattle.std.specs.Prelude.{IfOk, IfErr, OnErr};
     ghost use Rattle.std.specs.FinMap.{get};
-    ghost use Rattle.glare_core.specs.Ledger.{held_with};
-    ghost use Rattle.glare_core.specs.Calls.{start_refusal, started_fact, MayEnd};
+    ghost use Rattle.glare_core.specs.Calls.{start_refusal, started_fact};
     ghost use Rattle.startup.specs.Attempts.{begin_spread, after_begin, cancel_fact, after_cancel};
     ghost use Rattle.startup.specs.Attempts.{confirm_fact, after_confirm, end_fact, after_end};
-    ghost use Rattle.startup.specs.Attempts.{session_in};
 
     /// Begins an attempt towards the end that the discriminator names, under a near id that isn't 0
     /// and that no held attempt has, with 1 to 16 candidate addresses; candidates at the same place
@@ -120,10 +118,9 @@ impl Startup {
     /// Ends the session with the peer; None exactly where no session is held with it. It takes no
     /// memory.
     ///
-    /// A half-open session ends here with Unconfirmed, Near or Far, a kept one with Near, Far or
+    /// A half-open session may end here with Unconfirmed, Near or Far, a kept one with Near, Far or
     /// Idle.
     pub fn end(&mut self, peer: &[u8; 32], why: Why) -> Option<Fact>
-        requires { IfSome (session_in (held_with self.old.ledger peer.now)) (MayEnd why) }
         ensures fact { result ≡ end_fact self.old peer.now why }
         ensures after { self.new ≡ after_end self.old peer.now why }
     {
