@@ -5,7 +5,7 @@ use Rattle.startup.specs.State.{StartupState}
 use Rattle.session_core.specs.Session.{SessionState}
 use Rattle.endpoint_model.specs.declared.config.Config.{Config}
 use Rattle.endpoint_model.specs.declared.row.Row.{Row}
-use Rattle.endpoint_model.specs.State.{State, with_sessions, with_session}
+use Rattle.endpoint_model.specs.State.{State, with_sessions, with_session, with_row}
 use Rattle.crypto_profile.specs.Keys.{Keys}
 use Rattle.endpoint.specs.Stored.{near_of, table_of, state_of, IsEndpoint}
 use Rattle.rtmfp_base.proofs.Rows.{index_found}
@@ -51,6 +51,16 @@ pub changed_state : (config : Config) (moment sealed : ℕ) (startup : StartupSt
 changed_state config moment sealed startup rows s near index old new made did view changed is does =
     let before : State = state_of config moment sealed startup rows in
     ap (with_sessions before) changed.table ∙ ap (with_session before near old) is ∙ sym does ∙ sym (ap (did before) changed.was)
+    ∙ ap (λ (t : State). did t (get t.sessions near)) view
+
+-- the same where more of the row is changed than the session
+pub row_changed_state : (config : Config) (moment sealed : ℕ) (startup : StartupState) (rows : List Row) (s : State) (near index : ℕ) (old new made : Row) (did : State → Option Row → State) →
+    state_of config moment sealed startup rows ≡ s → IsChanged rows near old new (set rows index new) → new ≡ made →
+    did (state_of config moment sealed startup rows) (Some old) ≡ with_row (state_of config moment sealed startup rows) near made →
+    state_of config moment sealed startup (set rows index new) ≡ did s (get s.sessions near)
+row_changed_state config moment sealed startup rows s near index old new made did view changed is does =
+    let before : State = state_of config moment sealed startup rows in
+    ap (with_sessions before) changed.table ∙ ap (with_row before near) is ∙ sym does ∙ sym (ap (did before) changed.was)
     ∙ ap (λ (t : State). did t (get t.sessions near)) view
 
 -- the same state, where there is none

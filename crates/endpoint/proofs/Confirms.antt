@@ -18,6 +18,8 @@ use Rattle.endpoint_model.proofs.Steps.{done_nothing}
 use Rattle.rtmfp_forms.specs.Address.{AddressParts}
 use Rattle.rtmfp_packet.specs.Whole.{Whole}
 use Rattle.endpoint_model.specs.Keying.{chunks_of}
+use Rattle.endpoint_model.specs.InSessions.{asks_at}
+use Rattle.endpoint_model.specs.declared.config.Draws.{Draws}
 use Rattle.endpoint_model.specs.Effects.{AreQuiet, AddsDiscards, discards, discards_among, outset}
 use Rattle.endpoint_model.specs.Log.{IsStop, not_taken}
 use Rattle.endpoint_model.specs.Admission.{confirms, confirms_by, confirming, confirming_by, taken_packet, counted_at, counted_by, timed_at, timed_by}
@@ -104,8 +106,8 @@ pub confirms_taken : (s : State) (place : Place) (part : List ℕ) (head : Packe
 confirms_taken s place part head = confirms_timed (counted_at s place part) place head ∙ confirms_counted s place part
 
 -- no memory was found before a datagram was taken that confirms a session
-pub stopped_before : (s : State) (place : Place) (part : List ℕ) (packet : Whole) → confirms s place ≡ true → IsStop (taken_packet s place part packet) not_taken
-stopped_before s place part packet confirming = record {
+pub stopped_before : (s : State) (place : Place) (part : List ℕ) (from : AddressParts) (draws : Draws) (packet : Whole) → confirms s place ≡ true → IsStop from draws (taken_packet s place part packet) not_taken
+stopped_before s place part from draws packet confirming = record {
   taken = λ clash. absurd (cc);
   not_taken = λ is. (confirms_taken s place part packet.head ∙ confirming, refl);
 }
@@ -118,7 +120,7 @@ not_refused A s place part from packet confirming refused =
 -- what the chunks of a refused datagram meet, after it was taken
 pub refused_chunks : (s entered : State) (place : Place) (part : List ℕ) (from : AddressParts) (packet : Whole) (before after : Added) →
     Done (confirming (timed_at (counted_at s place part) place packet.head) place) entered before after → AddsDiscards from (taken_packet s place part packet) →
-    discards from (taken_packet s place part packet) ≤ before.free → AreQuiet entered place from outset (chunks_of packet) × (discards_among entered place from outset (chunks_of packet) ≤ after.free)
+    discards from (taken_packet s place part packet) ≤ before.free → AreQuiet entered place from outset (chunks_of packet) × (asks_at entered place from ≡ false) × (discards_among entered place from outset (chunks_of packet) ≤ after.free)
 refused_chunks s entered place part from packet before after done refused room =
     let t = timed_at (counted_at s place part) place packet.head in
     let quiet : confirming t place ≡ nothing t = unconfirmed t place refused.0 in
@@ -128,4 +130,4 @@ refused_chunks s entered place part from packet before after done refused room =
     let P : State → Type 0 = λ u. AreQuiet u place from outset (chunks_of packet) in
     let Q : State → Type 0 = λ u. discards_among u place from outset (chunks_of packet) ≤ after.free in
     let enough : discards_among t place from outset (chunks_of packet) ≤ after.free = omega (arith, free, none, room) in
-    (subst P (sym same) refused.1, subst Q (sym same) enough)
+    (subst P (sym same) refused.1, ap (λ (u : State). asks_at u place from) same ∙ refused.2, subst Q (sym same) enough)

@@ -9,14 +9,16 @@ use Rattle.endpoint_model.specs.declared.config.Draws.{Draws}
 use Rattle.endpoint_model.specs.declared.entry.Entry.{Entry}
 use Rattle.endpoint_model.specs.declared.answers.OpenRefusal.{OpenRefusal}
 use Rattle.endpoint_model.specs.declared.answers.CallRefusal.{CallRefusal}
-use Rattle.endpoint_model.specs.declared.answers.CallRefusal.TheVariants.{NoAttempt, Memory as NoMemory}
+use Rattle.endpoint_model.specs.declared.answers.CallRefusal.TheVariants.{NoAttempt, NoSession, Memory as NoMemory}
 use Rattle.endpoint_model.specs.declared.answers.Stopped.{Stopped as Stop}
 use Rattle.endpoint_model.specs.Added.{Added}
 use Rattle.endpoint_model.specs.Event.{Event, Cancel, Refused, Done as Finished}
 use Rattle.endpoint_model.specs.State.{State, Did, Does, Done, nothing, fresh, at_moment}
 use Rattle.endpoint_model.specs.Admission.{admission}
+use Rattle.endpoint_model.specs.declared.row.Row.{Row}
+use Rattle.endpoint_model.specs.InSessions.{held_row, closing}
 use Rattle.endpoint_model.specs.Effects.{open_refusal, opening, cancelling, ticks, received, first_due}
-use Rattle.endpoint_model.specs.Log.{Step, Answers, Leads, Extends, IsTaken, IsStop, stopped, not_opened, open_event, cancel_event, receive_event, tick_event}
+use Rattle.endpoint_model.specs.Log.{Step, Answers, Leads, Extends, IsTaken, IsStop, stopped, not_opened, open_event, cancel_event, close_event, receive_event, tick_event}
 
 leads_more : (s t u : State) (es : List Event) (e : Event) → Leads s es t → Step t e u → Leads s (es ++ e ∷ []) u
 leads_more s t u [] e h step = (u, (let P : State → Type 0 = λ x. Step x e u in subst P (sym h) step), refl)
@@ -87,6 +89,28 @@ pub no_memory_extends : (s t : State) (n : ℕ) (before after : Added) → is_so
     Extends s t (cancel_event n (Err NoMemory) before.entries after.entries)
 no_memory_extends s t n before after some did = refused_extends s t n NoMemory before after (one_there (cancel_fact s.startup n) some) did
 
+row_there : (o : Option Row) (done : Unit {0}) → IfNone o (◌≡◌ {A = Result (Unit {0}) CallRefusal} (Ok done) (Err NoSession)) → IsSome o
+row_there None done h = absurd (cc)
+row_there (Some row) done h = refl
+
+row_nowhere : (o : Option Row) (refusal : CallRefusal) → IfNone o (◌≡◌ {A = Result (Unit {0}) CallRefusal} (Err refusal) (Err NoSession)) → IfNone o (refusal ≡ NoSession)
+row_nowhere None refusal h = cc
+row_nowhere (Some row) refusal h = tt
+
+close_steps : (s t : State) (near moment : ℕ) (r : Result (Unit {0}) CallRefusal) (before after : Added) →
+    OnOk r (Done (closing (at_moment s moment) near) t before after) → IfNone (held_row s near) (r ≡ Err NoSession) →
+    IfSome (held_row s near) (λ _. IfErr r (λ refusal. refusal ≡ NoMemory)) → OnErr r (Done (nothing (at_moment s moment)) t before after) →
+    Step s (close_event near moment r before.entries after.entries) t
+close_steps s t near moment (Ok done) before after ok refused memory err = (row_there (held_row s near) done refused, alone (closing (at_moment s moment) near) t before after ok)
+close_steps s t near moment (Err refusal) before after ok refused memory err = (row_nowhere (held_row s near) refusal refused, memory, alone (nothing (at_moment s moment)) t before after err)
+
+pub close_extends : (s t : State) (near moment : ℕ) (r : Result (Unit {0}) CallRefusal) (before after : Added) →
+    OnOk r (Done (closing (at_moment s moment) near) t before after) → IfNone (held_row s near) (r ≡ Err NoSession) →
+    IfSome (held_row s near) (λ _. IfErr r (λ refusal. refusal ≡ NoMemory)) → OnErr r (Done (nothing (at_moment s moment)) t before after) →
+    Extends s t (close_event near moment r before.entries after.entries)
+close_extends s t near moment r before after ok refused memory err =
+    extends s t (close_event near moment r before.entries after.entries) (close_steps s t near moment r before after ok refused memory err)
+
 tick_steps : (s t : State) (moment : ℕ) (draws : Draws) (r : Result (Unit {0}) Memory) (before after : Added) →
     (count : ℕ) × Done (ticks count (at_moment s moment)) t before after → OnOk r (first_due t ≡ None) →
     Step s (tick_event moment draws r before.entries after.entries) t
@@ -100,7 +124,7 @@ tick_extends s t moment draws r before after some all =
     extends s t (tick_event moment draws r before.entries after.entries) (tick_steps s t moment draws r before after some all)
 
 receive_steps : (s t : State) (moment : ℕ) (from : AddressParts) (datagram : List ℕ) (draws : Draws) (r : Result (Unit {0}) Stop) (before after : Added) →
-    OnOk r (Done (received from draws (admission (at_moment s moment) datagram)) t before after) → IfErr r (λ stop. IsStop (admission (at_moment s moment) datagram) stop) →
+    OnOk r (Done (received from draws (admission (at_moment s moment) datagram)) t before after) → IfErr r (λ stop. IsStop from draws (admission (at_moment s moment) datagram) stop) →
     IfErr r (λ stop. Done (stopped (at_moment s moment) from draws (admission (at_moment s moment) datagram) stop) t before after) →
     Step s (receive_event from moment datagram draws r before.entries after.entries) t
 receive_steps s t moment from datagram draws (Ok done) before after ok stop stopped = alone _ t before after ok

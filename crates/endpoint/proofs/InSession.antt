@@ -13,6 +13,7 @@ use Rattle.endpoint_model.specs.declared.entry.Entry.{Entry}
 use Rattle.endpoint_model.specs.declared.entry.Entry.TheVariants.{Out}
 use Rattle.endpoint_model.specs.Added.{Added}
 use Rattle.endpoint.specs.Stored.{near_of, state_of, table_of}
+use Rattle.endpoint_model.specs.InSessions.{sent_home, sent_home_by}
 use Rattle.endpoint_model.specs.Sending.{sent_by, sent_in_session, session_datagram}
 use Rattle.endpoint_model.specs.State.{State, new_row, Did, Done, Sessions, nothing, with_session, with_sessions}
 use Rattle.endpoint.proofs.Rows.{index_in, put_at, found_at}
@@ -36,6 +37,17 @@ sent_as s near to body row spent found is = ap (sent_by s near to body) found �
 pub unsent_spent : (s : State) (near : ℕ) (to : AddressParts) (body : List ℕ) (row : Row) (out : Added) → get s.sessions near ≡ Some row → is_spent row.session ≡ true →
     Done (sent_in_session s near to body) s out out
 unsent_spent s near to body row out found is = subst (λ (d : Did). Done d s out out) (sym (sent_as s near to body row true found is)) (done_nothing s out)
+
+-- ---- to where its datagrams go
+
+pub unsent_home : (s : State) (near : ℕ) (body : List ℕ) (out : Added) → get s.sessions near ≡ None → Done (sent_home s near body) s out out
+unsent_home s near body out none = subst (λ (d : Did). Done d s out out) (sym (ap (sent_home_by s near body) none)) (done_nothing s out)
+
+pub sent_home_to : (s t : State) (near : ℕ) (to : AddressParts) (body : List ℕ) (row : Row) (before after : Added) → get s.sessions near ≡ Some row → to ≡ row.session.address →
+    Done (sent_in_session s near to body) t before after → Done (sent_home s near body) t before after
+sent_home_to s t near to body row before after found to_is sent =
+    let P : Did → Type 0 = λ d. Done d t before after in
+    subst P (ap (λ (a : AddressParts). sent_in_session s near a body) to_is ∙ ap (sent_by s near row.session.address body) found ∙ sym (ap (sent_home_by s near body) found)) sent
 
 -- ---- a session that sealed is put back at its index
 

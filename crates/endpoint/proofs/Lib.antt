@@ -14,3 +14,8 @@ mod Taking
 mod Near
 mod NamedContexts
 mod Falling
+mod Endings
+mod Relocating
+mod DueItems
+mod Walking
+mod Told

@@ -44,7 +44,7 @@ pub refused_so : (s t : State) (from : AddressParts) (draws : Draws) (cause : Ca
     IsTaken s from draws (Rejected t cause) r new before after
 refused_so s t from draws cause (Ok done) new before after ok stop enough = record { ok = ok; stop = tt; stopped = tt; enough = λ refused room. enough (omega (arith, room)) }
 refused_so s t from draws cause (Err halt) new before after ok stop enough =
-    let P : Stopped → Type 0 = λ x. IsStop (Rejected t cause) x in
+    let P : Stopped → Type 0 = λ x. IsStop from draws (Rejected t cause) x in
     let Q : Stopped → Type 0 = λ x. Done (stopped s from draws (Rejected t cause) x) new before after in
     record {
       ok = tt;

@@ -12,6 +12,9 @@ use Rattle.endpoint_model.specs.State.{State, Sessions}
 abbrev pub near_of : Row → ℕ
 near_of row = row.session.joined.near
 
+abbrev pub itself : Row → Row
+itself row = row
+
 abbrev pub entry_of : Row → ℕ × Row
 entry_of row = (near_of row, row)
 

@@ -53,6 +53,9 @@ impl Endpoint {
                 self.responder_keyed(sid_at(place), fields, peer, from, out)
             }
             Verdict::Reply { chunk } => self.reply(sid_at(place), from, chunk, out),
+            Verdict::Close => self.take_close(sid_at(place), out),
+            Verdict::CloseAck => self.finish_closing(sid_at(place), out),
+            Verdict::PingReply { bytes } => self.take_ping_reply(sid_at(place), from, bytes, out),
             Verdict::Quiet => Ok(()),
         }
     }

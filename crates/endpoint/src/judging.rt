@@ -1,7 +1,8 @@
 //! One look at a chunk: why it is discarded, or what it would do. Nothing changes here, and no
 //! memory is taken.
 
-ghost use Rattle.std.specs.Prelude.{◌≡◌, IfErr, IfOk, None, Ok, Some, length, nat_lt};
+ghost use Rattle.std.specs.Prelude.{◌≡◌, IfErr, IfOk, None, Ok, Some, false, length, nat_lt, true};
+ghost use Rattle.std.specs.FinMap.{get};
 ghost use Rattle.glare_core.specs.Calls.{where_true};
 ghost use Rattle.rtmfp_forms.specs.Address.{AddressParts};
 ghost use Rattle.rtmfp_chunks.specs.Chunk.{chunk_of, kind_of};
@@ -9,19 +10,23 @@ ghost use Rattle.rtmfp_chunks.specs.FieldReading.{chunk_reading};
 ghost use Rattle.rtmfp_packet.specs.Chunks.{shown};
 ghost use Rattle.startup.specs.Keyings.{keying_fault};
 ghost use Rattle.endpoint_model.specs.Admission.{sid_at};
-ghost use Rattle.endpoint_model.specs.Effects.{effect, initiator_keyed, read_done, responder_keyed};
+ghost use Rattle.endpoint_model.specs.Effects.{effect, initiator_keyed, responder_keyed};
+ghost use Rattle.endpoint_model.specs.InSessions.{answers_by, moved_by};
 ghost use Rattle.endpoint_model.specs.Causes.{chunk_cause, initiator_keying_cause, is_known};
 ghost use Rattle.endpoint_model.specs.Causes.{read_cause, read_fault, responder_keying_cause};
-ghost use Rattle.endpoint_model.specs.Causes.{takes, view_fault};
-ghost use Rattle.endpoint.specs.Judging.{known_cause, Stands};
+ghost use Rattle.endpoint_model.specs.Causes.{has_state_for, row_takes, takes, view_fault};
+ghost use Rattle.endpoint.specs.Judging.{known_cause, moves_nothing, other_cause, other_done};
+ghost use Rattle.endpoint.specs.Judging.{stage_takes, Stands, view_done};
 
 use crate::endpoint::Endpoint;
+use crate::sessions::{index_near, is_held};
 use endpoint_model::{Place, Walk};
 use identity::Certificate;
 use rtmfp_chunks::kinds::*;
 use rtmfp_chunks::{ChunkFault, ChunkView, read_chunk};
 use rtmfp_forms::Address;
 use rtmfp_packet::RawChunk;
+use session_core::Stage;
 use startup::{
     Cause, Hearing, InitiatorFields, ResponderFields, read_initiator_keying, read_responder_keying,
 };
@@ -62,7 +67,15 @@ pub(crate) enum Verdict<'a> {
     Reply {
         chunk: ChunkView<'a>,
     },
-    /// A chunk that does nothing, as an answer to a ping.
+    /// A close of the session that it came in.
+    Close,
+    /// The answer to this end's close of that session.
+    CloseAck,
+    /// The answer to the ping of a test, which moves that session.
+    PingReply {
+        bytes: &'a [u8],
+    },
+    /// A chunk that does nothing, as another answer to a ping.
     Quiet,
 }
 
@@ -78,6 +91,8 @@ fn is_known(kind: u8) -> bool
         || kind == RIKEYING
         || kind == PING
         || kind == PING_REPLY
+        || kind == CLOSE
+        || kind == CLOSE_ACK
         || kind == FRAGMENT
 }
 
@@ -90,8 +105,28 @@ fn takes(place: Place, kind: u8) -> bool
             kind == IHELLO || kind == RHELLO || kind == COOKIE_CHANGE || kind == IIKEYING
         }
         Place::Attempt(_) => kind == COOKIE_CHANGE || kind == RIKEYING,
-        Place::Session(_) => kind == FIHELLO || kind == PING || kind == PING_REPLY,
+        Place::Session(_) => {
+            kind == FIHELLO
+                || kind == PING
+                || kind == PING_REPLY
+                || kind == CLOSE
+                || kind == CLOSE_ACK
+        }
     }
+}
+
+/// Whether a session at this stage takes chunks of this type, which sessions take. Once it is
+/// closing that is a close alone, and its answer where this end closes it.
+fn stage_takes(stage: Stage, kind: u8) -> bool
+    ensures { result ≡ stage_takes stage kind }
+{
+    if kind == CLOSE {
+        return true;
+    }
+    if kind == CLOSE_ACK {
+        return stage == Stage::NearClose;
+    }
+    is_held(stage)
 }
 
 /// The session ID of a place.
@@ -149,6 +184,42 @@ fn ping_cause(bytes: &[u8]) -> Option<Cause>
 }
 
 impl Endpoint {
+    /// Whether the session with this session ID takes chunks of this type, as it stands.
+    fn session_takes(&self, near: u32, kind: u8) -> bool
+        ensures { result ≡ row_takes (get self.now.sessions near) kind }
+    {
+        match index_near(&self.sessions, near, self.likely) {
+            Some(index) => stage_takes(self.sessions[index].session.stage(), kind),
+            None => false,
+        }
+    }
+
+    /// Whether what is at a place takes chunks of this type, as it stands.
+    fn has_state_for(&self, place: Place, kind: u8) -> bool
+        ensures { result ≡ has_state_for self.now place kind }
+    {
+        match place {
+            Place::Startup => true,
+            Place::Attempt(_) => true,
+            Place::Session(near) => self.session_takes(near, kind),
+        }
+    }
+
+    /// What an answer to a ping does, which came from an address at a place: it moves the session,
+    /// or nothing.
+    fn judge_reply<'a>(&self, place: Place, from: &Address, bytes: &'a [u8]) -> Verdict<'a>
+        ensures stands { Stands self.now place from.now (λ _. moved_by self.now (sid_at place)
+            from.now bytes.now (get self.now.sessions (sid_at place))) result }
+        ensures quiet { answers_by from.now bytes.now (get self.now.sessions (sid_at place)) ≡ false
+            → result ≡ Verdict.Quiet }
+    {
+        if self.is_answered(sid_at(place), from, bytes) {
+            Verdict::PingReply { bytes }
+        } else {
+            Verdict::Quiet
+        }
+    }
+
     /// What a chunk does that is no keying, or why it is discarded.
     fn judge_view<'a>(
         &self,
@@ -157,12 +228,12 @@ impl Endpoint {
         view: ChunkView<'a>,
     ) -> Result<Verdict<'a>, Cause>
         ensures ok { IfOk result (Stands self.now place from.now
-            (λ _. read_done self.now place from.now (Ok (chunk_of view.entry)))) }
+            (λ _. view_done self.now place from.now (chunk_of view.entry))) }
         ensures none { IfOk result (λ _. read_cause self.now place (Ok (chunk_of view.entry)) ≡
             None) }
         ensures refused { IfErr result (λ cause. read_cause self.now place (Ok (chunk_of
             view.entry)) ≡ Some cause) }
-        ensures quiet { kind_of (chunk_of view.entry) ≡ 0x41 →
+        ensures quiet { moves_nothing self.now place from.now (chunk_of view.entry) ≡ true →
             IfOk result (λ verdict. verdict ≡ Verdict.Quiet) }
     {
         match view {
@@ -196,6 +267,9 @@ impl Endpoint {
                     chunk: ChunkView::PingReply { bytes },
                 }),
             },
+            ChunkView::Close => Ok(Verdict::Close),
+            ChunkView::CloseAck => Ok(Verdict::CloseAck),
+            ChunkView::PingReply { bytes } => Ok(self.judge_reply(place, from, bytes)),
             _ => Ok(Verdict::Quiet),
         }
     }
@@ -269,19 +343,18 @@ impl Endpoint {
         from: &Address,
         chunk: &RawChunk<'a>,
     ) -> Result<Verdict<'a>, Cause>
-        ensures ok { IfOk result (Stands self.now place from.now (λ _. read_done self.now place
-            from.now (chunk_reading chunk.now.kind chunk.now.payload.now))) }
+        ensures ok { IfOk result (Stands self.now place from.now
+            (λ _. other_done self.now place from.now (shown chunk.now))) }
         ensures none { IfOk result (λ _. known_cause place chunk.now.kind
             (read_fault (length chunk.now.payload.now)
             (chunk_reading chunk.now.kind chunk.now.payload.now))
-            (read_cause self.now place (chunk_reading chunk.now.kind chunk.now.payload.now))
-            ≡ None) }
+            (other_cause self.now place (shown chunk.now)) ≡ None) }
         ensures refused { IfErr result (λ cause. known_cause place chunk.now.kind
             (read_fault (length chunk.now.payload.now)
             (chunk_reading chunk.now.kind chunk.now.payload.now))
-            (read_cause self.now place (chunk_reading chunk.now.kind chunk.now.payload.now))
-            ≡ Some cause) }
-        ensures quiet { chunk.now.kind ≡ 0x41 →
+            (other_cause self.now place (shown chunk.now)) ≡ Some cause) }
+        ensures quiet { chunk.now.kind ≡ 0x41 → answers_by from.now chunk.now.payload.now
+            (get self.now.sessions (sid_at place)) ≡ false →
             IfOk result (λ verdict. verdict ≡ Verdict.Quiet) }
     {
         let view = match read_formed(chunk.kind, chunk.payload) {
@@ -293,6 +366,9 @@ impl Endpoint {
         }
         if !takes(place, chunk.kind) {
             return Err(Cause::WrongPlace);
+        }
+        if !self.has_state_for(place, chunk.kind) {
+            return Err(Cause::WrongState);
         }
         self.judge_view(place, from, view)
     }
@@ -312,8 +388,9 @@ impl Endpoint {
             (shown chunk.now) ≡ None) }
         ensures refused { IfErr result (λ cause. chunk_cause self.now place walk from.now
             (shown chunk.now) ≡ Some cause) }
-        // An answer to a ping does nothing.
-        ensures quiet { chunk.now.kind ≡ 0x41 →
+        // An answer to a ping that moves nothing does nothing.
+        ensures quiet { chunk.now.kind ≡ 0x41 → answers_by from.now chunk.now.payload.now
+            (get self.now.sessions (sid_at place)) ≡ false →
             IfOk result (λ verdict. verdict ≡ Verdict.Quiet) }
     {
         if !is_known(chunk.kind) {

@@ -18,6 +18,7 @@ use crate::sealing::blank;
 use crate::sessions::{forget, keep};
 use endpoint_model::{Draws, Entry, Row};
 use glare_core::Fact;
+use mobility::Moves;
 use rtmfp_chunks::ChunkView;
 use rtmfp_forms::Address;
 use session_core::{Role, Session};
@@ -136,7 +137,8 @@ fn keep_born(
     if let Fact::Born(joined) = born {
         forget_ended(sessions, ended);
         let session = Session::new(joined, print, Role::Responder, *from, secret, moment);
-        keep(sessions, Row { session });
+        let moves = Moves::new();
+        keep(sessions, Row { session, moves });
     }
 }
 
@@ -158,7 +160,8 @@ fn keep_opened(
 {
     if let Fact::Opened(joined) = opened {
         let session = Session::new(joined, print, Role::Initiator, *from, secret, moment);
-        keep(sessions, Row { session });
+        let moves = Moves::new();
+        keep(sessions, Row { session, moves });
     }
 }
 

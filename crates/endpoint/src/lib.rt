@@ -4,17 +4,21 @@
 mod admission;
 mod attempts;
 mod chunks;
+mod closing;
 mod contexts;
 mod endpoint;
 mod judging;
 mod keyings;
 mod kinds;
+mod moving;
 mod outbox;
 mod receiving;
 mod sealing;
 mod sending;
 mod session_ids;
 mod session_sending;
+mod session_steps;
+mod session_ticking;
 mod sessions;
 mod ticking;
 

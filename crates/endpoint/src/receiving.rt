@@ -1,14 +1,16 @@
 //! Datagrams that come in.
 
-ghost use Rattle.std.specs.Prelude.{◌≡◌, ◌+◌, ◌<◌, ◌≤◌, ◌^◌, IfErr, IsOk, OnErr, OnOk, drop, false, length, take, true};
+ghost use Rattle.std.specs.Prelude.{◌≡◌, ◌+◌, ◌<◌, ◌≤◌, ◌^◌, IfErr, IfOk, IsOk, OnErr, OnOk, drop, false, length, take, true};
 ghost use Rattle.std.specs.List.{AllByRecursion};
 ghost use Rattle.std.specs.FinMap.{get};
 ghost use Rattle.rtmfp_packet.specs.Chunks.{left, shown};
 ghost use Rattle.endpoint_model.specs.Admission.{admission, admitted_packet, confirming, confirming_by, confirms, confirms_by, counted_at, counted_by, packet_in, taken_packet, timed_at, timed_by};
 ghost use Rattle.endpoint_model.specs.Effects.{AddsDiscards, AreQuiet, chunks_did, discarded, discards, discards_among, outset, walked, received};
+ghost use Rattle.endpoint_model.specs.InSessions.{asks_at};
 ghost use Rattle.endpoint_model.specs.Keying.{AreNear};
 ghost use Rattle.endpoint_model.specs.Log.{Extends, IsStop, IsTaken, not_taken, receive_event, stopped};
 ghost use Rattle.endpoint_model.specs.State.{Done, at_moment, nothing};
+ghost use Rattle.endpoint.specs.Walks.{IsStopIn, walked_and_tested};
 
 use crate::admission::{PLAIN_AT, fault_number, has_mode};
 use crate::endpoint::Endpoint;
@@ -35,12 +37,13 @@ const NOT_TAKEN: Stopped = Stopped {
 impl Endpoint {
     /// Takes a datagram, which came from an address (RFC 7016 section 3.5). It is opened in place,
     /// and its chunks are gone through in order; a chunk that is refused adds its Discard and
-    /// changes nothing else.
+    /// changes nothing else. After the chunks, the address that a datagram of a held session came
+    /// from is tested where it is another one than the session's (RFC 7016 section 3.5.4.2).
     ///
     /// Where no memory is found the call stops: `Stopped` tells whether the datagram was taken, and
-    /// how many of its chunks were gone through. Where it wasn't taken all is as before but for the
-    /// moment. A datagram that adds discards alone, or nothing, asks for no memory where the outbox
-    /// has room for them.
+    /// how many of its chunks were gone through: all of them, where the test found none. Where it
+    /// wasn't taken all is as before but for the moment. A datagram that adds discards alone, or
+    /// nothing, asks for no memory where the outbox has room for them.
     pub fn receive(
         &mut self,
         from: Address,
@@ -262,8 +265,8 @@ impl Endpoint {
         ensures ok { OnOk result
             (Done (received from.now draws.now (taken_packet self.old place part.now packet.now))
             self.new out.old out.new) }
-        ensures stop { IfErr result (λ stop. IsStop (taken_packet self.old place part.now
-            packet.now) stop) }
+        ensures stop { IfErr result (λ stop. IsStop from.now draws.now
+            (taken_packet self.old place part.now packet.now) stop) }
         ensures stopped { IfErr result
             (λ stop. Done (stopped self.old from.now draws.now
             (taken_packet self.old place part.now packet.now) stop) self.new out.old out.new) }
@@ -272,7 +275,7 @@ impl Endpoint {
             IsOk result }
     {
         match self.enter(place, part, packet.head(), out) {
-            Ok(()) => self.walk(place, from, draws, packet.chunks(), out),
+            Ok(()) => self.go_through(place, from, draws, packet.chunks(), out),
             Err(_) => Err(NOT_TAKEN),
         }
     }
@@ -314,7 +317,44 @@ impl Endpoint {
         Ok(())
     }
 
-    /// Goes through the chunks of a datagram.
+    /// Goes through the chunks of a datagram, and tests the address that it came from then.
+    fn go_through(
+        &mut self,
+        place: Place,
+        from: &Address,
+        draws: &Draws,
+        chunks: Chunks<'_>,
+        out: &mut Outbox,
+    ) -> Result<(), Stopped>
+        requires near { AllByRecursion (λ c. c.at < 2 ^ 32) (left chunks) }
+        requires few { length (left chunks) < 2 ^ 32 }
+        ensures ok { OnOk result
+            (Done (walked_and_tested place from.now draws.now self.old (left chunks.entry)) self.new
+            out.old out.new) }
+        ensures stop { IfErr result (λ stop. (stop.taken ≡ true) × IsStopIn place from.now draws.now
+            self.old (left chunks.entry) stop.chunks) }
+        ensures stopped { IfErr result
+            (λ stop. Done (chunks_did place from.now draws.now outset self.old
+            (take stop.chunks (left chunks.entry))) self.new out.old out.new) }
+        ensures enough { AreQuiet self.old place from.now outset (left chunks.entry) →
+            asks_at self.old place from.now ≡ false →
+            discards_among self.old place from.now outset (left chunks.entry) ≤ out.old.free →
+            IsOk result }
+    {
+        let count = match self.walk(place, from, draws, chunks, out) {
+            Ok(count) => count,
+            Err(stop) => return Err(stop),
+        };
+        match self.test(place, from, draws, out) {
+            Ok(()) => Ok(()),
+            Err(_) => Err(Stopped {
+                taken: true,
+                chunks: count,
+            }),
+        }
+    }
+
+    /// Goes through the chunks of a datagram, and tells how many there are.
     fn walk(
         &mut self,
         place: Place,
@@ -322,12 +362,13 @@ impl Endpoint {
         draws: &Draws,
         mut chunks: Chunks<'_>,
         out: &mut Outbox,
-    ) -> Result<(), Stopped>
+    ) -> Result<u32, Stopped>
         requires near { AllByRecursion (λ c. c.at < 2 ^ 32) (left chunks) }
         requires few { length (left chunks) < 2 ^ 32 }
         ensures ok { OnOk result
             (Done (chunks_did place from.now draws.now outset self.old (left chunks.entry)) self.new
             out.old out.new) }
+        ensures count { IfOk result (λ count. count ≡ length (left chunks.entry)) }
         ensures stop { IfErr result (λ stop. (stop.taken ≡ true) ×
             (stop.chunks < length (left chunks.entry))) }
         ensures stopped { IfErr result
@@ -336,6 +377,9 @@ impl Endpoint {
         ensures enough { AreQuiet self.old place from.now outset (left chunks.entry) →
             discards_among self.old place from.now outset (left chunks.entry) ≤ out.old.free →
             IsOk result }
+        ensures quiet { AreQuiet self.old place from.now outset (left chunks.entry) →
+            discards_among self.old place from.now outset (left chunks.entry) ≤ out.old.free →
+            OnOk result (self.new ≡ self.old) }
     {
         let mut gone = 0u32;
         let mut walk = OUTSET;
@@ -352,7 +396,7 @@ impl Endpoint {
             walk = walked(walk, &chunk);
             gone += 1;
         }
-        Ok(())
+        Ok(gone)
     }
 }
 

@@ -5,6 +5,7 @@ ghost use Rattle.rtmfp_chunks.specs.Chunk.{chunk_of};
 ghost use Rattle.rtmfp_chunks.specs.Writing.{IsWritable, chunk_bytes};
 ghost use Rattle.endpoint_model.specs.State.{Done};
 ghost use Rattle.endpoint_model.specs.Sending.{sent_in_session};
+ghost use Rattle.endpoint_model.specs.InSessions.{sent_home};
 
 use crate::endpoint::Endpoint;
 use crate::outbox::Outbox;
@@ -47,5 +48,28 @@ impl Endpoint {
             datagram,
             context,
         });
+    }
+
+    /// Sends one chunk in the session with this session ID, to where its datagrams go, as
+    /// `send_in_session` does.
+    pub(crate) fn send_home(
+        &mut self,
+        blank: Vec<u8>,
+        near: u32,
+        chunk: &ChunkView<'_>,
+        out: &mut Outbox,
+    )
+        requires blank { length blank.items ≡ 1200 }
+        requires room { 0 < out.old.free }
+        requires writable { IsWritable (chunk_of chunk.now) }
+        requires short { length (chunk_bytes (chunk_of chunk.now)) ≤ 1159 }
+        ensures { Done (sent_home self.old near (chunk_bytes (chunk_of chunk.now))) self.new out.old
+            out.new }
+    {
+        let Some(index) = index_near(&self.sessions, near, self.likely) else {
+            return;
+        };
+        let to = *self.sessions[index].session.address();
+        self.send_in_session(blank, near, &to, chunk, out);
     }
 }

@@ -2,9 +2,11 @@
 
 ghost use Rattle.std.specs.Prelude.{◌≡◌, ◌<◌, ◌≤◌, ◌==◌, IfNone, IfSome, None, length, position, vec_len, vec_capacity};
 ghost use Rattle.std.specs.FinMap.{get, insert, len, remove};
+ghost use Rattle.session_core.specs.Closing.{is_held};
 ghost use Rattle.endpoint.specs.Stored.{near_of, table_of};
 
 use endpoint_model::Row;
+use session_core::Stage;
 
 /// The index of the row of the session with this session ID.
 pub(crate) fn index_of(sessions: &[Row], near: u32) -> Option<usize>
@@ -57,5 +59,18 @@ pub(crate) fn forget(sessions: &mut Vec<Row>, near: u32)
 {
     if let Some(index) = index_of(sessions, near) {
         sessions.swap_remove(index);
+    }
+}
+
+/// Whether a session at this stage is held, which hasn't ended.
+pub(crate) fn is_held(stage: Stage) -> bool
+    ensures { result ≡ is_held stage }
+{
+    match stage {
+        Stage::Opening => true,
+        Stage::Open => true,
+        Stage::NearClose => false,
+        Stage::FarLinger => false,
+        Stage::Closed => false,
     }
 }

@@ -8,7 +8,7 @@ use Rattle.rtmfp_base.proofs.Maps.{same_tables, same_or_not, get_removed, get_le
 use Rattle.rtmfp_base.proofs.Rows.{index_found, index_none, table_swap_removed}
 
 -- nothing leaves where nothing is
-removed_none : {V : Type 0} (m : FinMap nat_cmp V) (k : ℕ) → get m k ≡ None → m ≡ remove m k
+pub removed_none : {V : Type 0} (m : FinMap nat_cmp V) (k : ℕ) → get m k ≡ None → m ≡ remove m k
 removed_none m k none = same_tables m (remove m k) (λ q. elim (same_or_not q k) [
   | inl is ↦ ap (get m) is.0 ∙ none ∙ sym (ap (get (remove m k)) is.0 ∙ get_removed m k)
   | inr is ↦ sym (get_left m k q is.0)

@@ -5,7 +5,7 @@ use Rattle.crypto_profile.specs.Keys.{keys_of}
 use Rattle.glare_core.specs.declared.facts.Joined.{Joined}
 use Rattle.startup.specs.State.{StartupState}
 use Rattle.startup.specs.Attempts.{confirm_fact, after_confirm}
-use Rattle.endpoint_model.specs.State.{State, new_row}
+use Rattle.endpoint_model.specs.State.{State}
 use Rattle.session_core.specs.Session.{SessionState}
 use Rattle.endpoint.specs.Stored.{table_of, state_of}
 use Rattle.endpoint.proofs.Rows.{index_in, found_nowhere}
@@ -16,7 +16,7 @@ use Rattle.endpoint.proofs.endpoint.Endpoint.confirm_in.Goals as goal
 pub invariant_of-self : goal.invariant_of-self
 invariant_of-self c =
     let i = c.self.inside in
-    let changed = changed_at i.sessions.items c.args.near c.in-Some.index c.index_mut.result.now (record { session = c.confirm.new.self }) c.self.invariant.distinct
+    let changed = changed_at i.sessions.items c.args.near c.in-Some.index c.index_mut.result.now (record c.index_mut.result.now { session = c.confirm.new.self }) c.self.invariant.distinct
     (sym (c.in-Some.ensures ∙ ap (λ rows. index_in rows c.args.near) c.deref.ensures.value)) c.index_mut.ensures.value (ap (λ (x : SessionState). x.joined.near) c.confirm.ensures.session) in
     let secret = ap (λ (s : StartupState). s.secret) (sym c.confirm-fact.ensures.after) in
     record {
@@ -31,11 +31,11 @@ pub returns-in-Some : goal.returns-in-Some
 returns-in-Some c =
     let i = c.self.inside in
     let old : State = state_of i.config i.moment i.sealed i.startup i.sessions.items in
-    let changed = changed_at i.sessions.items c.args.near c.in-Some.index c.index_mut.result.now (record { session = c.confirm.new.self }) c.self.invariant.distinct
+    let changed = changed_at i.sessions.items c.args.near c.in-Some.index c.index_mut.result.now (record c.index_mut.result.now { session = c.confirm.new.self }) c.self.invariant.distinct
     (sym (c.in-Some.ensures ∙ ap (λ rows. index_in rows c.args.near) c.deref.ensures.value)) c.index_mut.ensures.value (ap (λ (x : SessionState). x.joined.near) c.confirm.ensures.session) in
     let peer = ap (λ (j : Joined). j.peer) c.joined.ensures in
-    confirmed_done old c.args.self.now c.args.near c.index_mut.result.now (record { session = c.confirm.new.self }) c.confirm-fact.new.self _ c.confirm-fact.result c.args.out.now c.add_fact.new.out
-    c.self.view_is changed.was c.requires.half_open (ap (λ (x : SessionState). new_row x) c.confirm.ensures.session) changed.table (c.confirm-fact.ensures.after ∙ ap (after_confirm i.startup) peer)
+    confirmed_done old c.args.self.now c.args.near c.index_mut.result.now (record c.index_mut.result.now { session = c.confirm.new.self }) c.confirm-fact.new.self _ c.confirm-fact.result c.args.out.now c.add_fact.new.out
+    c.self.view_is changed.was c.requires.half_open (ap (λ (x : SessionState). record c.index_mut.result.now { session = x }) c.confirm.ensures.session) changed.table (c.confirm-fact.ensures.after ∙ ap (after_confirm i.startup) peer)
     (c.confirm-fact.ensures.fact ∙ ap (confirm_fact i.startup) peer) c.add_fact.ensures.entries c.add_fact.ensures.free c.add_fact.ensures.room
 
 pub returns-in-None : goal.returns-in-None

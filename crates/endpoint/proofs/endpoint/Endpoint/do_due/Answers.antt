@@ -1,17 +1,25 @@
-use Rattle.std.proofs.Common.{◌≡◌, Some, rules, subst, sym}
-use Rattle.startup.specs.Due.{due_sends}
-use Rattle.endpoint_model.specs.State.{State, at_moment}
+use Rattle.std.proofs.Common.{rules, sym}
+use Rattle.endpoint_model.specs.State.{at_moment}
 use Rattle.endpoint.proofs.Begun.{one_done}
+use Rattle.endpoint.proofs.DueItems.{none_first, still_first}
 use Rattle.endpoint.proofs.Falling.{tick_falls}
 use Rattle.endpoint.proofs.endpoint.Endpoint.do_due.Goals as goal
 
-pub loop-count-smaller : goal.loop-count-smaller
-loop-count-smaller c =
-    tick_falls c.loop-count.self c.tick_once.new.self c.in-Some.count (subst (λ (s : State). due_sends s.startup s.moment ≡ Some c.in-Some.count) c.self.view_is (sym c.in-Some.ensures)) c.in-Ok.ensures.ok.state
+pub do_item-requires : goal.do_item-requires
+do_item-requires c = sym c.in-Some.ensures
 
-pub loop-count-preserved : goal.loop-count-preserved
-loop-count-preserved c =
-    one_done (at_moment c.args.self.now c.args.moment) c.loop-count.self c.tick_once.new.self c.args.out.now c.loop-count.out c.tick_once.new.out c.loop-count.invariant c.in-Ok.ensures.ok
+pub loop-item-smaller : goal.loop-item-smaller
+loop-item-smaller c = tick_falls c.loop-item.self c.do_item.new.self c.in-Some.item (sym c.in-Some.ensures) c.in-Ok.ensures.ok.state
+
+pub loop-item-preserved : goal.loop-item-preserved
+loop-item-preserved c =
+    one_done (at_moment c.args.self.now c.args.moment) c.loop-item.self c.do_item.new.self c.args.out.now c.loop-item.out c.do_item.new.out c.loop-item.invariant c.in-Ok.ensures.ok
+
+pub returns-clause-all : goal.returns-clause-all
+returns-clause-all c = none_first c.loop-item.self (sym c.in_default.ensures)
+
+pub returns-in-Err-clause-left : goal.returns-in-Err-clause-left
+returns-in-Err-clause-left c = still_first c.loop-item.self c.do_item.new.self c.in-Some.item c.in-Err.ensures.err.state (sym c.in-Some.ensures)
 
 -- so that a wrong body is refused fast
 pub returns-in-Err-clause-all : goal.returns-in-Err-clause-all

@@ -21,7 +21,10 @@ loop-chunk-preserved c =
       near = (subst (λ (cs : List Placed). AllByRecursion (λ (d : Placed). d.at < 2 ^ 32) cs) c.in-Some.ensures.steps c.loop-chunk.invariant.near).1;
       fits = omega (arith, c.loop-chunk.invariant.fits, ap length c.in-Some.ensures.steps);
       roomy = λ refused room.
-          subst (λ (k : Walk). IsRoomy c.chunk.new.self c.args.place c.args.from.now k rest c.chunk.new.out.free) (sym c.walked-walk.ensures)
-          (one_refused c.args.place c.args.from.now c.args.draws.now c.loop-chunk.walk c.loop-chunk.self c.chunk.new.self one rest c.loop-chunk.out c.chunk.new.out
-          (subst (λ (cs : List Placed). IsRoomy c.loop-chunk.self c.args.place c.args.from.now c.loop-chunk.walk cs c.loop-chunk.out.free) c.in-Some.ensures.steps (c.loop-chunk.invariant.roomy refused room)) c.in-Ok.ensures.ok);
+          subst (λ (k : Walk). IsRoomy c.args.self.now c.chunk.new.self c.args.place c.args.from.now k rest c.chunk.new.out.free) (sym c.walked-walk.ensures)
+          (one_refused c.args.place c.args.from.now c.args.draws.now c.loop-chunk.walk c.args.self.now c.loop-chunk.self c.chunk.new.self one rest c.loop-chunk.out c.chunk.new.out
+          (subst (λ (cs : List Placed). IsRoomy c.args.self.now c.loop-chunk.self c.args.place c.args.from.now c.loop-chunk.walk cs c.loop-chunk.out.free) c.in-Some.ensures.steps (c.loop-chunk.invariant.roomy refused room)) c.in-Ok.ensures.ok);
     }
+
+pub returns-clause-quiet : goal.returns-clause-quiet
+returns-clause-quiet c quiet room = (c.loop-chunk.invariant.roomy quiet room).still

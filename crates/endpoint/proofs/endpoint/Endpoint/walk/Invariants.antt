@@ -11,7 +11,7 @@ invariant-loop-chunk l = record {
   so_far : IsGone l.place l.from l.draws l.fn.self (left l.fn.chunks) l.fn.out l.gone l.walk (left l.chunks) l.self l.out;
   near : AllByRecursion (λ c. c.at < 2 ^ 32) (left l.chunks);
   fits : l.gone + length (left l.chunks) ≡ length (left l.fn.chunks);
-  roomy : AreQuiet l.fn.self l.place l.from outset (left l.fn.chunks) → discards_among l.fn.self l.place l.from outset (left l.fn.chunks) ≤ l.fn.out.free → IsRoomy l.self l.place l.from l.walk (left l.chunks) l.out.free;
+  roomy : AreQuiet l.fn.self l.place l.from outset (left l.fn.chunks) → discards_among l.fn.self l.place l.from outset (left l.fn.chunks) ≤ l.fn.out.free → IsRoomy l.fn.self l.self l.place l.from l.walk (left l.chunks) l.out.free;
 }
 
 abbrev pub decreases-loop-chunk : goal.decreases-loop-chunk

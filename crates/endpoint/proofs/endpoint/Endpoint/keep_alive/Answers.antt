@@ -1,0 +1,10 @@
+use Rattle.std.specs.FinMap.{get}
+use Rattle.endpoint.specs.Steps.{kept_alive_in}
+use Rattle.endpoint.proofs.Endings.{kept_alive_done, made_room}
+use Rattle.endpoint.proofs.endpoint.Endpoint.keep_alive.Goals as goal
+
+pub returns-clause-ok : goal.returns-clause-ok
+returns-clause-ok c =
+    made_room (kept_alive_in c.args.self.now c.args.near (get c.args.self.now.sessions c.args.near)) c.send_home.new.self c.args.out.now c.make_room.new.self c.send_home.new.out
+    c.make_room.ensures.entries c.make_room.ensures.free c.make_room.ensures.room
+    (kept_alive_done c.args.self.now c.note_keepalive.new.self c.send_home.new.self c.args.near c.make_room.new.self c.send_home.new.out c.note_keepalive.ensures c.send_home.ensures)
