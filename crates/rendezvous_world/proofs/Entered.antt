@@ -17,6 +17,7 @@ use Rattle.rendezvous_world.specs.declared.step.StepFault.TheVariants.{Memory}
 use Rattle.rendezvous_world.specs.declared.step.Step.{Step}
 use Rattle.rendezvous_world.specs.declared.step.Step.TheVariants.{End, At, Open, Cancel, Deliver, Bent, Inject, Forge, Tick}
 use Rattle.rendezvous_world.specs.Seen.{EndSeen, Seen, print_at}
+use Rattle.rendezvous_world.specs.Line.{IsOne}
 use Rattle.rendezvous_world.specs.Sent.{Sent, sent_among, sent_in}
 use Rattle.rendezvous_world.specs.Keyed.{AreKeys}
 use Rattle.rendezvous_world.specs.History.{bytes_or_none, call_of, moment_given, answer_of}
@@ -95,6 +96,26 @@ undone_is ends print moment (Bent number place end from) old new p h = absurd h
 undone_is ends print moment (Inject end from bytes) old new p h = absurd h
 undone_is ends print moment (Forge end from plain) old new p h = absurd h
 undone_is ends print moment (Tick end) old new p h = absurd h
+
+-- a call was not both refused and stopped
+only_stopped : (refused : Option Refused) (stopped : Option Stop) → refused ≡ None → IsOne refused stopped
+only_stopped None stopped e = tt
+only_stopped (Some refusal) stopped e = absurd (cc)
+
+only_refused : (refused : Option Refused) (stopped : Option Stop) → stopped ≡ None → IsOne refused stopped
+only_refused None stopped e = tt
+only_refused (Some refusal) stopped e = e
+
+pub answered_one : (step : Step) (refused : Option Refused) (stopped : Option Stop) → HasItsAnswer step refused stopped → IsOne refused stopped
+answered_one (End name max_peers max_sessions cert) refused stopped h = absurd h
+answered_one (At moment) refused stopped h = absurd h
+answered_one (Open end peer list) refused stopped h = only_refused refused stopped h.0
+answered_one (Cancel end n) refused stopped h = only_refused refused stopped h.0
+answered_one (Deliver number end from) refused stopped h = only_stopped refused stopped h
+answered_one (Bent number place end from) refused stopped h = only_stopped refused stopped h
+answered_one (Inject end from bytes) refused stopped h = only_stopped refused stopped h
+answered_one (Forge end from plain) refused stopped h = only_stopped refused stopped h
+answered_one (Tick end) refused stopped h = only_stopped refused stopped h.0
 
 -- ---- sent datagrams
 

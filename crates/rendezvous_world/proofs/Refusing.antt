@@ -154,11 +154,10 @@ entering_tick w number end above fits there = record {
 
 -- ---- a step that brings a datagram
 
-pub entering_bringing : (w : Seen) (number end : ℕ) (step again : Step) (bytes copy : List ℕ) → IsBringing w number end step bytes → is_forged_by w end (Some bytes) ≡ false → AreBytes bytes → again ≡ step → copy ≡ bytes →
-    IsEntering w number end again (Some copy) bytes
-entering_bringing w number end step again bytes copy b fine are same_step same_bytes =
-    subst (λ (x : Step). IsEntering w number end x (Some copy) bytes) (sym same_step)
-    (subst (λ (x : List ℕ). IsEntering w number end step (Some x) bytes) (sym same_bytes) (record {
+pub entering_bringing : (w : Seen) (number end : ℕ) (step : Step) (bytes copy : List ℕ) → IsBringing w number end step bytes → is_forged_by w end (Some bytes) ≡ false → AreBytes bytes → copy ≡ bytes →
+    IsEntering w number end step (Some copy) bytes
+entering_bringing w number end step bytes copy b fine are same =
+    subst (λ (x : List ℕ). IsEntering w number end step (Some x) bytes) (sym same) (record {
       above = b.above;
       fits = b.fits;
       there = b.there;
@@ -170,7 +169,7 @@ entering_bringing w number end step again bytes copy b fine are same_step same_b
       short = b.short;
       are_bytes = are;
       fine = b.fault ∙ ap (λ (x : Bool). where_true x Forged) fine;
-    }))
+    })
 
 -- ---- a new end
 

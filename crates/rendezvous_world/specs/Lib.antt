@@ -1,3 +1,4 @@
+pub mod Line
 pub mod Seen
 pub mod Draws
 pub mod Sent

@@ -128,10 +128,6 @@ impl World {
         if self.is_forged(end, bytes, &known) {
             return Err(StepFault::Forged);
         }
-        let step = match step.copy(self.alloc()) {
-            Ok(step) => step,
-            Err(_) => return Err(StepFault::Memory),
-        };
         let datagram = match keep(self.alloc(), bytes) {
             Ok(datagram) => datagram,
             Err(_) => return Err(StepFault::Memory),

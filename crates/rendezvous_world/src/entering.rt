@@ -1,10 +1,13 @@
 //! A step that calls an end, and its line in the journal.
 
-ghost use Rattle.std.specs.Prelude.{◌≡◌, ◌<◌, ◌++◌, ◌∷◌, [], IfOk, OnOk, get_or, length, vec_capacity, vec_len};
-ghost use Rattle.rendezvous_world.specs.Entering.{IsEntered, IsEntering, answered};
+ghost use Rattle.std.specs.Prelude.{◌≡◌, ◌<◌, ◌^◌, ◌++◌, ◌∷◌, [], IfOk, OnOk, get_or, length, vec_capacity, vec_len};
+ghost use Rattle.rendezvous_world.specs.Entering.{CallsAnEnd, IsEntered, IsEntering, answered};
+ghost use Rattle.rendezvous_world.specs.Line.{IsOne, step_kept};
+ghost use Rattle.rendezvous_world.specs.Stepping.{called_by};
 
-use crate::calls::call_end;
+use crate::calls::{Outcome, call_end};
 use crate::journal::JournalLine;
+use crate::kept::{KeptAnswer, KeptStep, in_32_bits};
 use crate::sent::count_among;
 use crate::step::{Step, StepFault};
 use crate::world::World;
@@ -27,21 +30,42 @@ pub(crate) fn put<T: Drop>(items: &mut Vec<T>, item: T)
     }
 }
 
-/// Finds room for one more line, and an outbox for what its call adds.
+/// What a line needs before its call.
+#[derive(Drop)]
+struct Ready {
+    /// The end that is called.
+    end: u32,
+    /// The step, for the journal.
+    step: KeptStep,
+    /// For what the call adds.
+    out: Outbox,
+}
+
+/// Finds room for one more line, and all that it needs before its call.
 fn make_ready(
     alloc: Global,
+    end: usize,
+    step: &Step,
     lines: &mut Vec<JournalLine>,
     starts: &mut Vec<u128>,
-) -> Result<Outbox, Memory>
+) -> Result<Ready, Memory>
+    requires calls { CallsAnEnd step.now }
+    requires called { called_by step.now ≡ end }
     ensures lines { lines.new.items ≡ lines.old.items }
     ensures starts { starts.new.items ≡ starts.old.items }
     ensures room { OnOk result (vec_len lines.new < vec_capacity lines.new) }
     ensures start_room { OnOk result (vec_len starts.new < vec_capacity starts.new) }
-    ensures empty { IfOk result (λ out. out.entries ≡ []) }
+    ensures end { IfOk result (λ ready. ready.end ≡ end) }
+    ensures step { IfOk result (λ ready. step_kept end ready.step ≡ step.now) }
+    ensures empty { IfOk result (λ ready. ready.out.entries ≡ []) }
 {
     lines.reserve(1)?;
     starts.reserve(1)?;
-    Outbox::new(alloc, ROOM)
+    Ok(Ready {
+        end: in_32_bits(end)?,
+        step: KeptStep::of(alloc, step)?,
+        out: Outbox::new(alloc, ROOM)?,
+    })
 }
 
 /// The end with this number.
@@ -69,6 +93,40 @@ fn note_line(lines_of: &mut Vec<usize>, line: usize, count: usize) {
     }
 }
 
+/// The line of a call.
+fn line_of(
+    line: u64,
+    end: u32,
+    moment: u64,
+    step: KeptStep,
+    datagram: Option<Message>,
+    outcome: &Outcome,
+    out: Outbox,
+) -> JournalLine
+    requires fits { line < 2 ^ 32 }
+    requires one { IsOne outcome.now.refused outcome.now.stopped }
+    ensures { result ≡ record {
+      line = line;
+      end = end;
+      moment = moment;
+      step = step_kept end step;
+      datagram = datagram;
+      refused = outcome.now.refused;
+      stopped = outcome.now.stopped;
+      out = out;
+    } }
+{
+    JournalLine {
+        line: line as u32,
+        end,
+        moment,
+        step,
+        datagram,
+        answer: KeptAnswer::of(outcome.refused, outcome.stopped),
+        out,
+    }
+}
+
 /// What a step that called an end answers.
 fn answered(is_stopped: bool) -> Result<(), StepFault>
     ensures { result ≡ answered is_stopped }
@@ -88,30 +146,29 @@ impl World {
         &mut self,
         line: u64,
         end: usize,
-        step: Step,
+        step: &Step,
         datagram: Option<Message>,
         bytes: &mut [u8],
     ) -> Result<(), StepFault>
-        requires { IsEntering self.old line end step datagram bytes.old }
-        ensures { IsEntered self.old line step result self.new }
+        requires { IsEntering self.old line end step.now datagram bytes.old }
+        ensures { IsEntered self.old line step.now result self.new }
     {
         let moment = self.moment;
         let journal = &mut self.journal;
-        let mut out = match make_ready(self.alloc, &mut journal.lines, &mut self.starts) {
-            Ok(out) => out,
+        let ready = match make_ready(
+            self.alloc,
+            end,
+            step,
+            &mut journal.lines,
+            &mut self.starts,
+        ) {
+            Ok(ready) => ready,
             Err(_) => return Err(StepFault::Memory),
         };
+        let mut out = ready.out;
         let print = named_at(self.named.as_slice(), step.peer()).print;
         let there = &mut self.ends[end];
-        let outcome = call_end(
-            &mut there.endpoint,
-            &print,
-            line,
-            moment,
-            &step,
-            bytes,
-            &mut out,
-        );
+        let outcome = call_end(&mut there.endpoint, &print, line, moment, step, bytes, &mut out);
         if outcome.undone {
             return Err(StepFault::Memory);
         }
@@ -120,19 +177,9 @@ impl World {
         put(&mut self.starts, self.sent);
         self.sent += count as u128;
         note_line(&mut self.lines_of, journal.lines.len(), count);
-        put(
-            &mut journal.lines,
-            JournalLine {
-                line,
-                end,
-                moment,
-                step,
-                datagram,
-                refused: outcome.refused,
-                stopped: outcome.stopped,
-                out: without_spare(out),
-            },
-        );
+        let out = without_spare(out);
+        let told = line_of(line, ready.end, moment, ready.step, datagram, &outcome, out);
+        put(&mut journal.lines, told);
         answered(is_stopped)
     }
 }

@@ -58,7 +58,7 @@ fn is_sent_in(lines: &[JournalLine], bytes: &[u8], context: &Context) -> bool
 {
     let mut rest = lines;
     while let [line, others @ ..] = rest {
-        if is_sent_among(line.end, line.out.entries(), bytes, context) {
+        if is_sent_among(line.end(), line.out().entries(), bytes, context) {
             return true;
         }
         rest = others;

@@ -1,10 +1,12 @@
 //! What was done in a run, line by line.
 
-ghost use Rattle.std.specs.Prelude.{◌≡◌};
+ghost use Rattle.std.specs.Prelude.{◌≡◌, IfOk};
 
+use crate::kept::{KeptAnswer, KeptStep};
 use crate::step::Step;
 use endpoint::{CallRefusal, OpenRefusal, Outbox, Stopped};
-use rtmfp_base::Message;
+use rtmfp_base::{Memory, Message};
+use std::alloc::Global;
 use std::marker::Model;
 
 /// Why an end refused a call. It is kept with the line, and no fault of the step. A call that is
@@ -15,25 +17,89 @@ pub enum Refused {
     Call(CallRefusal),
 }
 
-/// A step that called an end.
+/// A step that called an end: the number of its line in the script, the end, the moment of the
+/// world, the datagram that reached the end, as it was before the call, why the end refused the
+/// call, how far a datagram was gone through that found no memory, and what the call added. Of a
+/// tick that found no memory `stopped` has `false` and 0.
+///
+/// Contracts see these, whatever their form here.
 #[derive(Drop)]
 pub struct JournalLine {
-    /// The number of its line in the script.
-    pub line: u64,
-    /// The end that was called.
-    pub end: usize,
-    /// The moment of the world.
-    pub moment: u64,
-    pub step: Step,
-    /// The datagram that reached the end, as it was before the call.
-    pub datagram: Option<Message>,
-    /// Why the end refused the call.
-    pub refused: Option<Refused>,
-    /// How far a datagram was gone through that found no memory. A tick that found none has `false`
-    /// and 0.
-    pub stopped: Option<Stopped>,
-    /// What the call added.
-    pub out: Outbox,
+    pub(crate) line: u32,
+    pub(crate) end: u32,
+    pub(crate) moment: u64,
+    pub(crate) step: KeptStep,
+    pub(crate) datagram: Option<Message>,
+    pub(crate) answer: KeptAnswer,
+    pub(crate) out: Outbox,
+}
+
+impl Model for JournalLine {
+    ghost use Rattle.rendezvous_world.specs.Line.{LineSeen, refused_kept, step_kept, stopped_kept};
+
+    ghost Value = { LineSeen };
+
+    ghost view = { λ l. record {
+      line = l.line;
+      end = l.end;
+      moment = l.moment;
+      step = step_kept l.end l.step;
+      datagram = l.datagram;
+      refused = refused_kept l.answer;
+      stopped = stopped_kept l.answer;
+      out = l.out;
+    } };
+}
+
+impl JournalLine {
+    pub fn line(&self) -> u64
+        ensures { result ≡ self.now.line }
+    {
+        u64::from(self.line)
+    }
+
+    pub fn end(&self) -> usize
+        ensures { result ≡ self.now.end }
+    {
+        self.end as usize
+    }
+
+    pub fn moment(&self) -> u64
+        ensures { result ≡ self.now.moment }
+    {
+        self.moment
+    }
+
+    /// A copy of the step.
+    pub fn step(&self, alloc: Global) -> Result<Step, Memory>
+        ensures { IfOk result (λ step. step ≡ self.now.step) }
+    {
+        self.step.step(alloc, self.end())
+    }
+
+    pub fn datagram(&self) -> &Option<Message>
+        ensures { result.now ≡ self.now.datagram }
+    {
+        &self.datagram
+    }
+
+    pub fn refused(&self) -> Option<Refused>
+        ensures { result ≡ self.now.refused }
+    {
+        self.answer.refused()
+    }
+
+    pub fn stopped(&self) -> Option<Stopped>
+        ensures { result ≡ self.now.stopped }
+    {
+        self.answer.stopped()
+    }
+
+    pub fn out(&self) -> &Outbox
+        ensures { result.now ≡ self.now.out }
+    {
+        &self.out
+    }
 }
 
 /// The lines of a run, in their order. Contracts see their list.

@@ -11,6 +11,7 @@ mod end;
 mod entering;
 mod forgery;
 mod journal;
+mod kept;
 mod keyed;
 pub mod laws;
 mod pairs;

@@ -141,5 +141,5 @@ pub(crate) fn find<'a>(
     }
     let line = line_at(lines, behind - 1);
     let start = starts[behind - 1];
-    find_among(line.end, line.out.entries(), number - start)
+    find_among(line.end(), line.out().entries(), number - start)
 }

@@ -111,59 +111,6 @@ pub enum Step {
 }
 
 impl Step {
-    /// The same step again.
-    pub(crate) fn copy(&self, alloc: Global) -> Result<Step, Memory>
-        ensures { IfOk result (λ step. step ≡ self.now) }
-    {
-        Ok(match self {
-            Step::End {
-                name,
-                max_peers,
-                max_sessions,
-                cert,
-            } => Step::End {
-                name: name.again(),
-                max_peers: *max_peers,
-                max_sessions: *max_sessions,
-                cert: *cert,
-            },
-            Step::At { moment } => Step::At { moment: *moment },
-            Step::Open { end, peer, list } => Step::Open {
-                end: *end,
-                peer: *peer,
-                list: list.copy(alloc)?,
-            },
-            Step::Cancel { end, n } => Step::Cancel { end: *end, n: *n },
-            Step::Deliver { number, end, from } => Step::Deliver {
-                number: *number,
-                end: *end,
-                from: *from,
-            },
-            Step::Bent {
-                number,
-                place,
-                end,
-                from,
-            } => Step::Bent {
-                number: *number,
-                place: *place,
-                end: *end,
-                from: *from,
-            },
-            Step::Inject { end, from, bytes } => Step::Inject {
-                end: *end,
-                from: *from,
-                bytes: Message::copy_of(alloc, bytes.bytes())?,
-            },
-            Step::Forge { end, from, plain } => Step::Forge {
-                end: *end,
-                from: *from,
-                plain: Message::copy_of(alloc, plain.bytes())?,
-            },
-            Step::Tick { end } => Step::Tick { end: *end },
-        })
-    }
-
     /// The end whose fingerprint the call of the step is given; for a call that is given none, the
     /// end that is called.
     pub(crate) fn peer(&self) -> usize

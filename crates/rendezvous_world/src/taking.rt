@@ -122,22 +122,20 @@ impl World {
     pub(crate) fn open(
         &mut self,
         line: u64,
+        step: &Step,
         end: usize,
         peer: usize,
         list: &Addresses,
     ) -> Result<(), StepFault>
         requires above { AreBelow self.old.lines line }
         requires fits { line < 2 ^ 32 }
+        requires step { step.now ≡ Step.Open end peer list.now }
         ensures { IsDone self.old line (Step.Open end peer list.now) result self.new }
     {
         if self.lacks_one(end, peer) {
             return Err(StepFault::NoEnd);
         }
-        let list = match list.copy(self.alloc()) {
-            Ok(list) => list,
-            Err(_) => return Err(StepFault::Memory),
-        };
-        self.enter(line, end, Step::Open { end, peer, list }, None, &mut [])
+        self.enter(line, end, step, None, &mut [])
     }
 
     /// Lets an end give up an attempt.
@@ -149,7 +147,7 @@ impl World {
         if self.lacks(end) {
             return Err(StepFault::NoEnd);
         }
-        self.enter(line, end, Step::Cancel { end, n }, None, &mut [])
+        self.enter(line, end, &Step::Cancel { end, n }, None, &mut [])
     }
 
     /// Lets an end do what is due.
@@ -161,7 +159,7 @@ impl World {
         if self.lacks(end) {
             return Err(StepFault::NoEnd);
         }
-        self.enter(line, end, Step::Tick { end }, None, &mut [])
+        self.enter(line, end, &Step::Tick { end }, None, &mut [])
     }
 
     /// Whether there is no end with this number.

@@ -134,7 +134,7 @@ impl World {
                 cert,
             } => self.add_end(line, name, *max_peers, *max_sessions, cert),
             Step::At { moment } => self.set_moment(line, *moment),
-            Step::Open { end, peer, list } => self.open(line, *end, *peer, list),
+            Step::Open { end, peer, list } => self.open(line, step, *end, *peer, list),
             Step::Cancel { end, n } => self.cancel(line, *end, *n),
             Step::Deliver { number, end, from } => self.deliver(line, *number, *end, from),
             Step::Bent {

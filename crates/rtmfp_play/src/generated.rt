@@ -271,7 +271,7 @@ fn summarize(world: &World, steps: u64, text: &mut Text) -> Result<(), AllocErro
 {
     let mut tally = Tally::new();
     for line in world.journal().lines() {
-        tally.count(line.out.entries())?;
+        tally.count(line.out().entries())?;
     }
     let Ok(kept) = u64::try_from(world.kept_pairs()) else {
         return Err(AllocError);

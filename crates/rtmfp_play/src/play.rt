@@ -252,10 +252,10 @@ fn push_told(
         ++ told_of ends.now sent line.now line.now.refused) }
     ensures keys { keys.new ≡ keys.old }
 {
-    let name = name_at(ends.as_slice(), line.end);
-    match &line.refused {
-        Some(Refused::Open(refusal)) => push_open_refusal(line.line, &name, refusal, text),
-        Some(Refused::Call(refusal)) => push_call_refusal(line.line, &name, refusal, text),
+    let name = name_at(ends.as_slice(), line.end());
+    match line.refused() {
+        Some(Refused::Open(refusal)) => push_open_refusal(line.line(), &name, &refusal, text),
+        Some(Refused::Call(refusal)) => push_call_refusal(line.line(), &name, &refusal, text),
         None => push_done(keys, ends, &name, sent, line, scratch, text),
     }
 }
@@ -278,10 +278,10 @@ fn push_done(
     push_entries(
         keys,
         ends,
-        line.line,
+        line.line(),
         name,
         sent,
-        line.out.entries(),
+        line.out().entries(),
         scratch,
         text,
     )?;

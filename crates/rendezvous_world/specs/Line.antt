@@ -1,0 +1,74 @@
+-- What a line of the journal tells, and how it is kept.
+use Rattle.std.specs.Prelude.{ℕ, ◌≡◌, List, Option, Some, None}
+use Rattle.glare_core.specs.declared.answers.StartRefusal.TheVariants.{Opening as HasAttempt, Open as HasSession, PeersFull as FullOfPeers, AttemptsSpent as HasSpent, OwnPrint as IsItself, Memory as NoMemoryToStart}
+use Rattle.endpoint_model.specs.Added.{Added}
+use Rattle.endpoint_model.specs.declared.answers.OpenRefusal.{OpenRefusal}
+use Rattle.endpoint_model.specs.declared.answers.OpenRefusal.TheVariants.{Candidates as BadCandidates, Start, SessionsFull as FullOfSessions, Memory as OpenMemory}
+use Rattle.endpoint_model.specs.declared.answers.CallRefusal.TheVariants.{NoAttempt as LacksAttempt, Memory as CallMemory}
+use Rattle.endpoint_model.specs.declared.answers.Stopped.{Stopped as Stop}
+use Rattle.rendezvous_world.specs.declared.journal.Refused.{Refused}
+use Rattle.rendezvous_world.specs.declared.journal.Refused.TheVariants.{Open as OpenRefused, Call as CallRefused}
+use Rattle.rendezvous_world.specs.declared.kept.KeptAnswer.{KeptAnswer}
+use Rattle.rendezvous_world.specs.declared.kept.KeptAnswer.TheVariants.{Done, Stopped, Candidates, Opening, Open as IsOpen, PeersFull, AttemptsSpent, OwnPrint, NoRow, SessionsFull, NoMemoryToOpen, NoAttempt, NoMemoryToCall}
+use Rattle.rendezvous_world.specs.declared.kept.KeptStep.{KeptStep}
+use Rattle.rendezvous_world.specs.declared.kept.KeptStep.TheVariants.{Open as KeptOpen, Cancel as KeptCancel, Deliver as KeptDeliver, Bent as KeptBent, Inject as KeptInject, Forge as KeptForge, Tick as KeptTick}
+use Rattle.rendezvous_world.specs.declared.step.Step.{Step}
+use Rattle.rendezvous_world.specs.declared.step.Step.TheVariants.{Open, Cancel, Deliver, Bent, Inject, Forge, Tick}
+
+-- A step that called an end.
+pub record LineSeen : Type 0 where
+  -- the number of its line in the script
+  pub line : ℕ
+  -- the end that was called
+  pub end : ℕ
+  -- the moment of the world
+  pub moment : ℕ
+  pub step : Step
+  -- the datagram that reached the end, as it was before the call
+  pub datagram : Option (List ℕ)
+  -- why the end refused the call
+  pub refused : Option Refused
+  -- how far a datagram was gone through that found no memory; of a tick that found none it has
+  -- false and 0
+  pub stopped : Option Stop
+  -- what the call added
+  pub out : Added
+
+-- ---- as it is kept
+
+-- the step that called this end
+abbrev pub step_kept : ℕ → KeptStep → Step
+step_kept end (KeptOpen peer list) = Open end peer list
+step_kept end (KeptCancel n) = Cancel end n
+step_kept end (KeptDeliver from number) = Deliver number end from
+step_kept end (KeptBent from place number) = Bent number place end from
+step_kept end (KeptInject from bytes) = Inject end from bytes.value
+step_kept end (KeptForge from plain) = Forge end from plain.value
+step_kept end KeptTick = Tick end
+
+abbrev pub refused_to_open : OpenRefusal → Option Refused
+refused_to_open refusal = Some (OpenRefused refusal)
+
+abbrev pub refused_kept : KeptAnswer → Option Refused
+refused_kept Done = None
+refused_kept (Stopped stop) = None
+refused_kept (Candidates count) = refused_to_open (BadCandidates count)
+refused_kept (Opening n) = refused_to_open (Start (HasAttempt n))
+refused_kept (IsOpen near) = refused_to_open (Start (HasSession near))
+refused_kept (PeersFull count) = refused_to_open (Start (FullOfPeers count))
+refused_kept AttemptsSpent = refused_to_open (Start HasSpent)
+refused_kept OwnPrint = refused_to_open (Start IsItself)
+refused_kept NoRow = refused_to_open (Start NoMemoryToStart)
+refused_kept (SessionsFull count) = refused_to_open (FullOfSessions count)
+refused_kept NoMemoryToOpen = refused_to_open OpenMemory
+refused_kept NoAttempt = Some (CallRefused LacksAttempt)
+refused_kept NoMemoryToCall = Some (CallRefused CallMemory)
+
+abbrev pub stopped_kept : KeptAnswer → Option Stop
+stopped_kept (Stopped stop) = Some stop
+stopped_kept answer = None
+
+-- A call was not both refused and stopped.
+abbrev pub IsOne : Option Refused → Option Stop → Type 0
+IsOne None stopped = Unit {0}
+IsOne (Some refusal) stopped = stopped ≡ None

@@ -1,0 +1,256 @@
+//! Steps and answers as the journal keeps them, in few bytes, since there may be a million lines.
+
+ghost use Rattle.std.specs.Prelude.{◌≡◌, IfOk, None, Some};
+ghost use Rattle.rendezvous_world.specs.Entering.{CallsAnEnd};
+ghost use Rattle.rendezvous_world.specs.Line.{IsOne, refused_kept, step_kept, stopped_kept};
+ghost use Rattle.rendezvous_world.specs.Stepping.{called_by};
+
+use crate::journal::Refused;
+use crate::step::{Addresses, Step};
+use endpoint::{CallRefusal, OpenRefusal, Stopped};
+use glare_core::StartRefusal;
+use rtmfp_base::{Memory, Message};
+use rtmfp_forms::Address;
+use std::alloc::Global;
+
+/// A step that called an end, without the number of that end.
+#[derive(Drop)]
+pub(crate) enum KeptStep {
+    Open {
+        peer: u32,
+        list: Addresses,
+    },
+    Cancel {
+        n: u64,
+    },
+    Deliver {
+        from: Address,
+        number: u64,
+    },
+    Bent {
+        from: Address,
+        place: u16,
+        number: u64,
+    },
+    Inject {
+        from: Address,
+        bytes: Box<Message>,
+    },
+    Forge {
+        from: Address,
+        plain: Box<Message>,
+    },
+    Tick,
+}
+
+/// A number of 32 bits; a greater one counts as want of memory. No world has so many ends.
+pub(crate) fn in_32_bits(number: usize) -> Result<u32, Memory>
+    ensures { IfOk result (λ small. small ≡ number) }
+{
+    match u32::try_from(number) {
+        Ok(small) => Ok(small),
+        Err(_) => Err(Memory),
+    }
+}
+
+/// The same with 16 bits. No datagram that is sent is so long.
+fn in_16_bits(number: usize) -> Result<u16, Memory>
+    ensures { IfOk result (λ small. small ≡ number) }
+{
+    match u16::try_from(number) {
+        Ok(small) => Ok(small),
+        Err(_) => Err(Memory),
+    }
+}
+
+/// A copy of bytes, in a box.
+fn boxed(alloc: Global, bytes: &Message) -> Result<Box<Message>, Memory>
+    ensures { IfOk result (λ copy. copy.value ≡ bytes.now) }
+{
+    let copy = Message::copy_of(alloc, bytes.bytes())?;
+    match Box::new(alloc, copy) {
+        Ok(copy) => Ok(copy),
+        Err(_) => Err(Memory),
+    }
+}
+
+impl KeptStep {
+    /// A step that calls an end.
+    pub(crate) fn of(alloc: Global, step: &Step) -> Result<KeptStep, Memory>
+        requires { CallsAnEnd step.now }
+        ensures { IfOk result (λ kept. step_kept (called_by step.now) kept ≡ step.now) }
+    {
+        Ok(match step {
+            Step::End { .. } => unreachable!(),
+            Step::At { .. } => unreachable!(),
+            Step::Open { peer, list, .. } => KeptStep::Open {
+                peer: in_32_bits(*peer)?,
+                list: list.copy(alloc)?,
+            },
+            Step::Cancel { n, .. } => KeptStep::Cancel { n: *n },
+            Step::Deliver { number, from, .. } => KeptStep::Deliver {
+                from: *from,
+                number: *number,
+            },
+            Step::Bent {
+                number,
+                place,
+                from,
+                ..
+            } => KeptStep::Bent {
+                from: *from,
+                place: in_16_bits(*place)?,
+                number: *number,
+            },
+            Step::Inject { from, bytes, .. } => KeptStep::Inject {
+                from: *from,
+                bytes: boxed(alloc, bytes)?,
+            },
+            Step::Forge { from, plain, .. } => KeptStep::Forge {
+                from: *from,
+                plain: boxed(alloc, plain)?,
+            },
+            Step::Tick { .. } => KeptStep::Tick,
+        })
+    }
+
+    /// The step, which called this end.
+    pub(crate) fn step(&self, alloc: Global, end: usize) -> Result<Step, Memory>
+        ensures { IfOk result (λ step. step ≡ step_kept end self.now) }
+    {
+        Ok(match self {
+            KeptStep::Open { peer, list } => Step::Open {
+                end,
+                peer: *peer as usize,
+                list: list.copy(alloc)?,
+            },
+            KeptStep::Cancel { n } => Step::Cancel { end, n: *n },
+            KeptStep::Deliver { from, number } => Step::Deliver {
+                number: *number,
+                end,
+                from: *from,
+            },
+            KeptStep::Bent {
+                from,
+                place,
+                number,
+            } => Step::Bent {
+                number: *number,
+                place: *place as usize,
+                end,
+                from: *from,
+            },
+            KeptStep::Inject { from, bytes } => Step::Inject {
+                end,
+                from: *from,
+                bytes: Message::copy_of(alloc, bytes.bytes())?,
+            },
+            KeptStep::Forge { from, plain } => Step::Forge {
+                end,
+                from: *from,
+                plain: Message::copy_of(alloc, plain.bytes())?,
+            },
+            KeptStep::Tick => Step::Tick { end },
+        })
+    }
+}
+
+/// What a call answered: it was done or stopped, or it was refused for one of the other causes.
+#[derive(Clone, Copy)]
+pub(crate) enum KeptAnswer {
+    Done,
+    Stopped(Stopped),
+    Candidates(u64),
+    Opening(u64),
+    Open(u32),
+    PeersFull(u64),
+    AttemptsSpent,
+    OwnPrint,
+    NoRow,
+    SessionsFull(u64),
+    NoMemoryToOpen,
+    NoAttempt,
+    NoMemoryToCall,
+}
+
+impl KeptAnswer {
+    /// The answer of a call that was refused, or stopped, or neither.
+    pub(crate) fn of(refused: Option<Refused>, stopped: Option<Stopped>) -> KeptAnswer
+        requires { IsOne refused stopped }
+        ensures refused { refused_kept result ≡ refused }
+        ensures stopped { stopped_kept result ≡ stopped }
+    {
+        match refused {
+            None => match stopped {
+                None => KeptAnswer::Done,
+                Some(stop) => KeptAnswer::Stopped(stop),
+            },
+            Some(Refused::Open(OpenRefusal::Start(refusal))) => KeptAnswer::of_start(refusal),
+            Some(Refused::Open(OpenRefusal::Candidates(count))) => KeptAnswer::Candidates(count),
+            Some(Refused::Open(OpenRefusal::SessionsFull(count))) => {
+                KeptAnswer::SessionsFull(count)
+            }
+            Some(Refused::Open(OpenRefusal::Memory)) => KeptAnswer::NoMemoryToOpen,
+            Some(Refused::Call(CallRefusal::NoAttempt)) => KeptAnswer::NoAttempt,
+            Some(Refused::Call(CallRefusal::Memory)) => KeptAnswer::NoMemoryToCall,
+        }
+    }
+
+    /// That an attempt didn't start.
+    fn of_start(refusal: StartRefusal) -> KeptAnswer
+        ensures refused { refused_kept result ≡ Some (Refused.Open (OpenRefusal.Start refusal)) }
+        ensures stopped { stopped_kept result ≡ None }
+    {
+        match refusal {
+            StartRefusal::Opening(n) => KeptAnswer::Opening(n),
+            StartRefusal::Open(near) => KeptAnswer::Open(near),
+            StartRefusal::PeersFull(count) => KeptAnswer::PeersFull(count),
+            StartRefusal::AttemptsSpent => KeptAnswer::AttemptsSpent,
+            StartRefusal::OwnPrint => KeptAnswer::OwnPrint,
+            StartRefusal::Memory => KeptAnswer::NoRow,
+        }
+    }
+
+    /// Why the call was refused, if it was.
+    pub(crate) fn refused(&self) -> Option<Refused>
+        ensures { result ≡ refused_kept self.now }
+    {
+        match self {
+            KeptAnswer::Done => None,
+            KeptAnswer::Stopped(_) => None,
+            KeptAnswer::Candidates(count) => refused_open(OpenRefusal::Candidates(*count)),
+            KeptAnswer::Opening(n) => refused_start(StartRefusal::Opening(*n)),
+            KeptAnswer::Open(near) => refused_start(StartRefusal::Open(*near)),
+            KeptAnswer::PeersFull(count) => refused_start(StartRefusal::PeersFull(*count)),
+            KeptAnswer::AttemptsSpent => refused_start(StartRefusal::AttemptsSpent),
+            KeptAnswer::OwnPrint => refused_start(StartRefusal::OwnPrint),
+            KeptAnswer::NoRow => refused_start(StartRefusal::Memory),
+            KeptAnswer::SessionsFull(count) => refused_open(OpenRefusal::SessionsFull(*count)),
+            KeptAnswer::NoMemoryToOpen => refused_open(OpenRefusal::Memory),
+            KeptAnswer::NoAttempt => Some(Refused::Call(CallRefusal::NoAttempt)),
+            KeptAnswer::NoMemoryToCall => Some(Refused::Call(CallRefusal::Memory)),
+        }
+    }
+
+    /// How far the call came, if it was stopped.
+    pub(crate) fn stopped(&self) -> Option<Stopped>
+        ensures { result ≡ stopped_kept self.now }
+    {
+        match self {
+            KeptAnswer::Stopped(stop) => Some(*stop),
+            _ => None,
+        }
+    }
+}
+
+fn refused_open(refusal: OpenRefusal) -> Option<Refused>
+    ensures { result ≡ Some (Refused.Open refusal) }
+{
+    Some(Refused::Open(refusal))
+}
+
+fn refused_start(refusal: StartRefusal) -> Option<Refused>
+    ensures { result ≡ Some (Refused.Open (OpenRefusal.Start refusal)) }
+{
+    refused_open(OpenRefusal::Start(refusal))
+}
