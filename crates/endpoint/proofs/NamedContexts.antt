@@ -41,3 +41,10 @@ unless_short false s o part c e = at_place s o part c e
 
 pub opens_in_named : (s : State) (datagram : List ℕ) (c : Context) → opens_in s datagram ≡ Some c → named_context s datagram ≡ Some c
 opens_in_named s datagram c e = unless_short (nat_lt (length datagram) 36) s (place_of s (sid_of datagram)) (drop 4 datagram) c e
+
+-- a datagram opens in no other context than the one that its session ID names
+pub opens_only_in : (s : State) (datagram : List ℕ) (context other : Context) → named_context s datagram ≡ Some context → opens_in s datagram ≡ Some other → other ≡ context
+opens_only_in s datagram context other is opens =
+    let named = opens_in_named s datagram other opens in
+    let both : Some other ≡ Some context = cc in
+    cc

@@ -1,6 +1,6 @@
 //! The context in which a datagram opens.
 
-ghost use Rattle.std.specs.Prelude.{◌≡◌, ◌≤◌, Some, length};
+ghost use Rattle.std.specs.Prelude.{◌≡◌, ◌≤◌, ◌↔◌, IsTrue, Some, length, true};
 ghost use Rattle.std.specs.FinMap.{get};
 ghost use Rattle.endpoint.specs.NamedContext.{context_towards, named_context};
 ghost use Rattle.endpoint_laws.specs.OpensIn.{OpensByTheLog, context_in_session, context_in_startup, opens_in};
@@ -29,16 +29,19 @@ impl Endpoint {
         self.find_context(datagram)
     }
 
-    /// The context that a datagram's session ID names at this end, whether or not the datagram
-    /// opens in it. None where it names none, or the datagram has fewer than 36 bytes.
+    /// Whether a datagram's session ID names this context at this end, whether or not the datagram
+    /// opens in it. It names none where the datagram has fewer than 36 bytes.
     ///
     /// A datagram opens in no other. The tag isn't computed.
-    pub fn named_context(&self, datagram: &[u8]) -> Option<Context>
-        ensures named { result ≡ named_context self.now datagram.now }
-        ensures opens { (context : Context) → opens_in self.now datagram.now ≡ Some context →
-            result ≡ Some context }
+    pub fn names(&self, datagram: &[u8], context: &Context) -> bool
+        ensures named { IsTrue result ↔ (named_context self.now datagram.now ≡ Some context.now) }
+        ensures opens { result ≡ true → (other : Context) →
+            opens_in self.now datagram.now ≡ Some other → other ≡ context.now }
     {
-        self.find_named(datagram)
+        match self.find_named(datagram) {
+            Some(named) => named == *context,
+            None => false,
+        }
     }
 
     /// The context that a datagram's session ID names.

@@ -1,5 +1,5 @@
 -- Steps that bring a datagram.
-use Rattle.std.proofs.Common.{◌≡◌, ℕ, ◌<◌, ◌≤◌, ◌^◌, ◌||◌, ◌&&◌, ◌==◌, ◌-◌, Bool, true, false, List, [], ◌∷◌, length, take, Option, Some, None, nat_lt, if◌then◌else◌, refl, sym, ap, ◌∙◌, arith}
+use Rattle.std.proofs.Common.{◌≡◌, ℕ, ◌<◌, ◌≤◌, ◌^◌, ◌||◌, ◌&&◌, ◌==◌, ◌-◌, Bool, true, false, List, [], ◌∷◌, length, Option, Some, None, nat_lt, if◌then◌else◌, refl, sym, ap, ◌∙◌, arith}
 use Rattle.std.specs.List.{list_any}
 use Rattle.std.specs.Str.{bytes_eq}
 use Rattle.std.proofs.lemmas.Bool.Decides.{nat_tests}
@@ -8,7 +8,6 @@ use Rattle.rtmfp_forms.specs.Address.{AddressParts}
 use Rattle.crypto_profile.specs.declared.keys.Context.{Context}
 use Rattle.glare_core.specs.Calls.{where_true}
 use Rattle.rendezvous_world.specs.declared.step.StepFault.TheVariants.{Forged}
-use Rattle.rendezvous_world.specs.declared.bringing.Fetched.{Fetched}
 use Rattle.rendezvous_world.specs.declared.step.Step.TheVariants.{Forge}
 use Rattle.rendezvous_world.specs.Seen.{Seen}
 use Rattle.rendezvous_world.specs.Sent.{Sent}
@@ -17,7 +16,7 @@ use Rattle.crypto_profile.specs.Keys.{same_context}
 use Rattle.crypto_profile.proofs.Contexts.{same_itself}
 use Rattle.rendezvous_world.specs.Faults.{is_missing, is_forged_by, is_sent}
 use Rattle.rendezvous_world.specs.Sound.{AreBelow}
-use Rattle.rendezvous_world.specs.Entering.{IsBringing, IsFetched}
+use Rattle.rendezvous_world.specs.Entering.{IsBringing}
 use Rattle.rendezvous_world.proofs.Refusing.{there_is, fault_left}
 
 -- ---- a datagram that was looked up
@@ -47,11 +46,8 @@ sent_as : (sent : Sent) (bytes : List ℕ) (context : Context) → sent.datagram
 sent_as sent bytes context is same =
     both_true _ _ (ap (λ (b : List ℕ). bytes_eq b bytes) is ∙ bytes_same bytes) (ap (λ (c : Context). same_context c context) same ∙ same_itself context)
 
-pub sent_known : (sent : List Sent) (o : Option Sent) (which : ℕ) (fetched : Fetched) (room bytes : List ℕ) → o ≡ nth sent which → IsFetched o (Some fetched) room → bytes ≡ take fetched.length room →
-    list_any (is_sent bytes fetched.context) sent ≡ true
-sent_known sent None which fetched room bytes same h is = absurd h
-sent_known sent (Some one) which fetched room bytes same h is =
-    any_nth (is_sent bytes fetched.context) sent which one (sym same) (sent_as one bytes fetched.context (sym (is ∙ h.bytes)) h.context)
+pub sent_known : (sent : List Sent) (which : ℕ) (one : Sent) → Some one ≡ nth sent which → list_any (is_sent one.datagram one.context) sent ≡ true
+sent_known sent which one is = any_nth (is_sent one.datagram one.context) sent which one (sym is) (sent_as one one.datagram one.context refl refl)
 
 pub few_test : (n : ℕ) → n ≤ 1164 → nat_lt 1164 n ≡ false
 few_test n h = grind (arith, nat_tests)

@@ -16,11 +16,9 @@ use Rattle.rendezvous_world.specs.Sent.{Sent, sent_in}
 use Rattle.rendezvous_world.specs.Keyed.{AreKeys}
 use Rattle.rendezvous_world.specs.Faults.{is_sent, is_unsent_in, is_forged_at, is_bad}
 use Rattle.rendezvous_world.specs.Stepping.{new_setup, new_end, with_end}
-use Rattle.rendezvous_world.specs.Entering.{WasSentIn, is_same}
 use Rattle.rendezvous_world.specs.Inside.{end_seen, world_seen, named_of, IsKept}
 use Rattle.rendezvous_world.specs.Kept.{IsWorld}
 use Rattle.rendezvous_world.proofs.Finding.{test_other}
-use Rattle.crypto_profile.proofs.Contexts.{same_context_is}
 use Rattle.rendezvous_world.proofs.Keeping.{with_moment_is_world, with_end_is_world}
 
 pub past_front : (n : ℕ) (xs ys : List ℕ) → length xs ≡ n → drop n (xs ++ ys) ≡ ys
@@ -41,27 +39,12 @@ forged_there (e ∷ ends) (suc k) there bytes sent is lt =
     ∙ ap (λ (n : ℕ). is_forged_at (map end_seen ends) n bytes sent) (let z : suc k - 1 ≡ k = omega arith in z)
     ∙ forged_there ends k there bytes sent is (omega (arith, lt))
 
-pub same_sent : (known : Option Context) (context : Context) (bytes : List ℕ) (sent : List Sent) → is_same known context ≡ true → WasSentIn known bytes sent → list_any (is_sent bytes context) sent ≡ true
-same_sent None context bytes sent e h = absurd (cc)
-same_sent (Some k) context bytes sent e h = subst (λ (x : Context). list_any (is_sent bytes x) sent ≡ true) (same_context_is k context e) h
-
 -- ---- forged, by the context that a session ID names
 
--- a datagram opens in no other context than this one
-abbrev pub OpensOnlyIn : Option Context → Option Context → Type 0
-OpensOnlyIn named opens = (context : Context) → opens ≡ Some context → named ≡ Some context
-
-pub unsent_nowhere : (opens : Option Context) (bytes : List ℕ) (sent : List Sent) → OpensOnlyIn None opens → is_unsent_in opens bytes sent ≡ false
-unsent_nowhere None bytes sent only = refl
-unsent_nowhere (Some c) bytes sent only = let e = only c refl in absurd (cc)
-
-pub sent_where_named : (opens : Option Context) (named : Context) (bytes : List ℕ) (sent : List Sent) → OpensOnlyIn (Some named) opens → list_any (is_sent bytes named) sent ≡ true
+pub sent_where_named : (opens : Option Context) (named : Context) (bytes : List ℕ) (sent : List Sent) → ((context : Context) → opens ≡ Some context → context ≡ named) → list_any (is_sent bytes named) sent ≡ true
     → is_unsent_in opens bytes sent ≡ false
 sent_where_named None named bytes sent only there = refl
-sent_where_named (Some c) named bytes sent only there =
-    let e = only c refl in
-    let same : named ≡ c = cc in
-    ap not (subst (λ (x : Context). list_any (is_sent bytes x) sent ≡ true) same there)
+sent_where_named (Some c) named bytes sent only there = ap not (subst (λ (x : Context). list_any (is_sent bytes x) sent ≡ true) (sym (only c refl)) there)
 
 -- ---- another moment
 

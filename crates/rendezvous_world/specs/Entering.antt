@@ -1,7 +1,5 @@
 -- How a step is taken: the call that it makes, its line in the journal, and what it answers.
 use Rattle.std.specs.Prelude.{ℕ, ◌≡◌, ◌<◌, ◌≤◌, ◌^◌, ◌⊎◌, Bool, true, false, List, length, take, Option, Some, None, IfSome, IfNone, is_some, OnOk, OnErr, IfErr, Result, Ok, Err}
-use Rattle.std.specs.List.{list_any}
-use Rattle.crypto_profile.specs.declared.keys.Context.{Context}
 use Rattle.endpoint_model.specs.declared.entry.Entry.{Entry}
 use Rattle.endpoint_model.specs.declared.answers.Stopped.{Stopped as Stop}
 use Rattle.endpoint_laws.specs.Laws.{AreBytes}
@@ -9,6 +7,7 @@ use Rattle.endpoint_model.specs.State.{State, at_moment}
 use Rattle.endpoint_model.specs.Effects.{open_refusal}
 use Rattle.endpoint_model.specs.Event.{Call, Open as OpenCall, Cancel as CancelCall, Receive, Tick as TickCall, Event}
 use Rattle.rendezvous_world.specs.declared.bringing.Fetched.{Fetched}
+use Rattle.rendezvous_world.specs.declared.bringing.Fetched.TheVariants.{Missing, Forged as IsForged, Sent as IsSent}
 use Rattle.rendezvous_world.specs.declared.journal.JournalLine.{JournalLine}
 use Rattle.rendezvous_world.specs.declared.journal.Refused.{Refused}
 use Rattle.rendezvous_world.specs.declared.step.Step.{Step}
@@ -19,8 +18,7 @@ use Rattle.rendezvous_world.specs.Draws.{draws_of}
 use Rattle.rendezvous_world.specs.Seen.{Seen}
 use Rattle.rendezvous_world.specs.Sent.{Sent, sent_in}
 use Rattle.rendezvous_world.specs.Datagrams.{datagram_of}
-use Rattle.crypto_profile.specs.Keys.{same_context}
-use Rattle.rendezvous_world.specs.Faults.{step_fault, is_forged, is_forged_by, is_sent}
+use Rattle.rendezvous_world.specs.Faults.{step_fault, is_forged, is_forged_by}
 use Rattle.glare_core.specs.Calls.{where_true}
 use Rattle.rendezvous_world.specs.History.{moment_given, answer_of, bytes_or_none}
 use Rattle.rendezvous_world.specs.Stepping.{Called, Stepped, StoppedIn, Noted, called_by}
@@ -118,27 +116,27 @@ pub record IsBringing (w : Seen) (number end : ℕ) (step : Step) (bytes : List 
   pub forged : is_forged w step ≡ is_forged_by w end (Some bytes)
   pub fault : step_fault w step ≡ where_true (is_forged_by w end (Some bytes)) Forged
 
--- A datagram was sent with these bytes in this context, where one is given.
-abbrev pub WasSentIn : Option Context → List ℕ → List Sent → Type 0
-WasSentIn None bytes sent = Unit {0}
-WasSentIn (Some context) bytes sent = list_any (is_sent bytes context) sent ≡ true
+-- The front of the room is the datagram that was found, with this many bytes.
+pub record IsFetchedAs (sent : Sent) (count : ℕ) (into : List ℕ) : Type 0 where
+  pub size : count ≡ length sent.datagram
+  pub short : count ≤ 1200
+  pub room : length into ≡ 1200
+  pub bytes : take count into ≡ sent.datagram
 
-abbrev pub is_same : Option Context → Context → Bool
-is_same None other = false
-is_same (Some context) other = same_context context other
-
--- The front of the room is the datagram that was found.
-pub record IsFetchedAs (sent : Sent) (fetched : Fetched) (room : List ℕ) : Type 0 where
-  pub context : sent.context ≡ fetched.context
-  pub size : length sent.datagram ≡ fetched.length
-  pub short : fetched.length ≤ 1200
-  pub bytes : take fetched.length room ≡ sent.datagram
-
-abbrev pub IsFetched : Option Sent → Option Fetched → List ℕ → Type 0
+abbrev pub IsFetched : Option Sent → Option ℕ → List ℕ → Type 0
 IsFetched None None room = Unit {0}
-IsFetched None (Some fetched) room = ⊥
+IsFetched None (Some size) room = ⊥
 IsFetched (Some sent) None room = ⊥
-IsFetched (Some sent) (Some fetched) room = IsFetchedAs sent fetched room
+IsFetched (Some sent) (Some size) room = IsFetchedAs sent size room
+
+-- The same of one that is brought to an end, where it may be forged.
+abbrev pub IsFetchedFor : Seen → ℕ → Option Sent → Fetched → List ℕ → Type 0
+IsFetchedFor w end None Missing room = Unit {0}
+IsFetchedFor w end None fetched room = ⊥
+IsFetchedFor w end (Some sent) Missing room = ⊥
+IsFetchedFor w end (Some sent) IsForged room = is_forged_by w end (Some sent.datagram) ≡ true
+IsFetchedFor w end (Some sent) (IsSent size) room = (is_forged_by w end (Some sent.datagram)
+    ≡ false) × IsFetchedAs sent size room
 
 -- ---- what a step answers and leaves
 

@@ -36,9 +36,9 @@ named_of end = record { print = own_of end.setup; name = end.name }
 abbrev pub sent_of : Letter → Sent
 sent_of letter = record {
   by = letter.by;
-  to = letter.to;
+  to = letter.to.now;
   datagram = letter.datagram.now;
-  context = letter.context;
+  context = letter.context.now;
 }
 
 abbrev pub sent_found : Option Letter → Option Sent

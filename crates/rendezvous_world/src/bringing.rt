@@ -1,15 +1,17 @@
 //! Steps that bring a datagram to an end.
 
-ghost use Rattle.std.specs.Prelude.{◌≡◌, ◌<◌, ◌≤◌, ◌^◌, IfOk, Some, length};
+ghost use Rattle.std.specs.Prelude.{◌≡◌, ◌<◌, ◌≤◌, ◌^◌, IfOk, IfSome, Some, false, length, take, true};
+ghost use Rattle.std.specs.List.{list_any};
 ghost use Rattle.endpoint_laws.specs.Laws.{AreBytes};
 ghost use Rattle.rendezvous_world.specs.Datagrams.{nth};
-ghost use Rattle.rendezvous_world.specs.Entering.{IsBringing, IsDone, IsFetched, WasSentIn, is_same};
-ghost use Rattle.rendezvous_world.specs.Faults.{is_forged_by};
+ghost use Rattle.rendezvous_world.specs.Entering.{IsBringing, IsDone, IsFetched, IsFetchedFor};
+ghost use Rattle.rendezvous_world.specs.Faults.{is_forged_by, is_sent};
+ghost use Rattle.rendezvous_world.specs.Inside.{sent_found};
 ghost use Rattle.rendezvous_world.specs.Sent.{sent_in};
 ghost use Rattle.rendezvous_world.specs.Sound.{AreBelow};
 
 use crate::forgery::{PLAIN_AT, forge};
-use crate::sent::find;
+use crate::sent::{Letter, find};
 use crate::step::{Step, StepFault};
 use crate::world::World;
 use crypto_profile::Context;
@@ -26,12 +28,15 @@ const MOST_SENT: usize = 1200;
 /// The most bytes of a plain packet that is forged.
 const MOST_PLAIN: usize = 1164;
 
-/// A sent datagram that was looked up.
+/// A sent datagram, for an end that it is brought to.
 #[derive(Clone, Copy)]
-pub(crate) struct Fetched {
-    pub(crate) length: usize,
-    /// What it is sealed for.
-    pub(crate) context: Context,
+pub(crate) enum Fetched {
+    /// It isn't there.
+    Missing,
+    /// It is forged.
+    Forged,
+    /// It isn't, and has this many bytes.
+    Sent(usize),
 }
 
 /// A copy of a datagram.
@@ -42,44 +47,74 @@ fn keep(alloc: Global, datagram: &[u8]) -> Result<Message, Memory>
     Message::copy_of(alloc, datagram)
 }
 
+/// Copies a datagram to the front of a buffer, in which it fits, and tells its length.
+fn copy_front(datagram: &[u8], room: &mut [u8]) -> usize
+    requires { length datagram.now ≤ length room.old }
+    ensures size { result ≡ length datagram.now }
+    ensures front { take (length datagram.now) room.new ≡ datagram.now }
+    ensures room { length room.new ≡ length room.old }
+{
+    let (front, _) = room.split_at_mut(datagram.len());
+    front.copy_from_slice(datagram);
+    datagram.len()
+}
+
 impl World {
-    /// Looks up a sent datagram, and copies it to the front of a buffer, in which each fits.
-    fn fetch(&self, number: u64, room: &mut [u8]) -> Option<Fetched>
-        requires { length room.old ≡ 1200 }
-        ensures { IsFetched (nth (sent_in self.now.lines) number) result room.new }
+    /// The datagram that was sent as this one, counted from 1.
+    pub(crate) fn letter(&self, number: u64) -> Option<Letter<'_>>
+        ensures letter { sent_found result ≡ nth (sent_in self.now.lines) number }
+        ensures short { IfSome result (λ letter. length letter.datagram.now ≤ 1200) }
     {
-        match find(
+        find(
             self.journal.lines(),
             &self.starts,
             &self.lines_of,
             u128::from(number),
-        ) {
+        )
+    }
+
+    /// Copies a sent datagram to the front of a buffer, in which each fits, and tells its length.
+    fn fetch(&self, number: u64, room: &mut [u8]) -> Option<usize>
+        requires { length room.old ≡ 1200 }
+        ensures { IsFetched (nth (sent_in self.now.lines) number) result room.new }
+    {
+        match self.letter(number) {
             None => None,
+            Some(letter) => Some(copy_front(letter.datagram, room)),
+        }
+    }
+
+    /// The same for an end that it is brought to, where it isn't forged.
+    fn fetch_for(&self, end: usize, number: u64, room: &mut [u8]) -> Fetched
+        requires there { end < length self.now.ends }
+        requires room { length room.old ≡ 1200 }
+        ensures { IsFetchedFor self.now end (nth (sent_in self.now.lines) number) result
+            room.new }
+    {
+        match self.letter(number) {
+            None => Fetched::Missing,
             Some(letter) => {
-                let length = letter.datagram.len();
-                let (front, _) = room.split_at_mut(length);
-                front.copy_from_slice(letter.datagram);
-                Some(Fetched {
-                    length,
-                    context: letter.context,
-                })
+                if self.is_forged(end, letter.datagram, letter.context) {
+                    return Fetched::Forged;
+                }
+                Fetched::Sent(copy_front(letter.datagram, room))
             }
         }
     }
 
-    /// Whether a datagram that reaches an end is forged. One that was sent in the context that its
-    /// session ID names there isn't, whatever its tag; only of others the tag is computed.
-    fn is_forged(&self, end: usize, bytes: &[u8], known: &Option<Context>) -> bool
+    /// Whether a datagram that was sent in a context is forged at an end. It isn't where its
+    /// session ID names this context there, whatever its tag; only of others the tag is computed.
+    fn is_forged(&self, end: usize, bytes: &[u8], context: &Context) -> bool
         requires there { end < length self.now.ends }
         requires short { length bytes.now ≤ 2048 }
-        requires sent { WasSentIn known.now bytes.now (sent_in self.now.lines) }
+        requires sent { list_any (is_sent bytes.now context.now) (sent_in self.now.lines) ≡ true }
         ensures { result ≡ is_forged_by self.now end (Some bytes.now) }
     {
         let there = &self.ends[end];
-        match there.endpoint.named_context(bytes) {
-            None => false,
-            Some(context) => !is_same(known, &context) && self.is_unsent(end, bytes),
+        if there.endpoint.names(bytes, context) {
+            return false;
         }
+        self.is_unsent(end, bytes)
     }
 
     /// Whether a datagram opens at an end in some context, in which it wasn't sent.
@@ -102,32 +137,29 @@ impl World {
         end: usize,
         step: &Step,
         bytes: &mut [u8],
-        known: Option<Context>,
     ) -> Result<(), StepFault>
-        requires bringing { IsBringing self.old line end step.now bytes.old }
-        requires sent { WasSentIn known bytes.old (sent_in self.old.lines) }
+        requires { IsBringing self.old line end step.now bytes.old }
         ensures { IsDone self.old line step.now result self.new }
     {
-        self.note_keys(&known);
-        self.bring_unforged(line, end, step, bytes, known)
+        self.note_keys();
+        if self.is_unsent(end, bytes) {
+            return Err(StepFault::Forged);
+        }
+        self.bring_unforged(line, end, step, bytes)
     }
 
-    /// The same, where the keys of datagrams are noted.
+    /// Brings a datagram to an end, which isn't forged.
     fn bring_unforged(
         &mut self,
         line: u64,
         end: usize,
         step: &Step,
         bytes: &mut [u8],
-        known: Option<Context>,
     ) -> Result<(), StepFault>
         requires bringing { IsBringing self.old line end step.now bytes.old }
-        requires sent { WasSentIn known bytes.old (sent_in self.old.lines) }
+        requires unforged { is_forged_by self.old end (Some bytes.old) ≡ false }
         ensures { IsDone self.old line step.now result self.new }
     {
-        if self.is_forged(end, bytes, &known) {
-            return Err(StepFault::Forged);
-        }
         let datagram = match keep(self.alloc(), bytes) {
             Ok(datagram) => datagram,
             Err(_) => return Err(StepFault::Memory),
@@ -139,35 +171,34 @@ impl World {
     pub(crate) fn deliver(
         &mut self,
         line: u64,
+        step: &Step,
         number: u64,
         end: usize,
         from: &Address,
     ) -> Result<(), StepFault>
         requires above { AreBelow self.old.lines line }
         requires fits { line < 2 ^ 32 }
+        requires step { step.now ≡ Step.Deliver number end from.now }
         ensures { IsDone self.old line (Step.Deliver number end from.now) result self.new }
     {
         if self.lacks(end) {
             return Err(StepFault::NoEnd);
         }
         let mut room = [0; MOST_SENT];
-        let found = match self.fetch(number, &mut room) {
-            Some(found) => found,
-            None => return Err(StepFault::NoDatagram),
+        let length = match self.fetch_for(end, number, &mut room) {
+            Fetched::Missing => return Err(StepFault::NoDatagram),
+            Fetched::Forged => return Err(StepFault::Forged),
+            Fetched::Sent(length) => length,
         };
-        let (bytes, _) = room.split_at_mut(found.length);
-        let step = Step::Deliver {
-            number,
-            end,
-            from: *from,
-        };
-        self.bring(line, end, &step, bytes, Some(found.context))
+        let (bytes, _) = room.split_at_mut(length);
+        self.bring_unforged(line, end, step, bytes)
     }
 
     /// Brings a sent datagram with one bit turned to an end.
     pub(crate) fn bend(
         &mut self,
         line: u64,
+        step: &Step,
         number: u64,
         place: usize,
         end: usize,
@@ -175,28 +206,23 @@ impl World {
     ) -> Result<(), StepFault>
         requires above { AreBelow self.old.lines line }
         requires fits { line < 2 ^ 32 }
+        requires step { step.now ≡ Step.Bent number place end from.now }
         ensures { IsDone self.old line (Step.Bent number place end from.now) result self.new }
     {
         if self.lacks(end) {
             return Err(StepFault::NoEnd);
         }
         let mut room = [0; MOST_SENT];
-        let found = match self.fetch(number, &mut room) {
-            Some(found) => found,
+        let length = match self.fetch(number, &mut room) {
+            Some(length) => length,
             None => return Err(StepFault::NoDatagram),
         };
-        if place >= found.length {
+        if place >= length {
             return Err(StepFault::NoDatagram);
         }
-        let (bytes, _) = room.split_at_mut(found.length);
+        let (bytes, _) = room.split_at_mut(length);
         bytes[place] ^= 1;
-        let step = Step::Bent {
-            number,
-            place,
-            end,
-            from: *from,
-        };
-        self.bring(line, end, &step, bytes, None)
+        self.bring(line, end, step, bytes)
     }
 
     /// Brings bytes to an end.
@@ -222,7 +248,7 @@ impl World {
         let mut room = [0; MOST_BYTES];
         let (datagram, _) = room.split_at_mut(bytes.len());
         datagram.copy_from_slice(bytes.bytes());
-        self.bring(line, end, step, datagram, None)
+        self.bring(line, end, step, datagram)
     }
 
     /// Brings a plain packet to an end, sealed by somebody who is no end.
@@ -248,16 +274,6 @@ impl World {
         let mut room = [0; MOST_BYTES];
         let (datagram, _) = room.split_at_mut(PLAIN_AT + plain.len());
         forge(datagram, plain.bytes());
-        self.bring(line, end, step, datagram, None)
-    }
-}
-
-/// Whether the context is there, and the same as another.
-fn is_same(context: &Option<Context>, other: &Context) -> bool
-    ensures { result ≡ is_same context.now other.now }
-{
-    match context {
-        None => false,
-        Some(context) => context.is_same(other),
+        self.bring(line, end, step, datagram)
     }
 }

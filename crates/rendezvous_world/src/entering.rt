@@ -155,20 +155,22 @@ impl World {
     {
         let moment = self.moment;
         let journal = &mut self.journal;
-        let ready = match make_ready(
-            self.alloc,
-            end,
-            step,
-            &mut journal.lines,
-            &mut self.starts,
-        ) {
+        let ready = match make_ready(self.alloc, end, step, &mut journal.lines, &mut self.starts) {
             Ok(ready) => ready,
             Err(_) => return Err(StepFault::Memory),
         };
         let mut out = ready.out;
         let print = named_at(self.named.as_slice(), step.peer()).print;
         let there = &mut self.ends[end];
-        let outcome = call_end(&mut there.endpoint, &print, line, moment, step, bytes, &mut out);
+        let outcome = call_end(
+            &mut there.endpoint,
+            &print,
+            line,
+            moment,
+            step,
+            bytes,
+            &mut out,
+        );
         if outcome.undone {
             return Err(StepFault::Memory);
         }

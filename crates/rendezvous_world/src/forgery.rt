@@ -137,14 +137,10 @@ fn is_sent_by_key(
 }
 
 impl World {
-    /// Adds the keys of the datagrams that have none yet, as far as memory is found. They aren't
-    /// needed where it is known in which context the datagram was sent.
-    pub(crate) fn note_keys(&mut self, known: &Option<Context>)
+    /// Adds the keys of the datagrams that have none yet, as far as memory is found.
+    pub(crate) fn note_keys(&mut self)
         ensures { self.new ≡ self.old }
     {
-        if known.is_some() {
-            return;
-        }
         note_keys(
             self.journal.lines(),
             &self.starts,

@@ -18,10 +18,10 @@ pub(crate) struct Letter<'a> {
     /// The number of the end that sent it.
     pub(crate) by: usize,
     /// Where to.
-    pub(crate) to: Address,
+    pub(crate) to: &'a Address,
     pub(crate) datagram: &'a [u8],
     /// What it is sealed for.
-    pub(crate) context: Context,
+    pub(crate) context: &'a Context,
 }
 
 /// How many datagrams are among the entries of a call.
@@ -60,9 +60,9 @@ fn find_among(by: usize, entries: &[Entry], number: u128) -> Option<Letter<'_>>
                 if left == 1 {
                     return Some(Letter {
                         by,
-                        to: *to,
+                        to,
                         datagram: datagram.bytes(),
-                        context: *context,
+                        context,
                     });
                 }
                 if left == 0 {

@@ -3,7 +3,6 @@
 use crate::end::End;
 use crate::journal::Journal;
 use crate::keyed::Keyed;
-use crate::sent::find;
 use crate::step::{Step, StepFault};
 use rtmfp_forms::Address;
 use rtmfp_text::Directory;
@@ -136,13 +135,13 @@ impl World {
             Step::At { moment } => self.set_moment(line, *moment),
             Step::Open { end, peer, list } => self.open(line, step, *end, *peer, list),
             Step::Cancel { end, n } => self.cancel(line, *end, *n),
-            Step::Deliver { number, end, from } => self.deliver(line, *number, *end, from),
+            Step::Deliver { number, end, from } => self.deliver(line, step, *number, *end, from),
             Step::Bent {
                 number,
                 place,
                 end,
                 from,
-            } => self.bend(line, *number, *place, *end, from),
+            } => self.bend(line, step, *number, *place, *end, from),
             Step::Inject { end, from, bytes } => self.inject(line, step, *end, from, bytes),
             Step::Forge { end, from, plain } => self.forge(line, step, *end, from, plain),
             Step::Tick { end } => self.tick(line, *end),
@@ -179,13 +178,8 @@ impl World {
     pub fn sent(&self, number: u64) -> Option<(usize, Address)>
         ensures { result ≡ passing (nth (sent_in self.now.lines) number) }
     {
-        match find(
-            self.journal.lines(),
-            &self.starts,
-            &self.lines_of,
-            u128::from(number),
-        ) {
-            Some(letter) => Some((letter.by, letter.to)),
+        match self.letter(number) {
+            Some(letter) => Some((letter.by, *letter.to)),
             None => None,
         }
     }

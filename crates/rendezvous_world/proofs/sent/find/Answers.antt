@@ -26,7 +26,7 @@ returns-clause-letter c =
     c.find_among.ensures
     ∙ ap (λ (by : ℕ). nth (sent_among by c.entries.result.now) (c.args.number - get_or c.args.starts.now (c.count_below-behind.result - 1) 0)) c.end.ensures
     ∙ ap (λ (es : List Entry). nth (sent_among c.line_at-line.result.now.end es) (c.args.number - get_or c.args.starts.now (c.count_below-behind.result - 1) 0))
-      (c.entries.ensures.entries ∙ ap (λ (added : Added). added.entries) c.out.ensures)
+    (c.entries.ensures.entries ∙ ap (λ (added : Added). added.entries) c.out.ensures)
     ∙ found_at c.args.lines.now c.args.starts.now c.args.number c.count_below-behind.result c.line_at-line.result.now c.requires c.count_below-behind.ensures.inside c.if-behind-eq0.false
     c.count_below-behind.ensures.before c.count_below-behind.ensures.after c.line_at-line.ensures
 

@@ -5,8 +5,8 @@ use Rattle.rendezvous_world.specs.Entering.{IsBringing}
 use Rattle.rendezvous_world.proofs.Fetching.{bringing_forge, few_test}
 use Rattle.rendezvous_world.proofs.world.World.forge.Goals as goal
 
-pub bring-requires-clause-bringing : goal.bring-requires-clause-bringing
-bring-requires-clause-bringing c =
+pub bring-requires : goal.bring-requires
+bring-requires c =
     let few : length c.args.plain.now ≤ 1164 = omega (arith, c.len.ensures, c.if-len-gt-MOST_PLAIN.false) in
     let small : length c.forge.new.buffer ≤ 2048 = omega (arith, few, c.len-2.ensures, c.forge.auto.buffer, c.split_at_mut-datagram.ensures.front_len) in
     subst (λ (s : Step). IsBringing c.args.self.now c.args.line c.args.end s c.forge.new.buffer) (sym c.requires.step)
