@@ -23,3 +23,4 @@ pub mod Putting
 pub mod Walking
 pub mod Passing
 pub mod Wholes
+pub mod Summing

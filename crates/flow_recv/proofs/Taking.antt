@@ -93,3 +93,8 @@ added_if r c false below none e = let goal : 0 ≤ 3145728 = omega arith in goal
 
 pub added_small : (r : Receiver) (c : Chunk) (added : ℕ) → (c.abandon ≡ false → c.forward < c.seq) → beyond_buffer r c ≡ None → added ≡ cond (holds r c) (length c.bytes) 0 → added ≤ 3145728
 added_small r c added below none e = omega (arith, e, added_if r c (holds r c) below none refl)
+
+pub held_small : (r : Receiver) (c : Chunk) → (c.abandon ≡ false → c.forward < c.seq) → beyond_buffer r c ≡ None → c.abandon ≡ false → lacks r.spans c.seq ≡ true → length c.bytes ≤ 3145728
+held_small r c below none a l =
+    let h : holds r c ≡ true = rw (a, l) refl in
+    added_small r c (length c.bytes) below none (sym (ap (λ t. cond t (length c.bytes) 0) h))

@@ -7,3 +7,4 @@ pub mod Order
 pub mod Above
 pub mod Keyed
 pub mod Edges
+pub mod Sums

@@ -12,6 +12,8 @@ mod receiver;
 mod run;
 mod runs;
 mod spans;
+mod summed;
+mod sums;
 
 pub use outcome::{FlowRefusal, Took};
 pub use receiver::FlowReceiver;

@@ -12,6 +12,7 @@ ghost use Rattle.flow_recv.specs.Receiver.{Receiver, Apart, fresh, span, lacks, 
 ghost use Rattle.flow_recv.specs.Receiver.{after_last, passes_buffer, add_run, add_span};
 ghost use Rattle.flow_recv.specs.Receiver.{beyond_buffer, taken, next_run, handed_next};
 ghost use Rattle.flow_recv.specs.Keyed.{IsFree, stays};
+ghost use Rattle.flow_recv.specs.Sums.{AllEndNear};
 ghost use Rattle.flow_recv.specs.Acking.{free_blocks, ack_head, ack_bytes, TellsSpans};
 ghost use Rattle.rtmfp_forms.specs.Outgoing.{packet_limit};
 ghost use Rattle.flow_recv.specs.Outcome.{refusal, took, message};
@@ -20,10 +21,11 @@ ghost use Rattle.flow_recv.specs.Order.{InOrder};
 
 use crate::above::Above;
 use crate::acking::{pairs_len, put_pairs};
-use crate::held::HeldRuns;
 use crate::outcome::{FlowRefusal, Took};
 use crate::runs::{add_run, any_ready, drop_dead, dying_bytes, take_ready};
 use crate::spans::{Spot, lacks, mark_alone, mark_behind, mark_first, raise, raised, spot_of};
+use crate::summed::SummedRuns;
+use crate::sums::{block_of, block_start};
 use rtmfp_base::{Memory, Message};
 use rtmfp_data_chunks::UserData;
 use rtmfp_forms::{NoRoom, Outgoing};
@@ -43,7 +45,7 @@ pub struct FlowReceiver {
     arriving: bool,
     through: u64,
     above: Above,
-    runs: HeldRuns,
+    runs: SummedRuns,
     held: u64,
     last: Option<u64>,
     highest: u64,
@@ -83,7 +85,7 @@ impl FlowReceiver {
             arriving: first_metadata == ARRIVING,
             through: 0,
             above: Above::new(alloc),
-            runs: HeldRuns::new(alloc),
+            runs: SummedRuns::new(alloc),
             held: 0,
             last: None,
             highest: 0,
@@ -232,24 +234,28 @@ impl FlowReceiver {
     }
 }
 
-/// The bytes held as if a forward number were taken.
-fn held_after(runs: &HeldRuns, held: u64, through: u64, above: &Above, forward: u64) -> u64
+/// The bytes held as if a forward number were taken. Of those that it drops, the runs that end in
+/// earlier blocks are summed already, and the few that are left are looked at.
+fn held_after(runs: &SummedRuns, held: u64, through: u64, above: &Above, forward: u64) -> u64
     requires held { held ≡ held_in runs.now }
     requires few { held_in runs.now < 2 ^ 32 }
     requires apart { Apart above.now }
     requires order { InOrder 0 runs.now }
     requires alive { AllAlive (span 0 through ∷ above.now) runs.now }
+    requires near { AllEndNear through runs.now }
     ensures { result ≡ held_in (living (span 0 (max through forward) ∷ above.now) runs.now) }
 {
     if forward <= through {
         return held;
     }
-    held - dying_bytes(runs, through + 1, forward, forward, above)
+    let block = block_of(forward);
+    let low = block_start(block).max(through) + 1;
+    held - runs.open_before(through, block) - dying_bytes(runs, low, forward, forward, above)
 }
 
 /// Drops the runs beside the numbers that a forward number passes and that can't become messages
 /// any more. The answer is how many bytes they held.
-fn drop_passed(runs: &mut HeldRuns, before: u64, forward: u64, through: u64, above: &Above) -> u64
+fn drop_passed(runs: &mut SummedRuns, before: u64, forward: u64, through: u64, above: &Above) -> u64
     requires apart { Apart above.now }
     requires order { InOrder 0 runs.old }
     requires few { held_in runs.old < 2 ^ 32 }
@@ -266,7 +272,7 @@ fn drop_passed(runs: &mut HeldRuns, before: u64, forward: u64, through: u64, abo
 /// Drops the runs that can't become messages any more after a chunk: those beside its number, and
 /// those beside the numbers that its forward number passes. The answer is how many bytes they held.
 fn drop_after(
-    runs: &mut HeldRuns,
+    runs: &mut SummedRuns,
     before: u64,
     forward: u64,
     number: u64,
@@ -304,7 +310,7 @@ fn admit(
     alloc: Global,
     through: u64,
     above: &mut Above,
-    runs: &mut HeldRuns,
+    runs: &mut SummedRuns,
     missing: bool,
     chunk: &UserData<'_>,
 ) -> Result<u64, AllocError>
@@ -312,6 +318,8 @@ fn admit(
     requires free { missing ≡ true → IsFree chunk.now.seq runs.old }
     requires apart { Apart (span 0 through ∷ above.old) }
     requires missing { missing ≡ lacks (span 0 through ∷ above.old) chunk.now.seq }
+    requires few { chunk.now.abandon ≡ false → missing ≡ true →
+        held_in runs.old + length chunk.now.bytes.now < 2 ^ 32 }
     ensures spans { IfOk result (λ end. span 0 end ∷ above.new
         ≡ add_span chunk.now.seq chunk.now.seq (add_span 0 chunk.now.forward
         (span 0 through ∷ above.old))) }
@@ -347,9 +355,11 @@ fn admit(
 }
 
 /// Holds the fragment of a chunk without abandon.
-fn hold(alloc: Global, runs: &mut HeldRuns, chunk: &UserData<'_>) -> Result<(), AllocError>
+fn hold(alloc: Global, runs: &mut SummedRuns, chunk: &UserData<'_>) -> Result<(), AllocError>
     requires order { InOrder 0 runs.old }
     requires free { IsFree chunk.now.seq runs.old }
+    requires few { chunk.now.abandon ≡ false →
+        held_in runs.old + length chunk.now.bytes.now < 2 ^ 32 }
     ensures held { OnOk result (runs.new ≡ (if not chunk.now.abandon then
         add_run (single chunk.now.seq chunk.now.part chunk.now.bytes.now) runs.old else runs.old)) }
     ensures unchanged { OnErr result (runs.new ≡ runs.old) }

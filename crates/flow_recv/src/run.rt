@@ -5,10 +5,12 @@ ghost use Rattle.std.specs.Prelude.{◌++◌, length, false};
 ghost use Rattle.rtmfp_data_chunks.specs.Runs.{fits, joined, single, is_whole, has_front, has_rear};
 ghost use Rattle.flow_recv.specs.Receiver.{Apart, is_alive, span, lacks, hands};
 ghost use Rattle.flow_recv.specs.Keyed.{is_between, emptied, over};
+ghost use Rattle.flow_recv.specs.Sums.{open_of};
 
 use crate::above::Above;
 use crate::bytes::HeldBytes;
 use crate::spans::lacks;
+use crate::sums::Open;
 use rtmfp_data_chunks::Part;
 use std::alloc::{AllocError, Global};
 use std::marker::Model;
@@ -175,6 +177,20 @@ impl HeldRun {
         ensures { result ≡ length self.now.bytes }
     {
         self.bytes.len()
+    }
+
+    /// What it gives to the sums of the runs that aren't whole.
+    pub fn open(&self) -> Open
+        ensures { result ≡ open_of self.now }
+    {
+        Open {
+            last: self.last,
+            bytes: if self.is_whole() {
+                0
+            } else {
+                self.len() as u64
+            },
+        }
     }
 
     pub fn into_bytes(self) -> Vec<u8>

@@ -4,6 +4,7 @@ use Rattle.rtmfp_data_chunks.specs.Taken.{chunk_of}
 use Rattle.flow_recv.proofs.Holding.{living_le}
 use Rattle.flow_recv.proofs.Knowing.{apart_formed}
 use Rattle.flow_recv.proofs.Forward.{beyond_from, passes_less, none_passes}
+use Rattle.flow_recv.proofs.Summing.{ends_near}
 use Rattle.flow_recv.proofs.receiver.FlowReceiver.beyond_buffer.Goals as goal
 
 pub passes_buffer-passes-requires-clause-few : goal.passes_buffer-passes-requires-clause-few
@@ -11,6 +12,11 @@ passes_buffer-passes-requires-clause-few c =
     let r = c.self.inside in
     let h = c.held_after-held.ensures in
     omega (arith, h, living_le (span 0 (max r.through c.args.chunk.now.forward) ∷ r.above) r.runs, c.self.invariant.sound.bytes)
+
+pub held_after-held-requires-clause-near : goal.held_after-held-requires-clause-near
+held_after-held-requires-clause-near c =
+    let r = c.self.inside in
+    ends_near r.through r.above r.runs c.self.invariant.sound.alive c.self.invariant.known c.self.invariant.sound.window
 
 pub returns : goal.returns
 returns c =

@@ -7,7 +7,7 @@ use Rattle.flow_recv.specs.Outcome.{refusal}
 use Rattle.flow_recv.specs.Sound.{Sound}
 use Rattle.flow_recv.specs.Order.{Laid, InOrder}
 use Rattle.flow_recv.proofs.Knowing.{apart_formed, apart_add}
-use Rattle.flow_recv.proofs.Taking.{not_beyond, added_small}
+use Rattle.flow_recv.proofs.Taking.{not_beyond, added_small, held_small}
 use Rattle.flow_recv.proofs.Ready.{receiver}
 use Rattle.flow_recv.proofs.Placing.{free_from}
 use Rattle.flow_recv.proofs.Sounds.{held_runs, runs_are, taken_is, sound_taken}
@@ -114,3 +114,13 @@ returns-clause-taken c = subst (λ (v : Receiver). New c ≡ taken v (chunk_of c
 
 pub returns-clause-sound : goal.returns-clause-sound
 returns-clause-sound c = is_sound c
+
+pub admit-requires-clause-few : goal.admit-requires-clause-few
+admit-requires-clause-few c a m =
+    let i = c.self.inside in
+    let d = chunk_of c.args.chunk.now in
+    let r = receiver i.arriving i.through i.above i.runs i.last i.highest in
+    let none : refusal c.args.self.now d ≡ None = search rules in
+    let none' : refusal r d ≡ None = subst (λ (v : Receiver). refusal v d ≡ None) (sym c.self.view_is) none in
+    let lack = sym (c.lacks-missing.ensures ∙ ap (λ n. lacks (span 0 i.through ∷ i.above) n) c.from.ensures) ∙ m in
+    omega (arith, held_small r d c.requires.below (not_beyond r d none') a lack, c.self.invariant.sound.bytes)
