@@ -20,4 +20,4 @@ pub mod Holding
 pub mod Orders
 pub mod Followed
 pub mod Passing
-pub mod Turning
+pub mod Walking

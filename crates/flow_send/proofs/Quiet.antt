@@ -1,11 +1,13 @@
 -- Where no message can be overdue.
-use Rattle.std.proofs.Common.{◌≡◌, ◌⊎◌, ℕ, zero, suc, cond, ◌+◌, ◌<◌, ◌≤◌, nat_le, Bool, true, false, ◌&&◌, ◌||◌, List, [], ◌∷◌, ◌++◌, length, get_or, take, drop, Option, Some, None, refl, ap, sym, ◌∙◌, subst, arith, inl, inr}
-use Rattle.std.specs.List.{sum_by, remove}
+use Rattle.std.proofs.Common.{◌≡◌, ◌⊎◌, ℕ, zero, suc, cond, ◌+◌, ◌<◌, ◌≤◌, nat_le, ◌==◌, Bool, true, false, ◌&&◌, ◌||◌, List, [], ◌∷◌, ◌++◌, length, get_or, take, drop, Option, Some, None, refl, ap, sym, ◌∙◌, subst, arith, inl, inr}
+use Rattle.std.specs.List.{sum_by}
+use Rattle.std.specs.Map.{values_of}
+use Rattle.flow_send.specs.Steady.{Line}
 use Rattle.std.proofs.lemmas.Bool.{le-ltb}
 use Rattle.std.proofs.lemmas.List.Sums.{sum_by-cons}
 use Rattle.flow_send.specs.declared.waiting.Waiting.{Waiting}
 use Rattle.flow_send.specs.Rows.{Row, any_row, lost_of, is_lost}
-use Rattle.flow_send.specs.Sender.{has_number, is_past, is_spent, is_spent_row, is_overdue, first_overdue}
+use Rattle.flow_send.specs.Sender.{without_message, has_number, is_past, is_spent, is_spent_row, is_overdue, first_overdue}
 use Rattle.flow_send.specs.Deadlines.{IsNotBefore, NoneBefore, NoneLimited, Reach}
 use Rattle.flow_send.proofs.Summing.{zero_if}
 
@@ -67,20 +69,24 @@ none_limited_push : (ws : List Waiting) (w : Waiting) → NoneLimited ws → w.o
 none_limited_push [] w h e = (e, tt)
 none_limited_push (x ∷ ws) w h e = (h.0, none_limited_push ws w h.1 e)
 
-none_before_remove : (soonest at : ℕ) (ws : List Waiting) → NoneBefore soonest ws → NoneBefore soonest (remove ws at)
-none_before_remove soonest zero [] h = tt
-none_before_remove soonest (suc at) [] h = tt
-none_before_remove soonest zero (x ∷ ws) h = h.1
-none_before_remove soonest (suc at) (x ∷ ws) h = (h.0, none_before_remove soonest at ws h.1)
+none_before_without : (soonest n : ℕ) (ws : List Waiting) → NoneBefore soonest ws → NoneBefore soonest (without_message n ws)
+none_before_without soonest n [] h = tt
+none_before_without soonest n (x ∷ ws) h = without_if (x.number == n) (none_before_without soonest n ws h.1)
+  where
+    without_if : (t : Bool) → NoneBefore soonest (without_message n ws) → NoneBefore soonest (cond t ws (x ∷ without_message n ws))
+    without_if true k = h.1
+    without_if false k = (h.0, k)
 
-none_limited_remove : (at : ℕ) (ws : List Waiting) → NoneLimited ws → NoneLimited (remove ws at)
-none_limited_remove zero [] h = tt
-none_limited_remove (suc at) [] h = tt
-none_limited_remove zero (x ∷ ws) h = h.1
-none_limited_remove (suc at) (x ∷ ws) h = (h.0, none_limited_remove at ws h.1)
+none_limited_without : (n : ℕ) (ws : List Waiting) → NoneLimited ws → NoneLimited (without_message n ws)
+none_limited_without n [] h = tt
+none_limited_without n (x ∷ ws) h = without_if (x.number == n) (none_limited_without n ws h.1)
+  where
+    without_if : (t : Bool) → NoneLimited (without_message n ws) → NoneLimited (cond t ws (x ∷ without_message n ws))
+    without_if true k = h.1
+    without_if false k = (h.0, k)
 
-pub reach_remove : (soonest : ℕ) (limited : Bool) (at : ℕ) (ws : List Waiting) → Reach soonest limited ws → Reach soonest limited (remove ws at)
-reach_remove soonest limited at ws r = record { deadlines = none_before_remove soonest at ws r.deadlines; limits = λ e. none_limited_remove at ws (r.limits e) }
+pub reach_without : (soonest : ℕ) (limited : Bool) (n : ℕ) (ws : List Waiting) → Reach soonest limited ws → Reach soonest limited (without_message n ws)
+reach_without soonest limited n ws r = record { deadlines = none_before_without soonest n ws r.deadlines; limits = λ e. none_limited_without n ws (r.limits e) }
 
 -- one message more
 pub reach_push : (before soonest latest : ℕ) (limited after : Bool) (ws : List Waiting) (w : Waiting) → Reach before limited ws → soonest ≤ before → soonest ≤ latest → IsNotBefore latest w.options.deadline
@@ -92,23 +98,34 @@ reach_push before soonest latest limited after ws w r lb ll d e = record {
 
 -- ---- a walk over all messages
 
-pub before_more : (before soonest latest at : ℕ) (ws : List Waiting) (w : Waiting) → NoneBefore before (take at ws) → at < length ws → w ≡ get_or ws at w → soonest ≤ before → soonest ≤ latest → IsNotBefore latest w.options.deadline
-    → NoneBefore soonest (take (at + 1) ws)
-before_more before soonest latest at [] w h lt e lb ll d = absurd (omega arith)
-before_more before soonest latest zero (x ∷ ws) w h lt e lb ll d = (subst (λ (y : Waiting). IsNotBefore soonest y.options.deadline) e (not_before_lower soonest latest w.options.deadline ll d), tt)
-before_more before soonest latest (suc at) (x ∷ ws) w h lt e lb ll d =
-    let k : suc at + 1 ≡ suc (at + 1) = omega arith in
-    subst (λ (i : ℕ). NoneBefore soonest (take i (x ∷ ws))) (sym k)
-    (not_before_lower soonest before x.options.deadline lb h.0, before_more before soonest latest at ws w h.1 (omega (arith, lt)) e lb ll d)
-
 skip_if : (t : Bool) (n : ℕ) (rest : Option ℕ) → t ≡ false → cond t (Some n) rest ≡ rest
 skip_if true n rest e = absurd cc
 skip_if false n rest e = refl
 
-pub none_here : (moment n : ℕ) (rows : List Row) (at : ℕ) (ws : List Waiting) (w : Waiting) → at < length ws → w ≡ get_or ws at w → is_overdue moment n rows w ≡ false
-    → first_overdue moment n rows (drop at ws) ≡ first_overdue moment n rows (drop (at + 1) ws)
-none_here moment n rows at [] w lt e f = absurd (omega arith)
-none_here moment n rows zero (x ∷ ws) w lt e f = skip_if (is_overdue moment n rows x) x.number (first_overdue moment n rows ws) (ap (is_overdue moment n rows) (sym e) ∙ f)
-none_here moment n rows (suc at) (x ∷ ws) w lt e f =
-    let k : suc at + 1 ≡ suc (at + 1) = omega arith in
-    none_here moment n rows at ws w (omega (arith, lt)) e f ∙ ap (λ i. first_overdue moment n rows (drop i (x ∷ ws))) (sym k)
+find_if : (t : Bool) (n : ℕ) (rest : Option ℕ) → t ≡ true → cond t (Some n) rest ≡ Some n
+find_if true n rest e = refl
+find_if false n rest e = absurd cc
+
+pub look_on : (moment n : ℕ) (rows : List Row) (it later : List (ℕ × Waiting)) (k : ℕ) (w : Waiting) → it ≡ (k, w) ∷ later → is_overdue moment n rows w ≡ false
+    → first_overdue moment n rows (values_of it) ≡ first_overdue moment n rows (values_of later)
+look_on moment n rows it later k w e f = ap (λ (es : List (ℕ × Waiting)). first_overdue moment n rows (values_of es)) e ∙ skip_if (is_overdue moment n rows w) w.number (first_overdue moment n rows (values_of later)) f
+
+pub look_found : (moment n : ℕ) (rows : List Row) (it later : List (ℕ × Waiting)) (k : ℕ) (w : Waiting) → it ≡ (k, w) ∷ later → is_overdue moment n rows w ≡ true
+    → first_overdue moment n rows (values_of it) ≡ Some w.number
+look_found moment n rows it later k w e f = ap (λ (es : List (ℕ × Waiting)). first_overdue moment n rows (values_of es)) e ∙ find_if (is_overdue moment n rows w) w.number (first_overdue moment n rows (values_of later)) f
+
+pub look_before : (s soonest latest : ℕ) (it later : List (ℕ × Waiting)) (k : ℕ) (w : Waiting) → it ≡ (k, w) ∷ later → s ≤ latest → IsNotBefore latest w.options.deadline → NoneBefore s (values_of later) → NoneBefore s (values_of it)
+look_before s soonest latest it later k w e le d h = subst (λ (es : List (ℕ × Waiting)). NoneBefore s (values_of es)) (sym e) (not_before_lower s latest w.options.deadline le d, h)
+
+low_line : (low high : ℕ) (ws : List Waiting) → Line low high ws → Line 0 high ws
+low_line low high [] h = omega arith
+low_line low high (w ∷ later) h = (omega arith, h.1, h.2)
+
+ends_in : (low high : ℕ) (ws : List Waiting) → Line low high ws → low ≤ high
+ends_in low high [] h = h
+ends_in low high (w ∷ later) h = omega (arith, h.0, ends_in (w.number + w.count) high later h.2)
+
+pub look_line : (high : ℕ) (it later : List (ℕ × Waiting)) (k : ℕ) (w : Waiting) → it ≡ (k, w) ∷ later → Line 0 high (values_of it) → (w.number + w.count ≤ high) × Line 0 high (values_of later)
+look_line high it later k w e h =
+    let g = subst (λ (es : List (ℕ × Waiting)). Line 0 high (values_of es)) e h in
+    (ends_in (w.number + w.count) high (values_of later) g.2, low_line (w.number + w.count) high (values_of later) g.2)

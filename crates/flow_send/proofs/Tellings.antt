@@ -1,7 +1,7 @@
 -- What an ack tells, span by span.
 use Rattle.std.proofs.Common.{◌≡◌, ℕ, ◌+◌, ◌-◌, ◌<◌, ◌≤◌, nat_le, nat_lt, max, min, cond, not, Bool, true, false, ◌&&◌, ◌||◌, List, [], ◌∷◌, Some, length, drop, refl, ap, sym, ◌∙◌, arith, inl, inr}
 use Rattle.std.specs.List.{list_any, sum_by, filter}
-use Rattle.std.proofs.lemmas.Bool.{cases_lt, leb-true}
+use Rattle.std.proofs.lemmas.Bool.{cases_lt, leb-true, ltb-true, le-leb, lt-ltb}
 use Rattle.std.proofs.lemmas.Bool.Decides.{nat_tests}
 use Rattle.std.proofs.lemmas.List.Sums.{sum_by-cons}
 use Rattle.flow_send.specs.declared.state.State.TheVariants.{Acknowledged}
@@ -9,7 +9,9 @@ use Rattle.flow_send.specs.declared.waiting.Waiting.{Waiting}
 use Rattle.flow_send.specs.Rows.{Row, is_acknowledged, is_abandoned, is_settled, let_go, map_rows, most_rows, stored_of, settled_front, between, any_between, most_between}
 use Rattle.flow_send.specs.Sender.{sender_of, Sender, has_number}
 use Rattle.flow_send.specs.Acks.{Told, in_span, tells, greatest, new_bytes, new_ordinal, last_ordinal, acknowledge, acknowledge_row, count_ack, is_third, rows_acknowledged, rows_told, makes_lost, still_waits, told_by}
-use Rattle.flow_send.specs.Steady.{AllOk, Line, AllWait, Late, Steady}
+use Rattle.rtmfp_data_chunks.specs.HandsOver.{IsIn}
+use Rattle.flow_send.specs.Messages.{touches, touched, OthersWait}
+use Rattle.flow_send.specs.Steady.{AllOk, AllWait, Steady}
 use Rattle.flow_send.proofs.Between.{between_none, most_none}
 use Rattle.flow_send.proofs.Numbered.{map_between, most_row_between, span_between, map_is}
 use Rattle.flow_send.proofs.Keeping.{waits_map}
@@ -184,38 +186,60 @@ acked_bytes a sent n [] h = omega arith
 acked_bytes a sent n (r ∷ rows) h =
     omega (arith, row_bytes a n r (tells a n) h.0.empty, acked_bytes a sent (n + 1) rows h.1, sum_by-cons stored_of r rows, sum_by-cons stored_of (acknowledge a n r) (map_rows (acknowledge a) (n + 1) rows))
 
--- a message above what is told waits as before
-above_if : (a : Told) (g k : ℕ) (r : Row) (t : Bool) → tells a k ≡ t → (tells a k ≡ true → k ≤ g) → g < k → is_settled (cond t (acknowledge_row r) r).state ≡ is_settled r.state
-above_if a g k r true e h lt = absurd (omega (arith, h e, lt))
-above_if a g k r false e h lt = refl
+-- a message of which nothing is told waits as before
+untold_if : (a : Told) (k : ℕ) (r : Row) (t : Bool) → tells a k ≡ t → (tells a k ≡ true → ⊥) → is_settled (cond t (acknowledge_row r) r).state ≡ is_settled r.state
+untold_if a k r true e h = absurd (h e)
+untold_if a k r false e h = refl
 
-told_waits : (a : Told) (s : Sender) (w : Waiting) → greatest a.upto a.spans < w.number → still_waits (s.forward + 1) (rows_told a s) w ≡ still_waits (s.forward + 1) s.rows w
-told_waits a s w lt =
+told_waits : (a : Told) (s : Sender) (w : Waiting) → ((k : ℕ) → has_number w k ≡ true → tells a k ≡ true → ⊥) → still_waits (s.forward + 1) (rows_told a s) w ≡ still_waits (s.forward + 1) s.rows w
+told_waits a s w h =
     let n = s.forward + 1 in
     let ordinal = last_ordinal a n s.rows in
-    let g = greatest a.upto a.spans in
     ap (λ (xs : List Row). still_waits n xs w) (map_is (count_ack ordinal) n (rows_acknowledged a s))
     ∙ (waits_map (λ k r. count_ack ordinal r) n (rows_acknowledged a s) w (λ k r le e. count_settled ordinal r)
-    ∙ waits_map (acknowledge a) n s.rows w (λ k r le e. above_if a g k r (tells a k) refl (told_below a k) (omega (arith, lt, low_of w k e))))
+    ∙ waits_map (acknowledge a) n s.rows w (λ k r le e. untold_if a k r (tells a k) refl (h k e)))
+
+both_true : (a b : Bool) → (a && b) ≡ true → (a ≡ true) × (b ≡ true)
+both_true true b e = (refl, e)
+both_true false b e = absurd cc
+
+touch_at : (low high k : ℕ) (w : Waiting) → has_number w k ≡ true → low ≤ k → k ≤ high → touches low high w ≡ true
+touch_at low high k w e lo hi =
+    let p = both_true (nat_le w.number k) (nat_lt k (w.number + w.count)) e in
+    let a = leb-true w.number k p.0 in
+    let b = ltb-true k (w.number + w.count) p.1 in
+    rw (le-leb w.number high (omega (arith, a, hi)), lt-ltb low (w.number + w.count) (omega (arith, b, lo))) refl
+
+or_right : (a b : Bool) → b ≡ true → (a || b) ≡ true
+or_right true b e = refl
+or_right false b e = e
+
+span_touches : (spans : List (ℕ × ℕ)) (k : ℕ) (w : Waiting) → has_number w k ≡ true → list_any (in_span k) spans ≡ true → touched spans w ≡ true
+span_touches [] k w e f = absurd cc
+span_touches (p ∷ spans) k w e f = touch_if (in_span k p) refl f (λ h. span_touches spans k w e h)
   where
-    first_true : (a b : Bool) → (a && b) ≡ true → a ≡ true
-    first_true true b e = refl
-    first_true false b e = absurd cc
+    touch_if : (t : Bool) → in_span k p ≡ t → (t || list_any (in_span k) spans) ≡ true → (list_any (in_span k) spans ≡ true → touched spans w ≡ true) → (touches p.0 p.1 w || touched spans w) ≡ true
+    touch_if true g h ih =
+        let q = both_true (nat_le p.0 k) (nat_le k p.1) g in
+        ap (λ x. x || touched spans w) (touch_at p.0 p.1 k w e (leb-true p.0 k q.0) (leb-true k p.1 q.1))
+    touch_if false g h ih = or_right (touches p.0 p.1 w) (touched spans w) (ih h)
 
-    low_of : (w : Waiting) (k : ℕ) → has_number w k ≡ true → w.number ≤ k
-    low_of w k e = leb-true w.number k (first_true (nat_le w.number k) (nat_lt k (w.number + w.count)) e)
+tell_touches : (a : Told) (k : ℕ) (w : Waiting) → has_number w k ≡ true → tells a k ≡ true → touched ((0, a.upto) ∷ a.spans) w ≡ true
+tell_touches a k w e f = touch_if (nat_le k a.upto) refl f
+  where
+    touch_if : (t : Bool) → nat_le k a.upto ≡ t → (t || list_any (in_span k) a.spans) ≡ true → (touches 0 a.upto w || touched a.spans w) ≡ true
+    touch_if true g h = ap (λ x. x || touched a.spans w) (touch_at 0 a.upto k w e (omega arith) (leb-true k a.upto g))
+    touch_if false g h = or_right (touches 0 a.upto w) (touched a.spans w) (span_touches a.spans k w e h)
 
-all_above : (n g low high : ℕ) (rows later : List Row) (ws : List Waiting) → ((w : Waiting) → g < w.number → still_waits n later w ≡ still_waits n rows w) → g < low → Line low high ws → AllWait n rows ws → AllWait n later ws
-all_above n g low high rows later [] h lt l a = tt
-all_above n g low high rows later (w ∷ ws) h lt l a = (h w (omega (arith, lt, l.0)) ∙ a.0, all_above n g (w.number + w.count) high rows later ws h (omega (arith, lt, l.0)) l.2 a.1)
+wait_in : (n : ℕ) (rows : List Row) (ws : List Waiting) (w : Waiting) → AllWait n rows ws → IsIn w ws → still_waits n rows w ≡ true
+wait_in n rows [] w h i = absurd i
+wait_in n rows (x ∷ ws) w h i = elim i [
+  | inl e ↦ ap (λ (y : Waiting). still_waits n rows y) e ∙ h.0
+  | inr j ↦ wait_in n rows ws w h.1 j
+]
 
-late_from : (n g low high : ℕ) (rows later : List Row) (ws : List Waiting) → ((w : Waiting) → g < w.number → still_waits n later w ≡ still_waits n rows w) → Line low high ws → AllWait n rows ws → Late g n later ws
-late_from n g low high rows later [] h l a = tt
-late_from n g low high rows later (w ∷ ws) h l a =
-    (λ lt. (h w lt ∙ a.0, all_above n g (w.number + w.count) high rows later ws h (omega (arith, lt)) l.2 a.1), late_from n g (w.number + w.count) high rows later ws h l.2 a.1)
-
-pub late_told : (a : Told) (s : Sender) (high : ℕ) → Line 0 high s.waiting → AllWait (s.forward + 1) s.rows s.waiting → Late (greatest a.upto a.spans) (s.forward + 1) (rows_told a s) s.waiting
-late_told a s high l k = late_from (s.forward + 1) (greatest a.upto a.spans) 0 high s.rows (rows_told a s) s.waiting (told_waits a s) l k
+pub others_told : (a : Told) (s : Sender) → AllWait (s.forward + 1) s.rows s.waiting → OthersWait a.upto a.spans (s.forward + 1) (rows_told a s) s.waiting
+others_told a s h w i u = told_waits a s w (λ k e f. let t : true ≡ false = sym (tell_touches a k w e f) ∙ u in cc) ∙ wait_in (s.forward + 1) s.rows s.waiting w h i
 
 -- what the code leaves of the rows is what the ack leaves
 pub counted_rows : (a : Told) (s : Sender) (ordinal to : ℕ) (once rows : List Row) → Steady s → greatest a.upto a.spans ≤ s.sent → once ≡ rows_acknowledged a s → ordinal ≡ last_ordinal a (s.forward + 1) s.rows → to ≡ s.sent - s.forward

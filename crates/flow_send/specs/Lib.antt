@@ -12,3 +12,4 @@ pub mod Edges
 pub mod Calls
 pub mod Counted
 pub mod Passed
+pub mod Messages

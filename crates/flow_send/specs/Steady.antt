@@ -73,22 +73,3 @@ pub record IsBounded (s : Sender) : Type 0 where
   pub bytes : bytes_held s ≤ 2097152
   pub fragments : fragments_held s ≤ 65536
   pub each : AllShort s.rows
-
--- each message from the first one on that begins above a number still waits
-abbrev pub Late : ℕ → ℕ → List Row → List Waiting → Type 0
-Late greatest n rows [] = Unit {0}
-Late greatest n rows (w ∷ later) = (greatest < w.number → AllWait n rows (w ∷ later)) ×
-    Late greatest n rows later
-
--- the first message passes a test, and ends by a number; the messages with the first one behind
-abbrev pub front_passes : (Waiting → Bool) → List Waiting → Bool
-front_passes test [] = false
-front_passes test (w ∷ later) = test w
-
-abbrev pub FrontEnds : ℕ → List Waiting → Type 0
-FrontEnds high [] = Unit {0}
-FrontEnds high (w ∷ later) = w.number + w.count ≤ high
-
-abbrev pub turned : List Waiting → List Waiting
-turned [] = []
-turned (w ∷ later) = later ++ w ∷ []

@@ -3,6 +3,7 @@
 ghost use Rattle.std.specs.Prelude.{◌≡◌, ◌+◌, ◌-◌, ◌<◌, ◌≤◌, ◌^◌, length, false, None};
 ghost use Rattle.flow_send.specs.Sender.{is_past, is_spent, is_overdue, give_up};
 ghost use Rattle.flow_send.specs.Acks.{still_waits};
+ghost use Rattle.flow_send.specs.Messages.{touches};
 ghost use Rattle.flow_send.specs.Deadlines.{IsNotBefore};
 ghost use Rattle.flow_send.specs.Rows.{map_rows};
 
@@ -53,6 +54,13 @@ impl Waiting {
     {
         let _all = rows.len();
         rows.waits(self.from(forward), self.to(forward))
+    }
+
+    /// Whether it has one of the numbers between two.
+    pub fn touches(&self, low: u64, high: u64) -> bool
+        ensures { result ≡ touches low high self.now }
+    {
+        self.number <= high && u128::from(low) < u128::from(self.number) + u128::from(self.count)
     }
 
     /// Abandons those of its numbers that aren't acknowledged.

@@ -1,10 +1,15 @@
-use Rattle.std.proofs.Common.{◌+◌, ◌-◌, ◌≤◌}
+use Rattle.std.proofs.Common.{◌≡◌, ◌+◌, length}
+use Rattle.std.specs.List.{filter}
 use Rattle.flow_send.specs.Acks.{still_waits}
-use Rattle.flow_send.proofs.Turning.{Goes}
+use Rattle.flow_send.specs.Steady.{Line}
+use Rattle.flow_send.proofs.Walking.{passes}
 use Rattle.flow_send.proofs.backlog.Backlog.drop_done.Given as goal
 
-abbrev pub invariant-loop-at : goal.invariant-loop-at
-invariant-loop-at l = Goes (still_waits (l.forward + 1) l.rows.rows) l.fn.self l.self l.at l.kept × (l.kept ≤ l.at)
+abbrev pub invariant-loop-first : goal.invariant-loop-first
+invariant-loop-first l = record {
+  kept : filter (passes (l.forward + 1) l.rows.rows l.left) l.self ≡ filter (still_waits (l.forward + 1) l.rows.rows) l.fn.self;
+  line : Line 0 (l.forward + 1 + length l.rows.rows) l.self;
+}
 
-abbrev pub decreases-loop-at : goal.decreases-loop-at
-decreases-loop-at l = l.all - l.at
+abbrev pub decreases-loop-first : goal.decreases-loop-first
+decreases-loop-first l = length l.left

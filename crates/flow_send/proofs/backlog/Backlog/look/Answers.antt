@@ -1,25 +1,40 @@
-use Rattle.std.proofs.Common.{◌≡◌, ◌+◌, ◌<◌, List, length, get_or, ap, sym, ◌∙◌, arith}
+use Rattle.std.proofs.Common.{ℕ, ◌≡◌, ◌+◌, ◌∷◌, [], List, length, true, false, None, ap, sym, ◌∙◌, subst, arith}
+use Rattle.std.specs.Map.{values_of}
 use Rattle.flow_send.specs.declared.waiting.Waiting.{Waiting}
-use Rattle.flow_send.proofs.Lining.{line_at}
-use Rattle.flow_send.proofs.Quiet.{none_here, before_more}
+use Rattle.flow_send.specs.Sender.{first_overdue}
+use Rattle.flow_send.specs.Steady.{Line}
+use Rattle.flow_send.proofs.Quiet.{look_on, look_found, look_before, look_line}
 use Rattle.flow_send.proofs.backlog.Backlog.look.Goals as goal
+
+pub loop-message-init : goal.loop-message-init
+loop-message-init c =
+    let n = c.args.forward + 1 in
+    let rows = c.args.rows.now.rows in
+    let e = ap (λ (es : List (ℕ × Waiting)). values_of es) c.into_iter-message-iterator.ensures.into_iter_gives ∙ (c.iter-message-items.ensures ∙ c.self.view_is) in
+    record {
+      first = sym (ap (λ (ws : List Waiting). first_overdue c.args.moment n rows ws) e);
+      soonest = λ s le h. subst (λ (ws : List Waiting). Rattle.flow_send.specs.Deadlines.NoneBefore s ws) e h;
+      line = subst (Line 0 (n + length rows)) (sym e) c.requires;
+    }
 
 pub is_overdue-requires : goal.is_overdue-requires
 is_overdue-requires c =
-    let ws = c.args.self.now in
-    let w = c.index.result.now in
-    let e : w ≡ get_or ws c.loop-at.at w = c.index.ensures ∙ ap (λ (xs : List Waiting). get_or xs c.loop-at.at w) c.self.view_is in
-    let lt : c.loop-at.at < length ws = omega (arith, ap (λ (xs : List Waiting). length xs) c.self.view_is, c.len-at-end.ensures, c.self.inside.messages.ok) in
-    line_at 0 (c.args.forward + 1 + length c.args.rows.now.rows) c.loop-at.at w ws c.requires lt e
+    (look_line (c.args.forward + 1 + length c.args.rows.now.rows) c.loop-message.message-iterator c.next.new.self c.in-Some.field-0-0.now c.in-Some.message.now c.in-Some.ensures.steps c.loop-message.invariant.line).0
 
-pub loop-at-preserved : goal.loop-at-preserved
-loop-at-preserved c =
-    let ws = c.args.self.now in
-    let at = c.loop-at.at in
-    let w = c.index.result.now in
-    let e : w ≡ get_or ws at w = c.index.ensures ∙ ap (λ (xs : List Waiting). get_or xs at w) c.self.view_is in
-    let lt : at < length ws = omega (arith, ap (λ (xs : List Waiting). length xs) c.self.view_is, c.len-at-end.ensures, c.self.inside.messages.ok) in
+pub loop-message-preserved : goal.loop-message-preserved
+loop-message-preserved c =
+    let n = c.args.forward + 1 in
+    let rows = c.args.rows.now.rows in
+    let it = c.loop-message.message-iterator in
+    let k = c.in-Some.field-0-0.now in
+    let w = c.in-Some.message.now in
+    let e = c.in-Some.ensures.steps in
     record {
-      first = c.loop-at.invariant.first ∙ none_here c.args.moment (c.args.forward + 1) c.args.rows.now.rows at ws w lt e (sym c.is_overdue.ensures ∙ c.if-is_overdue.false);
-      soonest = before_more c.loop-at.soonest c.min-soonest.result c.latest.result at ws w c.loop-at.invariant.soonest lt e (omega arith) (omega arith) c.latest.ensures;
+      first = c.loop-message.invariant.first ∙ look_on c.args.moment n rows it c.next.new.self k w e (sym c.is_overdue.ensures ∙ c.if-is_overdue.false);
+      soonest = λ s le h. c.loop-message.invariant.soonest s (omega (arith, le)) (look_before s c.loop-message.soonest c.latest.result it c.next.new.self k w e (omega (arith, le)) c.latest.ensures h);
+      line = (look_line (n + length rows) it c.next.new.self k w e c.loop-message.invariant.line).1;
     }
+
+pub returns-then-is_overdue-clause-first : goal.returns-then-is_overdue-clause-first
+returns-then-is_overdue-clause-first c =
+    sym (c.loop-message.invariant.first ∙ look_found c.args.moment (c.args.forward + 1) c.args.rows.now.rows c.loop-message.message-iterator c.next.new.self c.in-Some.field-0-0.now c.in-Some.message.now c.in-Some.ensures.steps (sym c.is_overdue.ensures ∙ c.if-is_overdue.true))

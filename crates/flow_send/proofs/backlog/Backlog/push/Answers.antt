@@ -1,5 +1,6 @@
 use Rattle.std.proofs.Common.{◌≡◌, ◌++◌, ◌∷◌, [], List, false, None, ap, sym, ◌∙◌, subst, arith}
-use Rattle.std.proofs.lemmas.Grind.{common_steps}
+use Rattle.std.specs.List.{sum_by}
+use Rattle.std.proofs.lemmas.List.Sums.{sum_by_push}
 use Rattle.flow_send.specs.declared.waiting.Waiting.{Waiting}
 use Rattle.flow_send.specs.Deadlines.{Reach}
 use Rattle.flow_send.proofs.Quiet.{reach_push}
@@ -16,4 +17,9 @@ invariant_of-self-2 c =
     ] in
     let r : Reach c.min-self-inside.result c.if-limited.self (ws ++ w ∷ []) =
     reach_push c.reach-soonest.result.0 c.min-self-inside.result c.latest.result c.reach-soonest.result.1 c.if-limited.self ws w c.reach-soonest.ensures (omega arith) (omega arith) c.latest.ensures none in
-    (grind (arith, common_steps), grind (arith, common_steps), subst (λ (xs : List Waiting). Reach c.min-self-inside.result c.if-limited.self xs) (ap (λ (xs : List Waiting). xs ++ w ∷ []) (sym c.self.view_is) ∙ sym c.in_ok-push_back.ensures.items) r)
+    let i = c.self.inside in
+    let e = c.in_ok-push.ensures.pushed in (
+      omega (arith, ap (λ (xs : List Waiting). sum_by (λ (v : Waiting). v.size) xs) e, sum_by_push (λ (v : Waiting). v.size) i.messages w, c.self.invariant.0),
+      omega (arith, ap (λ (xs : List Waiting). sum_by (λ (v : Waiting). v.count) xs) e, sum_by_push (λ (v : Waiting). v.count) i.messages w, c.self.invariant.1),
+      subst (λ (xs : List Waiting). Reach c.min-self-inside.result c.if-limited.self xs) (ap (λ (xs : List Waiting). xs ++ w ∷ []) (sym c.self.view_is) ∙ sym e) r,
+    )

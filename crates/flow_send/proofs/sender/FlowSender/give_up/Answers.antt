@@ -3,22 +3,11 @@ use Rattle.flow_send.specs.Rows.{Row, settled_front, map_rows}
 use Rattle.flow_send.specs.Sender.{sender_of, message_at, without_message, give_up}
 use Rattle.flow_send.specs.Steady.{Steady, end_of}
 use Rattle.flow_send.proofs.Ends.{inside_rows, next_small, settle_eq}
-use Rattle.flow_send.proofs.Lining.{line_rises}
 use Rattle.flow_send.proofs.Keeping.{line_inside_at, front_fits}
 use Rattle.flow_send.proofs.Numbered.{map_length}
 use Rattle.flow_send.proofs.Steadies.{steady_abandoned}
 use Rattle.flow_send.proofs.Followed.{given}
 use Rattle.flow_send.proofs.sender.FlowSender.give_up.Goals as goal
-
-pub find-requires : goal.find-requires
-find-requires c =
-    let i = c.self.inside in
-    line_rises 0 (end_of (sender_of i.forward i.rows.rows i.waiting i.finish i.sent i.upto i.told i.notice i.order)) i.waiting c.self.invariant.0.line
-
-pub remove-requires : goal.remove-requires
-remove-requires c =
-    let i = c.self.inside in
-    line_rises 0 (end_of (sender_of i.forward i.rows.rows i.waiting i.finish i.sent i.upto i.told i.notice i.order)) i.waiting c.self.invariant.0.line
 
 pub give_up-requires : goal.give_up-requires
 give_up-requires c =

@@ -5,11 +5,13 @@ use Rattle.rtmfp_forms.specs.OptionReading.{options_in}
 use Rattle.flow_send.specs.declared.waiting.Waiting.{Waiting}
 use Rattle.flow_send.specs.Rows.{Row, stored_of}
 use Rattle.flow_send.specs.Sender.{sender_of, Sender, next_of, rows_of, waiting_of, queued}
-use Rattle.flow_send.specs.Steady.{Steady}
+use Rattle.flow_send.specs.Messages.{AllBelow}
+use Rattle.flow_send.specs.Steady.{Steady, end_of, line_end}
 use Rattle.flow_send.specs.Flow.{Flow, queue_refusal, next_message, with_sender}
 use Rattle.flow_send.proofs.Steadies.{steady_queued}
 use Rattle.flow_send.proofs.Queuings.{rows_stored, allowed}
 use Rattle.flow_send.proofs.Followed.{held}
+use Rattle.flow_send.proofs.Walking.{all_below}
 use Rattle.flow_send.proofs.sender.FlowSender.hold.Goals as goal
 use Rattle.flow_send.proofs.sender.FlowSender.hold.Goals.{After-append}
 
@@ -58,3 +60,12 @@ returns-clause-queued c =
     let i = c.self.inside in
     let F : Sender → Flow = λ t. record { id = i.id; options = options_in i.options.items; priority = i.priority; sender = t } in
     subst (λ (f : Flow). F (sender_of i.forward c.append.new.self.rows c.push.new.self i.finish i.sent i.upto i.told i.notice i.order) ≡ with_sender f (queued (next_message f.sender c.args.message.now) c.args.options f.sender)) c.self.view_is (ap F (after c))
+
+pub push-requires-clause-last : goal.push-requires-clause-last
+push-requires-clause-last c =
+    let i = c.self.inside in
+    let s = sender_of i.forward i.rows.rows i.waiting i.finish i.sent i.upto i.told i.notice i.order in
+    let a = allowed s (length c.args.message.now) (subst (λ (f : Flow). queue_refusal f.sender (length c.args.message.now) ≡ None) (sym c.self.view_is) c.requires.allowed) in
+    let number : c.args.number ≡ next_of s = c.requires.number ∙ ap (λ (f : Flow). next_of f.sender) (sym c.self.view_is) in
+    let end : end_of s ≡ c.args.number = ap (λ o. line_end o (next_of s)) a.unfinished ∙ sym number in
+    subst (λ n. AllBelow n i.waiting) end (all_below 0 (end_of s) i.waiting c.self.invariant.0.line)

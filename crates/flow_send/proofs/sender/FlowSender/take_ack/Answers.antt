@@ -3,14 +3,15 @@ use Rattle.std.specs.List.{sum_by}
 use Rattle.flow_send.specs.Rows.{Row, stored_of}
 use Rattle.flow_send.specs.Sender.{sender_of, Sender}
 use Rattle.flow_send.specs.Acks.{told, last_ordinal, greatest, acknowledge, new_bytes, rows_acknowledged, rows_told, makes_lost, told_by}
-use Rattle.flow_send.specs.Steady.{Steady, Line, Late}
+use Rattle.flow_send.specs.Messages.{OthersWait}
+use Rattle.flow_send.specs.Steady.{Steady, Line}
 use Rattle.flow_send.specs.Flow.{Flow, with_sender}
 use Rattle.flow_send.proofs.Ends.{line_rows, next_small}
 use Rattle.flow_send.proofs.Keeping.{front_fits}
 use Rattle.flow_send.proofs.Numbered.{map_length}
 use Rattle.flow_send.proofs.Steadies.{told_length, steady_told}
 use Rattle.flow_send.proofs.Followed.{acked_on, told_on, settled_on}
-use Rattle.flow_send.proofs.Tellings.{late_told, acked_bytes, counted_rows, counted_lost, told_eq}
+use Rattle.flow_send.proofs.Tellings.{others_told, acked_bytes, counted_rows, counted_lost, told_eq}
 use Rattle.flow_send.proofs.sender.FlowSender.take_ack.Goals as goal
 
 pub acknowledge-ordinal-requires : goal.acknowledge-ordinal-requires
@@ -61,8 +62,8 @@ drop_done-requires-clause-inside c =
     let n : length s.rows ≡ length c.count_acks-lost.new.rows.rows = sym (ap (λ (xs : List Row). length xs) rows ∙ told_length a s) in
     subst (λ (j : ℕ). Line 0 (s.forward + 1 + j) s.waiting) n (line_rows s k)
 
-pub drop_done-requires-clause-late : goal.drop_done-requires-clause-late
-drop_done-requires-clause-late c =
+pub drop_done-requires-clause-others : goal.drop_done-requires-clause-others
+drop_done-requires-clause-others c =
     let i = c.self.inside in
     let s = sender_of i.forward i.rows.rows i.waiting i.finish i.sent i.upto i.told i.notice i.order in
     let k : Steady s = c.self.invariant.0 in
@@ -71,8 +72,7 @@ drop_done-requires-clause-late c =
     let e : c.acknowledge-ordinal.new.rows.rows ≡ rows_acknowledged a s = c.acknowledge-ordinal.ensures.rows in
     let to : c.sent_rows-to.result ≡ s.sent - s.forward = c.sent_rows-to.ensures.count ∙ ap (λ (f : Flow). f.sender.sent - f.sender.forward) (sym c.self.view_is) in
     let rows : c.count_acks-lost.new.rows.rows ≡ rows_told a s = counted_rows a s c.acknowledge-ordinal.result c.sent_rows-to.result c.acknowledge-ordinal.new.rows.rows c.count_acks-lost.new.rows.rows k g e c.acknowledge-ordinal.ensures.ordinal to c.count_acks-lost.ensures.rows in
-    subst (λ (xs : List Row). Late c.greatest-greatest.result (s.forward + 1) xs s.waiting) (sym rows)
-    (subst (λ (j : ℕ). Late j (s.forward + 1) (rows_told a s) s.waiting) (sym c.greatest-greatest.ensures) (late_told a s (s.forward + 1 + length s.rows) (line_rows s k) k.waits))
+    subst (λ (xs : List Row). OthersWait c.args.upto c.args.spans (s.forward + 1) xs s.waiting) (sym rows) (others_told a s k.waits)
 
 pub overflow_add-self : goal.overflow_add-self
 overflow_add-self c =
