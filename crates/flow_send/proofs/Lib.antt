@@ -21,3 +21,4 @@ pub mod Orders
 pub mod Followed
 pub mod Passing
 pub mod Walking
+pub mod Lowest

@@ -11,7 +11,7 @@ use Rattle.flow_send.specs.Sender.{without_message, has_number, is_past, is_spen
 use Rattle.flow_send.specs.Deadlines.{IsNotBefore, NoneBefore, NoneLimited, Reach}
 use Rattle.flow_send.proofs.Summing.{zero_if}
 
-not_past : (deadline : Option ℕ) (soonest moment : ℕ) → IsNotBefore soonest deadline → moment ≤ soonest → is_past deadline moment ≡ false
+pub not_past : (deadline : Option ℕ) (soonest moment : ℕ) → IsNotBefore soonest deadline → moment ≤ soonest → is_past deadline moment ≡ false
 not_past None soonest moment h le = refl
 not_past (Some deadline) soonest moment h le = le-ltb deadline moment (omega (arith, h, le))
 
@@ -27,12 +27,12 @@ none_lost_any w limit n (r ∷ rows) e =
     and_lost (has_number w n) (is_lost r.state) (nat_le limit r.resends) (any_row (λ k r. has_number w k && is_spent_row limit r) (n + 1) rows) z.0 (none_lost_any w limit (n + 1) rows z.1)
 
 -- a message isn't spent where it has no limit, or no row is lost
-unspent : (limit : Option ℕ) (w : Waiting) (n : ℕ) (rows : List Row) → (limit ≡ None) ⊎ (sum_by lost_of rows ≡ 0) → is_spent limit w n rows ≡ false
+pub unspent : (limit : Option ℕ) (w : Waiting) (n : ℕ) (rows : List Row) → (limit ≡ None) ⊎ (sum_by lost_of rows ≡ 0) → is_spent limit w n rows ≡ false
 unspent None w n rows h = refl
 unspent (Some limit) w n rows (inl e) = absurd cc
 unspent (Some limit) w n rows (inr e) = none_lost_any w limit n rows e
 
-neither : (a b : Bool) → a ≡ false → b ≡ false → (a || b) ≡ false
+pub neither : (a b : Bool) → a ≡ false → b ≡ false → (a || b) ≡ false
 neither true b e f = absurd cc
 neither false b e f = f
 
@@ -53,7 +53,7 @@ none_overdue moment n soonest rows (w ∷ later) le h (inr z) =
 
 -- ---- what keeps it
 
-not_before_lower : (low high : ℕ) (deadline : Option ℕ) → low ≤ high → IsNotBefore high deadline → IsNotBefore low deadline
+pub not_before_lower : (low high : ℕ) (deadline : Option ℕ) → low ≤ high → IsNotBefore high deadline → IsNotBefore low deadline
 not_before_lower low high None le h = tt
 not_before_lower low high (Some deadline) le h = omega (arith, le, h)
 
@@ -113,9 +113,6 @@ look_on moment n rows it later k w e f = ap (λ (es : List (ℕ × Waiting)). fi
 pub look_found : (moment n : ℕ) (rows : List Row) (it later : List (ℕ × Waiting)) (k : ℕ) (w : Waiting) → it ≡ (k, w) ∷ later → is_overdue moment n rows w ≡ true
     → first_overdue moment n rows (values_of it) ≡ Some w.number
 look_found moment n rows it later k w e f = ap (λ (es : List (ℕ × Waiting)). first_overdue moment n rows (values_of es)) e ∙ find_if (is_overdue moment n rows w) w.number (first_overdue moment n rows (values_of later)) f
-
-pub look_before : (s soonest latest : ℕ) (it later : List (ℕ × Waiting)) (k : ℕ) (w : Waiting) → it ≡ (k, w) ∷ later → s ≤ latest → IsNotBefore latest w.options.deadline → NoneBefore s (values_of later) → NoneBefore s (values_of it)
-look_before s soonest latest it later k w e le d h = subst (λ (es : List (ℕ × Waiting)). NoneBefore s (values_of es)) (sym e) (not_before_lower s latest w.options.deadline le d, h)
 
 low_line : (low high : ℕ) (ws : List Waiting) → Line low high ws → Line 0 high ws
 low_line low high [] h = omega arith

@@ -251,7 +251,7 @@ reach_below low runs f h b = λ y i e.
     let q = in_apart 0 runs y z.0 h i g.0 (omega (arith, lt, g.1)) in
     let s = b.0 in omega (arith, q, g.1, s)
 
-reach_none_if : (low : ℕ) (runs : List Waiting) (o : Option ℕ) (y : Waiting) → IsFirstFrom low runs o → low ≤ y.number → message_at y.number runs ≡ Some y → is_left o y ≡ true
+pub reach_none_if : (low : ℕ) (runs : List Waiting) (o : Option ℕ) (y : Waiting) → IsFirstFrom low runs o → low ≤ y.number → message_at y.number runs ≡ Some y → is_left o y ≡ true
 reach_none_if low runs None y b le e = let n : None ≡ Some y = sym (b y.number le) ∙ e in absurd cc
 reach_none_if low runs (Some g) y b le e = le-leb g y.number (b.2 y.number le (is_some (message_at y.number runs) y e))
 

@@ -13,3 +13,4 @@ pub mod Calls
 pub mod Counted
 pub mod Passed
 pub mod Messages
+pub mod Lows

@@ -1,16 +1,17 @@
 //! The messages of a flow that are neither abandoned nor wholly acknowledged, by rising number.
 
-ghost use Rattle.std.specs.Prelude.{◌≡◌, ◌+◌, ◌<◌, ◌≤◌, ◌^◌, ◌∷◌, ◌++◌, [], OnOk, OnErr, List, ℕ};
-ghost use Rattle.std.specs.Prelude.{length, Some, None, true, not, ◌||◌, ◌==◌};
+ghost use Rattle.std.specs.Prelude.{◌≡◌, ◌+◌, ◌-◌, ◌<◌, ◌≤◌, ◌^◌, ◌∷◌, ◌++◌, [], OnOk, OnErr, List};
+ghost use Rattle.std.specs.Prelude.{ℕ, length, Some, None, true, not, ◌||◌, ◌==◌, IfSome};
 ghost use Rattle.std.specs.List.{sum_by, filter};
 ghost use Rattle.std.specs.Option.{is_some};
-ghost use Rattle.flow_send.specs.Sender.{message_at, without_message, first_number, is_past};
-ghost use Rattle.flow_send.specs.Sender.{is_spent, is_overdue, first_overdue};
+ghost use Rattle.flow_send.specs.Sender.{message_at, without_message, first_number, first_overdue};
 ghost use Rattle.flow_send.specs.Acks.{still_waits};
-ghost use Rattle.flow_send.specs.Deadlines.{NoneBefore, Reach};
+ghost use Rattle.flow_send.specs.Deadlines.{IsNotBefore, Unspent, Reach};
 ghost use Rattle.flow_send.specs.Steady.{Line};
-ghost use Rattle.flow_send.specs.Messages.{AllBelow, OthersWait, keeps, keeps_at};
+ghost use Rattle.flow_send.specs.Messages.{AllBelow, InLine, OthersWait, keeps, keeps_at};
+ghost use Rattle.flow_send.specs.Lows.{IsFoundIn, IsLowIn, AllInBlocks, overdue_in};
 
+use crate::lows::{Lows, PLACES, block_of};
 use crate::messages::Messages;
 use crate::rows::Rows;
 use crate::waiting::Waiting;
@@ -29,6 +30,7 @@ pub struct Backlog {
     soonest: u64,
     /// Whether a message may have a limit of resends.
     limited: bool,
+    lows: Lows,
 }
 
 impl Model for Backlog {
@@ -36,6 +38,7 @@ impl Model for Backlog {
     ghost use Rattle.std.specs.List.{sum_by};
     ghost use Rattle.flow_send.specs.declared.waiting.Waiting.{Waiting};
     ghost use Rattle.flow_send.specs.Deadlines.{Reach};
+    ghost use Rattle.flow_send.specs.Lows.{AreLows};
 
     ghost Value = { List Waiting };
 
@@ -43,7 +46,7 @@ impl Model for Backlog {
 
     ghost invariant = { λ b. (b.bytes ≡ sum_by (λ w. w.size) b.messages) ×
         (b.fragments ≡ sum_by (λ w. w.count) b.messages) ×
-        Reach b.soonest b.limited b.messages };
+        Reach b.soonest b.limited b.messages × AreLows b.lows b.messages };
 }
 
 impl Backlog {
@@ -56,6 +59,7 @@ impl Backlog {
             fragments: 0,
             soonest: u64::MAX,
             limited: false,
+            lows: Lows::new(alloc),
         }
     }
 
@@ -88,6 +92,7 @@ impl Backlog {
         ensures err { OnErr result (self.new ≡ self.old) }
     {
         let (soonest, limited) = self.reach();
+        self.lows.note(message.number, message.options.deadline)?;
         self.messages.push(message)?;
         self.bytes += message.size;
         self.fragments += message.count;
@@ -189,24 +194,169 @@ impl Backlog {
     fn is_quiet(&self, rows: &Rows, moment: u64) -> bool
         ensures { result ≡ true → (n : ℕ) → first_overdue moment n rows.now.rows self.now ≡ None }
     {
-        moment <= self.soonest && !(self.limited && rows.any_lost())
+        if moment > self.soonest {
+            return false;
+        }
+        self.is_unspent(rows)
     }
 
-    /// The number of the first message whose deadline or limit of resends is passed, and where none
-    /// is, a moment before which no deadline is.
-    fn look(&self, rows: &Rows, forward: u64, moment: u64) -> (Option<u64>, u64)
-        requires { Line 0 (forward + 1 + length rows.now.rows) self.now }
-        ensures first { result.0 ≡ first_overdue moment (forward + 1) rows.now.rows self.now }
-        ensures soonest { result.0 ≡ None → NoneBefore result.1 self.now }
+    /// Whether no limit of resends can be passed.
+    fn is_unspent(&self, rows: &Rows) -> bool
+        ensures { result ≡ true → Unspent rows.now.rows self.now }
     {
-        let mut soonest = u64::MAX;
+        if !self.limited {
+            return true;
+        }
+        !rows.any_lost()
+    }
+
+    /// The number of the first message whose deadline or limit of resends is passed, where each is
+    /// looked at.
+    fn look_at_all(&self, rows: &Rows, forward: u64, moment: u64) -> Option<u64>
+        requires { Line 0 (forward + 1 + length rows.now.rows) self.now }
+        ensures { result ≡ first_overdue moment (forward + 1) rows.now.rows self.now }
+    {
         for (_, message) in self.messages.iter() {
             if message.is_overdue(rows, forward, moment) {
-                return (Some(message.number), soonest);
+                return Some(message.number);
             }
-            soonest = soonest.min(message.latest());
         }
-        (None, soonest)
+        None
+    }
+
+    /// The same where no message has a limit of resends or no row is lost. Only those are looked at
+    /// that begin in a block with a deadline before the moment.
+    fn look_at_late(&self, rows: &Rows, forward: u64, moment: u64) -> Option<u64>
+        requires line { Line 0 (forward + 1 + length rows.now.rows) self.now }
+        requires unspent { Unspent rows.now.rows self.now }
+        ensures { result ≡ first_overdue moment (forward + 1) rows.now.rows self.now }
+    {
+        let (from, to) = self.blocks(rows, forward);
+        let mut next = self.lows.first_block(from, to, moment);
+        while let Some(block) = next {
+            let found = self.look_in(rows, forward, moment, block);
+            if found.is_some() {
+                return found;
+            }
+            next = self.lows.first_block(block + 1, to, moment);
+        }
+        None
+    }
+
+    /// The blocks that messages begin in, from one to before another.
+    fn blocks(&self, rows: &Rows, forward: u64) -> (u64, u64)
+        requires { Line 0 (forward + 1 + length rows.now.rows) self.now }
+        ensures within { AllInBlocks result.0 result.1 self.now }
+        ensures few { result.1 < 2 ^ 60 }
+    {
+        let first = self.messages.first().unwrap_or(0);
+        let last = u128::from(forward) + rows.len() as u128;
+        (block_of(first), (last / 64) as u64 + 1)
+    }
+
+    /// The first message of a block whose deadline or limit of resends is passed.
+    fn look_in(&self, rows: &Rows, forward: u64, moment: u64, block: u64) -> Option<u64>
+        requires { Line 0 (forward + 1 + length rows.now.rows) self.now }
+        ensures { IsFoundIn moment (forward + 1) rows.now.rows block self.now result }
+    {
+        let mut next = self.messages.from(block.saturating_mul(64));
+        while let Some(number) = next {
+            if block_of(number) > block {
+                break;
+            }
+            if self.is_overdue_in(rows, forward, moment, block, number) {
+                return Some(number);
+            }
+            next = self.messages.after(number);
+        }
+        None
+    }
+
+    /// Whether the message that begins at a number begins in a block and is overdue.
+    fn is_overdue_in(&self, rows: &Rows, forward: u64, moment: u64, block: u64, number: u64) -> bool
+        requires { Line 0 (forward + 1 + length rows.now.rows) self.now }
+        ensures { result ≡ overdue_in moment (forward + 1) rows.now.rows block
+            (message_at number self.now) }
+    {
+        match self.messages.at(number) {
+            Some(message) => {
+                block_of(message.number) == block && message.is_overdue(rows, forward, moment)
+            }
+            None => false,
+        }
+    }
+
+    /// A moment before which no deadline of the messages of a block is.
+    fn low_in(&self, block: u64) -> u64
+        requires { InLine 0 self.now }
+        ensures { IsLowIn block self.now result }
+    {
+        let mut low = u64::MAX;
+        let mut next = self.messages.from(block.saturating_mul(64));
+        while let Some(number) = next {
+            if block_of(number) > block {
+                break;
+            }
+            low = low.min(self.latest_at(number));
+            next = self.messages.after(number);
+        }
+        low
+    }
+
+    /// The deadline of the message that begins at a number, or the last moment.
+    fn latest_at(&self, number: u64) -> u64
+        ensures { IfSome (message_at number self.now)
+            (λ w. IsNotBefore result w.options.deadline) }
+    {
+        match self.messages.at(number) {
+            Some(message) => message.latest(),
+            None => u64::MAX,
+        }
+    }
+
+    /// Finds anew the moments of the blocks from one to before another that are before a moment, so
+    /// that they are passed over until the next deadline. Where two blocks may use one place, all
+    /// stays.
+    fn raise(&mut self, rows: &Rows, forward: u64, moment: u64, end: u64)
+        requires { Line 0 (forward + 1 + length rows.now.rows) self.old }
+        ensures { self.new ≡ self.old }
+    {
+        let (from, to) = self.blocks(rows, forward);
+        if to.saturating_sub(from) > PLACES {
+            return;
+        }
+        for block in from..end.min(to) {
+            self.raise_block(from, to, moment, block);
+        }
+    }
+
+    fn raise_block(&mut self, from: u64, to: u64, moment: u64, block: u64)
+        requires within { AllInBlocks from to self.old }
+        requires places { to - from ≤ 1028 }
+        requires low { from ≤ block }
+        requires high { block < to }
+        requires line { InLine 0 self.old }
+        ensures { self.new ≡ self.old }
+    {
+        if self.lows.at(block) >= moment {
+            return;
+        }
+        let low = self.low_in(block);
+        self.lows.set(block, low);
+    }
+
+    /// The number of the first message whose deadline or limit of resends is passed.
+    fn look(&self, rows: &Rows, forward: u64, moment: u64) -> Option<u64>
+        requires { Line 0 (forward + 1 + length rows.now.rows) self.now }
+        ensures { result ≡ first_overdue moment (forward + 1) rows.now.rows self.now }
+    {
+        if self.is_quiet(rows, moment) {
+            return None;
+        }
+        if self.is_unspent(rows) {
+            return self.look_at_late(rows, forward, moment);
+        }
+        self.look_at_all(rows, forward, moment)
     }
 
     /// Whether a message's deadline or limit of resends is passed.
@@ -214,27 +364,19 @@ impl Backlog {
         requires { Line 0 (forward + 1 + length rows.now.rows) self.now }
         ensures { result ≡ is_some (first_overdue moment (forward + 1) rows.now.rows self.now) }
     {
-        if self.is_quiet(rows, moment) {
-            return false;
-        }
-        self.look(rows, forward, moment).0.is_some()
+        self.look(rows, forward, moment).is_some()
     }
 
-    /// The number of the first message whose deadline or limit of resends is passed. Where none is,
-    /// the messages are looked at again only after the next deadline, or where a row is lost and a
-    /// message has a limit.
+    /// The number of the first message whose deadline or limit of resends is passed. The messages
+    /// before it are looked at again only after the next deadline of their blocks, or where a row
+    /// is lost and a message has a limit.
     pub fn first_overdue(&mut self, rows: &Rows, forward: u64, moment: u64) -> Option<u64>
         requires { Line 0 (forward + 1 + length rows.now.rows) self.old }
         ensures first { result ≡ first_overdue moment (forward + 1) rows.now.rows self.old }
         ensures same { self.new ≡ self.old }
     {
-        if self.is_quiet(rows, moment) {
-            return None;
-        }
-        let (number, soonest) = self.look(rows, forward, moment);
-        if number.is_none() {
-            self.soonest = soonest;
-        }
+        let number = self.look(rows, forward, moment);
+        self.raise(rows, forward, moment, block_of(number.unwrap_or(u64::MAX)));
         number
     }
 }

@@ -6,6 +6,7 @@ mod backlog;
 pub mod edges;
 mod fragments;
 pub mod laws;
+mod lows;
 mod messages;
 mod ordered;
 mod outcome;

@@ -1,0 +1,6 @@
+use Rattle.std.proofs.Common.{ℕ, ◌≤◌, ◌<◌}
+use Rattle.flow_send.specs.Lows.{low_at}
+use Rattle.flow_send.proofs.lows.Lows.first_block.Given as goal
+
+abbrev pub invariant-loop-block : goal.invariant-loop-block
+invariant-loop-block l = (b : ℕ) → l.from ≤ b → b < l.block → l.moment ≤ low_at l.self b
