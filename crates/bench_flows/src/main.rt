@@ -13,8 +13,8 @@
 //! once, and send them again. `wide COUNT` has one hear acks of 250 stretches each, which newly
 //! tell a number each. `abandons COUNT` has one abandon its messages from the middle on, and in
 //! `deadlines COUNT` they become overdue one after another, the last one first. `full COUNT` has a
-//! receiver with a full buffer refuse a hundred chunks that would pass so many beginnings of
-//! messages. The answer is the word, how many chunks there were, and how many messages were handed
+//! receiver with a full buffer refuse as many chunks as there are beginnings of messages that each
+//! of them would pass. The answer is the word, how many chunks there were, and how many messages were handed
 //! over, sent again, told, abandoned or refused.
 #![tactic(auto)]
 
@@ -441,8 +441,8 @@ fn deadlines(rt: &impl AllocGlobal, count: u64) -> Result<Moved, Memory> {
     })
 }
 
-/// A receiver whose buffer a whole message fills holds so many beginnings of others, and refuses a
-/// hundred chunks whose forward number would pass all of them.
+/// A receiver whose buffer a whole message fills holds so many beginnings of others, and refuses as
+/// many chunks whose forward number would pass all of them.
 fn full(rt: &impl AllocGlobal, count: u64) -> Result<Moved, Memory> {
     let mut to = FlowReceiver::new(rt.alloc(), 0);
     let count = count.min(31_000);
@@ -462,7 +462,7 @@ fn full(rt: &impl AllocGlobal, count: u64) -> Result<Moved, Memory> {
     }
     let last = count.saturating_mul(2).saturating_add(2200);
     let mut refused: u64 = 0;
-    for _ in 0..100 {
+    for _ in 0..count {
         let mut chunk = fragment(last + 3, Part::Whole, &[0x55; 1000]);
         chunk.forward = last;
         if to.take(&chunk).is_err() {
@@ -471,7 +471,7 @@ fn full(rt: &impl AllocGlobal, count: u64) -> Result<Moved, Memory> {
     }
     Ok(Moved {
         queued: 0,
-        chunks: 100,
+        chunks: count,
         handed: refused,
     })
 }
