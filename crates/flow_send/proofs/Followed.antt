@@ -12,12 +12,12 @@ use Rattle.flow_send.specs.Acks.{Told, tells, acknowledge, count_ack}
 use Rattle.flow_send.specs.Ordered.{Ordered, AllThere, Follows, IsAdded}
 use Rattle.flow_send.proofs.Numbered.{map_is}
 use Rattle.flow_send.proofs.Chosen.{put_is}
-use Rattle.flow_send.proofs.Orders.{KeepsFlight, count_flies, keeps_ordinal, follows_map, follows_append, follows_drop, follows_sent}
+use Rattle.flow_send.proofs.Orders.{KeepsFlight, IsSent, count_flies, keeps_ordinal, keeps_moment, follows_map, follows_append, follows_drop, follows_sent}
 
 -- ---- rows
 
 same : (r : Row) → KeepsFlight r r
-same r = λ e. (e, refl)
+same r = λ e. (e, refl, refl)
 
 give_if : (r : Row) (t u : Bool) → KeepsFlight r (cond t (cond u r (let_go Abandoned r)) r)
 give_if r true true = same r
@@ -29,21 +29,21 @@ ack_if r true true = same r
 ack_if r true false = λ e. absurd cc
 ack_if r false u = same r
 
-late_if : (r : Row) (t : Bool) → KeepsFlight r (cond t (record r { state = Lost }) r)
+pub late_if : (r : Row) (t : Bool) → KeepsFlight r (cond t (record r { state = Lost }) r)
 late_if r true = λ e. absurd cc
 late_if r false = same r
 
 counted : (ordinal : ℕ) (r : Row) → KeepsFlight r (count_ack ordinal r)
-counted ordinal r = λ e. (count_flies ordinal r e, keeps_ordinal ordinal r)
+counted ordinal r = λ e. (count_flies ordinal r e, keeps_ordinal ordinal r, keeps_moment ordinal r)
 
-fresh_there : (queue : List (ℕ × ℕ)) (m : Message) (k count n : ℕ) → AllThere queue n (rows_of m k count)
+fresh_there : (queue : List (ℕ × ℕ × ℕ)) (m : Message) (k count n : ℕ) → AllThere queue n (rows_of m k count)
 fresh_there queue m k zero n = tt
 fresh_there queue m k (suc count) n = (λ e. absurd cc, fresh_there queue m (k + 1) count (n + 1))
 
 -- ---- calls
 
 pub begin : (o : Ordered) (n : ℕ) (rows : List Row) → o.queue ≡ [] → rows ≡ [] → Follows o n rows
-begin o n rows q e = λ w. record { rising = subst Rattle.flow_send.specs.Ordered.Rising (sym q) tt; there = subst (λ (rs : List Row). AllThere o.queue n rs) (sym e) tt }
+begin o n rows q e = λ w. record { rising = subst Rattle.flow_send.specs.Ordered.Rising (sym q) tt; moments = subst Rattle.flow_send.specs.Ordered.NonFalling (sym q) tt; there = subst (λ (rs : List Row). AllThere o.queue n rs) (sym e) tt }
 
 pub held : (o p : Ordered) (n : ℕ) (rows new : List Row) (m : Message) (count : ℕ) → p ≡ o → new ≡ rows ++ rows_of m m.number count → Follows o n rows → Follows p n new
 held o p n rows new m count q e f =
@@ -72,12 +72,12 @@ told_on o a ordinal n rows new e f =
     subst (λ (rs : List Row). Follows o n rs) (sym (e ∙ map_is (count_ack ordinal) n (map_rows (acknowledge a) n rows)))
     (follows_map o (λ k r. count_ack ordinal r) n (map_rows (acknowledge a) n rows) (λ k r. counted ordinal r) (acked_on o a n rows (map_rows (acknowledge a) n rows) refl f))
 
-pub sent_on : (old new : Ordered) (ordinal n at moment : ℕ) (rows sent : List Row) → at < length rows → IsAdded ordinal (n + at) old new → sent ≡ slice_set rows at (sent_row moment ordinal (row_at rows at)) → Follows old n rows → Follows new n sent
+pub sent_on : (old new : Ordered) (ordinal n at moment : ℕ) (rows sent : List Row) → at < length rows → IsAdded ordinal (n + at) moment old new → sent ≡ slice_set rows at (sent_row moment ordinal (row_at rows at)) → Follows old n rows → Follows new n sent
 sent_on old new ordinal n at moment rows sent lt added e f =
     let x = sent_row moment ordinal (row_at rows at) in
     subst (λ (rs : List Row). Follows new n rs) (sym (e ∙ sym (put_is n at x rows lt)))
-    (follows_sent old new ordinal (n + at) n (put_at (n + at) x) rows added (λ k r. put_if k r x (k == n + at) refl) f)
+    (follows_sent old new ordinal (n + at) moment n (put_at (n + at) x) rows added (λ k r. put_if k r x (k == n + at) refl) f)
   where
-    put_if : (k : ℕ) (r x : Row) (t : Bool) → (k == n + at) ≡ t → (cond t (sent_row moment ordinal (row_at rows at)) r ≡ r) ⊎ ((k ≡ n + at) × ((cond t (sent_row moment ordinal (row_at rows at)) r).ordinal ≡ ordinal))
-    put_if k r x true e = inr (eqb-true k (n + at) e, refl)
+    put_if : (k : ℕ) (r x : Row) (t : Bool) → (k == n + at) ≡ t → IsSent ordinal (n + at) moment k r (cond t (sent_row moment ordinal (row_at rows at)) r)
+    put_if k r x true e = inr (eqb-true k (n + at) e, refl, refl)
     put_if k r x false e = inl refl

@@ -22,3 +22,4 @@ pub mod Followed
 pub mod Passing
 pub mod Walking
 pub mod Lowest
+pub mod Losing

@@ -10,7 +10,7 @@ use Rattle.flow_send.specs.declared.state.State.{State}
 use Rattle.flow_send.specs.declared.state.State.TheVariants.{Unsent, Flying, Lost, Acknowledged, Abandoned}
 use Rattle.flow_send.specs.Rows.{Row, row_at, is_flying, is_lost, lost_of, map_rows, between, any_between}
 use Rattle.flow_send.specs.Acks.{is_third, count_ack}
-use Rattle.flow_send.specs.Ordered.{Ordered, Rising, EndsBefore, AllThere, AllOther, Follows, IsAdded, count_sent, count_one, count_before}
+use Rattle.flow_send.specs.Ordered.{Ordered, Rising, NonFalling, EndsBy, EndsBefore, IsComplete, AllThere, AllOther, Follows, IsAdded, count_sent, count_one, count_before}
 use Rattle.flow_send.proofs.Sendings.{third_flies}
 use Rattle.flow_send.proofs.Numbered.{Stands_between, map_between}
 
@@ -24,7 +24,7 @@ pub map_none : (f : ℕ → Row → Row) (n : ℕ) (rows : List Row) → ((k : �
 map_none f n [] h = refl
 map_none f n (r ∷ rows) h = ap (λ (x : Row). x ∷ map_rows f (n + 1) rows) (h n r (omega arith)) ∙ ap (λ (xs : List Row). r ∷ xs) (map_none f (n + 1) rows (λ k x le. h k x (omega (arith, le))))
 
-set_numbered : (f : Row → Row) (n at : ℕ) (rows : List Row) → at < length rows → slice_set rows at (f (row_at rows at)) ≡ map_rows (λ k r. cond (k == n + at) (f r) r) n rows
+pub set_numbered : (f : Row → Row) (n at : ℕ) (rows : List Row) → at < length rows → slice_set rows at (f (row_at rows at)) ≡ map_rows (λ k r. cond (k == n + at) (f r) r) n rows
 set_numbered f n at [] lt = absurd (omega arith)
 set_numbered f n zero (r ∷ rows) lt =
     let e : (n == n + 0) ≡ true = eq-eqb n (n + 0) (omega arith) in
@@ -89,29 +89,37 @@ fly_if true b r e = absurd cc
 fly_if false true r e = e
 fly_if false false r e = e
 
+moment_if : (a b : Bool) (r : Row) → (cond a (record r { state = Lost }) (cond b (record r { acks = r.acks + 1 }) r)).moment ≡ r.moment
+moment_if true b r = refl
+moment_if false true r = refl
+moment_if false false r = refl
+
+pub keeps_moment : (ordinal : ℕ) (r : Row) → (count_ack ordinal r).moment ≡ r.moment
+keeps_moment ordinal r = moment_if (is_third ordinal r) (is_flying r.state && nat_lt r.ordinal ordinal) r
+
 pub count_flies : (ordinal : ℕ) (r : Row) → is_flying (count_ack ordinal r).state ≡ true → is_flying r.state ≡ true
 count_flies ordinal r e = fly_if (is_third ordinal r) (is_flying r.state && nat_lt r.ordinal ordinal) r e
 
 -- ---- the walk
 
 -- what was passed and what is left of the sendings
-pub record Walks (queue left : List (ℕ × ℕ)) (before : ℕ) : Type 0 where
-  pub left_out : (e : ℕ × ℕ) → IsIn e queue → before ≤ e.0 → IsIn e left
-  pub from : (e : ℕ × ℕ) → IsIn e left → before ≤ e.0
+pub record Walks (queue left : List (ℕ × ℕ × ℕ)) (before : ℕ) : Type 0 where
+  pub left_out : (e : ℕ × ℕ × ℕ) → IsIn e queue → before ≤ e.0 → IsIn e left
+  pub from : (e : ℕ × ℕ × ℕ) → IsIn e left → before ≤ e.0
   pub rising : Rising left
 
-pub walk_begins : (queue : List (ℕ × ℕ)) → Rising queue → Walks queue queue 0
+pub walk_begins : (queue : List (ℕ × ℕ × ℕ)) → Rising queue → Walks queue queue 0
 walk_begins queue r = record { left_out = λ e i le. i; from = λ e i. omega arith; rising = r }
 
-pub walk_goes : (queue left : List (ℕ × ℕ)) (before : ℕ) (e : ℕ × ℕ) → Walks queue (e ∷ left) before → Walks queue left (e.0 + 1)
+pub walk_goes : (queue left : List (ℕ × ℕ × ℕ)) (before : ℕ) (e : ℕ × ℕ × ℕ) → Walks queue (e ∷ left) before → Walks queue left (e.0 + 1)
 walk_goes queue left before e w = record {
   left_out = λ x i le. go x le (w.left_out x i (let l = w.from e (inl refl) in omega (arith, le, l)));
   from = λ x i. let lt = w.rising.0 x i in omega (arith, lt);
   rising = w.rising.1;
 }
   where
-    go : (x : ℕ × ℕ) → e.0 + 1 ≤ x.0 → IsIn x (e ∷ left) → IsIn x left
-    go x le (inl q) = absurd (let z = ap (λ (y : ℕ × ℕ). y.0) q in omega (arith, z, le))
+    go : (x : ℕ × ℕ × ℕ) → e.0 + 1 ≤ x.0 → IsIn x (e ∷ left) → IsIn x left
+    go x le (inl q) = absurd (let z = ap (λ (y : ℕ × ℕ × ℕ). y.0) q in omega (arith, z, le))
     go x le (inr i) = i
 
 one_if : (end ordinal before sent number k : ℕ) (r : Row) (t : Bool) → nat_lt k end ≡ t → before ≤ sent → (is_flying r.state ≡ true → before ≤ r.ordinal → (r.ordinal ≡ sent) × (k ≡ number) ⊎ (sent < r.ordinal))
@@ -159,20 +167,20 @@ one_if end ordinal before sent number k r true e le h = inside (nat_lt r.ordinal
     inside false false g i = settled i (k == number) (r.ordinal == sent) (nat_lt r.ordinal (sent + 1))
 
 -- the next sending
-pub one_more : (queue left : List (ℕ × ℕ)) (end ordinal before sent number n : ℕ) (rows : List Row) → AllThere queue n rows → Walks queue ((sent, number) ∷ left) before
+pub one_more : (queue left : List (ℕ × ℕ × ℕ)) (end ordinal before sent number at n : ℕ) (rows : List Row) → AllThere queue n rows → Walks queue ((sent, number, at) ∷ left) before
     → map_rows (count_one end ordinal sent number) n (map_rows (count_before end ordinal before) n rows) ≡ map_rows (count_before end ordinal (sent + 1)) n rows
-one_more queue left end ordinal before sent number n [] a w = refl
-one_more queue left end ordinal before sent number n (r ∷ rows) a w =
+one_more queue left end ordinal before sent number at n [] a w = refl
+one_more queue left end ordinal before sent number at n (r ∷ rows) a w =
     ap (λ (x : Row). x ∷ map_rows (count_one end ordinal sent number) (n + 1) (map_rows (count_before end ordinal before) (n + 1) rows))
-    (one_if end ordinal before sent number n r (nat_lt n end) refl (w.from (sent, number) (inl refl)) (λ f le. where_is (w.left_out (r.ordinal, n) (a.0 f) le)))
-    ∙ ap (λ (xs : List Row). count_before end ordinal (sent + 1) n r ∷ xs) (one_more queue left end ordinal before sent number (n + 1) rows a.1 w)
+    (one_if end ordinal before sent number n r (nat_lt n end) refl (w.from (sent, number, at) (inl refl)) (λ f le. where_is (w.left_out (r.ordinal, n, r.moment) (a.0 f) le)))
+    ∙ ap (λ (xs : List Row). count_before end ordinal (sent + 1) n r ∷ xs) (one_more queue left end ordinal before sent number at (n + 1) rows a.1 w)
   where
-    where_is : IsIn (r.ordinal, n) ((sent, number) ∷ left) → (r.ordinal ≡ sent) × (n ≡ number) ⊎ (sent < r.ordinal)
-    where_is (inl q) = inl (ap (λ (y : ℕ × ℕ). y.0) q, ap (λ (y : ℕ × ℕ). y.1) q)
-    where_is (inr i) = inr (w.rising.0 (r.ordinal, n) i)
+    where_is : IsIn (r.ordinal, n, r.moment) ((sent, number, at) ∷ left) → (r.ordinal ≡ sent) × (n ≡ number) ⊎ (sent < r.ordinal)
+    where_is (inl q) = inl (ap (λ (y : ℕ × ℕ × ℕ). y.0) q, ap (λ (y : ℕ × ℕ × ℕ). y.1) q)
+    where_is (inr i) = inr (w.rising.0 (r.ordinal, n, r.moment) i)
 
 -- at the end of the walk
-pub all_counted : (queue left : List (ℕ × ℕ)) (end ordinal before n : ℕ) (rows : List Row) → AllThere queue n rows → Walks queue left before → before ≤ ordinal → ((e : ℕ × ℕ) → IsIn e left → ordinal ≤ e.0)
+pub all_counted : (queue left : List (ℕ × ℕ × ℕ)) (end ordinal before n : ℕ) (rows : List Row) → AllThere queue n rows → Walks queue left before → before ≤ ordinal → ((e : ℕ × ℕ × ℕ) → IsIn e left → ordinal ≤ e.0)
     → map_rows (count_before end ordinal before) n rows ≡ map_rows (λ k r. cond (nat_lt k end) (count_ack ordinal r) r) n rows
 all_counted queue left end ordinal before n [] a w most l = refl
 all_counted queue left end ordinal before n (r ∷ rows) a w most l =
@@ -183,7 +191,7 @@ all_counted queue left end ordinal before n (r ∷ rows) a w most l =
     row_if false u f g i = refl
     row_if true true f g i = refl
     row_if true false false g i = sym (still ordinal r i)
-    row_if true false true g i = sym (later_still ordinal r (l (r.ordinal, n) (w.left_out (r.ordinal, n) (a.0 i) (ltb-false r.ordinal before g))))
+    row_if true false true g i = sym (later_still ordinal r (l (r.ordinal, n, r.moment) (w.left_out (r.ordinal, n, r.moment) (a.0 i) (ltb-false r.ordinal before g))))
 
 below_stands : (n to : ℕ) → Stands_between (λ k. nat_lt k (n + to)) n 0 to
 below_stands n to i = grind (arith, nat_tests)
@@ -264,111 +272,122 @@ more_lost ordinal to before after rows new b e a =
 -- ---- the sendings by index
 
 -- what comes after the ordinal of the sending before an index
-abbrev pub after_index : List (ℕ × ℕ) → ℕ → ℕ
-after_index queue index = cond (index == 0) 0 ((slice_index_or queue (index - 1) (0, 0)).0 + 1)
+abbrev pub after_index : List (ℕ × ℕ × ℕ) → ℕ → ℕ
+after_index queue index = cond (index == 0) 0 ((slice_index_or queue (index - 1) (0, 0, 0)).0 + 1)
 
-pub after_next : (queue : List (ℕ × ℕ)) (index : ℕ) → after_index queue (index + 1) ≡ (slice_index_or queue index (0, 0)).0 + 1
+pub after_next : (queue : List (ℕ × ℕ × ℕ)) (index : ℕ) → after_index queue (index + 1) ≡ (slice_index_or queue index (0, 0, 0)).0 + 1
 after_next queue index =
     let m : index + 1 - 1 ≡ index = omega arith in
-    ap (λ b. cond b 0 ((slice_index_or queue (index + 1 - 1) (0, 0)).0 + 1)) (ne_eqb (index + 1) 0 (λ q. omega (arith, q))) ∙ ap (λ i. (slice_index_or queue i (0, 0)).0 + 1) m
+    ap (λ b. cond b 0 ((slice_index_or queue (index + 1 - 1) (0, 0, 0)).0 + 1)) (ne_eqb (index + 1) 0 (λ q. omega (arith, q))) ∙ ap (λ i. (slice_index_or queue i (0, 0, 0)).0 + 1) m
 
-pub drop_here : (queue : List (ℕ × ℕ)) (index : ℕ) → index < length queue → drop index queue ≡ slice_index_or queue index (0, 0) ∷ drop (index + 1) queue
+pub drop_here : (queue : List (ℕ × ℕ × ℕ)) (index : ℕ) → index < length queue → drop index queue ≡ slice_index_or queue index (0, 0, 0) ∷ drop (index + 1) queue
 drop_here [] index lt = absurd (omega arith)
 drop_here (e ∷ queue) zero lt = refl
-drop_here (e ∷ queue) (suc index) lt = let k : suc index + 1 ≡ suc (index + 1) = omega arith in drop_here queue index (omega arith) ∙ ap (λ i. slice_index_or queue index (0, 0) ∷ drop i (e ∷ queue)) (sym k)
+drop_here (e ∷ queue) (suc index) lt = let k : suc index + 1 ≡ suc (index + 1) = omega arith in drop_here queue index (omega arith) ∙ ap (λ i. slice_index_or queue index (0, 0, 0) ∷ drop i (e ∷ queue)) (sym k)
 
-pub any_index : (queue : List (ℕ × ℕ)) (index : ℕ) (d f : ℕ × ℕ) → index < length queue → slice_index_or queue index d ≡ slice_index_or queue index f
+pub any_index : (queue : List (ℕ × ℕ × ℕ)) (index : ℕ) (d f : ℕ × ℕ × ℕ) → index < length queue → slice_index_or queue index d ≡ slice_index_or queue index f
 any_index [] index d f lt = absurd (omega arith)
 any_index (e ∷ queue) zero d f lt = refl
 any_index (e ∷ queue) (suc index) d f lt = any_index queue index d f (omega arith)
 
-pub drop_end : (queue : List (ℕ × ℕ)) (index : ℕ) → length queue ≤ index → (e : ℕ × ℕ) → IsIn e (drop index queue) → ⊥
+pub drop_end : (queue : List (ℕ × ℕ × ℕ)) (index : ℕ) → length queue ≤ index → (e : ℕ × ℕ × ℕ) → IsIn e (drop index queue) → ⊥
 drop_end [] zero le e i = i
 drop_end [] (suc index) le e i = i
 drop_end (x ∷ queue) zero le e i = absurd (omega arith)
 drop_end (x ∷ queue) (suc index) le e i = drop_end queue index (omega arith) e i
 
 -- from the first one on all are at or above it
-pub head_least : (left : List (ℕ × ℕ)) (e : ℕ × ℕ) (ordinal : ℕ) → Rising (e ∷ left) → ordinal ≤ e.0 → (x : ℕ × ℕ) → IsIn x (e ∷ left) → ordinal ≤ x.0
-head_least left e ordinal r le x (inl q) = let z = ap (λ (y : ℕ × ℕ). y.0) q in omega (arith, z, le)
+pub head_least : (left : List (ℕ × ℕ × ℕ)) (e : ℕ × ℕ × ℕ) (ordinal : ℕ) → Rising (e ∷ left) → ordinal ≤ e.0 → (x : ℕ × ℕ × ℕ) → IsIn x (e ∷ left) → ordinal ≤ x.0
+head_least left e ordinal r le x (inl q) = let z = ap (λ (y : ℕ × ℕ × ℕ). y.0) q in omega (arith, z, le)
 head_least left e ordinal r le x (inr i) = let lt = r.0 x i in omega (arith, lt, le)
 
-pub last_before : (ordinal i : ℕ) (queue : List (ℕ × ℕ)) (x : ℕ × ℕ) → i ≡ length queue - 1 → x ≡ slice_index_or queue i x → x.0 < ordinal → EndsBefore ordinal queue
+pub last_before : (ordinal i : ℕ) (queue : List (ℕ × ℕ × ℕ)) (x : ℕ × ℕ × ℕ) → i ≡ length queue - 1 → x ≡ slice_index_or queue i x → x.0 < ordinal → EndsBefore ordinal queue
 last_before ordinal i [] x n e lt = tt
 last_before ordinal i (f ∷ []) x n e lt =
     let z : i ≡ 0 = omega (arith, n) in
     let q : x ≡ f = e ∙ ap (λ k. slice_index_or (f ∷ []) k x) z in
-    let p = ap (λ (y : ℕ × ℕ). y.0) q in
+    let p = ap (λ (y : ℕ × ℕ × ℕ). y.0) q in
     omega (arith, p, lt)
 last_before ordinal i (f ∷ g ∷ later) x n e lt =
     let k : i ≡ suc (length later) = omega (arith, n) in
     last_before ordinal (length later) (g ∷ later) x (omega arith) (e ∙ ap (λ j. slice_index_or (f ∷ g ∷ later) j x) k) lt
 
+pub last_by : (moment i : ℕ) (queue : List (ℕ × ℕ × ℕ)) (x : ℕ × ℕ × ℕ) → i ≡ length queue - 1 → x ≡ slice_index_or queue i x → x.2 ≤ moment → EndsBy moment queue
+last_by moment i [] x n e lt = tt
+last_by moment i (f ∷ []) x n e lt =
+    let z : i ≡ 0 = omega (arith, n) in
+    let q : x ≡ f = e ∙ ap (λ k. slice_index_or (f ∷ []) k x) z in
+    let p = ap (λ (y : ℕ × ℕ × ℕ). y.2) q in
+    omega (arith, p, lt)
+last_by moment i (f ∷ g ∷ later) x n e lt =
+    let k : i ≡ suc (length later) = omega (arith, n) in
+    last_by moment (length later) (g ∷ later) x (omega arith) (e ∙ ap (λ j. slice_index_or (f ∷ g ∷ later) j x) k) lt
+
 -- ---- sendings of numbers that aren't in flight since
 
-pub other_below : (sent number n : ℕ) (rows : List Row) → number < n → AllOther (sent, number) n rows
-other_below sent number n [] lt = tt
-other_below sent number n (r ∷ rows) lt = (λ f q. let z = ap (λ (y : ℕ × ℕ). y.1) q in omega (arith, z, lt), other_below sent number (n + 1) rows (omega (arith, lt)))
+pub other_below : (sent number time n : ℕ) (rows : List Row) → number < n → AllOther (sent, number, time) n rows
+other_below sent number time n [] lt = tt
+other_below sent number time n (r ∷ rows) lt = (λ f q. let z = ap (λ (y : ℕ × ℕ × ℕ). y.1) q in omega (arith, z, lt), other_below sent number time (n + 1) rows (omega (arith, lt)))
 
-pub other_beyond : (sent number n : ℕ) (rows : List Row) → n + length rows ≤ number → AllOther (sent, number) n rows
-other_beyond sent number n [] le = tt
-other_beyond sent number n (r ∷ rows) le = (λ f q. let z = ap (λ (y : ℕ × ℕ). y.1) q in omega (arith, z, le), other_beyond sent number (n + 1) rows (omega (arith, le)))
+pub other_beyond : (sent number time n : ℕ) (rows : List Row) → n + length rows ≤ number → AllOther (sent, number, time) n rows
+other_beyond sent number time n [] le = tt
+other_beyond sent number time n (r ∷ rows) le = (λ f q. let z = ap (λ (y : ℕ × ℕ × ℕ). y.1) q in omega (arith, z, le), other_beyond sent number time (n + 1) rows (omega (arith, le)))
 
-pub other_here : (sent number n at : ℕ) (rows : List Row) → number ≡ n + at → at < length rows → (is_flying (row_at rows at).state ≡ true → (row_at rows at).ordinal ≡ sent → ⊥) → AllOther (sent, number) n rows
-other_here sent number n at [] e lt h = tt
-other_here sent number n zero (r ∷ rows) e lt h = (λ f q. h f (ap (λ (y : ℕ × ℕ). y.0) q), other_below sent number (n + 1) rows (omega (arith, e)))
-other_here sent number n (suc at) (r ∷ rows) e lt h = (λ f q. let z = ap (λ (y : ℕ × ℕ). y.1) q in omega (arith, z, e), other_here sent number (n + 1) at rows (omega (arith, e)) (omega arith) h)
+pub other_here : (sent number time n at : ℕ) (rows : List Row) → number ≡ n + at → at < length rows → (is_flying (row_at rows at).state ≡ true → (row_at rows at).ordinal ≡ sent → ⊥) → AllOther (sent, number, time) n rows
+other_here sent number time n at [] e lt h = tt
+other_here sent number time n zero (r ∷ rows) e lt h = (λ f q. h f (ap (λ (y : ℕ × ℕ × ℕ). y.0) q), other_below sent number time (n + 1) rows (omega (arith, e)))
+other_here sent number time n (suc at) (r ∷ rows) e lt h = (λ f q. let z = ap (λ (y : ℕ × ℕ × ℕ). y.1) q in omega (arith, z, e), other_here sent number time (n + 1) at rows (omega (arith, e)) (omega arith) h)
 
-still_there : (queue left : List (ℕ × ℕ)) (e : ℕ × ℕ) (n : ℕ) (rows : List Row) → queue ≡ e ∷ left → AllThere queue n rows → AllOther e n rows → AllThere left n rows
+pub still_there : (queue left : List (ℕ × ℕ × ℕ)) (e : ℕ × ℕ × ℕ) (n : ℕ) (rows : List Row) → queue ≡ e ∷ left → AllThere queue n rows → AllOther e n rows → AllThere left n rows
 still_there queue left e n [] q a o = tt
-still_there queue left e n (r ∷ rows) q a o = (λ f. here (o.0 f) (subst (IsIn (r.ordinal, n)) q (a.0 f)), still_there queue left e (n + 1) rows q a.1 o.1)
+still_there queue left e n (r ∷ rows) q a o = (λ f. here (o.0 f) (subst (IsIn (r.ordinal, n, r.moment)) q (a.0 f)), still_there queue left e (n + 1) rows q a.1 o.1)
   where
-    here : ((r.ordinal, n) ≡ e → ⊥) → IsIn (r.ordinal, n) (e ∷ left) → IsIn (r.ordinal, n) left
+    here : ((r.ordinal, n, r.moment) ≡ e → ⊥) → IsIn (r.ordinal, n, r.moment) (e ∷ left) → IsIn (r.ordinal, n, r.moment) left
     here ne (inl z) = absurd (ne z)
     here ne (inr j) = j
 
-pub pruned : (old new : Ordered) (e : ℕ × ℕ) (n : ℕ) (rows : List Row) → new.whole ≡ old.whole → old.queue ≡ e ∷ new.queue → AllOther e n rows → Follows old n rows → Follows new n rows
-pruned old new e n rows w q o f = λ t. let c = f (sym w ∙ t) in record { rising = (subst Rising q c.rising).1; there = still_there old.queue new.queue e n rows q c.there o }
+pub pruned : (old new : Ordered) (e : ℕ × ℕ × ℕ) (n : ℕ) (rows : List Row) → new.whole ≡ old.whole → old.queue ≡ e ∷ new.queue → AllOther e n rows → Follows old n rows → Follows new n rows
+pruned old new e n rows w q o f = λ t. let c = f (sym w ∙ t) in record { rising = (subst Rising q c.rising).1; moments = (subst NonFalling q c.moments).1; there = still_there old.queue new.queue e n rows q c.there o }
 
 -- ---- what keeps the order
 
 -- a row in flight was in flight before, since the same sending
 abbrev pub KeepsFlight : (Row → Row → Type 0)
-KeepsFlight r x = is_flying x.state ≡ true → (is_flying r.state ≡ true) × (x.ordinal ≡ r.ordinal)
+KeepsFlight r x = is_flying x.state ≡ true → (is_flying r.state ≡ true) × (x.ordinal ≡ r.ordinal) × (x.moment ≡ r.moment)
 
-there_map : (queue : List (ℕ × ℕ)) (f : ℕ → Row → Row) (n : ℕ) (rows : List Row) → ((k : ℕ) (r : Row) → KeepsFlight r (f k r)) → AllThere queue n rows → AllThere queue n (map_rows f n rows)
+pub there_map : (queue : List (ℕ × ℕ × ℕ)) (f : ℕ → Row → Row) (n : ℕ) (rows : List Row) → ((k : ℕ) (r : Row) → KeepsFlight r (f k r)) → AllThere queue n rows → AllThere queue n (map_rows f n rows)
 there_map queue f n [] h a = tt
-there_map queue f n (r ∷ rows) h a = (λ e. let k = h n r e in subst (λ (i : ℕ). IsIn (i, n) queue) (sym k.1) (a.0 k.0), there_map queue f (n + 1) rows h a.1)
+there_map queue f n (r ∷ rows) h a = (λ e. let k = h n r e in subst (λ (i : ℕ). IsIn (i, n, (f n r).moment) queue) (sym k.1) (subst (λ (i : ℕ). IsIn (r.ordinal, n, i) queue) (sym k.2) (a.0 k.0)), there_map queue f (n + 1) rows h a.1)
 
 pub follows_map : (o : Ordered) (f : ℕ → Row → Row) (n : ℕ) (rows : List Row) → ((k : ℕ) (r : Row) → KeepsFlight r (f k r)) → Follows o n rows → Follows o n (map_rows f n rows)
-follows_map o f n rows h g = λ w. let c = g w in record { rising = c.rising; there = there_map o.queue f n rows h c.there }
+follows_map o f n rows h g = λ w. let c = g w in record { rising = c.rising; moments = c.moments; there = there_map o.queue f n rows h c.there }
 
-there_append : (queue : List (ℕ × ℕ)) (n : ℕ) (xs ys : List Row) → ((m : ℕ) → AllThere queue m ys) → AllThere queue n xs → AllThere queue n (xs ++ ys)
+there_append : (queue : List (ℕ × ℕ × ℕ)) (n : ℕ) (xs ys : List Row) → ((m : ℕ) → AllThere queue m ys) → AllThere queue n xs → AllThere queue n (xs ++ ys)
 there_append queue n [] ys h a = h n
 there_append queue n (x ∷ xs) ys h a = (a.0, there_append queue (n + 1) xs ys h a.1)
 
 pub follows_append : (o : Ordered) (n : ℕ) (xs ys : List Row) → ((m : ℕ) → AllThere o.queue m ys) → Follows o n xs → Follows o n (xs ++ ys)
-follows_append o n xs ys h g = λ w. let c = g w in record { rising = c.rising; there = there_append o.queue n xs ys h c.there }
+follows_append o n xs ys h g = λ w. let c = g w in record { rising = c.rising; moments = c.moments; there = there_append o.queue n xs ys h c.there }
 
-there_drop : (queue : List (ℕ × ℕ)) (n d : ℕ) (rows : List Row) → AllThere queue n rows → AllThere queue (n + d) (drop d rows)
+there_drop : (queue : List (ℕ × ℕ × ℕ)) (n d : ℕ) (rows : List Row) → AllThere queue n rows → AllThere queue (n + d) (drop d rows)
 there_drop queue n zero rows a = let e : n ≡ n + 0 = omega arith in subst (λ (i : ℕ). AllThere queue i rows) e a
 there_drop queue n (suc d) [] a = tt
 there_drop queue n (suc d) (r ∷ rows) a = let e : n + 1 + d ≡ n + suc d = omega arith in subst (λ (i : ℕ). AllThere queue i (drop d rows)) e (there_drop queue (n + 1) d rows a.1)
 
 pub follows_drop : (o : Ordered) (f d : ℕ) (rows : List Row) → Follows o (f + 1) rows → Follows o (f + d + 1) (drop d rows)
-follows_drop o f d rows g = λ w. let c = g w in let e : f + 1 + d ≡ f + d + 1 = omega arith in record { rising = c.rising; there = subst (λ (i : ℕ). AllThere o.queue i (drop d rows)) e (there_drop o.queue (f + 1) d rows c.there) }
+follows_drop o f d rows g = λ w. let c = g w in let e : f + 1 + d ≡ f + d + 1 = omega arith in record { rising = c.rising; moments = c.moments; there = subst (λ (i : ℕ). AllThere o.queue i (drop d rows)) e (there_drop o.queue (f + 1) d rows c.there) }
 
 -- one more sending
-in_more : (x e : ℕ × ℕ) (queue : List (ℕ × ℕ)) → IsIn x queue → IsIn x (queue ++ e ∷ [])
+in_more : (x e : ℕ × ℕ × ℕ) (queue : List (ℕ × ℕ × ℕ)) → IsIn x queue → IsIn x (queue ++ e ∷ [])
 in_more x e [] i = absurd i
 in_more x e (y ∷ queue) (inl q) = inl q
 in_more x e (y ∷ queue) (inr i) = inr (in_more x e queue i)
 
-in_last : (e : ℕ × ℕ) (queue : List (ℕ × ℕ)) → IsIn e (queue ++ e ∷ [])
+in_last : (e : ℕ × ℕ × ℕ) (queue : List (ℕ × ℕ × ℕ)) → IsIn e (queue ++ e ∷ [])
 in_last e [] = inl refl
 in_last e (y ∷ queue) = inr (in_last e queue)
 
-from_more : (x e : ℕ × ℕ) (queue : List (ℕ × ℕ)) → IsIn x (queue ++ e ∷ []) → IsIn x queue ⊎ (x ≡ e)
+from_more : (x e : ℕ × ℕ × ℕ) (queue : List (ℕ × ℕ × ℕ)) → IsIn x (queue ++ e ∷ []) → IsIn x queue ⊎ (x ≡ e)
 from_more x e [] (inl q) = inr q
 from_more x e [] (inr i) = absurd i
 from_more x e (y ∷ queue) (inl q) = inl (inl q)
@@ -378,38 +397,61 @@ from_more x e (y ∷ queue) (inr i) = later (from_more x e queue i)
     later (inl j) = inl (inr j)
     later (inr q) = inr q
 
-below_end : (ordinal : ℕ) (e : ℕ × ℕ) (queue : List (ℕ × ℕ)) → Rising (e ∷ queue) → EndsBefore ordinal (e ∷ queue) → e.0 < ordinal
+below_end : (ordinal : ℕ) (e : ℕ × ℕ × ℕ) (queue : List (ℕ × ℕ × ℕ)) → Rising (e ∷ queue) → EndsBefore ordinal (e ∷ queue) → e.0 < ordinal
 below_end ordinal e [] r b = b
 below_end ordinal e (f ∷ queue) r b = let lt = below_end ordinal f queue r.1 b in let l = r.0 f (inl refl) in omega (arith, lt, l)
 
-ends_later : (ordinal : ℕ) (e : ℕ × ℕ) (queue : List (ℕ × ℕ)) → EndsBefore ordinal (e ∷ queue) → EndsBefore ordinal queue
+ends_later : (ordinal : ℕ) (e : ℕ × ℕ × ℕ) (queue : List (ℕ × ℕ × ℕ)) → EndsBefore ordinal (e ∷ queue) → EndsBefore ordinal queue
 ends_later ordinal e [] b = tt
 ends_later ordinal e (f ∷ queue) b = b
 
-rising_more : (ordinal number : ℕ) (queue : List (ℕ × ℕ)) → Rising queue → EndsBefore ordinal queue → Rising (queue ++ (ordinal, number) ∷ [])
-rising_more ordinal number [] r b = (λ x i. absurd i, tt)
-rising_more ordinal number (e ∷ queue) r b = (
-  λ x i. below x (from_more x (ordinal, number) queue i),
-  rising_more ordinal number queue r.1 (ends_later ordinal e queue b),
+rising_more : (ordinal number moment : ℕ) (queue : List (ℕ × ℕ × ℕ)) → Rising queue → EndsBefore ordinal queue → Rising (queue ++ (ordinal, number, moment) ∷ [])
+rising_more ordinal number moment [] r b = (λ x i. absurd i, tt)
+rising_more ordinal number moment (e ∷ queue) r b = (
+  λ x i. below x (from_more x (ordinal, number, moment) queue i),
+  rising_more ordinal number moment queue r.1 (ends_later ordinal e queue b),
 )
   where
-    below : (x : ℕ × ℕ) → IsIn x queue ⊎ (x ≡ (ordinal, number)) → e.0 < x.0
+    below : (x : ℕ × ℕ × ℕ) → IsIn x queue ⊎ (x ≡ (ordinal, number, moment)) → e.0 < x.0
     below x (inl i) = r.0 x i
-    below x (inr q) = let z = ap (λ (y : ℕ × ℕ). y.0) q in let lt = below_end ordinal e queue r b in omega (arith, z, lt)
+    below x (inr q) = let z = ap (λ (y : ℕ × ℕ × ℕ). y.0) q in let lt = below_end ordinal e queue r b in omega (arith, z, lt)
 
-there_sent : (queue : List (ℕ × ℕ)) (ordinal number n : ℕ) (f : ℕ → Row → Row) (rows : List Row) → ((k : ℕ) (r : Row) → (f k r ≡ r) ⊎ ((k ≡ number) × ((f k r).ordinal ≡ ordinal))) → AllThere queue n rows → AllThere (queue ++ (ordinal, number) ∷ []) n (map_rows f n rows)
-there_sent queue ordinal number n f [] h a = tt
-there_sent queue ordinal number n f (r ∷ rows) h a = (λ e. here e (h n r), there_sent queue ordinal number (n + 1) f rows h a.1)
+falling_end : (moment : ℕ) (e : ℕ × ℕ × ℕ) (queue : List (ℕ × ℕ × ℕ)) → NonFalling (e ∷ queue) → EndsBy moment (e ∷ queue) → e.2 ≤ moment
+falling_end moment e [] r b = b
+falling_end moment e (f ∷ queue) r b = let lt = falling_end moment f queue r.1 b in let l = r.0 f (inl refl) in omega (arith, lt, l)
+
+by_later : (moment : ℕ) (e : ℕ × ℕ × ℕ) (queue : List (ℕ × ℕ × ℕ)) → EndsBy moment (e ∷ queue) → EndsBy moment queue
+by_later moment e [] b = tt
+by_later moment e (f ∷ queue) b = b
+
+moments_more : (ordinal number moment : ℕ) (queue : List (ℕ × ℕ × ℕ)) → NonFalling queue → EndsBy moment queue → NonFalling (queue ++ (ordinal, number, moment) ∷ [])
+moments_more ordinal number moment [] r b = (λ x i. absurd i, tt)
+moments_more ordinal number moment (e ∷ queue) r b = (
+  λ x i. above x (from_more x (ordinal, number, moment) queue i),
+  moments_more ordinal number moment queue r.1 (by_later moment e queue b),
+)
   where
-    here : is_flying (f n r).state ≡ true → (f n r ≡ r) ⊎ ((n ≡ number) × ((f n r).ordinal ≡ ordinal)) → IsIn ((f n r).ordinal, n) (queue ++ (ordinal, number) ∷ [])
-    here e (inl q) = subst (λ (x : Row). IsIn (x.ordinal, n) (queue ++ (ordinal, number) ∷ [])) (sym q) (in_more (r.ordinal, n) (ordinal, number) queue (a.0 (sym (ap (λ (x : Row). is_flying x.state) q) ∙ e)))
-    here e (inr p) = subst (λ (y : ℕ × ℕ). IsIn y (queue ++ (ordinal, number) ∷ [])) (sym (ap (λ i. (i, n)) p.1 ∙ ap (λ i. (ordinal, i)) p.0)) (in_last (ordinal, number) queue)
+    above : (x : ℕ × ℕ × ℕ) → IsIn x queue ⊎ (x ≡ (ordinal, number, moment)) → e.2 ≤ x.2
+    above x (inl i) = r.0 x i
+    above x (inr q) = let z = ap (λ (y : ℕ × ℕ × ℕ). y.2) q in let lt = falling_end moment e queue r b in omega (arith, z, lt)
 
-pub follows_sent : (old new : Ordered) (ordinal number n : ℕ) (f : ℕ → Row → Row) (rows : List Row) → IsAdded ordinal number old new → ((k : ℕ) (r : Row) → (f k r ≡ r) ⊎ ((k ≡ number) × ((f k r).ordinal ≡ ordinal))) → Follows old n rows → Follows new n (map_rows f n rows)
-follows_sent old new ordinal number n f rows added h g = λ w.
+abbrev pub IsSent : ℕ → ℕ → ℕ → ℕ → Row → Row → Type 0
+IsSent ordinal number moment k r x = (x ≡ r) ⊎ ((k ≡ number) × (x.ordinal ≡ ordinal) × (x.moment ≡ moment))
+
+there_sent : (queue : List (ℕ × ℕ × ℕ)) (ordinal number moment n : ℕ) (f : ℕ → Row → Row) (rows : List Row) → ((k : ℕ) (r : Row) → IsSent ordinal number moment k r (f k r)) → AllThere queue n rows → AllThere (queue ++ (ordinal, number, moment) ∷ []) n (map_rows f n rows)
+there_sent queue ordinal number moment n f [] h a = tt
+there_sent queue ordinal number moment n f (r ∷ rows) h a = (λ e. here e (h n r), there_sent queue ordinal number moment (n + 1) f rows h a.1)
+  where
+    here : is_flying (f n r).state ≡ true → IsSent ordinal number moment n r (f n r) → IsIn ((f n r).ordinal, n, (f n r).moment) (queue ++ (ordinal, number, moment) ∷ [])
+    here e (inl q) = subst (λ (x : Row). IsIn (x.ordinal, n, x.moment) (queue ++ (ordinal, number, moment) ∷ [])) (sym q) (in_more (r.ordinal, n, r.moment) (ordinal, number, moment) queue (a.0 (sym (ap (λ (x : Row). is_flying x.state) q) ∙ e)))
+    here e (inr p) = subst (λ (y : ℕ × ℕ × ℕ). IsIn y (queue ++ (ordinal, number, moment) ∷ [])) (sym (ap (λ i. (i, n, (f n r).moment)) p.1 ∙ (ap (λ i. (ordinal, i, (f n r).moment)) p.0 ∙ ap (λ i. (ordinal, number, i)) p.2))) (in_last (ordinal, number, moment) queue)
+
+pub follows_sent : (old new : Ordered) (ordinal number moment n : ℕ) (f : ℕ → Row → Row) (rows : List Row) → IsAdded ordinal number moment old new → ((k : ℕ) (r : Row) → IsSent ordinal number moment k r (f k r)) → Follows old n rows → Follows new n (map_rows f n rows)
+follows_sent old new ordinal number moment n f rows added h g = λ w.
     let a = added w in
     let c = g a.0 in
     record {
-      rising = subst Rising (sym a.2) (rising_more ordinal number old.queue c.rising a.1);
-      there = subst (λ (q : List (ℕ × ℕ)). AllThere q n (map_rows f n rows)) (sym a.2) (there_sent old.queue ordinal number n f rows h c.there);
+      rising = subst Rising (sym a.3) (rising_more ordinal number moment old.queue c.rising a.1);
+      moments = subst NonFalling (sym a.3) (moments_more ordinal number moment old.queue c.moments a.2);
+      there = subst (λ (q : List (ℕ × ℕ × ℕ)). AllThere q n (map_rows f n rows)) (sym a.3) (there_sent old.queue ordinal number moment n f rows h c.there);
     }

@@ -1,23 +1,26 @@
 //! The sendings of a flow in their order, by which an ack finds the numbers that it counts against.
 
-ghost use Rattle.std.specs.Prelude.{◌≡◌, ◌+◌, ◌<◌, ◌≤◌, [], length, true, false};
-ghost use Rattle.flow_send.specs.Rows.{map_rows, between, any_between};
+ghost use Rattle.std.specs.Prelude.{ℕ, ◌≡◌, ◌+◌, ◌<◌, ◌≤◌, [], length, true, false};
+ghost use Rattle.std.specs.Prelude.{map, slice_get};
+ghost use Rattle.std.specs.List.{list_any};
+ghost use Rattle.flow_send.specs.Rows.{map_rows, between, any_between, any_row};
+ghost use Rattle.flow_send.specs.Sender.{is_late, lost_if_late};
 ghost use Rattle.flow_send.specs.Acks.{count_ack, is_third};
 ghost use Rattle.flow_send.specs.Ordered.{EndsBefore, IsComplete, Follows, IsAdded, count_one};
-ghost use Rattle.flow_send.specs.Ordered.{AllOther};
+ghost use Rattle.flow_send.specs.Ordered.{AllOther, EndsBy, lose_one, is_late_one};
 
 use crate::rows::Rows;
 use std::alloc::{AllocError, Global};
 use std::collections::VecDeque;
 use std::marker::Model;
 
-/// The sendings, each by its ordinal and its number, from the oldest one of a number in flight on.
+/// The sendings, each by its ordinal, its number and its moment, from the oldest one of a number in flight on.
 /// One of a number that was sent again, or isn't in flight any more, is passed over. Where there is
-/// no room for one, or ordinals stand still, the rows themselves are gone through.
+/// no room for one, ordinals stand still or a moment goes back, the rows themselves are gone through.
 #[derive(Drop)]
 pub struct Sendings {
     whole: bool,
-    queue: VecDeque<(u64, u64)>,
+    queue: VecDeque<(u64, u64, u64)>,
 }
 
 impl Model for Sendings {
@@ -45,25 +48,26 @@ impl Sendings {
         self.queue.reserve(most.saturating_sub(self.queue.len()))
     }
 
-    /// Whether the last one was before an ordinal.
-    fn ends_before(&self, ordinal: u64) -> bool
-        ensures { result ≡ true → EndsBefore ordinal self.now.queue }
+    /// Whether the last one was before an ordinal, and at a moment or before it.
+    fn ends_before(&self, ordinal: u64, moment: u64) -> bool
+        ensures ordinal { result ≡ true → EndsBefore ordinal self.now.queue }
+        ensures moment { result ≡ true → EndsBy moment self.now.queue }
     {
         match self.queue.back() {
-            Some((last, _)) => *last < ordinal,
+            Some((last, _, at)) => *last < ordinal && *at <= moment,
             None => true,
         }
     }
 
     /// Adds a sending.
-    pub fn push(&mut self, ordinal: u64, number: u64)
-        ensures { IsAdded ordinal number self.old self.new }
+    pub fn push(&mut self, ordinal: u64, number: u64, moment: u64)
+        ensures { IsAdded ordinal number moment self.old self.new }
     {
-        if !self.ends_before(ordinal) || self.queue.len() >= self.queue.capacity() {
+        if !self.ends_before(ordinal, moment) || self.queue.len() >= self.queue.capacity() {
             self.whole = false;
             return;
         }
-        self.queue.push_back_reserved((ordinal, number));
+        self.queue.push_back_reserved((ordinal, number, moment));
     }
 
     /// Counts an ack of the sending with an ordinal against the rows before an index. True where it
@@ -92,10 +96,49 @@ impl Sendings {
     {
         let mut index = 0;
         while index < self.queue.len() && self.queue[index].0 < ordinal {
-            let (sent, number) = self.queue[index];
+            let (sent, number, _) = self.queue[index];
             count_sending(rows, forward, to, ordinal, sent, number);
             index += 1;
         }
+    }
+
+    /// Marks as lost the numbers in flight whose resend time has passed. True where there is one.
+    pub fn lose_late(
+        &mut self,
+        rows: &mut Rows,
+        forward: u64,
+        moment: u64,
+        resend_after: u64,
+    ) -> bool
+        requires { Follows self.old (forward + 1) rows.old.rows }
+        ensures rows { rows.new.rows ≡ map (lost_if_late moment resend_after) rows.old.rows }
+        ensures room { rows.new.room ≡ rows.old.room }
+        ensures late { result ≡ list_any (is_late moment resend_after) rows.old.rows }
+        ensures follows { Follows self.new (forward + 1) rows.new.rows }
+    {
+        if !self.whole {
+            return rows.lose_late(rows.len(), moment, resend_after);
+        }
+        self.lose_oldest(rows, forward, moment, resend_after)
+    }
+
+    /// The same, going from the oldest sending on up to the first one that isn't late.
+    fn lose_oldest(&mut self, rows: &mut Rows, forward: u64, moment: u64, resend_after: u64) -> bool
+        requires { IsComplete self.old.queue (forward + 1) rows.old.rows }
+        ensures rows { rows.new.rows ≡ map (lost_if_late moment resend_after) rows.old.rows }
+        ensures room { rows.new.room ≡ rows.old.room }
+        ensures late { result ≡ list_any (is_late moment resend_after) rows.old.rows }
+        ensures complete { IsComplete self.new.queue (forward + 1) rows.new.rows }
+    {
+        let mut late = false;
+        while let Some((_, number, at)) = oldest(&self.queue) {
+            if u128::from(at) + u128::from(resend_after) > u128::from(moment) {
+                return late;
+            }
+            late |= lose_number(rows, forward, number, moment, resend_after);
+            let _ = self.queue.pop_front();
+        }
+        late
     }
 
     /// Takes away the oldest ones of numbers that aren't in flight since.
@@ -103,7 +146,7 @@ impl Sendings {
         ensures { Follows self.old (forward + 1) rows.now.rows →
             Follows self.new (forward + 1) rows.now.rows }
     {
-        while let Some((sent, number)) = self.queue.front().copied() {
+        while let Some((sent, number, _)) = self.queue.front().copied() {
             if is_last(rows, forward, sent, number) {
                 break;
             }
@@ -129,9 +172,37 @@ fn count_sending(rows: &mut Rows, forward: u64, to: usize, ordinal: u64, sent: u
     rows.count_sent(at as usize, ordinal, sent);
 }
 
+/// The oldest sending.
+fn oldest(queue: &VecDeque<(u64, u64, u64)>) -> Option<(u64, u64, u64)>
+    ensures { result ≡ slice_get queue.now.items 0 }
+{
+    queue.front().copied()
+}
+
+/// Marks a number as lost where it is late. The answer is whether it is.
+fn lose_number(rows: &mut Rows, forward: u64, number: u64, moment: u64, resend_after: u64) -> bool
+    ensures rows { rows.new.rows ≡ map_rows (lose_one moment resend_after number) (forward + 1)
+        rows.old.rows }
+    ensures room { rows.new.room ≡ rows.old.room }
+    ensures late { result ≡ any_row (is_late_one moment resend_after number) (forward + 1)
+        rows.old.rows }
+{
+    if number <= forward {
+        return false;
+    }
+    let at = number - forward - 1;
+    if at >= rows.len() as u64 {
+        return false;
+    }
+    let late = rows.is_late(at as usize, moment, resend_after);
+    rows.lose_at(at as usize, moment, resend_after);
+    late
+}
+
 /// Whether a number is in flight since this sending.
 fn is_last(rows: &Rows, forward: u64, sent: u64, number: u64) -> bool
-    ensures { result ≡ false → AllOther (sent, number) (forward + 1) rows.now.rows }
+    ensures { result ≡ false → (moment : ℕ) →
+        AllOther (sent, number, moment) (forward + 1) rows.now.rows }
 {
     if number <= forward {
         return false;

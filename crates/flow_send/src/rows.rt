@@ -263,7 +263,7 @@ impl Rows {
         lost
     }
 
-    fn lose_at(&mut self, at: usize, moment: u64, resend_after: u64)
+    pub fn lose_at(&mut self, at: usize, moment: u64, resend_after: u64)
         requires { at < length self.old.rows }
         ensures rows { self.new.rows ≡ slice_set self.old.rows at
             (lost_if_late moment resend_after (row_at self.old.rows at)) }
@@ -280,7 +280,7 @@ impl Rows {
         self.lost_from = lost_from(self.lost_from, at, after);
     }
 
-    fn is_late(&self, at: usize, moment: u64, resend_after: u64) -> bool
+    pub fn is_late(&self, at: usize, moment: u64, resend_after: u64) -> bool
         requires { at < length self.now.rows }
         ensures { result ≡ is_late moment resend_after (row_at self.now.rows at) }
     {

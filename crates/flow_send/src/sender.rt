@@ -358,8 +358,8 @@ impl FlowSender {
             (lost_late moment resend_after self.old.sender) }
         ensures none_late { list_any (is_late moment resend_after) self.new.sender.rows ≡ false }
     {
-        let to = self.sent_rows();
-        self.rows.lose_late(to, moment, resend_after)
+        self.sendings
+            .lose_late(&mut self.rows, self.forward, moment, resend_after)
     }
 
     /// Takes an ack: the blocks of 1,024 bytes that the receiver has free, the number at or below
@@ -620,7 +620,7 @@ impl FlowSender {
         let number = self.forward + 1 + at as u64;
         self.order = self.order.saturating_add(1);
         self.rows.send(at, moment, self.order);
-        self.sendings.push(self.order, number);
+        self.sendings.push(self.order, number, moment);
         self.sent = self.sent.max(number);
     }
 

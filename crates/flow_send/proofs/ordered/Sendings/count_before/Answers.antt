@@ -21,20 +21,20 @@ loop-index-preserved c =
     let at = c.loop-index.index in
     let n = c.args.forward + 1 in
     let end = c.args.forward + 1 + c.args.to in
-    let e = slice_index_or q at (0, 0) in
+    let e = slice_index_or q at (0, 0, 0) in
     let x = c.index-in-loop-index.result.now in
     let lt : at < length q = omega (arith, c.loop-index-test.true, c.len.ensures, c.self.inside.queue.ok, ap (λ (o : Ordered). length o.queue) c.self.view_is) in
-    let is : x ≡ e = c.index-in-loop-index.ensures ∙ (ap (λ (o : Ordered). slice_index_or o.queue at x) c.self.view_is ∙ any_index q at x (0, 0) lt) in
+    let is : x ≡ e = c.index-in-loop-index.ensures ∙ (ap (λ (o : Ordered). slice_index_or o.queue at x) c.self.view_is ∙ any_index q at x (0, 0, 0) lt) in
     let y = c.index.result.now in
-    let was : y ≡ e = c.index.ensures ∙ (ap (λ (o : Ordered). slice_index_or o.queue at y) c.self.view_is ∙ any_index q at y (0, 0) lt) in
-    let low : e.0 < c.args.ordinal = let z = ap (λ (p : ℕ × ℕ). p.0) was in omega (arith, c.if-index-ordinal.true, z) in
-    let w : Walks q (e ∷ drop (at + 1) q) (after_index q at) = subst (λ (l : List (ℕ × ℕ)). Walks q l (after_index q at)) (drop_here q at lt) c.loop-index.invariant.walks in
+    let was : y ≡ e = c.index.ensures ∙ (ap (λ (o : Ordered). slice_index_or o.queue at y) c.self.view_is ∙ any_index q at y (0, 0, 0) lt) in
+    let low : e.0 < c.args.ordinal = let z = ap (λ (p : ℕ × ℕ × ℕ). p.0) was in omega (arith, c.if-index-ordinal.true, z) in
+    let w : Walks q (e ∷ drop (at + 1) q) (after_index q at) = subst (λ (l : List (ℕ × ℕ × ℕ)). Walks q l (after_index q at)) (drop_here q at lt) c.loop-index.invariant.walks in
     let next = after_next q at in
     let rows : c.count_sending.new.rows.rows ≡ map_rows (count_before end c.args.ordinal (e.0 + 1)) n c.args.rows.now.rows =
     c.count_sending.ensures.rows
-    ∙ (ap (λ (p : ℕ × ℕ). map_rows (count_one end c.args.ordinal p.0 p.1) n c.loop-index.rows.rows) is
+    ∙ (ap (λ (p : ℕ × ℕ × ℕ). map_rows (count_one end c.args.ordinal p.0 p.1) n c.loop-index.rows.rows) is
     ∙ (ap (λ (rs : List Row). map_rows (count_one end c.args.ordinal e.0 e.1) n rs) c.loop-index.invariant.rows
-    ∙ one_more q (drop (at + 1) q) end c.args.ordinal (after_index q at) e.0 e.1 n c.args.rows.now.rows c.requires.complete.there w)) in
+    ∙ one_more q (drop (at + 1) q) end c.args.ordinal (after_index q at) e.0 e.1 e.2 n c.args.rows.now.rows c.requires.complete.there w)) in
     record {
       rows = rows ∙ ap (λ b. map_rows (count_before end c.args.ordinal b) n c.args.rows.now.rows) (sym next);
       room = c.count_sending.ensures.room ∙ c.loop-index.invariant.room;
@@ -48,12 +48,12 @@ returns-else-index-ordinal-clause-rows c =
     let at = c.loop-index.index in
     let n = c.args.forward + 1 in
     let end = c.args.forward + 1 + c.args.to in
-    let e = slice_index_or q at (0, 0) in
+    let e = slice_index_or q at (0, 0, 0) in
     let lt : at < length q = omega (arith, c.loop-index-test.true, c.len.ensures, c.self.inside.queue.ok, ap (λ (o : Ordered). length o.queue) c.self.view_is) in
     let y = c.index.result.now in
-    let was : y ≡ e = c.index.ensures ∙ (ap (λ (o : Ordered). slice_index_or o.queue at y) c.self.view_is ∙ any_index q at y (0, 0) lt) in
-    let high : c.args.ordinal ≤ e.0 = let z = ap (λ (p : ℕ × ℕ). p.0) was in omega (arith, c.if-index-ordinal.false, z) in
-    let w : Walks q (e ∷ drop (at + 1) q) (after_index q at) = subst (λ (l : List (ℕ × ℕ)). Walks q l (after_index q at)) (drop_here q at lt) c.loop-index.invariant.walks in
+    let was : y ≡ e = c.index.ensures ∙ (ap (λ (o : Ordered). slice_index_or o.queue at y) c.self.view_is ∙ any_index q at y (0, 0, 0) lt) in
+    let high : c.args.ordinal ≤ e.0 = let z = ap (λ (p : ℕ × ℕ × ℕ). p.0) was in omega (arith, c.if-index-ordinal.false, z) in
+    let w : Walks q (e ∷ drop (at + 1) q) (after_index q at) = subst (λ (l : List (ℕ × ℕ × ℕ)). Walks q l (after_index q at)) (drop_here q at lt) c.loop-index.invariant.walks in
     counted_rows n c.args.to c.args.ordinal c.args.rows.now.rows c.loop-index.rows.rows
     (c.loop-index.invariant.rows ∙ all_counted q (e ∷ drop (at + 1) q) end c.args.ordinal (after_index q at) n c.args.rows.now.rows c.requires.complete.there w c.loop-index.invariant.most (head_least (drop (at + 1) q) e c.args.ordinal w.rising high))
 

@@ -1,44 +1,39 @@
-use Rattle.std.proofs.Common.{◌≡◌, ◌+◌, ◌-◌, List, map, ap, sym, ◌∙◌, subst, arith}
+use Rattle.std.proofs.Common.{◌≡◌, List, map, ap, sym, ◌∙◌, subst, arith}
 use Rattle.std.specs.List.{list_any}
 use Rattle.flow_send.specs.Rows.{Row}
 use Rattle.flow_send.specs.Sender.{sender_of, Sender, is_late, lost_if_late, lost_late}
 use Rattle.flow_send.specs.Steady.{Steady}
 use Rattle.flow_send.specs.Flow.{Flow, with_sender}
-use Rattle.flow_send.proofs.Sendings.{map_sent, any_sent, late_flies, none_late}
+use Rattle.flow_send.proofs.Sendings.{none_late}
 use Rattle.flow_send.proofs.Steadies.{steady_lost}
-use Rattle.flow_send.proofs.Followed.{lost_on}
 use Rattle.flow_send.proofs.sender.FlowSender.find_lost.Goals as goal
 
 abbrev At : goal.After-lose_late → Sender
 At c = let i = c.self.inside in sender_of i.forward i.rows.rows i.waiting i.finish i.sent i.upto i.told i.notice i.order
 
-to_is : (c : goal.After-lose_late) → c.sent_rows-to.result ≡ (At c).sent + 1 - ((At c).forward + 1)
-to_is c =
-    let e = c.sent_rows-to.ensures.count ∙ ap (λ (f : Flow). f.sender.sent - f.sender.forward) (sym c.self.view_is) in
-    omega (arith, e)
+rows_are : (c : goal.After-lose_late) → c.lose_late.new.rows.rows ≡ map (lost_if_late c.args.moment c.args.resend_after) (At c).rows
+rows_are c = c.lose_late.ensures.rows
 
-rows_are : (c : goal.After-lose_late) → c.lose_late.new.self.rows ≡ map (lost_if_late c.args.moment c.args.resend_after) (At c).rows
-rows_are c =
-    let s = At c in
-    c.lose_late.ensures.rows ∙ sym (map_sent (lost_if_late c.args.moment c.args.resend_after) (is_late c.args.moment c.args.resend_after) s.sent (s.forward + 1) c.sent_rows-to.result s.rows (late_flies c.args.moment c.args.resend_after) (to_is c) c.self.invariant.0.rows)
+pub lose_late-requires : goal.lose_late-requires
+lose_late-requires c = c.self.invariant.3
 
 pub invariant_of-self : goal.invariant_of-self
 invariant_of-self c =
     let i = c.self.inside in
     let s = At c in
-    let is : sender_of i.forward c.lose_late.new.self.rows i.waiting i.finish i.sent i.upto i.told i.notice i.order ≡ lost_late c.args.moment c.args.resend_after s =
+    let is : sender_of i.forward c.lose_late.new.rows.rows i.waiting i.finish i.sent i.upto i.told i.notice i.order ≡ lost_late c.args.moment c.args.resend_after s =
     ap (λ (rs : List Row). sender_of i.forward rs i.waiting i.finish i.sent i.upto i.told i.notice i.order) (rows_are c) in (
       subst Steady (sym is) (steady_lost s c.args.moment c.args.resend_after c.self.invariant.0),
       c.self.invariant.1,
       λ none. let a = c.self.invariant.2 none in omega (arith, a, c.lose_late.ensures.room),
-      lost_on i.sendings c.args.moment c.args.resend_after (i.forward + 1) i.rows.rows c.lose_late.new.self.rows (rows_are c) c.self.invariant.3,
+      c.lose_late.ensures.follows,
     )
 
 pub returns-clause-late : goal.returns-clause-late
 returns-clause-late c =
     let s = At c in
     subst (λ (f : Flow). c.lose_late.result ≡ list_any (is_late c.args.moment c.args.resend_after) f.sender.rows) c.self.view_is (
-    c.lose_late.ensures.late ∙ sym (any_sent (lost_if_late c.args.moment c.args.resend_after) (is_late c.args.moment c.args.resend_after) s.sent (s.forward + 1) c.sent_rows-to.result s.rows (late_flies c.args.moment c.args.resend_after) (to_is c) c.self.invariant.0.rows)
+    c.lose_late.ensures.late
     )
 
 pub returns-clause-after : goal.returns-clause-after
@@ -46,7 +41,7 @@ returns-clause-after c =
     let i = c.self.inside in
     let F : List Row → Flow = λ rs.
     record { id = i.id; options = Rattle.rtmfp_forms.specs.OptionReading.options_in i.options.items; priority = i.priority; sender = sender_of i.forward rs i.waiting i.finish i.sent i.upto i.told i.notice i.order } in
-    subst (λ (f : Flow). F c.lose_late.new.self.rows ≡ with_sender f (lost_late c.args.moment c.args.resend_after f.sender)) c.self.view_is (ap F (rows_are c))
+    subst (λ (f : Flow). F c.lose_late.new.rows.rows ≡ with_sender f (lost_late c.args.moment c.args.resend_after f.sender)) c.self.view_is (ap F (rows_are c))
 
 pub returns-clause-none_late : goal.returns-clause-none_late
 returns-clause-none_late c =
