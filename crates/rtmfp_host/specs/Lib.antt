@@ -5,3 +5,10 @@ pub mod Writing
 pub mod Memory
 pub mod Plan
 pub mod Parts
+pub mod Linking
+pub mod Ticking
+pub mod Drawing
+pub mod Spawning
+pub mod InMemory
+pub mod Children
+pub mod Ends
