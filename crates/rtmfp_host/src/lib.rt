@@ -33,7 +33,7 @@ pub use memory_spawner::{FaultySpawner, MemorySpawner};
 pub use moments::Moments;
 pub use sink::{Sink, Wrote};
 pub use source::{Source, Taken};
-pub use spawner::{Begun, Ran, SpawnCall, Spawner};
+pub use spawner::{Begun, Ran, SpawnCall, Spawner, first_status};
 pub use stream_sink::StreamSink;
 pub use stream_source::StreamSource;
 pub use word_list::WordList;

@@ -78,7 +78,7 @@ pub trait Spawner {
 }
 
 /// The first status other than 0, with this one.
-pub(crate) fn first_status(kept: Option<i32>, status: i32) -> Option<i32>
+pub fn first_status(kept: Option<i32>, status: i32) -> Option<i32>
     ensures { result ≡ kept_status kept status }
 {
     if kept.is_some() || status == 0 {
