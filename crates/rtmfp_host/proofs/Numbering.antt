@@ -1,9 +1,9 @@
 -- Children whose numbers rise.
-use Rattle.std.proofs.Common.{◌≡◌, ℕ, ◌+◌, ◌<◌, ◌≤◌, ◌==◌, Bool, true, false, List, length, Option, Some, None, arith, refl}
+use Rattle.std.proofs.Common.{◌≡◌, ℕ, ◌+◌, ◌<◌, ◌≤◌, ◌==◌, Bool, true, false, ◌||◌, List, [], ◌∷◌, ◌++◌, length, Option, Some, None, ap, ◌∙◌, arith, refl}
 use Rattle.std.specs.Prelude.{if◌then◌else◌}
 use Rattle.std.specs.List.{All}
 use Rattle.std.proofs.lemmas.List.Folds.{list_any_none}
-use Rattle.rtmfp_host.specs.Spawning.{gave, was_given, IsBelow, number_after, Appended, Starts}
+use Rattle.rtmfp_host.specs.Spawning.{gave, was_given, IsBelow, IsStarted, number_after, Appended, Starts}
 use Rattle.rtmfp_host.specs.declared.spawner.SpawnCall.{SpawnCall}
 use Rattle.rtmfp_host.specs.declared.spawner.SpawnCall.TheVariants.{Start, Wait}
 use Rattle.rtmfp_host.specs.declared.spawner.Begun.TheVariants.{Child}
@@ -25,3 +25,18 @@ pub begins : (whole : Bool) (calls : List SpawnCall) (now : Option (List SpawnCa
 begins whole calls None words n below is = tt
 begins true calls (Some now) words n below is = (is, fresh n calls below)
 begins false calls (Some now) words n below is = is
+
+
+or_true : (b : Bool) → (b || true) ≡ true
+or_true true = refl
+or_true false = refl
+
+gives_last : (n : ℕ) (calls : List SpawnCall) (words : List (List ℕ)) → was_given n (calls ++ Start words (Some n) ∷ []) ≡ true
+gives_last n [] words = grind arith
+gives_last n (call ∷ calls) words = rw (gives_last n calls words) (or_true (gave n call))
+
+-- the child that a start gave may be waited for
+pub started : (before now : Option (List SpawnCall)) (words : List (List ℕ)) (n : ℕ) → Starts before now words (Child n) → IsStarted now n
+started before None words n s = tt
+started None (Some now) words n s = absurd s
+started (Some before) (Some now) words n s = ap (was_given n) s.0 ∙ gives_last n before words

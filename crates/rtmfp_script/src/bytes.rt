@@ -25,7 +25,7 @@ pub(crate) fn bytes(alloc: Global, word: &[u8], most: usize) -> Result<Option<Me
 
 /// The bytes of an even number of digits.
 #[tactic(auto, unfolding(crate::specs::Fields::digits_of))]
-fn digits(alloc: Global, word: &[u8]) -> Result<Option<Message>, Memory>
+pub(crate) fn digits(alloc: Global, word: &[u8]) -> Result<Option<Message>, Memory>
     ensures value { IfOk result (λ bytes. bytes ≡ digits_of word.now) }
     ensures memory { IfErr result (λ _. IsSome (digits_of word.now)) }
 {
@@ -49,6 +49,22 @@ pub(crate) fn sixteen(word: &[u8]) -> Option<[u8; 16]>
         return None;
     }
     let mut bytes = [0; 16];
+    match hex::decode_to_slice(word, &mut bytes) {
+        Ok(()) => Some(bytes),
+        Err(_) => None,
+    }
+}
+
+/// The 32 bytes of 64 digits.
+#[tactic(auto, unfolding(crate::specs::Fields::digits_of))]
+pub(crate) fn thirty_two(word: &[u8]) -> Option<[u8; 32]>
+    requires { length word.now ≡ 64 }
+    ensures { result ≡ digits_of word.now }
+{
+    if !all_lower(word) {
+        return None;
+    }
+    let mut bytes = [0; 32];
     match hex::decode_to_slice(word, &mut bytes) {
         Ok(()) => Some(bytes),
         Err(_) => None,

@@ -6,7 +6,9 @@ mod bytes;
 mod fields;
 mod line;
 mod reading;
+mod values;
 
 pub use fields::read_number;
 pub use line::{Candidates, Said, ScriptLine};
 pub use reading::read_line;
+pub use values::{read_address, read_digits, read_sixteen, read_thirty_two};

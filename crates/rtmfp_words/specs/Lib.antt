@@ -1,2 +1,7 @@
 pub mod Words
 pub mod Reading
+pub mod Items
+pub mod ItemReading
+pub mod Scanning
+pub mod Node
+pub mod NodeReading

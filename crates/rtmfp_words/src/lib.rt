@@ -2,7 +2,14 @@
 #![tactic(auto)]
 
 mod command;
+mod fault;
+mod meet_words;
 mod option;
+mod scan;
+mod serve_words;
+mod values;
 mod words;
 
 pub use command::{Command, read_command};
+pub use fault::WordsFault;
+pub use meet_words::{MeetWords, read_meet_words};

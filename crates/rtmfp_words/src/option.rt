@@ -19,7 +19,7 @@ pub(crate) enum Setting {
 }
 
 /// The number that a value is.
-fn read_value(value: &[u8]) -> Option<u64>
+pub(crate) fn read_value(value: &[u8]) -> Option<u64>
     ensures { result ≡ number_of value.now }
 {
     read_number(value)
