@@ -1,9 +1,9 @@
 -- Children whose numbers rise.
-use Rattle.std.proofs.Common.{◌≡◌, ℕ, ◌+◌, ◌<◌, ◌≤◌, ◌==◌, Bool, true, false, ◌||◌, List, [], ◌∷◌, ◌++◌, length, Option, Some, None, ap, ◌∙◌, arith, refl}
+use Rattle.std.proofs.Common.{◌≡◌, ℕ, ◌+◌, ◌≤◌, ◌==◌, Bool, true, false, ◌||◌, List, [], ◌∷◌, ◌++◌, Option, Some, None, ap, ◌∙◌, arith, refl}
 use Rattle.std.specs.Prelude.{if◌then◌else◌}
 use Rattle.std.specs.List.{All}
 use Rattle.std.proofs.lemmas.List.Folds.{list_any_none}
-use Rattle.rtmfp_host.specs.Spawning.{gave, was_given, IsBelow, IsStarted, number_after, Appended, Starts}
+use Rattle.rtmfp_host.specs.Spawning.{gave, was_given, IsBelow, IsStarted, Appended, Starts}
 use Rattle.rtmfp_host.specs.declared.spawner.SpawnCall.{SpawnCall}
 use Rattle.rtmfp_host.specs.declared.spawner.SpawnCall.TheVariants.{Start, Wait}
 use Rattle.rtmfp_host.specs.declared.spawner.Begun.TheVariants.{Child}
@@ -25,7 +25,6 @@ pub begins : (whole : Bool) (calls : List SpawnCall) (now : Option (List SpawnCa
 begins whole calls None words n below is = tt
 begins true calls (Some now) words n below is = (is, fresh n calls below)
 begins false calls (Some now) words n below is = is
-
 
 or_true : (b : Bool) → (b || true) ≡ true
 or_true true = refl

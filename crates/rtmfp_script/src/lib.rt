@@ -11,4 +11,4 @@ mod values;
 pub use fields::read_number;
 pub use line::{Candidates, Said, ScriptLine};
 pub use reading::read_line;
-pub use values::{read_address, read_digits, read_sixteen, read_thirty_two};
+pub use values::{read_address, read_digits, read_sixteen, read_thirty_two, split_word};

@@ -1,9 +1,10 @@
 //! Values that stand in other texts, too.
-ghost use Rattle.std.specs.Prelude.{◌≡◌, length, IfOk, IfErr, IsSome};
-ghost use Rattle.rtmfp_script.specs.Fields.{address_of, digits_of};
+ghost use Rattle.std.specs.Prelude.{◌≡◌, length, Some, None, MatchOption, IfOk, IfErr, IsSome};
+ghost use Rattle.rtmfp_script.specs.Fields.{address_of, digits_of, split_of};
 
 use crate::address::address;
 use crate::bytes::{digits, sixteen, thirty_two};
+use crate::fields::split;
 use rtmfp_base::{Memory, Message};
 use rtmfp_forms::Address;
 use std::alloc::Global;
@@ -37,4 +38,12 @@ pub fn read_digits(alloc: Global, word: &[u8]) -> Result<Option<Message>, Memory
     ensures memory { IfErr result (λ _. IsSome (digits_of word.now)) }
 {
     digits(alloc, word)
+}
+
+/// What stands in front of the first such byte, and what stands behind it.
+pub fn split_word(byte: u8, text: &[u8]) -> Option<(&[u8], &[u8])>
+    ensures { MatchOption result (split_of byte text.now ≡ None) (λ parts. split_of byte text.now
+        ≡ Some (parts.0.now, parts.1.now)) }
+{
+    split(byte, text)
 }

@@ -1,11 +1,9 @@
 -- Items: what is read is spelled, and what is spelled is read.
-use Rattle.std.proofs.Common.{◌≡◌, ◌⊎◌, ℕ, ◌==◌, Bool, true, false, List, [], ◌∷◌, ◌++◌, Option, Some, None, refl, sym, ap, ◌∙◌, subst, inl, inr, codes}
-use Rattle.std.specs.Prelude.{if◌then◌else◌}
+use Rattle.std.proofs.Common.{◌≡◌, ℕ, true, false, List, [], ◌∷◌, ◌++◌, Option, Some, None, refl, ap, ◌∙◌, subst, inl, inr, codes}
 use Rattle.std.specs.Str.{bytes_eq}
 use Rattle.std.proofs.lemmas.Slice.Eq.{bytes_eq-Decides}
 use Rattle.rtmfp_script.specs.Fields.{◌>>=◌, either}
 use Rattle.rtmfp_script.proofs.Splits.{some_some, bind_some}
-use Rattle.rtmfp_words.specs.Words.{OptionSpells}
 use Rattle.rtmfp_words.specs.Reading.{behind_of}
 use Rattle.rtmfp_words.specs.Items.{Item, Plain, Valued, Introduce, name_text, is_hyphened, ItemSpells, ItemsSpell}
 use Rattle.rtmfp_words.specs.ItemReading.{name_of, joined_of, single_of, in_front, items_of}

@@ -5,3 +5,5 @@ pub mod ItemsRead
 pub mod Gathering
 pub mod Scanning
 pub mod Meeting
+pub mod Openings
+pub mod Serving

@@ -1,6 +1,6 @@
 -- One step of the reader of items.
-use Rattle.std.proofs.Common.{◌≡◌, ℕ, Bool, true, false, List, [], ◌∷◌, ◌++◌, Option, Some, None, refl, sym, ap, ◌∙◌, arith}
-use Rattle.std.specs.Prelude.{map, length, ◌<◌, String, string_bytes, Result, Ok, Err}
+use Rattle.std.proofs.Common.{◌≡◌, ℕ, List, [], ◌∷◌, Option, Some, None, refl, sym, ap, ◌∙◌, arith}
+use Rattle.std.specs.Prelude.{map, length, ◌<◌, String, string_bytes, Err}
 use Rattle.std.specs.declared.alloc.Global.{Global}
 use Rattle.rtmfp_script.specs.Fields.{◌>>=◌}
 use Rattle.rtmfp_script.proofs.Splits.{bind_some}

@@ -1,5 +1,5 @@
 -- How items are read, as functions.
-use Rattle.std.specs.Prelude.{ℕ, Bool, true, false, if◌then◌else◌, List, [], ◌∷◌, ◌++◌, codes, Option, Some, None, is_none}
+use Rattle.std.specs.Prelude.{ℕ, true, if◌then◌else◌, List, [], ◌∷◌, ◌++◌, codes, Option, Some, None, is_none}
 use Rattle.std.specs.Str.{bytes_eq}
 use Rattle.rtmfp_script.specs.Fields.{◌>>=◌, either, only_if}
 use Rattle.rtmfp_words.specs.Reading.{behind_of}

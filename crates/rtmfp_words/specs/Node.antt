@@ -1,5 +1,5 @@
 -- What the words of `meet` and of `serve` say (own).
-use Rattle.std.specs.Prelude.{◌≡◌, ℕ, ◌≤◌, ◌<◌, nat_lt, Bool, true, List, [], ◌∷◌, ◌++◌, map, length, codes, decimal, Option, Some, None, String, string_bytes}
+use Rattle.std.specs.Prelude.{◌≡◌, ℕ, ◌≤◌, nat_lt, Bool, true, List, [], ◌∷◌, ◌++◌, map, length, codes, decimal, Option, Some, None, String, string_bytes}
 use Rattle.std.specs.Option.{option_map}
 use Rattle.std.specs.List.{list_all}
 use Rattle.std.specs.declared.alloc.Global.{Global}
@@ -8,7 +8,7 @@ use Rattle.rtmfp_forms.specs.Address.{AddressParts}
 use Rattle.rtmfp_text.specs.AddressText.{address_text}
 use Rattle.rtmfp_script.specs.Grammar.{IsPlainAddress}
 use Rattle.rtmfp_words.specs.Items.{Scanned, Scans, empty}
-use Rattle.rtmfp_words.specs.declared.serve_words.OpeningWords.{OpeningWords}
+use Rattle.rtmfp_words.specs.declared.opening_words.OpeningWords.{OpeningWords}
 
 -- the command, and behind it items that have these plain words and options
 pub record Commands (command : List ℕ) (words : List (String Global)) (s : Scanned) : Type 0 where

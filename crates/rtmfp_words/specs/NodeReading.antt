@@ -1,14 +1,15 @@
 -- How the words of `meet` and `serve` are read, as functions.
-use Rattle.std.specs.Prelude.{ℕ, ◌==◌, ◌&&◌, ◌*◌, nat_le, nat_lt, Bool, true, false, not, if◌then◌else◌, List, [], ◌∷◌, ◌++◌, length, codes, Option, Some, None, is_none}
+use Rattle.std.specs.Prelude.{ℕ, ◌==◌, ◌&&◌, nat_le, nat_lt, Bool, not, if◌then◌else◌, List, [], ◌∷◌, ◌++◌, length, codes, Option, Some, None, is_none}
 use Rattle.std.specs.Str.{bytes_eq}
 use Rattle.std.specs.List.{list_all}
 use Rattle.rtmfp_script.specs.Fields.{◌>>=◌, only_if, number_of, digits_of, split_of, address_of}
 use Rattle.rtmfp_words.specs.Reading.{head_of, is_empty}
 use Rattle.rtmfp_words.specs.Items.{Scanned}
 use Rattle.rtmfp_words.specs.ItemReading.{scan_of}
+use Rattle.rtmfp_forms.specs.Address.{AddressParts}
 use Rattle.rtmfp_words.specs.Node.{Serving}
 use Rattle.rtmfp_words.specs.declared.meet_words.MeetWords.{MeetWords}
-use Rattle.rtmfp_words.specs.declared.serve_words.OpeningWords.{OpeningWords}
+use Rattle.rtmfp_words.specs.declared.opening_words.OpeningWords.{OpeningWords}
 
 -- the items behind this command
 unfoldable pub scan_behind : List ℕ → List (List ℕ) → Option Scanned
@@ -44,3 +45,78 @@ meet_from s =
 
 unfoldable pub meet_of : List (List ℕ) → Option MeetWords
 meet_of parts = scan_behind (codes "meet") parts >>= meet_from
+
+-- ---- `serve`
+
+-- the bytes of so many digits
+unfoldable pub of_digits : ℕ → List ℕ → Option (List ℕ)
+of_digits count word = if length word == count then digits_of word else None
+
+abbrev pub is_node_name : List ℕ → Bool
+is_node_name word = nat_le 1 (length word) && (nat_le (length word) 64 && list_all (λ b. nat_lt b
+    128) word)
+
+unfoldable pub node_name_of : List ℕ → Option (List ℕ)
+node_name_of word = only_if (is_node_name word) word
+
+unfoldable pub opening_of : List ℕ → Option OpeningWords
+opening_of word = split_of 64 word >>= λ p. of_digits 64 p.0 >>= λ print. address_of p.1 >>= λ at.
+    Some (record { print = print; at = at })
+
+-- the openings of further words behind those that were read
+unfoldable pub openings_from : List OpeningWords → List (List ℕ) → Option (List OpeningWords)
+openings_from done [] = Some done
+openings_from done (word ∷ words) = opening_of word >>= λ opening. openings_from
+    (done ++ opening ∷ []) words
+
+-- the plain words
+pub record Places : Type 0 where
+  pub bind : AddressParts
+  pub group : List ℕ
+  pub name : List ℕ
+  pub openings : List OpeningWords
+
+unfoldable pub places_of : List (List ℕ) → Option Places
+places_of [] = None
+places_of (bind ∷ []) = None
+places_of (bind ∷ group ∷ []) = None
+places_of (first ∷ second ∷ third ∷ words) =
+    address_of first >>= λ bind.
+    of_digits 64 second >>= λ group.
+    node_name_of third >>= λ name.
+    openings_from [] words >>= λ openings.
+    Some (record { bind = bind; group = group; name = name; openings = openings })
+
+unfoldable pub instance_of : Option (List ℕ) → Option (Option (List ℕ))
+instance_of None = Some None
+instance_of (Some word) = of_digits 32 word >>= λ bytes. Some (Some bytes)
+
+unfoldable pub message_of : List ℕ → Option (List ℕ)
+message_of word =
+    if nat_le 1 (length word) && nat_le (length word) 2000 then digits_of word else None
+
+unfoldable pub send_of : Option (List ℕ) → Option (Option (List ℕ))
+send_of None = Some None
+send_of (Some word) = message_of word >>= λ bytes. Some (Some bytes)
+
+unfoldable pub serve_from : Scanned → Option Serving
+serve_from s =
+    if is_none s.port then
+    (places_of s.plain >>= λ p.
+    turns_of s >>= λ turns.
+    instance_of s.instance >>= λ instance.
+    send_of s.send >>= λ send.
+    Some (record {
+      bind = p.bind;
+      group = p.group;
+      name = p.name;
+      openings = p.openings;
+      turns = turns;
+      instance = instance;
+      introduce = s.introduce;
+      send = send;
+    }))
+    else None
+
+unfoldable pub serve_of : List (List ℕ) → Option Serving
+serve_of parts = scan_behind (codes "serve") parts >>= serve_from

@@ -1,9 +1,8 @@
 -- What one step of the reader of items does.
-use Rattle.std.specs.Prelude.{◌≡◌, ℕ, ◌≤◌, Bool, true, false, List, [], ◌∷◌, length, Option, Some, None, Result, Ok, Err, if◌then◌else◌, is_none}
+use Rattle.std.specs.Prelude.{◌≡◌, ℕ, Bool, true, false, List, Option, Some, None, Result, Ok, Err}
 use Rattle.rtmfp_script.specs.Fields.{◌>>=◌}
-use Rattle.rtmfp_words.specs.Items.{Item, Scanned}
-use Rattle.rtmfp_words.specs.ItemReading.{items_of, single_of, put, add, add_all}
-use Rattle.rtmfp_words.specs.declared.scan.OptionName.{OptionName}
+use Rattle.rtmfp_words.specs.Items.{Scanned}
+use Rattle.rtmfp_words.specs.ItemReading.{items_of, single_of, add, add_all}
 use Rattle.rtmfp_words.specs.declared.fault.WordsFault.{WordsFault}
 use Rattle.rtmfp_words.specs.declared.fault.WordsFault.TheVariants.{Faulty, Memory}
 

@@ -4,6 +4,7 @@
 mod command;
 mod fault;
 mod meet_words;
+mod opening_words;
 mod option;
 mod scan;
 mod serve_words;
@@ -13,3 +14,5 @@ mod words;
 pub use command::{Command, read_command};
 pub use fault::WordsFault;
 pub use meet_words::{MeetWords, read_meet_words};
+pub use opening_words::OpeningWords;
+pub use serve_words::{ServeWords, read_serve_words};

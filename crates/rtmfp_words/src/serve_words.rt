@@ -1,12 +1,250 @@
 //! The words of `serve`.
+ghost use Rattle.std.specs.Prelude.{◌≡◌, ◌⊎◌, Some, None, Ok, Err, MatchResult, IfOk, map, string_bytes, nat_lt};
+ghost use Rattle.std.specs.List.{list_all};
+ghost use Rattle.rtmfp_words.specs.Node.{IsServe, Serving};
+ghost use Rattle.rtmfp_words.specs.NodeReading.{is_node_name, node_name_of, places_of, instance_of, message_of, of_digits, send_of, serve_from, serve_of};
 
+use crate::fault::WordsFault;
+use crate::meet_words::turns_of;
+use crate::opening_words::{OpeningWords, openings_of, print_of};
+use crate::scan::{Scan, scan_behind};
+use rtmfp_base::Message;
 use rtmfp_forms::Address;
+use rtmfp_script::{read_address, read_digits, read_sixteen};
+use std::alloc::Global;
+use std::marker::Model;
 
-/// An opening: whom to call, and where (own).
-#[derive(Clone, Copy, Debug, PartialEq, Eq)]
-pub struct OpeningWords {
-    /// The fingerprint of the end that is called.
-    pub print: [u8; 32],
-    /// Where it may be.
-    pub at: Address,
+/// What `serve` is told (own).
+#[derive(Drop)]
+pub struct ServeWords {
+    /// Where datagrams come in.
+    pub bind: Address,
+    /// The secret of the group.
+    pub group: [u8; 32],
+    /// The name in the certificate, 1 to 64 ASCII bytes.
+    pub name: Message,
+    /// Whom to call at the start.
+    pub openings: Vec<OpeningWords>,
+    /// How many turns it takes, 1 to 1,000,000.
+    pub turns: u64,
+    /// The first bytes of the certificate, where they aren't drawn.
+    pub instance: Option<[u8; 16]>,
+    /// Whether it introduces ends to each other.
+    pub introduce: bool,
+    /// The message for each session that it opens, 1 to 1,000 bytes.
+    pub send: Option<Message>,
+}
+
+impl Model for ServeWords {
+    ghost use Rattle.rtmfp_words.specs.Node.{Serving};
+
+    ghost Value = { Serving };
+
+    ghost view = { λ s. record {
+      bind = s.bind;
+      group = s.group;
+      name = s.name;
+      openings = s.openings.items;
+      turns = s.turns;
+      instance = s.instance;
+      introduce = s.introduce;
+      send = s.send;
+    } };
+}
+
+/// The plain words.
+#[derive(Drop)]
+struct PlaceWords {
+    bind: Address,
+    group: [u8; 32],
+    name: Message,
+    openings: Vec<OpeningWords>,
+}
+
+impl Model for PlaceWords {
+    ghost use Rattle.rtmfp_words.specs.NodeReading.{Places};
+
+    ghost Value = { Places };
+
+    ghost view = { λ p. record {
+      bind = p.bind;
+      group = p.group;
+      name = p.name;
+      openings = p.openings.items;
+    } };
+}
+
+/// What the words after the program's name tell `serve` (own).
+///
+/// They are `serve BIND GROUP NAME` and openings, with options between them: `--turns N`, which is
+/// needed, and where wanted `--instance` with 32 digits, `--introduce` and `--send HEX`, each once
+/// at most. BIND is an address, GROUP is 64 digits, NAME is 1 to 64 ASCII bytes, an opening is 64
+/// digits, `@` and an address, N is 1 to 1,000,000, and HEX is 1 to 1,000 bytes. All digits are
+/// lower-case.
+pub fn read_serve_words(alloc: Global, words: &[String]) -> Result<ServeWords, WordsFault>
+    // What is read is said.
+    ensures reads { IfOk result (λ v. IsServe words.now v) }
+    // What is said is read, unless there is no memory.
+    ensures only { (v : Serving) → IsServe words.now v →
+        (result ≡ Ok v) ⊎ (result ≡ Err WordsFault.Memory) }
+{
+    find_serve(alloc, words)
+}
+
+#[tactic(auto, unfolding(crate::specs::NodeReading::serve_of))]
+fn find_serve(alloc: Global, words: &[String]) -> Result<ServeWords, WordsFault>
+    ensures { MatchResult result (λ v. serve_of (map string_bytes words.now) ≡ Some v)
+        (λ fault. fault ≡ WordsFault.Faulty → serve_of (map string_bytes words.now) ≡ None) }
+{
+    match scan_behind(alloc, b"serve", words) {
+        Ok(scan) => match serve_from(alloc, &scan) {
+            Ok(serve) => Ok(serve),
+            Err(fault) => Err(fault),
+        },
+        Err(fault) => Err(fault),
+    }
+}
+
+/// What plain words and options tell.
+#[tactic(auto, unfolding(crate::specs::NodeReading::serve_from))]
+fn serve_from(alloc: Global, scan: &Scan) -> Result<ServeWords, WordsFault>
+    ensures { MatchResult result (λ v. serve_from scan.now ≡ Some v)
+        (λ fault. fault ≡ WordsFault.Faulty → serve_from scan.now ≡ None) }
+{
+    if scan.port.is_some() {
+        return Err(WordsFault::Faulty);
+    }
+    let places = match places_of(alloc, scan.plain.as_slice()) {
+        Ok(places) => places,
+        Err(fault) => return Err(fault),
+    };
+    let Some(turns) = turns_of(scan) else {
+        return Err(WordsFault::Faulty);
+    };
+    let Some(instance) = instance_of(&scan.instance) else {
+        return Err(WordsFault::Faulty);
+    };
+    let send = match send_of(alloc, &scan.send) {
+        Ok(send) => send,
+        Err(fault) => return Err(fault),
+    };
+    let group = places.group;
+    Ok(ServeWords {
+        bind: places.bind,
+        group,
+        name: places.name,
+        openings: places.openings,
+        turns,
+        instance,
+        introduce: scan.introduce,
+        send,
+    })
+}
+
+/// What the plain words are.
+#[tactic(auto, unfolding(crate::specs::NodeReading::places_of))]
+fn places_of(alloc: Global, words: &[Message]) -> Result<PlaceWords, WordsFault>
+    ensures { MatchResult result (λ places. places_of words.now ≡ Some places)
+        (λ fault. fault ≡ WordsFault.Faulty → places_of words.now ≡ None) }
+{
+    let [bind, group, name, openings @ ..] = words else {
+        return Err(WordsFault::Faulty);
+    };
+    let Some(bind) = read_address(bind.bytes()) else {
+        return Err(WordsFault::Faulty);
+    };
+    let Some(group) = print_of(group.bytes()) else {
+        return Err(WordsFault::Faulty);
+    };
+    let name = match node_name_of(alloc, name.bytes()) {
+        Ok(name) => name,
+        Err(fault) => return Err(fault),
+    };
+    match openings_of(alloc, openings) {
+        Ok(openings) => Ok(PlaceWords {
+            bind,
+            group,
+            name,
+            openings,
+        }),
+        Err(fault) => Err(fault),
+    }
+}
+
+/// The name that a word is.
+#[tactic(auto, unfolding(crate::specs::NodeReading::node_name_of))]
+fn node_name_of(alloc: Global, word: &[u8]) -> Result<Message, WordsFault>
+    ensures { MatchResult result (λ name. node_name_of word.now ≡ Some name)
+        (λ fault. fault ≡ WordsFault.Faulty → node_name_of word.now ≡ None) }
+{
+    if !is_node_name(word) {
+        return Err(WordsFault::Faulty);
+    }
+    match Message::copy_of(alloc, word) {
+        Ok(name) => Ok(name),
+        Err(_) => Err(WordsFault::Memory),
+    }
+}
+
+/// Whether a word is 1 to 64 ASCII bytes.
+fn is_node_name(word: &[u8]) -> bool
+    ensures { result ≡ is_node_name word.now }
+{
+    !word.is_empty() && word.len() <= 64 && all_ascii(word)
+}
+
+fn all_ascii(word: &[u8]) -> bool
+    ensures { result ≡ list_all (λ b. nat_lt b 128) word.now }
+{
+    word.iter().all(|b| *b < 0x80)
+}
+
+/// The instance bytes, where they are told.
+#[tactic(auto, unfolding(crate::specs::NodeReading::instance_of, crate::specs::NodeReading::of_digits))]
+fn instance_of(value: &Option<Message>) -> Option<Option<[u8; 16]>>
+    ensures { result ≡ instance_of value.now }
+{
+    match value {
+        Some(word) => {
+            if word.len() != 32 {
+                return None;
+            }
+            match read_sixteen(word.bytes()) {
+                Some(bytes) => Some(Some(bytes)),
+                None => None,
+            }
+        }
+        None => Some(None),
+    }
+}
+
+/// The message, where one is told.
+#[tactic(auto, unfolding(crate::specs::NodeReading::send_of))]
+fn send_of(alloc: Global, value: &Option<Message>) -> Result<Option<Message>, WordsFault>
+    ensures { MatchResult result (λ send. send_of value.now ≡ Some send)
+        (λ fault. fault ≡ WordsFault.Faulty → send_of value.now ≡ None) }
+{
+    match value {
+        Some(word) => match message_of(alloc, word.bytes()) {
+            Ok(bytes) => Ok(Some(bytes)),
+            Err(fault) => Err(fault),
+        },
+        None => Ok(None),
+    }
+}
+
+/// The message that a value is.
+#[tactic(auto, unfolding(crate::specs::NodeReading::message_of))]
+fn message_of(alloc: Global, word: &[u8]) -> Result<Message, WordsFault>
+    ensures { MatchResult result (λ bytes. message_of word.now ≡ Some bytes)
+        (λ fault. fault ≡ WordsFault.Faulty → message_of word.now ≡ None) }
+{
+    if word.is_empty() || word.len() > 2000 {
+        return Err(WordsFault::Faulty);
+    }
+    match read_digits(alloc, word) {
+        Ok(Some(bytes)) => Ok(bytes),
+        Ok(None) => Err(WordsFault::Faulty),
+        Err(_) => Err(WordsFault::Memory),
+    }
 }

@@ -1,0 +1,251 @@
+-- The plain words of `serve`: what is read is said, and what is said is read.
+use Rattle.std.proofs.Common.{◌≡◌, ◌≢◌, ℕ, ◌*◌, ◌<◌, ◌≤◌, ◌==◌, Bool, true, List, [], ◌∷◌, ◌++◌, length, map, Option, Some, None, refl, sym, ap, ◌∙◌, subst, arith, append_assoc, append-nil, inl, inr}
+use Rattle.std.specs.Prelude.{◌&&◌, nat_le, nat_lt, if◌then◌else◌}
+use Rattle.std.specs.Option.{option_map}
+use Rattle.std.specs.List.{list_all}
+use Rattle.std.proofs.lemmas.Bool.{and_parts, and_from, le-leb, eq-eqb, eqb-true}
+use Rattle.std.proofs.lemmas.Bool.Decides.{nat_tests}
+use Rattle.hex.specs.Hex.{encode_lower}
+use Rattle.rtmfp_forms.specs.Address.{AddressParts}
+use Rattle.rtmfp_text.specs.AddressText.{address_text}
+use Rattle.rtmfp_script.specs.Grammar.{IsPlainAddress}
+use Rattle.rtmfp_script.specs.Fields.{◌>>=◌, digits_of, split_of, address_of, is_lower_digit}
+use Rattle.rtmfp_script.proofs.Splits.{some_some, bind_some, only_if-some, each_is, each_passes, Lacks, split_text, split_joined}
+use Rattle.rtmfp_script.proofs.Digits.{digits_of-some, digits_of-encoded, length-encoded, lower_encoded}
+use Rattle.rtmfp_script.proofs.Addresses.{address_of-some, address_of-text}
+use Rattle.rtmfp_words.specs.Node.{AreBytes, IsNodeName, IsOpening, EachIsOpening, IsInstance, IsMessage, IsSent, opening_text}
+use Rattle.rtmfp_words.specs.NodeReading.{of_digits, is_node_name, node_name_of, opening_of, openings_from, Places, places_of, instance_of, message_of, send_of}
+use Rattle.rtmfp_words.specs.declared.opening_words.OpeningWords.{OpeningWords}
+use Rattle.rtmfp_words.proofs.Texts.{if-some}
+
+-- ---- bytes in digits
+
+half : (n m : ℕ) → 2 * n ≡ 2 * m → n ≡ m
+half n m e = omega (arith, e)
+
+pub of_digits-some : (count : ℕ) (word bytes : List ℕ) → of_digits (2 * count) word ≡ Some bytes → (word ≡ encode_lower bytes) × AreBytes count bytes
+unfolding of_digits
+of_digits-some count word bytes h = elim (if-some (length word == 2 * count) (digits_of word) None bytes h) [
+  | inl a ↦
+      let found = digits_of-some word bytes a.1 in
+      let long : 2 * length bytes ≡ 2 * count = sym (length-encoded bytes) ∙ ap length (sym found.0) ∙ eqb-true (length word) (2 * count) a.0 in
+      (found.0, record { many = half (length bytes) count long; each = found.1 })
+  | inr b ↦ absurd (let e : None ≡ Some bytes = b.1 in cc)
+]
+
+pub of_digits-text : (count : ℕ) (bytes : List ℕ) → AreBytes count bytes → of_digits (2 * count) (encode_lower bytes) ≡ Some bytes
+unfolding of_digits
+of_digits-text count bytes are =
+    let long : length (encode_lower bytes) ≡ 2 * count = length-encoded bytes ∙ ap (λ n. 2 * n) are.many in
+    ap (λ (b : Bool). if b then digits_of (encode_lower bytes) else None) (eq-eqb (length (encode_lower bytes)) (2 * count) long)
+    ∙ digits_of-encoded bytes are.each
+
+-- ---- names
+
+pub node_name-some : (word name : List ℕ) → node_name_of word ≡ Some name → (word ≡ name) × IsNodeName name
+unfolding node_name_of
+node_name-some word name h =
+    let found = only_if-some (is_node_name word) word name h in
+    let first = and_parts (nat_le 1 (length word)) (nat_le (length word) 64 && list_all (λ b. nat_lt b 128) word) found.0 in
+    let second = and_parts (nat_le (length word) 64) (list_all (λ b. nat_lt b 128) word) first.1 in
+    let some : 1 ≤ length word = grind (arith, nat_tests, first.0) in
+    let most : length word ≤ 64 = grind (arith, nat_tests, second.0) in
+    (found.1, subst IsNodeName found.1 (record { some = some; most = most; ascii = second.1 }))
+
+pub node_name-text : (name : List ℕ) → IsNodeName name → node_name_of name ≡ Some name
+unfolding node_name_of
+node_name-text name is =
+    let test : is_node_name name ≡ true = and_from _ _ (le-leb 1 (length name) is.some) (and_from _ _ (le-leb (length name) 64 is.most) is.ascii) in
+    rw test refl
+
+-- ---- openings
+
+not_at : (x : ℕ) → is_lower_digit x ≡ true → x ≢ 64
+not_at x h e = let at : is_lower_digit 64 ≡ true = ap is_lower_digit (sym e) ∙ h in cc at
+
+lacks_digits : (bytes : List ℕ) → list_all (λ b. nat_lt b 256) bytes ≡ true → Lacks 64 (encode_lower bytes)
+lacks_digits bytes each = each_is (λ x. is_lower_digit x ≡ true) (λ x. x ≢ 64) not_at (encode_lower bytes) (each_passes is_lower_digit (encode_lower bytes) (lower_encoded bytes each))
+
+record Opens (word : List ℕ) (opening : OpeningWords) : Type 0 where
+  text : word ≡ opening_text opening
+  good : IsOpening opening
+
+opening_of-some : (word : List ℕ) (opening : OpeningWords) → opening_of word ≡ Some opening → Opens word opening
+unfolding opening_of
+opening_of-some word opening h =
+    let p = bind_some (split_of 64 word) (λ p. of_digits 64 p.0 >>= λ print. address_of p.1 >>= λ at. Some (record { print = print; at = at })) opening h in
+    let b = bind_some (of_digits 64 p.0.0) (λ print. address_of p.0.1 >>= λ at. Some (record { print = print; at = at })) opening p.2 in
+    let a = bind_some (address_of p.0.1) (λ at. Some (record { print = b.0; at = at })) opening b.2 in
+    let print = of_digits-some 32 p.0.0 b.0 b.1 in
+    let at = address_of-some p.0.1 a.0 a.1 in
+    subst (λ (o : OpeningWords). Opens word o) (some_some (record { print = b.0; at = a.0 }) opening a.2) (record {
+      text = split_joined 64 word p.0 p.1 ∙ ap (λ (xs : List ℕ). xs ++ 64 ∷ p.0.1) print.0 ∙ ap (λ (xs : List ℕ). encode_lower b.0 ++ 64 ∷ xs) at.0;
+      good = record { print = print.1; at = at.1 };
+    })
+
+opening_of-text : (opening : OpeningWords) → IsOpening opening → opening_of (opening_text opening) ≡ Some opening
+unfolding opening_of
+opening_of-text opening is =
+    ap (λ (o : Option (List ℕ × List ℕ)). o >>= λ p. of_digits 64 p.0 >>= λ print. address_of p.1 >>= λ at. Some (record { print = print; at = at })) (split_text 64 (encode_lower opening.print) (address_text opening.at) (lacks_digits opening.print is.print.each))
+    ∙ ap (λ (o : Option (List ℕ)). o >>= λ print. address_of (address_text opening.at) >>= λ at. Some (record { print = print; at = at })) (of_digits-text 32 opening.print is.print)
+    ∙ ap (λ (o : Option AddressParts). o >>= λ at. Some (record { print = opening.print; at = at })) (address_of-text opening.at is.at)
+
+-- one more, in front
+pub opening_goes : (done : List OpeningWords) (word : List ℕ) (words : List (List ℕ)) (opening : OpeningWords) → opening_of word ≡ Some opening → openings_from done (word ∷ words) ≡ openings_from (done ++ opening ∷ []) words
+unfolding openings_from
+opening_goes done word words opening is = ap (λ (o : Option OpeningWords). o >>= λ x. openings_from (done ++ x ∷ []) words) is
+
+pub opening_stops : (done : List OpeningWords) (word : List ℕ) (words : List (List ℕ)) → opening_of word ≡ None → openings_from done (word ∷ words) ≡ None
+unfolding openings_from
+opening_stops done word words is = ap (λ (o : Option OpeningWords). o >>= λ x. openings_from (done ++ x ∷ []) words) is
+
+pub openings_end : (done : List OpeningWords) (words : List (List ℕ)) → length words < 1 → openings_from done words ≡ Some done
+unfolding openings_from
+openings_end done [] none = refl
+openings_end done (word ∷ words) none = absurd (omega (arith, none))
+
+record AreOpenings (done : List OpeningWords) (words : List (List ℕ)) (openings more : List OpeningWords) : Type 0 where
+  all : openings ≡ done ++ more
+  texts : words ≡ map opening_text more
+  good : EachIsOpening more
+
+openings_from-some : (done : List OpeningWords) (words : List (List ℕ)) (openings : List OpeningWords) → openings_from done words ≡ Some openings → (more : List OpeningWords) × AreOpenings done words openings more
+unfolding openings_from
+openings_from-some done [] openings h = ([], record { all = sym (some_some done openings h) ∙ sym (append-nil done); texts = refl; good = tt })
+openings_from-some done (word ∷ words) openings h =
+    let o = bind_some (opening_of word) (λ x. openings_from (done ++ x ∷ []) words) openings h in
+    let one = opening_of-some word o.0 o.1 in
+    let more = openings_from-some (done ++ o.0 ∷ []) words openings o.2 in (
+      o.0 ∷ more.0,
+      record {
+        all = more.1.all ∙ append_assoc done (o.0 ∷ []) more.0;
+        texts = ap (λ (w : List ℕ). w ∷ words) one.text ∙ ap (λ (ws : List (List ℕ)). opening_text o.0 ∷ ws) more.1.texts;
+        good = (one.good, more.1.good);
+      },
+    )
+
+openings_from-text : (done more : List OpeningWords) → EachIsOpening more → openings_from done (map opening_text more) ≡ Some (done ++ more)
+unfolding openings_from
+openings_from-text done [] good = ap (λ (os : List OpeningWords). Some os) (sym (append-nil done))
+openings_from-text done (opening ∷ more) good =
+    opening_goes done (opening_text opening) (map opening_text more) opening (opening_of-text opening good.0)
+    ∙ openings_from-text (done ++ opening ∷ []) more good.1
+    ∙ ap (λ (os : List OpeningWords). Some os) (append_assoc done (opening ∷ []) more)
+
+-- ---- the plain words
+
+pub record ArePlaces (words : List (List ℕ)) (p : Places) : Type 0 where
+  pub texts : words ≡ address_text p.bind ∷ encode_lower p.group ∷ p.name ∷ map opening_text p.openings
+  pub bind : IsPlainAddress p.bind
+  pub group : AreBytes 32 p.group
+  pub name : IsNodeName p.name
+  pub openings : EachIsOpening p.openings
+
+places_texts : List ℕ → List ℕ → List ℕ → List (List ℕ) → List (List ℕ)
+places_texts a b c ws = a ∷ b ∷ c ∷ ws
+
+pub places_of-some : (words : List (List ℕ)) (p : Places) → places_of words ≡ Some p → ArePlaces words p
+unfolding places_of places_texts
+places_of-some [] p h = absurd (cc)
+places_of-some (first ∷ []) p h = absurd (cc)
+places_of-some (first ∷ second ∷ []) p h = absurd (cc)
+places_of-some (first ∷ second ∷ third ∷ words) p h =
+    let a = bind_some (address_of first) (λ bind. of_digits 64 second >>= λ group. node_name_of third >>= λ name. openings_from [] words >>= λ openings. Some (record { bind = bind; group = group; name = name; openings = openings })) p h in
+    let b = bind_some (of_digits 64 second) (λ group. node_name_of third >>= λ name. openings_from [] words >>= λ openings. Some (record { bind = a.0; group = group; name = name; openings = openings })) p a.2 in
+    let n = bind_some (node_name_of third) (λ name. openings_from [] words >>= λ openings. Some (record { bind = a.0; group = b.0; name = name; openings = openings })) p b.2 in
+    let o = bind_some (openings_from [] words) (λ openings. Some (record { bind = a.0; group = b.0; name = n.0; openings = openings })) p n.2 in
+    let bind = address_of-some first a.0 a.1 in
+    let group = of_digits-some 32 second b.0 b.1 in
+    let name = node_name-some third n.0 n.1 in
+    let more = openings_from-some [] words o.0 o.1 in
+    subst (λ (x : Places). ArePlaces (first ∷ second ∷ third ∷ words) x) (some_some (record { bind = a.0; group = b.0; name = n.0; openings = o.0 }) p o.2) (record {
+      texts = ap (λ x. places_texts x second third words) bind.0
+          ∙ ap (λ x. places_texts (address_text a.0) x third words) group.0
+          ∙ ap (λ x. places_texts (address_text a.0) (encode_lower b.0) x words) name.0
+          ∙ ap (λ x. places_texts (address_text a.0) (encode_lower b.0) n.0 x) (more.1.texts ∙ ap (map opening_text) (sym more.1.all));
+      bind = bind.1;
+      group = group.1;
+      name = name.1;
+      openings = subst EachIsOpening (sym more.1.all) more.1.good;
+    })
+
+pub places_of-said : (p : Places) → IsPlainAddress p.bind → AreBytes 32 p.group → IsNodeName p.name → EachIsOpening p.openings → places_of (address_text p.bind ∷ encode_lower p.group ∷ p.name ∷ map opening_text p.openings) ≡ Some p
+unfolding places_of
+places_of-said p bind group name openings =
+    ap (λ (o : Option AddressParts). o >>= λ a. of_digits 64 (encode_lower p.group) >>= λ b. node_name_of p.name >>= λ n. openings_from [] (map opening_text p.openings) >>= λ os. Some (record { bind = a; group = b; name = n; openings = os })) (address_of-text p.bind bind)
+    ∙ ap (λ (o : Option (List ℕ)). o >>= λ b. node_name_of p.name >>= λ n. openings_from [] (map opening_text p.openings) >>= λ os. Some (record { bind = p.bind; group = b; name = n; openings = os })) (of_digits-text 32 p.group group)
+    ∙ ap (λ (o : Option (List ℕ)). o >>= λ n. openings_from [] (map opening_text p.openings) >>= λ os. Some (record { bind = p.bind; group = p.group; name = n; openings = os })) (node_name-text p.name name)
+    ∙ ap (λ (o : Option (List OpeningWords)). o >>= λ os. Some (record { bind = p.bind; group = p.group; name = p.name; openings = os })) (openings_from-text [] p.openings openings)
+
+-- ---- values of options
+
+pub instance_of-some : (value instance : Option (List ℕ)) → instance_of value ≡ Some instance → (value ≡ option_map encode_lower instance) × IsInstance instance
+unfolding instance_of
+instance_of-some None instance h =
+    subst (λ (x : Option (List ℕ)). (None ≡ option_map encode_lower x) × IsInstance x) (some_some None instance h) (refl, tt)
+instance_of-some (Some word) instance h =
+    let b = bind_some (of_digits 32 word) (λ bytes. Some (Some bytes)) instance h in
+    let found = of_digits-some 16 word b.0 b.1 in
+    subst (λ (x : Option (List ℕ)). (Some word ≡ option_map encode_lower x) × IsInstance x) (some_some (Some b.0) instance b.2) (ap (λ (w : List ℕ). Some w) found.0, found.1)
+
+pub instance_of-text : (instance : Option (List ℕ)) → IsInstance instance → instance_of (option_map encode_lower instance) ≡ Some instance
+unfolding instance_of
+instance_of-text None is = refl
+instance_of-text (Some bytes) is = ap (λ (o : Option (List ℕ)). o >>= λ x. Some (Some x)) (of_digits-text 16 bytes is)
+
+message_of-some : (word bytes : List ℕ) → message_of word ≡ Some bytes → (word ≡ encode_lower bytes) × IsMessage bytes
+unfolding message_of
+message_of-some word bytes h = elim (if-some (nat_le 1 (length word) && nat_le (length word) 2000) (digits_of word) None bytes h) [
+  | inl a ↦
+      let found = digits_of-some word bytes a.1 in
+      let test = and_parts (nat_le 1 (length word)) (nat_le (length word) 2000) a.0 in
+      let least : 1 ≤ length word = grind (arith, nat_tests, test.0) in
+      let most : length word ≤ 2000 = grind (arith, nat_tests, test.1) in
+      let long : length word ≡ 2 * length bytes = ap length found.0 ∙ length-encoded bytes in
+      (found.0, record { some = omega (arith, least, long); most = omega (arith, most, long); each = found.1 })
+  | inr b ↦ absurd (let e : None ≡ Some bytes = b.1 in cc)
+]
+
+message_of-text : (bytes : List ℕ) → IsMessage bytes → message_of (encode_lower bytes) ≡ Some bytes
+unfolding message_of
+message_of-text bytes is =
+    let long : length (encode_lower bytes) ≡ 2 * length bytes = length-encoded bytes in
+    let low : 1 ≤ length bytes = is.some in
+    let high : length bytes ≤ 1000 = is.most in
+    let least : 1 ≤ length (encode_lower bytes) = omega (arith, long, low) in
+    let most : length (encode_lower bytes) ≤ 2000 = omega (arith, long, high) in
+    ap (λ (b : Bool). if b then digits_of (encode_lower bytes) else None) (and_from _ _ (le-leb 1 (length (encode_lower bytes)) least) (le-leb (length (encode_lower bytes)) 2000 most))
+    ∙ digits_of-encoded bytes is.each
+
+pub send_of-some : (value send : Option (List ℕ)) → send_of value ≡ Some send → (value ≡ option_map encode_lower send) × IsSent send
+unfolding send_of
+send_of-some None send h =
+    subst (λ (x : Option (List ℕ)). (None ≡ option_map encode_lower x) × IsSent x) (some_some None send h) (refl, tt)
+send_of-some (Some word) send h =
+    let b = bind_some (message_of word) (λ bytes. Some (Some bytes)) send h in
+    let found = message_of-some word b.0 b.1 in
+    subst (λ (x : Option (List ℕ)). (Some word ≡ option_map encode_lower x) × IsSent x) (some_some (Some b.0) send b.2) (ap (λ (w : List ℕ). Some w) found.0, found.1)
+
+pub send_of-text : (send : Option (List ℕ)) → IsSent send → send_of (option_map encode_lower send) ≡ Some send
+unfolding send_of
+send_of-text None is = refl
+send_of-text (Some bytes) is = ap (λ (o : Option (List ℕ)). o >>= λ x. Some (Some x)) (message_of-text bytes is)
+
+-- ---- as the reader of openings tells it
+
+pub next_opening : (done now : List OpeningWords) (rest after all : List (List ℕ)) (word text : List ℕ) (opening : OpeningWords) (found : Option OpeningWords) → openings_from done rest ≡ openings_from [] all → rest ≡ word ∷ after → text ≡ word → found ≡ opening_of text → found ≡ Some opening → now ≡ done ++ opening ∷ [] →
+    openings_from now after ≡ openings_from [] all
+next_opening done now rest after all word text opening found before split same told is pushed =
+    ap (λ (os : List OpeningWords). openings_from os after) pushed
+    ∙ sym (opening_goes done word after opening (ap opening_of (sym same) ∙ sym told ∙ is))
+    ∙ ap (openings_from done) (sym split)
+    ∙ before
+
+pub bad_opening : (done : List OpeningWords) (rest after all : List (List ℕ)) (word text : List ℕ) (found : Option OpeningWords) → openings_from done rest ≡ openings_from [] all → rest ≡ word ∷ after → text ≡ word → found ≡ opening_of text → found ≡ None → openings_from [] all ≡ None
+bad_opening done rest after all word text found before split same told is =
+    sym before
+    ∙ ap (openings_from done) split
+    ∙ opening_stops done word after (ap opening_of (sym same) ∙ sym told ∙ is)
+
+pub no_opening : (done : List OpeningWords) (rest all : List (List ℕ)) → openings_from done rest ≡ openings_from [] all → length rest ≡ 0 → openings_from [] all ≡ Some done
+no_opening done rest all before none = sym before ∙ openings_end done rest (omega (arith, none))
