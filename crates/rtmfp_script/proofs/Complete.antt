@@ -6,10 +6,10 @@ use Rattle.rtmfp_forms.specs.Address.{AddressParts}
 use Rattle.rtmfp_text.specs.AddressText.{address_text}
 use Rattle.rtmfp_text.specs.Words.{bytes_text}
 use Rattle.rtmfp_script.specs.declared.line.ScriptLine.{ScriptLine}
-use Rattle.rtmfp_script.specs.declared.line.ScriptLine.TheVariants.{End, At, Open, Cancel, Tick, Deliver, Bent, Inject, Forge}
+use Rattle.rtmfp_script.specs.declared.line.ScriptLine.TheVariants.{End, At, Open, Cancel, Close, Tick, Deliver, Bent, Inject, Forge}
 use Rattle.rtmfp_script.specs.Grammar.{IsName, IsCert, IsPlainAddress, IsBytesUpTo, EachIsPlainAddress, IsWithin, IsLineOf, line_text, words_text, line_limit}
 use Rattle.rtmfp_script.specs.Fields.{split_of, ◌>>=◌}
-use Rattle.rtmfp_script.specs.Lines.{end_of, at_of, open_of, open_to, cancel_of, tick_of, deliver_of, bent_of, inject_of, forge_of, word_of, step_of}
+use Rattle.rtmfp_script.specs.Lines.{end_of, at_of, open_of, open_to, cancel_of, close_of, tick_of, deliver_of, bent_of, inject_of, forge_of, word_of, step_of}
 use Rattle.rtmfp_script.proofs.Splits.{split_text, split_nothing}
 use Rattle.rtmfp_script.proofs.Numbers.{number_of-decimal, number_below-decimal}
 use Rattle.rtmfp_script.proofs.Digits.{bytes_of-text}
@@ -40,6 +40,10 @@ at_read moment m = rw (number_of-decimal moment m) refl
 cancel_read : (name : List ℕ) (number : ℕ) → IsName name → number < 2 ^ 64 → cancel_of (name ++ 32 ∷ decimal number) ≡ Some (Cancel name number)
 unfolding cancel_of
 cancel_read name number n m = rw (split_text 32 name (decimal number) (lacks_name name n), name_of-name name n, number_of-decimal number m) refl
+
+close_read : (name : List ℕ) (near : ℕ) → IsName name → near < 2 ^ 32 → close_of (name ++ 32 ∷ decimal near) ≡ Some (Close name near)
+unfolding close_of
+close_read name near n m = rw (split_text 32 name (decimal near) (lacks_name name n), name_of-name name n, number_below-decimal (2 ^ 32) near (omega arith) m) refl
 
 tick_read : (name : List ℕ) → IsName name → tick_of name ≡ Some (Tick name)
 unfolding tick_of
@@ -123,6 +127,7 @@ said_read (At moment) m = at_read moment m
 said_read (Open name peer []) w = open_alone name peer w.0 w.1
 said_read (Open name peer (first ∷ more)) w = open_read name peer first more w.0 w.1 w.2 w.3
 said_read (Cancel name number) w = cancel_read name number w.0 w.1
+said_read (Close name near) w = close_read name near w.0 w.1
 said_read (Tick name) n = tick_read name n
 said_read (Deliver number name from) w = deliver_read number name from w.0 w.1 w.2
 said_read (Bent number place name from) w = bent_read number place name from w.0 w.1 w.2 w.3

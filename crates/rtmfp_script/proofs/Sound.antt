@@ -10,7 +10,7 @@ use Rattle.rtmfp_script.specs.declared.line.ScriptLine.{ScriptLine}
 use Rattle.rtmfp_script.specs.declared.line.ScriptLine.TheVariants.{Open}
 use Rattle.rtmfp_script.specs.Grammar.{IsName, EachIsPlainAddress, IsWithin, IsLineOf, line_text, words_text, line_limit}
 use Rattle.rtmfp_script.specs.Fields.{split_of, name_of, cert_of, number_of, number_below, bytes_of, address_of, addresses_of, either, ◌>>=◌}
-use Rattle.rtmfp_script.specs.Lines.{end_of, at_of, open_of, open_to, cancel_of, tick_of, deliver_of, bent_of, inject_of, forge_of, word_of, step_of}
+use Rattle.rtmfp_script.specs.Lines.{end_of, at_of, open_of, open_to, cancel_of, close_of, tick_of, deliver_of, bent_of, inject_of, forge_of, word_of, step_of}
 use Rattle.rtmfp_script.proofs.Splits.{some_some, bind_some, split_joined}
 use Rattle.rtmfp_script.proofs.Numbers.{number_of-some, number_below-some}
 use Rattle.rtmfp_script.proofs.Digits.{bytes_of-some}
@@ -66,6 +66,19 @@ cancel_sound rest said h =
     let m = number_of-some a.0.1 number.0 number.1 in
     subst (IsSaid (codes "cancel") rest) (some_some _ _ number.2) (record {
       text = after (codes "cancel") rest _ (rejoin 32 rest a.0.0 a.0.1 _ _ (split_joined 32 rest a.0 a.1) n.0 m.0);
+      within = (n.1, m.1);
+    })
+
+close_sound : (rest : List ℕ) (said : ScriptLine) → close_of rest ≡ Some said → IsSaid (codes "close") rest said
+unfolding close_of
+close_sound rest said h =
+    let a = bind_some (split_of 32 rest) _ said h in
+    let name = bind_some (name_of a.0.0) _ said a.2 in
+    let near = bind_some (number_below (2 ^ 32) a.0.1) _ said name.2 in
+    let n = name_of-some a.0.0 name.0 name.1 in
+    let m = number_below-some (2 ^ 32) a.0.1 near.0 near.1 in
+    subst (IsSaid (codes "close") rest) (some_some _ _ near.2) (record {
+      text = after (codes "close") rest _ (rejoin 32 rest a.0.0 a.0.1 _ _ (split_joined 32 rest a.0 a.1) n.0 m.0);
       within = (n.1, m.1);
     })
 
@@ -222,11 +235,12 @@ word_sound word rest said =
     (by word rest said (codes "at") (at_of rest) _ (at_sound rest said)
     (by word rest said (codes "open") (open_of rest) _ (open_sound rest said)
     (by word rest said (codes "cancel") (cancel_of rest) _ (cancel_sound rest said)
+    (by word rest said (codes "close") (close_of rest) _ (close_sound rest said)
     (by word rest said (codes "tick") (tick_of rest) _ (tick_sound rest said)
     (by word rest said (codes "deliver") (deliver_of rest) _ (deliver_sound rest said)
     (by word rest said (codes "bent") (bent_of rest) _ (bent_sound rest said)
     (by word rest said (codes "inject") (inject_of rest) _ (inject_sound rest said)
-    (by word rest said (codes "forge") (forge_of rest) None (forge_sound rest said) (λ h. absurd (cc h))))))))))
+    (by word rest said (codes "forge") (forge_of rest) None (forge_sound rest said) (λ h. absurd (cc h)))))))))))
 
 pub step_sound : (line : List ℕ) (said : ScriptLine) → step_of line ≡ Some said → IsLineOf line said
 unfolding step_of

@@ -5,7 +5,7 @@ use Rattle.rtmfp_forms.specs.Address.{AddressParts, IsAddress}
 use Rattle.rtmfp_text.specs.AddressText.{address_text}
 use Rattle.rtmfp_text.specs.Words.{bytes_text}
 use Rattle.rtmfp_script.specs.declared.line.ScriptLine.{ScriptLine}
-use Rattle.rtmfp_script.specs.declared.line.ScriptLine.TheVariants.{End, At, Open, Cancel, Tick, Deliver, Bent, Inject, Forge}
+use Rattle.rtmfp_script.specs.declared.line.ScriptLine.TheVariants.{End, At, Open, Cancel, Close, Tick, Deliver, Bent, Inject, Forge}
 
 -- words, with one space between each two
 abbrev pub words_text : List (List ℕ) → List ℕ
@@ -21,6 +21,7 @@ line_text (At moment) = words_text (codes "at" ∷ decimal moment ∷ [])
 line_text (Open name peer candidates) = words_text
     (codes "open" ∷ name ∷ peer ∷ map address_text candidates)
 line_text (Cancel name number) = words_text (codes "cancel" ∷ name ∷ decimal number ∷ [])
+line_text (Close name near) = words_text (codes "close" ∷ name ∷ decimal near ∷ [])
 line_text (Tick name) = words_text (codes "tick" ∷ name ∷ [])
 line_text (Deliver number name from) = words_text
     (codes "deliver" ∷ decimal number ∷ name ∷ address_text from ∷ [])
@@ -69,6 +70,7 @@ IsWithin (At moment) = moment < 2 ^ 64
 IsWithin (Open name peer candidates) = IsName name × IsName peer × (length candidates ≤ 32) ×
     EachIsPlainAddress candidates
 IsWithin (Cancel name number) = IsName name × (number < 2 ^ 64)
+IsWithin (Close name near) = IsName name × (near < 2 ^ 32)
 IsWithin (Tick name) = IsName name
 IsWithin (Deliver number name from) = (number < 2 ^ 64) × IsName name × IsPlainAddress from
 IsWithin (Bent number place name from) = (number < 2 ^ 64) × (place < 2 ^ 64) × IsName name ×
@@ -84,6 +86,7 @@ TakesMemory (End name peers sessions cert) = ⊥
 TakesMemory (At moment) = ⊥
 TakesMemory (Open name peer candidates) = ⊥
 TakesMemory (Cancel name number) = ⊥
+TakesMemory (Close name near) = ⊥
 TakesMemory (Tick name) = ⊥
 TakesMemory (Deliver number name from) = ⊥
 TakesMemory (Bent number place name from) = ⊥

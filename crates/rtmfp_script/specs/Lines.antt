@@ -2,7 +2,7 @@
 use Rattle.std.specs.Prelude.{ℕ, ◌^◌, nat_le, List, [], length, codes, Option, Some, None, if◌then◌else◌}
 use Rattle.std.specs.Str.{bytes_eq}
 use Rattle.rtmfp_script.specs.declared.line.ScriptLine.{ScriptLine}
-use Rattle.rtmfp_script.specs.declared.line.ScriptLine.TheVariants.{End, At, Open, Cancel, Tick, Deliver, Bent, Inject, Forge}
+use Rattle.rtmfp_script.specs.declared.line.ScriptLine.TheVariants.{End, At, Open, Cancel, Close, Tick, Deliver, Bent, Inject, Forge}
 use Rattle.rtmfp_script.specs.declared.line.Said.{Said}
 use Rattle.rtmfp_script.specs.declared.line.Said.TheVariants.{Nothing, Step, Outside}
 use Rattle.rtmfp_script.specs.Grammar.{IsLineOf, IsSkipped, TakesMemory, line_limit}
@@ -39,6 +39,13 @@ cancel_of rest =
     name_of a.0 >>= λ name.
     number_of a.1 >>= λ number.
     Some (Cancel name number)
+
+unfoldable pub close_of : List ℕ → Option ScriptLine
+close_of rest =
+    split_of 32 rest >>= λ a.
+    name_of a.0 >>= λ name.
+    number_below (2 ^ 32) a.1 >>= λ near.
+    Some (Close name near)
 
 unfoldable pub tick_of : List ℕ → Option ScriptLine
 tick_of rest = name_of rest >>= λ name. Some (Tick name)
@@ -88,6 +95,7 @@ word_of word rest =
     else if bytes_eq word (codes "at") then at_of rest
     else if bytes_eq word (codes "open") then open_of rest
     else if bytes_eq word (codes "cancel") then cancel_of rest
+    else if bytes_eq word (codes "close") then close_of rest
     else if bytes_eq word (codes "tick") then tick_of rest
     else if bytes_eq word (codes "deliver") then deliver_of rest
     else if bytes_eq word (codes "bent") then bent_of rest

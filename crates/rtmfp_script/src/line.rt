@@ -93,6 +93,13 @@ pub enum ScriptLine {
         /// The number of the attempt.
         number: u64,
     },
+    /// `close NAME ID`: the end closes a session.
+    Close {
+        /// The end.
+        name: Name,
+        /// The session's ID at this end.
+        near: u32,
+    },
     /// `tick NAME`: the end does what is due.
     Tick {
         /// The end.

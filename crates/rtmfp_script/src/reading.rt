@@ -1,7 +1,7 @@
 //! Lines that are read.
 ghost use Rattle.std.specs.Prelude.{◌≡◌, ◌↔◌, IsTrue, IfErr, IfOk};
 ghost use Rattle.rtmfp_script.specs.Grammar.{IsLineOf, IsSkipped, TakesMemory};
-ghost use Rattle.rtmfp_script.specs.Lines.{end_of, at_of, open_of, open_to, cancel_of, tick_of, deliver_of, bent_of, inject_of, forge_of, word_of, step_of, StepTakesMemory, Says};
+ghost use Rattle.rtmfp_script.specs.Lines.{end_of, at_of, open_of, open_to, cancel_of, close_of, tick_of, deliver_of, bent_of, inject_of, forge_of, word_of, step_of, StepTakesMemory, Says};
 
 use crate::address::{address, addresses};
 use crate::bytes::bytes;
@@ -79,6 +79,17 @@ fn read_cancel(rest: &[u8]) -> Option<ScriptLine>
     Some(ScriptLine::Cancel {
         name: name(first)?,
         number: number(rest)?,
+    })
+}
+
+#[tactic(auto, unfolding(crate::specs::Lines::close_of))]
+fn read_close(rest: &[u8]) -> Option<ScriptLine>
+    ensures { result ≡ close_of rest.now }
+{
+    let (first, rest) = split(b' ', rest)?;
+    Some(ScriptLine::Close {
+        name: name(first)?,
+        near: number32(rest)?,
     })
 }
 
@@ -180,6 +191,9 @@ fn read_word(alloc: Global, word: &[u8], rest: &[u8]) -> Result<Option<ScriptLin
     }
     if word == b"cancel".as_slice() {
         return Ok(read_cancel(rest));
+    }
+    if word == b"close".as_slice() {
+        return Ok(read_close(rest));
     }
     if word == b"tick".as_slice() {
         return Ok(read_tick(rest));
