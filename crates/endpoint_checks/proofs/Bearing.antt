@@ -1,6 +1,7 @@
 -- What the table refuses of a Born.
 use Rattle.std.proofs.Common.{ℕ, ◌+◌, ◌<◌, ◌≤◌, List, [], ◌∷◌, length, drop, length-drop, max, ◌≡◌, ◌≢◌, ◌⊎◌, inl, inr, refl, sym, ap, subst, ◌∙◌, cond, Some, None, true, false, arith}
-use Rattle.std.specs.Prelude.{Bool, ◌==◌, ◌||◌}
+use Rattle.std.specs.Prelude.{Bool, ◌==◌, ◌||◌, if◌then◌else◌}
+use Rattle.std.proofs.lemmas.Bool.{eq-eqb}
 use Rattle.std.specs.List.{list_any}
 use Rattle.std.specs.Str.{bytes_eq}
 use Rattle.crypto_profile.specs.declared.keys.Context.TheVariants.{Startup}
@@ -15,15 +16,12 @@ use Rattle.endpoint_model.specs.Event.{Receive}
 use Rattle.rtmfp_packet.specs.Walk.{Placed}
 use Rattle.cookies.specs.Cookie.{IsCookieOf}
 use Rattle.cookies.proofs.Reading.{one_place_and_moment}
-use Rattle.glare_core.specs.declared.facts.Why.TheVariants.{Cancelled}
-use Rattle.glare_core.specs.declared.facts.Fact.{Fact}
-use Rattle.glare_core.specs.declared.facts.Fact.TheVariants.{Started, Ended}
 use Rattle.glare_core.specs.declared.facts.Held.{Held}
 use Rattle.glare_core.specs.declared.facts.Held.TheVariants.{Opening, HalfOpen}
 use Rattle.glare_core.specs.declared.facts.Joined.{Joined}
-use Rattle.glare_core.specs.Standing.{held, peers_in, peer_of}
-use Rattle.endpoint_model.specs.Event.{Setup, own_of}
-use Rattle.endpoint_laws.specs.Past.{ids_in_use}
+use Rattle.glare_core.specs.Standing.{held, peers_in}
+use Rattle.endpoint_model.specs.Event.{Setup, own_of, Event}
+use Rattle.endpoint_laws.specs.Past.{Stamped, Happening, OfEvent, OfEntry, begun, facts_of, ids_in_use, is_close}
 use Rattle.endpoint_model.specs.Keying.{IsFirst, IsSigned, chunks_of, initiator_part}
 use Rattle.endpoint_laws.specs.Admissible.{Admissible, Offer}
 use Rattle.endpoint_laws.specs.Lawful.{WayMade, IsLawful}
@@ -34,13 +32,19 @@ use Rattle.endpoint_checks.proofs.Brings.{one_packet, one_first, one_keying, One
 
 -- ---- the facts before
 
-none_before : (before : List Fact) (peer : List ℕ) → WayMade [] before peer → before ≡ []
-none_before before peer (inl e) = sym e
-none_before before peer (inr (near, why, way, e)) = absurd (cc)
+is_entry : Happening → Bool
+is_entry (OfEvent event) = false
+is_entry (OfEntry entry) = true
 
-start_before : (before : List Fact) (peer p nonce : List ℕ) (n near : ℕ) → WayMade (Started p n near nonce ∷ []) before peer → before ≡ Started p n near nonce ∷ []
-start_before before peer p nonce n near (inl e) = sym e
-start_before before peer p nonce n near (inr (id, why, way, e)) = absurd (cc)
+entry_first : List Stamped → Bool
+entry_first [] = false
+entry_first (s ∷ earlier) = is_entry s.what
+
+-- where an event has just begun, there is no Ended that makes way
+before_is : (now moment : ℕ) (e : Event) (rest before : List Stamped) (peer : List ℕ) → WayMade now (begun moment e ∷ rest) before peer → before ≡ begun moment e ∷ rest
+unfolding is_entry entry_first
+before_is now moment e rest before peer (inl same) = sym same
+before_is now moment e rest before peer (inr (near, why, way, is)) = absurd (let clash : false ≡ true = ap entry_first is in cc)
 
 too_short : (sent : List ℕ) → 32 ≤ length (drop 4 sent) → length sent < 36 → ⊥
 too_short sent long short = omega (arith, length-drop 4 sent, long, short)
@@ -56,6 +60,7 @@ pub births_refused : TheTableRefusesBirths
 births_refused setup moment from sent draws j = record {
   in_open = λ towards candidates h. h.0.0.1.by;
   in_cancel = λ n h. h.0.0.1.by;
+  in_close = λ near h. h.0.0.1.by;
   in_tick = λ h. h.0.0.1.by;
   short = λ short h. too_short sent h.0.0.1.by.0.reads.opens.opens.0 short;
   other_id = λ differ h. differ h.0.0.1.by.0.reads.opens.id;
@@ -72,17 +77,19 @@ births_refused setup moment from sent draws j = record {
   wide_number = λ wide h. let number = h.0.0.1.by.0.number in omega (arith, number, wide);
   not_new = λ e h. let above = h.0.0.0.above in omega (arith, above, e);
   nonce_size = λ differ h. differ h.0.0.1.by.0.nonce_size;
-  no_row = λ zero h. let line = h.0.0.1 in no_room setup.config.max_peers j.peer (peers_in line.before) (ap peers_in (none_before line.before j.peer line.way)) zero line.by.0.row;
+  no_row = λ zero h.
+      let line = h.0.0.1 in
+      no_room setup.config.max_peers j.peer (peers_in (facts_of line.before)) (ap (λ (past : List Stamped). peers_in (facts_of past)) (before_is _ _ _ [] line.before j.peer line.way)) zero line.by.0.row;
   no_place = λ zero h.
       let line = h.0.0.1 in
-      let none = none_before line.before j.peer line.way in
-      let place = line.by.0.place (ap (held j.peer) none) in
+      let none = before_is _ _ _ [] line.before j.peer line.way in
+      let place = line.by.0.place (ap (λ (past : List Stamped). held j.peer (facts_of past)) none) in
       omega (arith, place, zero);
 }
 
 -- ---- what the keying of the datagram says
 
-module _ (setup : Setup) (facts : List Fact) (now : ℕ) (from : AddressParts) (sent : List ℕ) (offer : Offer) (k : Keying) (b : BringsKeying setup.secret sent k) (a : Admissible setup facts now from sent offer) where
+module _ (setup : Setup) (past : List Stamped) (now : ℕ) (from : AddressParts) (sent : List ℕ) (offer : Offer) (k : Keying) (b : BringsKeying setup.secret sent k) (a : Admissible setup past now from sent offer) where
   same_chunk : a.chunk ≡ b.chunk
   same_chunk =
       one_first a.chunk b.chunk (chunks_of b.packet) (subst (λ (p : Whole). IsFirst a.chunk (chunks_of p)) (one_packet setup.secret Startup 0 sent a.packet b.packet a.reads b.reads) a.first) b.first
@@ -154,13 +161,18 @@ seen_count : (b : Bool) (k n : ℕ) → b ≡ true → cond b (max 0 (cond b (ma
 seen_count true k n e above = omega (arith, above)
 seen_count false k n e above = absurd (cc)
 
-kept_before : (before : List Fact) (peer other nonce : List ℕ) → other ≢ peer → WayMade (Ended other 5 Cancelled ∷ Started other 1 5 nonce ∷ []) before peer → before ≡ Ended other 5 Cancelled ∷ Started other 1 5 nonce ∷ []
-kept_before before peer other nonce differ (inl e) = sym e
-kept_before before peer other nonce differ (inr (id, why, way, e)) = absurd (differ (ap first_peer e))
-  where
-    first_peer : List Fact → List ℕ
-    first_peer [] = []
-    first_peer (fact ∷ facts) = peer_of fact
+-- the session ID of a session that is closing is in use
+pub kept_in_use : (closes : Bool) (id near : ℕ) (others : List ℕ) → closes ≡ true → id ≡ near → list_any (λ (x : ℕ). x == near) (if closes then id ∷ [] else others) ≡ false → ⊥
+kept_in_use true id near others closes e unused = let clash : true ≡ false = sym (ap (λ (b : Bool). b || false) (eq-eqb id near e)) ∙ unused in cc
+kept_in_use false id near others closes e unused = absurd (cc)
+
+one_kept : (closes : Bool) (id : ℕ) (others : List ℕ) → closes ≡ true → length (if closes then id ∷ [] else others) ≡ 1
+one_kept true id others closes = refl
+one_kept false id others closes = absurd (cc)
+
+none_after : (b : Bool) (x : Held) → cond b None (cond b (Some x) None) ≡ None
+none_after true x = refl
+none_after false x = refl
 
 pub later_births_refused : TheTableRefusesLaterBirths
 later_births_refused setup moment c d from sent draws p nonce j = record {
@@ -172,14 +184,22 @@ later_births_refused setup moment c d from sent draws p nonce j = record {
   not_above = λ far k nr low h. let above = seen_count (bytes_eq j.peer j.peer) k j.n (same j.peer j.peer refl) h.1.1.0.1.0.0.above in omega (arith, above, low);
   no_row = λ one differ h.
       let line = h.1.0.0.1 in
-      one_row setup.config.max_peers j.peer p (peers_in line.before) (ap peers_in (start_before line.before j.peer p nonce 1 5 line.way)) differ one line.by.0.row;
+      one_row setup.config.max_peers j.peer p (peers_in (facts_of line.before)) (ap (λ (past : List Stamped). peers_in (facts_of past)) (before_is _ _ _ _ line.before j.peer line.way)) differ one line.by.0.row;
   no_place = λ one differ h.
       let line = h.1.0.0.1 in
-      let before = start_before line.before j.peer p nonce 1 5 line.way in
-      let free : held j.peer line.before ≡ None = ap (held j.peer) before ∙ none_held (bytes_eq p j.peer) (Opening 1 5 nonce) (other p j.peer differ) in
+      let before = before_is _ _ _ _ line.before j.peer line.way in
+      let free : held j.peer (facts_of line.before) ≡ None = ap (λ (past : List Stamped). held j.peer (facts_of past)) before ∙ none_held (bytes_eq p j.peer) (Opening 1 5 nonce) (other p j.peer differ) in
       let place = line.by.0.place free in
-      omega (arith, place, one, ap (λ (facts : List Fact). length (ids_in_use facts)) before);
+      omega (arith, place, one, ap (λ (past : List Stamped). length (ids_in_use past)) before);
+  of_closing = λ b why is e h. kept_in_use (is_close why) b.near j.near _ is e h.1.1.0.0.1.id.unused;
+  place_kept = λ b why is one h.
+      let line = h.1.1.0.0.1 in
+      let before = before_is _ _ _ _ line.before j.peer line.way in
+      let free : held j.peer (facts_of line.before) ≡ None = ap (λ (past : List Stamped). held j.peer (facts_of past)) before ∙ none_after (bytes_eq b.peer j.peer) (HalfOpen b) in
+      let place = line.by.0.place free in
+      let kept = ap (λ (past : List Stamped). length (ids_in_use past)) before ∙ one_kept (is_close why) b.near _ is in
+      omega (arith, place, one, kept);
   row_kept = λ one differ h.
       let line = h.1.1.0.0.1 in
-      one_row setup.config.max_peers j.peer p (peers_in line.before) (ap peers_in (kept_before line.before j.peer p nonce differ line.way)) differ one line.by.0.row;
+      one_row setup.config.max_peers j.peer p (peers_in (facts_of line.before)) (ap (λ (past : List Stamped). peers_in (facts_of past)) (before_is _ _ _ _ line.before j.peer line.way)) differ one line.by.0.row;
 }

@@ -5,11 +5,9 @@ use Rattle.std.specs.Str.{bytes_eq}
 use Rattle.glare_core.specs.declared.facts.Held.{Held}
 use Rattle.glare_core.specs.declared.facts.Held.TheVariants.{Opening, HalfOpen, KeptAsResponder, KeptAsInitiator}
 use Rattle.glare_core.specs.Things.{IsAttempt, IsSession, near_of}
-use Rattle.endpoint_model.specs.declared.entry.Entry.{Entry}
-use Rattle.endpoint_model.specs.Event.{Event}
-use Rattle.endpoint_laws.specs.Past.{Stamped, WasDone, stamped, begun, OfEntry, OfEvent}
-use Rattle.endpoint_checks.specs.Ends.{TheTableRefusesCancels, TheTableRefusesExpiries, TheTableRefusesWays, TheTableRefusesOtherEnds}
+use Rattle.endpoint_checks.specs.Ends.{TheTableRefusesCancels, TheTableRefusesExpiries, TheTableRefusesWays}
 use Rattle.endpoint_checks.proofs.Logs.{same, other}
+use Rattle.endpoint_checks.proofs.Pasts.{was_once}
 
 -- ---- what is held where one thing was begun
 
@@ -17,11 +15,11 @@ is_it : (b : Bool) (x y : Held) → b ≡ true → cond b (Some x) None ≡ Some
 is_it true x y e is = cc
 is_it false x y e is = absurd (cc)
 
-isnt_it : (b : Bool) (x y : Held) → b ≡ false → cond b (Some x) None ≡ Some y → ⊥
+pub isnt_it : (b : Bool) (x y : Held) → b ≡ false → cond b (Some x) None ≡ Some y → ⊥
 isnt_it true x y e is = cc
 isnt_it false x y e is = cc
 
-held_here : (peer : List ℕ) (x y : Held) → cond (bytes_eq peer peer) (Some x) None ≡ Some y → x ≡ y
+pub held_here : (peer : List ℕ) (x y : Held) → cond (bytes_eq peer peer) (Some x) None ≡ Some y → x ≡ y
 held_here peer x y is = is_it (bytes_eq peer peer) x y (same peer peer refl) is
 
 number_of_opening : Held → ℕ
@@ -34,19 +32,16 @@ one_number : (peer ni : List ℕ) (n near : ℕ) → Opening 1 5 peer ≡ Openin
 unfolding number_of_opening
 one_number peer ni n near e = sym (ap number_of_opening e)
 
-not_begun : (moment now : ℕ) (entry : Entry) (e : Event) → stamped moment entry ≡ begun now e → ⊥
-not_begun moment now entry e is = let clash : OfEntry entry ≡ OfEvent e = ap (λ (s : Stamped). s.what) is in absurd (cc)
-
--- of one entry of one event, before another one began
-overdue_since : (moment start : ℕ) (entry : Entry) (y : Stamped) (m n : ℕ) (d e : Event) → WasDone (stamped start entry) (begun n e ∷ y ∷ begun m d ∷ []) → y.moment ≡ moment → start ≡ moment
-overdue_since moment start entry y m n d e (inl is) at = absurd (not_begun start n entry e is)
-overdue_since moment start entry y m n d e (inr (inl is)) at = ap (λ (s : Stamped). s.moment) is ∙ at
-overdue_since moment start entry y m n d e (inr (inr (inl is))) at = absurd (not_begun start m entry d is)
-overdue_since moment start entry y m n d e (inr (inr (inr none))) at = absurd none
-
-holds : (b : Bool) (x : Held) → b ≡ true → cond b (Some x) None ≡ Some x
+pub holds : (b : Bool) (x : Held) → b ≡ true → cond b (Some x) None ≡ Some x
 holds true x e = refl
 holds false x e = absurd (cc)
+
+pub no_thing : (x : Held) → None ≡ Some x → ⊥
+no_thing x e = cc
+
+-- a moment that comes too early
+pub young : (begun now start span : ℕ) → start ≡ begun → start + span ≤ now → now + 1 ≡ begun + span → ⊥
+young begun now start span e over edge = omega arith
 
 -- ---- what is refused
 
@@ -55,6 +50,7 @@ cancels_refused setup moment c draws peer = record {
   in_open = λ towards candidates h. h.1.0.0.1.by;
   in_receive = λ from datagram h. h.1.0.0.1.by;
   in_tick = λ h. h.1.0.0.1.by;
+  in_close = λ id h. h.1.0.0.1.by;
   of_another = λ m differ h.
       let line = h.1.0.0.1 in
       differ (line.by ∙ one_number peer line.ni line.n line.near (held_here peer (Opening 1 5 peer) (Opening line.n line.near line.ni) line.is_held));
@@ -65,17 +61,15 @@ cancels_refused setup moment c draws peer = record {
   of_nothing = λ m near h. let ended = h.0.0.0 in no_thing ended.h ended.thing;
   of_session = λ j m h. let ended = h.1.0.0.0 in subst IsAttempt (sym (held_here j.peer (HalfOpen j) ended.h ended.thing)) ended.ends;
 }
-  where
-    no_thing : (x : Held) → None ≡ Some x → ⊥
-    no_thing x e = cc
 
 pub expiries_refused : TheTableRefusesExpiries
 expiries_refused setup c draws peer = record {
   in_open = λ moment towards candidates h. h.1.0.0.1.0;
   in_receive = λ moment from datagram h. h.1.0.0.1.0;
   in_cancel = λ moment m h. h.1.0.0.1.0;
-  early = λ h. let late = h.1.0.0.1.1 in young 0 94999 late.start (overdue_since 0 late.start _ _ _ _ _ _ late.started refl) late.over (omega arith);
-  early_later = λ h. let late = h.1.0.0.1.1 in young 7 95006 late.start (overdue_since 7 late.start _ _ _ _ _ _ late.started refl) late.over (omega arith);
+  in_close = λ moment id h. h.1.0.0.1.0;
+  early = λ h. let late = h.1.0.0.1.1 in young 0 94999 late.start 95000 (was_once late.start _ 0 _ _ _ _ late.started) late.over (omega arith);
+  early_later = λ h. let late = h.1.0.0.1.1 in young 7 95006 late.start 95000 (was_once late.start _ 7 _ _ _ _ late.started) late.over (omega arith);
   other_id = λ moment near differ h.
       let ended = h.1.0.0.0 in
       differ (ended.id ∙ sym (ap near_of (held_here peer (Opening 1 5 peer) ended.h ended.thing)));
@@ -93,12 +87,6 @@ expiries_refused setup c draws peer = record {
     },
   );
 }
-  where
-    no_thing : (x : Held) → None ≡ Some x → ⊥
-    no_thing x e = cc
-
-    young : (begun now start : ℕ) → start ≡ begun → start + 95000 ≤ now → now + 1 ≡ begun + 95000 → ⊥
-    young begun now start e over edge = omega arith
 
 pub ways_refused : TheTableRefusesWays
 ways_refused setup moment c d peer j = record {
@@ -115,12 +103,4 @@ ways_refused setup moment c d peer j = record {
   override_after_discard = λ at cause b h. h.1.0.0.1;
   override_after_out = λ to sent context b h. h.1.0.0.1;
   override_of_another = λ b differ h. differ h.1.0.0.1;
-}
-
-pub other_ends_refused : TheTableRefusesOtherEnds
-other_ends_refused setup moment c d j = record {
-  unconfirmed = λ h. h.1.0.0.1;
-  near = λ h. h.1.0.0.1;
-  far = λ h. h.1.0.0.1;
-  idle = λ e h. h.1.1.0.0.1;
 }

@@ -1,9 +1,13 @@
 mod Logs
+mod Pasts
 mod Brings
-mod Starting
+mod Taking
 mod Bearing
+mod Starting
 mod Opening
 mod Sending
 mod Ending
+mod SessionEnding
+mod Closing
 mod Stories
 mod Quarrels

@@ -56,6 +56,7 @@ unfolding number_in nonce_in near_in
 openings_refused setup moment c from sent draws j = record {
   in_open = λ towards candidates h. h.1.0.0.1;
   in_cancel = λ m h. h.1.0.0.1;
+  in_close = λ near h. h.1.0.0.1;
   in_tick = λ h. h.1.0.0.1;
   no_attempt = λ h. let clash : None ≡ Some (Opening j.n j.near j.ni) = h.0.0.0 in cc;
   other_number = λ n differ h. differ (ap number_in (is_held (bytes_eq j.peer j.peer) (Opening n j.near j.ni) (Some (Opening j.n j.near j.ni)) (same j.peer j.peer refl) h.1.0.0.0));
@@ -105,6 +106,7 @@ unfolding near_in session_in
 confirms_refused setup moment c from sent draws j = record {
   in_open = λ towards candidates h. h.1.0.0.1.by;
   in_cancel = λ m h. h.1.0.0.1.by;
+  in_close = λ near h. h.1.0.0.1.by;
   in_tick = λ h. h.1.0.0.1.by;
   nothing_held = λ h. let line = h.0.0.0 in nothing line.j line.session;
   attempt_held = λ h. let line = h.1.0.0.0 in let clash = is_held (bytes_eq j.peer j.peer) (Opening 1 j.near j.ni) (Some (HalfOpen line.j)) (same j.peer j.peer refl) line.session in cc;

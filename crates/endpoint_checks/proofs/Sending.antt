@@ -1,5 +1,5 @@
 -- What the table refuses of a datagram that goes out.
-use Rattle.std.proofs.Common.{ℕ, ◌≤◌, List, [], length, drop, length-append, ◌≡◌, ◌⊎◌, inl, inr, refl, sym, ap, subst, ◌∙◌, cond, Some, None, Ok, true, false, arith}
+use Rattle.std.proofs.Common.{ℕ, ◌≤◌, List, [], ◌∷◌, length, drop, length-append, ◌≡◌, ◌⊎◌, inl, inr, refl, sym, ap, subst, ◌∙◌, cond, Some, None, Ok, true, false, arith}
 use Rattle.std.specs.Prelude.{Bool}
 use Rattle.std.specs.Str.{bytes_eq}
 use Rattle.std.specs.Int.{w32, to_be_bytes}
@@ -14,18 +14,23 @@ use Rattle.crypto_profile.proofs.Opened.{sealed_opens, sealed_carries}
 use Rattle.packet_scramble.specs.Datagram.{datagram, scrambled}
 use Rattle.rtmfp_packet.specs.Reading.{PacketReading}
 use Rattle.rtmfp_chunks.specs.Chunk.{Chunk, IIKeying, RIKeying}
-use Rattle.glare_core.specs.declared.facts.Fact.{Fact}
+use Rattle.glare_core.specs.declared.facts.Why.{Why}
+use Rattle.glare_core.specs.declared.facts.Fact.TheVariants.{Started, Born, Opened, Ended}
 use Rattle.glare_core.specs.declared.facts.Held.{Held}
 use Rattle.glare_core.specs.declared.facts.Held.TheVariants.{Opening, HalfOpen, KeptAsResponder, KeptAsInitiator}
 use Rattle.glare_core.specs.declared.facts.Joined.{Joined}
 use Rattle.glare_core.specs.Standing.{opened}
 use Rattle.glare_core.specs.Tells.{as_responder}
-use Rattle.endpoint_model.specs.Event.{Setup, own_of}
-use Rattle.endpoint_laws.specs.Past.{Stamped, facts_of}
-use Rattle.endpoint_laws.specs.Contexts.{session_context, outward, HeldUnder}
+use Rattle.endpoint_model.specs.declared.entry.Entry.TheVariants.{Fact as FactEntry, Closed}
+use Rattle.endpoint_model.specs.Event.{Setup, own_of, Event}
+use Rattle.endpoint_laws.specs.Past.{Stamped, begun, stamped, facts_of, is_close}
+use Rattle.endpoint_laws.specs.Contexts.{session_context, outward, HeldUnder, StandsUnder}
 use Rattle.endpoint_model.specs.Keying.{initiator_part, responder_part}
-use Rattle.endpoint_laws.specs.Lawful.{OutLine, KeyingOfAttempt, KeyingOfBorn, IsBornHere, InSession, IsFarOf}
+use Rattle.endpoint_laws.specs.Lawful.{OutLine, KeyingOfAttempt, KeyingOfBorn, IsBornHere, IsFarOf}
 use Rattle.endpoint_checks.specs.Sends.{HasChunk, TheTableRefusesSends, TheTableRefusesNumbers, TheTableRefusesKeyingsSent, TheTableRefusesAnswersSent, TheTableRefusesSendsInSessions}
+use Rattle.endpoint_checks.proofs.Logs.{same}
+use Rattle.endpoint_checks.proofs.Pasts.{some_event, NothingEnds, none_closing, one_closing}
+use Rattle.endpoint_checks.proofs.Ending.{holds}
 
 -- ---- what stands behind the session ID
 
@@ -179,15 +184,50 @@ answers_sent_refused setup moment c d to sent context j near part sign has = rec
       let b = born_of setup _ sent context h.1.0.0 near part sign has in
       let sid : h.1.0.0.sid ≡ j.far = b.sid_is ∙ sym (ap (λ (s : Joined). s.far) (born_is j b.j b.is_held)) in
       none h.1.0.0.number h.1.0.0.plain (h.1.0.0.is ∙ ap (λ (id : ℕ). datagram id (sealed_in setup.secret context id h.1.0.0.number h.1.0.0.plain)) sid);
-  over = λ h. let b = born_of setup _ sent context h.1.0.0 near part sign has in birth_over (bytes_eq j.peer b.j.peer) j b.j b.is_held;
+  over = λ why h. let b = born_of setup _ sent context h.1.0.0 near part sign has in birth_over (bytes_eq j.peer b.j.peer) j b.j b.is_held;
   opened_here = λ peer ni o h. let b = born_of setup _ sent context h.1.0.0 near part sign has in no_born (bytes_eq o.peer b.j.peer) (bytes_eq peer b.j.peer) o b.j 1 5 ni b.is_held;
 }
 
 -- ---- in sessions
 
-in_session : (setup : Setup) (facts : List Fact) (sid : ℕ) (x y fp_i fp_r : List ℕ) (sid_i sid_r : ℕ) (to_responder : Bool) → InSession setup facts sid (Session x y fp_i fp_r sid_i sid_r to_responder) →
-    (thing : Held) × (near : ℕ) × HeldUnder facts near thing × (Session x y fp_i fp_r sid_i sid_r to_responder ≡ outward (own_of setup) thing) × IsFarOf thing sid
-in_session setup facts sid x y fp_i fp_r sid_i sid_r to_responder h = h
+-- where nothing has ended, what stands under an ID is held
+held_one : (near : ℕ) (thing : Held) (past : List Stamped) → NothingEnds past → StandsUnder past near thing → HeldUnder (facts_of past) near thing
+held_one near thing past none (inl h) = h
+held_one near thing past none (inr c) = absurd (none_closing near thing c.0 past none c.1)
+
+-- after no entry, one, and two of one call
+module _ (near : ℕ) (thing : Held) (m n : ℕ) (d c : Event) where
+  held_of_none : StandsUnder (begun m d ∷ []) near thing → HeldUnder [] near thing
+  held_of_none stands = held_one near thing (begun m d ∷ []) (refl, tt) stands
+
+  held_born : (j : Joined) → StandsUnder (begun m d ∷ stamped n (FactEntry (Born j)) ∷ begun n c ∷ []) near thing → HeldUnder (Born j ∷ []) near thing
+  held_born j stands = held_one near thing (begun m d ∷ stamped n (FactEntry (Born j)) ∷ begun n c ∷ []) (refl, (refl, (refl, tt))) stands
+
+  held_started : (peer ni : List ℕ) → StandsUnder (begun m d ∷ stamped n (FactEntry (Started peer 1 5 ni)) ∷ begun n c ∷ []) near thing → HeldUnder (Started peer 1 5 ni ∷ []) near thing
+  held_started peer ni stands = held_one near thing (begun m d ∷ stamped n (FactEntry (Started peer 1 5 ni)) ∷ begun n c ∷ []) (refl, (refl, (refl, tt))) stands
+
+  held_opened : (j : Joined) (ni : List ℕ) → StandsUnder (begun m d ∷ stamped n (FactEntry (Opened j)) ∷ stamped n (FactEntry (Started j.peer 1 5 ni)) ∷ begun n c ∷ []) near thing →
+      HeldUnder (Opened j ∷ Started j.peer 1 5 ni ∷ []) near thing
+  held_opened j ni stands =
+      held_one near thing (begun m d ∷ stamped n (FactEntry (Opened j)) ∷ stamped n (FactEntry (Started j.peer 1 5 ni)) ∷ begun n c ∷ []) (refl, (refl, (refl, (refl, tt)))) stands
+
+-- where the only one has ended, it is closing
+closing_one : (near : ℕ) (thing : Held) (m n : ℕ) (d c : Event) (j : Joined) (why : Why) → StandsUnder (begun m d ∷ stamped n (FactEntry (Ended j.peer j.near why)) ∷ stamped n (FactEntry (Born j)) ∷ begun n c ∷ []) near thing →
+    (is_close why ≡ true) × (HalfOpen j ≡ thing)
+closing_one near thing m n d c j why (inl h) = absurd (none_left (bytes_eq j.peer h.peer) (HalfOpen j) thing h.is_held)
+closing_one near thing m n d c j why (inr (at, closing)) =
+    let one = one_closing near thing at (begun m d ∷ []) n j.peer j.near why (stamped n (FactEntry (Born j)) ∷ begun n c ∷ []) (refl, tt) (refl, (refl, tt)) closing in
+    (one.closes, (true_is j.peer j.peer (HalfOpen j) thing one.was_held).1)
+
+-- and where that is over as well, none stands
+none_closed : (near : ℕ) (thing : Held) (m n : ℕ) (d c : Event) (j : Joined) (why : Why) →
+    StandsUnder (begun m d ∷ stamped n (Closed j.near) ∷ stamped n (FactEntry (Ended j.peer j.near why)) ∷ stamped n (FactEntry (Born j)) ∷ begun n c ∷ []) near thing → ⊥
+none_closed near thing m n d c j why (inl h) = none_left (bytes_eq j.peer h.peer) (HalfOpen j) thing h.is_held
+none_closed near thing m n d c j why (inr (at, inl x)) = x.0
+none_closed near thing m n d c j why (inr (at, inr (go, inl x))) = x.0
+none_closed near thing m n d c j why (inr (at, inr (go, inr (differ, closing)))) =
+    let one = one_closing near thing at [] n j.peer j.near why (stamped n (FactEntry (Born j)) ∷ begun n c ∷ []) tt (refl, (refl, tt)) closing in
+    differ one.id_is
 
 direction : Context → Bool
 direction Startup = false
@@ -213,24 +253,39 @@ opened_sends false false own ni j thing e is = absurd (let clash : None ≡ Some
 pub sends_in_sessions_refused : TheTableRefusesSendsInSessions
 unfolding direction
 sends_in_sessions_refused setup moment c d to sent x y fp_i fp_r sid_i sid_r to_responder j = record {
-  nothing_held = λ h. let s = h.0.0.session in nothing s.0 s.2.is_held;
+  nothing_held = λ h. let s = h.0.0.session in nothing s.0 (held_of_none s.1 s.0 _ 0 some_event some_event s.2).is_held;
   attempt_held = λ peer ni h.
       let s = h.1.0.0.session in
-      no_startup x y fp_i fp_r sid_i sid_r to_responder (s.3 ∙ ap (outward (own_of setup)) (sym (true_is peer s.2.peer (Opening 1 5 ni) s.0 s.2.is_held).1));
+      let u = held_started s.1 s.0 _ _ some_event some_event peer ni s.2 in
+      no_startup x y fp_i fp_r sid_i sid_r to_responder (s.3 ∙ ap (outward (own_of setup)) (sym (true_is peer u.peer (Opening 1 5 ni) s.0 u.is_held).1));
   other_values = λ differ h.
       let s = h.1.0.0.session in
-      differ (s.3 ∙ ap (outward (own_of setup)) (sym (true_is j.peer s.2.peer (HalfOpen j) s.0 s.2.is_held).1));
+      let u = held_born s.1 s.0 _ _ some_event some_event j s.2 in
+      differ (s.3 ∙ ap (outward (own_of setup)) (sym (true_is j.peer u.peer (HalfOpen j) s.0 u.is_held).1));
   towards = λ h.
       let s = h.1.0.0.session in
-      true_isnt_false (ap direction (s.3 ∙ ap (outward (own_of setup)) (sym (true_is j.peer s.2.peer (HalfOpen j) s.0 s.2.is_held).1)));
+      let u = held_born s.1 s.0 _ _ some_event some_event j s.2 in
+      true_isnt_false (ap direction (s.3 ∙ ap (outward (own_of setup)) (sym (true_is j.peer u.peer (HalfOpen j) s.0 u.is_held).1)));
   opened_towards = λ ni h.
       let s = h.1.0.0.session in
-      false_isnt_true (ap direction (s.3 ∙ ap (outward (own_of setup)) (opened_sends (bytes_eq j.peer s.2.peer) (bytes_eq j.peer s.2.peer) (own_of setup) ni j s.0 refl s.2.is_held)));
+      let u = held_opened s.1 s.0 _ _ some_event some_event j ni s.2 in
+      false_isnt_true (ap direction (s.3 ∙ ap (outward (own_of setup)) (opened_sends (bytes_eq j.peer u.peer) (bytes_eq j.peer u.peer) (own_of setup) ni j s.0 refl u.is_held)));
   under_another = λ none h.
       let line = h.1.0.0 in
       let s = line.session in
-      let is : HalfOpen j ≡ s.0 = (true_is j.peer s.2.peer (HalfOpen j) s.0 s.2.is_held).1 in
+      let u = held_born s.1 s.0 _ _ some_event some_event j s.2 in
+      let is : HalfOpen j ≡ s.0 = (true_is j.peer u.peer (HalfOpen j) s.0 u.is_held).1 in
       let far : line.sid ≡ j.far = subst (λ (t : Held). IsFarOf t line.sid) (sym is) s.4 in
       none line.number line.plain (line.is ∙ ap (λ (id : ℕ). datagram id (sealed_in setup.secret (session_context (as_responder (own_of setup) j) false) id line.number line.plain)) far);
-  over = λ h. let s = h.1.0.0.session in none_left (bytes_eq j.peer s.2.peer) (HalfOpen j) s.0 s.2.is_held;
+  closing_values = λ why differ h.
+      let s = h.1.0.0.session in
+      differ (s.3 ∙ ap (outward (own_of setup)) (sym (closing_one s.1 s.0 _ _ some_event some_event j why s.2).1));
+  closing_under_another = λ why none h.
+      let line = h.1.0.0 in
+      let s = line.session in
+      let far : line.sid ≡ j.far = subst (λ (t : Held). IsFarOf t line.sid) (sym (closing_one s.1 s.0 _ _ some_event some_event j why s.2).1) s.4 in
+      none line.number line.plain (line.is ∙ ap (λ (id : ℕ). datagram id (sealed_in setup.secret (session_context (as_responder (own_of setup) j) false) id line.number line.plain)) far);
+  over = λ why dropped h. let s = h.1.0.0.session in true_isnt_false (sym (closing_one s.1 s.0 _ _ some_event some_event j why s.2).0 ∙ dropped);
+  closed = λ why h. let s = h.1.0.0.session in none_closed s.1 s.0 _ _ some_event some_event j why s.2;
+  while_closing = λ why closes. (HalfOpen j, j.near, inr (0, inl ((refl, closes, holds (bytes_eq j.peer j.peer) (HalfOpen j) (same j.peer j.peer refl)), refl)), refl, refl);
 }

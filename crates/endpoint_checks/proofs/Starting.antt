@@ -1,20 +1,33 @@
 -- What the table refuses of a Started.
-use Rattle.std.proofs.Common.{ℕ, ◌==◌, [], ◌∷◌, ◌≡◌, sym, ap, refl, cond, Some, None, true, false, ◌∙◌, arith}
-use Rattle.std.specs.Prelude.{Bool}
+use Rattle.std.proofs.Common.{ℕ, ◌==◌, ◌≢◌, [], ◌∷◌, ◌≡◌, sym, ap, refl, cond, Some, None, true, false, ◌∙◌, arith}
+use Rattle.std.specs.Prelude.{Bool, filter, not}
+use Rattle.std.proofs.lemmas.Bool.{eq-eqb, ne_eqb}
 use Rattle.std.specs.List.{list_any}
 use Rattle.std.specs.Str.{bytes_eq}
 use Rattle.glare_core.specs.declared.facts.Held.{Held}
 use Rattle.glare_core.specs.declared.facts.Held.TheVariants.{Opening, HalfOpen}
 use Rattle.endpoint_checks.specs.Starts.{TheTableRefusesStarts}
+use Rattle.endpoint_laws.specs.Past.{is_close}
 use Rattle.endpoint_checks.proofs.Logs.{same, last_lawful}
+use Rattle.endpoint_checks.proofs.Bearing.{kept_in_use}
 
 taken : (b : Bool) (h : Held) → b ≡ true → cond b (Some h) None ≡ None → ⊥
 taken true h e none = cc
 taken false h e none = cc
 
+-- the end of another closing frees another session ID alone
+not_closed : (id over : ℕ) → id ≢ over → list_any (λ (x : ℕ). x == id) (filter (λ (x : ℕ). not (x == over)) (id ∷ [])) ≡ false → ⊥
+not_closed id over differ unused =
+    let e : (id == over) ≡ false = ne_eqb id over differ in
+    let same_id : (id == id) ≡ true = eq-eqb id id refl in
+    let clash : list_any (λ (x : ℕ). x == id) (filter (λ (x : ℕ). not (x == over)) (id ∷ [])) ≡ true = rw e (rw same_id refl) in
+    let no : true ≡ false = sym clash ∙ unused in
+    cc
+
 pub starts_refused : TheTableRefusesStarts
 starts_refused setup moment candidates draws peer n near ni = record {
   in_cancel = λ m h. h.0.0.1.by;
+  in_close = λ id h. h.0.0.1.by;
   in_receive = λ from datagram h. h.0.0.1.by;
   in_tick = λ h. h.0.0.1.by;
   other_peer = λ towards differ h. differ h.0.0.1.by.0;
@@ -30,5 +43,7 @@ starts_refused setup moment candidates draws peer n near ni = record {
   of_born = λ c j e h. let clash = ap (λ (x : ℕ). list_any (λ id. id == 5) (x ∷ [])) (sym e) ∙ h.1.0.0.1.id.unused in cc;
   of_confirmed = λ c d j e h. let clash = ap (λ (x : ℕ). list_any (λ id. id == 5) (x ∷ [])) (sym e) ∙ h.1.1.0.0.1.id.unused in cc;
   of_opened = λ c d other nonce j h. let clash : true ≡ false = h.1.1.0.0.1.id.unused in cc;
+  of_closing = λ c d j why is e h. kept_in_use (is_close why) j.near 5 _ is e h.1.1.0.0.1.id.unused;
+  of_another_closed = λ c d first nonce id differ h. not_closed 5 id (λ e. differ (sym e)) h.1.1.0.0.1.id.unused;
   of_another = λ c d e first second nonce h. let clash : true ≡ false = h.1.1.1.0.0.1.id.unused in cc;
 }

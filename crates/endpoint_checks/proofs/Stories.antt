@@ -6,32 +6,31 @@ use Rattle.crypto_profile.specs.declared.keys.Context.{Context}
 use Rattle.crypto_profile.specs.declared.keys.Context.TheVariants.{Startup}
 use Rattle.crypto_profile.specs.Sealing.{sealed_in, Opens}
 use Rattle.packet_scramble.specs.Datagram.{datagram, sid_of}
-use Rattle.glare_core.specs.declared.facts.Fact.{Fact}
-use Rattle.glare_core.specs.declared.facts.Fact.TheVariants.{Started, Born}
+use Rattle.glare_core.specs.declared.facts.Why.{Why}
+use Rattle.glare_core.specs.declared.facts.Fact.TheVariants.{Started, Born, Ended}
 use Rattle.glare_core.specs.declared.facts.Held.{Held}
 use Rattle.glare_core.specs.declared.facts.Held.TheVariants.{Opening, HalfOpen}
 use Rattle.glare_core.specs.Tells.{as_responder}
 use Rattle.endpoint_model.specs.Views.{out_in}
 use Rattle.endpoint_model.specs.declared.entry.Entry.TheVariants.{Out}
 use Rattle.endpoint_model.specs.Event.{Setup, own_of}
+use Rattle.endpoint_laws.specs.Past.{Stamped, is_close}
 use Rattle.endpoint_laws.specs.Contexts.{session_context, inward, OpensUnder, ContextOf}
-use Rattle.endpoint_laws.specs.History.{History, IsOut, WasSent}
+use Rattle.endpoint_laws.specs.History.{History, IsOut, WasSent, past_at}
 use Rattle.endpoint_laws.proofs.AnswerCarried.{opens_again}
 use Rattle.endpoint_checks.specs.Histories.{did, HistoriesRefuseForged, HistoriesRefuseForgedInSessions, HistoriesRefuseStale}
+use Rattle.endpoint_checks.specs.Logs.{says}
 use Rattle.endpoint_checks.proofs.Logs.{same}
+use Rattle.endpoint_checks.proofs.Ending.{holds}
 
 -- ---- honest
 
-holds : (b : Bool) (x : Held) → b ≡ true → cond b (Some x) None ≡ Some x
-holds true x e = refl
-holds false x e = absurd (cc)
-
 -- a datagram that opens in the startup context under session ID 0 was sent in it
-sent_so : (setup : Setup) (facts : List Fact) (earlier : History) (number plain : List ℕ) → length number ≡ 16 →
-    ((context : Context) (p : List ℕ) → ContextOf (own_of setup) facts (sid_of (datagram 0 (sealed_in setup.secret Startup 0 number plain))) context →
+sent_so : (setup : Setup) (past : List Stamped) (earlier : History) (number plain : List ℕ) → length number ≡ 16 →
+    ((context : Context) (p : List ℕ) → ContextOf (own_of setup) past (sid_of (datagram 0 (sealed_in setup.secret Startup 0 number plain))) context →
     OpensUnder setup.secret context (sid_of (datagram 0 (sealed_in setup.secret Startup 0 number plain))) (datagram 0 (sealed_in setup.secret Startup 0 number plain)) p → WasSent (datagram 0 (sealed_in setup.secret Startup 0 number plain)) context earlier) →
     WasSent (datagram 0 (sealed_in setup.secret Startup 0 number plain)) Startup earlier
-sent_so setup facts earlier number plain size honest =
+sent_so setup past earlier number plain size honest =
     let opens = opens_again setup.secret 0 number plain (omega arith) size in
     honest Startup plain (inl (opens.id, refl)) (record { id = refl; opens = subst (λ (sid : ℕ). Opens setup.secret Startup sid (drop 4 (datagram 0 (sealed_in setup.secret Startup 0 number plain))) plain) (sym opens.id) opens.opens })
 
@@ -40,6 +39,10 @@ one_out : (P : Type 0) → (P ⊎ ⊥) ⊎ ⊥ → P
 one_out P (inl (inl p)) = p
 one_out P (inl (inr none)) = absurd none
 one_out P (inr none) = absurd none
+
+none_out : (⊥ ⊎ ⊥) ⊎ ((⊥ ⊎ ⊥) ⊎ ⊥) → ⊥
+none_out (inl none) = one_out ⊥ (inl none)
+none_out (inr later) = one_out ⊥ later
 
 -- and of the event before a statement
 out_then : (P : Type 0) → (P ⊎ ⊥) ⊎ ((⊥ ⊎ ⊥) ⊎ ⊥) → P
@@ -56,8 +59,8 @@ forged_refused ends from to draws number plain other_bytes peer ni context n siz
   sent_itself = λ h. let sent = sent_so (ends 0) [] [] number plain size h.0 in sent;
   under_attempt = λ h.
       let opens = opens_again (ends 0).secret 5 number plain (omega arith) size in
-      let there : ContextOf (own_of (ends 0)) (Started peer n 5 ni ∷ []) (sid_of (datagram 5 (sealed_in (ends 0).secret Startup 5 number plain))) Startup =
-      inr (Opening n 5 ni, record { peer = peer; is_held = holds (bytes_eq peer peer) (Opening n 5 ni) (same peer peer refl); id = sym opens.id }, refl) in
+      let there : ContextOf (own_of (ends 0)) (past_at 0 (did 0 (says (Started peer n 5 ni)) ∷ [])) (sid_of (datagram 5 (sealed_in (ends 0).secret Startup 5 number plain))) Startup =
+      inr (Opening n 5 ni, inl (record { peer = peer; is_held = holds (bytes_eq peer peer) (Opening n 5 ni) (same peer peer refl); id = sym opens.id }), refl) in
       let sent = h.0 Startup plain there (record { id = refl; opens = subst (λ (sid : ℕ). Opens (ends 0).secret Startup sid (drop 4 (datagram 5 (sealed_in (ends 0).secret Startup 5 number plain))) plain) (sym opens.id) opens.opens }) in
       one_out ⊥ sent;
 }
@@ -66,10 +69,17 @@ pub forged_in_sessions_refused : HistoriesRefuseForgedInSessions
 forged_in_sessions_refused ends from to draws sent plain context j opens = record {
   unsent = λ h. one_out ⊥ (h.0 (session_context (as_responder (own_of (ends 0)) j) true) plain there again);
   other_context = λ differ h. differ (out_then (IsOut sent (session_context (as_responder (own_of (ends 0)) j) true) (out_in (Out to sent context))) (h.0 (session_context (as_responder (own_of (ends 0)) j) true) plain there again)).1;
+  closing = λ why closes h. none_out (h.0 (session_context (as_responder (own_of (ends 0)) j) true) plain (closed why closes) again);
 }
   where
-    there : ContextOf (own_of (ends 0)) (Born j ∷ []) (sid_of sent) (session_context (as_responder (own_of (ends 0)) j) true)
-    there = inr (HalfOpen j, record { peer = j.peer; is_held = holds (bytes_eq j.peer j.peer) (HalfOpen j) (same j.peer j.peer refl); id = sym opens.id }, refl)
+    born : cond (bytes_eq j.peer j.peer) (Some (HalfOpen j)) None ≡ Some (HalfOpen j)
+    born = holds (bytes_eq j.peer j.peer) (HalfOpen j) (same j.peer j.peer refl)
+
+    there : ContextOf (own_of (ends 0)) (past_at 0 (did 0 (says (Born j)) ∷ [])) (sid_of sent) (session_context (as_responder (own_of (ends 0)) j) true)
+    there = inr (HalfOpen j, inl (record { peer = j.peer; is_held = born; id = sym opens.id }), refl)
+
+    closed : (why : Why) → is_close why ≡ true → ContextOf (own_of (ends 0)) (past_at 0 (did 0 (says (Ended j.peer j.near why)) ∷ did 0 (says (Born j)) ∷ [])) (sid_of sent) (session_context (as_responder (own_of (ends 0)) j) true)
+    closed why closes = inr (HalfOpen j, inr (0, inl ((sym opens.id, closes, born), refl)), refl)
 
     again : OpensUnder (ends 0).secret (session_context (as_responder (own_of (ends 0)) j) true) (sid_of sent) sent plain
     again = record { id = refl; opens = subst (λ (sid : ℕ). Opens (ends 0).secret (inward (own_of (ends 0)) (HalfOpen j)) sid (drop 4 sent) plain) (sym opens.id) opens.opens }

@@ -1,5 +1,5 @@
 -- What the table refuses of a Born.
-use Rattle.std.specs.Prelude.{ℕ, ◌≡◌, ◌≢◌, ◌+◌, ◌<◌, ◌≤◌, ◌^◌, List, [], ◌∷◌, length}
+use Rattle.std.specs.Prelude.{ℕ, ◌≡◌, ◌≢◌, ◌+◌, ◌<◌, ◌≤◌, ◌^◌, List, [], ◌∷◌, length, true}
 use Rattle.sha2.specs.Sha256.{sha256}
 use Rattle.crypto_profile.specs.declared.keys.Context.TheVariants.{Startup}
 use Rattle.crypto_profile.specs.Hmac.{hmac}
@@ -10,12 +10,14 @@ use Rattle.rtmfp_packet.specs.declared.head.Mode.TheVariants.{Startup as Startup
 use Rattle.rtmfp_packet.specs.Whole.{Whole}
 use Rattle.cookies.specs.Cookie.{IsCookieOf, cookie_of}
 use Rattle.identity.specs.Certificates.{IsCertificate}
+use Rattle.glare_core.specs.declared.facts.Why.{Why}
 use Rattle.glare_core.specs.declared.facts.Why.TheVariants.{Cancelled, Override}
 use Rattle.glare_core.specs.declared.facts.Fact.TheVariants.{Started, Born, Opened, Ended}
 use Rattle.glare_core.specs.declared.facts.Joined.{Joined}
 use Rattle.endpoint_model.specs.declared.config.Draws.{Draws}
 use Rattle.endpoint_model.specs.declared.entry.Entry.TheVariants.{Fact as FactEntry}
-use Rattle.endpoint_model.specs.Event.{Setup, own_of, Call, Open, Cancel, Receive, Tick, Event}
+use Rattle.endpoint_model.specs.Event.{Setup, own_of, Call, Open, Cancel, Close, Receive, Tick, Event}
+use Rattle.endpoint_laws.specs.Past.{is_close}
 use Rattle.endpoint_laws.specs.Contexts.{ReadsUnder}
 use Rattle.endpoint_model.specs.Keying.{chunks_of, initiator_part}
 use Rattle.endpoint_checks.specs.Logs.{doing, says, IsRefused, joined}
@@ -32,6 +34,7 @@ pub record BirthsRefused (setup : Setup) (moment : ℕ) (from : AddressParts) (s
   pub in_open : (towards : List ℕ) (candidates : List AddressParts) →
       IsRefused setup (born_in moment (Open towards candidates draws) j)
   pub in_cancel : (n : ℕ) → IsRefused setup (born_in moment (Cancel n) j)
+  pub in_close : (near : ℕ) → IsRefused setup (born_in moment (Close near) j)
   pub in_tick : IsRefused setup (born_in moment (Tick draws) j)
   -- a datagram that is too short to open, and one under another session ID than 0
   pub short : length sent < 36 → IsRefused setup (born_in moment (Receive from sent draws) j)
@@ -101,6 +104,10 @@ pub record LaterBirthsRefused (setup : Setup) (moment : ℕ) (c d : Call) (from 
   pub in_use : j.near ≡ 5 →
       IsRefused setup (doing 0 c (says (Started other 1 5 nonce))
       ∷ born_in moment (Receive from sent draws) j)
+  -- its session ID is that of a session that is closing, which either end closed
+  pub of_closing : (b : Joined) (why : Why) → is_close why ≡ true → b.near ≡ j.near →
+      IsRefused setup (doing 0 c (says (Born b)) ∷ doing 0 d (says (Ended b.peer b.near why))
+      ∷ born_in moment (Receive from sent draws) j)
   -- the count isn't that of the attempts
   pub other_count : j.k ≢ 1 →
       IsRefused setup (doing 0 c (says (Started other 1 5 nonce))
@@ -133,6 +140,10 @@ pub record LaterBirthsRefused (setup : Setup) (moment : ℕ) (c d : Call) (from 
       ∷ born_in moment (Receive from sent draws) j)
   pub no_place : setup.config.max_sessions ≡ 1 → other ≢ j.peer →
       IsRefused setup (doing 0 c (says (Started other 1 5 nonce))
+      ∷ born_in moment (Receive from sent draws) j)
+  -- a session that is closing keeps its place
+  pub place_kept : (b : Joined) (why : Why) → is_close why ≡ true → setup.config.max_sessions ≡ 1 →
+      IsRefused setup (doing 0 c (says (Born b)) ∷ doing 0 d (says (Ended b.peer b.near why))
       ∷ born_in moment (Receive from sent draws) j)
   -- a row stays taken when its session or attempt is over
   pub row_kept : setup.config.max_peers ≡ 1 → other ≢ j.peer →

@@ -1,15 +1,15 @@
--- What the table refuses of an Ended, and of a Confirmed.
+-- What the table refuses of an Ended of an attempt, and of one that makes way for a Born.
 use Rattle.std.specs.Prelude.{ℕ, ◌≢◌, List, [], ◌∷◌}
 use Rattle.rtmfp_forms.specs.Address.{AddressParts}
 use Rattle.crypto_profile.specs.declared.keys.Context.{Context}
 use Rattle.identity.specs.Order.{Prevails}
 use Rattle.startup.specs.declared.cause.Cause.{Cause}
-use Rattle.glare_core.specs.declared.facts.Why.TheVariants.{Cancelled, Expired, Glare, Override, Unconfirmed, Near, Far, Idle}
-use Rattle.glare_core.specs.declared.facts.Fact.TheVariants.{Started, Born, Confirmed, Ended}
+use Rattle.glare_core.specs.declared.facts.Why.TheVariants.{Cancelled, Expired, Glare, Override}
+use Rattle.glare_core.specs.declared.facts.Fact.TheVariants.{Started, Born, Ended}
 use Rattle.glare_core.specs.declared.facts.Joined.{Joined}
 use Rattle.endpoint_model.specs.declared.config.Draws.{Draws}
 use Rattle.endpoint_model.specs.declared.entry.Entry.TheVariants.{Fact as FactEntry, Discard, Out}
-use Rattle.endpoint_model.specs.Event.{Setup, own_of, Call, Open, Cancel, Receive, Tick, Event}
+use Rattle.endpoint_model.specs.Event.{Setup, own_of, Call, Open, Cancel, Close, Receive, Tick, Event}
 use Rattle.endpoint_laws.specs.Past.{stamped}
 use Rattle.endpoint_laws.specs.Lawful.{EndedLine}
 use Rattle.endpoint_checks.specs.Logs.{doing, says, IsRefused}
@@ -37,6 +37,8 @@ pub record CancelsRefused (setup : Setup) (moment : ℕ) (c : Call) (draws : Dra
   pub in_tick
       : IsRefused setup
       (after_start 0 c peer (doing moment (Tick draws) (says (Ended peer 5 Cancelled))))
+  pub in_close : (id : ℕ) →
+      IsRefused setup (after_start 0 c peer (doing moment (Close id) (says (Ended peer 5 Cancelled))))
   pub of_another : (m : ℕ) → m ≢ 1 →
       IsRefused setup
       (after_start 0 c peer (doing moment (Cancel m) (says (Ended peer 5 Cancelled))))
@@ -65,6 +67,8 @@ pub record ExpiriesRefused (setup : Setup) (c : Call) (draws : Draws) (peer : Li
       (says (Ended peer 5 Expired))))
   pub in_cancel : (moment m : ℕ) →
       IsRefused setup (after_start 0 c peer (doing moment (Cancel m) (says (Ended peer 5 Expired))))
+  pub in_close : (moment id : ℕ) →
+      IsRefused setup (after_start 0 c peer (doing moment (Close id) (says (Ended peer 5 Expired))))
   -- a tick 94,999 ms after the start, also where that wasn't at 0
   pub early
       : IsRefused setup
@@ -82,7 +86,7 @@ pub record ExpiriesRefused (setup : Setup) (c : Call) (draws : Draws) (peer : Li
       IsRefused setup
       (after_birth c j (doing moment (Tick draws) (says (Ended j.peer j.near Expired))))
   -- one at 95,000 ms after the start meets the line
-  pub in_time : EndedLine 95000 (Tick draws) (stamped 0 (FactEntry (Started peer 1 5 peer)) ∷ []) []
+  pub in_time : EndedLine setup 95000 (Tick draws) (stamped 0 (FactEntry (Started peer 1 5 peer)) ∷ []) []
       peer 5 Expired
 
 -- Of an attempt or a session that makes way for a Born of its peer: what follows it isn't that
@@ -138,16 +142,6 @@ pub record WaysRefused (setup : Setup) (moment : ℕ) (c d : Call) (peer : List 
       (after_birth c j (doing moment d (FactEntry (Ended j.peer j.near Override)
       ∷ FactEntry (Born b) ∷ [])))
 
--- No end ends a session for these causes yet.
-pub record OthersRefused (setup : Setup) (moment : ℕ) (c d : Call) (j : Joined) : Type 0 where
-  pub unconfirmed
-      : IsRefused setup (after_birth c j (doing moment d (says (Ended j.peer j.near Unconfirmed))))
-  pub near : IsRefused setup (after_birth c j (doing moment d (says (Ended j.peer j.near Near))))
-  pub far : IsRefused setup (after_birth c j (doing moment d (says (Ended j.peer j.near Far))))
-  pub idle : (e : Call) →
-      IsRefused setup (doing 0 c (says (Born j)) ∷ doing 0 d (says (Confirmed j.peer j.near))
-      ∷ doing moment e (says (Ended j.peer j.near Idle)) ∷ [])
-
 abbrev pub TheTableRefusesCancels : Type 0
 TheTableRefusesCancels = (setup : Setup) (moment : ℕ) (c : Call) (draws : Draws) (peer : List ℕ) →
     CancelsRefused setup moment c draws peer
@@ -159,7 +153,3 @@ TheTableRefusesExpiries = (setup : Setup) (c : Call) (draws : Draws) (peer : Lis
 abbrev pub TheTableRefusesWays : Type 0
 TheTableRefusesWays = (setup : Setup) (moment : ℕ) (c d : Call) (peer : List ℕ) (j : Joined) →
     WaysRefused setup moment c d peer j
-
-abbrev pub TheTableRefusesOtherEnds : Type 0
-TheTableRefusesOtherEnds = (setup : Setup) (moment : ℕ) (c d : Call) (j : Joined) →
-    OthersRefused setup moment c d j

@@ -7,6 +7,7 @@ use Rattle.crypto_profile.specs.Sealing.{sealed_in}
 use Rattle.packet_scramble.specs.Datagram.{datagram}
 use Rattle.rtmfp_forms.specs.Address.{AddressParts}
 use Rattle.identity.specs.Order.{Prevails}
+use Rattle.glare_core.specs.declared.facts.Why.{Why}
 use Rattle.glare_core.specs.declared.facts.Why.TheVariants.{Glare, Override, Near}
 use Rattle.glare_core.specs.declared.facts.Fact.TheVariants.{Started, Born, Opened, Confirmed, Ended}
 use Rattle.glare_core.specs.declared.facts.Joined.{Joined}
@@ -16,6 +17,7 @@ use Rattle.endpoint_model.specs.declared.config.Draws.{Draws}
 use Rattle.endpoint_model.specs.declared.entry.Entry.{Entry}
 use Rattle.endpoint_model.specs.declared.entry.Entry.TheVariants.{Fact as FactEntry, Out}
 use Rattle.endpoint_model.specs.Event.{Setup, own_of, Cancel, Receive}
+use Rattle.endpoint_laws.specs.Past.{is_close}
 use Rattle.endpoint_laws.specs.Contexts.{session_context, inward, OpensUnder}
 use Rattle.endpoint_laws.specs.History.{Happened, IsHonest, IsFresh}
 use Rattle.endpoint_laws.specs.Agreed.{IsAgreed}
@@ -70,6 +72,10 @@ pub record ForgedInSessionsRefused (ends : ℕ →
   pub unsent : IsHonest ends (took 0 from sent draws [] ∷ did 0 (says (Born j)) ∷ []) → ⊥
   pub other_context : context ≢ session_context (as_responder (own_of (ends 0)) j) true →
       IsHonest ends (took 0 from sent draws [] ∷ did 1 (Out to sent context ∷ [])
+      ∷ did 0 (says (Born j)) ∷ []) → ⊥
+  -- also when the session is closing, which either end closed
+  pub closing : (why : Why) → is_close why ≡ true →
+      IsHonest ends (took 0 from sent draws [] ∷ did 0 (says (Ended j.peer j.near why))
       ∷ did 0 (says (Born j)) ∷ []) → ⊥
 
 -- ---- fresh

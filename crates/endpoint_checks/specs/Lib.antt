@@ -1,8 +1,11 @@
 pub mod Logs
 pub mod Brings
+pub mod Takes
 pub mod Starts
 pub mod Births
 pub mod Opens
 pub mod Sends
 pub mod Ends
+pub mod SessionEnds
+pub mod Closings
 pub mod Histories

@@ -4,17 +4,21 @@ use Rattle.glare_core.specs.declared.facts.Fact.{Fact}
 use Rattle.glare_core.specs.declared.facts.Joined.{Joined}
 use Rattle.endpoint_model.specs.declared.entry.Entry.{Entry}
 use Rattle.endpoint_model.specs.declared.entry.Entry.TheVariants.{Fact as FactEntry}
-use Rattle.endpoint_model.specs.Event.{Setup, Call, Done, Event}
+use Rattle.endpoint_model.specs.Event.{Setup, Call, Answer, Done, Event}
 use Rattle.endpoint_laws.specs.Lawful.{IsLawful}
 
--- a call at a moment, and what it added; the table reads no answer
-abbrev pub doing : ℕ → Call → List Entry → Event
-doing moment call entries = record {
+-- a call at a moment, what it answered, and what it added
+abbrev pub answering : ℕ → Call → Answer → List Entry → Event
+answering moment call answer entries = record {
   moment = moment;
   call = call;
-  answer = Done;
+  answer = answer;
   entries = entries;
 }
+
+-- one that was done
+abbrev pub doing : ℕ → Call → List Entry → Event
+doing moment call entries = answering moment call Done entries
 
 -- one fact as the entries of a call
 abbrev pub says : Fact → List Entry

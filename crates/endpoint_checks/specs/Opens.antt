@@ -9,7 +9,7 @@ use Rattle.glare_core.specs.declared.facts.Fact.TheVariants.{Started, Born, Open
 use Rattle.glare_core.specs.declared.facts.Joined.{Joined}
 use Rattle.glare_core.specs.Tells.{as_responder}
 use Rattle.endpoint_model.specs.declared.config.Draws.{Draws}
-use Rattle.endpoint_model.specs.Event.{Setup, own_of, Call, Open, Cancel, Receive, Tick, Event}
+use Rattle.endpoint_model.specs.Event.{Setup, own_of, Call, Open, Cancel, Close, Receive, Tick, Event}
 use Rattle.endpoint_laws.specs.Contexts.{session_context}
 use Rattle.endpoint_model.specs.Keying.{responder_part}
 use Rattle.endpoint_checks.specs.Logs.{doing, says, IsRefused}
@@ -26,6 +26,7 @@ pub record OpeningsRefused (setup : Setup) (moment : ℕ) (c : Call) (from : Add
   pub in_open : (towards : List ℕ) (candidates : List AddressParts) →
       IsRefused setup (opened_in moment c (Open towards candidates draws) j)
   pub in_cancel : (m : ℕ) → IsRefused setup (opened_in moment c (Cancel m) j)
+  pub in_close : (near : ℕ) → IsRefused setup (opened_in moment c (Close near) j)
   pub in_tick : IsRefused setup (opened_in moment c (Tick draws) j)
   -- nothing is held, or another attempt, by its number, its session ID or its nonce, or a session
   pub no_attempt : IsRefused setup (doing moment (Receive from sent draws) (says (Opened j)) ∷ [])
@@ -70,6 +71,7 @@ pub record ConfirmsRefused (setup : Setup) (moment : ℕ) (c : Call) (from : Add
   pub in_open : (towards : List ℕ) (candidates : List AddressParts) →
       IsRefused setup (confirmed_in moment c (Open towards candidates draws) j)
   pub in_cancel : (m : ℕ) → IsRefused setup (confirmed_in moment c (Cancel m) j)
+  pub in_close : (near : ℕ) → IsRefused setup (confirmed_in moment c (Close near) j)
   pub in_tick : IsRefused setup (confirmed_in moment c (Tick draws) j)
   -- nothing is held, or an attempt, or another session ID's
   pub nothing_held

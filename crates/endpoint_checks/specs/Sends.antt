@@ -9,14 +9,17 @@ use Rattle.rtmfp_packet.specs.Whole.{Whole}
 use Rattle.rtmfp_packet.specs.Walk.{Placed}
 use Rattle.rtmfp_packet.specs.Reading.{PacketReading}
 use Rattle.rtmfp_chunks.specs.Chunk.{Chunk, IIKeying, RIKeying, Spells}
-use Rattle.glare_core.specs.declared.facts.Why.TheVariants.{Cancelled, Override}
+use Rattle.glare_core.specs.declared.facts.Why.{Why}
+use Rattle.glare_core.specs.declared.facts.Why.TheVariants.{Cancelled}
 use Rattle.glare_core.specs.declared.facts.Fact.TheVariants.{Started, Born, Opened, Ended}
 use Rattle.glare_core.specs.declared.facts.Joined.{Joined}
 use Rattle.glare_core.specs.Tells.{as_initiator, as_responder}
 use Rattle.endpoint_model.specs.declared.entry.Entry.{Entry}
-use Rattle.endpoint_model.specs.declared.entry.Entry.TheVariants.{Fact as FactEntry, Out}
+use Rattle.endpoint_model.specs.declared.entry.Entry.TheVariants.{Fact as FactEntry, Closed, Out}
 use Rattle.endpoint_model.specs.Event.{Setup, own_of, Call}
+use Rattle.endpoint_laws.specs.Past.{stamped, is_close}
 use Rattle.endpoint_laws.specs.Contexts.{session_context}
+use Rattle.endpoint_laws.specs.Lawful.{InSession}
 use Rattle.endpoint_model.specs.Keying.{IsAmong, chunks_of, initiator_part, responder_part}
 use Rattle.endpoint_checks.specs.Logs.{doing, says, IsRefused}
 
@@ -107,9 +110,9 @@ pub record AnswersSentRefused (setup : Setup) (moment : ℕ) (c d : Call) (to : 
   pub under_another : ((number plain : List ℕ) →
       sent ≢ datagram j.far (sealed_in setup.secret context j.far number plain)) →
       IsRefused setup (doing 0 c (says (Born j)) ∷ doing moment d (sends to sent context) ∷ [])
-  -- of a session that is over, and of one that was opened here
-  pub over : IsRefused setup (doing 0 c (FactEntry (Born j)
-      ∷ FactEntry (Ended j.peer j.near Override) ∷ [])
+  -- of a session that has ended, also one that is closing, and of one that was opened here
+  pub over : (why : Why) →
+      IsRefused setup (doing 0 c (FactEntry (Born j) ∷ FactEntry (Ended j.peer j.near why) ∷ [])
       ∷ doing moment d (sends to sent context) ∷ [])
   pub opened_here : (peer ni : List ℕ) (o : Joined) →
       IsRefused setup (doing 0 c (FactEntry (Started peer 1 5 ni) ∷ FactEntry (Opened o) ∷ [])
@@ -143,10 +146,30 @@ pub record InSessionsRefused (setup : Setup) (moment : ℕ) (c d : Call) (to : A
       IsRefused setup (doing 0 c (says (Born j))
       ∷ doing moment d (sends to sent (session_context (as_responder (own_of setup) j) false))
       ∷ [])
-  -- a session that is over
-  pub over : IsRefused setup (doing 0 c (FactEntry (Born j)
-      ∷ FactEntry (Ended j.peer j.near Override) ∷ [])
+  -- the same of a session that is closing
+  pub closing_values : (why : Why) → Session x y fp_i fp_r sid_i sid_r to_responder
+      ≢ session_context (as_responder (own_of setup) j) false →
+      IsRefused setup (doing 0 c (FactEntry (Born j) ∷ FactEntry (Ended j.peer j.near why) ∷ [])
       ∷ doing moment d (sends to sent (Session x y fp_i fp_r sid_i sid_r to_responder)) ∷ [])
+  pub closing_under_another : (why : Why) → ((number plain : List ℕ) →
+      sent ≢ datagram j.far (sealed_in setup.secret
+      (session_context (as_responder (own_of setup) j) false) j.far number plain)) →
+      IsRefused setup (doing 0 c (FactEntry (Born j) ∷ FactEntry (Ended j.peer j.near why) ∷ [])
+      ∷ doing moment d (sends to sent (session_context (as_responder (own_of setup) j) false))
+      ∷ [])
+  -- a session that was ended without closing, and one whose closing is over
+  pub over : (why : Why) → is_close why ≡ false →
+      IsRefused setup (doing 0 c (FactEntry (Born j) ∷ FactEntry (Ended j.peer j.near why) ∷ [])
+      ∷ doing moment d (sends to sent (Session x y fp_i fp_r sid_i sid_r to_responder)) ∷ [])
+  pub closed : (why : Why) →
+      IsRefused setup (doing 0 c (FactEntry (Born j) ∷ FactEntry (Ended j.peer j.near why)
+      ∷ Closed j.near ∷ [])
+      ∷ doing moment d (sends to sent (Session x y fp_i fp_r sid_i sid_r to_responder)) ∷ [])
+  -- one that is closing, which either end closed, meets the line
+  pub while_closing : (why : Why) → is_close why ≡ true →
+      InSession setup (stamped 0 (FactEntry (Ended j.peer j.near why))
+      ∷ stamped 0 (FactEntry (Born j)) ∷ []) j.far
+      (session_context (as_responder (own_of setup) j) false)
 
 abbrev pub TheTableRefusesSends : Type 0
 TheTableRefusesSends = (setup : Setup) (moment : ℕ) (c : Call) (to : AddressParts) (sent : List ℕ)

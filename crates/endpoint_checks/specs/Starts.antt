@@ -1,11 +1,14 @@
 -- What the table refuses of a Started.
-use Rattle.std.specs.Prelude.{ℕ, ◌≡◌, ◌≢◌, ◌≤◌, ◌^◌, List, [], ◌∷◌, ◌++◌}
+use Rattle.std.specs.Prelude.{ℕ, ◌≡◌, ◌≢◌, ◌≤◌, ◌^◌, List, [], ◌∷◌, ◌++◌, true}
 use Rattle.rtmfp_forms.specs.Address.{AddressParts}
+use Rattle.glare_core.specs.declared.facts.Why.{Why}
 use Rattle.glare_core.specs.declared.facts.Why.TheVariants.{Cancelled}
 use Rattle.glare_core.specs.declared.facts.Fact.TheVariants.{Started, Born, Opened, Confirmed, Ended}
 use Rattle.glare_core.specs.declared.facts.Joined.{Joined}
 use Rattle.endpoint_model.specs.declared.config.Draws.{Draws}
-use Rattle.endpoint_model.specs.Event.{Setup, own_of, Call, Open, Cancel, Receive, Tick, Event}
+use Rattle.endpoint_model.specs.declared.entry.Entry.TheVariants.{Closed}
+use Rattle.endpoint_model.specs.Event.{Setup, own_of, Call, Open, Cancel, Close, Receive, Tick, Event}
+use Rattle.endpoint_laws.specs.Past.{is_close}
 use Rattle.endpoint_checks.specs.Logs.{doing, says, IsRefused}
 
 -- Of an attempt towards a peer, with this number, session ID and nonce, in a call with these draws.
@@ -14,6 +17,8 @@ pub record StartsRefused (setup : Setup) (moment : ℕ) (candidates : List Addre
   -- no call but an open starts one
   pub in_cancel : (m : ℕ) →
       IsRefused setup (doing moment (Cancel m) (says (Started peer n near ni)) ∷ [])
+  pub in_close : (id : ℕ) →
+      IsRefused setup (doing moment (Close id) (says (Started peer n near ni)) ∷ [])
   pub in_receive : (from : AddressParts) (datagram : List ℕ) →
       IsRefused setup (doing moment (Receive from datagram draws) (says (Started peer n near ni))
       ∷ [])
@@ -66,7 +71,11 @@ pub record StartsRefused (setup : Setup) (moment : ℕ) (candidates : List Addre
       IsRefused setup (doing moment c (says (Started other 1 5 nonce))
       ∷ doing moment d (says (Opened j)) ∷ doing moment (Open peer candidates draws)
       (says (Started peer n 5 ni)) ∷ [])
-  -- one in use while another thing ended
+  -- of one that is closing, which either end closed
+  pub of_closing : (c d : Call) (j : Joined) (why : Why) → is_close why ≡ true → j.near ≡ 5 →
+      IsRefused setup (doing moment c (says (Born j)) ∷ doing moment d (says (Ended j.peer 5 why))
+      ∷ doing moment (Open peer candidates draws) (says (Started peer n 5 ni)) ∷ [])
+  -- one in use while another thing ended, or the closing of another session is over
   pub of_another : (c d e : Call) (first second nonce : List ℕ) →
       IsRefused setup (
       doing moment c (says (Started first 1 5 nonce))
@@ -74,6 +83,10 @@ pub record StartsRefused (setup : Setup) (moment : ℕ) (candidates : List Addre
       ∷ doing moment e (says (Ended second 6 Cancelled))
       ∷ doing moment (Open peer candidates draws) (says (Started peer n 5 ni))
       ∷ [])
+  pub of_another_closed : (c d : Call) (first nonce : List ℕ) (id : ℕ) → id ≢ 5 →
+      IsRefused setup (doing moment c (says (Started first 1 5 nonce))
+      ∷ doing moment d (Closed id ∷ []) ∷ doing moment (Open peer candidates draws)
+      (says (Started peer n 5 ni)) ∷ [])
 
 abbrev pub TheTableRefusesStarts : Type 0
 TheTableRefusesStarts = (setup : Setup) (moment : ℕ) (candidates : List AddressParts)

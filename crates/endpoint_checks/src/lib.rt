@@ -6,10 +6,12 @@
 #![tactic(auto)]
 
 ghost use Rattle.endpoint_checks.specs.Births.{TheTableRefusesBirths, TheTableRefusesKeyings, TheTableRefusesLaterBirths};
-ghost use Rattle.endpoint_checks.specs.Ends.{TheTableRefusesCancels, TheTableRefusesExpiries, TheTableRefusesOtherEnds, TheTableRefusesWays};
+ghost use Rattle.endpoint_checks.specs.Closings.{TheTableRefusesClosings};
+ghost use Rattle.endpoint_checks.specs.Ends.{TheTableRefusesCancels, TheTableRefusesExpiries, TheTableRefusesWays};
 ghost use Rattle.endpoint_checks.specs.Histories.{HistoriesRefuseDisagreed, HistoriesRefuseForged, HistoriesRefuseForgedInSessions, HistoriesRefuseStale};
 ghost use Rattle.endpoint_checks.specs.Opens.{TheTableRefusesAnswers, TheTableRefusesConfirms, TheTableRefusesOpenings};
 ghost use Rattle.endpoint_checks.specs.Sends.{TheTableRefusesAnswersSent, TheTableRefusesKeyingsSent, TheTableRefusesNumbers, TheTableRefusesSends, TheTableRefusesSendsInSessions};
+ghost use Rattle.endpoint_checks.specs.SessionEnds.{TheTableRefusesFars, TheTableRefusesIdles, TheTableRefusesNears, TheTableRefusesUnconfirmed};
 ghost use Rattle.endpoint_checks.specs.Starts.{TheTableRefusesStarts};
 
 /// Attempts that start without an open towards their peer, with another nonce, another number, or a
@@ -33,9 +35,32 @@ pub fn ways()
     ensures { TheTableRefusesWays }
 {}
 
-/// Sessions that end for causes for which no end ends one yet.
-pub fn other_ends()
-    ensures { TheTableRefusesOtherEnds }
+/// Half-open sessions that end as unconfirmed outside of a tick, or in one that comes too early,
+/// and others that end so.
+pub fn unconfirmed()
+    ensures { TheTableRefusesUnconfirmed }
+{}
+
+/// Sessions that end as closed by this end without that close.
+pub fn nears()
+    ensures { TheTableRefusesNears }
+{}
+
+/// Sessions that end as closed by the peer without a datagram with a close that they take.
+pub fn fars()
+    ensures { TheTableRefusesFars }
+{}
+
+/// Kept sessions that end as idle outside of a tick, or in one that comes too early after their
+/// beginning or after the last datagram that they took, and others that end so.
+pub fn idles()
+    ensures { TheTableRefusesIdles }
+{}
+
+/// Closings that are over where nothing is closing, by another call than a tick or one that takes
+/// a datagram, in a tick that comes too early, and without an answer to a close that is taken.
+pub fn closings()
+    ensures { TheTableRefusesClosings }
 {}
 
 /// Sessions that are born as the first thing that an end does, with a session ID, a nonce, a count
