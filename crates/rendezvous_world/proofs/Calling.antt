@@ -19,11 +19,11 @@ use Rattle.endpoint_laws.specs.OpensIn.{opens_in}
 use Rattle.endpoint_laws.specs.Lawful.{nonces_of}
 use Rattle.endpoint_model.specs.Log.{Step as StepOf}
 use Rattle.endpoint_laws.specs.Laws.{AreBytes, IsCall, AreCalls}
-use Rattle.endpoint_laws.specs.History.{Happened, History, log_of, facts_at, IsHonestCall, IsHonest, WasSent, nonces_in}
+use Rattle.endpoint_laws.specs.History.{Happened, History, log_of, past_at, IsHonestCall, IsHonest, WasSent, nonces_in}
 use Rattle.endpoint_laws.proofs.Opened.{opens_in_found}
 use Rattle.rendezvous_world.specs.declared.journal.JournalLine.{JournalLine}
 use Rattle.rendezvous_world.specs.declared.step.Step.{Step}
-use Rattle.rendezvous_world.specs.declared.step.Step.TheVariants.{End, At, Open, Cancel, Deliver, Bent, Inject, Forge, Tick}
+use Rattle.rendezvous_world.specs.declared.step.Step.TheVariants.{End, At, Open, Cancel, Close, Deliver, Bent, Inject, Forge, Tick}
 use Rattle.rendezvous_world.specs.declared.step.StepFault.{StepFault}
 use Rattle.rendezvous_world.specs.declared.step.StepFault.TheVariants.{NoEnd, NoDatagram, BadStep, Forged}
 use Rattle.rendezvous_world.specs.Seen.{EndSeen, Seen, setup_at}
@@ -86,6 +86,7 @@ has_peer w (End name max_peers max_sessions cert) e = tt
 has_peer w (At moment) e = tt
 has_peer w (Open end peer list) e = not_missing w peer (or_false (is_missing w end) (is_missing w peer) e).1
 has_peer w (Cancel end n) e = tt
+has_peer w (Close end near) e = tt
 has_peer w (Deliver number end from) e = tt
 has_peer w (Bent number place end from) e = tt
 has_peer w (Inject end from bytes) e = tt
@@ -110,6 +111,7 @@ is_call ends number datagram (End name max_peers max_sessions cert) small bytes 
 is_call ends number datagram (At moment) small bytes = tt
 is_call ends number datagram (Open end peer list) small bytes = (length-sha256 (setup_at ends peer).cert, length-two 0 number, small, length-two 2 number)
 is_call ends number datagram (Cancel end n) small bytes = tt
+is_call ends number datagram (Close end near) small bytes = tt
 is_call ends number datagram (Deliver sent end from) small bytes = (bytes, length-two 0 number, small)
 is_call ends number datagram (Bent sent place end from) small bytes = (bytes, length-two 0 number, small)
 is_call ends number datagram (Inject end from b) small bytes = (bytes, length-two 0 number, small)
@@ -122,6 +124,7 @@ given_from ends number datagram last moment (End name max_peers max_sessions cer
 given_from ends number datagram last moment (At at) le = le
 given_from ends number datagram last moment (Open end peer list) le = le
 given_from ends number datagram last moment (Cancel end n) le = tt
+given_from ends number datagram last moment (Close end near) le = le
 given_from ends number datagram last moment (Deliver sent end from) le = le
 given_from ends number datagram last moment (Bent sent place end from) le = le
 given_from ends number datagram last moment (Inject end from b) le = le
@@ -134,6 +137,7 @@ draws_line ends number datagram (End name max_peers max_sessions cert) entries h
 draws_line ends number datagram (At moment) entries h = inl h
 draws_line ends number datagram (Open end peer list) entries h = h
 draws_line ends number datagram (Cancel end n) entries h = inl h
+draws_line ends number datagram (Close end near) entries h = inl h
 draws_line ends number datagram (Deliver sent end from) entries h = h
 draws_line ends number datagram (Bent sent place end from) entries h = h
 draws_line ends number datagram (Inject end from b) entries h = h
@@ -150,9 +154,9 @@ nonces_of_event e nonce (inr one) = inr (nonces_once (moment_at 0 e) e.entries (
 
 module _ (w : Seen) (is : IsWorld w) where
   honest_datagram : (who : ℕ) (end : EndSeen) (o : Option (List ℕ)) (from : AddressParts) (draws : Draws) → slice_get w.ends who ≡ Some end → is_forged_by w who o ≡ false →
-      IsHonestCall (setup_at w.ends who) (facts_at who (history_of w)) (history_of w) (Receive from (bytes_or_none o) draws)
+      IsHonestCall (setup_at w.ends who) (past_at who (history_of w)) (history_of w) (Receive from (bytes_or_none o) draws)
   honest_datagram who end o from draws there unforged =
-      subst (λ (setup : Setup). IsHonestCall setup (facts_at who (history_of w)) (history_of w) (Receive from (bytes_or_none o) draws)) (sym (setup_is w.ends who end there))
+      subst (λ (setup : Setup). IsHonestCall setup (past_at who (history_of w)) (history_of w) (Receive from (bytes_or_none o) draws)) (sym (setup_is w.ends who end there))
       (λ context plain named opens. sent o unforged context
       (opens_noted end.state stands.told stands.noted (bytes_or_none o) stands.state
       ∙ opens_in_found end.setup (log_of who (history_of w)) stands.told (bytes_or_none o) (is.given who end there).sized (is.calls who) stands.stands context plain named opens))
@@ -165,11 +169,12 @@ module _ (w : Seen) (is : IsWorld w) where
       sent (Some bytes) unforged context opens = was_sent w.ends w.ends who end bytes w.lines context there unforged opens
 
   honest_step : (number : ℕ) (end : EndSeen) (step : Step) → slice_get w.ends (called_by step) ≡ Some end → is_forged w step ≡ false →
-      IsHonestCall (setup_at w.ends (called_by step)) (facts_at (called_by step) (history_of w)) (history_of w) (call_of w.ends number (datagram_of (sent_in w.lines) step) step)
+      IsHonestCall (setup_at w.ends (called_by step)) (past_at (called_by step) (history_of w)) (history_of w) (call_of w.ends number (datagram_of (sent_in w.lines) step) step)
   honest_step number end (End name max_peers max_sessions cert) there unforged = tt
   honest_step number end (At moment) there unforged = tt
   honest_step number end (Open who peer list) there unforged = tt
   honest_step number end (Cancel who n) there unforged = tt
+  honest_step number end (Close who near) there unforged = tt
   honest_step number end (Deliver sent who from) there unforged = honest_datagram who end (datagram_of (sent_in w.lines) (Deliver sent who from)) from (draws_of number) there unforged
   honest_step number end (Bent sent place who from) there unforged = honest_datagram who end (datagram_of (sent_in w.lines) (Bent sent place who from)) from (draws_of number) there unforged
   honest_step number end (Inject who from bytes) there unforged = honest_datagram who end (Some bytes) from (draws_of number) there unforged
@@ -192,7 +197,7 @@ pub record IsNext (w : Seen) (line : JournalLine) (end : EndSeen) (state : State
   pub answer : IsAnswered line
   pub there : slice_get w.ends line.end ≡ Some end
   pub event : StepOf end.state (event_of w.ends line) state
-  pub honest : IsHonestCall (setup_at w.ends line.end) (facts_at line.end (history_of w)) (history_of w) (event_of w.ends line).call
+  pub honest : IsHonestCall (setup_at w.ends line.end) (past_at line.end (history_of w)) (history_of w) (event_of w.ends line).call
 
 module _ (w : Seen) (line : JournalLine) (end : EndSeen) (state : State) (is : IsWorld w) (next : IsNext w line end state) where
   abbrev later : List EndSeen
@@ -338,12 +343,12 @@ called_may w number step line t is below small may called bytes =
     subst (λ (x : Seen). IsWorld x) (sym (seen_is t w.moment (with_state w.ends line.end called.state) (w.lines ++ line ∷ []) called.moment called.ends called.lines))
     (grown_is_world w line called.end called.state is next)
   where
-    honest_line : IsLineOf w number step line → IsHonestCall (setup_at w.ends line.end) (facts_at line.end (history_of w)) (history_of w) (event_of w.ends line).call
+    honest_line : IsLineOf w number step line → IsHonestCall (setup_at w.ends line.end) (past_at line.end (history_of w)) (history_of w) (event_of w.ends line).call
     honest_line of_step =
         let there : slice_get w.ends (called_by step) ≡ Some called.end = subst (λ (k : ℕ). slice_get w.ends k ≡ Some called.end) of_step.end called.is_end in
-        subst (λ (k : ℕ). IsHonestCall (setup_at w.ends k) (facts_at k (history_of w)) (history_of w) (event_of w.ends line).call) (sym of_step.end)
-        (subst (λ (s : Step). IsHonestCall (setup_at w.ends (called_by step)) (facts_at (called_by step) (history_of w)) (history_of w) (call_of w.ends line.line line.datagram s)) (sym of_step.step)
-        (subst (λ (o : Option (List ℕ)). IsHonestCall (setup_at w.ends (called_by step)) (facts_at (called_by step) (history_of w)) (history_of w) (call_of w.ends line.line o step)) (sym of_step.datagram)
+        subst (λ (k : ℕ). IsHonestCall (setup_at w.ends k) (past_at k (history_of w)) (history_of w) (event_of w.ends line).call) (sym of_step.end)
+        (subst (λ (s : Step). IsHonestCall (setup_at w.ends (called_by step)) (past_at (called_by step) (history_of w)) (history_of w) (call_of w.ends line.line line.datagram s)) (sym of_step.step)
+        (subst (λ (o : Option (List ℕ)). IsHonestCall (setup_at w.ends (called_by step)) (past_at (called_by step) (history_of w)) (history_of w) (call_of w.ends line.line o step)) (sym of_step.datagram)
         (honest_step w is line.line called.end step there may.unforged)))
 
 pub called_is_world : (w : Seen) (number : ℕ) (step : Step) (line : JournalLine) (t : Seen) → IsWorld w → AreBelow w.lines number → number < 2 ^ 32 → step_fault w step ≡ None → Called w number step line t →

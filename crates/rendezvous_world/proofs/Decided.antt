@@ -3,7 +3,6 @@ use Rattle.std.proofs.Common.{◌≡◌, ◌≢◌, ℕ, zero, suc, List, [], �
 use Rattle.std.specs.Prelude.{IsSome, IfSome, IfNone, is_some}
 use Rattle.std.proofs.lemmas.List.{length-map, map-append}
 use Rattle.rtmfp_forms.specs.Address.{AddressParts}
-use Rattle.glare_core.specs.declared.facts.Fact.{Fact}
 use Rattle.startup.specs.Attempts.{cancel_fact}
 use Rattle.startup.specs.Due.{after_due}
 use Rattle.endpoint_model.specs.declared.config.Draws.{Draws}
@@ -11,23 +10,24 @@ use Rattle.endpoint_model.specs.declared.entry.Entry.{Entry}
 use Rattle.endpoint_model.specs.declared.answers.OpenRefusal.{OpenRefusal}
 use Rattle.endpoint_model.specs.declared.answers.OpenRefusal.TheVariants.{Memory as NoMemoryToOpen}
 use Rattle.endpoint_model.specs.declared.answers.CallRefusal.{CallRefusal}
-use Rattle.endpoint_model.specs.declared.answers.CallRefusal.TheVariants.{NoAttempt, Memory as NoMemoryToCall}
+use Rattle.endpoint_model.specs.declared.answers.CallRefusal.TheVariants.{NoAttempt, NoSession, Memory as NoMemoryToCall}
 use Rattle.endpoint_model.specs.declared.answers.Stopped.{Stopped as Stop}
-use Rattle.endpoint_model.specs.Event.{Call, Open as OpenCall, Cancel as CancelCall, Receive, Tick as TickCall, Answer, Began, Done, NotOpened, Refused as RefusedCall, Stopped, OutOfMemory, Event}
+use Rattle.endpoint_model.specs.Event.{Call, Open as OpenCall, Cancel as CancelCall, Close as CloseCall, Receive, Tick as TickCall, Answer, Began, Done, NotOpened, Refused as RefusedCall, Stopped, OutOfMemory, Event}
 use Rattle.endpoint_model.specs.State.{State, Did, Does, after_entries, at_moment, nothing, then_do, with_startup}
 use Rattle.endpoint_model.specs.Admission.{admission}
+use Rattle.endpoint_model.specs.InSessions.{held_row, closing}
 use Rattle.endpoint_model.specs.Effects.{cancelling, opening, received, tick_once, ticks, first_due, item_done}
 use Rattle.endpoint_model.specs.Log.{Answers, Step as StepOf, not_opened}
 use Rattle.rendezvous_world.specs.declared.journal.JournalLine.{JournalLine}
 use Rattle.rendezvous_world.specs.declared.journal.Refused.{Refused}
 use Rattle.rendezvous_world.specs.declared.journal.Refused.TheVariants.{Open as OpenRefused, Call as CallRefused}
 use Rattle.rendezvous_world.specs.declared.step.Step.{Step}
-use Rattle.rendezvous_world.specs.declared.step.Step.TheVariants.{End, At, Open, Cancel, Deliver, Bent, Inject, Forge, Tick}
+use Rattle.rendezvous_world.specs.declared.step.Step.TheVariants.{End, At, Open, Cancel, Close, Deliver, Bent, Inject, Forge, Tick}
 use Rattle.rendezvous_world.specs.Seen.{EndSeen, Seen}
 use Rattle.rendezvous_world.specs.Same.{AreSameWorlds, without_room}
 use Rattle.rendezvous_world.specs.Sent.{Sent, sent_among, sent_in}
 use Rattle.rendezvous_world.specs.Datagrams.{datagram_of}
-use Rattle.rendezvous_world.specs.History.{answer_of, call_of, event_of, moment_given}
+use Rattle.rendezvous_world.specs.History.{answer_of, answer_to_call, call_of, event_of, moment_given}
 use Rattle.rendezvous_world.specs.Stepping.{Called, HasItsAnswer, Stepped, new_end, new_setup, with_end, with_moment, with_state}
 
 -- ---- ticks
@@ -81,14 +81,14 @@ one_open s peer candidates draws (NotOpened refusal) (NotOpened other) xs ys t r
 one_open s peer candidates draws (NotOpened refusal) other xs ys t r p q h k = absurd k
 one_open s peer candidates draws answer other xs ys t r p q h k = absurd h
 
--- a cancel that isn't refused for want of memory has no attempt
-no_attempt : (o : Option Fact) (refusal : CallRefusal) → IfNone o (refusal ≡ NoAttempt) → IfSome o (λ fact. refusal ≡ NoMemoryToCall) → refusal ≢ NoMemoryToCall → refusal ≡ NoAttempt
-no_attempt None refusal none some p = none
-no_attempt (Some fact) refusal none some p = absurd (p some)
+-- a cancel or a close that isn't refused for want of memory is refused since there is none
+only_without : {A : Type 0} (o : Option A) (refusal without : CallRefusal) → IfNone o (refusal ≡ without) → IfSome o (λ x. refusal ≡ NoMemoryToCall) → refusal ≢ NoMemoryToCall → refusal ≡ without
+only_without None refusal without none some p = none
+only_without (Some x) refusal without none some p = absurd (p some)
 
-not_both : (o : Option Fact) (refusal : CallRefusal) → IsSome o → IfSome o (λ fact. refusal ≡ NoMemoryToCall) → refusal ≢ NoMemoryToCall → ⊥
+not_both : {A : Type 0} (o : Option A) (refusal : CallRefusal) → IsSome o → IfSome o (λ x. refusal ≡ NoMemoryToCall) → refusal ≢ NoMemoryToCall → ⊥
 not_both None refusal is some p = absurd (cc)
-not_both (Some fact) refusal is some p = p some
+not_both (Some x) refusal is some p = p some
 
 one_cancel : (s : State) (n : ℕ) (a b : Answer) (xs ys : List Entry) (t r : State) → IsWhole a → IsWhole b → Answers s (CancelCall n) a xs t → Answers s (CancelCall n) b ys r → SameAnswer a b xs ys t r
 one_cancel s n Done Done xs ys t r p q h k = same_did Done Done (cancelling s n) (cancelling s n) xs ys t r refl refl h.1 k.1
@@ -97,9 +97,20 @@ one_cancel s n Done other xs ys t r p q h k = absurd k
 one_cancel s n (RefusedCall refusal) Done xs ys t r p q h k = absurd (not_both (cancel_fact s.startup n) refusal k.0 h.1 p)
 one_cancel s n (RefusedCall refusal) (RefusedCall other) xs ys t r p q h k =
     same_did (RefusedCall refusal) (RefusedCall other) (nothing s) (nothing s) xs ys t r
-    (ap RefusedCall (no_attempt (cancel_fact s.startup n) refusal h.0 h.1 p ∙ sym (no_attempt (cancel_fact s.startup n) other k.0 k.1 q))) refl h.2 k.2
+    (ap RefusedCall (only_without (cancel_fact s.startup n) refusal NoAttempt h.0 h.1 p ∙ sym (only_without (cancel_fact s.startup n) other NoAttempt k.0 k.1 q))) refl h.2 k.2
 one_cancel s n (RefusedCall refusal) other xs ys t r p q h k = absurd k
 one_cancel s n answer other xs ys t r p q h k = absurd h
+
+one_close : (s : State) (near : ℕ) (a b : Answer) (xs ys : List Entry) (t r : State) → IsWhole a → IsWhole b → Answers s (CloseCall near) a xs t → Answers s (CloseCall near) b ys r → SameAnswer a b xs ys t r
+one_close s near Done Done xs ys t r p q h k = same_did Done Done (closing s near) (closing s near) xs ys t r refl refl h.1 k.1
+one_close s near Done (RefusedCall refusal) xs ys t r p q h k = absurd (not_both (held_row s near) refusal h.0 k.1 q)
+one_close s near Done other xs ys t r p q h k = absurd k
+one_close s near (RefusedCall refusal) Done xs ys t r p q h k = absurd (not_both (held_row s near) refusal k.0 h.1 p)
+one_close s near (RefusedCall refusal) (RefusedCall other) xs ys t r p q h k =
+    same_did (RefusedCall refusal) (RefusedCall other) (nothing s) (nothing s) xs ys t r
+    (ap RefusedCall (only_without (held_row s near) refusal NoSession h.0 h.1 p ∙ sym (only_without (held_row s near) other NoSession k.0 k.1 q))) refl h.2 k.2
+one_close s near (RefusedCall refusal) other xs ys t r p q h k = absurd k
+one_close s near answer other xs ys t r p q h k = absurd h
 
 one_receive : (s : State) (from : AddressParts) (datagram : List ℕ) (draws : Draws) (a b : Answer) (xs ys : List Entry) (t r : State) → IsWhole a → IsWhole b →
     Answers s (Receive from datagram draws) a xs t → Answers s (Receive from datagram draws) b ys r → SameAnswer a b xs ys t r
@@ -123,6 +134,7 @@ one_tick s draws answer other xs ys t r p q h k = absurd h
 one_call : (s : State) (call : Call) (a b : Answer) (xs ys : List Entry) (t r : State) → IsWhole a → IsWhole b → Answers s call a xs t → Answers s call b ys r → SameAnswer a b xs ys t r
 one_call s (OpenCall peer candidates draws) a b xs ys t r p q h k = one_open s peer candidates draws a b xs ys t r p q h k
 one_call s (CancelCall n) a b xs ys t r p q h k = one_cancel s n a b xs ys t r p q h k
+one_call s (CloseCall near) a b xs ys t r p q h k = one_close s near a b xs ys t r p q h k
 one_call s (Receive from datagram draws) a b xs ys t r p q h k = one_receive s from datagram draws a b xs ys t r p q h k
 one_call s (TickCall draws) a b xs ys t r p q h k = one_tick s draws a b xs ys t r p q h k
 
@@ -137,7 +149,13 @@ whole (Open end peer list) (Some (CallRefused refusal)) stopped entries h none =
 whole (Cancel end n) None stopped entries h none = tt
 whole (Cancel end n) (Some (OpenRefused refusal)) stopped entries h none = λ e. h.1.opened (ap (λ (x : OpenRefusal). Some (OpenRefused x)) e)
 whole (Cancel end n) (Some (CallRefused refusal)) stopped entries h none = λ e. h.1.called (ap (λ (x : CallRefusal). Some (CallRefused x)) e)
+whole (Close end near) None stopped entries h none = tt
+whole (Close end near) (Some (OpenRefused refusal)) stopped entries h none = λ e. h.1.opened (ap (λ (x : OpenRefusal). Some (OpenRefused x)) e)
+whole (Close end near) (Some (CallRefused refusal)) stopped entries h none = λ e. h.1.called (ap (λ (x : CallRefusal). Some (CallRefused x)) e)
 whole (Deliver number end from) refused None entries h none = tt
+whole (Close end near) None stopped entries h none = tt
+whole (Close end near) (Some (OpenRefused refusal)) stopped entries h none = λ e. h.1.opened (ap (λ (x : OpenRefusal). Some (OpenRefused x)) e)
+whole (Close end near) (Some (CallRefused refusal)) stopped entries h none = λ e. h.1.called (ap (λ (x : CallRefusal). Some (CallRefused x)) e)
 whole (Deliver number end from) refused (Some stop) entries h none = absurd (cc)
 whole (Bent number place end from) refused None entries h none = tt
 whole (Bent number place end from) refused (Some stop) entries h none = absurd (cc)
@@ -149,6 +167,17 @@ whole (Tick end) refused None entries h none = tt
 whole (Tick end) refused (Some stop) entries h none = absurd (cc)
 
 -- two answers that are the same were refused for the same
+same_refusal : (a b : Option Refused) → answer_to_call a ≡ answer_to_call b → a ≡ b
+same_refusal None None e = refl
+same_refusal None (Some (OpenRefused r)) e = absurd (cc)
+same_refusal None (Some (CallRefused r)) e = absurd (cc)
+same_refusal (Some (OpenRefused r)) None e = absurd (cc)
+same_refusal (Some (CallRefused r)) None e = absurd (cc)
+same_refusal (Some (OpenRefused r)) (Some (OpenRefused s)) e = let same : r ≡ s = cc in ap (λ (x : OpenRefusal). Some (OpenRefused x)) same
+same_refusal (Some (OpenRefused r)) (Some (CallRefused s)) e = absurd (cc)
+same_refusal (Some (CallRefused r)) (Some (OpenRefused s)) e = absurd (cc)
+same_refusal (Some (CallRefused r)) (Some (CallRefused s)) e = let same : r ≡ s = cc in ap (λ (x : CallRefusal). Some (CallRefused x)) same
+
 one_refusal : (step : Step) (a b : Option Refused) (p q : Option Stop) (xs ys : List Entry) → HasItsAnswer step a p → HasItsAnswer step b q → answer_of step a p xs ≡ answer_of step b q ys → a ≡ b
 one_refusal (End name max_peers max_sessions cert) a b p q xs ys h k e = absurd h
 one_refusal (At moment) a b p q xs ys h k e = absurd h
@@ -161,15 +190,8 @@ one_refusal (Open end peer list) (Some (OpenRefused r)) (Some (OpenRefused s)) p
 one_refusal (Open end peer list) (Some (OpenRefused r)) (Some (CallRefused s)) p q xs ys h k e = absurd (cc)
 one_refusal (Open end peer list) (Some (CallRefused r)) (Some (OpenRefused s)) p q xs ys h k e = absurd (cc)
 one_refusal (Open end peer list) (Some (CallRefused r)) (Some (CallRefused s)) p q xs ys h k e = let same : r ≡ s = cc in ap (λ (x : CallRefusal). Some (CallRefused x)) same
-one_refusal (Cancel end n) None None p q xs ys h k e = refl
-one_refusal (Cancel end n) None (Some (OpenRefused r)) p q xs ys h k e = absurd (cc)
-one_refusal (Cancel end n) None (Some (CallRefused r)) p q xs ys h k e = absurd (cc)
-one_refusal (Cancel end n) (Some (OpenRefused r)) None p q xs ys h k e = absurd (cc)
-one_refusal (Cancel end n) (Some (CallRefused r)) None p q xs ys h k e = absurd (cc)
-one_refusal (Cancel end n) (Some (OpenRefused r)) (Some (OpenRefused s)) p q xs ys h k e = let same : r ≡ s = cc in ap (λ (x : OpenRefusal). Some (OpenRefused x)) same
-one_refusal (Cancel end n) (Some (OpenRefused r)) (Some (CallRefused s)) p q xs ys h k e = absurd (cc)
-one_refusal (Cancel end n) (Some (CallRefused r)) (Some (OpenRefused s)) p q xs ys h k e = absurd (cc)
-one_refusal (Cancel end n) (Some (CallRefused r)) (Some (CallRefused s)) p q xs ys h k e = let same : r ≡ s = cc in ap (λ (x : CallRefusal). Some (CallRefused x)) same
+one_refusal (Cancel end n) a b p q xs ys h k e = same_refusal a b e
+one_refusal (Close end near) a b p q xs ys h k e = same_refusal a b e
 one_refusal (Deliver number end from) a b p q xs ys h k e = h ∙ sym k
 one_refusal (Bent number place end from) a b p q xs ys h k e = h ∙ sym k
 one_refusal (Inject end from bytes) a b p q xs ys h k e = h ∙ sym k
@@ -307,6 +329,7 @@ same_step w v n (End name max_peers max_sessions cert) t s before h k =
 same_step w v n (At moment) t s before h k = same_by (with_moment w moment) (with_moment v moment) t s h k (record { moment = refl; ends = before.ends; lines = before.lines })
 same_step w v n (Open end peer list) t s before h k = same_called w v n (Open end peer list) t s before h k
 same_step w v n (Cancel end number) t s before h k = same_called w v n (Cancel end number) t s before h k
+same_step w v n (Close end near) t s before h k = same_called w v n (Close end near) t s before h k
 same_step w v n (Deliver sent end from) t s before h k = same_called w v n (Deliver sent end from) t s before h k
 same_step w v n (Bent sent place end from) t s before h k = same_called w v n (Bent sent place end from) t s before h k
 same_step w v n (Inject end from bytes) t s before h k = same_called w v n (Inject end from bytes) t s before h k

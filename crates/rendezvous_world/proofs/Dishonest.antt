@@ -8,11 +8,11 @@ use Rattle.crypto_profile.specs.declared.keys.Context.TheVariants.{Startup}
 use Rattle.crypto_profile.specs.Keys.{same_context}
 use Rattle.crypto_profile.proofs.Contexts.{same_itself}
 use Rattle.endpoint_model.specs.declared.entry.Entry.{Entry}
-use Rattle.endpoint_model.specs.declared.entry.Entry.TheVariants.{Fact, Discard, Out}
+use Rattle.endpoint_model.specs.declared.entry.Entry.TheVariants.{Fact, Closed, Moved, Discard, Out}
 use Rattle.endpoint_model.specs.declared.config.Draws.{Draws}
 use Rattle.rtmfp_forms.specs.Address.{AddressParts}
 use Rattle.endpoint_model.specs.Event.{Setup, Receive}
-use Rattle.endpoint_laws.specs.History.{History, HasOut, WasSent, IsHonestCall, facts_at, log_of}
+use Rattle.endpoint_laws.specs.History.{History, HasOut, WasSent, IsHonestCall, past_at, log_of}
 use Rattle.endpoint_laws.specs.OpensIn.{opens_in, OpensAt}
 use Rattle.endpoint_laws.proofs.Opened.{opens_in_told}
 use Rattle.rendezvous_world.specs.declared.journal.JournalLine.{JournalLine}
@@ -49,6 +49,10 @@ module _ (bytes : List ℕ) (context : Context) where
   in_entries by [] rest h = absurd h
   in_entries by (Fact fact ∷ entries) rest (inl h) = absurd h
   in_entries by (Fact fact ∷ entries) rest (inr h) = in_entries by entries rest h
+  in_entries by (Closed near ∷ entries) rest (inl h) = absurd h
+  in_entries by (Closed near ∷ entries) rest (inr h) = in_entries by entries rest h
+  in_entries by (Moved near to ∷ entries) rest (inl h) = absurd h
+  in_entries by (Moved near to ∷ entries) rest (inr h) = in_entries by entries rest h
   in_entries by (Discard place cause ∷ entries) rest (inl h) = absurd h
   in_entries by (Discard place cause ∷ entries) rest (inr h) = in_entries by entries rest h
   in_entries by (Out to datagram sealed_for ∷ entries) rest (inl h) =
@@ -59,6 +63,8 @@ module _ (bytes : List ℕ) (context : Context) where
   past_entries : (by : ℕ) (entries : List Entry) (rest : List Sent) → list_any (is_sent bytes context) rest ≡ true → list_any (is_sent bytes context) (sent_among by entries ++ rest) ≡ true
   past_entries by [] rest e = e
   past_entries by (Fact fact ∷ entries) rest e = past_entries by entries rest e
+  past_entries by (Closed near ∷ entries) rest e = past_entries by entries rest e
+  past_entries by (Moved near to ∷ entries) rest e = past_entries by entries rest e
   past_entries by (Discard place cause ∷ entries) rest e = past_entries by entries rest e
   past_entries by (Out to datagram sealed_for ∷ entries) rest e =
       or_second (is_sent bytes context (record { by = by; to = to; datagram = datagram; context = sealed_for })) (list_any (is_sent bytes context) (sent_among by entries ++ rest)) (past_entries by entries rest e)
@@ -85,15 +91,15 @@ module _ (w : Seen) (is : IsWorld w) where
   -- The datagram opens at the end, and none with its bytes was sent in that context: a history in which it comes next isn't honest.
   pub dishonest : (who : ℕ) (end : EndSeen) (bytes : List ℕ) (from : AddressParts) (draws : Draws) → slice_get w.ends who ≡ Some end →
       is_unsent_in (opens_in end.state bytes) bytes (sent_in w.lines) ≡ true →
-      IsHonestCall (setup_at w.ends who) (facts_at who (history_of w)) (history_of w) (Receive from bytes draws) → ⊥
+      IsHonestCall (setup_at w.ends who) (past_at who (history_of w)) (history_of w) (Receive from bytes draws) → ⊥
   dishonest who end bytes from draws there unsent honest =
       let stands : StandsUpTo w.moment end.setup (log_of who (history_of w)) end.state = is.stand who end there in
       let found = unsent_context bytes Startup (opens_in end.state bytes) (sent_in w.lines) unsent in
       let opens : opens_in stands.told bytes ≡ Some found.0 = sym (opens_noted end.state stands.told stands.noted bytes stands.state) ∙ found.1 in
-      let at : OpensAt end.setup (facts_at who (history_of w)) bytes found.0 =
+      let at : OpensAt end.setup (past_at who (history_of w)) bytes found.0 =
       opens_in_told end.setup (log_of who (history_of w)) stands.told bytes (is.given who end there).sized (is.calls who) stands.stands found.0 opens in
-      let ours : IsHonestCall end.setup (facts_at who (history_of w)) (history_of w) (Receive from bytes draws) =
-      subst (λ (setup : Setup). IsHonestCall setup (facts_at who (history_of w)) (history_of w) (Receive from bytes draws)) (setup_is w.ends who end there) honest in
+      let ours : IsHonestCall end.setup (past_at who (history_of w)) (history_of w) (Receive from bytes draws) =
+      subst (λ (setup : Setup). IsHonestCall setup (past_at who (history_of w)) (history_of w) (Receive from bytes draws)) (setup_is w.ends who end there) honest in
       let was : WasSent bytes found.0 (history_of w) = ours found.0 at.plain at.named at.opens in
       let none : not (list_any (is_sent bytes found.0) (sent_in w.lines)) ≡ true =
       sym (ap (λ (o : Option Context). is_unsent_in o bytes (sent_in w.lines)) found.1) ∙ unsent in

@@ -15,13 +15,13 @@ use Rattle.rendezvous_world.specs.declared.journal.JournalLine.{JournalLine}
 use Rattle.rendezvous_world.specs.declared.journal.Refused.{Refused}
 use Rattle.rendezvous_world.specs.declared.step.StepFault.TheVariants.{Memory}
 use Rattle.rendezvous_world.specs.declared.step.Step.{Step}
-use Rattle.rendezvous_world.specs.declared.step.Step.TheVariants.{End, At, Open, Cancel, Deliver, Bent, Inject, Forge, Tick}
+use Rattle.rendezvous_world.specs.declared.step.Step.TheVariants.{End, At, Open, Cancel, Close, Deliver, Bent, Inject, Forge, Tick}
 use Rattle.rendezvous_world.specs.Seen.{EndSeen, Seen, print_at}
 use Rattle.rendezvous_world.specs.Line.{IsOne}
 use Rattle.rendezvous_world.specs.Sent.{Sent, sent_among, sent_in}
 use Rattle.rendezvous_world.specs.Keyed.{AreKeys}
 use Rattle.rendezvous_world.specs.History.{bytes_or_none, call_of, moment_given, answer_of}
-use Rattle.rendezvous_world.specs.Stepping.{in_state, with_state, HasItsAnswer, Called, MayOpen, Noted}
+use Rattle.rendezvous_world.specs.Stepping.{in_state, with_state, HasItsAnswer, Called, Allows, Noted}
 use Rattle.rendezvous_world.specs.Entering.{peer_of, call_by, event_by, IsUndone, IsEntering, IsEntered, answered}
 use Rattle.rendezvous_world.specs.Kept.{IsWorld}
 use Rattle.rendezvous_world.specs.Inside.{end_seen, world_seen, named_of, count_in, starts_after, IsKept}
@@ -78,6 +78,7 @@ call_same ends print line bytes datagram (End name max_peers max_sessions cert) 
 call_same ends print line bytes datagram (At moment) p b = refl
 call_same ends print line bytes datagram (Open end peer list) p b = ap (λ (x : List ℕ). call_by x line bytes (Open end peer list)) p
 call_same ends print line bytes datagram (Cancel end n) p b = refl
+call_same ends print line bytes datagram (Close end near) p b = refl
 call_same ends print line bytes datagram (Deliver number end from) p b = ap (λ (x : List ℕ). call_by print line x (Deliver number end from)) b
 call_same ends print line bytes datagram (Bent number place end from) p b = ap (λ (x : List ℕ). call_by print line x (Bent number place end from)) b
 call_same ends print line bytes datagram (Inject end from plain) p b = ap (λ (x : List ℕ). call_by print line x (Inject end from plain)) b
@@ -86,11 +87,12 @@ call_same ends print line bytes datagram (Tick end) p b = refl
 
 -- what a call leaves that found no memory
 undone_is : (ends : List EndSeen) (print : List ℕ) (moment : ℕ) (step : Step) (old new : State) → print ≡ print_at ends (peer_of step) → IsUndone print moment step old new →
-    (new ≡ old) ⊎ (MayOpen ends old step × (new ≡ at_moment old moment))
+    (new ≡ old) ⊎ (Allows ends old step × (new ≡ at_moment old moment))
 undone_is ends print moment (End name max_peers max_sessions cert) old new p h = absurd h
 undone_is ends print moment (At at) old new p h = absurd h
 undone_is ends print moment (Open end peer list) old new p h = inr (subst (λ (x : List ℕ). open_refusal old x list ≡ None) p h.0, h.1)
 undone_is ends print moment (Cancel end n) old new p h = inl h
+undone_is ends print moment (Close end near) old new p h = inr h
 undone_is ends print moment (Deliver number end from) old new p h = absurd h
 undone_is ends print moment (Bent number place end from) old new p h = absurd h
 undone_is ends print moment (Inject end from bytes) old new p h = absurd h
@@ -111,6 +113,7 @@ answered_one (End name max_peers max_sessions cert) refused stopped h = absurd h
 answered_one (At moment) refused stopped h = absurd h
 answered_one (Open end peer list) refused stopped h = only_refused refused stopped h.0
 answered_one (Cancel end n) refused stopped h = only_refused refused stopped h.0
+answered_one (Close end near) refused stopped h = only_refused refused stopped h.0
 answered_one (Deliver number end from) refused stopped h = only_stopped refused stopped h
 answered_one (Bent number place end from) refused stopped h = only_stopped refused stopped h
 answered_one (Inject end from bytes) refused stopped h = only_stopped refused stopped h
@@ -215,17 +218,17 @@ module _ (moment : ℕ) (ends : List EndKept) (named : List Named) (lines : List
     abbrev before : Seen
     before = world_seen moment ends lines
 
-    left : (state ≡ there.endpoint) ⊎ (MayOpen (map end_seen ends) there.endpoint step × (state ≡ at_moment there.endpoint moment))
+    left : (state ≡ there.endpoint) ⊎ (Allows (map end_seen ends) there.endpoint step × (state ≡ at_moment there.endpoint moment))
     left = undone_is (map end_seen ends) peer.print moment step there.endpoint state (print_named (map end_seen ends) named (peer_of step) peer kept.names entering.peer peer_is) undone
 
     as_before : state ≡ there.endpoint → world_seen moment without lines ≡ before
     as_before same = ap (λ (es : List EndKept). world_seen moment es lines) (same_set end ends there state there_is_there same)
 
-    noted : MayOpen (map end_seen ends) there.endpoint step → state ≡ at_moment there.endpoint moment → Noted before step (world_seen moment without lines)
-    noted opens is = record {
+    noted : Allows (map end_seen ends) there.endpoint step → state ≡ at_moment there.endpoint moment → Noted before step (world_seen moment without lines)
+    noted allows is = record {
       end = end_seen there;
       is_end = subst (λ (k : ℕ). slice_get (map end_seen ends) k ≡ Some (end_seen there)) (sym entering.called) (seen_there ends end there there_is there_is_there);
-      opens = opens;
+      allows = allows;
       moment = refl;
       ends =
           seen_set end ends there state there_is_there ∙ ap (λ (s : State). with_state (map end_seen ends) end s) is

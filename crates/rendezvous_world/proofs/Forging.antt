@@ -8,7 +8,7 @@ use Rattle.crypto_profile.specs.declared.keys.Context.{Context}
 use Rattle.crypto_profile.specs.Keys.{same_context}
 use Rattle.crypto_profile.proofs.Contexts.{same_context_is}
 use Rattle.endpoint_model.specs.declared.entry.Entry.{Entry}
-use Rattle.endpoint_model.specs.declared.entry.Entry.TheVariants.{Fact, Discard, Out}
+use Rattle.endpoint_model.specs.declared.entry.Entry.TheVariants.{Fact, Closed, Moved, Discard, Out}
 use Rattle.endpoint_laws.specs.History.{History, HasOut, WasSent}
 use Rattle.endpoint_laws.specs.OpensIn.{opens_in}
 use Rattle.rendezvous_world.specs.declared.journal.JournalLine.{JournalLine}
@@ -42,6 +42,8 @@ module _ (bytes : List ℕ) (context : Context) where
   among_entries : (by : ℕ) (entries : List Entry) (rest : List Sent) → list_any (is_sent bytes context) (sent_among by entries ++ rest) ≡ true → HasOut bytes context entries ⊎ (list_any (is_sent bytes context) rest ≡ true)
   among_entries by [] rest e = inr e
   among_entries by (Fact fact ∷ entries) rest e = elim (among_entries by entries rest e) [ inl h ↦ inl (inr h) | inr h ↦ inr h ]
+  among_entries by (Closed near ∷ entries) rest e = elim (among_entries by entries rest e) [ inl h ↦ inl (inr h) | inr h ↦ inr h ]
+  among_entries by (Moved near to ∷ entries) rest e = elim (among_entries by entries rest e) [ inl h ↦ inl (inr h) | inr h ↦ inr h ]
   among_entries by (Discard place cause ∷ entries) rest e = elim (among_entries by entries rest e) [ inl h ↦ inl (inr h) | inr h ↦ inr h ]
   among_entries by (Out to datagram sealed_for ∷ entries) rest e =
       elim (or_either (is_sent bytes context (record { by = by; to = to; datagram = datagram; context = sealed_for })) (list_any (is_sent bytes context) (sent_among by entries ++ rest)) e) [

@@ -4,7 +4,7 @@ use Rattle.std.proofs.lemmas.Bool.Decides.{nat_tests}
 use Rattle.endpoint_laws.specs.Laws.{AreBytes}
 use Rattle.rendezvous_world.specs.declared.journal.JournalLine.{JournalLine}
 use Rattle.rendezvous_world.specs.declared.step.Step.{Step}
-use Rattle.rendezvous_world.specs.declared.step.Step.TheVariants.{End, At, Open, Cancel, Deliver, Bent, Inject, Forge, Tick}
+use Rattle.rendezvous_world.specs.declared.step.Step.TheVariants.{End, At, Open, Cancel, Close, Deliver, Bent, Inject, Forge, Tick}
 use Rattle.rendezvous_world.specs.Seen.{Seen}
 use Rattle.rendezvous_world.specs.Sent.{sent_in}
 use Rattle.rendezvous_world.specs.Datagrams.{datagram_of}
@@ -35,6 +35,7 @@ module _ (w : Seen) (number : ℕ) (t : Seen) (is : IsWorld w) (below : AreBelow
   done (At moment) sized none h = subst (λ (x : Seen). IsWorld x) (sym h) (with_moment_is_world w moment (not_back w.moment moment ((may_step w (At moment) none).fine)) is)
   done (Open end peer list) sized none h = by_line (Open end peer list) h.0 none sized h.2
   done (Cancel end n) sized none h = by_line (Cancel end n) h.0 none sized h.2
+  done (Close end near) sized none h = by_line (Close end near) h.0 none sized h.2
   done (Deliver sent end from) sized none h = by_line (Deliver sent end from) h.0 none sized h.2
   done (Bent sent place end from) sized none h = by_line (Bent sent place end from) h.0 none sized h.2
   done (Inject end from bytes) sized none h = by_line (Inject end from bytes) h.0 none sized h.2
@@ -47,13 +48,14 @@ module _ (w : Seen) (number : ℕ) (t : Seen) (is : IsWorld w) (below : AreBelow
   halted (At moment) sized none h = absurd h.called.is_line.answer
   halted (Open end peer list) sized none h = by_line (Open end peer list) h.line none sized h.called
   halted (Cancel end n) sized none h = by_line (Cancel end n) h.line none sized h.called
+  halted (Close end near) sized none h = by_line (Close end near) h.line none sized h.called
   halted (Deliver sent end from) sized none h = by_line (Deliver sent end from) h.line none sized h.called
   halted (Bent sent place end from) sized none h = by_line (Bent sent place end from) h.line none sized h.called
   halted (Inject end from bytes) sized none h = by_line (Inject end from bytes) h.line none sized h.called
   halted (Forge end from plain) sized none h = by_line (Forge end from plain) h.line none sized h.called
   halted (Tick end) sized none h = by_line (Tick end) h.line none sized h.called
 
--- it was an open that found no memory
+-- it was an open or a close that found no memory
 pub noted_keeps : (w : Seen) (step : Step) (t : Seen) → IsWorld w → Noted w step t → IsWorld t
 noted_keeps w step t is h =
     subst (λ (x : Seen). IsWorld x) (sym (seen_is t w.moment (with_state w.ends (called_by step) (at_moment h.end.state w.moment)) w.lines h.moment h.ends h.lines)) (noted_is_world w (called_by step) h.end is h.is_end)
@@ -77,6 +79,7 @@ done_below w number (End name max_peers max_sessions cert) t more below lt h = s
 done_below w number (At moment) t more below lt h = subst (λ (x : Seen). AreBelow x.lines more) (sym h) (below_more w.lines number more below (omega arith))
 done_below w number (Open end peer list) t more below lt h = called_below w number (Open end peer list) h.0 t more below lt h.2
 done_below w number (Cancel end n) t more below lt h = called_below w number (Cancel end n) h.0 t more below lt h.2
+done_below w number (Close end near) t more below lt h = called_below w number (Close end near) h.0 t more below lt h.2
 done_below w number (Deliver sent end from) t more below lt h = called_below w number (Deliver sent end from) h.0 t more below lt h.2
 done_below w number (Bent sent place end from) t more below lt h = called_below w number (Bent sent place end from) h.0 t more below lt h.2
 done_below w number (Inject end from bytes) t more below lt h = called_below w number (Inject end from bytes) h.0 t more below lt h.2

@@ -5,7 +5,7 @@ use Rattle.glare_core.specs.Steps.{Among}
 use Rattle.glare_core.specs.Told.{AllDifferent}
 use Rattle.startup.specs.Attempts.{after_cancel}
 use Rattle.endpoint_model.specs.declared.entry.Entry.{Entry}
-use Rattle.endpoint_model.specs.Event.{Setup, own_of, Call, Open, Cancel, Receive, Tick, Answer, Began, Done, NotOpened, Refused, Stopped, OutOfMemory, Event}
+use Rattle.endpoint_model.specs.Event.{Setup, own_of, Call, Open, Cancel, Close, Receive, Tick, Answer, Began, Done, NotOpened, Refused, Stopped, OutOfMemory, Event}
 use Rattle.endpoint_model.specs.State.{State, at_moment, with_startup}
 use Rattle.endpoint_laws.specs.OpensIn.{opens_in}
 use Rattle.endpoint_model.specs.Log.{StandsFor, Answers, Step as StepOf}
@@ -66,6 +66,7 @@ stands_noted last setup log s h = record {
 abbrev pub IsGivenFrom : ℕ → ℕ → Call → Type 0
 IsGivenFrom last moment (Open peer candidates draws) = last ≤ moment
 IsGivenFrom last moment (Cancel n) = Unit {0}
+IsGivenFrom last moment (Close near) = last ≤ moment
 IsGivenFrom last moment (Receive from datagram draws) = last ≤ moment
 IsGivenFrom last moment (Tick draws) = last ≤ moment
 
@@ -104,6 +105,7 @@ module _ (last : ℕ) (setup : Setup) (log : List Event) (s t : State) (moment :
   stands_by (Open peer candidates draws) answer from step = timed (Open peer candidates draws) answer from step
   stands_by (Cancel n) answer from step =
       untimed n answer (subst (λ (x : State). Answers x (Cancel n) answer entries t) (noted_both h.told h.noted moment) (from_told (Cancel n) answer step))
+  stands_by (Close near) answer from step = timed (Close near) answer from step
   stands_by (Receive address datagram draws) answer from step = timed (Receive address datagram draws) answer from step
   stands_by (Tick draws) answer from step = timed (Tick draws) answer from step
 

@@ -7,7 +7,7 @@ use Rattle.glare_core.specs.Calls.{first_that_stands, where_true}
 use Rattle.endpoint_laws.specs.Laws.{AreBytes}
 use Rattle.rtmfp_forms.specs.Address.{AddressParts}
 use Rattle.rendezvous_world.specs.declared.step.Step.{Step}
-use Rattle.rendezvous_world.specs.declared.step.Step.TheVariants.{End, At, Open, Cancel, Deliver, Bent, Inject, Forge, Tick}
+use Rattle.rendezvous_world.specs.declared.step.Step.TheVariants.{End, At, Open, Cancel, Close, Deliver, Bent, Inject, Forge, Tick}
 use Rattle.rendezvous_world.specs.declared.step.StepFault.{StepFault}
 use Rattle.rendezvous_world.specs.declared.step.StepFault.TheVariants.{NoEnd, NoDatagram, BadStep, Forged, Memory}
 use Rattle.rendezvous_world.specs.Seen.{EndSeen, Seen}
@@ -81,6 +81,7 @@ stepped w number (End name max_peers max_sessions cert) r t calls h = absurd cal
 stepped w number (At moment) r t calls h = absurd calls
 stepped w number (Open end peer list) r t calls h = h.ok
 stepped w number (Cancel end n) r t calls h = h.ok
+stepped w number (Close end near) r t calls h = h.ok
 stepped w number (Deliver sent end from) r t calls h = h.ok
 stepped w number (Bent sent place end from) r t calls h = h.ok
 stepped w number (Inject end from bytes) r t calls h = h.ok
@@ -135,6 +136,21 @@ entering_cancel w number end n above fits there = record {
   short = omega arith;
   are_bytes = no_bytes;
   fine = fault_left w number (Cancel end n) there refl refl;
+}
+
+pub entering_close : (w : Seen) (number end near : ℕ) → AreBelow w.lines number → number < 2 ^ 32 → is_missing w end ≡ false → IsEntering w number end (Close end near) None []
+entering_close w number end near above fits there = record {
+  above = above;
+  fits = fits;
+  there = there_is w end there;
+  calls = tt;
+  called = refl;
+  peer = there_is w end there;
+  datagram = refl;
+  bytes = refl;
+  short = omega arith;
+  are_bytes = no_bytes;
+  fine = fault_left w number (Close end near) there refl refl;
 }
 
 pub entering_tick : (w : Seen) (number end : ℕ) → AreBelow w.lines number → number < 2 ^ 32 → is_missing w end ≡ false → IsEntering w number end (Tick end) None []

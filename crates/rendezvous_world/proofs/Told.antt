@@ -3,10 +3,10 @@ use Rattle.std.proofs.Common.{◌≡◌, ◌≢◌, ℕ, ◌<◌, ◌≤◌, Lis
 use Rattle.std.specs.List.{AllByRecursion}
 use Rattle.endpoint_model.specs.Event.{Setup, own_of, Call, Open as OpenCall, Event}
 use Rattle.endpoint_laws.specs.Laws.{IsCall, AreCalls}
-use Rattle.endpoint_laws.specs.History.{Happened, History, log_of, facts_at, IsHonestCall, IsHonest, TakesPart}
+use Rattle.endpoint_laws.specs.History.{Happened, History, log_of, past_at, IsHonestCall, IsHonest, TakesPart}
 use Rattle.rendezvous_world.specs.declared.journal.JournalLine.{JournalLine}
 use Rattle.rendezvous_world.specs.declared.step.Step.{Step}
-use Rattle.rendezvous_world.specs.declared.step.Step.TheVariants.{End, At, Open, Cancel, Deliver, Bent, Inject, Forge, Tick}
+use Rattle.rendezvous_world.specs.declared.step.Step.TheVariants.{End, At, Open, Cancel, Close, Deliver, Bent, Inject, Forge, Tick}
 use Rattle.rendezvous_world.specs.Draws.{two_numbers, draws_of}
 use Rattle.rendezvous_world.specs.Seen.{EndSeen, setup_at}
 use Rattle.rendezvous_world.specs.History.{call_of, happened, after_lines, moment_given, answer_of}
@@ -25,6 +25,7 @@ module _ (count : ℕ) (ends later : List EndSeen) (same : SameSetups count ends
   same_call number datagram (At moment) has = refl
   same_call number datagram (Open end peer list) has = ap (λ (setup : Setup). OpenCall (own_of setup) list (draws_of number)) (same peer has)
   same_call number datagram (Cancel end n) has = refl
+  same_call number datagram (Close end near) has = refl
   same_call number datagram (Deliver sent end from) has = refl
   same_call number datagram (Bent sent place end from) has = refl
   same_call number datagram (Inject end from bytes) has = refl
@@ -131,6 +132,6 @@ calls_more (first ∷ log) e are is = (are.0, calls_more log e are.1 is)
 pub honest_same : (f g : ℕ → Setup) (history : History) → ((who : ℕ) → TakesPart who history → g who ≡ f who) → IsHonest f history → IsHonest g history
 honest_same f g [] same honest = tt
 honest_same f g (h ∷ earlier) same honest = (
-  subst (λ (setup : Setup). IsHonestCall setup (facts_at h.who earlier) earlier h.event.call) (sym (same h.who (inl refl))) honest.0,
+  subst (λ (setup : Setup). IsHonestCall setup (past_at h.who earlier) earlier h.event.call) (sym (same h.who (inl refl))) honest.0,
   honest_same f g earlier (λ who later. same who (inr later)) honest.1,
 )

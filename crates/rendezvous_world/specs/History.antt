@@ -4,13 +4,13 @@ use Rattle.glare_core.specs.declared.facts.Fact.TheVariants.{Started}
 use Rattle.endpoint_model.specs.declared.entry.Entry.{Entry}
 use Rattle.endpoint_model.specs.declared.entry.Entry.TheVariants.{Fact}
 use Rattle.endpoint_model.specs.declared.answers.Stopped.{Stopped as Stop}
-use Rattle.endpoint_model.specs.Event.{Call, Open as OpenCall, Cancel as CancelCall, Receive, Tick as TickCall, Answer, Began, Done, NotOpened, Refused as RefusedCall, Stopped, OutOfMemory, Event}
+use Rattle.endpoint_model.specs.Event.{Call, Open as OpenCall, Cancel as CancelCall, Close as CloseCall, Receive, Tick as TickCall, Answer, Began, Done, NotOpened, Refused as RefusedCall, Stopped, OutOfMemory, Event}
 use Rattle.endpoint_laws.specs.History.{Happened, History}
 use Rattle.rendezvous_world.specs.declared.journal.JournalLine.{JournalLine}
 use Rattle.rendezvous_world.specs.declared.journal.Refused.{Refused}
 use Rattle.rendezvous_world.specs.declared.journal.Refused.TheVariants.{Open as OpenRefused, Call as CallRefused}
 use Rattle.rendezvous_world.specs.declared.step.Step.{Step}
-use Rattle.rendezvous_world.specs.declared.step.Step.TheVariants.{Open, Cancel, Deliver, Bent, Inject, Forge}
+use Rattle.rendezvous_world.specs.declared.step.Step.TheVariants.{Open, Cancel, Close, Deliver, Bent, Inject, Forge}
 use Rattle.rendezvous_world.specs.Draws.{draws_of}
 use Rattle.rendezvous_world.specs.Seen.{EndSeen, Seen, print_at}
 
@@ -23,6 +23,7 @@ bytes_or_none (Some bytes) = bytes
 abbrev pub call_of : List EndSeen → ℕ → Option (List ℕ) → Step → Call
 call_of ends line datagram (Open end peer list) = OpenCall (print_at ends peer) list (draws_of line)
 call_of ends line datagram (Cancel end n) = CancelCall n
+call_of ends line datagram (Close end near) = CloseCall near
 call_of ends line datagram (Deliver number end from) =
     Receive from (bytes_or_none datagram) (draws_of line)
 call_of ends line datagram (Bent number place end from) =
@@ -49,10 +50,11 @@ answer_to_open None entries = Began (number_started entries)
 answer_to_open (Some (OpenRefused refusal)) entries = NotOpened refusal
 answer_to_open (Some (CallRefused refusal)) entries = RefusedCall refusal
 
-abbrev pub answer_to_cancel : Option Refused → Answer
-answer_to_cancel None = Done
-answer_to_cancel (Some (OpenRefused refusal)) = NotOpened refusal
-answer_to_cancel (Some (CallRefused refusal)) = RefusedCall refusal
+-- a cancel and a close
+abbrev pub answer_to_call : Option Refused → Answer
+answer_to_call None = Done
+answer_to_call (Some (OpenRefused refusal)) = NotOpened refusal
+answer_to_call (Some (CallRefused refusal)) = RefusedCall refusal
 
 abbrev pub answer_to_datagram : Option Stop → Answer
 answer_to_datagram None = Done
@@ -65,7 +67,8 @@ answer_to_tick (Some stop) = OutOfMemory
 -- what the call answered
 abbrev pub answer_of : Step → Option Refused → Option Stop → List Entry → Answer
 answer_of (Open end peer list) refused stopped entries = answer_to_open refused entries
-answer_of (Cancel end n) refused stopped entries = answer_to_cancel refused
+answer_of (Cancel end n) refused stopped entries = answer_to_call refused
+answer_of (Close end near) refused stopped entries = answer_to_call refused
 answer_of (Deliver number end from) refused stopped entries = answer_to_datagram stopped
 answer_of (Bent number place end from) refused stopped entries = answer_to_datagram stopped
 answer_of (Inject end from bytes) refused stopped entries = answer_to_datagram stopped

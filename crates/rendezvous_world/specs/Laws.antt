@@ -4,7 +4,7 @@ use Rattle.identity.specs.Certificates.{IsCertificate}
 use Rattle.rtmfp_forms.specs.Address.{AddressParts}
 use Rattle.endpoint_model.specs.declared.config.Draws.{Draws}
 use Rattle.endpoint_model.specs.Event.{Receive}
-use Rattle.endpoint_laws.specs.History.{IsHonestCall, facts_at}
+use Rattle.endpoint_laws.specs.History.{IsHonestCall, past_at}
 use Rattle.endpoint_laws.specs.Laws.{AreBytes}
 use Rattle.endpoint_laws.specs.Agreed.{IsAgreed}
 use Rattle.rendezvous_world.specs.declared.journal.JournalLine.{JournalLine}
@@ -43,7 +43,7 @@ EveryForgedDatagramIsDishonest =
     (w : Seen) (who : ℕ) (end : EndSeen) (bytes : List ℕ) (from : AddressParts) (draws : Draws) →
     IsWorld w → slice_get w.ends who ≡ Some end →
     is_forged_at w.ends who bytes (sent_in w.lines) ≡ true →
-    IsHonestCall (setup_at w.ends who) (facts_at who (history_of w)) (history_of w)
+    IsHonestCall (setup_at w.ends who) (past_at who (history_of w)) (history_of w)
     (Receive from bytes draws) → ⊥
 
 -- ---- a whole run

@@ -4,16 +4,16 @@ use Rattle.glare_core.specs.declared.answers.StartRefusal.TheVariants.{Opening a
 use Rattle.endpoint_model.specs.Added.{Added}
 use Rattle.endpoint_model.specs.declared.answers.OpenRefusal.{OpenRefusal}
 use Rattle.endpoint_model.specs.declared.answers.OpenRefusal.TheVariants.{Candidates as BadCandidates, Start, SessionsFull as FullOfSessions, Memory as OpenMemory}
-use Rattle.endpoint_model.specs.declared.answers.CallRefusal.TheVariants.{NoAttempt as LacksAttempt, Memory as CallMemory}
+use Rattle.endpoint_model.specs.declared.answers.CallRefusal.TheVariants.{NoAttempt as LacksAttempt, NoSession as LacksSession, Memory as CallMemory}
 use Rattle.endpoint_model.specs.declared.answers.Stopped.{Stopped as Stop}
 use Rattle.rendezvous_world.specs.declared.journal.Refused.{Refused}
 use Rattle.rendezvous_world.specs.declared.journal.Refused.TheVariants.{Open as OpenRefused, Call as CallRefused}
 use Rattle.rendezvous_world.specs.declared.kept.KeptAnswer.{KeptAnswer}
-use Rattle.rendezvous_world.specs.declared.kept.KeptAnswer.TheVariants.{Done, Stopped, Candidates, Opening, Open as IsOpen, PeersFull, AttemptsSpent, OwnPrint, NoRow, SessionsFull, NoMemoryToOpen, NoAttempt, NoMemoryToCall}
+use Rattle.rendezvous_world.specs.declared.kept.KeptAnswer.TheVariants.{Done, Stopped, Candidates, Opening, Open as IsOpen, PeersFull, AttemptsSpent, OwnPrint, NoRow, SessionsFull, NoMemoryToOpen, NoAttempt, NoSession, NoMemoryToCall}
 use Rattle.rendezvous_world.specs.declared.kept.KeptStep.{KeptStep}
-use Rattle.rendezvous_world.specs.declared.kept.KeptStep.TheVariants.{Open as KeptOpen, Cancel as KeptCancel, Deliver as KeptDeliver, Bent as KeptBent, Inject as KeptInject, Forge as KeptForge, Tick as KeptTick}
+use Rattle.rendezvous_world.specs.declared.kept.KeptStep.TheVariants.{Open as KeptOpen, Cancel as KeptCancel, Close as KeptClose, Deliver as KeptDeliver, Bent as KeptBent, Inject as KeptInject, Forge as KeptForge, Tick as KeptTick}
 use Rattle.rendezvous_world.specs.declared.step.Step.{Step}
-use Rattle.rendezvous_world.specs.declared.step.Step.TheVariants.{Open, Cancel, Deliver, Bent, Inject, Forge, Tick}
+use Rattle.rendezvous_world.specs.declared.step.Step.TheVariants.{Open, Cancel, Close, Deliver, Bent, Inject, Forge, Tick}
 
 -- A step that called an end.
 pub record LineSeen : Type 0 where
@@ -40,6 +40,7 @@ pub record LineSeen : Type 0 where
 abbrev pub step_kept : ℕ → KeptStep → Step
 step_kept end (KeptOpen peer list) = Open end peer list
 step_kept end (KeptCancel n) = Cancel end n
+step_kept end (KeptClose near) = Close end near
 step_kept end (KeptDeliver from number) = Deliver number end from
 step_kept end (KeptBent from place number) = Bent number place end from
 step_kept end (KeptInject from bytes) = Inject end from bytes.value
@@ -62,6 +63,7 @@ refused_kept NoRow = refused_to_open (Start NoMemoryToStart)
 refused_kept (SessionsFull count) = refused_to_open (FullOfSessions count)
 refused_kept NoMemoryToOpen = refused_to_open OpenMemory
 refused_kept NoAttempt = Some (CallRefused LacksAttempt)
+refused_kept NoSession = Some (CallRefused LacksSession)
 refused_kept NoMemoryToCall = Some (CallRefused CallMemory)
 
 abbrev pub stopped_kept : KeptAnswer → Option Stop

@@ -1,8 +1,9 @@
 -- What a step leaves.
-use Rattle.std.specs.Prelude.{ℕ, ◌≡◌, ◌≢◌, ◌-◌, ◌==◌, true, false, List, [], ◌∷◌, ◌++◌, Option, Some, None, IfSome, is_some, slice_get, if◌then◌else◌}
+use Rattle.std.specs.Prelude.{ℕ, ◌≡◌, ◌≢◌, ◌-◌, ◌==◌, true, false, List, [], ◌∷◌, ◌++◌, Option, Some, None, IsSome, IfSome, is_some, slice_get, if◌then◌else◌}
 use Rattle.sha2.specs.Sha256.{sha256}
 use Rattle.endpoint_model.specs.Event.{Setup}
 use Rattle.endpoint_model.specs.State.{State, fresh, at_moment}
+use Rattle.endpoint_model.specs.InSessions.{held_row}
 use Rattle.endpoint_model.specs.Effects.{open_refusal}
 use Rattle.endpoint_model.specs.Log.{Step as StepOf, not_taken}
 use Rattle.rendezvous_world.specs.declared.journal.JournalLine.{JournalLine}
@@ -12,7 +13,7 @@ use Rattle.endpoint_model.specs.declared.answers.OpenRefusal.TheVariants.{Memory
 use Rattle.endpoint_model.specs.declared.answers.CallRefusal.TheVariants.{Memory as NoMemoryToCall}
 use Rattle.endpoint_model.specs.declared.answers.Stopped.{Stopped as Stop}
 use Rattle.rendezvous_world.specs.declared.step.Step.{Step}
-use Rattle.rendezvous_world.specs.declared.step.Step.TheVariants.{End, At, Open, Cancel, Deliver, Bent, Inject, Forge, Tick}
+use Rattle.rendezvous_world.specs.declared.step.Step.TheVariants.{End, At, Open, Cancel, Close, Deliver, Bent, Inject, Forge, Tick}
 use Rattle.rendezvous_world.specs.Seen.{EndSeen, Seen, group_secret, print_at}
 use Rattle.rendezvous_world.specs.Sent.{sent_in}
 use Rattle.rendezvous_world.specs.Datagrams.{datagram_of}
@@ -51,6 +52,7 @@ called_by (End name max_peers max_sessions cert) = 0
 called_by (At moment) = 0
 called_by (Open end peer list) = end
 called_by (Cancel end n) = end
+called_by (Close end near) = end
 called_by (Deliver number end from) = end
 called_by (Bent number place end from) = end
 called_by (Inject end from bytes) = end
@@ -62,14 +64,15 @@ pub record IsDoneOrRefused (refused : Option Refused) : Type 0 where
   pub opened : refused ≢ Some (OpenRefused NoMemoryToOpen)
   pub called : refused ≢ Some (CallRefused NoMemoryToCall)
 
--- What the line of a step can tell of its answer: an open and a cancel are done or refused, and the
--- others are done or stopped. A call that is refused for want of memory has no line, and a new end
+-- What the line of a step can tell of its answer: an open, a cancel and a close are done or refused,
+-- and the others are done or stopped. A call that is refused for want of memory has no line, and a new end
 -- and a new moment call no end and have none.
 abbrev pub HasItsAnswer : Step → Option Refused → Option Stop → Type 0
 HasItsAnswer (End name max_peers max_sessions cert) refused stopped = ⊥
 HasItsAnswer (At moment) refused stopped = ⊥
 HasItsAnswer (Open end peer list) refused stopped = (stopped ≡ None) × IsDoneOrRefused refused
 HasItsAnswer (Cancel end n) refused stopped = (stopped ≡ None) × IsDoneOrRefused refused
+HasItsAnswer (Close end near) refused stopped = (stopped ≡ None) × IsDoneOrRefused refused
 HasItsAnswer (Deliver number end from) refused stopped = refused ≡ None
 HasItsAnswer (Bent number place end from) refused stopped = refused ≡ None
 HasItsAnswer (Inject end from bytes) refused stopped = refused ≡ None
@@ -117,17 +120,18 @@ pub record StoppedIn (w : Seen) (number : ℕ) (step : Step) (t : Seen) : Type 0
   pub stopped : is_some line.stopped ≡ true
   pub called : Called w number step line t
 
--- The step is an open, which nothing but want of memory refuses at an end in this state.
-abbrev pub MayOpen : List EndSeen → State → Step → Type 0
-MayOpen ends s (Open end peer list) = open_refusal s (print_at ends peer) list ≡ None
-MayOpen ends s step = ⊥
+-- The step is an open or a close, which nothing but want of memory refuses at an end in this state.
+abbrev pub Allows : List EndSeen → State → Step → Type 0
+Allows ends s (Open end peer list) = open_refusal s (print_at ends peer) list ≡ None
+Allows ends s (Close end near) = IsSome (held_row s near)
+Allows ends s step = ⊥
 
--- An open found no memory: all is as before, but that the end that was called keeps the moment of
+-- An open or a close found no memory: all is as before, but that the end that was called keeps the moment of
 -- the world, where it kept an earlier one.
 pub record Noted (w : Seen) (step : Step) (t : Seen) : Type 0 where
   pub end : EndSeen
   pub is_end : slice_get w.ends (called_by step) ≡ Some end
-  pub opens : MayOpen w.ends end.state step
+  pub allows : Allows w.ends end.state step
   pub moment : t.moment ≡ w.moment
   pub ends : t.ends ≡ with_state w.ends (called_by step) (at_moment end.state w.moment)
   pub lines : t.lines ≡ w.lines

@@ -1,12 +1,13 @@
 //! The calls of ends that steps make.
 
-ghost use Rattle.std.specs.Prelude.{◌≡◌, ◌≢◌, ◌<◌, ◌≤◌, ◌^◌, [], false, length, IfSome, None, true};
+ghost use Rattle.std.specs.Prelude.{◌≡◌, ◌≢◌, ◌<◌, ◌≤◌, ◌^◌, [], false, length, IfSome, IsSome, None, true};
 ghost use Rattle.endpoint_model.specs.Effects.{open_refusal};
-ghost use Rattle.endpoint_model.specs.Event.{Cancel as CancelCall, Open as OpenCall, Receive, Tick as TickCall};
+ghost use Rattle.endpoint_model.specs.Event.{Cancel as CancelCall, Close as CloseCall, Open as OpenCall, Receive, Tick as TickCall};
+ghost use Rattle.endpoint_model.specs.InSessions.{held_row};
 ghost use Rattle.endpoint_model.specs.Log.{Step as StepOf, not_taken};
 ghost use Rattle.endpoint_model.specs.State.{at_moment};
 ghost use Rattle.rendezvous_world.specs.Entering.{CallsAnEnd, IsUndone, event_by};
-ghost use Rattle.rendezvous_world.specs.History.{answer_to_cancel, answer_to_datagram, answer_to_open, answer_to_tick};
+ghost use Rattle.rendezvous_world.specs.History.{answer_to_call, answer_to_datagram, answer_to_open, answer_to_tick};
 ghost use Rattle.rendezvous_world.specs.Stepping.{HasItsAnswer, IsDoneOrRefused};
 
 use crate::draws::draws_of;
@@ -24,7 +25,7 @@ pub(crate) struct Outcome {
     /// How far it came, where it found no memory in the middle.
     pub(crate) stopped: Option<Stopped>,
     /// It was refused for want of memory: it added nothing, and the end is as before, but that an
-    /// open has noted the moment.
+    /// open or a close has noted the moment.
     pub(crate) undone: bool,
 }
 
@@ -55,6 +56,7 @@ pub(crate) fn call_end(
         Step::At { .. } => unreachable!(),
         Step::Open { list, .. } => open(endpoint, print, list, moment, &draws, out),
         Step::Cancel { n, .. } => cancel(endpoint, *n, out),
+        Step::Close { near, .. } => close(endpoint, *near, moment, out),
         Step::Deliver { from, .. } => receive(endpoint, from, moment, bytes, &draws, out),
         Step::Bent { from, .. } => receive(endpoint, from, moment, bytes, &draws, out),
         Step::Inject { from, .. } => receive(endpoint, from, moment, bytes, &draws, out),
@@ -119,7 +121,7 @@ fn cancel(endpoint: &mut Endpoint, n: u64, out: &mut Outbox) -> Outcome
     ensures event { StepOf endpoint.old (record {
       moment = 0;
       call = CancelCall n;
-      answer = answer_to_cancel result.refused;
+      answer = answer_to_call result.refused;
       entries = out.new.entries;
     }) endpoint.new }
     ensures stopped { result.stopped ≡ None }
@@ -135,19 +137,48 @@ fn cancel(endpoint: &mut Endpoint, n: u64, out: &mut Outbox) -> Outcome
         Err(refusal) => Outcome {
             refused: Some(Refused::Call(refusal)),
             stopped: None,
-            undone: found_none_to_cancel(refusal),
+            undone: found_none_to_call(refusal),
         },
     }
 }
 
-/// Whether a cancel was refused for want of memory.
-fn found_none_to_cancel(refusal: CallRefusal) -> bool
+/// Whether a cancel or a close was refused for want of memory.
+fn found_none_to_call(refusal: CallRefusal) -> bool
     ensures yes { result ≡ true → refusal ≡ CallRefusal.Memory }
     ensures no { result ≡ false → refusal ≢ CallRefusal.Memory }
 {
     match refusal {
         CallRefusal::NoAttempt => false,
+        CallRefusal::NoSession => false,
         CallRefusal::Memory => true,
+    }
+}
+
+/// Closes the session with this session ID.
+fn close(endpoint: &mut Endpoint, near: u32, moment: u64, out: &mut Outbox) -> Outcome
+    requires { out.old.entries ≡ [] }
+    ensures event { StepOf endpoint.old (record {
+      moment = moment;
+      call = CloseCall near;
+      answer = answer_to_call result.refused;
+      entries = out.new.entries;
+    }) endpoint.new }
+    ensures stopped { result.stopped ≡ None }
+    ensures answer { result.undone ≡ false → IsDoneOrRefused result.refused }
+    ensures held { result.undone ≡ true → IsSome (held_row endpoint.old near) }
+    ensures noted { result.undone ≡ true → endpoint.new ≡ at_moment endpoint.old moment }
+{
+    match endpoint.close(near, moment, out) {
+        Ok(()) => Outcome {
+            refused: None,
+            stopped: None,
+            undone: false,
+        },
+        Err(refusal) => Outcome {
+            refused: Some(Refused::Call(refusal)),
+            stopped: None,
+            undone: found_none_to_call(refusal),
+        },
     }
 }
 

@@ -37,6 +37,8 @@ fn is_sent_among(by: usize, entries: &[Entry], bytes: &[u8], context: &Context) 
         rest = others;
         match entry {
             Entry::Fact(_) => continue,
+            Entry::Closed { .. } => continue,
+            Entry::Moved { .. } => continue,
             Entry::Discard { .. } => continue,
             Entry::Out {
                 datagram,

@@ -23,6 +23,9 @@ pub(crate) enum KeptStep {
     Cancel {
         n: u64,
     },
+    Close {
+        near: u32,
+    },
     Deliver {
         from: Address,
         number: u64,
@@ -88,6 +91,7 @@ impl KeptStep {
                 list: list.copy(alloc)?,
             },
             Step::Cancel { n, .. } => KeptStep::Cancel { n: *n },
+            Step::Close { near, .. } => KeptStep::Close { near: *near },
             Step::Deliver { number, from, .. } => KeptStep::Deliver {
                 from: *from,
                 number: *number,
@@ -125,6 +129,7 @@ impl KeptStep {
                 list: list.copy(alloc)?,
             },
             KeptStep::Cancel { n } => Step::Cancel { end, n: *n },
+            KeptStep::Close { near } => Step::Close { end, near: *near },
             KeptStep::Deliver { from, number } => Step::Deliver {
                 number: *number,
                 end,
@@ -170,6 +175,7 @@ pub(crate) enum KeptAnswer {
     SessionsFull(u64),
     NoMemoryToOpen,
     NoAttempt,
+    NoSession,
     NoMemoryToCall,
 }
 
@@ -192,6 +198,7 @@ impl KeptAnswer {
             }
             Some(Refused::Open(OpenRefusal::Memory)) => KeptAnswer::NoMemoryToOpen,
             Some(Refused::Call(CallRefusal::NoAttempt)) => KeptAnswer::NoAttempt,
+            Some(Refused::Call(CallRefusal::NoSession)) => KeptAnswer::NoSession,
             Some(Refused::Call(CallRefusal::Memory)) => KeptAnswer::NoMemoryToCall,
         }
     }
@@ -228,6 +235,7 @@ impl KeptAnswer {
             KeptAnswer::SessionsFull(count) => refused_open(OpenRefusal::SessionsFull(*count)),
             KeptAnswer::NoMemoryToOpen => refused_open(OpenRefusal::Memory),
             KeptAnswer::NoAttempt => Some(Refused::Call(CallRefusal::NoAttempt)),
+            KeptAnswer::NoSession => Some(Refused::Call(CallRefusal::NoSession)),
             KeptAnswer::NoMemoryToCall => Some(Refused::Call(CallRefusal::Memory)),
         }
     }

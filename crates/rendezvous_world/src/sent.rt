@@ -34,6 +34,8 @@ pub(crate) fn count_among(by: usize, entries: &[Entry]) -> usize
         rest = others;
         match entry {
             Entry::Fact(_) => continue,
+            Entry::Closed { .. } => continue,
+            Entry::Moved { .. } => continue,
             Entry::Discard { .. } => continue,
             Entry::Out { .. } => count += 1,
         }
@@ -51,6 +53,8 @@ fn find_among(by: usize, entries: &[Entry], number: u128) -> Option<Letter<'_>>
         rest = others;
         match entry {
             Entry::Fact(_) => continue,
+            Entry::Closed { .. } => continue,
+            Entry::Moved { .. } => continue,
             Entry::Discard { .. } => continue,
             Entry::Out {
                 to,

@@ -78,6 +78,11 @@ pub enum Step {
         end: usize,
         n: u64,
     },
+    /// An end closes the session with this session ID at it.
+    Close {
+        end: usize,
+        near: u32,
+    },
     /// The datagram that was sent as this one, counted from 1, reaches an end from an address.
     Deliver {
         number: u64,
@@ -121,6 +126,7 @@ impl Step {
             Step::At { .. } => 0,
             Step::Open { peer, .. } => *peer,
             Step::Cancel { end, .. } => *end,
+            Step::Close { end, .. } => *end,
             Step::Deliver { end, .. } => *end,
             Step::Bent { end, .. } => *end,
             Step::Inject { end, .. } => *end,

@@ -150,6 +150,18 @@ impl World {
         self.enter(line, end, &Step::Cancel { end, n }, None, &mut [])
     }
 
+    /// Lets an end close a session.
+    pub(crate) fn close(&mut self, line: u64, end: usize, near: u32) -> Result<(), StepFault>
+        requires above { AreBelow self.old.lines line }
+        requires fits { line < 2 ^ 32 }
+        ensures { IsDone self.old line (Step.Close end near) result self.new }
+    {
+        if self.lacks(end) {
+            return Err(StepFault::NoEnd);
+        }
+        self.enter(line, end, &Step::Close { end, near }, None, &mut [])
+    }
+
     /// Lets an end do what is due.
     pub(crate) fn tick(&mut self, line: u64, end: usize) -> Result<(), StepFault>
         requires above { AreBelow self.old.lines line }
