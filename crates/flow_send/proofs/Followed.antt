@@ -60,10 +60,6 @@ pub given : (o : Ordered) (w : Waiting) (forward passed : ℕ) (rows gone new : 
 given o w forward passed rows gone new g p e f =
     settled_on o forward passed gone new p e (subst (λ (rs : List Row). Follows o (forward + 1) rs) (sym g) (follows_map o (give_up w) (forward + 1) rows (λ k r. give_if r (has_number w k) (is_acknowledged r.state)) f))
 
-pub lost_on : (o : Ordered) (moment resend n : ℕ) (rows new : List Row) → new ≡ map (lost_if_late moment resend) rows → Follows o n rows → Follows o n new
-lost_on o moment resend n rows new e f =
-    subst (λ (rs : List Row). Follows o n rs) (sym (e ∙ map_is (lost_if_late moment resend) n rows)) (follows_map o (λ k r. lost_if_late moment resend r) n rows (λ k r. late_if r (is_late moment resend r)) f)
-
 pub acked_on : (o : Ordered) (a : Told) (n : ℕ) (rows new : List Row) → new ≡ map_rows (acknowledge a) n rows → Follows o n rows → Follows o n new
 acked_on o a n rows new e f = subst (λ (rs : List Row). Follows o n rs) (sym e) (follows_map o (acknowledge a) n rows (λ k r. ack_if r (tells a k) (is_acknowledged r.state)) f)
 

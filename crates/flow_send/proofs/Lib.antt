@@ -4,7 +4,6 @@ pub mod Numbered
 pub mod Keeping
 pub mod Fronts
 pub mod Steadies
-pub mod Lining
 pub mod Sendings
 pub mod Ends
 pub mod Tellings

@@ -49,12 +49,6 @@ pick_second : (t : Bool) (x y : Row) → t ≡ false → cond t x y ≡ y
 pick_second true x y e = absurd cc
 pick_second false x y e = refl
 
-pub late_flies : (moment resend : ℕ) → OnlyFlying (lost_if_late moment resend) (is_late moment resend)
-late_flies moment resend = record {
-  same = λ r e. pick_second (is_late moment resend r) (record r { state = Lost }) r (and_first (is_flying r.state) (nat_le (r.moment + resend) moment) e);
-  fails = λ r e. and_first (is_flying r.state) (nat_le (r.moment + resend) moment) e;
-}
-
 pub third_flies : (ordinal : ℕ) → OnlyFlying (count_ack ordinal) (is_third ordinal)
 third_flies ordinal = record {
   same = λ r e.
