@@ -74,42 +74,42 @@ refused_extends s t n refusal before after is did =
     extends s t (cancel_event n (Err refusal) before.entries after.entries)
     (subst (λ (x : State). Answers x (Cancel n) (Refused refusal) entries t) (sym (at_zero s)) (is.0, is.1, alone (nothing s) t before after did))
 
-none_there : (o : Option Fact) → is_some o ≡ false → IfNone o (NoAttempt ≡ NoAttempt) × IfSome o (λ _. NoAttempt ≡ NoMemory)
-none_there None e = (refl, tt)
-none_there (Some fact) e = absurd (cc)
+none_there : {A : Type 0} (o : Option A) (none : CallRefusal) → is_some o ≡ false → IfNone o (none ≡ none) × IfSome o (λ _. none ≡ NoMemory)
+none_there None none e = (refl, tt)
+none_there (Some x) none e = absurd (cc)
 
-one_there : (o : Option Fact) → is_some o ≡ true → IfNone o (NoMemory ≡ NoAttempt) × IfSome o (λ _. NoMemory ≡ NoMemory)
-one_there None e = absurd (cc)
-one_there (Some fact) e = (tt, refl)
+one_there : {A : Type 0} (o : Option A) (none : CallRefusal) → is_some o ≡ true → IfNone o (NoMemory ≡ none) × IfSome o (λ _. NoMemory ≡ NoMemory)
+one_there None none e = absurd (cc)
+one_there (Some x) none e = (tt, refl)
 
 pub no_attempt_extends : (s : State) (n : ℕ) (out : Added) → is_some (cancel_fact s.startup n) ≡ false → Extends s s (cancel_event n (Err NoAttempt) out.entries out.entries)
-no_attempt_extends s n out none = refused_extends s s n NoAttempt out out (none_there (cancel_fact s.startup n) none) (nothing_done s out)
+no_attempt_extends s n out none = refused_extends s s n NoAttempt out out (none_there (cancel_fact s.startup n) NoAttempt none) (nothing_done s out)
 
 pub no_memory_extends : (s t : State) (n : ℕ) (before after : Added) → is_some (cancel_fact s.startup n) ≡ true → Done (nothing s) t before after →
     Extends s t (cancel_event n (Err NoMemory) before.entries after.entries)
-no_memory_extends s t n before after some did = refused_extends s t n NoMemory before after (one_there (cancel_fact s.startup n) some) did
+no_memory_extends s t n before after some did = refused_extends s t n NoMemory before after (one_there (cancel_fact s.startup n) NoAttempt some) did
 
-row_there : (o : Option Row) (done : Unit {0}) → IfNone o (◌≡◌ {A = Result (Unit {0}) CallRefusal} (Ok done) (Err NoSession)) → IsSome o
-row_there None done h = absurd (cc)
-row_there (Some row) done h = refl
+pub closing_extends : (s t : State) (near moment : ℕ) (done : Unit {0}) (before after : Added) →
+    IsSome (held_row s near) → Done (closing (at_moment s moment) near) t before after →
+    Extends s t (close_event near moment (Ok done) before.entries after.entries)
+closing_extends s t near moment done before after some did =
+    extends s t (close_event near moment (Ok done) before.entries after.entries) (some, alone (closing (at_moment s moment) near) t before after did)
 
-row_nowhere : (o : Option Row) (refusal : CallRefusal) → IfNone o (◌≡◌ {A = Result (Unit {0}) CallRefusal} (Err refusal) (Err NoSession)) → IfNone o (refusal ≡ NoSession)
-row_nowhere None refusal h = cc
-row_nowhere (Some row) refusal h = tt
+unclosed_extends : (s t : State) (near moment : ℕ) (refusal : CallRefusal) (before after : Added) →
+    IfNone (held_row s near) (refusal ≡ NoSession) × IfSome (held_row s near) (λ _. refusal ≡ NoMemory) → Done (nothing (at_moment s moment)) t before after →
+    Extends s t (close_event near moment (Err refusal) before.entries after.entries)
+unclosed_extends s t near moment refusal before after is did =
+    extends s t (close_event near moment (Err refusal) before.entries after.entries) (is.0, is.1, alone (nothing (at_moment s moment)) t before after did)
 
-close_steps : (s t : State) (near moment : ℕ) (r : Result (Unit {0}) CallRefusal) (before after : Added) →
-    OnOk r (Done (closing (at_moment s moment) near) t before after) → IfNone (held_row s near) (r ≡ Err NoSession) →
-    IfSome (held_row s near) (λ _. IfErr r (λ refusal. refusal ≡ NoMemory)) → OnErr r (Done (nothing (at_moment s moment)) t before after) →
-    Step s (close_event near moment r before.entries after.entries) t
-close_steps s t near moment (Ok done) before after ok refused memory err = (row_there (held_row s near) done refused, alone (closing (at_moment s moment) near) t before after ok)
-close_steps s t near moment (Err refusal) before after ok refused memory err = (row_nowhere (held_row s near) refusal refused, memory, alone (nothing (at_moment s moment)) t before after err)
+pub no_session_extends : (s t : State) (near moment : ℕ) (out : Added) → is_some (held_row s near) ≡ false → t ≡ at_moment s moment →
+    Extends s t (close_event near moment (Err NoSession) out.entries out.entries)
+no_session_extends s t near moment out none is =
+    unclosed_extends s t near moment NoSession out out (none_there (held_row s near) NoSession none)
+    (subst (λ (x : State). Done (nothing (at_moment s moment)) x out out) (sym is) (nothing_done (at_moment s moment) out))
 
-pub close_extends : (s t : State) (near moment : ℕ) (r : Result (Unit {0}) CallRefusal) (before after : Added) →
-    OnOk r (Done (closing (at_moment s moment) near) t before after) → IfNone (held_row s near) (r ≡ Err NoSession) →
-    IfSome (held_row s near) (λ _. IfErr r (λ refusal. refusal ≡ NoMemory)) → OnErr r (Done (nothing (at_moment s moment)) t before after) →
-    Extends s t (close_event near moment r before.entries after.entries)
-close_extends s t near moment r before after ok refused memory err =
-    extends s t (close_event near moment r before.entries after.entries) (close_steps s t near moment r before after ok refused memory err)
+pub no_room_extends : (s t : State) (near moment : ℕ) (before after : Added) → is_some (held_row s near) ≡ true → Done (nothing (at_moment s moment)) t before after →
+    Extends s t (close_event near moment (Err NoMemory) before.entries after.entries)
+no_room_extends s t near moment before after some did = unclosed_extends s t near moment NoMemory before after (one_there (held_row s near) NoSession some) did
 
 tick_steps : (s t : State) (moment : ℕ) (draws : Draws) (r : Result (Unit {0}) Memory) (before after : Added) →
     (count : ℕ) × Done (ticks count (at_moment s moment)) t before after → OnOk r (first_due t ≡ None) →

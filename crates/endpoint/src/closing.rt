@@ -36,19 +36,6 @@ impl Endpoint {
         ensures stands { Extends self.old self.new
             (close_event near moment result out.old.entries out.new.entries) }
     {
-        self.try_close(near, moment, out)
-    }
-
-    /// Closes a session, if one with this session ID is held.
-    fn try_close(&mut self, near: u32, moment: u64, out: &mut Outbox) -> Result<(), CallRefusal>
-        ensures ok { OnOk result (Done (closing (at_moment self.old moment) near) self.new out.old
-            out.new) }
-        ensures refused { IfNone (held_row self.old near) (result ≡ Err CallRefusal.NoSession) }
-        ensures memory { IfSome (held_row self.old near)
-            (λ _. IfErr result (λ refusal. refusal ≡ CallRefusal.Memory)) }
-        ensures err { OnErr result (Done (nothing (at_moment self.old moment)) self.new out.old
-            out.new) }
-    {
         self.advance(moment);
         if !self.holds(near) {
             return Err(CallRefusal::NoSession);
