@@ -112,10 +112,10 @@ is_call ends number datagram (At moment) small bytes = tt
 is_call ends number datagram (Open end peer list) small bytes = (length-sha256 (setup_at ends peer).cert, length-two 0 number, small, length-two 2 number)
 is_call ends number datagram (Cancel end n) small bytes = tt
 is_call ends number datagram (Close end near) small bytes = tt
-is_call ends number datagram (Deliver sent end from) small bytes = (bytes, length-two 0 number, small)
-is_call ends number datagram (Bent sent place end from) small bytes = (bytes, length-two 0 number, small)
-is_call ends number datagram (Inject end from b) small bytes = (bytes, length-two 0 number, small)
-is_call ends number datagram (Forge end from plain) small bytes = (bytes, length-two 0 number, small)
+is_call ends number datagram (Deliver sent end from) small bytes = (bytes, length-two 0 number, small, length-two 1 number)
+is_call ends number datagram (Bent sent place end from) small bytes = (bytes, length-two 0 number, small, length-two 1 number)
+is_call ends number datagram (Inject end from b) small bytes = (bytes, length-two 0 number, small, length-two 1 number)
+is_call ends number datagram (Forge end from plain) small bytes = (bytes, length-two 0 number, small, length-two 1 number)
 is_call ends number datagram (Tick end) small bytes = tt
 
 -- it is given the moment of its line, or none

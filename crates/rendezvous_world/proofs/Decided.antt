@@ -4,7 +4,6 @@ use Rattle.std.specs.Prelude.{IsSome, IfSome, IfNone, is_some}
 use Rattle.std.proofs.lemmas.List.{length-map, map-append}
 use Rattle.rtmfp_forms.specs.Address.{AddressParts}
 use Rattle.startup.specs.Attempts.{cancel_fact}
-use Rattle.startup.specs.Due.{after_due}
 use Rattle.endpoint_model.specs.declared.config.Draws.{Draws}
 use Rattle.endpoint_model.specs.declared.entry.Entry.{Entry}
 use Rattle.endpoint_model.specs.declared.answers.OpenRefusal.{OpenRefusal}
@@ -13,7 +12,7 @@ use Rattle.endpoint_model.specs.declared.answers.CallRefusal.{CallRefusal}
 use Rattle.endpoint_model.specs.declared.answers.CallRefusal.TheVariants.{NoAttempt, NoSession, Memory as NoMemoryToCall}
 use Rattle.endpoint_model.specs.declared.answers.Stopped.{Stopped as Stop}
 use Rattle.endpoint_model.specs.Event.{Call, Open as OpenCall, Cancel as CancelCall, Close as CloseCall, Receive, Tick as TickCall, Answer, Began, Done, NotOpened, Refused as RefusedCall, Stopped, OutOfMemory, Event}
-use Rattle.endpoint_model.specs.State.{State, Did, Does, after_entries, at_moment, nothing, then_do, with_startup}
+use Rattle.endpoint_model.specs.State.{State, Did, Does, after_entries, at_moment, nothing, then_do}
 use Rattle.endpoint_model.specs.Admission.{admission}
 use Rattle.endpoint_model.specs.InSessions.{held_row, closing}
 use Rattle.endpoint_model.specs.Effects.{cancelling, opening, received, tick_once, ticks, first_due, item_done}
@@ -34,7 +33,7 @@ use Rattle.rendezvous_world.specs.Stepping.{Called, HasItsAnswer, Stepped, new_e
 
 -- where nothing is due nothing more is done
 idle : (s : State) → first_due s ≡ None → tick_once s ≡ nothing s
-idle s e = ap (item_done s (with_startup s (after_due s.startup s.moment))) e
+idle s e = ap (item_done s) e
 
 ticks_idle : (count : ℕ) (s : State) → first_due s ≡ None → ticks count s ≡ nothing s
 ticks_idle zero s e = refl
@@ -153,9 +152,6 @@ whole (Close end near) None stopped entries h none = tt
 whole (Close end near) (Some (OpenRefused refusal)) stopped entries h none = λ e. h.1.opened (ap (λ (x : OpenRefusal). Some (OpenRefused x)) e)
 whole (Close end near) (Some (CallRefused refusal)) stopped entries h none = λ e. h.1.called (ap (λ (x : CallRefusal). Some (CallRefused x)) e)
 whole (Deliver number end from) refused None entries h none = tt
-whole (Close end near) None stopped entries h none = tt
-whole (Close end near) (Some (OpenRefused refusal)) stopped entries h none = λ e. h.1.opened (ap (λ (x : OpenRefusal). Some (OpenRefused x)) e)
-whole (Close end near) (Some (CallRefused refusal)) stopped entries h none = λ e. h.1.called (ap (λ (x : CallRefusal). Some (CallRefused x)) e)
 whole (Deliver number end from) refused (Some stop) entries h none = absurd (cc)
 whole (Bent number place end from) refused None entries h none = tt
 whole (Bent number place end from) refused (Some stop) entries h none = absurd (cc)
