@@ -5,7 +5,7 @@ use Rattle.glare_core.specs.declared.answers.StartRefusal.TheVariants.{Opening, 
 use Rattle.endpoint_model.specs.declared.answers.OpenRefusal.{OpenRefusal}
 use Rattle.endpoint_model.specs.declared.answers.OpenRefusal.TheVariants.{Candidates, Start, SessionsFull, Memory as OpenMemory}
 use Rattle.endpoint_model.specs.declared.answers.CallRefusal.{CallRefusal}
-use Rattle.endpoint_model.specs.declared.answers.CallRefusal.TheVariants.{NoAttempt, Memory as CallMemory}
+use Rattle.endpoint_model.specs.declared.answers.CallRefusal.TheVariants.{NoAttempt, NoSession, Memory as CallMemory}
 use Rattle.rtmfp_text.specs.Words.{number_field_text, text_of}
 use Rattle.rtmfp_report.specs.LineText.{line_text}
 
@@ -28,6 +28,7 @@ open_refusal_text OpenMemory = []
 -- why another call is refused; no text for want of memory
 unfoldable pub call_refusal_text : CallRefusal → List ℕ
 call_refusal_text NoAttempt = codes "no-attempt"
+call_refusal_text NoSession = codes "no-session"
 call_refusal_text CallMemory = []
 
 -- the line of a call that was refused so

@@ -1,6 +1,6 @@
 //! The lines of what ends did.
 ghost use Rattle.std.specs.Prelude.{◌≡◌, ◌++◌, IfOk, OnOk};
-ghost use Rattle.rtmfp_report.specs.EntryText.{counted_after, drop_text, entries_text, entry_text, sent_after, told_text};
+ghost use Rattle.rtmfp_report.specs.EntryText.{closed_text, counted_after, drop_text, entries_text, entry_text, moved_text, sent_after, told_text};
 
 use crate::causes::push_cause;
 use crate::facts::push_fact;
@@ -8,7 +8,8 @@ use crate::group_keys::GroupKeys;
 use crate::lines::push_head;
 use crate::sent::push_sent;
 use endpoint::Entry;
-use rtmfp_text::{Directory, Name, Text};
+use rtmfp_forms::Address;
+use rtmfp_text::{Directory, Name, Text, push_address};
 use startup::Cause;
 use std::alloc::AllocError;
 
@@ -51,6 +52,8 @@ fn count_after(sent: u64, entry: &Entry) -> Result<u64, AllocError>
 {
     match entry {
         Entry::Fact(_) => Ok(sent),
+        Entry::Closed { .. } => Ok(sent),
+        Entry::Moved { .. } => Ok(sent),
         Entry::Discard { .. } => Ok(sent),
         Entry::Out { .. } => sent.checked_add(1).ok_or(AllocError),
     }
@@ -89,6 +92,8 @@ fn push_told(
 {
     match entry {
         Entry::Fact(fact) => push_fact(ends, fact, text),
+        Entry::Closed { near } => push_closed(u64::from(*near), text),
+        Entry::Moved { near, to } => push_moved(u64::from(*near), to, text),
         Entry::Discard { place, cause } => push_drop(u64::from(*place), cause, text),
         Entry::Out {
             to,
@@ -96,6 +101,24 @@ fn push_told(
             context,
         } => push_sent(keys, number, to, datagram.bytes(), context, scratch, text),
     }
+}
+
+/// Adds that the closing of the session with this session ID is over.
+#[tactic(auto, unfolding(crate::specs::EntryText::closed_text))]
+fn push_closed(near: u64, text: &mut Text) -> Result<(), AllocError>
+    ensures { OnOk result (text.new ≡ text.old ++ closed_text near) }
+{
+    text.push_number_field("closed near=", near)
+}
+
+/// Adds that a session moved: its session ID, and the new address.
+fn push_moved(near: u64, to: &Address, text: &mut Text) -> Result<(), AllocError>
+    ensures { OnOk result (text.new ≡ text.old ++ moved_text near to.now) }
+{
+    text.push_number_field("moved near=", near)?;
+    text.push(" ")?;
+    push_address(to, text)?;
+    Ok(())
 }
 
 /// Adds a discard: its place, and its cause.

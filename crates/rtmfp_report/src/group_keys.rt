@@ -72,6 +72,8 @@ impl GroupKeys {
             rest = others;
             match entry {
                 Entry::Fact(_) => continue,
+                Entry::Closed { .. } => continue,
+                Entry::Moved { .. } => continue,
                 Entry::Discard { .. } => continue,
                 Entry::Out { context, .. } => self.keep(context),
             }

@@ -79,6 +79,7 @@ fn call_name(refusal: &CallRefusal) -> &'static str
 {
     match refusal {
         CallRefusal::NoAttempt => "no-attempt",
+        CallRefusal::NoSession => "no-session",
         CallRefusal::Memory => "",
     }
 }

@@ -71,6 +71,8 @@ impl Tally {
     {
         match entry {
             Entry::Fact(fact) => self.count_fact(fact),
+            Entry::Closed { .. } => Ok(()),
+            Entry::Moved { .. } => Ok(()),
             Entry::Discard { .. } => add_one(&mut self.dropped),
             Entry::Out { .. } => add_one(&mut self.sent),
         }
