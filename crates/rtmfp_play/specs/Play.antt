@@ -47,6 +47,7 @@ step_said ends (line.Open name peer addresses) =
     (λ end other. step.Open end other addresses)
 step_said ends (line.Cancel name number) = step_by (number_of ends name)
     (λ end. step.Cancel end number)
+step_said ends (line.Close name near) = step_by (number_of ends name) (λ end. step.Close end near)
 step_said ends (line.Tick name) = step_by (number_of ends name) (λ end. step.Tick end)
 step_said ends (line.Deliver number name from) =
     step_by (number_of ends name) (λ end. step.Deliver number end from)

@@ -127,6 +127,7 @@ fn step_said(alloc: Global, ends: &Directory, said: ScriptLine) -> Result<Option
             candidates,
         } => open_said(alloc, ends, &name, &peer, candidates.as_slice()),
         ScriptLine::Cancel { name, number } => Ok(cancel_said(ends, &name, number)),
+        ScriptLine::Close { name, near } => Ok(close_said(ends, &name, near)),
         ScriptLine::Tick { name } => Ok(tick_said(ends, &name)),
         ScriptLine::Deliver { number, name, from } => Ok(deliver_said(ends, number, &name, from)),
         ScriptLine::Bent {
@@ -165,6 +166,13 @@ fn cancel_said(ends: &Directory, name: &Name, n: u64) -> Option<Step>
 {
     let end = ends.number_of(name)?;
     Some(Step::Cancel { end, n })
+}
+
+fn close_said(ends: &Directory, name: &Name, near: u32) -> Option<Step>
+    ensures { result ≡ step_by (number_of ends.now name.now) (λ end. Step.Close end near) }
+{
+    let end = ends.number_of(name)?;
+    Some(Step::Close { end, near })
 }
 
 fn tick_said(ends: &Directory, name: &Name) -> Option<Step>
