@@ -28,6 +28,7 @@ pub enum Step {
     At { moment: u64 },
     Open { end: usize, peer: usize, list: Vec<Address> },
     Cancel { end: usize, n: u64 },
+    Close { end: usize, near: u32 },
     Deliver { number: usize, end: usize, from: Address },
     Tick { end: usize },
 }
@@ -94,7 +95,7 @@ impl World {
     }
 
     fn step(&mut self, line: u64, step: Step) -> Result<(), StepFault> {
-        let draws = Draws { nonce: numbers(0, line), tag: numbers(2, line), word: line as u32 };
+        let draws = Draws { nonce: numbers(0, line), tag: numbers(2, line), token: numbers(1, line), word: line as u32 };
         let (mut datagram, mut refused, mut entries) = (None, None, Vec::new());
         let end = match &step {
             Step::End { name, max_peers, max_sessions, cert } => {
@@ -121,6 +122,10 @@ impl World {
             }
             Step::Cancel { end, n } => {
                 refused = self.ends[*end].cancel(*n, &mut entries).err();
+                Some(*end)
+            }
+            Step::Close { end, near } => {
+                refused = self.ends[*end].close(*near, self.moment, &mut entries).err();
                 Some(*end)
             }
             Step::Tick { end } => {
@@ -178,6 +183,7 @@ impl World {
         let (mut sent, mut started, mut born, mut opened, mut confirmed, mut ended, mut dropped) = (0, 0, 0, 0, 0, 0, 0);
         for entry in self.journal.iter().flat_map(|line| &line.entries) {
             *match entry {
+                Entry::Closed { .. } | Entry::Moved { .. } => continue,
                 Entry::Out(_) => &mut sent,
                 Entry::Discard { .. } => &mut dropped,
                 Entry::Fact(Fact::Started { .. }) => &mut started,

@@ -67,6 +67,8 @@ fn text_of(alloc: Global, out: &Outbox) -> Result<String, AllocError> {
     for entry in out.entries() {
         let word = match entry {
             Entry::Fact(fact) => fact_text(alloc, fact)?,
+            Entry::Closed { near } => format!(in alloc; "closed {near}; ")?,
+            Entry::Moved { near, to } => format!(in alloc; "moved {near} {}; ", to.host[3])?,
             Entry::Discard { place, cause } => format!(in alloc; "drop {place} {cause:?}; ")?,
             Entry::Out { datagram, .. } => format!(in alloc; "out {}; ", datagram.len())?,
         };
@@ -203,6 +205,25 @@ fn cancels(alloc: Global, end: &mut Endpoint, n: u64) -> Result<Added, Fail> {
     }
 }
 
+fn closes(alloc: Global, end: &mut Endpoint, near: u32, moment: u64) -> Result<Added, Fail> {
+    let mut out = outbox(alloc)?;
+    match end.close(near, moment, &mut out) {
+        Ok(()) => added(alloc, &out),
+        Err(refusal) => Ok((format!(in alloc; "{refusal:?}")?, Vec::new(alloc))),
+    }
+}
+
+/// What an end does by itself, as a row says.
+fn acts(alloc: Global, end: &mut Endpoint, row: &str) -> Result<Added, Fail> {
+    let value = number(row, 2);
+    match word(row, 0) {
+        "open" => opens(alloc, end, row),
+        "tick" => ticks(alloc, end, u64::from(value)),
+        "close" => closes(alloc, end, value, u64::from(number(row, 3))),
+        _ => cancels(alloc, end, u64::from(value)),
+    }
+}
+
 /// In which context a datagram opens at an end.
 fn context_name(end: &Endpoint, datagram: &[u8]) -> &'static str {
     if datagram.len() > 2048 {
@@ -292,16 +313,26 @@ impl Ends {
         Ok(String::new(alloc))
     }
 
-    /// What the caller does by itself.
+    /// What one of them does by itself.
     fn acts(&mut self, alloc: Global, row: &str) -> Result<String, Fail> {
-        let value = u64::from(number(row, 2));
-        let (text, last) = match word(row, 0) {
-            "open" => opens(alloc, &mut self.a, row)?,
-            "tick" => ticks(alloc, &mut self.a, value)?,
-            _ => cancels(alloc, &mut self.a, value)?,
+        let (text, last) = if word(row, 1) == "a" {
+            acts(alloc, &mut self.a, row)?
+        } else {
+            acts(alloc, &mut self.b, row)?
         };
         self.last = last;
         Ok(text)
+    }
+
+    /// Gives an end a datagram that a member of the group makes, as a row says. One of the session
+    /// comes from where the row says, and its call draws by its count.
+    fn makes(&mut self, alloc: Global, row: &str) -> Result<String, Fail> {
+        let datagram = made(alloc, row, 0)?;
+        if word(row, 0) == "session" {
+            let from = (number(row, 5).max(1) % 256) as u8;
+            return self.gives(alloc, row, from, number(row, 2), datagram.as_slice());
+        }
+        self.gives(alloc, row, 1, 4, datagram.as_slice())
     }
 
     /// Gives an end the last datagram, or the one that is kept, as a row says.
@@ -328,7 +359,7 @@ impl Ends {
     pub(crate) fn told(&mut self, alloc: Global, row: &str) -> Result<String, Fail> {
         match word(row, 0) {
             "new" => self.renews(alloc, row),
-            "open" | "tick" | "cancel" => self.acts(alloc, row),
+            "open" | "tick" | "cancel" | "close" => self.acts(alloc, row),
             "last" | "kept" => self.passes(alloc, row),
             "keep" => {
                 self.kept = Vec::from_slice(alloc, self.last.as_slice())?;
@@ -339,11 +370,7 @@ impl Ends {
                 let datagram = bytes(alloc, row, 2)?;
                 self.gives(alloc, row, 1, 4, datagram.as_slice())
             }
-            _ => {
-                let datagram = made(alloc, row, 0)?;
-                let drawn = if word(row, 0) == "session" { 8 } else { 4 };
-                self.gives(alloc, row, 1, drawn, datagram.as_slice())
-            }
+            _ => self.makes(alloc, row),
         }
     }
 }

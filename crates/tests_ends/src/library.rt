@@ -33,6 +33,8 @@ fn an_end_tells_what_to_send_and_what_happened(rt: HostRuntime) -> Result<(), Fa
                 sent = sent.saturating_add(1);
             }
             Entry::Fact(_) => told = told.saturating_add(1),
+            Entry::Closed { .. } => {}
+            Entry::Moved { .. } => {}
             Entry::Discard { .. } => dropped = dropped.saturating_add(1),
         }
     }

@@ -155,6 +155,88 @@ opens session b 7 01010000 = session
 opens startup b 6 01 = none
 ";
 
+/// After the opening: a close, an answer to a close, and a ping, before and after the close of the
+/// peer, and when the closing is over. What follows a close in its datagram comes too late.
+const LINGERING: &str = "session b 7 014c0000 = confirmed 6; drop 1 WrongState;
+session b 8 014c0000 = drop 1 WrongState;
+session b 9 010c0000010000 = ended 6 Far; out 42; drop 4 WrongState;
+session b 10 014c0000 = drop 1 WrongState;
+session b 11 010c0000 18999 = out 42;
+session b 12 01010000 18999 = drop 1 WrongState;
+tick b 18999 = 
+tick b 19000 = closed 6;
+session b 13 010c0000 19000 = drop 0 UnknownSession;
+";
+
+/// After the opening: this end closes, then the peer does, from whose first close it lingers.
+const CLOSING: &str = "session b 7 01010000 = confirmed 6; out 42;
+close b 5 = NoSession
+close b 6 = ended 6 Near; out 42;
+close b 6 = NoSession
+session b 8 01010000 = drop 1 WrongState;
+session b 9 010c0000 1000 = out 42;
+session b 10 014c0000 1000 = drop 1 WrongState;
+session b 11 010c0000 2000 = out 42;
+tick b 19999 = 
+tick b 20000 = closed 6;
+";
+
+/// After the opening: the datagram that confirms the session closes it.
+const CLOSED_AT_ONCE: &str = "session b 7 010c0000 = confirmed 6; ended 6 Far; out 42;
+";
+
+/// After the opening: the session ID is sought while its session is closing, and after it is over.
+const SOUGHT: &str = "close b 6 7 = ended 6 Near; out 42;
+kept b 1 9 = drop 1 Stale(1);
+open b peer1 1 6 7 = started 1 7; out 90;
+session b 7 014c00004c0000 7 = closed 6; drop 4 WrongState;
+open b peer2 1 6 7 = started 2 6; out 90;
+";
+
+/// After the opening: when a close goes out again, and when it is given up.
+const CLOSES: &str = "close b 6 100 = ended 6 Near; out 42;
+tick b 5099 = 
+tick b 5100 = out 42;
+tick b 10099 = 
+tick b 10100 = out 42;
+tick b 90099 = out 42;
+tick b 90100 = closed 6;
+";
+
+/// After the opening: when a session ends that isn't confirmed.
+const UNCONFIRMED: &str = "tick b 19999 = 
+tick b 20000 = ended 6 Unconfirmed;
+kept b 1 9 20000 = drop 1 Stale(1);
+";
+
+/// After the opening: when a ping keeps a session alive, and when an idle one ends.
+const KEPT_ALIVE: &str = "session b 7 01010000 100 = confirmed 6; out 42;
+tick b 10099 = 
+tick b 10100 = out 42;
+session b 8 01410000 12000 = 
+tick b 21999 = 
+tick b 22000 = out 42;
+tick b 31999 = 
+tick b 131999 = out 42;
+tick b 132000 = ended 6 Idle;
+";
+
+/// After the opening: tests of other addresses. A session moves with the token of the last test, from
+/// the address that it went to, and once.
+const MOVES: &str = "session b 7 01010000 = confirmed 6; out 42;
+session b 8 01010000 0 5 = out 42; out 58;
+session b 9 0141001000000000000000000000000000000008 0 1 = 
+session b 10 0141001000000000000000000000000000000009 0 5 = 
+session b 11 0141001000000000000000000000000000000008 0 6 = out 58;
+session b 12 0141001000000000000000000000000000000008 0 5 = out 58;
+session b 13 014100100000000000000000000000000000000c 0 5 = moved 6 5;
+session b 14 014100100000000000000000000000000000000c 0 5 = 
+session b 15 01010000 0 1 = out 42; out 58;
+session b 16 01010000 999 1 = out 42;
+session b 17 01010000 1000 1 = out 42; out 58;
+session b 18 010c0000 2000 9 = ended 6 Far; out 42;
+";
+
 /// The first row of a table that isn't so of these ends.
 fn first_wrong(
     alloc: Global,
@@ -181,6 +263,14 @@ fn rows_are_so(rt: HostRuntime) -> Result<(), Fail> {
         (OPENING, HANDSHAKE),
         (OPENING, SPENT),
         (OPENING, CONTEXTS),
+        (OPENING, LINGERING),
+        (OPENING, CLOSING),
+        (OPENING, CLOSED_AT_ONCE),
+        (OPENING, SOUGHT),
+        (OPENING, CLOSES),
+        (OPENING, UNCONFIRMED),
+        (OPENING, KEPT_ALIVE),
+        (OPENING, MOVES),
     ];
     for (before, table) in tables {
         let mut ends = Ends::new(rt.alloc())?;

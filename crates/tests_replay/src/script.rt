@@ -24,7 +24,11 @@ inject a 1.2.3.4:5 0A
 inject a 1.2.3.4:5 000
 inject a 1.2.3.4:5 
 open a b 
-close a 1
+close a
+close a 01
+close a 4294967296
+close  1
+hang a 1
 ";
 
 /// Whether a line, which has a part again and again behind its head, is a step.

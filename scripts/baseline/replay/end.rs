@@ -8,6 +8,13 @@ const GAPS: [u64; 5] = [1000, 1500, 2250, 3375, 5062];
 const ATTEMPT_TIME: u64 = 95_000;
 const COOKIE_TIME: u64 = 95_000;
 const ECHO_TIME: u64 = 128_000;
+const CONFIRM_TIME: u64 = 20_000;
+const IDLE_TIME: u64 = 120_000;
+const KEEPALIVE_TIME: u64 = 10_000;
+const CLOSE_GAP: u64 = 5_000;
+const CLOSE_TIME: u64 = 90_000;
+const LINGER_TIME: u64 = 19_000;
+const TEST_TIME: u64 = 1_000;
 const INITIATOR: u8 = 1;
 const RESPONDER: u8 = 2;
 
@@ -31,6 +38,7 @@ impl Group {
 pub struct Draws {
     pub nonce: Nonce,
     pub tag: [u8; 16],
+    pub token: [u8; 16],
     pub word: u32,
 }
 
@@ -40,6 +48,10 @@ pub enum Why {
     Expired,
     Glare,
     Override,
+    Unconfirmed,
+    Near,
+    Far,
+    Idle,
 }
 
 #[derive(Clone, Debug)]
@@ -99,6 +111,7 @@ pub enum Refusal {
     PeersFull(usize),
     SessionsFull(usize),
     NoAttempt,
+    NoSession,
 }
 
 pub struct Out {
@@ -110,6 +123,8 @@ pub struct Out {
 
 pub enum Entry {
     Fact(Fact),
+    Closed { near: u32 },
+    Moved { near: u32, to: Address },
     Discard { place: usize, cause: Cause },
     Out(Out),
 }
@@ -131,10 +146,26 @@ struct Attempt {
     gap: usize,
 }
 
+/// Where a session stands: it is held, half-open at first, or it is closing. With the moment of its birth, of the close
+/// and of the last close sent, or from which it lingers.
+#[derive(Clone, Copy)]
+enum State {
+    HalfOpen { birth: u64 },
+    Open,
+    NearClosing { since: u64, sent: u64 },
+    Lingering { since: u64 },
+}
+
 struct Session {
     joined: Joined,
     mode: u8,
-    kept: bool,
+    state: State,
+    address: Address,
+    /// The moments of the last datagram taken and of the last keepalive.
+    taken: u64,
+    kept_alive: Option<u64>,
+    /// The address that is tested, the token, and since when.
+    test: Option<(Address, [u8; 16], u64)>,
     inward: (Rc<Context>, Keys),
     outward: (Rc<Context>, Keys),
     window: Window,
@@ -173,7 +204,7 @@ pub struct Unsealed {
 }
 
 impl Session {
-    fn new(joined: Joined, own: Print, mode: u8, secret: &Hmac) -> Self {
+    fn new(joined: Joined, own: Print, mode: u8, secret: &Hmac, address: Address, moment: u64) -> Self {
         let (initiator, responder, sid_i, sid_r) = match mode {
             INITIATOR => (own, joined.peer, joined.near, joined.far),
             _ => (joined.peer, own, joined.far, joined.near),
@@ -184,8 +215,27 @@ impl Session {
             (Rc::new(context), keys)
         };
         let (inward, outward) = (context(mode == RESPONDER), context(mode == INITIATOR));
-        let kept = mode == INITIATOR;
-        Session { joined, mode, kept, inward, outward, window: Window::new(), sealed: 0, stamp: None, trip: None, rikeying: Vec::new() }
+        let state = if mode == INITIATOR { State::Open } else { State::HalfOpen { birth: moment } };
+        Session {
+            joined,
+            mode,
+            state,
+            address,
+            taken: moment,
+            kept_alive: None,
+            test: None,
+            inward,
+            outward,
+            window: Window::new(),
+            sealed: 0,
+            stamp: None,
+            trip: None,
+            rikeying: Vec::new(),
+        }
+    }
+
+    fn is_held(&self) -> bool {
+        matches!(self.state, State::HalfOpen { .. } | State::Open)
     }
 
     /// Takes the stamps of a packet, and the round trip that an echo tells.
@@ -234,7 +284,7 @@ pub struct End {
     sealed: u64,
     peers: HashMap<Print, Peer>,
     attempts: BTreeMap<u32, Attempt>,
-    sessions: HashMap<u32, Session>,
+    sessions: BTreeMap<u32, Session>,
 }
 
 impl End {
@@ -252,12 +302,12 @@ impl End {
             sealed: 0,
             peers: HashMap::new(),
             attempts: BTreeMap::new(),
-            sessions: HashMap::new(),
+            sessions: BTreeMap::new(),
         }
     }
 
     pub fn kept(&self) -> usize {
-        self.sessions.values().filter(|s| s.kept).count()
+        self.sessions.values().filter(|s| matches!(s.state, State::Open)).count()
     }
 
     // ---- calls
@@ -306,6 +356,14 @@ impl End {
         Ok(())
     }
 
+    pub fn close(&mut self, near: u32, moment: u64, out: &mut Vec<Entry>) -> Result<(), Refusal> {
+        let session = self.sessions.get_mut(&near).filter(|s| s.is_held()).ok_or(Refusal::NoSession)?;
+        session.state = State::NearClosing { since: moment, sent: moment };
+        self.end_session(near, Why::Near, out);
+        self.send_home(near, wire::CLOSE, moment, out);
+        Ok(())
+    }
+
     /// Attempts that are too old end; hellos and keyings that weren't answered go out again.
     pub fn tick(&mut self, moment: u64, out: &mut Vec<Entry>) {
         let nears: Vec<u32> = self.attempts.keys().copied().collect();
@@ -318,6 +376,41 @@ impl End {
                 attempt.gap = (attempt.gap + 1).min(GAPS.len() - 1);
                 self.send_attempt(near, out);
             }
+        }
+        let nears: Vec<u32> = self.sessions.keys().copied().collect();
+        for near in nears {
+            self.tick_session(near, moment, out);
+        }
+    }
+
+    /// A session ends, its closing is over, its close goes out again, or it is kept alive.
+    fn tick_session(&mut self, near: u32, moment: u64, out: &mut Vec<Entry>) {
+        let session = self.sessions.get_mut(&near).unwrap();
+        match session.state {
+            State::HalfOpen { birth } if moment >= birth + CONFIRM_TIME => {
+                self.end_session(near, Why::Unconfirmed, out);
+                self.sessions.remove(&near);
+            }
+            State::HalfOpen { .. } => {}
+            State::Open if moment >= session.taken + IDLE_TIME => {
+                self.end_session(near, Why::Idle, out);
+                self.sessions.remove(&near);
+            }
+            State::Open => {
+                let quiet = moment >= session.taken + KEEPALIVE_TIME;
+                if quiet && session.kept_alive.is_none_or(|last| moment >= last + KEEPALIVE_TIME) {
+                    session.kept_alive = Some(moment);
+                    self.send_home(near, wire::PING, moment, out);
+                }
+            }
+            State::NearClosing { since, .. } if moment >= since + CLOSE_TIME => self.forget(near, out),
+            State::NearClosing { since, sent } if moment >= sent + CLOSE_GAP => {
+                session.state = State::NearClosing { since, sent: moment };
+                self.send_home(near, wire::CLOSE, moment, out);
+            }
+            State::NearClosing { .. } => {}
+            State::Lingering { since } if moment >= since + LINGER_TIME => self.forget(near, out),
+            State::Lingering { .. } => {}
         }
     }
 
@@ -367,8 +460,9 @@ impl End {
         if let Place::Session(near) = place {
             let session = self.sessions.get_mut(&near).unwrap();
             session.take_stamps(&packet, moment);
-            if !session.kept {
-                session.kept = true;
+            session.taken = moment;
+            if matches!(session.state, State::HalfOpen { .. }) {
+                session.state = State::Open;
                 out.push(Entry::Fact(Fact::Confirmed { near }));
             }
         }
@@ -379,7 +473,41 @@ impl End {
             }
             keyed |= chunk.kind == wire::IIKEYING;
         }
+        if let Place::Session(near) = place {
+            self.test_address(near, from, moment, draws.token, out);
+        }
         Ok(())
+    }
+
+    /// An address from which a held session had a datagram, and that isn't its own, is pinged.
+    fn test_address(&mut self, near: u32, from: Address, moment: u64, token: [u8; 16], out: &mut Vec<Entry>) {
+        let Some(session) = self.sessions.get_mut(&near).filter(|s| s.is_held() && s.address != from) else { return };
+        if session.test.is_some_and(|(place, _, since)| place == from && moment < since + TEST_TIME) {
+            return;
+        }
+        session.test = Some((from, token, moment));
+        self.send_in_session(near, from, wire::PING, &token, moment, out);
+    }
+
+    fn take_close(&mut self, near: u32, moment: u64, out: &mut Vec<Entry>) {
+        let Some(session) = self.sessions.get_mut(&near) else { return };
+        let held = session.is_held();
+        if !matches!(session.state, State::Lingering { .. }) {
+            session.state = State::Lingering { since: moment };
+        }
+        if held {
+            self.end_session(near, Why::Far, out);
+        }
+        self.send_home(near, wire::CLOSEACK, moment, out);
+    }
+
+    fn take_ping_reply(&mut self, near: u32, from: Address, bytes: &[u8], out: &mut Vec<Entry>) {
+        let Some(session) = self.sessions.get_mut(&near) else { return };
+        if session.test.is_some_and(|(place, token, _)| place == from && token == bytes) {
+            session.address = from;
+            session.test = None;
+            out.push(Entry::Moved { near, to: from });
+        }
     }
 
     #[allow(clippy::too_many_arguments)]
@@ -390,6 +518,18 @@ impl End {
             ChunkFault::Unknown => Cause::UnknownChunk(raw.kind),
             ChunkFault::Malformed(at) => Cause::Malformed(at),
         })?;
+        if let Place::Session(near) = place {
+            let session = self.sessions.get(&near);
+            let is_late = match chunk {
+                Chunk::Close => session.is_none(),
+                Chunk::CloseAck => !session.is_some_and(|s| matches!(s.state, State::NearClosing { .. })),
+                Chunk::FIHello { .. } | Chunk::Ping(_) | Chunk::PingReply(_) => !session.is_some_and(Session::is_held),
+                _ => false,
+            };
+            if is_late {
+                return Err(Cause::WrongState);
+            }
+        }
         match (place, chunk) {
             (_, Chunk::Fragment) => Err(Cause::Fragment),
             (Place::Startup, Chunk::IHello { epd, tag }) => self.take_hello(epd, tag, from, moment, out),
@@ -407,7 +547,18 @@ impl End {
                 self.send_in_session(near, from, wire::PINGREPLY, bytes, moment, out);
                 Ok(())
             }
-            (Place::Session(_), Chunk::PingReply) => Ok(()),
+            (Place::Session(near), Chunk::PingReply(bytes)) => {
+                self.take_ping_reply(near, from, bytes, out);
+                Ok(())
+            }
+            (Place::Session(near), Chunk::Close) => {
+                self.take_close(near, moment, out);
+                Ok(())
+            }
+            (Place::Session(near), Chunk::CloseAck) => {
+                self.forget(near, out);
+                Ok(())
+            }
             _ => Err(Cause::WrongPlace),
         }
     }
@@ -523,7 +674,7 @@ impl End {
         let joined = Joined { peer, n: keying.n, near, far: keying.near, ni: keying.ni, nr: draws.nonce, k: self.started };
         self.hold(peer, Held::Session(near)).floor = keying.n;
         out.push(Entry::Fact(Fact::Born(joined.clone())));
-        let mut session = Session::new(joined, self.print, RESPONDER, &self.group.secret);
+        let mut session = Session::new(joined, self.print, RESPONDER, &self.group.secret, from, moment);
         session.rikeying = self.rikeying(&session.joined);
         self.send_startup(keying.near, from, wire::RIKEYING, &session.rikeying, out);
         self.sessions.insert(near, session);
@@ -550,7 +701,7 @@ impl End {
         let row = self.hold(peer, Held::Session(near));
         row.floor = row.floor.max(keying.k);
         out.push(Entry::Fact(Fact::Opened(joined.clone())));
-        self.sessions.insert(near, Session::new(joined, self.print, INITIATOR, &self.group.secret));
+        self.sessions.insert(near, Session::new(joined, self.print, INITIATOR, &self.group.secret, from, moment));
         self.send_in_session(near, from, wire::PING, &[], moment, out);
         Ok(())
     }
@@ -600,6 +751,19 @@ impl End {
         }
     }
 
+    /// A held session isn't any more; it may be closing.
+    fn end_session(&mut self, near: u32, why: Why, out: &mut Vec<Entry>) {
+        let peer = self.sessions[&near].joined.peer;
+        self.hold(peer, Held::Nothing);
+        out.push(Entry::Fact(Fact::Ended { near, why }));
+    }
+
+    /// A closing is over.
+    fn forget(&mut self, near: u32, out: &mut Vec<Entry>) {
+        self.sessions.remove(&near);
+        out.push(Entry::Closed { near });
+    }
+
     // ---- cookies
 
     fn cookie(&self, to: Address, issued: u64) -> Vec<u8> {
@@ -642,6 +806,12 @@ impl End {
         let Some(session) = self.sessions.get_mut(&near) else { return };
         let datagram = session.seal(kind, payload, moment).into();
         out.push(Entry::Out(Out { to, datagram, context: session.outward.0.clone(), kind }));
+    }
+
+    /// A chunk without bytes, to the session's address.
+    fn send_home(&mut self, near: u32, kind: u8, moment: u64, out: &mut Vec<Entry>) {
+        let to = self.sessions[&near].address;
+        self.send_in_session(near, to, kind, &[], moment, out);
     }
 
     /// Sends the hellos of an attempt, or its keying.

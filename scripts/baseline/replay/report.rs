@@ -27,6 +27,7 @@ pub fn print_script(world: &World) {
                 writeln!(out, "open {} {}{list}", name(end), name(peer))
             }
             Step::Cancel { end, n } => writeln!(out, "cancel {} {n}", name(end)),
+            Step::Close { end, near } => writeln!(out, "close {} {near}", name(end)),
             Step::Deliver { number, end, from } => writeln!(out, "deliver {number} {} {}", name(end), At(*from)),
             Step::Tick { end } => writeln!(out, "tick {}", name(end)),
         };
@@ -53,6 +54,8 @@ pub fn write_line(out: &mut impl Write, world: &World, line: &JournalLine, sent:
         write!(out, "{} {name} ", line.line)?;
         match entry {
             Entry::Fact(fact) => write_fact(out, world, fact)?,
+            Entry::Closed { near } => writeln!(out, "closed near={near}")?,
+            Entry::Moved { near, to } => writeln!(out, "moved near={near} {}", At(*to))?,
             Entry::Discard { place, cause } => writeln!(out, "drop {place} {}", cause_text(cause))?,
             Entry::Out(o) => {
                 *sent += 1;
@@ -86,6 +89,10 @@ fn write_fact(out: &mut impl Write, world: &World, fact: &Fact) -> io::Result<()
                 Why::Expired => "expired",
                 Why::Glare => "glare",
                 Why::Override => "override",
+                Why::Unconfirmed => "unconfirmed",
+                Why::Near => "near",
+                Why::Far => "far",
+                Why::Idle => "idle",
             };
             writeln!(out, "ended near={near} {why}")
         }
@@ -100,7 +107,9 @@ fn kind_name(kind: u8) -> &'static str {
         0x38 => "iikeying",
         0x78 => "rikeying",
         0x01 => "ping",
-        _ => "pingreply",
+        0x41 => "pingreply",
+        0x0c => "close",
+        _ => "closeack",
     }
 }
 
@@ -114,6 +123,7 @@ fn refusal(refusal: &Refusal) -> String {
         Refusal::PeersFull(n) => format!("peers-full {n}"),
         Refusal::SessionsFull(n) => format!("sessions-full {n}"),
         Refusal::NoAttempt => "no-attempt".into(),
+        Refusal::NoSession => "no-session".into(),
     }
 }
 

@@ -1,4 +1,4 @@
-//! Scripts that are read, line by line: `end`, `at`, `open`, `cancel`, `deliver` and `tick`.
+//! Scripts that are read, line by line: `end`, `at`, `open`, `cancel`, `close`, `deliver` and `tick`.
 use crate::wire::{Address, Host};
 use crate::{Step, World};
 
@@ -27,6 +27,7 @@ fn step(world: &World, word: &str, rest: &str) -> Option<Step> {
             Step::Open { end, peer, list: words.by_ref().map(address).collect::<Option<_>>()? }
         }
         "cancel" => Step::Cancel { end: end(words.next())?, n: words.next()?.parse().ok()? },
+        "close" => Step::Close { end: end(words.next())?, near: words.next()?.parse().ok()? },
         "deliver" => {
             let number = words.next()?.parse().ok().filter(|number| world.was_numbered(*number))?;
             Step::Deliver { number, end: end(words.next())?, from: address(words.next()?)? }

@@ -166,6 +166,8 @@ pub const IIKEYING: u8 = 0x38;
 pub const RIKEYING: u8 = 0x78;
 pub const PING: u8 = 0x01;
 pub const PINGREPLY: u8 = 0x41;
+pub const CLOSE: u8 = 0x0c;
+pub const CLOSEACK: u8 = 0x4c;
 pub const FRAGMENT: u8 = 0x7f;
 
 /// The chunks that an end takes.
@@ -177,7 +179,9 @@ pub enum Chunk<'a> {
     IIKeying(IIKeying<'a>),
     RIKeying(RIKeying<'a>),
     Ping(&'a [u8]),
-    PingReply,
+    PingReply(&'a [u8]),
+    Close,
+    CloseAck,
     Fragment,
 }
 
@@ -236,7 +240,9 @@ impl<'a> Chunk<'a> {
             IIKEYING => Chunk::IIKeying(IIKeying::read(payload)?),
             RIKEYING => Chunk::RIKeying(RIKeying::read(payload)?),
             PING => Chunk::Ping(payload),
-            PINGREPLY => Chunk::PingReply,
+            PINGREPLY => Chunk::PingReply(payload),
+            CLOSE => Chunk::Close,
+            CLOSEACK => Chunk::CloseAck,
             FRAGMENT => {
                 r.take(1)?;
                 r.vlu()?;
