@@ -221,8 +221,8 @@ tick b 131999 = out 42;
 tick b 132000 = ended 6 Idle;
 ";
 
-/// After the opening: tests of other addresses. A session moves with the token of the last test, from
-/// the address that it went to, and once.
+/// After the opening: tests of other addresses. A session moves with the token of the last test,
+/// from the address that it went to, and once.
 const MOVES: &str = "session b 7 01010000 = confirmed 6; out 42;
 session b 8 01010000 0 5 = out 42; out 58;
 session b 9 0141001000000000000000000000000000000008 0 1 = 
