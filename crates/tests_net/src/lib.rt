@@ -1,8 +1,11 @@
-//! Tests of the outside: each link, clock, random source and spawner in memory by its rows, and
-//! each that is over the machine with the real thing.
+//! Tests of a node on a network, through public items alone: each link, clock, random source and
+//! spawner in memory by its rows, each that is over the machine with the real thing, and the words
+//! of `serve` and `meet`.
 #![tactic(auto)]
 
 #[cfg(test)]
 mod machine;
 #[cfg(test)]
 mod memory;
+#[cfg(test)]
+mod words;
