@@ -43,7 +43,7 @@ bad-script 2|replay|-|at 5~at 4~||0
 forged 3|replay|-|end a 65536 4096 The quick brown fox jumps over the lazy dog~end b 65536 4096 The quick brown fox jumps over the lazy dog.~inject b 10.0.0.1:1935 f3c13152dd4b532b2e8a6279421e678998a7793cffffffffffffffffffffffffffffffffe7c11d5a60~open b a 10.0.0.1:1935~||0
 done|replay --generate 5 --steps 1|-||ends=8 steps=1 sent=1 started=1 born=0 opened=0 confirmed=0 ended=0 dropped=0 kept=0~|85
 done|replay --generate 10 --steps 100|-||ends=8 steps=100 sent=46 started=10 born=2 opened=2 confirmed=1 ended=0 dropped=31 kept=3~|90
-done|replay --generate 1 --steps 100000|-||ends=8 steps=100000 sent=15441 started=38 born=29 opened=29 confirmed=28 ended=11 dropped=54237 kept=56~|104
+done|replay --generate 1 --steps 10000|-||ends=8 steps=10000 sent=1740 started=38 born=29 opened=29 confirmed=28 ended=11 dropped=5205 kept=56~|101
 done|replay --generate 3 --steps 400|-||ends=8 steps=400 sent=171 started=26 born=16 opened=12 confirmed=7 ended=2 dropped=90 kept=19~|94
 ";
 
