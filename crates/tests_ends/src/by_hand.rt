@@ -42,10 +42,12 @@ fn address(last: u8) -> Address {
 pub(crate) fn draws(word: u32) -> Draws {
     let mut nonce = [0; 16];
     nonce[15] = (word % 256) as u8;
+    let mut token = nonce;
+    token[0] = 1;
     Draws {
         nonce,
         tag: nonce,
-        token: nonce,
+        token,
         word,
     }
 }
