@@ -277,6 +277,13 @@ impl Session {
         let _ = self.window.take(count_of(sealed));
     }
 
+    /// Whether the session is held, half-open or open: it hasn't ended.
+    pub fn is_held(&self) -> bool
+        ensures { result ≡ is_held self.now.stage }
+    {
+        is_held(self.stage)
+    }
+
     /// Whether the session is half-open, so that `confirm` would confirm it.
     pub fn is_half_open(&self) -> bool
         ensures { result ≡ is_opening self.now.stage }
