@@ -1,13 +1,12 @@
 -- Keyings that bear and open sessions, and attempts that begin.
 use Rattle.std.proofs.Common.{◌^◌, zero, suc, nat_le, is_some, ◌≡◌, ◌≤◌, ◌<◌, ◌+◌, ◌++◌, ◌==◌, ◌&&◌, ◌||◌, not, ℕ, Bool, true, false, if◌then◌else◌, List, [], ◌∷◌, length, Option, Some, None, refl, sym, ap, ◌∙◌, subst, arith, append_assoc, length-append}
-use Rattle.std.specs.FinMap.{len, get, contains_key}
+use Rattle.std.specs.FinMap.{get, contains_key}
 use Rattle.std.specs.List.{fold, list_any}
 use Rattle.std.proofs.lemmas.Bool.Decides.{nat_tests}
 use Rattle.glare_core.specs.Calls.{first_that_stands, start_refusal}
 use Rattle.startup.specs.Attempts.{joined, lowest, distinct_candidates}
 use Rattle.startup.specs.Due.{due, due_of, due_sends, due_sends_of, is_due}
 use Rattle.rtmfp_chunks.specs.Writing.{chunk_bytes}
-use Rattle.endpoint_model.specs.declared.row.Row.{Row}
 use Rattle.endpoint_model.specs.declared.answers.OpenRefusal.{OpenRefusal}
 use Rattle.crypto_profile.specs.Keys.{Keys}
 use Rattle.rtmfp_forms.specs.Address.{AddressParts, is_same_place}
@@ -24,9 +23,9 @@ use Rattle.endpoint_model.specs.declared.entry.Entry.{Entry}
 use Rattle.endpoint_model.specs.declared.entry.Entry.TheVariants.{Fact as FactEntry}
 use Rattle.endpoint_model.specs.Added.{Added}
 use Rattle.endpoint_model.specs.Effects.{candidates_refusal, start_refused, full_refused, open_refusal, tick_once, ticks, initiator_keyed, keying_done, responder_keyed, opening_done, sessions_born, sessions_opened, with_born, with_opened}
-use Rattle.endpoint.specs.Stored.{IsEndpoint, table_of, state_of}
+use Rattle.endpoint.specs.Stored.{IsEndpoint, state_of}
 use Rattle.endpoint_model.specs.Sending.{sent_in_session}
-use Rattle.endpoint_model.specs.State.{State, Did, Done, then_do, after_entries, uses, is_used, is_free, full, free_from, with_startup, with_sessions}
+use Rattle.endpoint_model.specs.State.{State, Sessions, Did, Done, then_do, after_entries, uses, is_used, is_free, full, free_from, with_startup, with_sessions}
 use Rattle.endpoint_model.proofs.Ids.{free_from_is_free}
 use Rattle.endpoint_model.proofs.Steps.{done_nothing, then_nothing, then_then, joined as steps_joined}
 use Rattle.endpoint.proofs.Constants.{IsSameEnd, end_stays, keying_keeps, opening_keeps}
@@ -60,7 +59,7 @@ added_first entries d new before between after is done = record {
 
 -- ---- what startup left
 
-pub startup_put : (config : Config) (moment sealed : ℕ) (startup next left : StartupState) (sessions rows : List Row) → rows ≡ sessions → next ≡ left →
+pub startup_put : (config : Config) (moment sealed : ℕ) (startup next left : StartupState) (sessions rows : Sessions) → rows ≡ sessions → next ≡ left →
     state_of config moment sealed next rows ≡ with_startup (state_of config moment sealed startup sessions) left
 startup_put config moment sealed startup next left sessions rows same is =
     ap (λ r. state_of config moment sealed next r) same ∙ ap (λ x. state_of config moment sealed x sessions) is
@@ -78,21 +77,21 @@ keyed_so s t from draws payload near k new before after near_is keyed_is t_is do
     subst (λ o. Done (keying_done (left near) from o) new before after) (sym keyed_is) here in
     subst (λ n. Done (keying_done (left n) from (keyed s.startup payload from s.moment n draws.nonce)) new before after) near_is there
 
-pub born_state : (config : Config) (moment sealed : ℕ) (startup : StartupState) (rows new : List Row) (ended : Option Fact) (born : Fact) (from : AddressParts) (print secret : List ℕ) →
-    print ≡ startup.ledger.own → secret ≡ startup.secret → table_of new ≡ sessions_born (table_of rows) ended born print from secret moment →
+pub born_state : (config : Config) (moment sealed : ℕ) (startup : StartupState) (rows new : Sessions) (ended : Option Fact) (born : Fact) (from : AddressParts) (print secret : List ℕ) →
+    print ≡ startup.ledger.own → secret ≡ startup.secret → new ≡ sessions_born rows ended born print from secret moment →
     state_of config moment sealed startup new ≡ with_born (state_of config moment sealed startup rows) ended born from
 born_state config moment sealed startup rows new ended born from print secret print_is secret_is table =
     ap (with_sessions (state_of config moment sealed startup rows))
-    (table ∙ ap (λ p. sessions_born (table_of rows) ended born p from secret moment) print_is ∙ ap (λ x. sessions_born (table_of rows) ended born startup.ledger.own from x moment) secret_is)
+    (table ∙ ap (λ p. sessions_born rows ended born p from secret moment) print_is ∙ ap (λ x. sessions_born rows ended born startup.ledger.own from x moment) secret_is)
 
 -- ---- a responder's keying
 
-pub opened_state : (config : Config) (moment sealed : ℕ) (startup : StartupState) (rows new : List Row) (fact : Fact) (from : AddressParts) (print secret : List ℕ) →
-    print ≡ startup.ledger.own → secret ≡ startup.secret → table_of new ≡ sessions_opened (table_of rows) fact print from secret moment →
+pub opened_state : (config : Config) (moment sealed : ℕ) (startup : StartupState) (rows new : Sessions) (fact : Fact) (from : AddressParts) (print secret : List ℕ) →
+    print ≡ startup.ledger.own → secret ≡ startup.secret → new ≡ sessions_opened rows fact print from secret moment →
     state_of config moment sealed startup new ≡ with_opened (state_of config moment sealed startup rows) fact from
 opened_state config moment sealed startup rows new fact from print secret print_is secret_is table =
     ap (with_sessions (state_of config moment sealed startup rows))
-    (table ∙ ap (λ p. sessions_opened (table_of rows) fact p from secret moment) print_is ∙ ap (λ x. sessions_opened (table_of rows) fact startup.ledger.own from x moment) secret_is)
+    (table ∙ ap (λ p. sessions_opened rows fact p from secret moment) print_is ∙ ap (λ x. sessions_opened rows fact startup.ledger.own from x moment) secret_is)
 
 pub opened_so : (s t : State) (near : ℕ) (from : AddressParts) (payload : List ℕ) (fact : Fact) (new : State) (before after : Added) →
     opened s.startup near payload ≡ Some fact → t ≡ with_opened (with_startup s (after_opening s.startup near fact)) fact from →
@@ -104,22 +103,19 @@ opened_so s t near from payload fact new before after is t_is done =
 
 -- ---- what an end keeps beside its state stays as it should be
 
-kept_end : (config : Config) (secret print : List ℕ) (keys : Keys) (s t left : StartupState) (rows new : List Row) → IsEndpoint config secret print keys s rows → IsSameEnd s left → t ≡ left →
-    len (table_of new) ≡ length new → IsEndpoint config secret print keys t new
-kept_end config secret print keys s t left rows new is same t_is distinct =
-    let still : IsEndpoint config secret print keys t rows =
-    subst (λ (x : StartupState). IsEndpoint config secret print keys x rows) (sym t_is) (end_stays config secret print keys s left rows is same) in
-    record { secret_is = still.secret_is; print_is = still.print_is; keys_are = still.keys_are; distinct = distinct; few = still.few }
+kept_end : (config : Config) (secret print : List ℕ) (keys : Keys) (s t left : StartupState) → IsEndpoint config secret print keys s → IsSameEnd s left → t ≡ left → IsEndpoint config secret print keys t
+kept_end config secret print keys s t left is same t_is =
+    subst (λ (x : StartupState). IsEndpoint config secret print keys x) (sym t_is) (end_stays config secret print keys s left is same)
 
-pub kept_keying : (config : Config) (secret print : List ℕ) (keys : Keys) (s t : StartupState) (rows new : List Row) (payload : List ℕ) (from : AddressParts) (moment near : ℕ) (nr : List ℕ) →
-    IsEndpoint config secret print keys s rows → t ≡ after_keying s payload from moment near nr → len (table_of new) ≡ length new → IsEndpoint config secret print keys t new
-kept_keying config secret print keys s t rows new payload from moment near nr is t_is distinct =
-    kept_end config secret print keys s t (after_keying s payload from moment near nr) rows new is (keying_keeps s payload from moment near nr) t_is distinct
+pub kept_keying : (config : Config) (secret print : List ℕ) (keys : Keys) (s t : StartupState) (payload : List ℕ) (from : AddressParts) (moment near : ℕ) (nr : List ℕ) →
+    IsEndpoint config secret print keys s → t ≡ after_keying s payload from moment near nr → IsEndpoint config secret print keys t
+kept_keying config secret print keys s t payload from moment near nr is t_is =
+    kept_end config secret print keys s t (after_keying s payload from moment near nr) is (keying_keeps s payload from moment near nr) t_is
 
-pub kept_opening : (config : Config) (secret print : List ℕ) (keys : Keys) (s t : StartupState) (rows new : List Row) (near : ℕ) (fact : Fact) →
-    IsEndpoint config secret print keys s rows → t ≡ after_opening s near fact → len (table_of new) ≡ length new → IsEndpoint config secret print keys t new
-kept_opening config secret print keys s t rows new near fact is t_is distinct =
-    kept_end config secret print keys s t (after_opening s near fact) rows new is (opening_keeps s near fact) t_is distinct
+pub kept_opening : (config : Config) (secret print : List ℕ) (keys : Keys) (s t : StartupState) (near : ℕ) (fact : Fact) →
+    IsEndpoint config secret print keys s → t ≡ after_opening s near fact → IsEndpoint config secret print keys t
+kept_opening config secret print keys s t near fact is t_is =
+    kept_end config secret print keys s t (after_opening s near fact) is (opening_keeps s near fact) t_is
 
 -- ---- what isn't refused
 

@@ -1,11 +1,7 @@
--- The first thing that is due, by what is handed on of it; and how the rows are looked through for it.
-use Rattle.std.proofs.Common.{ℕ, ◌≡◌, ◌<◌, length, List, [], ◌∷◌, get_or, ◌+◌, ◌⊎◌, inl, inr, arith, Bool, true, false, Option, Some, None, IsSome, IfSome, is_some, refl, sym, ap, ◌∙◌, subst}
-use Rattle.std.specs.FinMap.{get, len, entries}
-use Rattle.std.specs.List.{find}
-use Rattle.std.proofs.lemmas.Bool.{cases_order}
-use Rattle.std.proofs.lemmas.List.{get_or_default}
-use Rattle.rtmfp_base.specs.Rows.{IsBest}
-use Rattle.rtmfp_base.proofs.Lowest.{best_is_entry, none_is_entry, first_is_there}
+-- The first thing that is due, by what is handed on of it.
+use Rattle.std.proofs.Common.{ℕ, ◌≡◌, [], ◌∷◌, true, Option, Some, None, IsSome, IfSome, is_some, refl, sym, ap, ◌∙◌, subst}
+use Rattle.std.specs.FinMap.{get}
+use Rattle.rtmfp_base.proofs.Lowest.{first_is_there}
 use Rattle.glare_core.specs.Calls.{first_that_stands}
 use Rattle.startup.specs.declared.answer.Due.{Due}
 use Rattle.startup.specs.State.{AttemptState, StartupState}
@@ -15,62 +11,24 @@ use Rattle.session_core.specs.declared.stage.SessionDue.{SessionDue}
 use Rattle.session_core.specs.Closing.{first_due as first_due_in}
 use Rattle.session_core.specs.declared.stage.SessionDue.TheVariants.{Over}
 use Rattle.endpoint_model.specs.declared.row.Row.{Row}
-use Rattle.endpoint_model.specs.declared.config.Config.{Config}
 use Rattle.endpoint_model.specs.State.{State, Did}
 use Rattle.endpoint_model.specs.InSessions.{due_row, is_row_due, closed}
 use Rattle.endpoint_model.specs.Effects.{Item, first_due, item_done, tick_once, attempt_item, session_item as found_session}
 use Rattle.endpoint.specs.declared.ticking.DueItem.{DueItem}
 use Rattle.endpoint.specs.declared.ticking.DueItem.TheVariants.{Attempt, Session}
-use Rattle.endpoint.specs.Stored.{near_of, itself, table_of, entry_of, state_of}
-use Rattle.endpoint.specs.Steps.{IsDueAt, row_due_by, attempt_done, session_item, attempt_or, due_item}
+use Rattle.session_table.specs.Table.{due_of as due_in_row}
+use Rattle.endpoint.specs.Steps.{row_due_by, attempt_done, session_item, attempt_or, due_item}
 use Rattle.endpoint.proofs.Begun.{none_due}
 
--- ---- the rows
+-- ---- the first session, as the table tells it
 
-module _ (test : Row → Bool) (rows : List Row) (index : ℕ) (row : Row) (within : index < length rows) (is : row ≡ get_or rows index row) where
-  at_index : (d : Row) → get_or rows index d ≡ row
-  at_index d = sym (is ∙ get_or_default rows index row d within)
+abbrev pub handed_on : Option (ℕ × Option SessionDue) → Option DueItem
+handed_on None = None
+handed_on (Some e) = Some (Session e.0 e.1)
 
-  below : (i : ℕ) → i < index + 1 → (i < index) ⊎ (i ≡ index)
-  below i under = elim (cases_order i index) [
-    | inl same ↦ inr same
-    | inr (inl less) ↦ inl less
-    | inr (inr more) ↦ absurd (omega (arith, more, under))
-  ]
-
-  -- a row that doesn't pass changes nothing
-  pub skipped : (best : Option ℕ) → test row ≡ false → IsBest near_of itself test rows index best → IsBest near_of itself test rows (index + 1) best
-  skipped None fails none = record {
-    fails = λ i d under. elim (below i under) [
-      | inl less ↦ none.fails i d less
-      | inr same ↦ ap (λ (k : ℕ). test (get_or rows k d)) same ∙ ap test (at_index d) ∙ fails
-    ];
-  }
-  skipped (Some other) fails best = record {
-    within = omega (arith, best.within);
-    passes = best.passes;
-    lowest = λ i d under passes. elim (below i under) [
-      | inl less ↦ best.lowest i d less passes
-      | inr same ↦
-          let clash : true ≡ false = sym passes ∙ ap (λ (k : ℕ). test (get_or rows k d)) same ∙ ap test (at_index d) ∙ fails in
-          absurd (cc)
-    ];
-  }
-
-pub lowest_of_all : (moment : ℕ) (rows : List Row) (best : Option ℕ) → len (table_of rows) ≡ length rows → IsBest near_of itself (is_row_due moment) rows (length rows) best → IsDueAt moment rows best
-lowest_of_all moment rows None distinct is = none_is_entry near_of itself (is_row_due moment) rows is
-lowest_of_all moment rows (Some index) distinct is = (is.within, best_is_entry near_of itself (is_row_due moment) rows index distinct is)
-
-pub item_found : (config : Config) (moment sealed : ℕ) (startup : StartupState) (rows : List Row) (now : State) (near : ℕ) (due_is : Option SessionDue) (row : Row) →
-    state_of config moment sealed startup rows ≡ now → find (λ (e : ℕ × Row). is_row_due moment e.1) (entries (table_of rows)) ≡ Some (entry_of row) → near ≡ near_of row →
-    due_is ≡ first_due_in row.session moment → Some (Session near due_is) ≡ session_item now.moment (due_row now)
-item_found config moment sealed startup rows now near due_is row view found near_is is =
-    ap (λ (n : ℕ). Some (Session n due_is)) near_is ∙ ap (λ (d : Option SessionDue). Some (Session (near_of row) d)) is ∙ sym (ap (session_item moment) found)
-    ∙ ap (λ (s : State). session_item s.moment (due_row s)) view
-
-pub item_nowhere : (config : Config) (moment sealed : ℕ) (startup : StartupState) (rows : List Row) (now : State) →
-    state_of config moment sealed startup rows ≡ now → find (λ (e : ℕ × Row). is_row_due moment e.1) (entries (table_of rows)) ≡ None → None ≡ session_item now.moment (due_row now)
-item_nowhere config moment sealed startup rows now view found = sym (ap (session_item moment) found) ∙ ap (λ (s : State). session_item s.moment (due_row s)) view
+pub handed_is : (moment : ℕ) (o : Option (ℕ × Row)) → handed_on (due_in_row moment o) ≡ session_item moment o
+handed_is moment None = refl
+handed_is moment (Some e) = refl
 
 -- what is done of a closing that is over
 pub over_there : (s : State) (near : ℕ) (o : Option Row) → is_some o ≡ true → row_due_by s near (Some Over) o ≡ closed s near

@@ -8,11 +8,10 @@ use Rattle.glare_core.specs.declared.facts.Why.{Why}
 use Rattle.glare_core.specs.declared.facts.Why.TheVariants.{Near, Far}
 use Rattle.startup.specs.State.{StartupState}
 use Rattle.startup.specs.Attempts.{end_fact, after_end}
-use Rattle.session_core.specs.declared.stage.Stage.TheVariants.{NearClose, FarLinger}
 use Rattle.session_core.specs.declared.stage.SessionDue.{SessionDue}
-use Rattle.session_core.specs.declared.stage.SessionDue.TheVariants.{Unconfirmed, Idle, Over, RepeatClose}
+use Rattle.session_core.specs.declared.stage.SessionDue.TheVariants.{RepeatClose}
 use Rattle.session_core.specs.Session.{SessionState}
-use Rattle.session_core.specs.Closing.{is_held, closed_near, asked_to_close, first_due, after_due, needs_keepalive, kept_alive}
+use Rattle.session_core.specs.Closing.{is_held, closed_near, asked_to_close, first_due, after_due, kept_alive}
 use Rattle.endpoint_model.specs.declared.row.Row.{Row}
 use Rattle.endpoint_model.specs.Added.{Added}
 use Rattle.endpoint_model.specs.State.{State, Did, Done, nothing, then_do, fact_entries, with_startup, with_session, with_sessions, without_row}
@@ -20,28 +19,6 @@ use Rattle.endpoint_model.specs.InSessions.{held_row, if_held, ended_as, lingeri
 use Rattle.endpoint_model.proofs.Steps.{done_nothing, joined}
 use Rattle.rtmfp_base.proofs.Leaving.{removed_none}
 use Rattle.endpoint.specs.Steps.{session_changed, end_told, lingering_by, dropped_by, kept_alive_in, row_due_by}
-
--- ---- the steps leave a session under its ID
-
-keeps_if : (b : Bool) (s t : SessionState) → t.joined.near ≡ s.joined.near → (if b then t else s).joined.near ≡ s.joined.near
-keeps_if true s t e = e
-keeps_if false s t e = refl
-
-pub closing_keeps : (moment : ℕ) (s : SessionState) → (closed_near moment s).joined.near ≡ s.joined.near
-closing_keeps moment s = keeps_if (is_held s.stage) s (record s { stage = NearClose; since = moment; close_sent = Some moment }) refl
-
-pub lingering_keeps : (moment : ℕ) (s : SessionState) → (asked_to_close moment s).joined.near ≡ s.joined.near
-lingering_keeps moment s = keeps_if _ s (record s { stage = FarLinger; since = moment }) refl
-
-pub keepalive_keeps : (moment : ℕ) (s : SessionState) → (kept_alive moment s).joined.near ≡ s.joined.near
-keepalive_keeps moment s = keeps_if (needs_keepalive s moment) s (record s { keepalive = Some moment }) refl
-
-pub due_keeps : (due : Option SessionDue) (moment : ℕ) (s : SessionState) → (after_due due moment s).joined.near ≡ s.joined.near
-due_keeps None moment s = refl
-due_keeps (Some Unconfirmed) moment s = refl
-due_keeps (Some Idle) moment s = refl
-due_keeps (Some Over) moment s = refl
-due_keeps (Some RepeatClose) moment s = refl
 
 -- ---- an end is told
 
@@ -115,13 +92,6 @@ held_is (Some row) e = by (is_held row.session.stage) refl e
     by : (b : Bool) → is_held row.session.stage ≡ b → is_some (if b then Some row else None) ≡ true → IsHeld (Some row)
     by true is e = record { row = row; is = refl; held = ap (λ (x : Bool). if x then Some row else None) is; stage = is }
     by false is e = absurd (cc)
-
-held_as : (row : Row) (b : Bool) → is_some (if b then Some row else None) ≡ b
-held_as row true = refl
-held_as row false = refl
-
-pub holds_as : (row : Row) → is_some (if_held (Some row)) ≡ is_held row.session.stage
-holds_as row = held_as row (is_held row.session.stage)
 
 -- ---- this end closes it
 

@@ -1,7 +1,6 @@
 -- A call brings an end from each log that it stands for to that log with its event.
 use Rattle.std.proofs.Common.{◌≡◌, ◌+◌, ℕ, List, [], ◌∷◌, ◌++◌, drop, length, true, false, is_some, Option, Some, None, Ok, Err, Result, OnOk, IfErr, IfSome, IfNone, IsSome, refl, sym, ap, ◌∙◌, subst, max, arith}
 use Rattle.std.proofs.lemmas.List.{append-nil}
-use Rattle.glare_core.specs.declared.facts.Fact.{Fact}
 use Rattle.rtmfp_base.specs.declared.memory.Memory.{Memory}
 use Rattle.rtmfp_forms.specs.Address.{AddressParts}
 use Rattle.startup.specs.Attempts.{cancel_fact}
@@ -15,7 +14,6 @@ use Rattle.endpoint_model.specs.Added.{Added}
 use Rattle.endpoint_model.specs.Event.{Event, Cancel, Refused, Done as Finished}
 use Rattle.endpoint_model.specs.State.{State, Did, Does, Done, nothing, fresh, at_moment}
 use Rattle.endpoint_model.specs.Admission.{admission}
-use Rattle.endpoint_model.specs.declared.row.Row.{Row}
 use Rattle.endpoint_model.specs.InSessions.{held_row, closing}
 use Rattle.endpoint_model.specs.Effects.{open_refusal, opening, cancelling, ticks, received, first_due}
 use Rattle.endpoint_model.specs.Log.{Step, Answers, Leads, Extends, IsTaken, IsStop, stopped, not_opened, open_event, cancel_event, close_event, receive_event, tick_event}

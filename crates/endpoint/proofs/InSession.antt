@@ -1,42 +1,73 @@
--- What goes out in a session, by the list of sessions that is kept.
-use Rattle.std.proofs.Common.{ℕ, List, [], ◌∷◌, ◌++◌, ◌≡◌, ◌≤◌, ◌+◌, length, get_or, set, Bool, true, false, if◌then◌else◌, Option, Some, None, refl, sym, ap, ◌∙◌, subst}
-use Rattle.std.specs.FinMap.{get, insert, len}
-use Rattle.rtmfp_base.proofs.Rows.{index_found}
+-- What goes out in a session.
+use Rattle.std.proofs.Common.{ℕ, List, [], ◌∷◌, ◌++◌, ◌≡◌, ◌≤◌, ◌+◌, length, Bool, true, false, if◌then◌else◌, Option, Some, None, inl, inr, refl, sym, ap, ◌∙◌, subst}
+use Rattle.std.specs.FinMap.{get, insert}
+use Rattle.rtmfp_base.proofs.Maps.{same_tables, same_or_not, get_inserted, get_beside}
 use Rattle.rtmfp_forms.specs.Address.{AddressParts}
-use Rattle.crypto_profile.specs.declared.keys.Context.{Context}
 use Rattle.session_core.specs.Session.{SessionState, context_of}
 use Rattle.session_core.specs.Sealed.{after_seal, is_spent}
 use Rattle.startup.specs.State.{StartupState}
+use Rattle.session_table.specs.declared.sealing.Sealed.{Sealed}
+use Rattle.session_table.specs.Table.{in_session, of_session, with_changed, sealed_by}
 use Rattle.endpoint_model.specs.declared.row.Row.{Row}
 use Rattle.endpoint_model.specs.declared.config.Config.{Config}
 use Rattle.endpoint_model.specs.declared.entry.Entry.{Entry}
 use Rattle.endpoint_model.specs.declared.entry.Entry.TheVariants.{Out}
 use Rattle.endpoint_model.specs.Added.{Added}
-use Rattle.endpoint.specs.Stored.{near_of, state_of, table_of}
 use Rattle.endpoint_model.specs.InSessions.{sent_home, sent_home_by}
 use Rattle.endpoint_model.specs.Sending.{sent_by, sent_in_session, session_datagram}
-use Rattle.endpoint_model.specs.State.{State, new_row, Did, Done, Sessions, nothing, with_session, with_sessions}
-use Rattle.endpoint.proofs.Rows.{index_in, put_at, found_at}
+use Rattle.endpoint_model.specs.State.{State, Did, Done, Sessions, nothing, with_session, with_sessions}
 use Rattle.endpoint_model.proofs.Steps.{done_nothing}
+use Rattle.endpoint.specs.Stored.{state_of}
 
--- ---- nothing goes out
+-- ---- one datagram goes out, or none
 
-pub unsent_unknown : (s : State) (near : ℕ) (to : AddressParts) (body : List ℕ) (out : Added) → get s.sessions near ≡ None → Done (sent_in_session s near to body) s out out
-unsent_unknown s near to body out none = subst (λ (d : Did). Done d s out out) (sym (ap (sent_by s near to body) none)) (done_nothing s out)
+-- the entry of what was sealed
+abbrev pub out_of : AddressParts → Option Sealed → List Entry
+out_of to None = []
+out_of to (Some x) = Out to x.datagram x.context ∷ []
 
-one_out : State → ℕ → AddressParts → List ℕ → Row → Did
-one_out s near to body row =
-    record { state = with_session s near row (after_seal row.session); entries = Out to (session_datagram row.session s.moment body) (context_of row.session true) ∷ [] }
+insert_found : (m : Sessions) (k : ℕ) (v : Row) → get m k ≡ Some v → insert m k v ≡ m
+insert_found m k v there = same_tables _ _ (λ q. elim (same_or_not q k) [
+  | inl is ↦ ap (get (insert m k v)) is.0 ∙ get_inserted m k v ∙ sym there ∙ ap (get m) (sym is.0)
+  | inr is ↦ get_beside m k v q is.0
+])
 
--- by whether all counts of the session are used
-sent_as : (s : State) (near : ℕ) (to : AddressParts) (body : List ℕ) (row : Row) (spent : Bool) → get s.sessions near ≡ Some row → is_spent row.session ≡ spent →
-    sent_in_session s near to body ≡ (if spent then nothing s else one_out s near to body row)
-unfolding one_out
-sent_as s near to body row spent found is = ap (sent_by s near to body) found ∙ ap (λ b. if b then nothing s else one_out s near to body row) is
+-- what the seal of a session leaves and adds, by what was sealed
+abbrev sealed_did : State → ℕ → AddressParts → Option Row → Option Sealed → Did
+sealed_did s near to o x = record { state = with_sessions s (with_changed (of_session after_seal) s.sessions near o); entries = out_of to x }
 
-pub unsent_spent : (s : State) (near : ℕ) (to : AddressParts) (body : List ℕ) (row : Row) (out : Added) → get s.sessions near ≡ Some row → is_spent row.session ≡ true →
-    Done (sent_in_session s near to body) s out out
-unsent_spent s near to body row out found is = subst (λ (d : Did). Done d s out out) (sym (sent_as s near to body row true found is)) (done_nothing s out)
+by_count : (s : State) (near : ℕ) (to : AddressParts) (body : List ℕ) (row : Row) (spent : Bool) → get s.sessions near ≡ Some row → is_spent row.session ≡ spent →
+    (if spent then nothing s
+    else record { state = with_session s near row (after_seal row.session); entries = Out to (session_datagram row.session s.moment body) (context_of row.session true) ∷ [] })
+    ≡ sealed_did s near to (Some row) (if spent then None else Some (record { datagram = session_datagram row.session s.moment body; context = context_of row.session true }))
+by_count s near to body row false found is = refl
+by_count s near to body row true found is =
+    let same : after_seal row.session ≡ row.session = ap (λ (b : Bool). if b then row.session else record row.session { sealed = row.session.sealed + 1 }) is in
+    ap (λ (m : Sessions). record { state = with_sessions s m; entries = [] })
+    (sym (ap (λ (x : SessionState). insert s.sessions near (record row { session = x })) same ∙ insert_found s.sessions near row found))
+
+sent_as : (s : State) (near : ℕ) (to : AddressParts) (body : List ℕ) (o : Option Row) → get s.sessions near ≡ o → sent_by s near to body o ≡ sealed_did s near to o (sealed_by s.moment body o)
+sent_as s near to body None found = refl
+sent_as s near to body (Some row) found = by_count s near to body row (is_spent row.session) found refl
+
+pub sent_one : (config : Config) (moment sealed : ℕ) (startup : StartupState) (old new : Sessions) (t : State) (near : ℕ) (to : AddressParts) (body : List ℕ) (answer : Option Sealed) (before after : Added) →
+    state_of config moment sealed startup old ≡ t → answer ≡ sealed_by moment body (get old near) → new ≡ in_session after_seal old near →
+    after.entries ≡ before.entries ++ out_of to answer → before.free ≤ after.free + length (out_of to answer) → after.room ≡ before.room →
+    Done (sent_in_session t near to body) (state_of config moment sealed startup new) before after
+sent_one config moment sealed startup old new t near to body answer before after view answer_is new_is entries free room =
+    let s : State = state_of config moment sealed startup old in
+    let did : sent_in_session s near to body ≡ sealed_did s near to (get old near) answer =
+    sent_as s near to body (get old near) refl ∙ ap (sealed_did s near to (get old near)) (sym answer_is) in
+    let done : Done (sealed_did s near to (get old near) answer) (state_of config moment sealed startup new) before after =
+    record { state = ap (with_sessions s) new_is; entries = entries; free = free; room = room } in
+    subst (λ (u : State). Done (sent_in_session u near to body) (state_of config moment sealed startup new) before after) view
+    (subst (λ (d : Did). Done d (state_of config moment sealed startup new) before after) (sym did) done)
+
+-- where nothing was sealed, nothing is added
+pub none_added : (s : State) (to : AddressParts) (answer : Option Sealed) (out : Added) → answer ≡ None → (out.entries ≡ out.entries ++ out_of to answer) × (out.free ≤ out.free + length (out_of to answer))
+none_added s to answer out none =
+    let is : [] ≡ out_of to answer = sym (ap (out_of to) none) in
+    (subst (λ (xs : List Entry). out.entries ≡ out.entries ++ xs) is (done_nothing s out).entries, subst (λ (xs : List Entry). out.free ≤ out.free + length xs) is (done_nothing s out).free)
 
 -- ---- to where its datagrams go
 
@@ -48,62 +79,3 @@ pub sent_home_to : (s t : State) (near : ℕ) (to : AddressParts) (body : List �
 sent_home_to s t near to body row before after found to_is sent =
     let P : Did → Type 0 = λ d. Done d t before after in
     subst P (ap (λ (a : AddressParts). sent_in_session s near a body) to_is ∙ ap (sent_by s near row.session.address body) found ∙ sym (ap (sent_home_by s near body) found)) sent
-
--- ---- a session that sealed is put back at its index
-
-abbrev itself : Row → Row
-itself row = row
-
-seal_keeps_near : (session : SessionState) (spent : Bool) → near_of (new_row (if spent then session else record session { sealed = session.sealed + 1 })) ≡ near_of (new_row session)
-seal_keeps_near session true = refl
-seal_keeps_near session false = refl
-
-pub record IsPutBack (rows : List Row) (near : ℕ) (new : Row) (after : List Row) : Type 0 where
-  pub table : table_of after ≡ insert (table_of rows) near new
-  pub distinct : len (table_of after) ≡ length after
-
-pub put_back : (rows : List Row) (near index : ℕ) (old : Row) (new : SessionState) → len (table_of rows) ≡ length rows → index_in rows near ≡ Some index → old ≡ get_or rows index old →
-    new ≡ after_seal old.session → IsPutBack rows near (record old { session = new }) (set rows index (record old { session = new }))
-put_back rows near index old new distinct found is sealed =
-    let back : Row = record old { session = new } in
-    let at = index_found near_of itself rows near index distinct found in
-    let same : near_of back ≡ near = ap (λ (s : SessionState). s.joined.near) sealed ∙ seal_keeps_near old.session (is_spent old.session) ∙ ap near_of is ∙ at.key_is old in
-    let kept = put_at rows back index distinct (ap (index_in rows) same ∙ found) in
-    record { table = kept.table ∙ ap (λ k. insert (table_of rows) k back) same; distinct = kept.distinct }
-
--- ---- one datagram goes out
-
-some_same : (a b : Row) (o : Option Row) → o ≡ Some a → o ≡ Some b → a ≡ b
-some_same a b None e f = absurd (cc)
-some_same a b (Some x) e f = cc
-
--- of a session that was looked at three times: whether it is spent, for its context, and to seal
-pub sent_one : (config : Config) (moment sealed : ℕ) (startup : StartupState) (rows : List Row) (t : State) (near index : ℕ) (to : AddressParts) (body : List ℕ)
-    (tested shown old : Row) (new : SessionState) (datagram : List ℕ) (context : Context) (before after : Added) →
-    state_of config moment sealed startup rows ≡ t → len (table_of rows) ≡ length rows → index_in rows near ≡ Some index →
-    tested ≡ get_or rows index tested → shown ≡ get_or rows index shown → old ≡ get_or rows index old → is_spent tested.session ≡ false →
-    datagram ≡ session_datagram old.session moment body → context ≡ context_of shown.session true → new ≡ after_seal old.session →
-    after.entries ≡ before.entries ++ Out to datagram context ∷ [] → before.free ≤ after.free + 1 → after.room ≡ before.room →
-    Done (sent_in_session t near to body) (state_of config moment sealed startup (set rows index (record old { session = new }))) before after
-unfolding one_out
-sent_one config moment sealed startup rows t near index to body tested shown old new datagram context before after
-    view distinct found tested_is shown_is old_is spent datagram_is context_is new_is entries free room =
-    let s : State = state_of config moment sealed startup rows in
-    let at_tested : get (table_of rows) near ≡ Some tested = found_at rows near index tested distinct found tested_is in
-    let at_shown : get (table_of rows) near ≡ Some shown = found_at rows near index shown distinct found shown_is in
-    let at_old : get (table_of rows) near ≡ Some old = found_at rows near index old distinct found old_is in
-    let back = put_back rows near index old new distinct found old_is new_is in
-    let did : sent_in_session s near to body ≡ one_out s near to body old =
-    sent_as s near to body old false at_old (ap (λ (r : Row). is_spent r.session) (some_same old tested (get (table_of rows) near) at_old at_tested) ∙ spent) in
-    let entry : Out to datagram context ≡ Out to (session_datagram old.session moment body) (context_of old.session true) =
-    ap (λ (d : List ℕ). Out to d context) datagram_is
-    ∙ ap (Out to (session_datagram old.session moment body)) (context_is ∙ ap (λ (r : Row). context_of r.session true) (some_same shown old (get (table_of rows) near) at_shown at_old)) in
-    let done : Done (one_out s near to body old) (state_of config moment sealed startup (set rows index (record old { session = new }))) before after =
-    record {
-      state = ap (λ (sessions : Sessions). with_sessions s sessions) (back.table ∙ ap (λ (x : SessionState). insert (table_of rows) near (record old { session = x })) new_is);
-      entries = entries ∙ ap (λ (e : Entry). before.entries ++ e ∷ []) entry;
-      free = free;
-      room = room;
-    } in
-    subst (λ (u : State). Done (sent_in_session u near to body) (state_of config moment sealed startup (set rows index (record old { session = new }))) before after) view
-    (subst (λ (d : Did). Done d (state_of config moment sealed startup (set rows index (record old { session = new }))) before after) (sym did) done)

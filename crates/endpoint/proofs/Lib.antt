@@ -1,8 +1,5 @@
-mod Rows
-mod Likely
 mod Opening
 mod Refusals
-mod SealedParts
 pub mod Extending
 mod Changing
 mod Confirms

@@ -49,20 +49,12 @@ moved_done s now near from bytes row new before after is was answers new_is entr
     let P : Did → Type 0 = λ d. Done d new before after in
     subst P (sym same) (record { state = new_is; entries = entries; free = free; room = room })
 
-pub no_answer : (A : Type 0) (from : AddressParts) (bytes : List ℕ) (o : Option Row) → o ≡ None → answers_by from bytes o ≡ true → A
-no_answer A from bytes o none e = let clash : false ≡ true = sym (ap (answers_by from bytes) none) ∙ e in absurd (cc)
+-- there is such a session
+pub answering : (from : AddressParts) (bytes : List ℕ) (o : Option Row) → answers_by from bytes o ≡ true → (row : Row) × (o ≡ Some row)
+answering from bytes None e = absurd (cc)
+answering from bytes (Some row) e = (row, refl)
 
 -- ---- a test
-
-asks_of : (s : State) (from : AddressParts) (row : Row) (held : Bool) → is_held row.session.stage ≡ held →
-    asks_by s from (if_held (Some row)) ≡ asks_by s from (if held then Some row else None)
-asks_of s from row held e = ap (λ (b : Bool). asks_by s from (if b then Some row else None)) e
-
-pub asks_if_held : (s : State) (from : AddressParts) (row : Row) → is_held row.session.stage ≡ true → asks_by s from (if_held (Some row)) ≡ asks row.moves row.session.address from s.moment
-asks_if_held s from row e = asks_of s from row true e
-
-pub asks_unless_held : (s : State) (from : AddressParts) (row : Row) → is_held row.session.stage ≡ false → asks_by s from (if_held (Some row)) ≡ false
-asks_unless_held s from row e = asks_of s from row false e
 
 pub untested : (s : State) (near : ℕ) (from : AddressParts) (token : List ℕ) (o : Option Row) → asks_by s from o ≡ false → tested_by s near from token o ≡ nothing s
 untested s near from token None e = refl

@@ -1,8 +1,6 @@
 -- The steps of which ends, closings and moves of a session are made, by the row that is kept under
 -- its session ID; and the first thing that is due, as it is handed on.
-use Rattle.std.specs.Prelude.{ℕ, ◌<◌, ◌≡◌, List, length, slice_index_or, Option, Some, None}
-use Rattle.std.specs.List.{find}
-use Rattle.std.specs.FinMap.{entries}
+use Rattle.std.specs.Prelude.{ℕ, List, Option, Some, None}
 use Rattle.rtmfp_forms.specs.Address.{AddressParts}
 use Rattle.glare_core.specs.declared.facts.Why.{Why}
 use Rattle.startup.specs.declared.answer.Due.{Due}
@@ -14,11 +12,10 @@ use Rattle.session_core.specs.Closing.{first_due as first_due_in}
 use Rattle.mobility.specs.Tests.{after_seen}
 use Rattle.endpoint_model.specs.declared.row.Row.{Row}
 use Rattle.endpoint_model.specs.State.{State, Did, nothing, fact_entries, with_startup, with_row, with_session}
-use Rattle.endpoint_model.specs.InSessions.{lingering, is_row_due, due_row, row_due_done, dropped, kept_alive_by}
+use Rattle.endpoint_model.specs.InSessions.{lingering, due_row, row_due_done, dropped, kept_alive_by}
 use Rattle.endpoint_model.specs.Effects.{due_done}
 use Rattle.endpoint.specs.declared.ticking.DueItem.{DueItem}
 use Rattle.endpoint.specs.declared.ticking.DueItem.TheVariants.{Attempt, Session}
-use Rattle.endpoint.specs.Stored.{entry_of, table_of}
 
 -- ---- steps of a session
 
@@ -57,13 +54,6 @@ kept_alive_in s near None = nothing s
 kept_alive_in s near (Some row) = kept_alive_by s near row
 
 -- ---- what is due
-
--- The index of the row with the lowest session ID of those of which something is due.
-abbrev pub IsDueAt : ℕ → List Row → Option ℕ → Type 0
-IsDueAt moment rows None = find (λ e. is_row_due moment e.1) (entries (table_of rows)) ≡ None
-IsDueAt moment rows (Some index) = (index < length rows) ×
-    ((d : Row) → find (λ e. is_row_due moment e.1) (entries (table_of rows))
-    ≡ Some (entry_of (slice_index_or rows index d)))
 
 -- what is done of a session that is found due so
 abbrev pub row_due_by : State → ℕ → Option SessionDue → Option Row → Did

@@ -7,7 +7,6 @@ ghost use Rattle.rtmfp_packet.specs.Head.{mode_number};
 ghost use Rattle.endpoint_model.specs.Admission.{fault_number, has_mode, heard_in, mode_at, opened_datagram, opened_in_startup, peers_mode, place_of, placed};
 
 use crate::endpoint::Endpoint;
-use crate::sessions;
 use crypto_profile::{CIPHERED_AT, open_in_place};
 use endpoint_model::Place;
 use packet_scramble::{SEALED_AT, unscramble};
@@ -27,7 +26,7 @@ impl Endpoint {
             Some(Place::Startup)
         } else if self.startup.has_attempt(sid) {
             Some(Place::Attempt(sid))
-        } else if sessions::index_near(&self.sessions, sid, self.likely).is_some() {
+        } else if self.sessions.has(sid) {
             Some(Place::Session(sid))
         } else {
             None
@@ -56,8 +55,8 @@ impl Endpoint {
         ensures front { OnOk result (take 32 part.new ≡ take 32 part.old) }
         ensures length { length part.new ≡ length part.old }
     {
-        match sessions::index_near(&self.sessions, near, self.likely) {
-            Some(index) => match self.sessions[index].session.open(part) {
+        match self.sessions.row(near) {
+            Some(row) => match row.session.open(part) {
                 Ok(_) => Ok(()),
                 Err(Unheard::Short) => Err(Cause::Short),
                 Err(Unheard::BadTag) => Err(Cause::BadTag),
@@ -77,9 +76,7 @@ impl Endpoint {
         }
         let (head, part) = datagram.split_at(SEALED_AT);
         let sid = unscramble(word_of(head), part);
-        if let Some(index) = sessions::index_near(&self.sessions, sid, self.likely) {
-            self.likely = index;
-        }
+        self.sessions.look_up(sid);
     }
 
     /// Opens a datagram in place, and says where it belongs, or why it is refused. Nothing of it
@@ -120,8 +117,8 @@ impl Endpoint {
         match place {
             Place::Startup => Mode::Startup,
             Place::Attempt(_) => Mode::Startup,
-            Place::Session(near) => match sessions::index_near(&self.sessions, near, self.likely) {
-                Some(index) => peers_mode(self.sessions[index].session.role()),
+            Place::Session(near) => match self.sessions.row(near) {
+                Some(row) => peers_mode(row.session.role()),
                 None => Mode::Startup,
             },
         }

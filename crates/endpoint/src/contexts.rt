@@ -7,7 +7,6 @@ ghost use Rattle.endpoint_laws.specs.OpensIn.{OpensByTheLog, context_in_session,
 
 use crate::admission::{PLAIN_AT, word_of};
 use crate::endpoint::Endpoint;
-use crate::sessions;
 use crypto_profile::{Context, open_refusal};
 use endpoint_model::Place;
 use packet_scramble::{SEALED_AT, unscramble};
@@ -65,8 +64,8 @@ impl Endpoint {
     fn context_towards(&self, near: u32) -> Option<Context>
         ensures { result ≡ context_towards (get self.now.sessions near) }
     {
-        match sessions::index_of(&self.sessions, near) {
-            Some(index) => Some(self.sessions[index].session.context(false)),
+        match self.sessions.row(near) {
+            Some(row) => Some(row.session.context(false)),
             None => None,
         }
     }
@@ -102,11 +101,10 @@ impl Endpoint {
     fn context_in_session(&self, near: u32, part: &[u8]) -> Option<Context>
         ensures { result ≡ context_in_session (get self.now.sessions near) part.now }
     {
-        match sessions::index_of(&self.sessions, near) {
-            Some(index) => {
-                let session = &self.sessions[index].session;
-                if session.opens(part) {
-                    Some(session.context(false))
+        match self.sessions.row(near) {
+            Some(row) => {
+                if row.session.opens(part) {
+                    Some(row.session.context(false))
                 } else {
                     None
                 }

@@ -1,9 +1,10 @@
 //! One end.
 
 use crypto_profile::{Context, Keys};
-use endpoint_model::{Config, Row};
+use endpoint_model::Config;
 use glare_core::Held;
 use identity::Certificate;
+use session_table::SessionTable;
 use startup::Startup;
 use std::alloc::Global;
 use std::marker::Model;
@@ -25,10 +26,7 @@ pub struct Endpoint {
     /// How many startup packets were sealed.
     pub(crate) sealed: u64,
     pub(crate) startup: Startup,
-    /// The rows of the sessions, in any order.
-    pub(crate) sessions: Vec<Row>,
-    /// The index of the session of the last datagram, where a session is looked for first.
-    pub(crate) likely: usize,
+    pub(crate) sessions: SessionTable,
 }
 
 impl Model for Endpoint {
@@ -44,10 +42,9 @@ impl Model for Endpoint {
 
     ghost use Rattle.endpoint.specs.Stored.{state_of, IsEndpoint};
 
-    ghost view = { λ e. state_of e.config e.moment e.sealed e.startup e.sessions.items };
+    ghost view = { λ e. state_of e.config e.moment e.sealed e.startup e.sessions.rows };
 
-    ghost invariant = { λ e. IsEndpoint e.config e.secret e.print e.keys e.startup
-        e.sessions.items };
+    ghost invariant = { λ e. IsEndpoint e.config e.secret e.print e.keys e.startup };
 }
 
 impl Endpoint {
@@ -91,8 +88,7 @@ impl Endpoint {
             keys: Keys::of(&secret, &Context::Startup),
             sealed: 0,
             startup: Startup::new(alloc, cert, secret, cookie_secret, config.max_peers),
-            sessions: Vec::new(alloc),
-            likely: 0,
+            sessions: SessionTable::new(alloc),
         }
     }
 

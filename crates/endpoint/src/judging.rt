@@ -19,14 +19,13 @@ ghost use Rattle.endpoint.specs.Judging.{known_cause, moves_nothing, other_cause
 ghost use Rattle.endpoint.specs.Judging.{stage_takes, Stands, view_done};
 
 use crate::endpoint::Endpoint;
-use crate::sessions::{index_near, is_held};
 use endpoint_model::{Place, Walk};
 use identity::Certificate;
 use rtmfp_chunks::kinds::*;
 use rtmfp_chunks::{ChunkFault, ChunkView, read_chunk};
 use rtmfp_forms::Address;
 use rtmfp_packet::RawChunk;
-use session_core::Stage;
+use session_core::{Session, Stage};
 use startup::{
     Cause, Hearing, InitiatorFields, ResponderFields, read_initiator_keying, read_responder_keying,
 };
@@ -115,18 +114,18 @@ fn takes(place: Place, kind: u8) -> bool
     }
 }
 
-/// Whether a session at this stage takes chunks of this type, which sessions take. Once it is
+/// Whether a session takes chunks of this type, which sessions take. Once it is
 /// closing that is a close alone, and its answer where this end closes it.
-fn stage_takes(stage: Stage, kind: u8) -> bool
-    ensures { result ≡ stage_takes stage kind }
+fn stage_takes(session: &Session, kind: u8) -> bool
+    ensures { result ≡ stage_takes session.now.stage kind }
 {
     if kind == CLOSE {
         return true;
     }
     if kind == CLOSE_ACK {
-        return stage == Stage::NearClose;
+        return session.stage() == Stage::NearClose;
     }
-    is_held(stage)
+    session.is_held()
 }
 
 /// The session ID of a place.
@@ -188,8 +187,8 @@ impl Endpoint {
     fn session_takes(&self, near: u32, kind: u8) -> bool
         ensures { result ≡ row_takes (get self.now.sessions near) kind }
     {
-        match index_near(&self.sessions, near, self.likely) {
-            Some(index) => stage_takes(self.sessions[index].session.stage(), kind),
+        match self.sessions.row(near) {
+            Some(row) => stage_takes(&row.session, kind),
             None => false,
         }
     }

@@ -1,27 +1,25 @@
 //! Keyings that bear and open sessions.
 
 ghost use Rattle.std.specs.Prelude.{◌≡◌, ◌+◌, ◌++◌, ◌<◌, ◌≤◌, Ok, OnErr, OnOk, Some, length};
-ghost use Rattle.std.specs.Prelude.{vec_len, vec_capacity};
-ghost use Rattle.std.specs.FinMap.{get, len};
+ghost use Rattle.std.specs.FinMap.{get};
 ghost use Rattle.startup.specs.State.{peer_of_attempt};
 ghost use Rattle.startup.specs.Keyings.{initiator_keying_in, responder_keying_in};
 ghost use Rattle.startup.specs.Read.{initiator_of, responder_of};
 ghost use Rattle.startup.specs.Judging.{judged_initiator};
 ghost use Rattle.endpoint_model.specs.Effects.{initiator_keyed, responder_keyed, sessions_born};
 ghost use Rattle.endpoint_model.specs.Effects.{sessions_opened, without_ended};
-ghost use Rattle.endpoint.specs.Stored.{table_of};
 ghost use Rattle.endpoint_model.specs.State.{Done, fact_entries, full, nothing};
 
 use crate::endpoint::Endpoint;
 use crate::outbox::Outbox;
 use crate::sealing::blank;
-use crate::sessions::{forget, keep};
 use endpoint_model::{Draws, Entry, Row};
 use glare_core::Fact;
 use mobility::Moves;
 use rtmfp_chunks::ChunkView;
 use rtmfp_forms::Address;
 use session_core::{Role, Session};
+use session_table::SessionTable;
 use startup::{Hearing, InitiatorFields, Keyed, ResponderFields};
 use std::alloc::AllocError;
 
@@ -45,7 +43,7 @@ impl Endpoint {
         let near = self.free_from(draws.word);
         let blank = blank(self.alloc)?;
         out.make_room(3)?;
-        self.sessions.reserve(1)?;
+        self.sessions.reserve()?;
         match self
             .startup
             .apply_initiator_keying(fields, hearing, from, self.moment, near, draws.nonce)
@@ -101,7 +99,7 @@ impl Endpoint {
     {
         let blank = blank(self.alloc)?;
         out.make_room(2)?;
-        self.sessions.reserve(1)?;
+        self.sessions.reserve()?;
         let fact = self.startup.apply_responder_keying(near, peer, fields);
         keep_opened(
             &mut self.sessions,
@@ -119,7 +117,7 @@ impl Endpoint {
 
 /// Keeps a session that was born, half-open, and forgets what ended. There is room for one more.
 fn keep_born(
-    sessions: &mut Vec<Row>,
+    sessions: &mut SessionTable,
     ended: &Option<Fact>,
     born: &Fact,
     print: &[u8; 32],
@@ -127,55 +125,45 @@ fn keep_born(
     secret: &[u8; 32],
     moment: u64,
 )
-    requires distinct { len (table_of sessions.old.items) ≡ length sessions.old.items }
-    requires room { vec_len sessions.old < vec_capacity sessions.old }
-    ensures table { table_of sessions.new.items
-        ≡ sessions_born (table_of sessions.old.items) ended.now born.now print.now from.now
-        secret.now moment }
-    ensures distinct { len (table_of sessions.new.items) ≡ length sessions.new.items }
+    requires { 0 < sessions.old.free }
+    ensures { sessions.new.rows ≡ sessions_born sessions.old.rows ended.now born.now print.now
+        from.now secret.now moment }
 {
     if let Fact::Born(joined) = born {
         forget_ended(sessions, ended);
         let session = Session::new(joined, print, Role::Responder, *from, secret, moment);
         let moves = Moves::new();
-        keep(sessions, Row { session, moves });
+        sessions.keep(Row { session, moves });
     }
 }
 
 /// Keeps a session that was opened. There is room for one more.
 fn keep_opened(
-    sessions: &mut Vec<Row>,
+    sessions: &mut SessionTable,
     opened: &Fact,
     print: &[u8; 32],
     from: &Address,
     secret: &[u8; 32],
     moment: u64,
 )
-    requires distinct { len (table_of sessions.old.items) ≡ length sessions.old.items }
-    requires room { vec_len sessions.old < vec_capacity sessions.old }
-    ensures table { table_of sessions.new.items
-        ≡ sessions_opened (table_of sessions.old.items) opened.now print.now from.now secret.now
-        moment }
-    ensures distinct { len (table_of sessions.new.items) ≡ length sessions.new.items }
+    requires { 0 < sessions.old.free }
+    ensures { sessions.new.rows ≡ sessions_opened sessions.old.rows opened.now print.now from.now
+        secret.now moment }
 {
     if let Fact::Opened(joined) = opened {
         let session = Session::new(joined, print, Role::Initiator, *from, secret, moment);
         let moves = Moves::new();
-        keep(sessions, Row { session, moves });
+        sessions.keep(Row { session, moves });
     }
 }
 
 /// Forgets the session that a fact ended, where there is one.
-fn forget_ended(sessions: &mut Vec<Row>, ended: &Option<Fact>)
-    requires { len (table_of sessions.old.items) ≡ length sessions.old.items }
-    ensures table { table_of sessions.new.items
-        ≡ without_ended (table_of sessions.old.items) ended.now }
-    ensures distinct { len (table_of sessions.new.items) ≡ length sessions.new.items }
-    ensures capacity { vec_capacity sessions.new ≡ vec_capacity sessions.old }
-    ensures shorter { vec_len sessions.new ≤ vec_len sessions.old }
+fn forget_ended(sessions: &mut SessionTable, ended: &Option<Fact>)
+    ensures rows { sessions.new.rows ≡ without_ended sessions.old.rows ended.now }
+    ensures free { sessions.old.free ≤ sessions.new.free }
 {
     if let Some(Fact::Ended { near, .. }) = ended {
-        forget(sessions, *near);
+        sessions.forget(*near);
     }
 }
 

@@ -19,7 +19,6 @@ mod session_ids;
 mod session_sending;
 mod session_steps;
 mod session_ticking;
-mod sessions;
 mod ticking;
 
 pub use endpoint::Endpoint;

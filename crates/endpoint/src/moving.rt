@@ -11,7 +11,6 @@ ghost use Rattle.endpoint.specs.Steps.{test_pending};
 use crate::endpoint::Endpoint;
 use crate::outbox::Outbox;
 use crate::sealing::blank;
-use crate::sessions::{index_near, is_held};
 use endpoint_model::{Draws, Entry, Place};
 use rtmfp_chunks::ChunkView;
 use rtmfp_forms::Address;
@@ -22,8 +21,8 @@ impl Endpoint {
     pub(crate) fn is_answered(&self, near: u32, from: &Address, bytes: &[u8]) -> bool
         ensures { result ≡ answers_by from.now bytes.now (get self.now.sessions near) }
     {
-        match index_near(&self.sessions, near, self.likely) {
-            Some(index) => self.sessions[index].moves.answers(from, bytes),
+        match self.sessions.row(near) {
+            Some(row) => row.moves.answers(from, bytes),
             None => false,
         }
     }
@@ -53,27 +52,17 @@ impl Endpoint {
         ensures { Done (moved_by self.old near from.now bytes.now (get self.old.sessions near))
             self.new out.old out.new }
     {
-        match index_near(&self.sessions, near, self.likely) {
-            Some(index) => {
-                let row = &mut self.sessions[index];
-                // It answers the test, so what it gives is where it came from.
-                let _ = row.moves.reply(from, bytes);
-                row.session.move_to(*from);
-                out.add(Entry::Moved { near, to: *from });
-            }
-            None => {}
-        }
+        self.sessions.move_to(near, from, bytes);
+        out.add(Entry::Moved { near, to: *from });
     }
 
     /// Whether a datagram from this address asks for a test of it.
     fn asks(&self, near: u32, from: &Address) -> bool
         ensures { result ≡ asks_by self.now from.now (held_row self.now near) }
     {
-        match index_near(&self.sessions, near, self.likely) {
-            Some(index) => {
-                let row = &self.sessions[index];
-                is_held(row.session.stage())
-                    && row.moves.asks(row.session.address(), from, self.moment)
+        match self.sessions.row(near) {
+            Some(row) => {
+                row.session.is_held() && row.moves.asks(row.session.address(), from, self.moment)
             }
             None => false,
         }
@@ -84,14 +73,7 @@ impl Endpoint {
         ensures { self.new ≡ test_pending self.old near from.now token
             (get self.old.sessions near) }
     {
-        match index_near(&self.sessions, near, self.likely) {
-            Some(index) => {
-                let row = &mut self.sessions[index];
-                let current = *row.session.address();
-                let _ = row.moves.seen(&current, from, token, self.moment);
-            }
-            None => {}
-        }
+        self.sessions.test(near, from, token, self.moment);
     }
 
     /// Tests the address that a datagram of a session came from, where that asks for it: a ping

@@ -16,7 +16,6 @@ use crate::admission::{PLAIN_AT, fault_number, has_mode};
 use crate::endpoint::Endpoint;
 use crate::keyings::add_fact;
 use crate::outbox::Outbox;
-use crate::sessions::index_near;
 use endpoint_model::{Draws, Entry, Place, Stopped, Walk};
 use packet_scramble::SEALED_AT;
 use rtmfp_chunks::kinds::IIKEYING;
@@ -170,10 +169,7 @@ impl Endpoint {
         requires { 32 ≤ length part.now }
         ensures { self.new ≡ counted_by self.old near part.now (get self.old.sessions near) }
     {
-        match index_near(&self.sessions, near, self.likely) {
-            Some(index) => self.sessions[index].session.take_number(part),
-            None => {}
-        }
+        self.sessions.take_number(near, part);
     }
 
     /// Counts a datagram with this head as taken at a place.
@@ -190,10 +186,7 @@ impl Endpoint {
     fn time_in(&mut self, near: u32, head: &PacketHead)
         ensures { self.new ≡ timed_by self.old near head.now (get self.old.sessions near) }
     {
-        match index_near(&self.sessions, near, self.likely) {
-            Some(index) => self.sessions[index].session.take_stamps(head, self.moment),
-            None => {}
-        }
+        self.sessions.take_stamps(near, head, self.moment);
     }
 
     /// Whether a datagram at a place confirms a session.
@@ -210,8 +203,8 @@ impl Endpoint {
     fn confirms_in(&self, near: u32) -> bool
         ensures { result ≡ confirms_by (get self.now.sessions near) }
     {
-        match index_near(&self.sessions, near, self.likely) {
-            Some(index) => self.sessions[index].session.is_half_open(),
+        match self.sessions.row(near) {
+            Some(row) => row.session.is_half_open(),
             None => false,
         }
     }
@@ -238,11 +231,10 @@ impl Endpoint {
         ensures { Done (confirming_by self.old near (get self.old.sessions near)) self.new out.old
             out.new }
     {
-        match index_near(&self.sessions, near, self.likely) {
-            Some(index) => {
-                let session = &mut self.sessions[index].session;
-                let peer = session.joined().peer;
-                session.confirm();
+        match self.sessions.row(near) {
+            Some(row) => {
+                let peer = row.session.joined().peer;
+                self.sessions.confirm(near);
                 let fact = self.startup.confirm(&peer);
                 add_fact(fact, out);
             }

@@ -12,15 +12,10 @@ ghost use Rattle.endpoint_model.specs.Sending.{last_count, sent_answer, sent_eac
 
 use crate::endpoint::Endpoint;
 use crate::outbox::Outbox;
-use crate::sealing::{DATAGRAM_LIMIT, blank, seal};
+use crate::sealing::{blank, seal};
 use crypto_profile::Context;
 use endpoint_model::Entry;
-use packet_scramble::{SEALED_AT, scramble};
-use rtmfp_base::Message;
-use rtmfp_chunks::{ChunkView, write_chunk};
 use rtmfp_forms::{Address, Outgoing};
-use rtmfp_packet::begin_packet;
-use session_core::Session;
 use startup::Answer;
 use std::alloc::{AllocError, Global};
 
@@ -105,66 +100,4 @@ pub(crate) fn blanks(alloc: Global, count: usize) -> Result<Vec<Vec<u8>>, AllocE
         list.push(blank(alloc)?)?;
     }
     Ok(list)
-}
-
-/// The datagram of one chunk in a session, for which memory was found and a count is left. Whatever
-/// the head, the chunk fits.
-pub(crate) fn session_datagram(
-    blank: Vec<u8>,
-    session: &mut Session,
-    moment: u64,
-    chunk: &ChunkView<'_>,
-) -> Message
-    requires blank { length blank.items ≡ 1200 }
-    requires spent { is_spent session.old ≡ false }
-    requires writable { IsWritable (chunk_of chunk.now) }
-    requires fits { length (chunk_bytes (chunk_of chunk.now)) ≤ 1159 }
-    ensures datagram { result ≡ session_datagram session.old moment (chunk_bytes (chunk_of
-        chunk.now)) }
-    ensures short { length result ≤ 1200 }
-    ensures session { session.new ≡ after_seal session.old }
-{
-    let mut packet = begin_packet(&session.head(moment));
-    let _ = write_chunk(chunk, &mut packet);
-    sealed_in(blank, session, &packet)
-}
-
-/// The datagram of a packet in a session, for which memory was found and a count is left.
-fn sealed_in(blank: Vec<u8>, session: &mut Session, packet: &Outgoing) -> Message
-    requires blank { length blank.items ≡ 1200 }
-    requires spent { is_spent session.old ≡ false }
-    ensures datagram { result ≡ datagram session.old.joined.far
-        (sealed_part session.old packet.now) }
-    ensures short { length result ≤ 1200 }
-    ensures session { session.new ≡ after_seal session.old }
-{
-    let sid = session.joined().far;
-    let mut buffer = [0; DATAGRAM_LIMIT];
-    match session.seal(packet, &mut buffer) {
-        Some(len) => message_of(blank, sid, &buffer[SEALED_AT..len]),
-        None => Message::of(blank),
-    }
-}
-
-/// The datagram of a sealed part, for which memory was found.
-fn message_of(mut blank: Vec<u8>, sid: u32, part: &[u8]) -> Message
-    requires blank { length blank.items ≡ 1200 }
-    requires fits { length part.now ≤ 1196 }
-    ensures datagram { result ≡ datagram sid part.now }
-    ensures short { length result ≤ 1200 }
-{
-    blank.truncate(SEALED_AT + part.len());
-    put_datagram(&mut blank, sid, part);
-    blank.shrink_to_fit();
-    Message::of(blank)
-}
-
-/// Fills a buffer, which is as long as the datagram, with that of a sealed part.
-fn put_datagram(buffer: &mut [u8], sid: u32, part: &[u8])
-    requires { length buffer.old ≡ 4 + length part.now }
-    ensures { buffer.new ≡ datagram sid part.now }
-{
-    let (head, rest) = buffer.split_at_mut(SEALED_AT);
-    head.copy_from_slice(&scramble(sid, part).to_be_bytes());
-    rest.copy_from_slice(part);
 }

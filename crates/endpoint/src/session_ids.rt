@@ -4,7 +4,6 @@ ghost use Rattle.std.specs.Prelude.{◌≡◌, ◌+◌, ◌<◌, ◌^◌};
 ghost use Rattle.endpoint_model.specs.State.{free_from, full, is_free, is_used, next_id, uses};
 
 use crate::endpoint::Endpoint;
-use crate::sessions::index_of;
 
 impl Endpoint {
     /// How many attempts and sessions there are.
@@ -12,7 +11,7 @@ impl Endpoint {
         ensures value { result ≡ uses self.now }
         ensures small { result + 1 < 2 ^ 64 }
     {
-        self.startup.attempts() + self.sessions.len()
+        self.startup.attempts() + self.sessions.count()
     }
 
     /// The limit on attempts and sessions, where there is no place for one more.
@@ -30,7 +29,7 @@ impl Endpoint {
     fn is_used(&self, near: u32) -> bool
         ensures { result ≡ is_used self.now near }
     {
-        self.startup.has_attempt(near) || index_of(&self.sessions, near).is_some()
+        self.startup.has_attempt(near) || self.sessions.has(near)
     }
 
     /// Whether this session ID may be given to a new one.

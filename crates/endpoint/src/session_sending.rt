@@ -9,8 +9,6 @@ ghost use Rattle.endpoint_model.specs.InSessions.{sent_home};
 
 use crate::endpoint::Endpoint;
 use crate::outbox::Outbox;
-use crate::sending::session_datagram;
-use crate::sessions::index_near;
 use endpoint_model::Entry;
 use rtmfp_chunks::ChunkView;
 use rtmfp_forms::Address;
@@ -34,19 +32,13 @@ impl Endpoint {
         ensures { Done (sent_in_session self.old near to.now (chunk_bytes (chunk_of chunk.now)))
             self.new out.old out.new }
     {
-        let Some(index) = index_near(&self.sessions, near, self.likely) else {
+        let Some(sealed) = self.sessions.seal(near, self.moment, blank, chunk) else {
             return;
         };
-        if self.sessions[index].session.is_spent() {
-            return;
-        }
-        let context = self.sessions[index].session.context(true);
-        let session = &mut self.sessions[index].session;
-        let datagram = session_datagram(blank, session, self.moment, chunk);
         out.add(Entry::Out {
             to: *to,
-            datagram,
-            context,
+            datagram: sealed.datagram,
+            context: sealed.context,
         });
     }
 
@@ -66,10 +58,10 @@ impl Endpoint {
         ensures { Done (sent_home self.old near (chunk_bytes (chunk_of chunk.now))) self.new out.old
             out.new }
     {
-        let Some(index) = index_near(&self.sessions, near, self.likely) else {
+        let Some(row) = self.sessions.row(near) else {
             return;
         };
-        let to = *self.sessions[index].session.address();
+        let to = *row.session.address();
         self.send_in_session(blank, near, &to, chunk, out);
     }
 }

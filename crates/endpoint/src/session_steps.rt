@@ -11,7 +11,6 @@ ghost use Rattle.endpoint.specs.Steps.{end_told, session_changed};
 use crate::endpoint::Endpoint;
 use crate::keyings::add_fact;
 use crate::outbox::Outbox;
-use crate::sessions::{forget, index_near, is_held};
 use glare_core::Why;
 
 impl Endpoint {
@@ -19,8 +18,8 @@ impl Endpoint {
     pub(crate) fn holds(&self, near: u32) -> bool
         ensures { result ≡ is_some (held_row self.now near) }
     {
-        match index_near(&self.sessions, near, self.likely) {
-            Some(index) => is_held(self.sessions[index].session.stage()),
+        match self.sessions.row(near) {
+            Some(row) => row.session.is_held(),
             None => false,
         }
     }
@@ -32,9 +31,9 @@ impl Endpoint {
             out.new }
         ensures room { out.old.free ≤ out.new.free + 1 }
     {
-        match index_near(&self.sessions, near, self.likely) {
-            Some(index) => {
-                let peer = self.sessions[index].session.joined().peer;
+        match self.sessions.row(near) {
+            Some(row) => {
+                let peer = row.session.joined().peer;
                 let fact = self.startup.end(&peer, why);
                 add_fact(fact, out);
             }
@@ -47,12 +46,7 @@ impl Endpoint {
         ensures { self.new ≡ session_changed closed_near self.old near
             (get self.old.sessions near) }
     {
-        match index_near(&self.sessions, near, self.likely) {
-            Some(index) => {
-                let _ = self.sessions[index].session.close(self.moment);
-            }
-            None => {}
-        }
+        self.sessions.close(near, self.moment);
     }
 
     /// The session lingers from now on, since its peer closes it.
@@ -60,12 +54,7 @@ impl Endpoint {
         ensures { self.new ≡ session_changed asked_to_close self.old near
             (get self.old.sessions near) }
     {
-        match index_near(&self.sessions, near, self.likely) {
-            Some(index) => {
-                let _ = self.sessions[index].session.take_close_request(self.moment);
-            }
-            None => {}
-        }
+        self.sessions.linger(near, self.moment);
     }
 
     /// What is due of the session counts as done.
@@ -73,12 +62,7 @@ impl Endpoint {
         ensures { self.new ≡ session_changed (λ moment x. after_due (first_due x moment) moment x)
             self.old near (get self.old.sessions near) }
     {
-        match index_near(&self.sessions, near, self.likely) {
-            Some(index) => {
-                let _ = self.sessions[index].session.due(self.moment);
-            }
-            None => {}
-        }
+        self.sessions.note_due(near, self.moment);
     }
 
     /// The keepalive of the session counts as sent.
@@ -86,18 +70,13 @@ impl Endpoint {
         ensures { self.new ≡ session_changed kept_alive self.old near
             (get self.old.sessions near) }
     {
-        match index_near(&self.sessions, near, self.likely) {
-            Some(index) => {
-                let _ = self.sessions[index].session.keepalive(self.moment);
-            }
-            None => {}
-        }
+        self.sessions.note_keepalive(near, self.moment);
     }
 
     /// Forgets the session with this session ID, whose ID is free then.
     pub(crate) fn forget_session(&mut self, near: u32)
         ensures { self.new ≡ without_row self.old near }
     {
-        forget(&mut self.sessions, near);
+        self.sessions.forget(near);
     }
 }

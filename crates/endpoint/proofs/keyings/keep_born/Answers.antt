@@ -2,5 +2,5 @@ use Rattle.std.proofs.Common.{rules}
 use Rattle.endpoint.proofs.keyings.keep_born.Goals as goal
 
 -- so that a wrong body is refused fast
-pub returns-in-Born-clause-table : goal.returns-in-Born-clause-table
-returns-in-Born-clause-table c = search rules
+pub returns-in-Born : goal.returns-in-Born
+returns-in-Born c = search rules

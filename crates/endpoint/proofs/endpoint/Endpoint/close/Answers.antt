@@ -1,8 +1,7 @@
-use Rattle.std.proofs.Common.{◌≡◌, true, false, is_some, ap, ◌∙◌, subst, arith}
+use Rattle.std.proofs.Common.{◌≡◌, true, false, is_some, ap, subst, arith}
 use Rattle.std.proofs.lemmas.Grind.{common_steps}
-use Rattle.endpoint_model.specs.Added.{Added}
 use Rattle.endpoint_model.specs.InSessions.{closing, held_row}
-use Rattle.endpoint_model.specs.State.{State, Done, at_moment, nothing}
+use Rattle.endpoint_model.specs.State.{State, Done, nothing}
 use Rattle.endpoint.proofs.Extending.{closing_extends, no_session_extends, no_room_extends}
 use Rattle.endpoint.proofs.endpoint.Endpoint.close.Goals as goal
 

@@ -1,26 +1,15 @@
-use Rattle.std.proofs.Common.{Option, refl, sym, ap, ◌∙◌}
+use Rattle.std.proofs.Common.{Option, refl}
+use Rattle.session_core.specs.Session.{SessionState}
 use Rattle.session_core.specs.Hearing.{counted}
+use Rattle.endpoint_model.specs.Admission.{counted_by}
+use Rattle.session_table.specs.Table.{of_session}
 use Rattle.endpoint_model.specs.declared.row.Row.{Row}
 use Rattle.endpoint_model.specs.State.{State}
-use Rattle.endpoint_model.specs.Admission.{counted_by}
-use Rattle.endpoint.proofs.Rows.{index_in}
-use Rattle.endpoint.proofs.Changing.{session_changed, with_rows, changed_state, unchanged_state}
+use Rattle.endpoint.proofs.Changing.{changed_state}
 use Rattle.endpoint.proofs.endpoint.Endpoint.count_in.Goals as goal
 
-pub invariant_of-self : goal.invariant_of-self
-invariant_of-self c =
-    let changed = session_changed c.self.inside.sessions.items _ c.args.near c.in-Some.index c.index_mut.result.now c.take_number.new.self (counted c.index_mut.result.now.session c.args.part.now)
-    c.self.invariant.distinct c.in-Some.ensures c.deref.ensures.value c.index_mut.ensures.value c.take_number.ensures refl in
-    with_rows c.self.invariant changed.distinct
-
-pub returns-in-Some : goal.returns-in-Some
-returns-in-Some c =
-    let changed = session_changed c.self.inside.sessions.items _ c.args.near c.in-Some.index c.index_mut.result.now c.take_number.new.self (counted c.index_mut.result.now.session c.args.part.now)
-    c.self.invariant.distinct c.in-Some.ensures c.deref.ensures.value c.index_mut.ensures.value c.take_number.ensures refl in
-    changed_state c.self.inside.config c.self.inside.moment c.self.inside.sealed c.self.inside.startup c.self.inside.sessions.items c.args.self.now c.args.near c.in-Some.index c.index_mut.result.now
-    c.take_number.new.self (counted c.index_mut.result.now.session c.args.part.now) (λ (s : State) (o : Option Row). counted_by s c.args.near c.args.part.now o) c.self.view_is changed c.take_number.ensures refl
-
-pub returns-in-None : goal.returns-in-None
-returns-in-None c =
-    unchanged_state c.self.inside.config c.self.inside.moment c.self.inside.sealed c.self.inside.startup c.self.inside.sessions.items c.args.self.now c.args.near
-    (λ (s : State) (o : Option Row). counted_by s c.args.near c.args.part.now o) c.self.view_is (sym (c.in-None.ensures ∙ ap (λ rows. index_in rows c.args.near) c.deref.ensures.value)) refl
+pub returns : goal.returns
+returns c =
+    let i = c.self.inside in
+    changed_state i.config i.moment i.sealed i.startup i.sessions.rows c.take_number.new.self.rows c.args.self.now c.args.near (of_session (λ (x : SessionState). counted x c.args.part.now))
+    (λ (s : State) (o : Option Row). counted_by s c.args.near c.args.part.now o) c.self.view_is c.take_number.ensures refl (λ row. refl)

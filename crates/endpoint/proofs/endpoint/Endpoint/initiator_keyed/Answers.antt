@@ -1,13 +1,11 @@
-use Rattle.std.proofs.Common.{◌≡◌, ◌++◌, ◌∷◌, [], length, List, Some, sym, ap, ◌∙◌, subst, arith}
-use Rattle.std.specs.FinMap.{len}
+use Rattle.std.proofs.Common.{◌≡◌, ◌++◌, ◌∷◌, [], List, Some, sym, ap, ◌∙◌, subst, arith}
 use Rattle.startup.specs.declared.answer.Keyed.{Keyed}
 use Rattle.startup.specs.declared.answer.Keyed.TheVariants.{Birth}
 use Rattle.startup.specs.Keyings.{keyed, after_keying}
-use Rattle.endpoint_model.specs.declared.row.Row.{Row}
 use Rattle.endpoint_model.specs.declared.entry.Entry.{Entry}
 use Rattle.endpoint_model.specs.declared.entry.Entry.TheVariants.{Fact as FactEntry}
 use Rattle.endpoint_model.specs.Effects.{initiator_keyed, with_born}
-use Rattle.endpoint.specs.Stored.{IsEndpoint, state_of, table_of}
+use Rattle.endpoint.specs.Stored.{IsEndpoint, state_of}
 use Rattle.endpoint_model.specs.Sending.{sent_answer}
 use Rattle.endpoint_model.specs.State.{State, Done, fact_entries, free_from}
 use Rattle.endpoint.proofs.Begun.{kept_keying, startup_put, born_state, keyed_so, one_added, added_first, IsAdded}
@@ -15,29 +13,27 @@ use Rattle.endpoint.proofs.endpoint.Endpoint.initiator_keyed.Goals as goal
 
 pub invariant_of-self-in-Ok-Change : goal.invariant_of-self-in-Ok-Change
 invariant_of-self-in-Ok-Change c =
-    kept_keying c.self.inside.config c.self.inside.secret c.self.inside.print c.self.inside.keys c.self.inside.startup c.apply_initiator_keying.new.self c.self.inside.sessions.items c.reserve.new.self.items
+    kept_keying c.self.inside.config c.self.inside.secret c.self.inside.print c.self.inside.keys c.self.inside.startup c.apply_initiator_keying.new.self
     c.args.fields.now.payload.now c.args.from.now c.self.inside.moment c.free_from-near.result c.args.draws.now.nonce c.self.invariant c.in-Ok-Change.ensures.ok.1
-    (subst (λ (rows : List Row). len (table_of rows) ≡ length rows) (sym c.reserve.ensures.items) c.self.invariant.distinct)
 
 pub invariant_of-self-in-Ok-Again : goal.invariant_of-self-in-Ok-Again
 invariant_of-self-in-Ok-Again c =
-    kept_keying c.self.inside.config c.self.inside.secret c.self.inside.print c.self.inside.keys c.self.inside.startup c.apply_initiator_keying.new.self c.self.inside.sessions.items c.reserve.new.self.items
+    kept_keying c.self.inside.config c.self.inside.secret c.self.inside.print c.self.inside.keys c.self.inside.startup c.apply_initiator_keying.new.self
     c.args.fields.now.payload.now c.args.from.now c.self.inside.moment c.free_from-near.result c.args.draws.now.nonce c.self.invariant c.in-Ok-Again.ensures.ok.1
-    (subst (λ (rows : List Row). len (table_of rows) ≡ length rows) (sym c.reserve.ensures.items) c.self.invariant.distinct)
 
 pub invariant_of-self-in-Ok-Birth : goal.invariant_of-self-in-Ok-Birth
 invariant_of-self-in-Ok-Birth c =
-    kept_keying c.self.inside.config c.self.inside.secret c.self.inside.print c.self.inside.keys c.self.inside.startup c.apply_initiator_keying.new.self c.self.inside.sessions.items c.keep_born.new.sessions.items
-    c.args.fields.now.payload.now c.args.from.now c.self.inside.moment c.free_from-near.result c.args.draws.now.nonce c.self.invariant c.in-Ok-Birth.ensures.ok.1 c.keep_born.ensures.distinct
+    kept_keying c.self.inside.config c.self.inside.secret c.self.inside.print c.self.inside.keys c.self.inside.startup c.apply_initiator_keying.new.self
+    c.args.fields.now.payload.now c.args.from.now c.self.inside.moment c.free_from-near.result c.args.draws.now.nonce c.self.invariant c.in-Ok-Birth.ensures.ok.1
 
 pub returns-in-Ok-Birth-clause-ok : goal.returns-in-Ok-Birth-clause-ok
 returns-in-Ok-Birth-clause-ok c =
-    let v : State = state_of c.self.inside.config c.self.inside.moment c.self.inside.sealed c.self.inside.startup c.self.inside.sessions.items in
-    let t : State = state_of c.self.inside.config c.self.inside.moment c.self.inside.sealed c.apply_initiator_keying.new.self c.reserve.new.self.items in
+    let v : State = state_of c.self.inside.config c.self.inside.moment c.self.inside.sealed c.self.inside.startup c.self.inside.sessions.rows in
+    let t : State = state_of c.self.inside.config c.self.inside.moment c.self.inside.sealed c.apply_initiator_keying.new.self c.reserve.new.self.rows in
     let k : Keyed = Birth c.in-Ok-Birth.ended c.in-Ok-Birth.born c.in-Ok-Birth.answer in
-    let kept : IsEndpoint c.self.inside.config c.self.inside.secret c.self.inside.print c.self.inside.keys c.apply_initiator_keying.new.self c.keep_born.new.sessions.items =
-    kept_keying c.self.inside.config c.self.inside.secret c.self.inside.print c.self.inside.keys c.self.inside.startup c.apply_initiator_keying.new.self c.self.inside.sessions.items c.keep_born.new.sessions.items
-    c.args.fields.now.payload.now c.args.from.now c.self.inside.moment c.free_from-near.result c.args.draws.now.nonce c.self.invariant c.in-Ok-Birth.ensures.ok.1 c.keep_born.ensures.distinct in
+    let kept : IsEndpoint c.self.inside.config c.self.inside.secret c.self.inside.print c.self.inside.keys c.apply_initiator_keying.new.self =
+    kept_keying c.self.inside.config c.self.inside.secret c.self.inside.print c.self.inside.keys c.self.inside.startup c.apply_initiator_keying.new.self
+    c.args.fields.now.payload.now c.args.from.now c.self.inside.moment c.free_from-near.result c.args.draws.now.nonce c.self.invariant c.in-Ok-Birth.ensures.ok.1 in
     let is : keyed c.self.inside.startup c.args.fields.now.payload.now c.args.from.now c.self.inside.moment c.free_from-near.result c.args.draws.now.nonce ≡ Some k =
     c.in-Ok-Birth.ensures.ok.0 ∙ ap (λ (x : Keyed). Some x) c.in-Ok-Birth.field-0-is in
     let entries : List Entry = fact_entries c.in-Ok-Birth.ended ++ FactEntry c.in-Ok-Birth.born ∷ [] in
@@ -48,9 +44,9 @@ returns-in-Ok-Birth-clause-ok c =
     c.add.ensures.entries c.add.ensures.free c.add.ensures.room in
     let put = startup_put c.self.inside.config c.self.inside.moment c.self.inside.sealed c.self.inside.startup c.apply_initiator_keying.new.self
     (after_keying c.self.inside.startup c.args.fields.now.payload.now c.args.from.now c.self.inside.moment c.free_from-near.result c.args.draws.now.nonce)
-    c.self.inside.sessions.items c.reserve.new.self.items c.reserve.ensures.items c.in-Ok-Birth.ensures.ok.1 in
-    let bore = born_state c.self.inside.config c.self.inside.moment c.self.inside.sealed c.apply_initiator_keying.new.self c.reserve.new.self.items c.keep_born.new.sessions.items
-    c.in-Ok-Birth.ended c.in-Ok-Birth.born c.args.from.now c.self.inside.print c.self.inside.secret kept.print_is kept.secret_is c.keep_born.ensures.table in
+    c.self.inside.sessions.rows c.reserve.new.self.rows c.reserve.ensures.rows c.in-Ok-Birth.ensures.ok.1 in
+    let bore = born_state c.self.inside.config c.self.inside.moment c.self.inside.sealed c.apply_initiator_keying.new.self c.reserve.new.self.rows c.keep_born.new.sessions.rows
+    c.in-Ok-Birth.ended c.in-Ok-Birth.born c.args.from.now c.self.inside.print c.self.inside.secret kept.print_is kept.secret_is c.keep_born.ensures in
     let sent : Done (sent_answer (with_born t c.in-Ok-Birth.ended c.in-Ok-Birth.born c.args.from.now) c.in-Ok-Birth.answer) c.send_answer-in-Ok-Birth.new.self c.add.new.self c.send_answer-in-Ok-Birth.new.out =
     subst (λ (u : State). Done (sent_answer u c.in-Ok-Birth.answer) c.send_answer-in-Ok-Birth.new.self c.add.new.self c.send_answer-in-Ok-Birth.new.out) bore c.send_answer-in-Ok-Birth.ensures in
     subst (λ (s : State). Done (initiator_keyed s c.args.from.now c.args.draws.now c.args.fields.now.payload.now) c.send_answer-in-Ok-Birth.new.self c.args.out.now c.send_answer-in-Ok-Birth.new.out) c.self.view_is

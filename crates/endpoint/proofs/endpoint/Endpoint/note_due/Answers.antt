@@ -1,35 +1,15 @@
-use Rattle.std.proofs.Common.{Option, refl, sym, ap, ◌∙◌}
-use Rattle.session_core.specs.declared.stage.SessionDue.{SessionDue}
+use Rattle.std.proofs.Common.{Option, refl}
 use Rattle.session_core.specs.Session.{SessionState}
 use Rattle.session_core.specs.Closing.{after_due, first_due}
+use Rattle.endpoint.specs.Steps.{session_changed}
+use Rattle.session_table.specs.Table.{of_session}
 use Rattle.endpoint_model.specs.declared.row.Row.{Row}
 use Rattle.endpoint_model.specs.State.{State}
-use Rattle.endpoint.specs.Steps.{session_changed}
-use Rattle.endpoint.proofs.Rows.{index_in}
-use Rattle.endpoint.proofs.Changing.{changed_at, changed_state, unchanged_state}
-use Rattle.endpoint.proofs.Endings.{due_keeps}
+use Rattle.endpoint.proofs.Changing.{changed_state}
 use Rattle.endpoint.proofs.endpoint.Endpoint.note_due.Goals as goal
 
-pub invariant_of-self : goal.invariant_of-self
-invariant_of-self c =
-    let changed = changed_at c.self.inside.sessions.items c.args.near c.in-Some.index c.index_mut.result.now (record c.index_mut.result.now { session = c.due.new.self }) c.self.invariant.distinct
-    (sym (c.in-Some.ensures ∙ ap (λ rows. index_in rows c.args.near) c.deref.ensures.value)) c.index_mut.ensures.value (ap (λ (s : SessionState). s.joined.near) (c.due.ensures.session ∙ ap (λ (d : Option SessionDue). after_due d c.self.inside.moment c.index_mut.result.now.session) c.due.ensures.answer) ∙ due_keeps (first_due c.index_mut.result.now.session c.self.inside.moment) c.self.inside.moment c.index_mut.result.now.session) in
-    record {
-      secret_is = c.self.invariant.secret_is;
-      print_is = c.self.invariant.print_is;
-      keys_are = c.self.invariant.keys_are;
-      distinct = changed.distinct;
-      few = c.self.invariant.few;
-    }
-
-pub returns-in-Some : goal.returns-in-Some
-returns-in-Some c =
-    let changed = changed_at c.self.inside.sessions.items c.args.near c.in-Some.index c.index_mut.result.now (record c.index_mut.result.now { session = c.due.new.self }) c.self.invariant.distinct
-    (sym (c.in-Some.ensures ∙ ap (λ rows. index_in rows c.args.near) c.deref.ensures.value)) c.index_mut.ensures.value (ap (λ (s : SessionState). s.joined.near) (c.due.ensures.session ∙ ap (λ (d : Option SessionDue). after_due d c.self.inside.moment c.index_mut.result.now.session) c.due.ensures.answer) ∙ due_keeps (first_due c.index_mut.result.now.session c.self.inside.moment) c.self.inside.moment c.index_mut.result.now.session) in
-    changed_state c.self.inside.config c.self.inside.moment c.self.inside.sealed c.self.inside.startup c.self.inside.sessions.items c.args.self.now c.args.near c.in-Some.index c.index_mut.result.now
-    c.due.new.self (after_due (first_due c.index_mut.result.now.session c.self.inside.moment) c.self.inside.moment c.index_mut.result.now.session) (λ (s : State) (o : Option Row). session_changed (λ m x. after_due (first_due x m) m x) s c.args.near o) c.self.view_is changed (c.due.ensures.session ∙ ap (λ (d : Option SessionDue). after_due d c.self.inside.moment c.index_mut.result.now.session) c.due.ensures.answer) refl
-
-pub returns-in-None : goal.returns-in-None
-returns-in-None c =
-    unchanged_state c.self.inside.config c.self.inside.moment c.self.inside.sealed c.self.inside.startup c.self.inside.sessions.items c.args.self.now c.args.near
-    (λ (s : State) (o : Option Row). session_changed (λ m x. after_due (first_due x m) m x) s c.args.near o) c.self.view_is (sym (c.in-None.ensures ∙ ap (λ rows. index_in rows c.args.near) c.deref.ensures.value)) refl
+pub returns : goal.returns
+returns c =
+    let i = c.self.inside in
+    changed_state i.config i.moment i.sealed i.startup i.sessions.rows c.note_due.new.self.rows c.args.self.now c.args.near (of_session (λ (x : SessionState). after_due (first_due x i.moment) i.moment x))
+    (λ (s : State) (o : Option Row). session_changed (λ m x. after_due (first_due x m) m x) s c.args.near o) c.self.view_is c.note_due.ensures refl (λ row. refl)

@@ -3,60 +3,44 @@ use Rattle.std.specs.FinMap.{get}
 use Rattle.session_core.specs.declared.hearing.Unheard.TheVariants.{Short as ShortPart, BadTag as WrongTag, Repeated as OldNumber}
 use Rattle.session_core.specs.Hearing.{unheard}
 use Rattle.endpoint_model.specs.State.{State}
-use Rattle.endpoint.specs.Stored.{table_of}
 use Rattle.endpoint_model.specs.Admission.{heard_by, heard_in}
-use Rattle.endpoint.proofs.Rows.{index_in, found_at, found_nowhere}
 use Rattle.endpoint.proofs.Opening.{heard_whole, unheard_for, is_heard, heard_in_place, heard_plain}
 use Rattle.endpoint.proofs.endpoint.Endpoint.open_in_session.Goals as goal
 
 pub returns-in-Ok-clause-ok : goal.returns-in-Ok-clause-ok
 returns-in-Ok-clause-ok c =
-    let found : get (table_of c.self.inside.sessions.items) c.args.near ≡ Some c.index.result.now =
-    found_at c.self.inside.sessions.items c.args.near c.in-Some.index c.index.result.now c.self.invariant.distinct
-    (sym (c.in-Some.ensures ∙ ap (λ rows. index_in rows c.args.near) c.deref.ensures.value)) c.index.ensures in
-    let none : unheard c.index.result.now.session c.args.part.now ≡ None = heard_whole _ c.args.part.now c.in-Ok.field-0 (sym c.open.ensures.answer ∙ c.in-Ok.is) in
+    let none : unheard c.in-Some.row.now.session c.args.part.now ≡ None = heard_whole _ c.args.part.now c.in-Ok.field-0 (sym c.open.ensures.answer ∙ c.in-Ok.is) in
     sym (ap (λ (s : State). heard_in (get s.sessions c.args.near) c.args.part.now) c.self.view_is)
-    ∙ ap (λ found. heard_in found c.args.part.now) found
-    ∙ heard_plain c.index.result.now.session c.args.part.now c.open.new.sealed none (heard_in_place c.index.result.now.session c.args.part.now c.open.new.sealed c.open.ensures.buffer (is_heard c.index.result.now.session c.args.part.now none))
+    ∙ ap (λ found. heard_in found c.args.part.now) (sym c.in-Some.ensures)
+    ∙ heard_plain c.in-Some.row.now.session c.args.part.now c.open.new.sealed none (heard_in_place c.in-Some.row.now.session c.args.part.now c.open.new.sealed c.open.ensures.buffer (is_heard c.in-Some.row.now.session c.args.part.now none))
 
 pub returns-in-Ok-clause-front : goal.returns-in-Ok-clause-front
 returns-in-Ok-clause-front c =
-    let none : unheard c.index.result.now.session c.args.part.now ≡ None = heard_whole _ c.args.part.now c.in-Ok.field-0 (sym c.open.ensures.answer ∙ c.in-Ok.is) in
-    (heard_in_place c.index.result.now.session c.args.part.now c.open.new.sealed c.open.ensures.buffer (is_heard c.index.result.now.session c.args.part.now none)).front
+    let none : unheard c.in-Some.row.now.session c.args.part.now ≡ None = heard_whole _ c.args.part.now c.in-Ok.field-0 (sym c.open.ensures.answer ∙ c.in-Ok.is) in
+    (heard_in_place c.in-Some.row.now.session c.args.part.now c.open.new.sealed c.open.ensures.buffer (is_heard c.in-Some.row.now.session c.args.part.now none)).front
 
 pub returns-in-Err-Short-clause-err : goal.returns-in-Err-Short-clause-err
 returns-in-Err-Short-clause-err c =
-    let found : get (table_of c.self.inside.sessions.items) c.args.near ≡ Some c.index.result.now =
-    found_at c.self.inside.sessions.items c.args.near c.in-Some.index c.index.result.now c.self.invariant.distinct
-    (sym (c.in-Some.ensures ∙ ap (λ rows. index_in rows c.args.near) c.deref.ensures.value)) c.index.ensures in
-    let why : unheard c.index.result.now.session c.args.part.now ≡ Some ShortPart = unheard_for _ c.args.part.now ShortPart (sym c.open.ensures.answer ∙ c.in-Err-Short.is ∙ ap Err c.in-Err-Short.field-0-is) in
+    let why : unheard c.in-Some.row.now.session c.args.part.now ≡ Some ShortPart = unheard_for _ c.args.part.now ShortPart (sym c.open.ensures.answer ∙ c.in-Err-Short.is ∙ ap Err c.in-Err-Short.field-0-is) in
     sym (ap (λ (s : State). heard_in (get s.sessions c.args.near) c.args.part.now) c.self.view_is)
-    ∙ ap (λ found. heard_in found c.args.part.now) found
-    ∙ ap (heard_by c.index.result.now.session c.args.part.now) why
+    ∙ ap (λ found. heard_in found c.args.part.now) (sym c.in-Some.ensures)
+    ∙ ap (heard_by c.in-Some.row.now.session c.args.part.now) why
 
 pub returns-in-Err-BadTag-clause-err : goal.returns-in-Err-BadTag-clause-err
 returns-in-Err-BadTag-clause-err c =
-    let found : get (table_of c.self.inside.sessions.items) c.args.near ≡ Some c.index.result.now =
-    found_at c.self.inside.sessions.items c.args.near c.in-Some.index c.index.result.now c.self.invariant.distinct
-    (sym (c.in-Some.ensures ∙ ap (λ rows. index_in rows c.args.near) c.deref.ensures.value)) c.index.ensures in
-    let why : unheard c.index.result.now.session c.args.part.now ≡ Some WrongTag = unheard_for _ c.args.part.now WrongTag (sym c.open.ensures.answer ∙ c.in-Err-BadTag.is ∙ ap Err c.in-Err-BadTag.field-0-is) in
+    let why : unheard c.in-Some.row.now.session c.args.part.now ≡ Some WrongTag = unheard_for _ c.args.part.now WrongTag (sym c.open.ensures.answer ∙ c.in-Err-BadTag.is ∙ ap Err c.in-Err-BadTag.field-0-is) in
     sym (ap (λ (s : State). heard_in (get s.sessions c.args.near) c.args.part.now) c.self.view_is)
-    ∙ ap (λ found. heard_in found c.args.part.now) found
-    ∙ ap (heard_by c.index.result.now.session c.args.part.now) why
+    ∙ ap (λ found. heard_in found c.args.part.now) (sym c.in-Some.ensures)
+    ∙ ap (heard_by c.in-Some.row.now.session c.args.part.now) why
 
 pub returns-in-Err-Repeated-clause-err : goal.returns-in-Err-Repeated-clause-err
 returns-in-Err-Repeated-clause-err c =
-    let found : get (table_of c.self.inside.sessions.items) c.args.near ≡ Some c.index.result.now =
-    found_at c.self.inside.sessions.items c.args.near c.in-Some.index c.index.result.now c.self.invariant.distinct
-    (sym (c.in-Some.ensures ∙ ap (λ rows. index_in rows c.args.near) c.deref.ensures.value)) c.index.ensures in
-    let why : unheard c.index.result.now.session c.args.part.now ≡ Some OldNumber = unheard_for _ c.args.part.now OldNumber (sym c.open.ensures.answer ∙ c.in-Err-Repeated.is ∙ ap Err c.in-Err-Repeated.field-0-is) in
+    let why : unheard c.in-Some.row.now.session c.args.part.now ≡ Some OldNumber = unheard_for _ c.args.part.now OldNumber (sym c.open.ensures.answer ∙ c.in-Err-Repeated.is ∙ ap Err c.in-Err-Repeated.field-0-is) in
     sym (ap (λ (s : State). heard_in (get s.sessions c.args.near) c.args.part.now) c.self.view_is)
-    ∙ ap (λ found. heard_in found c.args.part.now) found
-    ∙ ap (heard_by c.index.result.now.session c.args.part.now) why
+    ∙ ap (λ found. heard_in found c.args.part.now) (sym c.in-Some.ensures)
+    ∙ ap (heard_by c.in-Some.row.now.session c.args.part.now) why
 
 pub returns-in-None-clause-err : goal.returns-in-None-clause-err
 returns-in-None-clause-err c =
-    let found : get (table_of c.self.inside.sessions.items) c.args.near ≡ None =
-    found_nowhere c.self.inside.sessions.items c.args.near (sym (c.in-None.ensures ∙ ap (λ rows. index_in rows c.args.near) c.deref.ensures.value)) in
     sym (ap (λ (s : State). heard_in (get s.sessions c.args.near) c.args.part.now) c.self.view_is)
-    ∙ ap (λ found. heard_in found c.args.part.now) found
+    ∙ ap (λ found. heard_in found c.args.part.now) (sym c.in-None.ensures)

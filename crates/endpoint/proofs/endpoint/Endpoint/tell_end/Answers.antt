@@ -1,14 +1,12 @@
-use Rattle.std.proofs.Common.{◌≡◌, Some, None, sym, ap, ◌∙◌}
+use Rattle.std.proofs.Common.{sym, ap, ◌∙◌}
 use Rattle.std.specs.FinMap.{get}
 use Rattle.crypto_profile.specs.declared.keys.Context.TheVariants.{Startup}
 use Rattle.crypto_profile.specs.Keys.{keys_of}
 use Rattle.glare_core.specs.declared.facts.Joined.{Joined}
 use Rattle.startup.specs.State.{StartupState}
 use Rattle.startup.specs.Attempts.{end_fact, after_end}
-use Rattle.endpoint_model.specs.declared.row.Row.{Row}
 use Rattle.endpoint_model.specs.State.{State}
-use Rattle.endpoint.specs.Stored.{table_of, state_of}
-use Rattle.endpoint.proofs.Rows.{index_in, found_at, found_nowhere}
+use Rattle.endpoint.specs.Stored.{state_of}
 use Rattle.endpoint.proofs.Confirms.{own_stays}
 use Rattle.endpoint.proofs.Endings.{told_done, told_room, untold_done}
 use Rattle.endpoint.proofs.endpoint.Endpoint.tell_end.Goals as goal
@@ -21,20 +19,15 @@ invariant_of-self c =
       secret_is = c.self.invariant.secret_is ∙ secret;
       print_is = c.self.invariant.print_is ∙ own_stays i.startup.ledger (end_fact i.startup c.joined.result.now.peer c.args.why) ∙ ap (λ (s : StartupState). s.ledger.own) (sym c.end-fact.ensures.after);
       keys_are = c.self.invariant.keys_are ∙ ap (λ x. keys_of x Startup) secret;
-      distinct = c.self.invariant.distinct;
       few = c.self.invariant.few;
     }
 
 pub returns-in-Some-clause-done : goal.returns-in-Some-clause-done
 returns-in-Some-clause-done c =
     let i = c.self.inside in
-    let row : Row = c.index.result.now in
-    let found : get (table_of i.sessions.items) c.args.near ≡ Some row =
-    found_at i.sessions.items c.args.near c.in-Some.index row c.self.invariant.distinct
-    (sym (c.in-Some.ensures ∙ ap (λ rows. index_in rows c.args.near) c.deref.ensures.value)) c.index.ensures in
     let peer = ap (λ (j : Joined). j.peer) c.joined.ensures in
-    told_done (state_of i.config i.moment i.sealed i.startup i.sessions.items) c.args.self.now c.args.near c.args.why row c.end-fact.new.self c.end-fact.result c.args.out.now c.add_fact.new.out
-    c.self.view_is found (c.end-fact.ensures.after ∙ ap (λ p. after_end i.startup p c.args.why) peer) (c.end-fact.ensures.fact ∙ ap (λ p. end_fact i.startup p c.args.why) peer)
+    told_done (state_of i.config i.moment i.sealed i.startup i.sessions.rows) c.args.self.now c.args.near c.args.why c.in-Some.row.now c.end-fact.new.self c.end-fact.result c.args.out.now c.add_fact.new.out
+    c.self.view_is (sym c.in-Some.ensures) (c.end-fact.ensures.after ∙ ap (λ p. after_end i.startup p c.args.why) peer) (c.end-fact.ensures.fact ∙ ap (λ p. end_fact i.startup p c.args.why) peer)
     c.add_fact.ensures.entries c.add_fact.ensures.free c.add_fact.ensures.room
 
 pub returns-in-Some-clause-room : goal.returns-in-Some-clause-room
@@ -42,5 +35,4 @@ returns-in-Some-clause-room c = told_room c.end-fact.result c.args.out.now.free 
 
 pub returns-in-None-clause-done : goal.returns-in-None-clause-done
 returns-in-None-clause-done c =
-    let none : get (table_of c.self.inside.sessions.items) c.args.near ≡ None = found_nowhere c.self.inside.sessions.items c.args.near (sym (c.in-None.ensures ∙ ap (λ rows. index_in rows c.args.near) c.deref.ensures.value)) in
-    untold_done c.args.self.now c.args.near c.args.why c.args.out.now (ap (λ (s : State). get s.sessions c.args.near) (sym c.self.view_is) ∙ none)
+    untold_done c.args.self.now c.args.near c.args.why c.args.out.now (ap (λ (s : State). get s.sessions c.args.near) (sym c.self.view_is) ∙ sym c.in-None.ensures)

@@ -1,7 +1,0 @@
-use Rattle.rtmfp_base.specs.Rows.{IsBest}
-use Rattle.endpoint_model.specs.InSessions.{is_row_due}
-use Rattle.endpoint.specs.Stored.{itself, near_of}
-use Rattle.endpoint.proofs.session_ticking.lowest_due.Given as goal
-
-abbrev pub invariant-loop-index : goal.invariant-loop-index
-invariant-loop-index l = IsBest near_of itself (is_row_due l.moment) l.rows l.index l.best

@@ -1,9 +1,0 @@
-use Rattle.std.proofs.Common.{sym, ap, ◌∙◌}
-use Rattle.glare_core.specs.declared.facts.Joined.{Joined}
-use Rattle.endpoint.proofs.Likely.{likely_is}
-use Rattle.endpoint.proofs.sessions.index_near.Goals as goal
-
-pub returns-then-found-near : goal.returns-then-found-near
-returns-then-found-near c =
-    sym (likely_is c.args.sessions.now c.args.near c.args.likely c.index-sessions-likely.result c.requires c.if-likely-sessions.true
-    (ap (λ (j : Joined). j.near) (sym c.joined.ensures) ∙ c.if-found-near.true))

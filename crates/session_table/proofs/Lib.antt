@@ -1,0 +1,5 @@
+mod Rows
+mod Likely
+mod Changing
+mod SealedParts
+mod DueRows

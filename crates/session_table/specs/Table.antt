@@ -1,0 +1,106 @@
+-- The rows of an end's sessions: as a list, and by their session IDs; and what is done to the row
+-- under one.
+use Rattle.std.specs.Prelude.{ℕ, ◌<◌, ◌≡◌, List, map, length, slice_index_or, true, if◌then◌else◌, Option, Some, None, refl}
+use Rattle.std.specs.List.{find}
+use Rattle.std.specs.Coded.{Coded, code_by, coded×, coded_ℕ}
+use Rattle.std.specs.FinMap.{from_entries, entries, get, insert, code}
+use Rattle.rtmfp_forms.specs.Address.{AddressParts}
+use Rattle.session_core.specs.declared.stage.SessionDue.{SessionDue}
+use Rattle.session_core.specs.Session.{SessionState, context_of, moved_to}
+use Rattle.session_core.specs.Sealed.{is_spent}
+use Rattle.session_core.specs.Closing.{first_due}
+use Rattle.mobility.specs.Tests.{after_seen, after_reply}
+use Rattle.endpoint_model.specs.declared.row.Row.{Row}
+use Rattle.endpoint_model.specs.State.{Sessions}
+use Rattle.endpoint_model.specs.Sending.{session_datagram}
+use Rattle.endpoint_model.specs.InSessions.{is_row_due}
+use Rattle.session_table.specs.declared.sealing.Sealed.{Sealed}
+
+-- the session ID of the session in a row
+abbrev pub near_of : Row → ℕ
+near_of row = row.session.joined.near
+
+abbrev pub itself : Row → Row
+itself row = row
+
+abbrev pub entry_of : Row → ℕ × Row
+entry_of row = (near_of row, row)
+
+-- the rows by their session IDs
+abbrev pub table_of : List Row → Sessions
+table_of rows = from_entries (map entry_of rows)
+
+-- the rows, and how many more can be kept without memory
+pub record Table : Type 0 where
+  pub rows : Sessions
+  pub free : ℕ
+
+-- ---- a change of one row
+
+abbrev pub with_changed : (Row → Row) → Sessions → ℕ → Option Row → Sessions
+with_changed change rows near None = rows
+with_changed change rows near (Some row) = insert rows near (change row)
+
+-- The row under this session ID is changed so, where there is one.
+abbrev pub in_row : (Row → Row) → Sessions → ℕ → Sessions
+in_row change rows near = with_changed change rows near (get rows near)
+
+-- the same of the session in it
+abbrev pub of_session : (SessionState → SessionState) → Row → Row
+of_session change row = record row { session = change row.session }
+
+abbrev pub in_session : (SessionState → SessionState) → Sessions → ℕ → Sessions
+in_session change = in_row (of_session change)
+
+-- a datagram came from an address, which is tested where that asks for it
+abbrev pub tested : AddressParts → List ℕ → ℕ → Row → Row
+tested from token moment row = record row {
+  moves = after_seen row.moves row.session.address from token moment;
+}
+
+-- the session goes to where the answer to its test came from
+abbrev pub moved : AddressParts → List ℕ → Row → Row
+moved from bytes row = record {
+  session = moved_to from row.session;
+  moves = after_reply row.moves from bytes;
+}
+
+-- ---- what a session seals
+
+-- none where all counts are used
+abbrev pub sealed_of : ℕ → List ℕ → SessionState → Option Sealed
+sealed_of moment body session =
+    if is_spent session then None
+    else Some (record {
+      datagram = session_datagram session moment body;
+      context = context_of session true;
+    })
+
+abbrev pub sealed_by : ℕ → List ℕ → Option Row → Option Sealed
+sealed_by moment body None = None
+sealed_by moment body (Some row) = sealed_of moment body row.session
+
+-- ---- what is due
+
+-- The index of the row with the lowest session ID of those of which something is due.
+abbrev pub IsDueAt : ℕ → List Row → Option ℕ → Type 0
+IsDueAt moment rows None = find (λ e. is_row_due moment e.1) (entries (table_of rows)) ≡ None
+IsDueAt moment rows (Some index) = (index < length rows) ×
+    ((d : Row) → find (λ e. is_row_due moment e.1) (entries (table_of rows))
+    ≡ Some (entry_of (slice_index_or rows index d)))
+
+-- a session ID, and what is due of its session
+abbrev pub due_of : ℕ → Option (ℕ × Row) → Option (ℕ × Option SessionDue)
+due_of moment None = None
+due_of moment (Some e) = Some (e.0, first_due e.1.session moment)
+
+-- the first by rising session IDs
+abbrev pub due_in : ℕ → Sessions → Option (ℕ × Option SessionDue)
+due_in moment rows = due_of moment (find (λ e. is_row_due moment e.1) (entries rows))
+
+-- ---- how a table is stored: as the pair of its fields
+
+abbrev pub table_code : Coded Row → Coded Table
+table_code row =
+    code_by (Sessions × ℕ) (coded× (code coded_ℕ row) coded_ℕ) (λ t. (t.rows, t.free))
+    (λ p. record { rows = p.0; free = p.1 }) (λ _. refl)

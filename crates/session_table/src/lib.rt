@@ -1,0 +1,12 @@
+//! The sessions of an end: a row for each under its session ID, what changes in one row, and what
+//! is due of them. It knows no attempts, no entries and no other end.
+#![tactic(auto)]
+
+mod changes;
+mod due;
+mod index;
+mod sealing;
+mod table;
+
+pub use sealing::Sealed;
+pub use table::SessionTable;

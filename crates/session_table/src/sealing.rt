@@ -1,0 +1,142 @@
+//! Datagrams of a session.
+
+ghost use Rattle.std.specs.Prelude.{◌≡◌, ◌≤◌, ◌+◌, IfSome, false, length};
+ghost use Rattle.std.specs.FinMap.{get};
+ghost use Rattle.rtmfp_chunks.specs.Chunk.{chunk_of};
+ghost use Rattle.rtmfp_chunks.specs.Writing.{IsWritable, chunk_bytes};
+ghost use Rattle.packet_scramble.specs.Datagram.{datagram};
+ghost use Rattle.session_core.specs.Sealed.{after_seal, is_spent, sealed_part};
+ghost use Rattle.endpoint_model.specs.Sending.{session_datagram};
+ghost use Rattle.session_table.specs.Table.{in_session, sealed_by, sealed_of};
+
+use crate::index::index_near;
+use crate::table::SessionTable;
+use crypto_profile::Context;
+use packet_scramble::{SEALED_AT, scramble};
+use rtmfp_base::Message;
+use rtmfp_chunks::{ChunkView, write_chunk};
+use rtmfp_forms::Outgoing;
+use rtmfp_packet::begin_packet;
+use session_core::Session;
+
+/// The most bytes of a datagram that is sent.
+const DATAGRAM_LIMIT: usize = 1200;
+
+/// A datagram of a session.
+#[derive(Drop)]
+pub struct Sealed {
+    /// The datagram.
+    pub datagram: Message,
+    /// The context in which it was sealed.
+    pub context: Context,
+}
+
+impl SessionTable {
+    /// Seals a packet of one chunk in the session with this session ID, in a buffer that is lent
+    /// for it: its head has the timestamp of this moment. Where there is no such session, or all
+    /// its counts are used, nothing is sealed.
+    pub fn seal(
+        &mut self,
+        near: u32,
+        moment: u64,
+        blank: Vec<u8>,
+        chunk: &ChunkView<'_>,
+    ) -> Option<Sealed>
+        requires blank { length blank.items ≡ 1200 }
+        requires writable { IsWritable (chunk_of chunk.now) }
+        requires short { length (chunk_bytes (chunk_of chunk.now)) ≤ 1159 }
+        ensures answer { result ≡ sealed_by moment (chunk_bytes (chunk_of chunk.now))
+            (get self.old.rows near) }
+        ensures limit { IfSome result (λ x. length x.datagram ≤ 1200) }
+        ensures rows { self.new.rows ≡ in_session after_seal self.old.rows near }
+    {
+        match index_near(&self.rows, near, self.likely) {
+            Some(index) => seal_in(&mut self.rows[index].session, moment, blank, chunk),
+            None => None,
+        }
+    }
+}
+
+/// Seals a packet of one chunk in a session.
+fn seal_in(
+    session: &mut Session,
+    moment: u64,
+    blank: Vec<u8>,
+    chunk: &ChunkView<'_>,
+) -> Option<Sealed>
+    requires blank { length blank.items ≡ 1200 }
+    requires writable { IsWritable (chunk_of chunk.now) }
+    requires short { length (chunk_bytes (chunk_of chunk.now)) ≤ 1159 }
+    ensures answer { result ≡ sealed_of moment (chunk_bytes (chunk_of chunk.now)) session.old }
+    ensures limit { IfSome result (λ x. length x.datagram ≤ 1200) }
+    ensures session { session.new ≡ after_seal session.old }
+{
+    if session.is_spent() {
+        return None;
+    }
+    let context = session.context(true);
+    let datagram = session_datagram(blank, session, moment, chunk);
+    Some(Sealed { datagram, context })
+}
+
+/// The datagram of one chunk in a session, for which memory was found and a count is left. Whatever
+/// the head, the chunk fits.
+fn session_datagram(
+    blank: Vec<u8>,
+    session: &mut Session,
+    moment: u64,
+    chunk: &ChunkView<'_>,
+) -> Message
+    requires blank { length blank.items ≡ 1200 }
+    requires spent { is_spent session.old ≡ false }
+    requires writable { IsWritable (chunk_of chunk.now) }
+    requires fits { length (chunk_bytes (chunk_of chunk.now)) ≤ 1159 }
+    ensures datagram { result ≡ session_datagram session.old moment (chunk_bytes (chunk_of
+        chunk.now)) }
+    ensures short { length result ≤ 1200 }
+    ensures session { session.new ≡ after_seal session.old }
+{
+    let mut packet = begin_packet(&session.head(moment));
+    let _ = write_chunk(chunk, &mut packet);
+    sealed_in(blank, session, &packet)
+}
+
+/// The datagram of a packet in a session, for which memory was found and a count is left.
+fn sealed_in(blank: Vec<u8>, session: &mut Session, packet: &Outgoing) -> Message
+    requires blank { length blank.items ≡ 1200 }
+    requires spent { is_spent session.old ≡ false }
+    ensures datagram { result ≡ datagram session.old.joined.far
+        (sealed_part session.old packet.now) }
+    ensures short { length result ≤ 1200 }
+    ensures session { session.new ≡ after_seal session.old }
+{
+    let sid = session.joined().far;
+    let mut buffer = [0; DATAGRAM_LIMIT];
+    match session.seal(packet, &mut buffer) {
+        Some(len) => message_of(blank, sid, &buffer[SEALED_AT..len]),
+        None => Message::of(blank),
+    }
+}
+
+/// The datagram of a sealed part, for which memory was found.
+fn message_of(mut blank: Vec<u8>, sid: u32, part: &[u8]) -> Message
+    requires blank { length blank.items ≡ 1200 }
+    requires fits { length part.now ≤ 1196 }
+    ensures datagram { result ≡ datagram sid part.now }
+    ensures short { length result ≤ 1200 }
+{
+    blank.truncate(SEALED_AT + part.len());
+    put_datagram(&mut blank, sid, part);
+    blank.shrink_to_fit();
+    Message::of(blank)
+}
+
+/// Fills a buffer, which is as long as the datagram, with that of a sealed part.
+fn put_datagram(buffer: &mut [u8], sid: u32, part: &[u8])
+    requires { length buffer.old ≡ 4 + length part.now }
+    ensures { buffer.new ≡ datagram sid part.now }
+{
+    let (head, rest) = buffer.split_at_mut(SEALED_AT);
+    head.copy_from_slice(&scramble(sid, part).to_be_bytes());
+    rest.copy_from_slice(part);
+}

@@ -1,0 +1,118 @@
+//! The table of the sessions, by their session IDs.
+
+use crate::index::{index_near, index_of};
+use endpoint_model::Row;
+use std::alloc::{AllocError, Global};
+use std::marker::Model;
+
+/// The sessions of an end, each in a row under its session ID.
+///
+/// Contracts see the rows by their session IDs, and for how many more there is room.
+#[derive(Drop)]
+pub struct SessionTable {
+    /// The rows, in any order.
+    pub(crate) rows: Vec<Row>,
+    /// The index of the session of the last datagram, where a session is looked for first.
+    pub(crate) likely: usize,
+}
+
+impl Model for SessionTable {
+    ghost use Rattle.std.specs.Prelude.{◌≡◌, ◌-◌, length, vec_len, vec_capacity};
+    ghost use Rattle.std.specs.FinMap.{len};
+    ghost use Rattle.endpoint_model.specs.contracts.row.Row as row_type;
+    ghost use Rattle.session_table.specs.Table.{Table, table_code, table_of};
+
+    ghost Value = { Table };
+
+    ghost coded = { table_code row_type.the_row.coded };
+
+    ghost view = { λ t. record {
+      rows = table_of t.rows.items;
+      free = vec_capacity t.rows - vec_len t.rows;
+    } };
+
+    ghost invariant = { λ t. len (table_of t.rows.items) ≡ length t.rows.items };
+}
+
+impl SessionTable {
+    ghost use Rattle.std.specs.Prelude.{◌≡◌, ◌<◌, ◌≤◌, ◌^◌, OnOk};
+    ghost use Rattle.std.specs.Option.{option_copied};
+    ghost use Rattle.std.specs.FinMap.{contains_key, empty, get, insert, len, remove};
+    ghost use Rattle.session_table.specs.Table.{near_of};
+
+    /// A table without sessions. It takes no memory.
+    pub fn new(alloc: Global) -> SessionTable
+        ensures { result.rows ≡ empty }
+    {
+        SessionTable {
+            rows: Vec::new(alloc),
+            likely: 0,
+        }
+    }
+
+    /// How many sessions there are.
+    pub fn count(&self) -> usize
+        ensures value { result ≡ len self.now.rows }
+        ensures small { result < 2 ^ 63 }
+    {
+        self.rows.len()
+    }
+
+    /// Whether a session has this session ID.
+    pub fn has(&self, near: u32) -> bool
+        ensures { result ≡ contains_key self.now.rows near }
+    {
+        index_near(&self.rows, near, self.likely).is_some()
+    }
+
+    /// The row of the session with this session ID.
+    pub fn row(&self, near: u32) -> Option<&Row>
+        ensures { option_copied result ≡ get self.now.rows near }
+    {
+        match index_near(&self.rows, near, self.likely) {
+            Some(index) => Some(&self.rows[index]),
+            None => None,
+        }
+    }
+
+    /// Looks for the session with this session ID, so that it is found at once from now on.
+    pub fn look_up(&mut self, near: u32)
+        ensures { self.new ≡ self.old }
+    {
+        if let Some(index) = index_near(&self.rows, near, self.likely) {
+            self.likely = index;
+        }
+    }
+
+    /// Finds memory for one more session.
+    pub fn reserve(&mut self) -> Result<(), AllocError>
+        ensures ok { OnOk result (0 < self.new.free) }
+        ensures rows { self.new.rows ≡ self.old.rows }
+    {
+        self.rows.reserve(1)
+    }
+
+    /// Keeps a row under the session ID of its session, for which there is room.
+    pub fn keep(&mut self, row: Row)
+        requires { 0 < self.old.free }
+        ensures { self.new.rows ≡ insert self.old.rows (near_of row) row }
+    {
+        match index_of(&self.rows, row.session.joined().near) {
+            Some(index) => self.rows[index] = row,
+            None => match self.rows.push(row) {
+                Ok(()) => {}
+                Err(_) => {}
+            },
+        }
+    }
+
+    /// Forgets the session with this session ID, where there is one.
+    pub fn forget(&mut self, near: u32)
+        ensures rows { self.new.rows ≡ remove self.old.rows near }
+        ensures free { self.old.free ≤ self.new.free }
+    {
+        if let Some(index) = index_near(&self.rows, near, self.likely) {
+            self.rows.swap_remove(index);
+        }
+    }
+}
