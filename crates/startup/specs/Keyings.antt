@@ -7,6 +7,7 @@ use Rattle.sha2.specs.Sha256.{sha256}
 use Rattle.rtmfp_vlu.specs.declared.reading.VluFault.{VluFault}
 use Rattle.rtmfp_vlu.specs.Reading.{number_at}
 use Rattle.rtmfp_forms.specs.Address.{AddressParts}
+use Rattle.rtmfp_chunks.specs.declared.kinds.TheConstants.{IIKEYING, RIKEYING}
 use Rattle.rtmfp_chunks.specs.declared.reading.ChunkFault.{ChunkFault}
 use Rattle.rtmfp_chunks.specs.declared.reading.ChunkFault.TheVariants.{Unknown, Malformed as BadField}
 use Rattle.rtmfp_chunks.specs.Chunk.{Chunk, IIKeying, RIKeying}
@@ -101,12 +102,12 @@ formed_initiator payload near cookie cert part sign =
 abbrev pub initiator_fields : List ℕ → Result Chunk ChunkFault → Result InitiatorKeying Cause
 initiator_fields payload (Ok (IIKeying near cookie cert part sign)) =
     formed_initiator payload near cookie cert part sign
-initiator_fields payload (Ok chunk) = Err (UnknownChunk 0x38)
+initiator_fields payload (Ok chunk) = Err (UnknownChunk IIKEYING)
 initiator_fields payload (Err fault) = Err (fault_cause fault)
 
 -- an initiator's keying, read from its payload
 unfoldable pub initiator_keying_in : List ℕ → Result InitiatorKeying Cause
-initiator_keying_in payload = initiator_fields payload (chunk_reading 0x38 payload)
+initiator_keying_in payload = initiator_fields payload (chunk_reading IIKEYING payload)
 
 abbrev pub with_responder_part : ℕ → ℕ → List ℕ → Option ResponderPart →
     Result ResponderKeying Cause
@@ -120,12 +121,12 @@ formed_responder payload near part sign =
 
 abbrev pub responder_fields : List ℕ → Result Chunk ChunkFault → Result ResponderKeying Cause
 responder_fields payload (Ok (RIKeying near part sign)) = formed_responder payload near part sign
-responder_fields payload (Ok chunk) = Err (UnknownChunk 0x78)
+responder_fields payload (Ok chunk) = Err (UnknownChunk RIKEYING)
 responder_fields payload (Err fault) = Err (fault_cause fault)
 
 -- a responder's keying, read from its payload
 unfoldable pub responder_keying_in : List ℕ → Result ResponderKeying Cause
-responder_keying_in payload = responder_fields payload (chunk_reading 0x78 payload)
+responder_keying_in payload = responder_fields payload (chunk_reading RIKEYING payload)
 
 -- why it doesn't read, or what this test says of it
 abbrev pub cause_by : {A : Type 0} → (A → Option Cause) → Result A Cause → Option Cause
@@ -409,6 +410,6 @@ fault_in (Err cause) = Some cause
 -- why the fields or the forms of a keying's payload, of either type, can't be read
 abbrev pub keying_fault : ℕ → List ℕ → Option Cause
 keying_fault kind payload =
-    if kind == 0x38 then fault_in (initiator_keying_in payload)
-    else if kind == 0x78 then fault_in (responder_keying_in payload)
+    if kind == IIKEYING then fault_in (initiator_keying_in payload)
+    else if kind == RIKEYING then fault_in (responder_keying_in payload)
     else None

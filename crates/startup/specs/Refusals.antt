@@ -2,6 +2,7 @@
 -- calls for these chunks answer, without making them.
 use Rattle.std.specs.Prelude.{ℕ, ◌-◌, ◌==◌, List, length, Option, Some, None, is_some, Result, Ok, Err, if◌then◌else◌}
 use Rattle.rtmfp_forms.specs.Address.{AddressParts}
+use Rattle.rtmfp_chunks.specs.declared.kinds.TheConstants.{RHELLO, COOKIE_CHANGE, IIKEYING, RIKEYING}
 use Rattle.rtmfp_chunks.specs.declared.reading.ChunkFault.{ChunkFault}
 use Rattle.rtmfp_chunks.specs.Chunk.{Chunk, RHello, CookieChange}
 use Rattle.rtmfp_chunks.specs.FieldReading.{chunk_reading}
@@ -22,27 +23,27 @@ rhello_refusal_with s payload tag cookie cert =
 abbrev pub rhello_refusal_reading : StartupState → List ℕ → Result Chunk ChunkFault → Option Cause
 rhello_refusal_reading s payload (Ok (RHello tag cookie cert)) =
     rhello_refusal_with s payload tag cookie cert
-rhello_refusal_reading s payload (Ok chunk) = Some (UnknownChunk 0x70)
+rhello_refusal_reading s payload (Ok chunk) = Some (UnknownChunk RHELLO)
 rhello_refusal_reading s payload (Err fault) = Some (fault_cause fault)
 
 unfoldable pub rhello_refusal : StartupState → List ℕ → Option Cause
-rhello_refusal s payload = rhello_refusal_reading s payload (chunk_reading 0x70 payload)
+rhello_refusal s payload = rhello_refusal_reading s payload (chunk_reading RHELLO payload)
 
 abbrev pub cookie_change_refusal_reading : StartupState → ℕ → Result Chunk ChunkFault → Option Cause
 cookie_change_refusal_reading s sid (Ok (CookieChange old new)) = cookie_change_cause s sid old new
-cookie_change_refusal_reading s sid (Ok chunk) = Some (UnknownChunk 0x79)
+cookie_change_refusal_reading s sid (Ok chunk) = Some (UnknownChunk COOKIE_CHANGE)
 cookie_change_refusal_reading s sid (Err fault) = Some (fault_cause fault)
 
 unfoldable pub cookie_change_refusal : StartupState → ℕ → List ℕ → Option Cause
 cookie_change_refusal s sid payload = cookie_change_refusal_reading s sid
-    (chunk_reading 0x79 payload)
+    (chunk_reading COOKIE_CHANGE payload)
 
 -- The cause with which a responder's hello, a change of a cookie or a keying would be discarded
 -- that came under this session ID from this address at this moment. There is none for other types.
 abbrev pub refusal : StartupState → ℕ → ℕ → List ℕ → AddressParts → ℕ → Option ℕ → Option Cause
 refusal s sid kind payload from now full =
-    if kind == 0x70 then rhello_refusal s payload
-    else if kind == 0x79 then cookie_change_refusal s sid payload
-    else if kind == 0x38 then iikeying_cause s payload from now full
-    else if kind == 0x78 then rikeying_cause s sid payload
+    if kind == RHELLO then rhello_refusal s payload
+    else if kind == COOKIE_CHANGE then cookie_change_refusal s sid payload
+    else if kind == IIKEYING then iikeying_cause s payload from now full
+    else if kind == RIKEYING then rikeying_cause s sid payload
     else None
