@@ -2,6 +2,7 @@
 use Rattle.std.specs.Prelude.{ℕ, ◌-◌, ◌==◌, ◌||◌, nat_lt, not, Bool, true, false, is_some, if◌then◌else◌, List, [], ◌∷◌, length, Option, Some, None, Result, Ok, Err}
 use Rattle.std.specs.FinMap.{get, contains_key}
 use Rattle.rtmfp_forms.specs.Address.{AddressParts}
+use Rattle.rtmfp_chunks.specs.declared.kinds.TheConstants.{IHELLO, FIHELLO, RHELLO, COOKIE_CHANGE, IIKEYING, RIKEYING, PING, PING_REPLY, CLOSE, CLOSE_ACK, FRAGMENT}
 use Rattle.rtmfp_chunks.specs.declared.reading.ChunkFault.{ChunkFault}
 use Rattle.rtmfp_chunks.specs.declared.reading.ChunkFault.TheVariants.{Unknown, Malformed as BadField}
 use Rattle.rtmfp_chunks.specs.Chunk.{Chunk, IHello, FIHello, RHello, CookieChange, Ping}
@@ -22,13 +23,14 @@ use Rattle.endpoint_model.specs.State.{State, full}
 use Rattle.endpoint_model.specs.Admission.{sid_at}
 
 abbrev pub is_hello : ℕ → Bool
-is_hello kind = (kind == 0x30) || (kind == 0x0f)
+is_hello kind = (kind == IHELLO) || (kind == FIHELLO)
 
 -- the chunks that an end reads today
 abbrev pub is_known : ℕ → Bool
 is_known kind =
-    is_hello kind || (kind == 0x70) || (kind == 0x79) || (kind == 0x38) || (kind == 0x78)
-    || (kind == 0x01) || (kind == 0x41) || (kind == 0x0c) || (kind == 0x4c) || (kind == 0x7f)
+    is_hello kind || (kind == RHELLO) || (kind == COOKIE_CHANGE) || (kind == IIKEYING)
+    || (kind == RIKEYING) || (kind == PING) || (kind == PING_REPLY) || (kind == CLOSE)
+    || (kind == CLOSE_ACK) || (kind == FRAGMENT)
 
 -- The certificate of a responder's hello, which ends a payload of this length, isn't one.
 abbrev pub view_fault : ℕ → Chunk → Option Cause
@@ -45,23 +47,25 @@ read_fault len (Err (Unknown kind)) = Some (UnknownChunk kind)
 -- the fields and the forms of a chunk
 abbrev pub form_cause : ℕ → List ℕ → Option Cause
 form_cause kind payload =
-    if (kind == 0x38) || (kind == 0x78) then keying_fault kind payload
+    if (kind == IIKEYING) || (kind == RIKEYING) then keying_fault kind payload
     else read_fault (length payload) (chunk_reading kind payload)
 
 -- which chunks a place takes
 abbrev pub takes : Place → ℕ → Bool
-takes Startup kind = (kind == 0x30) || (kind == 0x70) || (kind == 0x79) || (kind == 0x38)
-takes (Attempt near) kind = (kind == 0x79) || (kind == 0x78)
+takes Startup kind =
+    (kind == IHELLO) || (kind == RHELLO) || (kind == COOKIE_CHANGE) || (kind == IIKEYING)
+takes (Attempt near) kind = (kind == COOKIE_CHANGE) || (kind == RIKEYING)
 takes (Session near) kind =
-    (kind == 0x0f) || (kind == 0x01) || (kind == 0x41) || (kind == 0x0c) || (kind == 0x4c)
+    (kind == FIHELLO) || (kind == PING) || (kind == PING_REPLY) || (kind == CLOSE)
+    || (kind == CLOSE_ACK)
 
 -- A session that is held takes all of them but the answer to a close. One that is closing takes a
 -- close, and where this end closes it the answer. One that is over takes none.
 abbrev pub row_takes : Option Row → ℕ → Bool
 row_takes None kind = false
 row_takes (Some row) kind =
-    if kind == 0x0c then true
-    else if kind == 0x4c then is_near_close row.session.stage
+    if kind == CLOSE then true
+    else if kind == CLOSE_ACK then is_near_close row.session.stage
     else is_held row.session.stage
 
 abbrev pub has_state_for : State → Place → ℕ → Bool
@@ -93,8 +97,8 @@ responder_keying_cause s near payload = if contains_key s.startup.attempts near 
 
 abbrev pub last_cause : State → Place → Walk → AddressParts → Placed → Option Cause
 last_cause s place walk from c =
-    if c.kind == 0x38 then initiator_keying_cause s walk from c.payload
-    else if c.kind == 0x78 then responder_keying_cause s (sid_at place) c.payload
+    if c.kind == IIKEYING then initiator_keying_cause s walk from c.payload
+    else if c.kind == RIKEYING then responder_keying_cause s (sid_at place) c.payload
     else first_that_stands (where_true (not (has_state_for s place c.kind)) WrongState
     ∷ read_cause s place (chunk_reading c.kind c.payload) ∷ [])
 
@@ -103,7 +107,7 @@ chunk_cause s place walk from c =
     first_that_stands (
     where_true (not (is_known c.kind)) (UnknownChunk c.kind)
     ∷ form_cause c.kind c.payload
-    ∷ where_true (c.kind == 0x7f) FragmentCause
+    ∷ where_true (c.kind == FRAGMENT) FragmentCause
     ∷ where_true (not (takes place c.kind)) WrongPlace
     ∷ last_cause s place walk from c
     ∷ [])

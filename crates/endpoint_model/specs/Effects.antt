@@ -2,6 +2,7 @@
 use Rattle.std.specs.Prelude.{IsSome, ℕ, zero, suc, ◌+◌, ◌⊎◌, ◌==◌, ◌||◌, ◌≡◌, nat_lt, Bool, false, if◌then◌else◌, List, [], ◌∷◌, ◌++◌, length, take, Option, Some, None, Result, Ok}
 use Rattle.std.specs.FinMap.{get, remove, insert}
 use Rattle.rtmfp_forms.specs.Address.{AddressParts}
+use Rattle.rtmfp_chunks.specs.declared.kinds.TheConstants.{IIKEYING, RIKEYING, PING_REPLY, CLOSE, CLOSE_ACK}
 use Rattle.rtmfp_chunks.specs.declared.reading.ChunkFault.{ChunkFault}
 use Rattle.rtmfp_chunks.specs.Chunk.{Chunk, IHello, FIHello, RHello, CookieChange, Ping, PingReply}
 use Rattle.rtmfp_chunks.specs.FieldReading.{chunk_reading}
@@ -231,12 +232,12 @@ read_done s place from read =
 
 -- closes, their answers, and the answers to pings
 abbrev pub is_told_in_session : ℕ → Bool
-is_told_in_session kind = (kind == 0x0c) || (kind == 0x4c) || (kind == 0x41)
+is_told_in_session kind = (kind == CLOSE) || (kind == CLOSE_ACK) || (kind == PING_REPLY)
 
 abbrev pub effect : State → Place → AddressParts → Draws → Placed → Did
 effect s place from draws c =
-    if c.kind == 0x38 then initiator_keyed s from draws c.payload
-    else if c.kind == 0x78 then responder_keyed s (sid_at place) from c.payload
+    if c.kind == IIKEYING then initiator_keyed s from draws c.payload
+    else if c.kind == RIKEYING then responder_keyed s (sid_at place) from c.payload
     else if is_told_in_session c.kind then told_in_session s (sid_at place) from c
     else read_done s place from (chunk_reading c.kind c.payload)
 
@@ -260,7 +261,7 @@ outset = record { keyed = false }
 
 -- once this one was gone through
 abbrev pub walked : Walk → Placed → Walk
-walked walk c = record { keyed = walk.keyed || (c.kind == 0x38) }
+walked walk c = record { keyed = walk.keyed || (c.kind == IIKEYING) }
 
 abbrev pub chunks_did : Place → AddressParts → Draws → Walk → State → List Placed → Did
 chunks_did place from draws walk s [] = nothing s
@@ -292,7 +293,7 @@ part_received from draws (Admitted s place packet) count =
 -- The chunk is discarded, or it is an answer to a ping that moves nothing.
 abbrev pub IsQuiet : State → Place → Walk → AddressParts → Placed → Type 0
 IsQuiet s place walk from c = IsSome (chunk_cause s place walk from c) ⊎
-    ((c.kind ≡ 0x41) × (answers_by from c.payload (get s.sessions (sid_at place)) ≡ false))
+    ((c.kind ≡ PING_REPLY) × (answers_by from c.payload (get s.sessions (sid_at place)) ≡ false))
 
 abbrev pub AreQuiet : State → Place → AddressParts → Walk → List Placed → Type 0
 AreQuiet s place from walk [] = Unit {0}

@@ -3,6 +3,7 @@ use Rattle.std.specs.Prelude.{ℕ, ◌||◌, ◌==◌, Bool, true, false, is_som
 use Rattle.std.specs.List.{find}
 use Rattle.std.specs.FinMap.{get, entries}
 use Rattle.rtmfp_forms.specs.Address.{AddressParts}
+use Rattle.rtmfp_chunks.specs.declared.kinds.TheConstants.{CLOSE, CLOSE_ACK}
 use Rattle.rtmfp_chunks.specs.Chunk.{Ping, Close as CloseChunk, CloseAck}
 use Rattle.rtmfp_chunks.specs.Writing.{chunk_bytes}
 use Rattle.rtmfp_packet.specs.Walk.{Placed}
@@ -102,8 +103,8 @@ moved_by s near from bytes (Some row) = moved_where s near row (after_reply row.
 -- what such a chunk does that came in a session from an address
 abbrev pub told_in_session : State → ℕ → AddressParts → Placed → Did
 told_in_session s near from c =
-    if c.kind == 0x0c then close_taken_by s near (get s.sessions near)
-    else if c.kind == 0x4c then closed s near
+    if c.kind == CLOSE then close_taken_by s near (get s.sessions near)
+    else if c.kind == CLOSE_ACK then closed s near
     else moved_by s near from c.payload (get s.sessions near)
 
 -- whether an answer to a ping from an address moves the session

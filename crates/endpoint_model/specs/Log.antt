@@ -70,7 +70,8 @@ Answers s (Cancel n) Done entries t = IsSome (cancel_fact s.startup n) ×
 Answers s (Cancel n) (Refused refusal) entries t =
     IfNone (cancel_fact s.startup n) (refusal ≡ NoAttempt) ×
     IfSome (cancel_fact s.startup n) (λ fact. refusal ≡ NoMemory) × Does (nothing s) t [] entries
-Answers s (Close near) Done entries t = IsSome (held_row s near) × Does (closing s near) t [] entries
+Answers s (Close near) Done entries t = IsSome (held_row s near) ×
+    Does (closing s near) t [] entries
 Answers s (Close near) (Refused refusal) entries t =
     IfNone (held_row s near) (refusal ≡ NoSession) ×
     IfSome (held_row s near) (λ row. refusal ≡ NoMemory) × Does (nothing s) t [] entries

@@ -43,31 +43,13 @@ fresh setup = record {
 
 -- an end keeps the largest moment that it was given
 abbrev pub at_moment : State → ℕ → State
-at_moment s moment = record {
-  config = s.config;
-  moment = max s.moment moment;
-  sealed = s.sealed;
-  startup = s.startup;
-  sessions = s.sessions;
-}
+at_moment s moment = record s { moment = max s.moment moment }
 
 abbrev pub with_startup : State → StartupState → State
-with_startup s startup = record {
-  config = s.config;
-  moment = s.moment;
-  sealed = s.sealed;
-  startup = startup;
-  sessions = s.sessions;
-}
+with_startup s startup = record s { startup = startup }
 
 abbrev pub with_sessions : State → Sessions → State
-with_sessions s sessions = record {
-  config = s.config;
-  moment = s.moment;
-  sealed = s.sealed;
-  startup = s.startup;
-  sessions = sessions;
-}
+with_sessions s sessions = record s { sessions = sessions }
 
 abbrev pub with_row : State → ℕ → Row → State
 with_row s near row = with_sessions s (insert s.sessions near row)
@@ -81,13 +63,7 @@ abbrev pub with_session : State → ℕ → Row → SessionState → State
 with_session s near row session = with_row s near (record row { session = session })
 
 abbrev pub with_sealed : State → ℕ → State
-with_sealed s sealed = record {
-  config = s.config;
-  moment = s.moment;
-  sealed = sealed;
-  startup = s.startup;
-  sessions = s.sessions;
-}
+with_sealed s sealed = record s { sealed = sealed }
 
 -- ---- session IDs
 
