@@ -9,6 +9,7 @@ use Rattle.rtmfp_forms.specs.Address.{AddressParts}
 use Rattle.rtmfp_packet.specs.Whole.{Whole}
 use Rattle.rtmfp_packet.specs.Walk.{Placed}
 use Rattle.rtmfp_packet.specs.Reading.{PacketReading}
+use Rattle.rtmfp_chunks.specs.declared.kinds.TheConstants.{RIKEYING}
 use Rattle.rtmfp_chunks.specs.Chunk.{Ping, Spells}
 use Rattle.glare_core.specs.declared.facts.Fact.{Fact}
 use Rattle.glare_core.specs.declared.facts.Fact.TheVariants.{Born, Opened}
@@ -164,7 +165,7 @@ KeyingsWithoutCauseOpen = (s t u : State) (moment near : ℕ) (from : AddressPar
     → Step s (taken_event moment from datagram draws answer entries) t
     → admission (at_moment s moment) datagram ≡ Admitted u (Attempt near) packet
     → WentThrough answer (chunks_of packet) (front ++ c ∷ back)
-    → c.kind ≡ 0x78 →
+    → c.kind ≡ RIKEYING →
     chunk_cause (chunks_did (Attempt near) from draws outset u front).state (Attempt near)
     walk from c ≡ None
     → OpensItsSession (chunks_did (Attempt near) from draws outset u front).state near from entries
