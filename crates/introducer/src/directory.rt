@@ -126,10 +126,11 @@ impl Directory {
         self.kept.last(&epd.print)
     }
 
-    /// The addresses of the row of the end that a discriminator selects (RFC 7016 section 3.5.1.4).
-    /// It takes no memory.
+    /// The addresses of the row of the end that a discriminator selects, at most 16 (RFC 7016
+    /// section 3.5.1.4). It takes no memory.
     pub fn redirect(&self, epd: &Epd) -> Option<&[Address]>
-        ensures { option_copied result ≡ get self.now.rows epd.now.print }
+        ensures row { option_copied result ≡ get self.now.rows epd.now.print }
+        ensures few { IfSome result (λ addresses. length addresses.now ≤ 16) }
     {
         self.rows.at(&epd.print)
     }
