@@ -5,7 +5,7 @@ use Rattle.rtmfp_base.proofs.Rows.{row_at, index_found}
 use Rattle.startup.specs.declared.attempt.Row.{Row}
 use Rattle.startup.specs.declared.leaving.Found.{Found}
 use Rattle.startup.specs.State.{AttemptState, Attempts, StartupState}
-use Rattle.startup.specs.Rows.{near_in, attempt_in, entry_of, table_of}
+use Rattle.startup.specs.Rows.{near_in, attempt_in, table_of}
 use Rattle.startup.specs.Sought.{IsChosen}
 use Rattle.startup.specs.Judging.{IsFound}
 use Rattle.startup.proofs.Choices.{some_row}

@@ -15,7 +15,6 @@ use Rattle.startup.specs.declared.cause.Cause.{Cause}
 use Rattle.startup.specs.declared.cause.Cause.TheVariants.{BadSignature}
 use Rattle.startup.specs.declared.answer.Keyed.{Keyed}
 use Rattle.startup.specs.declared.answer.Keyed.TheVariants as keyed
-use Rattle.startup.specs.declared.judging.Hearing.{Hearing}
 use Rattle.startup.specs.declared.judging.Hearing.TheVariants.{Change, Again, Birth}
 use Rattle.startup.specs.State.{StartupState}
 use Rattle.startup.specs.Packets.{is_signed}

@@ -5,7 +5,6 @@ use Rattle.rtmfp_base.proofs.Maps.{same_or_not, none_is_some, get_inserted, get_
 use Rattle.rtmfp_base.proofs.Lowest.{first_is_there}
 use Rattle.rtmfp_forms.specs.Address.{AddressParts}
 use Rattle.glare_core.specs.declared.facts.Why.{Why}
-use Rattle.glare_core.specs.declared.facts.Why.TheVariants.{Cancelled, Expired}
 use Rattle.glare_core.specs.declared.facts.Fact.{Fact}
 use Rattle.glare_core.specs.declared.facts.Fact.TheVariants.{Ended, Confirmed}
 use Rattle.glare_core.specs.declared.facts.Held.{Held}
@@ -17,8 +16,7 @@ use Rattle.glare_core.proofs.Tails.{same_end}
 use Rattle.startup.specs.declared.attempt.Stage.{Stage}
 use Rattle.startup.specs.declared.attempt.Stage.TheVariants.{Hello, Keying}
 use Rattle.startup.specs.State.{AttemptState, Attempts, StartupState, IsSound, peer_of_attempt}
-use Rattle.startup.specs.Attempts.{lowest, has_number, has_tag, has_cookie, with_ledger, with_attempt, without_attempt, begun_attempt, after_begin, ended_attempt, after_end_of, after_cancel, after_confirm, session_in, after_end, answered, after_answer, after_rhello, is_cookie_of, again_signed, if_cookie, changed, recookied, after_change, after_cookie_change}
-use Rattle.startup.specs.Due.{is_due, is_over, repeated, after_due_of, after_due}
+use Rattle.startup.specs.Attempts.{lowest, has_cookie, with_ledger, with_attempt, without_attempt, begun_attempt, after_begin, ended_attempt, after_confirm, session_in, after_end, is_cookie_of, again_signed, if_cookie, changed}
 use Rattle.startup.specs.Keyings.{opening_id, without}
 use Rattle.startup.proofs.Stepping.{held_after, held_after_own, sound_after}
 

@@ -14,3 +14,4 @@ pub mod Chosen
 pub mod Standing
 pub mod Judged
 pub mod Finding
+pub mod Redirected

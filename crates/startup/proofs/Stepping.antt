@@ -1,17 +1,12 @@
 -- The attempts and the ledger name the same things after each step that starts no attempt.
-use Rattle.std.proofs.Common.{inl, inr, ℕ, List, ◌≡◌, ◌⊎◌, Bool, true, false, cond, ◌==◌, refl, sym, ap, subst, ◌∙◌, Option, Some, None, Result, Ok, Err}
+use Rattle.std.proofs.Common.{inl, inr, ℕ, List, ◌≡◌, ◌⊎◌, Bool, true, false, cond, ◌==◌, refl, sym, ap, subst, ◌∙◌, Option, Some, None}
 use Rattle.std.specs.Str.{bytes_eq}
 use Rattle.std.specs.Ordering.{nat_cmp, eq_by_cmp}
 use Rattle.std.specs.Cmp.{unsigned_tied}
 use Rattle.std.proofs.lemmas.Cmp.{nat_cmp_total}
 use Rattle.std.proofs.lemmas.Bool.{eq-eqb, eqb-true, cases_Bool}
 use Rattle.std.specs.FinMap.{get, remove, get-remove, get-empty, empty}
-use Rattle.sha2.specs.Sha256.{sha256}
 use Rattle.rtmfp_forms.specs.Address.{AddressParts}
-use Rattle.cookies.specs.declared.CookieTest.{CookieTest}
-use Rattle.cookies.specs.declared.CookieTest.TheVariants.{Bad, Moved, Expired, Current}
-use Rattle.cookies.specs.Cookie.{cookie_test}
-use Rattle.startup.specs.declared.cause.Cause.{Cause}
 use Rattle.startup.specs.declared.answer.Answer.{Answer}
 use Rattle.startup.specs.declared.answer.Keyed.TheVariants.{Birth as BirthKeyed}
 use Rattle.glare_core.specs.declared.facts.Why.{Why}
@@ -30,7 +25,7 @@ use Rattle.glare_core.specs.Calls.{where_true, is_born_of, again_of, heard, hear
 use Rattle.glare_core.proofs.Tails.{same_end}
 use Rattle.glare_core.proofs.Maps.{row_inserted}
 use Rattle.startup.specs.State.{AttemptState, Attempts, StartupState, IsSound, peer_of_attempt}
-use Rattle.startup.specs.Keyings.{again_or_birth, session_answer, born_session, InitiatorKeying, ResponderKeying, initiator_keying_in, keying_of, repeated_session, opening_id, without, after_again_or_birth, after_keyed_with, after_keyed_reading, after_keying, opened_with, after_opening}
+use Rattle.startup.specs.Keyings.{again_or_birth, session_answer, born_session, ResponderKeying, repeated_session, opening_id, without, after_again_or_birth, opened_with, after_opening}
 
 -- ---- the ledger
 

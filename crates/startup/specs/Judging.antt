@@ -14,7 +14,6 @@ use Rattle.startup.specs.declared.judging.Hearing.{Hearing}
 use Rattle.startup.specs.declared.judging.Hearing.TheVariants.{Change, Again, Birth}
 use Rattle.startup.specs.declared.leaving.Found.{Found}
 use Rattle.startup.specs.State.{AttemptState, StartupState}
-use Rattle.startup.specs.Attempts.{has_cookie}
 use Rattle.startup.specs.Keyings.{InitiatorKeying, keying_of, repeated_session, initiator_cause}
 
 -- what was found, where no cause stands

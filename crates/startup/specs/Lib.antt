@@ -6,6 +6,7 @@ pub mod Due
 pub mod Sought
 pub mod Keyings
 pub mod Read
+pub mod Redirects
 pub mod Judging
 pub mod Refusals
 pub mod Edges

@@ -2,15 +2,16 @@
 -- calls for these chunks answer, without making them.
 use Rattle.std.specs.Prelude.{ℕ, ◌-◌, ◌==◌, List, length, Option, Some, None, is_some, Result, Ok, Err, if◌then◌else◌}
 use Rattle.rtmfp_forms.specs.Address.{AddressParts}
-use Rattle.rtmfp_chunks.specs.declared.kinds.TheConstants.{RHELLO, COOKIE_CHANGE, IIKEYING, RIKEYING}
+use Rattle.rtmfp_chunks.specs.declared.kinds.TheConstants.{RHELLO, REDIRECT, COOKIE_CHANGE, IIKEYING, RIKEYING}
 use Rattle.rtmfp_chunks.specs.declared.reading.ChunkFault.{ChunkFault}
-use Rattle.rtmfp_chunks.specs.Chunk.{Chunk, RHello, CookieChange}
+use Rattle.rtmfp_chunks.specs.Chunk.{Chunk, RHello, Redirect, CookieChange}
 use Rattle.rtmfp_chunks.specs.FieldReading.{chunk_reading}
 use Rattle.identity.specs.Certificates.{certificate_fault}
 use Rattle.startup.specs.declared.cause.Cause.{Cause}
 use Rattle.startup.specs.declared.cause.Cause.TheVariants.{UnknownChunk, Malformed}
 use Rattle.startup.specs.State.{StartupState}
 use Rattle.startup.specs.Attempts.{rhello_cause, cookie_change_cause}
+use Rattle.startup.specs.Redirects.{redirect_cause}
 use Rattle.startup.specs.Keyings.{fault_cause, iikeying_cause, rikeying_cause}
 
 -- A responder's hello whose certificate has no form is malformed there; the certificate ends the
@@ -29,6 +30,15 @@ rhello_refusal_reading s payload (Err fault) = Some (fault_cause fault)
 unfoldable pub rhello_refusal : StartupState → List ℕ → Option Cause
 rhello_refusal s payload = rhello_refusal_reading s payload (chunk_reading RHELLO payload)
 
+abbrev pub redirect_refusal_reading : StartupState → AddressParts → Result Chunk ChunkFault →
+    Option Cause
+redirect_refusal_reading s from (Ok (Redirect tag list)) = redirect_cause s tag list from
+redirect_refusal_reading s from (Ok chunk) = Some (UnknownChunk REDIRECT)
+redirect_refusal_reading s from (Err fault) = Some (fault_cause fault)
+
+unfoldable pub redirect_refusal : StartupState → List ℕ → AddressParts → Option Cause
+redirect_refusal s payload from = redirect_refusal_reading s from (chunk_reading REDIRECT payload)
+
 abbrev pub cookie_change_refusal_reading : StartupState → ℕ → Result Chunk ChunkFault → Option Cause
 cookie_change_refusal_reading s sid (Ok (CookieChange old new)) = cookie_change_cause s sid old new
 cookie_change_refusal_reading s sid (Ok chunk) = Some (UnknownChunk COOKIE_CHANGE)
@@ -38,11 +48,13 @@ unfoldable pub cookie_change_refusal : StartupState → ℕ → List ℕ → Opt
 cookie_change_refusal s sid payload = cookie_change_refusal_reading s sid
     (chunk_reading COOKIE_CHANGE payload)
 
--- The cause with which a responder's hello, a change of a cookie or a keying would be discarded
--- that came under this session ID from this address at this moment. There is none for other types.
+-- The cause with which a responder's hello, a redirect, a change of a cookie or a keying would be
+-- discarded that came under this session ID from this address at this moment. There is none for
+-- other types.
 abbrev pub refusal : StartupState → ℕ → ℕ → List ℕ → AddressParts → ℕ → Option ℕ → Option Cause
 refusal s sid kind payload from now full =
     if kind == RHELLO then rhello_refusal s payload
+    else if kind == REDIRECT then redirect_refusal s payload from
     else if kind == COOKIE_CHANGE then cookie_change_refusal s sid payload
     else if kind == IIKEYING then iikeying_cause s payload from now full
     else if kind == RIKEYING then rikeying_cause s sid payload

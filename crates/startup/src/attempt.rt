@@ -111,9 +111,10 @@ impl Model for Attempt {
 }
 
 impl Attempt {
-    ghost use Rattle.std.specs.Prelude.{◌≡◌, ◌≤◌, length};
+    ghost use Rattle.std.specs.Prelude.{◌≡◌, ◌+◌, ◌≤◌, length};
     ghost use Rattle.startup.specs.Attempts.{answered, recookied};
     ghost use Rattle.startup.specs.Due.{repeated};
+    ghost use Rattle.startup.specs.Redirects.{extended};
 
     /// The responder answered from this address with this cookie.
     pub(crate) fn answer(&mut self, from: &Address, cookie: &[u8], moment: u64)
@@ -139,6 +140,26 @@ impl Attempt {
                 cookie: KeptCookie::of(new),
             };
         }
+        self.last = moment;
+    }
+
+    /// The candidate addresses.
+    pub(crate) fn addresses(&self) -> &[Address]
+        ensures candidates { result.now ≡ self.now.candidates }
+        ensures few { length self.now.candidates ≤ 16 }
+    {
+        &self.candidates[..self.count]
+    }
+
+    /// It has further candidates, which hellos went to.
+    pub(crate) fn extend(&mut self, new: &[Address], moment: u64)
+        requires { length self.old.candidates + length new.now ≤ 16 }
+        ensures { self.new ≡ extended self.old new.now moment }
+    {
+        let end = self.count + new.len();
+        let candidates = &mut self.candidates[..];
+        candidates[self.count..end].copy_from_slice(new);
+        self.count = end;
         self.last = moment;
     }
 

@@ -15,7 +15,7 @@ use crate::rows::{Sought, has_cookie, lowest};
 const WIDTH: usize = 128;
 
 /// A tag or a cookie of more than 128 bytes.
-pub(crate) fn wide(bytes: &[u8]) -> Option<Cause>
+pub fn wide(bytes: &[u8]) -> Option<Cause>
     ensures { result ≡ wide bytes.now }
 {
     if bytes.len() > WIDTH {

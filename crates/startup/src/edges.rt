@@ -15,7 +15,7 @@ ghost use Rattle.glare_core.specs.declared.facts.Joined.{Joined};
 ghost use Rattle.glare_core.specs.declared.facts.Why.TheVariants.{Expired as LastedTooLong};
 ghost use Rattle.startup.specs.declared.attempt.Stage.TheVariants.{Hello, Keying};
 ghost use Rattle.startup.specs.declared.cause.Cause.{Cause};
-ghost use Rattle.startup.specs.declared.cause.Cause.TheVariants.{BadCookie, BadSignature, Malformed, NoAttempt, OwnCertificate, SessionsFull as CauseFull, Wide, WrongPeer, WrongResponder, WrongState};
+ghost use Rattle.startup.specs.declared.cause.Cause.TheVariants.{BadCookie, BadSignature, CandidatesFull, Malformed, NoAttempt, OwnCertificate, SessionsFull as CauseFull, Wide, WrongPeer, WrongResponder, WrongState};
 ghost use Rattle.startup.specs.declared.answer.Due.TheVariants.{Ended as EndDue, Hello as HelloDue, Keying as KeyingDue};
 ghost use Rattle.startup.specs.State.{AttemptState, Attempts, StartupState};
 ghost use Rattle.startup.specs.Attempts.{after_answer, after_change, answered, begun_attempt, change_cause_among, changed, ended_attempt, has_tag, hello_cause, hello_cause_among, keying_signed, lowest, distinct_candidates, recookied, wide, with_attempt, without_attempt};
@@ -23,6 +23,7 @@ ghost use Rattle.startup.specs.Due.{after_due_of, due_of, gap_of, is_over, is_re
 ghost use Rattle.startup.specs.Keyings.{InitiatorKeying, ResponderKeying, attempt_cause, cert_offset, change_answer, cookie_cause, formed_initiator, formed_responder, heard_cause, initiator_cause, initiator_hello_answer, is_own, keying_of, named_cause, responder_cause, session_answer};
 ghost use Rattle.startup.specs.Refusals.{rhello_refusal_with};
 ghost use Rattle.startup.specs.Packets.{cookiechange_packet, ihello_packet, iikeying_signed, initiator_part, initiator_part_in, is_signed, responder_part, responder_part_in, rhello_packet, rikeying_packet};
+ghost use Rattle.startup.specs.Redirects.{after_extension, extended, full_cause, new_candidates, or_source, redirect_cause_among, redirect_cause_at, redirect_spread_of, told_addresses};
 ghost use Rattle.startup.specs.Edges.{v4, timed, in_hello, in_keying, AreTwo};
 
 /// What isn't answered is sent again after 1,000, 1,500, 2,250, 3,375 and 5,062 ms, and then after
@@ -123,6 +124,59 @@ pub fn a_change_of_a_cookie_counts_as_a_sending()
         is_repeat_due 5249 (recookied (in_keying at old (timed 0 1000 2 a)) new 3000) ≡ false }
     ensures again { (a : AttemptState) (at : AddressParts) (old new : List ℕ) →
         is_repeat_due 5250 (recookied (in_keying at old (timed 0 1000 2 a)) new 3000) ≡ true }
+{}
+
+/// A redirect adds those of its addresses that aren't candidates yet, each place once, in their
+/// order; one without addresses tells the address that it came from.
+#[tactic(auto, unfolding(rtmfp_chunks::specs::FieldReading::addresses_in, rtmfp_chunks::specs::FieldReading::first_addresses))]
+pub fn a_redirect_adds_new_places()
+    ensures new { new_candidates (v4 0 1 ∷ v4 0 2 ∷ [])
+        (v4 0 3 ∷ v4 2 1 ∷ v4 0 4 ∷ v4 1 3 ∷ [])
+        ≡ v4 0 3 ∷ v4 0 4 ∷ [] }
+    ensures known { new_candidates (v4 0 1 ∷ []) (v4 2 1 ∷ v4 0 1 ∷ []) ≡ [] }
+    ensures source { told_addresses [] (v4 2 9) ≡ v4 2 9 ∷ [] }
+    ensures told { or_source (v4 0 1 ∷ []) (v4 2 9) ≡ v4 0 1 ∷ [] }
+{}
+
+/// The hellos of a redirect go to its new candidates alone and count as a sending, and leave the gap
+/// as it was: only a repeat goes on to the next one. A redirect that adds nothing leaves all as it
+/// was.
+pub fn a_redirect_counts_as_a_sending()
+    ensures kept { (s : StartupState) (a : AttemptState) →
+        after_extension s (5, timed 0 1000 2 a) (v4 0 3 ∷ []) 3000
+        ≡ with_attempt s 5 (extended (timed 0 1000 2 a) (v4 0 3 ∷ []) 3000) }
+    ensures extended { (a : AttemptState) → extended (timed 0 1000 2 a) (v4 0 3 ∷ []) 3000
+        ≡ record (timed 0 3000 2 a) { candidates = a.candidates ++ v4 0 3 ∷ [] } }
+    ensures nothing { (s : StartupState) (a : AttemptState) → after_extension s (5, a) [] 3000
+        ≡ s }
+    ensures sent { (a : AttemptState) →
+        redirect_spread_of (Some (5, record a { candidates = v4 0 1 ∷ [] }))
+        (v4 0 2 ∷ v4 0 1 ∷ [])
+        ≡ Some (record { to = v4 0 2 ∷ []; plain = ihello_packet (1 ∷ a.peer) a.tag }) }
+    ensures before { (a : AttemptState) →
+        is_repeat_due 5249 (extended (timed 0 1000 2 a) (v4 0 3 ∷ []) 3000) ≡ false }
+    ensures again { (a : AttemptState) →
+        is_repeat_due 5250 (extended (timed 0 1000 2 a) (v4 0 3 ∷ []) 3000) ≡ true }
+{}
+
+/// An attempt has 16 candidates at most. One more is told with how many it has, after a wide tag, a
+/// tag that no attempt has, and the stage.
+pub fn an_attempt_has_at_most_16_candidates()
+    ensures most { full_cause (replicate 15 (v4 0 1)) (v4 0 2 ∷ []) ≡ None }
+    ensures more { full_cause (replicate 16 (v4 0 1)) (v4 0 2 ∷ []) ≡ Some (CandidatesFull 16) }
+    ensures added { full_cause (v4 0 1 ∷ []) (replicate 16 (v4 0 2)) ≡ Some (CandidatesFull 1) }
+    ensures nothing { full_cause (replicate 16 (v4 0 1)) [] ≡ None }
+    ensures wide { (all : Attempts) (addresses : List AddressParts) →
+        redirect_cause_among all (replicate 129 0) addresses ≡ Some (Wide 129) }
+    ensures none { (all : Attempts) (addresses : List AddressParts) → entries all ≡ [] →
+        redirect_cause_among all (replicate 128 0) addresses ≡ Some NoAttempt }
+    ensures stage { (a : AttemptState) (at : AddressParts) (cookie : List ℕ)
+        (addresses : List AddressParts) →
+        redirect_cause_at (Some (5, in_keying at cookie a)) addresses ≡ Some WrongState }
+    ensures full { (a : AttemptState) →
+        redirect_cause_at (Some (5, in_hello (record a { candidates = replicate 16 (v4 0 1) })))
+        (v4 0 2 ∷ [])
+        ≡ Some (CandidatesFull 16) }
 {}
 
 /// A change under an attempt's near id is of that attempt alone; one under 0 is of the attempt with

@@ -114,7 +114,7 @@ fn again_or_new(keying: Keying, repeated: Option<Joined>) -> Hearing
 }
 
 /// Whether hellos are sent.
-fn is_in_hello(stage: &Stage) -> bool
+pub(crate) fn is_in_hello(stage: &Stage) -> bool
     ensures { result ≡ is_in_hello stage.now }
 {
     match stage {

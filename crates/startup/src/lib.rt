@@ -19,6 +19,7 @@ mod looking;
 mod packets;
 mod parts;
 mod reading;
+mod redirecting;
 mod refusing;
 mod rows;
 mod sending;
@@ -26,8 +27,10 @@ mod startup;
 
 pub use answer::{Answer, Due, KeyRefusal, Keyed, Spread};
 pub use cause::Cause;
+pub use choosing::wide;
 pub use judging::Hearing;
 pub use leaving::Found;
 pub use parts::{InitiatorPart, ResponderPart};
 pub use reading::{InitiatorFields, ResponderFields, read_initiator_keying, read_responder_keying};
+pub use redirecting::redirect_answer;
 pub use startup::Startup;

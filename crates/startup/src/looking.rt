@@ -10,7 +10,6 @@ use crate::attempt::{Attempt, Row, Stage};
 use crate::leaving::index_of;
 use crate::rows::{Sought, is_over, lowest};
 use crate::startup::Startup;
-use rtmfp_forms::Address;
 
 impl Startup {
     /// How many attempts there are.
@@ -82,14 +81,7 @@ fn sends(attempt: &Attempt, moment: u64) -> usize
         return 0;
     }
     match &attempt.stage {
-        Stage::Hello => candidates(attempt).len(),
+        Stage::Hello => attempt.addresses().len(),
         Stage::Keying { .. } => 1,
     }
-}
-
-/// The candidate addresses of an attempt.
-fn candidates(attempt: &Attempt) -> &[Address]
-    ensures { result.now ≡ attempt.now.candidates }
-{
-    &attempt.candidates[..attempt.count]
 }

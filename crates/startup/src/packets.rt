@@ -1,16 +1,19 @@
 //! The plain packets of session startup: the flags, and one chunk (own profile over RFC 7016
 //! section 2.3).
 
-ghost use Rattle.std.specs.Prelude.{◌≡◌, ◌≤◌, ◌++◌, [], length};
+ghost use Rattle.std.specs.Prelude.{◌≡◌, ◌≤◌, ◌+◌, ◌++◌, ◌∷◌, [], length};
 ghost use Rattle.std.specs.Int.{w64, to_be_bytes};
+ghost use Rattle.rtmfp_forms.specs.Address.{AddressSpells, address_bytes};
 ghost use Rattle.rtmfp_forms.specs.Outgoing.{packet_limit};
 ghost use Rattle.rtmfp_chunks.specs.Chunk.{chunk_of, IIKeying, RIKeying};
+ghost use Rattle.rtmfp_chunks.specs.Fields.{AreAddresses};
 ghost use Rattle.rtmfp_chunks.specs.Writing.{IsWritable, payload_bytes};
 ghost use Rattle.startup.specs.Packets.{startup_packet, ihello_packet, rhello_packet, cookiechange_packet, initiator_part, responder_part, signature_by, iikeying_signed, rikeying_signed};
+ghost use Rattle.startup.specs.Redirects.{addresses_bytes, redirect_packet};
 
 use crypto_profile::hmac;
 use rtmfp_chunks::{ChunkView, write_chunk};
-use rtmfp_forms::Outgoing;
+use rtmfp_forms::{Address, Outgoing, write_address};
 
 /// The flags of startup mode, without stamps (RFC 7016 section 2.2.4).
 const STARTUP_FLAGS: u8 = 0x03;
@@ -50,6 +53,44 @@ pub(crate) fn rhello_packet(tag: &[u8], cookie: &[u8], cert: &[u8]) -> Outgoing
     ensures { result ≡ rhello_packet tag.now cookie.now cert.now }
 {
     packet_of(&ChunkView::RHello { tag, cookie, cert })
+}
+
+/// Puts an address at the end, for which there is room.
+fn put_address(address: &Address, list: &mut Outgoing)
+    requires { length list.old + 19 ≤ packet_limit }
+    ensures put { list.new ≡ list.old ++ address_bytes address.now }
+    ensures spells { AddressSpells address.now (address_bytes address.now) }
+    ensures short { length list.new ≤ length list.old + 19 }
+{
+    let mut spelling = [0; 19];
+    let len = write_address(address, &mut spelling);
+    list.append(&spelling[..len]);
+}
+
+/// Addresses one after another, as they are, behind a byte that isn't one of them.
+fn spelled(addresses: &[Address]) -> Outgoing
+    requires { length addresses.now ≤ 16 }
+    ensures bytes { result ≡ 0 ∷ addresses_bytes addresses.now }
+    ensures addresses { AreAddresses (addresses_bytes addresses.now) }
+    ensures short { length (addresses_bytes addresses.now) ≤ 304 }
+{
+    let mut list = Outgoing::new(0);
+    for address in addresses {
+        put_address(address, &mut list);
+    }
+    list
+}
+
+/// Further addresses of the end that was asked for (RFC 7016 section 2.3.5).
+#[tactic(auto, using(crate::proofs::Sizes::redirect_length), unfolding(crate::specs::Redirects::redirect_packet))]
+pub(crate) fn redirect_packet(tag: &[u8], addresses: &[Address]) -> Outgoing
+    requires tag { length tag.now ≤ 128 }
+    requires few { length addresses.now ≤ 16 }
+    ensures { result ≡ redirect_packet tag.now addresses.now }
+{
+    let list = spelled(addresses);
+    let (_, list) = list.bytes().split_at(1);
+    packet_of(&ChunkView::Redirect { tag, list })
 }
 
 /// A new cookie in place of one that isn't good any more (RFC 7016 section 2.3.6).

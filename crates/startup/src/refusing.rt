@@ -1,20 +1,21 @@
 //! Why a chunk would be discarded, without taking it.
 
 ghost use Rattle.std.specs.Prelude.{◌≡◌};
-ghost use Rattle.startup.specs.Refusals.{rhello_refusal_with, rhello_refusal, cookie_change_refusal, refusal};
+ghost use Rattle.startup.specs.Refusals.{rhello_refusal_with, rhello_refusal, cookie_change_refusal, redirect_refusal, refusal};
 ghost use Rattle.startup.specs.Attempts.{rhello_cause, cookie_change_cause};
+ghost use Rattle.startup.specs.Redirects.{redirect_cause};
 
 use crate::cause::Cause;
 use crate::choosing::{answered_index, changed_index};
 use crate::reading::fault_cause;
 use crate::startup::Startup;
 use identity::Certificate;
-use rtmfp_chunks::kinds::{COOKIE_CHANGE, IIKEYING, RHELLO, RIKEYING};
+use rtmfp_chunks::kinds::{COOKIE_CHANGE, IIKEYING, REDIRECT, RHELLO, RIKEYING};
 use rtmfp_chunks::{ChunkView, read_chunk};
 use rtmfp_forms::Address;
 
 impl Startup {
-    /// The cause with which `responder_hello`, `cookie_change`, `initiator_keying` or
+    /// The cause with which `responder_hello`, `redirect`, `cookie_change`, `initiator_keying` or
     /// `responder_keying` would refuse the chunk of this type and payload, which came under this
     /// session ID; `full` is the limit on sessions where there is no room for one more. None
     /// exactly where that call would give no cause, and for other types.
@@ -34,6 +35,7 @@ impl Startup {
     {
         match kind {
             RHELLO => self.rhello_refusal(payload),
+            REDIRECT => self.redirect_refusal(payload, from),
             COOKIE_CHANGE => self.cookie_change_refusal(sid, payload),
             IIKEYING => self.iikeying_cause(payload, from, moment, full),
             RIKEYING => self.rikeying_cause(sid, payload),
@@ -65,6 +67,28 @@ impl Startup {
                 Err(cause) => Some(cause),
             },
             Err(_) => Some(Cause::Malformed(payload.len().saturating_sub(cert.len()) as u64)),
+        }
+    }
+
+    /// Why a redirect would be discarded that came from an address.
+    #[tactic(auto, unfolding(crate::specs::Refusals::redirect_refusal))]
+    fn redirect_refusal(&self, payload: &[u8], from: &Address) -> Option<Cause>
+        ensures { result ≡ redirect_refusal self.now payload.now from.now }
+    {
+        match read_chunk(REDIRECT, payload) {
+            Ok(ChunkView::Redirect { tag, list }) => self.list_refusal(tag, list, from),
+            Ok(_) => Some(Cause::UnknownChunk(REDIRECT)),
+            Err(fault) => Some(fault_cause(fault)),
+        }
+    }
+
+    /// Why a redirect with this list would be discarded.
+    fn list_refusal(&self, tag: &[u8], list: &[u8], from: &Address) -> Option<Cause>
+        ensures { result ≡ redirect_cause self.now tag.now list.now from.now }
+    {
+        match self.judge_redirect(tag, list, from) {
+            Ok(_) => None,
+            Err(cause) => Some(cause),
         }
     }
 

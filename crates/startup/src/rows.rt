@@ -6,11 +6,11 @@ ghost use Rattle.rtmfp_base.specs.Rows.{IsBest};
 ghost use Rattle.startup.specs.Rows.{near_in, attempt_in, table_of};
 ghost use Rattle.startup.specs.Attempts.{has_cookie, answered, recookied};
 ghost use Rattle.startup.specs.Due.{gap_of, is_over, is_repeat_due, repeated};
+ghost use Rattle.startup.specs.Redirects.{extended};
 ghost use Rattle.startup.specs.Sought.{fits, IsLowest, IsChanged, IsGone};
 ghost use Rattle.std.specs.Prelude.{ℕ, List, [], ◌∷◌, ◌++◌, Some, slice_index_or, vec_len, vec_capacity};
 ghost use Rattle.glare_core.specs.declared.facts.Held.TheVariants.{Opening};
 ghost use Rattle.glare_core.specs.Ledger.{held_with, noted};
-ghost use Rattle.glare_core.specs.Calls.{MayEnd};
 ghost use Rattle.startup.specs.declared.attempt.Row.{Row};
 ghost use Rattle.startup.specs.Rows.{entry_of};
 ghost use Rattle.startup.specs.Attempts.{ended_attempt};
@@ -157,6 +157,17 @@ pub(crate) fn recookie_at(rows: &mut Vec<Row>, index: usize, new: &[u8], moment:
     rows[index].attempt.recookie(new, moment);
 }
 
+/// The attempt at this index has further candidates, which hellos went to.
+pub(crate) fn extend_at(rows: &mut Vec<Row>, index: usize, new: &[Address], moment: u64)
+    requires within { index < length rows.old.items }
+    requires distinct { len (table_of rows.old.items) ≡ length rows.old.items }
+    requires few { (d : Row) →
+        length (slice_index_or rows.old.items index d).attempt.candidates + length new.now ≤ 16 }
+    ensures { IsChanged rows.old.items index (λ a. extended a new.now moment) rows.new.items }
+{
+    rows[index].attempt.extend(new, moment);
+}
+
 /// What the attempt at this index sends is sent again.
 pub(crate) fn repeat_at(rows: &mut Vec<Row>, index: usize, moment: u64)
     requires within { index < length rows.old.items }
@@ -181,7 +192,6 @@ pub(crate) fn end_at(peers: &mut Peers, rows: &mut Vec<Row>, index: usize, why: 
     requires distinct { len (table_of rows.old.items) ≡ length rows.old.items }
     requires held { (d : Row) → let a = (slice_index_or rows.old.items index d) in
         held_with peers.old a.attempt.peer ≡ Some (Opening a.attempt.n a.near a.attempt.ni) }
-    requires why { (n near : ℕ) (ni : List ℕ) → MayEnd why (Opening n near ni) }
     ensures fact { (d : Row) →
         result ≡ ended_attempt (entry_of (slice_index_or rows.old.items index d)) why }
     ensures ledger { peers.new ≡ noted peers.old result }

@@ -1,11 +1,11 @@
 //! What an attempt sends.
 
-ghost use Rattle.std.specs.Prelude.{◌≡◌, ◌≤◌, length};
+ghost use Rattle.std.specs.Prelude.{◌≡◌, ◌≤◌, length, take};
 ghost use Rattle.startup.specs.Attempts.{keying_signed, again_signed, hello_spread};
 ghost use Rattle.startup.specs.Due.{repeat_signed};
 
 use crate::answer::{Answer, Due, Spread};
-use crate::attempt::{Attempt, Row, Stage};
+use crate::attempt::{Attempt, CANDIDATES, Row, Stage};
 use crate::packets::{ihello_packet, iikeying_packet};
 use identity::Certificate;
 use rtmfp_forms::Address;
@@ -13,17 +13,25 @@ use rtmfp_forms::Address;
 /// The first byte of a discriminator that names an end by its fingerprint.
 const BY_PRINT: u8 = 0x01;
 
-/// The hellos of an attempt, to all its candidates.
-pub(crate) fn hello_spread(attempt: &Attempt) -> Spread
-    ensures { result ≡ hello_spread attempt.now attempt.now.candidates }
+/// The hellos of an attempt, to the first `count` of these addresses.
+pub(crate) fn hello_to(attempt: &Attempt, to: &[Address; CANDIDATES], count: usize) -> Spread
+    requires { count ≤ 16 }
+    ensures { result ≡ hello_spread attempt.now (take count to.now) }
 {
     let mut epd = [BY_PRINT; 33];
     epd[1..].copy_from_slice(&attempt.peer);
     Spread {
-        to: attempt.candidates,
-        count: attempt.count,
+        to: *to,
+        count,
         plain: ihello_packet(&epd, &attempt.tag),
     }
+}
+
+/// The hellos of an attempt, to all its candidates.
+pub(crate) fn hello_spread(attempt: &Attempt) -> Spread
+    ensures { result ≡ hello_spread attempt.now attempt.now.candidates }
+{
+    hello_to(attempt, &attempt.candidates, attempt.count)
 }
 
 /// The keying of an attempt under the signature key, to an address with a cookie.

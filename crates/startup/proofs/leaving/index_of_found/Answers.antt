@@ -1,4 +1,4 @@
-use Rattle.std.proofs.Common.{◌≡◌, sym, ap, ◌∙◌, Some, None, is_some, true, false, refl}
+use Rattle.std.proofs.Common.{sym, ap, ◌∙◌}
 use Rattle.std.specs.FinMap.{get}
 use Rattle.std.proofs.lemmas.List.{get_or_default}
 use Rattle.startup.specs.Rows.{near_in, table_of}

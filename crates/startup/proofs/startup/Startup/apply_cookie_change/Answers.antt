@@ -1,4 +1,4 @@
-use Rattle.std.proofs.Common.{◌≡◌, ap, sym, subst, ◌∙◌, Some, None, List, refl}
+use Rattle.std.proofs.Common.{◌≡◌, ap, sym, subst, ◌∙◌, Some, List, refl}
 use Rattle.std.specs.FinMap.{get}
 use Rattle.startup.specs.declared.attempt.Row.{Row}
 use Rattle.startup.specs.State.{AttemptState, Attempts, StartupState}

@@ -2,7 +2,6 @@ use Rattle.std.proofs.Common.{◌≡◌, sym, ap, ◌∙◌, rules}
 use Rattle.cookies.specs.declared.CookieTest.TheVariants.{Current}
 use Rattle.cookies.specs.Cookie.{cookie_test}
 use Rattle.startup.specs.State.{StartupState}
-use Rattle.startup.specs.Packets.{is_signed}
 use Rattle.startup.specs.Keyings.{InitiatorKeying}
 use Rattle.startup.specs.Read.{initiator_of}
 use Rattle.startup.proofs.Judged.{current_judged}

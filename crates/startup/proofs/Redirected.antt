@@ -1,0 +1,59 @@
+-- Redirects: the addresses that join the candidates, and addresses that are spelled one after another.
+use Rattle.std.proofs.Common.{◌≡◌, ℕ, ◌≤◌, ◌<◌, Bool, true, false, if◌then◌else◌, List, [], ◌∷◌, ◌++◌, length, Some, None, refl, sym, ap, ◌∙◌, arith, append_assoc, append-nil, length-append}
+use Rattle.std.specs.List.{fold, list_any}
+use Rattle.rtmfp_forms.specs.Address.{AddressParts, AddressSpells, address_bytes, is_same_place}
+use Rattle.rtmfp_chunks.specs.Fields.{AddressesSpell, AreAddresses}
+use Rattle.startup.specs.State.{AttemptState, StartupState}
+use Rattle.startup.specs.Attempts.{has_tag, lowest, with_attempt}
+use Rattle.startup.specs.Redirects.{joined_beside, new_candidates, addresses_bytes, redirect_cause_among, redirect_spread_of, sent_by_spread, added, extended, after_extension, after_redirect_of}
+
+-- ---- new candidates
+
+one_or_none : (b c : Bool) (new : List AddressParts) (a : AddressParts) → length new ≤ length (if b then new else if c then new else new ++ a ∷ [])
+one_or_none true c new a = omega arith
+one_or_none false true new a = omega arith
+one_or_none false false new a = omega (arith, length-append new (a ∷ []))
+
+-- There are never fewer after some more addresses.
+pub beside_grows : (candidates new rest : List AddressParts) → length new ≤ length (fold (joined_beside candidates) new rest)
+beside_grows candidates new [] = omega arith
+beside_grows candidates new (a ∷ rest) =
+    omega (
+      arith,
+      one_or_none (list_any (is_same_place a) candidates) (list_any (is_same_place a) new) new a,
+      beside_grows candidates (joined_beside candidates new a) rest,
+    )
+
+extension_is : (s : StartupState) (e : ℕ × AttemptState) (new : List AddressParts) (moment : ℕ) → 0 < length new → with_attempt s e.0 (extended e.1 new moment) ≡ after_extension s e new moment
+extension_is s e [] moment some = absurd (omega (arith, some))
+extension_is s e (first ∷ others) moment some = refl
+
+-- ---- what a redirect does to the attempt that it is for
+module _ (s : StartupState) (e : ℕ × AttemptState) (tag : List ℕ) (told new : List AddressParts) (chosen : lowest (has_tag tag) s.attempts ≡ Some e) (is : new ≡ new_candidates e.1.candidates told) where
+  -- how many hellos it sends
+  pub count_is : redirect_cause_among s.attempts tag told ≡ None → length new ≡ added (redirect_cause_among s.attempts tag told) (redirect_spread_of (lowest (has_tag tag) s.attempts) told)
+  count_is none =
+      ap length is ∙ sym (ap (λ o. added o (redirect_spread_of (lowest (has_tag tag) s.attempts) told)) none ∙ ap (λ o. sent_by_spread (redirect_spread_of o told)) chosen)
+
+  -- what it leaves, where there is a new candidate
+  pub left_is : (moment : ℕ) → 0 < length new → with_attempt s e.0 (extended e.1 new moment) ≡ after_redirect_of s (lowest (has_tag tag) s.attempts) told moment
+  left_is moment some = extension_is s e new moment some ∙ ap (λ l. after_extension s e l moment) is ∙ sym (ap (λ o. after_redirect_of s o told moment) chosen)
+
+-- ---- addresses that are spelled
+
+spelled_end : (addresses : List AddressParts) (b : List ℕ) (a : AddressParts) (front : List ℕ) → AddressesSpell addresses b → AddressSpells a front → AddressesSpell (addresses ++ a ∷ []) (b ++ front)
+spelled_end [] b a front is one = (front, [], ap (λ (x : List ℕ). x ++ front) is ∙ sym (append-nil front), one, refl)
+spelled_end (x ∷ addresses) b a front is one =
+    (is.0, is.1 ++ front, ap (λ (y : List ℕ). y ++ front) is.2 ∙ append_assoc is.0 is.1 front, is.3, spelled_end addresses is.1 a front is.4 one)
+
+-- one more address
+pub are_more : (b : List ℕ) (a : AddressParts) (front : List ℕ) → AreAddresses b → AddressSpells a front → AreAddresses (b ++ front)
+are_more b a front are one = (are.0 ++ a ∷ [], spelled_end are.0 b a front are.1 one)
+
+put_last : (done : List AddressParts) (a : AddressParts) (bytes : List ℕ) →
+    fold (λ all address. all ++ address_bytes address) bytes (done ++ a ∷ []) ≡ fold (λ all address. all ++ address_bytes address) bytes done ++ address_bytes a
+put_last [] a bytes = refl
+put_last (x ∷ done) a bytes = put_last done a (bytes ++ address_bytes x)
+
+pub bytes_more : (done : List AddressParts) (a : AddressParts) → addresses_bytes (done ++ a ∷ []) ≡ addresses_bytes done ++ address_bytes a
+bytes_more done a = put_last done a []
