@@ -11,7 +11,7 @@ ghost use Rattle.rtmfp_chunks.specs.Writing.{IsWritable, payload_bytes};
 ghost use Rattle.startup.specs.Packets.{startup_packet, ihello_packet, rhello_packet, cookiechange_packet, initiator_part, responder_part, signature_by, iikeying_signed, rikeying_signed};
 ghost use Rattle.startup.specs.Redirects.{addresses_bytes, redirect_packet};
 
-use crypto_profile::hmac;
+use crypto_profile::HmacKey;
 use rtmfp_chunks::{ChunkView, write_chunk};
 use rtmfp_forms::{Address, Outgoing, write_address};
 
@@ -106,7 +106,7 @@ pub(crate) fn cookiechange_packet(old: &[u8], new: &[u8]) -> Outgoing
 /// The initiator's keying (RFC 7016 section 2.3.7), signed under the signature key.
 #[tactic(auto, unfolding(crate::specs::Packets::iikeying_signed))]
 pub(crate) fn iikeying_packet(
-    key: &[u8; 32],
+    key: &HmacKey,
     near: u32,
     cookie: &[u8],
     cert: &[u8],
@@ -132,7 +132,7 @@ pub(crate) fn iikeying_packet(
 /// The signature of an initiator's keying with these fields.
 
 fn iikeying_signature(
-    key: &[u8; 32],
+    key: &HmacKey,
     near: u32,
     cookie: &[u8],
     cert: &[u8],
@@ -150,7 +150,7 @@ fn iikeying_signature(
         part,
         sign: &[],
     });
-    hmac(key, &unsigned.bytes()[HEAD_LEN..])
+    key.hmac(&unsigned.bytes()[HEAD_LEN..])
 }
 
 /// The part of an initiator.
@@ -169,7 +169,7 @@ fn initiator_part(ni: &[u8; 16], n: u64, responder: &[u8; 32]) -> [u8; 56]
 /// The responder's keying (RFC 7016 section 2.3.8), signed under the signature key.
 #[tactic(auto, unfolding(crate::specs::Packets::rikeying_signed))]
 pub(crate) fn rikeying_packet(
-    key: &[u8; 32],
+    key: &HmacKey,
     near: u32,
     nr: &[u8; 16],
     k: u64,
@@ -189,7 +189,7 @@ pub(crate) fn rikeying_packet(
 
 /// The signature of a responder's keying with these fields.
 
-fn rikeying_signature(key: &[u8; 32], near: u32, part: &[u8; 72]) -> [u8; 32]
+fn rikeying_signature(key: &HmacKey, near: u32, part: &[u8; 72]) -> [u8; 32]
     ensures { result ≡ signature_by key.now (payload_bytes (RIKeying near part.now [])) }
 {
     let unsigned = packet_of(&ChunkView::RIKeying {
@@ -197,7 +197,7 @@ fn rikeying_signature(key: &[u8; 32], near: u32, part: &[u8; 72]) -> [u8; 32]
         part,
         sign: &[],
     });
-    hmac(key, &unsigned.bytes()[HEAD_LEN..])
+    key.hmac(&unsigned.bytes()[HEAD_LEN..])
 }
 
 /// The part of a responder.

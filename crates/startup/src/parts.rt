@@ -4,7 +4,7 @@
 ghost use Rattle.std.specs.Prelude.{◌≡◌, ◌≤◌, IfSome, length};
 ghost use Rattle.startup.specs.Packets.{initiator_part, responder_part, initiator_part_in, responder_part_in, is_signed_by};
 
-use crypto_profile::{hmac, same_bytes};
+use crypto_profile::{HmacKey, same_bytes};
 
 /// What the part of an initiator says.
 #[derive(Clone, Copy, Debug, PartialEq, Eq)]
@@ -82,9 +82,9 @@ pub(crate) fn read_responder_part(bytes: &[u8]) -> Option<ResponderPart>
 /// Whether the signature that a payload ends with is right under the signature key. It is compared
 /// in constant time.
 #[tactic(auto, unfolding(crate::specs::Packets::is_signed_by))]
-pub(crate) fn is_signed(key: &[u8; 32], payload: &[u8], sign: &[u8]) -> bool
+pub(crate) fn is_signed(key: &HmacKey, payload: &[u8], sign: &[u8]) -> bool
     ensures { result ≡ is_signed_by key.now payload.now sign.now }
 {
     let before = payload.len().saturating_sub(sign.len());
-    same_bytes(&hmac(key, &payload[..before]), sign)
+    same_bytes(&key.hmac(&payload[..before]), sign)
 }

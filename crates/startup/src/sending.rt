@@ -7,6 +7,7 @@ ghost use Rattle.startup.specs.Due.{repeat_signed};
 use crate::answer::{Answer, Due, Spread};
 use crate::attempt::{Attempt, CANDIDATES, Row, Stage};
 use crate::packets::{ihello_packet, iikeying_packet};
+use crypto_profile::HmacKey;
 use identity::Certificate;
 use rtmfp_forms::Address;
 
@@ -37,7 +38,7 @@ pub(crate) fn hello_spread(attempt: &Attempt) -> Spread
 /// The keying of an attempt under the signature key, to an address with a cookie.
 pub(crate) fn keying_answer(
     row: &Row,
-    key: &[u8; 32],
+    key: &HmacKey,
     cert: &Certificate,
     to: &Address,
     cookie: &[u8],
@@ -66,7 +67,7 @@ pub(crate) fn keying_answer(
 /// stage.
 pub(crate) fn keying_again(
     row: &Row,
-    key: &[u8; 32],
+    key: &HmacKey,
     cert: &Certificate,
     cookie: &[u8],
 ) -> Option<Answer>
@@ -82,7 +83,7 @@ pub(crate) fn keying_again(
 }
 
 /// What an attempt sends again.
-pub(crate) fn repeat_of(row: &Row, key: &[u8; 32], cert: &Certificate) -> Due
+pub(crate) fn repeat_of(row: &Row, key: &HmacKey, cert: &Certificate) -> Due
     ensures { result ≡ repeat_signed key.now cert.now row.now.near row.now.attempt
         row.now.attempt.stage }
 {

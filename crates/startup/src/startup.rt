@@ -2,7 +2,7 @@
 
 use crate::attempt::Row;
 use cookies::CookieMaker;
-use crypto_profile::sign_key;
+use crypto_profile::{HmacKey, sign_key};
 use glare_core::Peers;
 use identity::Certificate;
 use std::alloc::Global;
@@ -19,8 +19,8 @@ pub struct Startup {
     /// The fingerprint of the certificate.
     pub(crate) print: [u8; 32],
     pub(crate) secret: [u8; 32],
-    /// The key that signs keyings.
-    pub(crate) sign: [u8; 32],
+    /// The key that signs keyings, hashed once.
+    pub(crate) sign: HmacKey,
     pub(crate) cookies: CookieMaker,
     pub(crate) peers: Peers,
     /// The attempts, in any order.
@@ -63,7 +63,7 @@ impl Startup {
             cert,
             print,
             secret,
-            sign: sign_key(&secret),
+            sign: HmacKey::of(&sign_key(&secret)),
             cookies: CookieMaker::new(cookie_secret),
             peers: Peers::new(alloc, print, max_peers, 0),
             attempts: Vec::new(alloc),
