@@ -43,17 +43,16 @@ impl Endpoint {
         ensures stands { Extends self.old self.new
             (tick_event moment draws.now result out.old.entries out.new.entries) }
     {
-        self.do_due(moment, out)
+        self.advance(moment);
+        self.do_due(out)
     }
 
-    /// Does all that is due at a moment.
-    fn do_due(&mut self, moment: u64, out: &mut Outbox) -> Result<(), Memory>
-        ensures some { (count : ℕ) ×
-            Done (ticks count (at_moment self.old moment)) self.new out.old out.new }
+    /// Does all that is due at the moment that is kept.
+    fn do_due(&mut self, out: &mut Outbox) -> Result<(), Memory>
+        ensures some { (count : ℕ) × Done (ticks count self.old) self.new out.old out.new }
         ensures all { OnOk result (first_due self.new ≡ None) }
         ensures left { OnErr result (IsSome (first_due self.new)) }
     {
-        self.advance(moment);
         // Each attempt and each session is due once at a moment, so this ends.
         while let Some(item) = self.first_due() {
             match self.do_item(item, out) {

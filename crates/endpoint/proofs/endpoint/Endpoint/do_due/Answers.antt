@@ -1,5 +1,4 @@
 use Rattle.std.proofs.Common.{rules, sym}
-use Rattle.endpoint_model.specs.State.{at_moment}
 use Rattle.endpoint.proofs.Begun.{one_done}
 use Rattle.endpoint.proofs.DueItems.{none_first, still_first}
 use Rattle.endpoint.proofs.Falling.{tick_falls}
@@ -13,7 +12,7 @@ loop-item-smaller c = tick_falls c.loop-item.self c.do_item.new.self c.in-Some.i
 
 pub loop-item-preserved : goal.loop-item-preserved
 loop-item-preserved c =
-    one_done (at_moment c.args.self.now c.args.moment) c.loop-item.self c.do_item.new.self c.args.out.now c.loop-item.out c.do_item.new.out c.loop-item.invariant c.in-Ok.ensures.ok
+    one_done c.args.self.now c.loop-item.self c.do_item.new.self c.args.out.now c.loop-item.out c.do_item.new.out c.loop-item.invariant c.in-Ok.ensures.ok
 
 pub returns-clause-all : goal.returns-clause-all
 returns-clause-all c = none_first c.loop-item.self (sym c.in_default.ensures)
