@@ -38,7 +38,8 @@ pub record CancelsRefused (setup : Setup) (moment : ℕ) (c : Call) (draws : Dra
       : IsRefused setup
       (after_start 0 c peer (doing moment (Tick draws) (says (Ended peer 5 Cancelled))))
   pub in_close : (id : ℕ) →
-      IsRefused setup (after_start 0 c peer (doing moment (Close id) (says (Ended peer 5 Cancelled))))
+      IsRefused setup
+      (after_start 0 c peer (doing moment (Close id) (says (Ended peer 5 Cancelled))))
   pub of_another : (m : ℕ) → m ≢ 1 →
       IsRefused setup
       (after_start 0 c peer (doing moment (Cancel m) (says (Ended peer 5 Cancelled))))
@@ -86,8 +87,8 @@ pub record ExpiriesRefused (setup : Setup) (c : Call) (draws : Draws) (peer : Li
       IsRefused setup
       (after_birth c j (doing moment (Tick draws) (says (Ended j.peer j.near Expired))))
   -- one at 95,000 ms after the start meets the line
-  pub in_time : EndedLine setup 95000 (Tick draws) (stamped 0 (FactEntry (Started peer 1 5 peer)) ∷ []) []
-      peer 5 Expired
+  pub in_time : EndedLine setup 95000 (Tick draws)
+      (stamped 0 (FactEntry (Started peer 1 5 peer)) ∷ []) [] peer 5 Expired
 
 -- Of an attempt or a session that makes way for a Born of its peer: what follows it isn't that
 -- Born.

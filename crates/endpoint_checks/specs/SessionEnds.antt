@@ -131,7 +131,8 @@ pub record IdlesRefused (setup : Setup) (moment : ℕ) (c d : Call) (from : Addr
   -- at 0
   pub early : IsRefused setup (after_confirmed 0 c d j (doing 119999 (Tick draws) (ends j Idle) ∷ []))
   pub early_later
-      : IsRefused setup (after_confirmed 7 c d j (doing 120006 (Tick draws) (ends j Idle) ∷ []))
+      : IsRefused setup
+      (after_confirmed 7 c d j (doing 120006 (Tick draws) (ends j Idle) ∷ []))
   pub early_opened
       : IsRefused setup (after_opened 7 c d j (doing 120006 (Tick draws) (ends j Idle)))
   -- and 119,999 ms after it took a datagram
