@@ -10,3 +10,4 @@ pub mod Spelling
 pub mod Reader
 pub mod Writing
 pub mod AckedLeft
+pub mod FlowOptions

@@ -5,6 +5,7 @@
 mod acked;
 mod cursor;
 mod fields;
+mod flow_options;
 pub mod kinds;
 mod reading;
 mod user_data;
@@ -13,6 +14,7 @@ mod writing;
 
 pub use acked::AckedSpans;
 pub use cursor::DataCursor;
+pub use flow_options::{all_known, flow_named, metadata_in, spell_flow_options};
 pub use user_data::{Part, UserData};
 pub use view::{DataFault, DataView};
 pub use writing::write_data;

@@ -7,6 +7,8 @@
 #[cfg(test)]
 mod chunks;
 #[cfg(test)]
+mod flow_options;
+#[cfg(test)]
 mod forms;
 #[cfg(test)]
 mod numbers;

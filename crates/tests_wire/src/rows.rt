@@ -1,6 +1,7 @@
 //! The rows: a word for what is done, what is given, ` = `, and what comes of it.
 
 use crate::chunks::{chunk_written, data_written};
+use crate::flow_options::{flow_options_written, known_said, metadata_said};
 use crate::forms::{address_said, address_written, options_said, options_written, whether_same};
 use crate::numbers::{number_said, number_written};
 use std::alloc::{AllocError, Global};
@@ -86,6 +87,36 @@ data 5e 80028007ff = 5e00020207
 data 5e 0207 = 5e00020207
 ";
 
+/// Options, and the metadata that they have. How many flows there are, options, and whether these
+/// name no other flow. Metadata and an answered flow, and the options of a flow that has them.
+const FLOW_OPTIONS: &str = "metadata 02006100 = 61
+metadata 02006102006200 = 61
+metadata 020a0502006100 = 61
+metadata 010000 = -
+metadata 03800061020a0500 = 61
+metadata 020161020a0000 = none
+metadata 00 = none
+known 6 020a0500 = true
+known 5 020a0500 = false
+known 6 030a800500 = true
+known 7 030a050600 = false
+known 9 010a00 = false
+known 9 020a8500 = false
+known 2 020a00020a0100 = true
+known 2 020a01020a0200 = false
+known 2 020a02020a0100 = false
+known 0 02006102090700 = true
+known 128 030a810000 = false
+known 129 030a810000 = true
+known 6 03800a0500 = true
+known 5 03800a0500 = false
+known 9 04800a050500 = false
+flow-options 61 none = 02006100
+flow-options 61 5 = 020061020a0500
+flow-options - 128 = 0100030a810000
+flow-options 6d6574 18446744073709551615 = 04006d65740b0a81ffffffffffffffff7f00
+";
+
 /// What is given, and what comes of it.
 fn sides(row: &str) -> (&str, &str) {
     row.split_once(" = ").unwrap_or(("", ""))
@@ -125,6 +156,9 @@ fn told(alloc: Global, given: &str) -> Result<String, Fail> {
         "same" => whether_same(alloc, given),
         "chunk" => chunk_written(alloc, given),
         "data" => data_written(alloc, given),
+        "metadata" => metadata_said(alloc, given),
+        "known" => known_said(alloc, given),
+        "flow-options" => flow_options_written(alloc, given),
         _ => Err(Fail::from("an unknown word")),
     }
 }
@@ -142,7 +176,7 @@ fn first_wrong(alloc: Global, table: &'static str) -> Result<Option<&'static str
 
 #[test]
 fn rows_are_so(rt: HostRuntime) -> Result<(), Fail> {
-    for table in [NUMBERS, FORMS, CHUNKS] {
+    for table in [NUMBERS, FORMS, CHUNKS, FLOW_OPTIONS] {
         assert_eq!(rt; first_wrong(rt.alloc(), table)?, None);
     }
     Ok(())
