@@ -10,3 +10,5 @@ pub mod Respelling
 pub mod SpanLaws
 pub mod PairsTold
 pub mod Ahead
+pub mod Keys
+pub mod Filtering
