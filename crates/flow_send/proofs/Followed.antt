@@ -1,12 +1,12 @@
 -- What each call keeps of the sendings in their order.
-use Rattle.std.proofs.Common.{◌≡◌, ◌⊎◌, ℕ, zero, suc, ◌+◌, ◌<◌, ◌==◌, cond, map, Bool, true, false, List, [], ◌∷◌, ◌++◌, length, drop, refl, sym, ◌∙◌, subst, inl, inr}
+use Rattle.std.proofs.Common.{◌≡◌, ℕ, zero, suc, ◌+◌, ◌<◌, ◌==◌, cond, map, Bool, true, false, List, [], ◌∷◌, ◌++◌, length, drop, refl, sym, ◌∙◌, subst, inl, inr}
 use Rattle.std.specs.Prelude.{slice_set}
 use Rattle.std.proofs.lemmas.Bool.{eqb-true}
 use Rattle.rtmfp_data_chunks.specs.Fragments.{Message}
 use Rattle.flow_send.specs.declared.state.State.TheVariants.{Lost, Acknowledged, Abandoned}
 use Rattle.flow_send.specs.declared.waiting.Waiting.{Waiting}
 use Rattle.flow_send.specs.Rows.{Row, row_at, end_row, is_acknowledged, let_go, map_rows, settled_front}
-use Rattle.flow_send.specs.Sender.{rows_of, has_number, give_up, is_late, lost_if_late}
+use Rattle.flow_send.specs.Sender.{rows_of, has_number, give_up}
 use Rattle.flow_send.specs.Choice.{sent_row, put_at}
 use Rattle.flow_send.specs.Acks.{Told, tells, acknowledge, count_ack}
 use Rattle.flow_send.specs.Ordered.{Ordered, AllThere, Follows, IsAdded}

@@ -20,5 +20,6 @@ pub mod Orders
 pub mod Followed
 pub mod Passing
 pub mod Walking
+pub mod Foremost
 pub mod Lowest
 pub mod Losing

@@ -1,13 +1,13 @@
 -- Numbers that are lost by time, from the oldest sending on.
-use Rattle.std.proofs.Common.{◌≡◌, ℕ, zero, suc, ◌+◌, ◌-◌, ◌<◌, ◌≤◌, ◌==◌, nat_le, cond, map, Bool, true, false, ◌&&◌, ◌||◌, List, [], ◌∷◌, length, drop, slice_get, Some, None, refl, ap, sym, ◌∙◌, subst, arith, inl, inr, eq-eqb}
+use Rattle.std.proofs.Common.{◌≡◌, ℕ, zero, suc, ◌+◌, ◌<◌, ◌≤◌, ◌==◌, nat_le, cond, map, Bool, true, false, ◌&&◌, ◌||◌, List, [], ◌∷◌, length, drop, slice_get, Some, None, refl, ap, sym, ◌∙◌, subst, arith, inl, inr, eq-eqb}
 use Rattle.std.specs.List.{list_any}
-use Rattle.std.proofs.lemmas.Bool.{cases_Bool, ne_eqb, eqb-true, lt-leb, le-leb}
+use Rattle.std.proofs.lemmas.Bool.{ne_eqb, lt-leb, le-leb}
 use Rattle.rtmfp_data_chunks.specs.HandsOver.{IsIn}
 use Rattle.flow_send.specs.declared.state.State.TheVariants.{Lost}
 use Rattle.flow_send.specs.Rows.{Row, row_at, is_flying, map_rows, any_row, between, any_between}
 use Rattle.flow_send.specs.Sender.{is_late, lost_if_late}
 use Rattle.flow_send.specs.Ordered.{AllThere, AllOther, NonFalling, IsComplete, lose_one, is_late_one}
-use Rattle.flow_send.proofs.Orders.{KeepsFlight, map_none, set_numbered, there_map, still_there}
+use Rattle.flow_send.proofs.Orders.{KeepsFlight, set_numbered, there_map, still_there}
 use Rattle.flow_send.proofs.Followed.{late_if}
 
 -- ---- one row

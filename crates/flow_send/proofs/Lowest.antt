@@ -1,9 +1,9 @@
 -- Blocks of numbers in which no message is overdue.
-use Rattle.std.proofs.Common.{◌≡◌, ◌≢◌, ◌⊎◌, ℕ, zero, suc, ◌+◌, ◌-◌, ◌*◌, ◌/◌, ◌%◌, ◌^◌, ◌<◌, ◌≤◌, ◌==◌, nat_le, nat_lt, cond, Bool, true, false, ◌&&◌, List, [], ◌∷◌, ◌++◌, length, get_or, replicate, Option, Some, None, refl, ap, sym, ◌∙◌, subst, arith, inl, inr}
+use Rattle.std.proofs.Common.{◌≡◌, ◌≢◌, ◌⊎◌, ℕ, zero, suc, ◌+◌, ◌-◌, ◌*◌, ◌/◌, ◌%◌, ◌^◌, ◌<◌, ◌≤◌, ◌==◌, cond, Bool, true, false, ◌&&◌, List, [], ◌∷◌, ◌++◌, length, get_or, replicate, Option, Some, None, refl, ap, sym, ◌∙◌, subst, arith, inl, inr}
 use Rattle.std.specs.Prelude.{IfSome}
 use Rattle.std.specs.List.{sum_by}
 use Rattle.std.specs.Option.{is_some, unwrap_or, IsSomeAnd}
-use Rattle.std.proofs.lemmas.Bool.{cases_Bool, cases_lt, cases_eq, eqb-true, eq-eqb, le-leb, lt-leb}
+use Rattle.std.proofs.lemmas.Bool.{cases_Bool, cases_lt, cases_eq, eqb-true, eq-eqb, lt-leb}
 use Rattle.rtmfp_data_chunks.specs.HandsOver.{IsIn}
 use Rattle.flow_send.specs.declared.waiting.Waiting.{Waiting}
 use Rattle.flow_send.specs.Rows.{Row, lost_of}
@@ -156,12 +156,6 @@ walk_on P block f ws next h g here before = λ w i e n. elim (cases_lt f w.numbe
     | inr ge ↦ here w (ap (λ m. message_at m ws) (let q : f ≡ w.number = omega (arith, le, ge) in q) ∙ in_at 0 ws w h i) e
   ]
 ]
-
-pub walk_past : (P : Waiting → Type 0) (block f : ℕ) (ws : List Waiting) → block < block_of f → Walked P block ws (Some f) → (w : Waiting) → IsIn w ws → block_of w.number ≡ block → P w
-walk_past P block f ws lt h w i e = h w i e (lt-leb f w.number (omega (arith, lt, e)))
-
-pub walk_out : (P : Waiting → Type 0) (block : ℕ) (ws : List Waiting) (next : Option ℕ) → next ≡ None → Walked P block ws next → (w : Waiting) → IsIn w ws → block_of w.number ≡ block → P w
-walk_out P block ws next e h = λ w i b. subst (λ o. is_left o w ≡ false → P w) e (h w i b) refl
 
 both_true : (a b : Bool) → (a && b) ≡ true → (a ≡ true) × (b ≡ true)
 both_true true b e = (refl, e)

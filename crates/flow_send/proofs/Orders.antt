@@ -10,7 +10,7 @@ use Rattle.flow_send.specs.declared.state.State.{State}
 use Rattle.flow_send.specs.declared.state.State.TheVariants.{Unsent, Flying, Lost, Acknowledged, Abandoned}
 use Rattle.flow_send.specs.Rows.{Row, row_at, is_flying, is_lost, lost_of, map_rows, between, any_between}
 use Rattle.flow_send.specs.Acks.{is_third, count_ack}
-use Rattle.flow_send.specs.Ordered.{Ordered, Rising, NonFalling, EndsBy, EndsBefore, IsComplete, AllThere, AllOther, Follows, IsAdded, count_sent, count_one, count_before}
+use Rattle.flow_send.specs.Ordered.{Ordered, Rising, NonFalling, EndsBy, EndsBefore, AllThere, AllOther, Follows, IsAdded, count_sent, count_one, count_before}
 use Rattle.flow_send.proofs.Sendings.{third_flies}
 use Rattle.flow_send.proofs.Numbered.{Stands_between, map_between}
 

@@ -1,5 +1,5 @@
 -- Where no message can be overdue.
-use Rattle.std.proofs.Common.{◌≡◌, ◌⊎◌, ℕ, zero, suc, cond, ◌+◌, ◌<◌, ◌≤◌, nat_le, ◌==◌, Bool, true, false, ◌&&◌, ◌||◌, List, [], ◌∷◌, ◌++◌, length, get_or, take, drop, Option, Some, None, refl, ap, sym, ◌∙◌, subst, arith, inl, inr}
+use Rattle.std.proofs.Common.{◌≡◌, ◌⊎◌, ℕ, cond, ◌+◌, ◌≤◌, nat_le, ◌==◌, Bool, true, false, ◌&&◌, ◌||◌, List, [], ◌∷◌, ◌++◌, Option, Some, None, refl, ap, sym, ◌∙◌, subst, arith, inl, inr}
 use Rattle.std.specs.List.{sum_by}
 use Rattle.std.specs.Map.{values_of}
 use Rattle.flow_send.specs.Steady.{Line}
@@ -9,6 +9,7 @@ use Rattle.flow_send.specs.declared.waiting.Waiting.{Waiting}
 use Rattle.flow_send.specs.Rows.{Row, any_row, lost_of, is_lost}
 use Rattle.flow_send.specs.Sender.{without_message, has_number, is_past, is_spent, is_spent_row, is_overdue, first_overdue}
 use Rattle.flow_send.specs.Deadlines.{IsNotBefore, NoneBefore, NoneLimited, Reach}
+use Rattle.flow_send.proofs.Keeping.{line_lower, line_order}
 use Rattle.flow_send.proofs.Summing.{zero_if}
 
 pub not_past : (deadline : Option ℕ) (soonest moment : ℕ) → IsNotBefore soonest deadline → moment ≤ soonest → is_past deadline moment ≡ false
@@ -114,15 +115,7 @@ pub look_found : (moment n : ℕ) (rows : List Row) (it later : List (ℕ × Wai
     → first_overdue moment n rows (values_of it) ≡ Some w.number
 look_found moment n rows it later k w e f = ap (λ (es : List (ℕ × Waiting)). first_overdue moment n rows (values_of es)) e ∙ find_if (is_overdue moment n rows w) w.number (first_overdue moment n rows (values_of later)) f
 
-low_line : (low high : ℕ) (ws : List Waiting) → Line low high ws → Line 0 high ws
-low_line low high [] h = omega arith
-low_line low high (w ∷ later) h = (omega arith, h.1, h.2)
-
-ends_in : (low high : ℕ) (ws : List Waiting) → Line low high ws → low ≤ high
-ends_in low high [] h = h
-ends_in low high (w ∷ later) h = omega (arith, h.0, ends_in (w.number + w.count) high later h.2)
-
 pub look_line : (high : ℕ) (it later : List (ℕ × Waiting)) (k : ℕ) (w : Waiting) → it ≡ (k, w) ∷ later → Line 0 high (values_of it) → (w.number + w.count ≤ high) × Line 0 high (values_of later)
 look_line high it later k w e h =
     let g = subst (λ (es : List (ℕ × Waiting)). Line 0 high (values_of es)) e h in
-    (ends_in (w.number + w.count) high (values_of later) g.2, low_line (w.number + w.count) high (values_of later) g.2)
+    (line_order (w.number + w.count) high (values_of later) g.2, line_lower 0 (w.number + w.count) high (values_of later) (omega arith) g.2)

@@ -15,7 +15,7 @@ use Rattle.flow_send.specs.Steady.{AllOk, AllWait, Steady}
 use Rattle.flow_send.proofs.Between.{between_none, most_none}
 use Rattle.flow_send.proofs.Numbered.{map_between, most_row_between, span_between, map_is}
 use Rattle.flow_send.proofs.Keeping.{waits_map}
-use Rattle.flow_send.proofs.Steadies.{count_settled, told_below, acked_ok}
+use Rattle.flow_send.proofs.Steadies.{count_settled, acked_ok}
 use Rattle.flow_send.proofs.Sendings.{map_sent, any_sent, third_flies}
 use Rattle.flow_send.proofs.Ends.{settle_eq}
 

@@ -1,63 +1,34 @@
 -- The messages that wait as a map by their first numbers, and a walk over those near some numbers.
-use Rattle.std.proofs.Common.{◌≡◌, ℕ, ◌+◌, ◌-◌, ◌*◌, ◌<◌, ◌≤◌, ◌^◌, nat_lt, nat_le, ◌==◌, cond, not, Bool, true, false, ◌&&◌, ◌||◌, List, [], ◌∷◌, ◌++◌, length, Option, Some, None, refl, ap, sym, ◌∙◌, subst, arith, inl, inr, ◌⊎◌}
+use Rattle.std.proofs.Common.{◌≡◌, ℕ, ◌+◌, ◌-◌, ◌<◌, ◌≤◌, ◌^◌, nat_lt, nat_le, ◌==◌, cond, not, Bool, true, false, ◌&&◌, ◌||◌, List, [], ◌∷◌, ◌++◌, Option, Some, None, refl, ap, sym, ◌∙◌, subst, arith, inl, inr, ◌⊎◌}
 use Rattle.std.specs.Prelude.{IfSome, IsSome}
-use Rattle.std.specs.Option.{IsSomeAnd, unwrap_or}
+use Rattle.std.specs.Option.{unwrap_or}
 use Rattle.std.specs.Ordering.{nat_cmp, is_eq, is_gt, match_ordering}
 use Rattle.std.specs.declared.cmp.Ordering.TheVariants.{Less, Equal, Greater}
 use Rattle.std.specs.declared.ops.Bound.{Bound}
 use Rattle.std.specs.declared.ops.Bound.TheVariants.{Included, Excluded, Unbounded}
-use Rattle.std.specs.List.{AllByRecursion, filter, list_any, slice_get, sum_by}
+use Rattle.std.specs.List.{filter, slice_get, sum_by}
 use Rattle.std.specs.List.Sorted.{IsStrictlySortedBy}
 use Rattle.std.specs.Map.{keys_of, values_of, lookup, remove_entry}
 use Rattle.std.specs.BTreeMap.{BTreeMap, insert_entry, is_at}
 use Rattle.std.specs.BTreeMap.Range.{IsRangeOf, IsEntryInRange, IsFromStart, IsLeBy}
-use Rattle.std.proofs.lemmas.Map.Keys.{sorted_head, sorted_tail, le_from_not_gt, ge_from_not_lt}
+use Rattle.std.proofs.lemmas.Map.Keys.{le_from_not_gt, ge_from_not_lt}
 use Rattle.std.proofs.lemmas.List.Sums.{sum_by-cons}
-use Rattle.std.proofs.lemmas.Bool.{cases_Bool, cases_lt, ltb-true, ltb-false, lt-ltb, le-ltb, le-leb, lt-leb, leb-true, leb-false, ne_eqb, eqb-true, eq-eqb}
+use Rattle.std.proofs.lemmas.Bool.{cases_Bool, cases_lt, ltb-true, lt-ltb, le-ltb, le-leb, lt-leb, leb-true, leb-false, ne_eqb, eqb-true, eq-eqb}
 use Rattle.rtmfp_data_chunks.specs.HandsOver.{IsIn}
+use Rattle.rtmfp_data_chunks.proofs.Keys.{less_lt, lt_less, gt_greater, eq_equal, is_key, is_key_is}
+use Rattle.rtmfp_data_chunks.proofs.Filtering.{filter_same, filter_all, filter_twice, in_filter}
 use Rattle.flow_send.specs.declared.waiting.Waiting.{Waiting}
 use Rattle.flow_send.specs.Rows.{Row}
 use Rattle.flow_send.specs.Sender.{message_at, without_message, first_number}
 use Rattle.flow_send.specs.Acks.{still_waits}
 use Rattle.flow_send.specs.Steady.{Line}
+use Rattle.flow_send.proofs.Keeping.{line_order}
 use Rattle.flow_send.specs.Messages.{keyed, IsKeyed, AllBelow, IsFirstFrom, IsLastBelow, InLine, touches, touched, keeps, keeps_at, is_left, Reaches}
 
 -- the numbers that a walk has before it
 abbrev pub left_numbers : Option ℕ → ℕ
 left_numbers None = 0
 left_numbers (Some f) = 2 ^ 64 - f
-
--- ---- how numbers compare
-
-less_if : (l e : Bool) → cond l Less (cond e Equal Greater) ≡ Less → l ≡ true
-less_if true e f = refl
-less_if false true f = absurd cc
-less_if false false f = absurd cc
-
-pub less_lt : (n k : ℕ) → nat_cmp n k ≡ Less → n < k
-less_lt n k e = ltb-true n k (less_if (nat_lt n k) (n == k) e)
-
-pub lt_less : (n k : ℕ) → n < k → nat_cmp n k ≡ Less
-lt_less n k lt = rw (lt-ltb n k lt) refl
-
-gt_greater : (n k : ℕ) → k < n → nat_cmp n k ≡ Greater
-gt_greater n k lt = rw (le-ltb n k (omega (arith, lt)), ne_eqb n k (λ e. omega (arith, e, lt))) refl
-
-pub eq_equal : (n k : ℕ) → n ≡ k → nat_cmp n k ≡ Equal
-eq_equal n k e = rw (le-ltb n k (omega (arith, e)), eq-eqb n k e) refl
-
--- whether a key is a number, as a map asks
-abbrev pub is_key : ℕ → ℕ → Bool
-is_key n k = is_at (nat_cmp n) k
-
-pub is_key_is : (n k : ℕ) → is_key n k ≡ (k == n)
-is_key_is n k = elim (cases_lt n k) [
-  | inl lt ↦ ap is_eq (lt_less n k lt) ∙ sym (ne_eqb k n (λ e. omega (arith, e, lt)))
-  | inr ge ↦ elim (cases_lt k n) [
-    | inl lt ↦ ap is_eq (gt_greater n k lt) ∙ sym (ne_eqb k n (λ e. omega (arith, e, lt)))
-    | inr le ↦ ap is_eq (eq_equal n k (omega (arith, ge, le))) ∙ sym (eq-eqb k n (omega (arith, ge, le)))
-  ]
-]
 
 -- ---- the entries of a map
 
@@ -207,40 +178,6 @@ here_at n y z later e f = some_eq y z (sym (ap (λ t. cond t (Some y) (message_a
 pub skip_at : (n : ℕ) (y : Waiting) (later : List Waiting) → (y.number == n) ≡ false → message_at n (y ∷ later) ≡ message_at n later
 skip_at n y later e = ap (λ t. cond t (Some y) (message_at n later)) e
 
--- ---- lists that a test leaves
-
-pub filter_same : (p q : Waiting → Bool) (runs : List Waiting) → ((y : Waiting) → IsIn y runs → p y ≡ q y) → filter p runs ≡ filter q runs
-filter_same p q [] h = refl
-filter_same p q (y ∷ later) h = ap (λ t. cond t (y ∷ filter p later) (filter p later)) (h y (inl refl)) ∙ ap (λ zs. cond (q y) (y ∷ zs) zs) (filter_same p q later (λ z i. h z (inr i)))
-
-pub filter_all : (p : Waiting → Bool) (runs : List Waiting) → ((y : Waiting) → IsIn y runs → p y ≡ true) → filter p runs ≡ runs
-filter_all p [] h = refl
-filter_all p (y ∷ later) h = ap (λ t. cond t (y ∷ filter p later) (filter p later)) (h y (inl refl)) ∙ ap (λ zs. y ∷ zs) (filter_all p later (λ z i. h z (inr i)))
-
-twice_if : (p q : Waiting → Bool) (y : Waiting) (later : List Waiting) (s t : Bool) → q y ≡ t → filter q (filter p later) ≡ filter (λ z. p z && q z) later
-    → filter q (cond s (y ∷ filter p later) (filter p later)) ≡ cond (s && t) (y ∷ filter (λ z. p z && q z) later) (filter (λ z. p z && q z) later)
-twice_if p q y later true t e ih = ap (λ u. cond u (y ∷ filter q (filter p later)) (filter q (filter p later))) e ∙ ap (λ zs. cond t (y ∷ zs) zs) ih
-twice_if p q y later false t e ih = ih
-
-pub filter_twice : (p q : Waiting → Bool) (runs : List Waiting) → filter q (filter p runs) ≡ filter (λ z. p z && q z) runs
-filter_twice p q [] = refl
-filter_twice p q (y ∷ later) = twice_if p q y later (p y) (q y) refl (filter_twice p q later)
-
-in_if : (y x : Waiting) (zs : List Waiting) (t : Bool) → t ≡ true → (y ≡ x) ⊎ IsIn y zs → IsIn y (cond t (x ∷ zs) zs)
-in_if y x zs true e i = i
-in_if y x zs false e i = absurd cc
-
-later_if : (y x : Waiting) (zs : List Waiting) (t : Bool) → IsIn y zs → IsIn y (cond t (x ∷ zs) zs)
-later_if y x zs true i = inr i
-later_if y x zs false i = i
-
-pub in_filter : (p : Waiting → Bool) (runs : List Waiting) (y : Waiting) → IsIn y runs → p y ≡ true → IsIn y (filter p runs)
-in_filter p [] y i e = absurd i
-in_filter p (x ∷ later) y i e = elim i [
-  | inl s ↦ in_if y x (filter p later) (p x) (ap p (sym s) ∙ e) (inl s)
-  | inr j ↦ later_if y x (filter p later) (p x) (in_filter p later y j e)
-]
-
 -- ---- where it begins
 
 pub reach_below : (low : ℕ) (runs : List Waiting) (f : ℕ) → InLine 0 runs → IsLastBelow low runs (Some f) → Reaches low runs (Some f)
@@ -373,18 +310,6 @@ not_kept n rows low high f ws h e = kept_if (message_at f ws) refl e
 
 -- ---- where a walk ends
 
--- behind the last number nothing is touched
-pub walk_breaks : (n : ℕ) (rows : List Row) (low high f : ℕ) (ws now : List Waiting) (next : Option ℕ) → next ≡ Some f → high < f → now ≡ filter (λ y. is_left next y || keeps n rows low high y) ws → now ≡ filter (keeps n rows low high) ws
-walk_breaks n rows low high f ws now next e lt g =
-    g ∙ (ap (λ o. filter (λ y. is_left o y || keeps n rows low high y) ws) e
-    ∙ filter_same (λ y. is_left (Some f) y || keeps n rows low high y) (keeps n rows low high) ws (λ y i. elim (cases_Bool (nat_le f y.number)) [
-      | inl t ↦
-          let le = leb-true f y.number t in
-          let k : keeps n rows low high y ≡ true = ap (λ x. not (x && nat_lt low (y.number + y.count)) || still_waits n rows y) (lt-leb y.number high (omega (arith, le, lt))) in
-          or_right (nat_le f y.number) (keeps n rows low high y) k ∙ sym k
-      | inr u ↦ ap (λ x. x || keeps n rows low high y) u
-    ]))
-
 pub walk_ends : (n : ℕ) (rows : List Row) (low high : ℕ) (ws now : List Waiting) (next : Option ℕ) → next ≡ None → now ≡ filter (λ y. is_left next y || keeps n rows low high y) ws → now ≡ filter (keeps n rows low high) ws
 walk_ends n rows low high ws now next e g = g ∙ ap (λ o. filter (λ y. is_left o y || keeps n rows low high y) ws) e
 
@@ -416,30 +341,14 @@ pub in_line : (low high : ℕ) (ws : List Waiting) → Line low high ws → InLi
 in_line low high [] h = tt
 in_line low high (w ∷ later) h = (h.0, h.1, in_line (w.number + w.count) high later h.2)
 
-line_ends : (low high : ℕ) (ws : List Waiting) → Line low high ws → low ≤ high
-line_ends low high [] h = h
-line_ends low high (w ∷ later) h = omega (arith, h.0, line_ends (w.number + w.count) high later h.2)
-
 pub all_below : (low high : ℕ) (ws : List Waiting) → Line low high ws → AllBelow high ws
 all_below low high [] h = tt
-all_below low high (w ∷ later) h = (omega (arith, h.1, line_ends (w.number + w.count) high later h.2), all_below (w.number + w.count) high later h.2)
-
-line_lower : (a b high : ℕ) (ws : List Waiting) → a ≤ b → Line b high ws → Line a high ws
-line_lower a b high [] le h = omega (arith, le, h)
-line_lower a b high (w ∷ later) le h = (omega (arith, le, h.0), h.1, h.2)
-
-kept_line_if : (low high : ℕ) (w : Waiting) (ws : List Waiting) (t : Bool) → low ≤ w.number → 0 < w.count → Line (w.number + w.count) high ws → Line low high (cond t (w ∷ ws) ws)
-kept_line_if low high w ws true a b h = (a, b, h)
-kept_line_if low high w ws false a b h = line_lower low (w.number + w.count) high ws (omega (arith, a)) h
-
-pub line_filter : (p : Waiting → Bool) (low high : ℕ) (ws : List Waiting) → Line low high ws → Line low high (filter p ws)
-line_filter p low high [] h = h
-line_filter p low high (w ∷ later) h = kept_line_if low high w (filter p later) (p w) h.0 h.1 (line_filter p (w.number + w.count) high later h.2)
+all_below low high (w ∷ later) h = (omega (arith, h.1, line_order (w.number + w.count) high later h.2), all_below (w.number + w.count) high later h.2)
 
 pub line_in : (low high : ℕ) (ws : List Waiting) (w : Waiting) → Line low high ws → IsIn w ws → w.number + w.count ≤ high
 line_in low high [] w h i = absurd i
 line_in low high (x ∷ later) w h i = elim i [
-  | inl e ↦ let l = ap (λ (a : Waiting). a.number + a.count) e in let k = line_ends (x.number + x.count) high later h.2 in omega (arith, l, k)
+  | inl e ↦ let l = ap (λ (a : Waiting). a.number + a.count) e in let k = line_order (x.number + x.count) high later h.2 in omega (arith, l, k)
   | inr j ↦ line_in (x.number + x.count) high later w h.2 j
 ]
 

@@ -1,6 +1,6 @@
 -- A sending flow, and what its calls answer.
 use Rattle.std.specs.Prelude.{ℕ, ◌+◌, ◌-◌, ◌^◌, if◌then◌else◌, nat_lt, not, Bool, true, false, ◌&&◌}
-use Rattle.std.specs.Prelude.{◌||◌, List, [], ◌∷◌, Option, Some, None, length}
+use Rattle.std.specs.Prelude.{◌||◌, List, Option, Some, None, length}
 use Rattle.rtmfp_vlu.specs.Vlu.{vlu}
 use Rattle.rtmfp_forms.specs.Options.{OptionParts, options_bytes}
 use Rattle.rtmfp_data_chunks.specs.Fragments.{Message, fragments_of_length}
@@ -20,20 +20,6 @@ pub record Flow : Type 0 where
   pub options : List OptionParts
   pub priority : ℕ
   pub sender : Sender
-
--- the metadata have kind 0, the association kind 10 (RFC 7016 section 2.3.11.1)
-abbrev pub metadata_option : List ℕ → OptionParts
-metadata_option metadata = record { kind = 0; value = metadata }
-
-abbrev pub association : ℕ → OptionParts
-association flow = record { kind = 10; value = vlu flow }
-
-abbrev pub associations : Option ℕ → List OptionParts
-associations None = []
-associations (Some flow) = association flow ∷ []
-
-abbrev pub flow_options : List ℕ → Option ℕ → List OptionParts
-flow_options metadata answers = metadata_option metadata ∷ associations answers
 
 abbrev pub with_sender : Flow → Sender → Flow
 with_sender f s = record { id = f.id; options = f.options; priority = f.priority; sender = s }

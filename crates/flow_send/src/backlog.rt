@@ -143,10 +143,31 @@ impl Backlog {
         requires others { OthersWait upto spans.now (forward + 1) rows.now.rows self.old }
         ensures { self.new ≡ filter (still_waits (forward + 1) rows.now.rows) self.old }
     {
-        self.drop_told(rows, forward, 0, upto);
+        self.drop_upto(rows, forward, upto);
         let mut left = spans.iter();
         while let Some((first, last)) = left.next() {
             self.drop_told(rows, forward, first, last);
+        }
+    }
+
+    /// Takes away those messages with a number up to one that don't wait any more. As a rule these
+    /// are the first ones, and the message after them passes that number or begins behind it.
+    fn drop_upto(&mut self, rows: &Rows, forward: u64, upto: u64)
+        requires { Line 0 (forward + 1 + length rows.now.rows) self.old }
+        ensures { self.new ≡ filter (keeps (forward + 1) rows.now.rows 0 upto) self.old }
+    {
+        while let Some(message) = self.messages.front() {
+            if message.number > upto {
+                return;
+            }
+            if message.waits(rows, forward) {
+                if message.passes(upto) {
+                    return;
+                }
+                self.drop_told(rows, forward, 0, upto);
+                return;
+            }
+            self.remove(message.number);
         }
     }
 

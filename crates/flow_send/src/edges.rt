@@ -2,13 +2,14 @@
 //! that does nothing, whose contract tells the values.
 
 ghost use Rattle.std.specs.Prelude.{◌≡◌, ℕ, List, [], ◌∷◌, Option, Some, None, true, false, length};
+ghost use Rattle.rtmfp_data_chunks.specs.FlowOptions.{flow_options};
 ghost use Rattle.flow_send.specs.Rows.{Row};
 ghost use Rattle.flow_send.specs.Sender.{new_sender, finished, overdue, waits, abandoned, is_late};
 ghost use Rattle.flow_send.specs.Sender.{lost_late, next_of};
 ghost use Rattle.flow_send.specs.Acks.{told, beyond, new_bytes, makes_lost, told_by};
 ghost use Rattle.flow_send.specs.Choice.{Nothing, Send, Notify, choice, within_limit, sent_after};
 ghost use Rattle.flow_send.specs.Choice.{sent_row};
-ghost use Rattle.flow_send.specs.Flow.{queue_refusal, chunk_refusal, chunk_options, flow_options};
+ghost use Rattle.flow_send.specs.Flow.{queue_refusal, chunk_refusal, chunk_options};
 ghost use Rattle.flow_send.specs.Edges.{unsent, flying, lost, acked, given_up, resent, sender_of};
 ghost use Rattle.flow_send.specs.Edges.{numbers, three, with_blocks, acked_up_to, with_waiting};
 ghost use Rattle.flow_send.specs.Edges.{waiting_at, holding, flow_of};

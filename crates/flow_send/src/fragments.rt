@@ -47,7 +47,7 @@ pub fn cut(alloc: Global, message: &[u8], count: u64) -> Result<VecDeque<HeldRow
         IfOk result (λ rows. rows.items ≡ rows_of (record { number = n; bytes = message.now }) n
         count) }
 {
-    let mut rows = VecDeque::new(alloc);
+    let mut rows = VecDeque::with_capacity(alloc, count as usize)?;
     let mut rest = message;
     for at in 0..count {
         let (piece, more) = rest.split_at(rest.len().min(FRAGMENT));

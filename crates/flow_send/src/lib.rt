@@ -16,7 +16,6 @@ mod row;
 mod rows;
 mod sender;
 mod state;
-mod told;
 mod totals;
 mod waiting;
 

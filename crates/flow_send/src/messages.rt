@@ -1,6 +1,7 @@
 //! The messages that wait as a map, by the number that each begins with.
 
 ghost use Rattle.std.specs.Prelude.{◌≡◌, ◌+◌, ◌∷◌, ◌++◌, [], OnOk, OnErr, List, length};
+ghost use Rattle.std.specs.Prelude.{Some, true, drop, slice_get};
 ghost use Rattle.std.specs.Map.{values_of};
 ghost use Rattle.flow_send.specs.Sender.{message_at, without_message, first_number};
 ghost use Rattle.flow_send.specs.Messages.{AllBelow, IsFirstFrom, IsLastBelow, InLine, Reaches};
@@ -59,6 +60,16 @@ impl Messages {
         ensures { result ≡ message_at number self.now }
     {
         self.map.get(&number).copied()
+    }
+
+    /// The first message.
+    pub fn front(&self) -> Option<Waiting>
+        ensures { result ≡ slice_get self.now 0 }
+    {
+        match self.map.first_key_value() {
+            Some((_, message)) => Some(*message),
+            None => None,
+        }
     }
 
     /// The number of the first message.
@@ -132,6 +143,30 @@ impl Messages {
         ensures message { result ≡ message_at number self.old }
         ensures rest { self.new ≡ without_message number self.old }
     {
+        if self.begins_with(number) {
+            return self.pop_front();
+        }
         self.map.remove(&number)
+    }
+
+    /// Whether the first message begins at a number.
+    fn begins_with(&self, number: u64) -> bool
+        ensures { result ≡ true → first_number self.now ≡ Some number }
+    {
+        match self.map.first_key_value() {
+            Some((first, _)) => *first == number,
+            None => false,
+        }
+    }
+
+    /// Takes out the first message. It is found without a search.
+    fn pop_front(&mut self) -> Option<Waiting>
+        ensures message { result ≡ slice_get self.old 0 }
+        ensures rest { self.new ≡ drop 1 self.old }
+    {
+        match self.map.pop_first() {
+            Some((_, message)) => Some(message),
+            None => None,
+        }
     }
 }

@@ -8,6 +8,7 @@ ghost use Rattle.std.specs.Option.{is_some};
 ghost use Rattle.std.specs.List.{list_any};
 ghost use Rattle.rtmfp_data_chunks.specs.Fragments.{fragments_of_length};
 ghost use Rattle.rtmfp_data_chunks.specs.Taken.{chunk_of};
+ghost use Rattle.rtmfp_data_chunks.specs.FlowOptions.{flow_options};
 ghost use Rattle.flow_send.specs.Rows.{any_row, in_flight};
 ghost use Rattle.flow_send.specs.Sender.{Sender, new_sender, next_of, queued, waits, abandoned};
 ghost use Rattle.flow_send.specs.Sender.{abandoned_if, first_number, overdue, finish_by, lost_late};
@@ -18,7 +19,7 @@ ghost use Rattle.flow_send.specs.Choice.{Nothing, Notify, choice, next_choice, n
 ghost use Rattle.flow_send.specs.Choice.{choice_bytes, chunk_for, within_limit, is_quiet};
 ghost use Rattle.flow_send.specs.Choice.{sent_after};
 ghost use Rattle.flow_send.specs.Picked.{picked, picked_if, IsThere, IsOffered};
-ghost use Rattle.flow_send.specs.Flow.{Flow, flow_options, with_sender, is_finished, queue_refusal};
+ghost use Rattle.flow_send.specs.Flow.{Flow, with_sender, is_finished, queue_refusal};
 ghost use Rattle.flow_send.specs.Flow.{next_message, data_length, chunk_options, chunk_refusal};
 
 use crate::acking::{acknowledge, greatest};
@@ -29,10 +30,9 @@ use crate::outcome::{AckFault, Acked, NoChunk, NotQueued, QueueRefusal};
 use crate::pick::Pick;
 use crate::row::HeldRow;
 use crate::rows::Rows;
-use crate::told::spelled;
 use crate::waiting::{MessageOptions, Waiting};
 use rtmfp_base::Memory;
-use rtmfp_data_chunks::{AckedSpans, Part, UserData};
+use rtmfp_data_chunks::{AckedSpans, Part, UserData, spell_flow_options};
 use rtmfp_forms::{Options, options_len, read_options};
 use rtmfp_vlu::vlu_len;
 use std::alloc::{AllocError, Global};
@@ -118,7 +118,7 @@ impl FlowSender {
         Ok(FlowSender {
             alloc,
             id,
-            options: spelled(alloc, metadata, answers)?,
+            options: spell_flow_options(alloc, metadata, answers)?,
             priority,
             forward: first - 1,
             rows: Rows::new(alloc)?,

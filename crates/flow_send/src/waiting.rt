@@ -1,6 +1,6 @@
 //! A message that waits to be acknowledged.
 
-ghost use Rattle.std.specs.Prelude.{◌≡◌, ◌+◌, ◌-◌, ◌<◌, ◌≤◌, ◌^◌, length, false, None};
+ghost use Rattle.std.specs.Prelude.{◌≡◌, ◌+◌, ◌-◌, ◌<◌, ◌≤◌, ◌^◌, length, false, None, nat_lt};
 ghost use Rattle.flow_send.specs.Sender.{is_past, is_spent, is_overdue, give_up};
 ghost use Rattle.flow_send.specs.Acks.{still_waits};
 ghost use Rattle.flow_send.specs.Messages.{touches};
@@ -61,6 +61,13 @@ impl Waiting {
         ensures { result ≡ touches low high self.now }
     {
         self.number <= high && u128::from(low) < u128::from(self.number) + u128::from(self.count)
+    }
+
+    /// Whether it has a number behind one, or lies behind it.
+    pub fn passes(&self, number: u64) -> bool
+        ensures { result ≡ nat_lt number (self.now.number + self.now.count) }
+    {
+        u128::from(number) < u128::from(self.number) + u128::from(self.count)
     }
 
     /// Abandons those of its numbers that aren't acknowledged.

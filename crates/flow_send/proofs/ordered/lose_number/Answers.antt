@@ -1,4 +1,4 @@
-use Rattle.std.proofs.Common.{◌≡◌, ◌+◌, ◌-◌, length, ap, sym, ◌∙◌, arith}
+use Rattle.std.proofs.Common.{◌≡◌, ◌+◌, ◌-◌, ap, sym, ◌∙◌, arith}
 use Rattle.flow_send.specs.Rows.{any_row}
 use Rattle.flow_send.specs.Ordered.{is_late_one}
 use Rattle.flow_send.proofs.Losing.{any_none, lose_none, any_here, lose_here}

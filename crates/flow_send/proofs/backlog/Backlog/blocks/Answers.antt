@@ -1,4 +1,4 @@
-use Rattle.std.proofs.Common.{◌≡◌, ◌+◌, List, length, sym, ap, ◌∙◌, subst, arith}
+use Rattle.std.proofs.Common.{◌+◌, List, length, ap, ◌∙◌, arith}
 use Rattle.flow_send.specs.declared.waiting.Waiting.{Waiting}
 use Rattle.std.specs.Option.{unwrap_or}
 use Rattle.flow_send.specs.Sender.{first_number}

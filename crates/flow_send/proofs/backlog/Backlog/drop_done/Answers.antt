@@ -1,9 +1,9 @@
 use Rattle.std.proofs.Common.{◌≡◌, ◌+◌, ◌∷◌, [], ℕ, List, length, sym, ap, ◌∙◌, subst, refl}
 use Rattle.std.specs.List.{filter}
-use Rattle.flow_send.specs.declared.waiting.Waiting.{Waiting}
 use Rattle.flow_send.specs.Steady.{Line}
 use Rattle.flow_send.specs.Messages.{keeps}
-use Rattle.flow_send.proofs.Walking.{passes, line_filter, next_span, last_span, all_spans}
+use Rattle.flow_send.proofs.Keeping.{line_filter}
+use Rattle.flow_send.proofs.Walking.{passes, next_span, last_span, all_spans}
 use Rattle.flow_send.proofs.backlog.Backlog.drop_done.Goals as goal
 
 pub loop-first-init : goal.loop-first-init
@@ -12,10 +12,10 @@ loop-first-init c =
     let rows = c.args.rows.now.rows in
     let ws = c.args.self.now in
     let spans = c.args.spans.now in
-    let once = c.drop_told.new.self in
+    let once = c.drop_upto.new.self in
     record {
-      kept = ap (λ (ps : List (ℕ × ℕ)). filter (passes n rows ps) once) c.iter-left.ensures ∙ next_span n rows 0 c.args.upto ((0, c.args.upto) ∷ spans) spans ws once _ refl c.drop_told.ensures (all_spans n rows ((0, c.args.upto) ∷ spans) ws c.requires.others);
-      line = subst (Line 0 (n + length rows)) (sym c.drop_told.ensures) (line_filter (keeps n rows 0 c.args.upto) 0 (n + length rows) ws c.requires.inside);
+      kept = ap (λ (ps : List (ℕ × ℕ)). filter (passes n rows ps) once) c.iter-left.ensures ∙ next_span n rows 0 c.args.upto ((0, c.args.upto) ∷ spans) spans ws once _ refl c.drop_upto.ensures (all_spans n rows ((0, c.args.upto) ∷ spans) ws c.requires.others);
+      line = subst (Line 0 (n + length rows)) (sym c.drop_upto.ensures) (line_filter 0 (n + length rows) (keeps n rows 0 c.args.upto) ws c.requires.inside);
     }
 
 pub loop-first-preserved : goal.loop-first-preserved
@@ -24,8 +24,8 @@ loop-first-preserved c =
     let rows = c.args.rows.now.rows in
     let e : c.loop-first.left ≡ (c.in-Some.first, c.in-Some.last) ∷ c.next.new.self = c.in-Some.ensures.steps in
     record {
-      kept = next_span n rows c.in-Some.first c.in-Some.last c.loop-first.left c.next.new.self c.loop-first.self c.drop_told-in-Some.new.self _ e c.drop_told-in-Some.ensures c.loop-first.invariant.kept;
-      line = subst (Line 0 (n + length rows)) (sym c.drop_told-in-Some.ensures) (line_filter (keeps n rows c.in-Some.first c.in-Some.last) 0 (n + length rows) c.loop-first.self c.loop-first.invariant.line);
+      kept = next_span n rows c.in-Some.first c.in-Some.last c.loop-first.left c.next.new.self c.loop-first.self c.drop_told.new.self _ e c.drop_told.ensures c.loop-first.invariant.kept;
+      line = subst (Line 0 (n + length rows)) (sym c.drop_told.ensures) (line_filter 0 (n + length rows) (keeps n rows c.in-Some.first c.in-Some.last) c.loop-first.self c.loop-first.invariant.line);
     }
 
 pub returns : goal.returns

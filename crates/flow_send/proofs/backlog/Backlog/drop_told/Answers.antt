@@ -1,9 +1,10 @@
-use Rattle.std.proofs.Common.{◌≡◌, ◌+◌, ◌||◌, ◌==◌, not, List, length, Some, None, sym, ap, ◌∙◌, subst, arith}
+use Rattle.std.proofs.Common.{◌≡◌, ◌+◌, ◌||◌, ◌==◌, not, List, length, Some, sym, ap, ◌∙◌, subst}
 use Rattle.std.specs.List.{filter}
 use Rattle.flow_send.specs.declared.waiting.Waiting.{Waiting}
 use Rattle.flow_send.specs.Steady.{Line}
 use Rattle.flow_send.specs.Messages.{InLine, IsFirstFrom, Reaches, keeps, is_left}
-use Rattle.flow_send.proofs.Walking.{walk_begins, walk_step, goes_left, in_line, line_filter, walk_ends, walk_breaks}
+use Rattle.flow_send.proofs.Keeping.{line_filter}
+use Rattle.flow_send.proofs.Walking.{walk_begins, walk_step, goes_left, in_line}
 use Rattle.flow_send.proofs.backlog.Backlog.drop_told.Goals as goal
 
 pub reaching-next-requires : goal.reaching-next-requires
@@ -16,7 +17,7 @@ pub drop_unless_kept-requires : goal.drop_unless_kept-requires
 drop_unless_kept-requires c =
     let n = c.args.forward + 1 in
     let rows = c.args.rows.now.rows in
-    subst (Line 0 (n + length rows)) (sym c.loop-next.invariant) (line_filter (λ (y : Waiting). is_left c.loop-next.next y || keeps n rows c.args.low c.args.high y) 0 (n + length rows) c.args.self.now c.requires)
+    subst (Line 0 (n + length rows)) (sym c.loop-next.invariant) (line_filter 0 (n + length rows) (λ (y : Waiting). is_left c.loop-next.next y || keeps n rows c.args.low c.args.high y) c.args.self.now c.requires)
 
 pub loop-next-preserved : goal.loop-next-preserved
 loop-next-preserved c =
@@ -28,6 +29,6 @@ loop-next-preserved c =
     let new = c.drop_unless_kept.new.self in
     let now : c.loop-next.self ≡ filter (λ (y : Waiting). is_left (Some f) y || test y) old = c.loop-next.invariant ∙ ap (λ o. filter (λ (y : Waiting). is_left o y || test y) old) c.in-Some.is in
     let step = c.drop_unless_kept.ensures ∙ ap (λ (zs : List Waiting). filter (λ y. not (y.number == f) || test y) zs) now in
-    let line = line_filter (λ y. not (y.number == f) || test y) 0 (n + length rows) (filter (λ (y : Waiting). is_left (Some f) y || test y) old) (line_filter (λ (y : Waiting). is_left (Some f) y || test y) 0 (n + length rows) old c.requires) in
+    let line = line_filter 0 (n + length rows) (λ y. not (y.number == f) || test y) (filter (λ (y : Waiting). is_left (Some f) y || test y) old) (line_filter 0 (n + length rows) (λ (y : Waiting). is_left (Some f) y || test y) old c.requires) in
     let order : InLine 0 new = subst (InLine 0) (sym step) (in_line 0 (n + length rows) (filter (λ y. not (y.number == f) || test y) (filter (λ (y : Waiting). is_left (Some f) y || test y) old)) line) in
     step ∙ walk_step f test old c.after-next.result (goes_left f test old new c.after-next.result (in_line 0 (n + length rows) old c.requires) order step (subst (λ (ws : List Waiting). IsFirstFrom (f + 1) ws c.after-next.result) c.self-in-Some.view_is c.after-next.ensures))

@@ -1,4 +1,4 @@
-use Rattle.std.proofs.Common.{◌+◌, List, length, sym, subst, arith}
+use Rattle.std.proofs.Common.{◌+◌, length, sym, subst}
 use Rattle.flow_send.specs.Steady.{Line}
 use Rattle.flow_send.proofs.Walking.{at_in, line_in}
 use Rattle.flow_send.proofs.backlog.Backlog.is_overdue_in.Goals as goal

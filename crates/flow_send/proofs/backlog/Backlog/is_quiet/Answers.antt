@@ -1,5 +1,4 @@
-use Rattle.std.proofs.Common.{List, subst, arith}
-use Rattle.flow_send.specs.declared.waiting.Waiting.{Waiting}
+use Rattle.std.proofs.Common.{subst, arith}
 use Rattle.flow_send.specs.Deadlines.{Reach}
 use Rattle.flow_send.proofs.Quiet.{none_overdue}
 use Rattle.flow_send.proofs.backlog.Backlog.is_quiet.Goals as goal

@@ -1,5 +1,4 @@
-use Rattle.std.proofs.Common.{◌≡◌, not, Bool, true, false, List, refl, sym, ◌∙◌, subst, inl, inr}
-use Rattle.flow_send.specs.declared.waiting.Waiting.{Waiting}
+use Rattle.std.proofs.Common.{◌≡◌, not, Bool, true, false, refl, subst, inl, inr}
 use Rattle.flow_send.specs.Deadlines.{Reach}
 use Rattle.flow_send.proofs.backlog.Backlog.is_unspent.Goals as goal
 

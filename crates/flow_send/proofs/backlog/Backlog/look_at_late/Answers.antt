@@ -1,6 +1,5 @@
 use Rattle.std.specs.Prelude.{IfSome}
-use Rattle.std.proofs.Common.{◌≡◌, ◌+◌, ◌<◌, ◌^◌, List, length, true, false, Some, None, sym, ap, ◌∙◌, subst, arith}
-use Rattle.flow_send.specs.declared.waiting.Waiting.{Waiting}
+use Rattle.std.proofs.Common.{◌+◌, ◌<◌, ◌^◌, length, None, sym, ◌∙◌, subst, arith}
 use Rattle.flow_send.specs.Lows.{AreLows, IsFoundIn}
 use Rattle.flow_send.proofs.Walking.{in_line}
 use Rattle.flow_send.proofs.Lowest.{Passed, few_of, pass_first, pass_next, first_none, found_first, not_some}

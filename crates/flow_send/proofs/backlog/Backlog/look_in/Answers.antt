@@ -1,9 +1,9 @@
-use Rattle.std.proofs.Common.{◌≡◌, ◌+◌, List, length, true, false, Some, None, sym, ap, ◌∙◌, subst, arith}
+use Rattle.std.proofs.Common.{◌≡◌, ◌+◌, List, length, false, sym, ◌∙◌, subst, arith}
 use Rattle.flow_send.specs.declared.waiting.Waiting.{Waiting}
 use Rattle.flow_send.specs.Sender.{is_overdue}
 use Rattle.flow_send.specs.Messages.{IsFirstFrom}
 use Rattle.flow_send.proofs.Walking.{in_line}
-use Rattle.flow_send.proofs.Lowest.{Walked, walk_from, walk_on, walk_past, walk_out, none_at, one_at}
+use Rattle.flow_send.proofs.Lowest.{Walked, walk_from, walk_on, none_at, one_at}
 use Rattle.flow_send.proofs.backlog.Backlog.look_in.Goals as goal
 
 pub loop-next-init : goal.loop-next-init

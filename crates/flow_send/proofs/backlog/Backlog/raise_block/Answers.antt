@@ -1,5 +1,5 @@
-use Rattle.std.proofs.Common.{List, ◌%◌, sym, subst, arith, ap, ◌∙◌}
-use Rattle.flow_send.specs.Lows.{AllInBlocks, AreLows, IsLowIn, low_at}
+use Rattle.std.proofs.Common.{◌%◌, sym, subst, arith}
+use Rattle.flow_send.specs.Lows.{AllInBlocks, IsLowIn}
 use Rattle.flow_send.proofs.Lowest.{lows_raised, inside}
 use Rattle.flow_send.proofs.backlog.Backlog.raise_block.Goals as goal
 

@@ -3,7 +3,7 @@ use Rattle.std.specs.declared.ops.Bound.TheVariants.{Excluded}
 use Rattle.std.specs.Map.{values_of}
 use Rattle.flow_send.specs.declared.waiting.Waiting.{Waiting}
 use Rattle.flow_send.specs.Messages.{IsFirstFrom}
-use Rattle.flow_send.proofs.Walking.{less_lt, lt_less}
+use Rattle.rtmfp_data_chunks.proofs.Keys.{less_lt, lt_less}
 use Rattle.flow_send.proofs.Walking.{first_in, none_in}
 use Rattle.flow_send.proofs.messages.Messages.after.Goals as goal
 

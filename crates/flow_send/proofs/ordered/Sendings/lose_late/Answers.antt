@@ -1,4 +1,4 @@
-use Rattle.std.proofs.Common.{◌≡◌, true, false, ap, sym, ◌∙◌}
+use Rattle.std.proofs.Common.{ap, sym, ◌∙◌}
 use Rattle.flow_send.specs.Rows.{between, any_between}
 use Rattle.flow_send.specs.Sender.{is_late, lost_if_late}
 use Rattle.flow_send.specs.Ordered.{Ordered}

@@ -1,8 +1,8 @@
-use Rattle.std.proofs.Common.{◌≡◌, ◌+◌, ◌≤◌, ◌∷◌, [], ◌||◌, ℕ, List, map, ap, sym, ◌∙◌, subst, refl, arith, rules}
+use Rattle.std.proofs.Common.{◌≡◌, ◌+◌, ◌∷◌, ◌||◌, ℕ, List, map, ap, sym, ◌∙◌, subst, refl, arith, rules}
 use Rattle.std.specs.List.{list_any}
 use Rattle.flow_send.specs.Rows.{Row, map_rows}
 use Rattle.flow_send.specs.Sender.{is_late, lost_if_late}
-use Rattle.flow_send.specs.Ordered.{Ordered, IsComplete, NonFalling, lose_one}
+use Rattle.flow_send.specs.Ordered.{Ordered, IsComplete, lose_one}
 use Rattle.flow_send.proofs.Losing.{map_one, any_one, any_next, complete_next, front_after, none_after, none_left, walk_done}
 use Rattle.flow_send.proofs.ordered.Sendings.lose_oldest.Goals as goal
 

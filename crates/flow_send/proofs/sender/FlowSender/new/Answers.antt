@@ -7,7 +7,8 @@ use Rattle.flow_send.specs.Ordered.{Ordered}
 use Rattle.flow_send.specs.Rows.{Row}
 use Rattle.flow_send.specs.Sender.{sender_of, Sender, new_sender}
 use Rattle.flow_send.specs.Steady.{Steady}
-use Rattle.flow_send.specs.Flow.{Flow, flow_options}
+use Rattle.rtmfp_data_chunks.specs.FlowOptions.{flow_options}
+use Rattle.flow_send.specs.Flow.{Flow}
 use Rattle.flow_send.proofs.Steadies.{steady_new}
 use Rattle.flow_send.proofs.Followed.{begin}
 use Rattle.flow_send.proofs.sender.FlowSender.new.Goals as goal
@@ -19,13 +20,13 @@ fresh c =
     ap (λ (rs : List Row). sender_of (f - 1) rs c.new-3.result None (f - 1) (f - 1) None None 0) c.in_ok-new.ensures.none
     ∙ ap (λ (ws : List Waiting). sender_of (f - 1) [] ws None (f - 1) (f - 1) None None 0) c.new-3.ensures
 
-listed : (c : After-new-3) → options_in c.in_ok-spelled.field-0.items ≡ flow_options c.args.metadata.now c.args.answers
-listed c = options_in-spelled (flow_options c.args.metadata.now c.args.answers) c.in_ok-spelled.field-0.items c.in_ok-spelled.ensures
+listed : (c : After-new-3) → options_in c.in_ok-spell_flow_options.field-0.items ≡ flow_options c.args.metadata.now c.args.answers
+listed c = options_in-spelled (flow_options c.args.metadata.now c.args.answers) c.in_ok-spell_flow_options.field-0.items c.in_ok-spell_flow_options.ensures
 
 pub invariant_of-result : goal.invariant_of-result
 invariant_of-result c = (
   subst Steady (sym (fresh c)) (steady_new c.args.first c.requires.first c.ranges.first.fits),
-  subst (λ (os : List OptionParts). OptionsSpell os c.in_ok-spelled.field-0.items) (sym (listed c)) c.in_ok-spelled.ensures,
+  subst (λ (os : List OptionParts). OptionsSpell os c.in_ok-spell_flow_options.field-0.items) (sym (listed c)) c.in_ok-spell_flow_options.ensures,
   λ none. c.in_ok-new.ensures.room,
   begin c.new-2.result (c.args.first - 1 + 1) c.in_ok-new.field-0.rows (ap (λ (o : Ordered). o.queue) c.new-2.ensures) c.in_ok-new.ensures.none,
 )
