@@ -12,7 +12,8 @@ use Rattle.std.proofs.lemmas.Map.Keys.{le_from_not_gt, ge_from_not_lt}
 use Rattle.std.proofs.lemmas.Bool.{cases_lt}
 use Rattle.rtmfp_data_chunks.specs.Runs.{Run}
 use Rattle.flow_recv.specs.Keyed.{run_at, keyed, IsFirstFrom, IsLastBelow}
-use Rattle.flow_recv.proofs.Keeping.{lookup_keyed, less_lt, lt_less, eq_equal, is_key}
+use Rattle.rtmfp_data_chunks.proofs.Keys.{less_lt, lt_less, eq_equal, is_key}
+use Rattle.flow_recv.proofs.Keeping.{lookup_keyed}
 
 pub get_is : (q : ℕ) (es : List (ℕ × Run)) (runs : List Run) → es ≡ keyed runs → lookup (is_key q) es ≡ run_at q runs
 get_is q es runs e = ap (λ ds. lookup (is_key q) ds) e ∙ lookup_keyed q runs

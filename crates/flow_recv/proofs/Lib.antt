@@ -24,3 +24,4 @@ pub mod Walking
 pub mod Passing
 pub mod Wholes
 pub mod Summing
+pub mod Among

@@ -12,7 +12,7 @@ use Rattle.flow_recv.proofs.Knowing.{Formed, lacks_after}
 use Rattle.flow_recv.proofs.Bounds.{alive_is, is_alive_from}
 use Rattle.flow_recv.proofs.Beside.{Near, AllNear}
 use Rattle.flow_recv.proofs.Searching.{lacks_above}
-use Rattle.flow_recv.proofs.Walking.{filter_same, filter_twice}
+use Rattle.rtmfp_data_chunks.proofs.Filtering.{filter_same, filter_twice}
 
 -- later spans lack what earlier ones lack, but for the numbers between two
 abbrev pub Lacks_but : List Span → List Span → (ℕ → Type 0) → Type 0

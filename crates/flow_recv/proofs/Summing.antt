@@ -4,11 +4,11 @@ use Rattle.std.specs.Prelude.{max}
 use Rattle.std.specs.Option.{option_map}
 use Rattle.std.specs.List.{filter, sum_by}
 use Rattle.std.proofs.lemmas.List.Sums.{sum_by-cons}
-use Rattle.std.proofs.lemmas.Bool.{cases_Bool, cases_lt, eqb-true, ne_eqb, eq-eqb, lt-ltb, le-ltb, ltb-false, le-leb, lt-leb}
+use Rattle.std.proofs.lemmas.Bool.{cases_Bool, cases_lt, eqb-true, ne_eqb, eq-eqb, lt-ltb, le-ltb, le-leb, lt-leb}
 use Rattle.rtmfp_data_chunks.specs.HandsOver.{IsIn}
 use Rattle.rtmfp_data_chunks.specs.Runs.{Run, is_whole}
 use Rattle.flow_recv.specs.declared.spans.Span.{Span}
-use Rattle.flow_recv.specs.Receiver.{span, held_in, is_alive, first_of, without_first, knows, end_of_first}
+use Rattle.flow_recv.specs.Receiver.{span, held_in, is_alive, without_first, knows}
 use Rattle.flow_recv.specs.Sound.{AllAlive}
 use Rattle.flow_recv.specs.Order.{AllKnown}
 use Rattle.flow_recv.specs.Keyed.{run_at, without_run, with_run, changed_run, is_between, stays, over}

@@ -4,6 +4,7 @@ use Rattle.std.specs.List.{filter}
 use Rattle.std.proofs.lemmas.Bool.{cases_Bool, cases_lt, le-leb, lt-leb, le-ltb, lt-ltb, leb-false, ne_eqb, eqb-true, eq-eqb}
 use Rattle.std.proofs.lemmas.List.Sums.{sum_by-cons}
 use Rattle.rtmfp_data_chunks.specs.HandsOver.{IsIn}
+use Rattle.rtmfp_data_chunks.proofs.Filtering.{filter_same, filter_all, filter_twice, in_filter}
 use Rattle.flow_recv.specs.declared.spans.Span.{Span}
 use Rattle.rtmfp_data_chunks.specs.Runs.{Run}
 use Rattle.flow_recv.specs.Receiver.{held_in, is_alive}
@@ -15,40 +16,6 @@ use Rattle.flow_recv.proofs.Placing.{in_at, in_apart, in_low, at_in, at_eq, has_
 abbrev pub left_numbers : Option ℕ → ℕ
 left_numbers None = 0
 left_numbers (Some f) = 2 ^ 64 - f
-
--- ---- lists that a test leaves
-
-pub filter_same : (p q : Run → Bool) (runs : List Run) → ((y : Run) → IsIn y runs → p y ≡ q y) → filter p runs ≡ filter q runs
-filter_same p q [] h = refl
-filter_same p q (y ∷ later) h = ap (λ t. cond t (y ∷ filter p later) (filter p later)) (h y (inl refl)) ∙ ap (λ zs. cond (q y) (y ∷ zs) zs) (filter_same p q later (λ z i. h z (inr i)))
-
-pub filter_all : (p : Run → Bool) (runs : List Run) → ((y : Run) → IsIn y runs → p y ≡ true) → filter p runs ≡ runs
-filter_all p [] h = refl
-filter_all p (y ∷ later) h = ap (λ t. cond t (y ∷ filter p later) (filter p later)) (h y (inl refl)) ∙ ap (λ zs. y ∷ zs) (filter_all p later (λ z i. h z (inr i)))
-
-twice_if : (p q : Run → Bool) (y : Run) (later : List Run) (s t : Bool) → q y ≡ t → filter q (filter p later) ≡ filter (λ z. p z && q z) later
-    → filter q (cond s (y ∷ filter p later) (filter p later)) ≡ cond (s && t) (y ∷ filter (λ z. p z && q z) later) (filter (λ z. p z && q z) later)
-twice_if p q y later true t e ih = ap (λ u. cond u (y ∷ filter q (filter p later)) (filter q (filter p later))) e ∙ ap (λ zs. cond t (y ∷ zs) zs) ih
-twice_if p q y later false t e ih = ih
-
-pub filter_twice : (p q : Run → Bool) (runs : List Run) → filter q (filter p runs) ≡ filter (λ z. p z && q z) runs
-filter_twice p q [] = refl
-filter_twice p q (y ∷ later) = twice_if p q y later (p y) (q y) refl (filter_twice p q later)
-
-in_if : (y x : Run) (zs : List Run) (t : Bool) → t ≡ true → (y ≡ x) ⊎ IsIn y zs → IsIn y (cond t (x ∷ zs) zs)
-in_if y x zs true e i = i
-in_if y x zs false e i = absurd cc
-
-later_if : (y x : Run) (zs : List Run) (t : Bool) → IsIn y zs → IsIn y (cond t (x ∷ zs) zs)
-later_if y x zs true i = inr i
-later_if y x zs false i = i
-
-pub in_filter : (p : Run → Bool) (runs : List Run) (y : Run) → IsIn y runs → p y ≡ true → IsIn y (filter p runs)
-in_filter p [] y i e = absurd i
-in_filter p (x ∷ later) y i e = elim i [
-  | inl s ↦ in_if y x (filter p later) (p x) (ap p (sym s) ∙ e) (inl s)
-  | inr j ↦ later_if y x (filter p later) (p x) (in_filter p later y j e)
-]
 
 -- ---- where it begins
 

@@ -1,7 +1,7 @@
 -- The runs by the number that each begins with.
 use Rattle.std.specs.Prelude.{ℕ, ◌≡◌, ◌==◌, ◌-◌, ◌+◌, ◌<◌, ◌≤◌, nat_lt, nat_le, ◌&&◌, ◌||◌, not}
 use Rattle.std.specs.Prelude.{Bool, true, false, if◌then◌else◌, List, [], ◌∷◌, ◌++◌, Option, Some}
-use Rattle.std.specs.Prelude.{None, IsSome, length}
+use Rattle.std.specs.Prelude.{None, IsSome, length, min, max}
 use Rattle.std.specs.Option.{IsSomeAnd}
 use Rattle.std.specs.Map.{keys_of, values_of}
 use Rattle.std.specs.Ordering.{nat_cmp}
@@ -145,3 +145,36 @@ following_at x (Some y) = fits x y
 abbrev pub ready_at : ℕ → Option Run → Bool
 ready_at through None = false
 ready_at through (Some y) = hands false through y
+
+-- the newest run, where there is one, among the older ones
+abbrev pub with_newest : Option Run → List Run → List Run
+with_newest None runs = runs
+with_newest (Some x) runs = with_run x runs
+
+-- no older one begins with its number
+abbrev pub IsNewest : Option Run → List Run → Type 0
+IsNewest None runs = Unit {0}
+IsNewest (Some x) runs = run_at x.first runs ≡ None
+
+abbrev pub begins : ℕ → Option Run → Bool
+begins n None = false
+begins n (Some y) = y.first == n
+
+-- the lower and the higher one of two numbers
+abbrev pub least : ℕ → Option ℕ → ℕ
+least n None = n
+least n (Some g) = min n g
+
+abbrev pub most : ℕ → Option ℕ → ℕ
+most n None = n
+most n (Some g) = max n g
+
+-- a number is below another one, or there is no other one
+abbrev pub is_before : ℕ → Option ℕ → Bool
+is_before n None = true
+is_before n (Some g) = nat_lt n g
+
+-- it is whole and begins before a number
+abbrev pub is_foremost : Option ℕ → Option Run → Bool
+is_foremost other None = false
+is_foremost other (Some y) = is_whole y && is_before y.first other

@@ -72,6 +72,9 @@ impl Above {
     pub fn last_from(&self, number: u128) -> Option<Span>
         ensures { result ≡ last_from number self.now }
     {
+        if self.map.is_empty() {
+            return None;
+        }
         let key = number.min(u128::from(u64::MAX)) as u64;
         match self.map.range(..=key).next_back() {
             Some((first, last)) => Some(Span {

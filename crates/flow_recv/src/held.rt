@@ -1,8 +1,8 @@
 //! The runs of a flow as a map, by the number that each begins with.
 
 ghost use Rattle.std.specs.Prelude.{◌≡◌, ℕ, ◌<◌, ◌≤◌, ◌+◌, ◌∷◌, [], IfOk, IfSome, IsSome, OnOk};
-ghost use Rattle.std.specs.Prelude.{OnErr, List, true, false, ◌==◌, if◌then◌else◌, ◌&&◌};
-ghost use Rattle.std.specs.Option.{option_copied, is_some, IsSomeAnd};
+ghost use Rattle.std.specs.Prelude.{OnErr, IfErr, List, true, false, ◌==◌, if◌then◌else◌, ◌&&◌};
+ghost use Rattle.std.specs.Option.{option_copied, option_map, is_some, IsSomeAnd};
 ghost use Rattle.std.specs.Map.{remove_entry};
 ghost use Rattle.std.specs.Ordering.{nat_cmp};
 ghost use Rattle.std.specs.BTreeMap.{get, is_at, IsOrdered};
@@ -68,6 +68,9 @@ impl HeldRuns {
     pub fn below(&self, number: u64) -> Option<u64>
         ensures { IsLastBelow number self.now result }
     {
+        if self.map.is_empty() {
+            return None;
+        }
         match self.map.range(..number).next_back() {
             Some((first, _)) => Some(*first),
             None => None,
@@ -78,6 +81,9 @@ impl HeldRuns {
     pub fn from(&self, number: u64) -> Option<u64>
         ensures { IsFirstFrom number self.now result }
     {
+        if self.map.is_empty() {
+            return None;
+        }
         match self.map.range(number..).next() {
             Some((first, _)) => Some(*first),
             None => None,
@@ -88,6 +94,9 @@ impl HeldRuns {
     pub fn after(&self, first: u64) -> Option<u64>
         ensures { IsFirstFrom (first + 1) self.now result }
     {
+        if self.map.is_empty() {
+            return None;
+        }
         match self
             .map
             .range((Bound::Excluded(first), Bound::Unbounded))
@@ -107,19 +116,24 @@ impl HeldRuns {
         self.map.remove(&first)
     }
 
-    /// Adds a run.
-    pub fn insert(&mut self, run: HeldRun) -> Result<(), AllocError>
+    /// Adds a run. Where there is no memory it comes back.
+    pub fn insert(&mut self, run: HeldRun) -> Result<(), HeldRun>
         requires { run_at run.first self.old ≡ None }
         ensures added { OnOk result (self.new ≡ with_run run self.old) }
         ensures unchanged { OnErr result (self.new ≡ self.old) }
+        ensures back { IfErr result (λ y. y ≡ run) }
     {
         let first = run.first();
-        mark_whole(&mut self.whole, first, run.is_whole())?;
-        if self.map.insert(first, run).is_ok() {
-            return Ok(());
+        let Ok(()) = mark_whole(&mut self.whole, first, run.is_whole()) else {
+            return Err(run);
+        };
+        match self.map.insert(first, run) {
+            Ok(_) => Ok(()),
+            Err(refused) => {
+                self.whole.remove(&first);
+                Err(refused.value.1)
+            }
         }
-        self.whole.remove(&first);
-        Err(AllocError)
     }
 
     /// Appends a fragment to the run that begins with a number and that it follows and fits.
@@ -175,6 +189,16 @@ impl HeldRuns {
         ensures { result ≡ is_some (first_of is_whole self.now) }
     {
         self.whole.len() > 0
+    }
+
+    /// The number that the first run that is whole begins with.
+    pub fn first_whole(&self) -> Option<u64>
+        ensures { result ≡ option_map (λ y. y.first) (first_of is_whole self.now) }
+    {
+        match self.whole.first() {
+            Some(first) => Some(*first),
+            None => None,
+        }
     }
 
     /// Takes out the first run that is whole.

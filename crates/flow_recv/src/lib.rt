@@ -7,6 +7,7 @@ mod acking;
 mod bytes;
 pub mod edges;
 mod held;
+mod newest;
 mod outcome;
 mod receiver;
 mod run;

@@ -21,10 +21,10 @@ ghost use Rattle.flow_recv.specs.Order.{InOrder};
 
 use crate::above::Above;
 use crate::acking::{pairs_len, put_pairs};
+use crate::newest::NewestRuns;
 use crate::outcome::{FlowRefusal, Took};
 use crate::runs::{add_run, any_ready, drop_dead, dying_bytes, take_ready};
 use crate::spans::{Spot, lacks, mark_alone, mark_behind, mark_first, raise, raised, spot_of};
-use crate::summed::SummedRuns;
 use crate::sums::{block_of, block_start};
 use rtmfp_base::{Memory, Message};
 use rtmfp_data_chunks::UserData;
@@ -45,7 +45,7 @@ pub struct FlowReceiver {
     arriving: bool,
     through: u64,
     above: Above,
-    runs: SummedRuns,
+    runs: NewestRuns,
     held: u64,
     last: Option<u64>,
     highest: u64,
@@ -85,7 +85,7 @@ impl FlowReceiver {
             arriving: first_metadata == ARRIVING,
             through: 0,
             above: Above::new(alloc),
-            runs: SummedRuns::new(alloc),
+            runs: NewestRuns::new(alloc),
             held: 0,
             last: None,
             highest: 0,
@@ -236,7 +236,7 @@ impl FlowReceiver {
 
 /// The bytes held as if a forward number were taken. Of those that it drops, the runs that end in
 /// earlier blocks are summed already, and the few that are left are looked at.
-fn held_after(runs: &SummedRuns, held: u64, through: u64, above: &Above, forward: u64) -> u64
+fn held_after(runs: &NewestRuns, held: u64, through: u64, above: &Above, forward: u64) -> u64
     requires held { held ≡ held_in runs.now }
     requires few { held_in runs.now < 2 ^ 32 }
     requires apart { Apart above.now }
@@ -255,7 +255,7 @@ fn held_after(runs: &SummedRuns, held: u64, through: u64, above: &Above, forward
 
 /// Drops the runs beside the numbers that a forward number passes and that can't become messages
 /// any more. The answer is how many bytes they held.
-fn drop_passed(runs: &mut SummedRuns, before: u64, forward: u64, through: u64, above: &Above) -> u64
+fn drop_passed(runs: &mut NewestRuns, before: u64, forward: u64, through: u64, above: &Above) -> u64
     requires apart { Apart above.now }
     requires order { InOrder 0 runs.old }
     requires few { held_in runs.old < 2 ^ 32 }
@@ -272,7 +272,7 @@ fn drop_passed(runs: &mut SummedRuns, before: u64, forward: u64, through: u64, a
 /// Drops the runs that can't become messages any more after a chunk: those beside its number, and
 /// those beside the numbers that its forward number passes. The answer is how many bytes they held.
 fn drop_after(
-    runs: &mut SummedRuns,
+    runs: &mut NewestRuns,
     before: u64,
     forward: u64,
     number: u64,
@@ -310,7 +310,7 @@ fn admit(
     alloc: Global,
     through: u64,
     above: &mut Above,
-    runs: &mut SummedRuns,
+    runs: &mut NewestRuns,
     missing: bool,
     chunk: &UserData<'_>,
 ) -> Result<u64, AllocError>
@@ -355,7 +355,7 @@ fn admit(
 }
 
 /// Holds the fragment of a chunk without abandon.
-fn hold(alloc: Global, runs: &mut SummedRuns, chunk: &UserData<'_>) -> Result<(), AllocError>
+fn hold(alloc: Global, runs: &mut NewestRuns, chunk: &UserData<'_>) -> Result<(), AllocError>
     requires order { InOrder 0 runs.old }
     requires free { IsFree chunk.now.seq runs.old }
     requires few { chunk.now.abandon ≡ false →

@@ -5,12 +5,12 @@ ghost use Rattle.std.specs.Prelude.{◌++◌, length, false};
 ghost use Rattle.rtmfp_data_chunks.specs.Runs.{fits, joined, single, is_whole, has_front, has_rear};
 ghost use Rattle.flow_recv.specs.Receiver.{Apart, is_alive, span, lacks, hands};
 ghost use Rattle.flow_recv.specs.Keyed.{is_between, emptied, over};
-ghost use Rattle.flow_recv.specs.Sums.{open_of};
+ghost use Rattle.flow_recv.specs.Sums.{open_of, before};
 
 use crate::above::Above;
 use crate::bytes::HeldBytes;
 use crate::spans::lacks;
-use crate::sums::Open;
+use crate::sums::{Open, block_of};
 use rtmfp_data_chunks::Part;
 use std::alloc::{AllocError, Global};
 use std::marker::Model;
@@ -190,6 +190,17 @@ impl HeldRun {
             } else {
                 self.len() as u64
             },
+        }
+    }
+
+    /// What it gives to the sum of the runs that aren't whole and end in a block before one.
+    pub fn open_before(&self, block: u64) -> u64
+        ensures { result ≡ before block self.now }
+    {
+        if block_of(self.last) < block {
+            self.open().bytes
+        } else {
+            0
         }
     }
 

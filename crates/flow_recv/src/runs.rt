@@ -13,13 +13,13 @@ ghost use Rattle.flow_recv.specs.Receiver.{Apart, held_in, add_run, span, hands,
 ghost use Rattle.flow_recv.specs.Receiver.{without_first};
 
 use crate::above::Above;
+use crate::newest::NewestRuns;
 use crate::run::HeldRun;
-use crate::summed::SummedRuns;
 use rtmfp_data_chunks::Part;
 use std::alloc::{AllocError, Global};
 
 /// The number that the run begins with which a fragment follows and fits.
-fn followed(runs: &SummedRuns, number: u64, part: Part) -> Option<u64>
+fn followed(runs: &NewestRuns, number: u64, part: Part) -> Option<u64>
     requires { InOrder 0 runs.now }
     ensures { IsFollowed (single number part []) runs.now result }
 {
@@ -33,7 +33,7 @@ fn followed(runs: &SummedRuns, number: u64, part: Part) -> Option<u64>
 }
 
 /// Whether a fragment follows and fits the run that begins with a number.
-fn is_followed_at(runs: &SummedRuns, first: u64, number: u64, part: Part) -> bool
+fn is_followed_at(runs: &NewestRuns, first: u64, number: u64, part: Part) -> bool
     ensures { result ≡ followed_at (single number part []) (run_at first runs.now) }
 {
     match runs.at(first) {
@@ -43,7 +43,7 @@ fn is_followed_at(runs: &SummedRuns, first: u64, number: u64, part: Part) -> boo
 }
 
 /// The number that the run begins with which follows a fragment and fits.
-fn following(runs: &SummedRuns, number: u64, part: Part) -> Option<u64>
+fn following(runs: &NewestRuns, number: u64, part: Part) -> Option<u64>
     requires { InOrder 0 runs.now }
     ensures { IsFollowing (single number part []) runs.now result }
 {
@@ -57,7 +57,7 @@ fn following(runs: &SummedRuns, number: u64, part: Part) -> Option<u64>
 }
 
 /// Whether the run that begins with a number follows a fragment and fits.
-fn follows_at(runs: &SummedRuns, first: u64, number: u64, part: Part) -> bool
+fn follows_at(runs: &NewestRuns, first: u64, number: u64, part: Part) -> bool
     ensures { result ≡ following_at (single number part []) (run_at first runs.now) }
 {
     match runs.at(first) {
@@ -70,7 +70,7 @@ fn follows_at(runs: &SummedRuns, first: u64, number: u64, part: Part) -> bool
 /// one fits.
 fn extend(
     alloc: Global,
-    runs: &mut SummedRuns,
+    runs: &mut NewestRuns,
     first: u64,
     number: u64,
     part: Part,
@@ -92,7 +92,7 @@ fn extend(
 /// Adds a fragment that follows and fits no run, joined to the run after it where that one fits.
 fn put(
     alloc: Global,
-    runs: &mut SummedRuns,
+    runs: &mut NewestRuns,
     number: u64,
     part: Part,
     bytes: &[u8],
@@ -119,7 +119,7 @@ fn put(
 /// a run is appended in place.
 pub fn add_run(
     alloc: Global,
-    runs: &mut SummedRuns,
+    runs: &mut NewestRuns,
     number: u64,
     part: Part,
     bytes: &[u8],
@@ -137,7 +137,7 @@ pub fn add_run(
 }
 
 /// Where a walk begins that looks at the runs from a number on, and at the one directly before it.
-fn reaching(runs: &SummedRuns, low: u64) -> Option<u64>
+fn reaching(runs: &NewestRuns, low: u64) -> Option<u64>
     requires { InOrder 0 runs.now }
     ensures { Reaches low runs.now result }
 {
@@ -148,7 +148,7 @@ fn reaching(runs: &SummedRuns, low: u64) -> Option<u64>
 }
 
 /// Whether the run that begins with a number stays, if these numbers came to be known.
-fn stays_at(runs: &SummedRuns, first: u64, low: u64, high: u64, through: u64, above: &Above) -> bool
+fn stays_at(runs: &NewestRuns, first: u64, low: u64, high: u64, through: u64, above: &Above) -> bool
     requires { Apart above.now }
     ensures { result ≡ stays_at (span 0 through ∷ above.now) low high (run_at first runs.now) }
 {
@@ -160,7 +160,7 @@ fn stays_at(runs: &SummedRuns, first: u64, low: u64, high: u64, through: u64, ab
 
 /// Drops the run that begins with a number, unless it stays. The answer is how many bytes it held.
 fn drop_unless_stays(
-    runs: &mut SummedRuns,
+    runs: &mut NewestRuns,
     first: u64,
     low: u64,
     high: u64,
@@ -184,7 +184,7 @@ fn drop_unless_stays(
 
 /// How many bytes the run that begins with a number holds, unless it stays.
 fn bytes_unless_stays(
-    runs: &SummedRuns,
+    runs: &NewestRuns,
     first: u64,
     low: u64,
     high: u64,
@@ -209,7 +209,7 @@ fn bytes_unless_stays(
 /// Drops those of the runs that have one of the numbers between two or lie beside one, and that
 /// can't become messages any more. The answer is how many bytes they held. A whole run is a message
 /// already.
-pub fn drop_dead(runs: &mut SummedRuns, low: u64, high: u64, through: u64, above: &Above) -> u64
+pub fn drop_dead(runs: &mut NewestRuns, low: u64, high: u64, through: u64, above: &Above) -> u64
     requires apart { Apart above.now }
     requires order { InOrder 0 runs.old }
     requires few { held_in runs.old < 2 ^ 32 }
@@ -232,7 +232,7 @@ pub fn drop_dead(runs: &mut SummedRuns, low: u64, high: u64, through: u64, above
 }
 
 /// How many bytes those runs hold.
-pub fn dying_bytes(runs: &SummedRuns, low: u64, high: u64, through: u64, above: &Above) -> u64
+pub fn dying_bytes(runs: &NewestRuns, low: u64, high: u64, through: u64, above: &Above) -> u64
     requires apart { Apart above.now }
     requires order { InOrder 0 runs.now }
     requires few { held_in runs.now < 2 ^ 32 }
@@ -255,7 +255,7 @@ pub fn dying_bytes(runs: &SummedRuns, low: u64, high: u64, through: u64, above: 
 }
 
 /// Whether the run that begins with a number may be handed over in queueing order.
-fn is_ready_at(runs: &SummedRuns, first: u64, through: u64) -> bool
+fn is_ready_at(runs: &NewestRuns, first: u64, through: u64) -> bool
     ensures { result ≡ ready_at through (run_at first runs.now) }
 {
     match runs.at(first) {
@@ -265,7 +265,7 @@ fn is_ready_at(runs: &SummedRuns, first: u64, through: u64) -> bool
 }
 
 /// Whether a run may be handed over.
-pub fn any_ready(runs: &SummedRuns, arriving: bool, through: u64) -> bool
+pub fn any_ready(runs: &NewestRuns, arriving: bool, through: u64) -> bool
     requires order { InOrder 0 runs.now }
     requires open { AllOpen through runs.now }
     ensures { result ≡ is_some (first_of (hands arriving through) runs.now) }
@@ -281,7 +281,7 @@ pub fn any_ready(runs: &SummedRuns, arriving: bool, through: u64) -> bool
 
 /// Takes out the first run that may be handed over. In queueing order that is the first run, or
 /// none is.
-pub fn take_ready(runs: &mut SummedRuns, arriving: bool, through: u64) -> Option<HeldRun>
+pub fn take_ready(runs: &mut NewestRuns, arriving: bool, through: u64) -> Option<HeldRun>
     requires order { InOrder 0 runs.old }
     requires open { AllOpen through runs.old }
     ensures run { result ≡ first_of (hands arriving through) runs.old }

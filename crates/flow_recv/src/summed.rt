@@ -1,8 +1,8 @@
 //! The runs of a flow, with sums of the bytes of those that aren't whole.
 
 ghost use Rattle.std.specs.Prelude.{◌≡◌, ℕ, ◌<◌, ◌≤◌, ◌+◌, ◌^◌, ◌/◌, [], IfOk, IfSome, IsSome, OnOk};
-ghost use Rattle.std.specs.Prelude.{OnErr, List, None, true, false, ◌==◌, length};
-ghost use Rattle.std.specs.Option.{option_copied, is_some, IsSomeAnd};
+ghost use Rattle.std.specs.Prelude.{OnErr, IfErr, List, None, true, false, ◌==◌, length};
+ghost use Rattle.std.specs.Option.{option_copied, option_map, is_some, IsSomeAnd};
 ghost use Rattle.rtmfp_data_chunks.specs.Runs.{single, joined, fits, is_whole};
 ghost use Rattle.flow_recv.specs.Receiver.{first_of, without_first, held_in};
 ghost use Rattle.flow_recv.specs.Keyed.{AllWhole, run_at, without_run, with_run, changed_run, over};
@@ -91,15 +91,18 @@ impl SummedRuns {
         self.runs.remove(first)
     }
 
-    /// Adds a run.
-    pub fn insert(&mut self, run: HeldRun) -> Result<(), AllocError>
+    /// Adds a run. Where there is no memory it comes back.
+    pub fn insert(&mut self, run: HeldRun) -> Result<(), HeldRun>
         requires free { run_at run.first self.old ≡ None }
         requires few { held_in self.old + length run.bytes < 2 ^ 32 }
         ensures added { OnOk result (self.new ≡ with_run run self.old) }
         ensures unchanged { OnErr result (self.new ≡ self.old) }
+        ensures back { IfErr result (λ y. y ≡ run) }
     {
         let more = run.open();
-        self.sums.make(more.bytes)?;
+        if self.sums.make(more.bytes).is_err() {
+            return Err(run);
+        }
         self.runs.insert(run)?;
         self.sums.add(more);
         Ok(())
@@ -161,6 +164,13 @@ impl SummedRuns {
         ensures { result ≡ is_some (first_of is_whole self.now) }
     {
         self.runs.any_whole()
+    }
+
+    /// The number that the first run that is whole begins with.
+    pub fn first_whole(&self) -> Option<u64>
+        ensures { result ≡ option_map (λ y. y.first) (first_of is_whole self.now) }
+    {
+        self.runs.first_whole()
     }
 
     /// Takes out the first run that is whole.

@@ -3,7 +3,8 @@ use Rattle.std.specs.Map.{set_value}
 use Rattle.std.proofs.lemmas.Map.Steps.{set_value_same}
 use Rattle.rtmfp_data_chunks.specs.Runs.{single, joined}
 use Rattle.flow_recv.proofs.Joining.{on_ok, on_err}
-use Rattle.flow_recv.proofs.Keeping.{set_changed, changed_none, is_key}
+use Rattle.rtmfp_data_chunks.proofs.Keys.{is_key}
+use Rattle.flow_recv.proofs.Keeping.{set_changed, changed_none}
 use Rattle.flow_recv.proofs.held.append_at.Goals as goal
 
 pub returns-in-Some-clause-appended : goal.returns-in-Some-clause-appended

@@ -2,7 +2,8 @@ use Rattle.std.proofs.Common.{◌≡◌, ◌∙◌, ap, sym}
 use Rattle.std.specs.Map.{remove_entry}
 use Rattle.rtmfp_data_chunks.specs.Runs.{Run}
 use Rattle.flow_recv.specs.Keyed.{changed_entry, emptied, over}
-use Rattle.flow_recv.proofs.Keeping.{is_some_and, gone_later, put_back, is_key}
+use Rattle.rtmfp_data_chunks.proofs.Keys.{is_key}
+use Rattle.flow_recv.proofs.Keeping.{is_some_and, gone_later, put_back}
 use Rattle.std.specs.Map.{lookup}
 use Rattle.flow_recv.proofs.held.join_at.Goals as goal
 

@@ -1,7 +1,8 @@
 use Rattle.std.proofs.Common.{◌∙◌, ap, sym}
 use Rattle.std.specs.Map.{set_value}
 use Rattle.flow_recv.specs.Keyed.{emptied}
-use Rattle.flow_recv.proofs.Keeping.{set_changed, changed_none, is_key}
+use Rattle.rtmfp_data_chunks.proofs.Keys.{is_key}
+use Rattle.flow_recv.proofs.Keeping.{set_changed, changed_none}
 use Rattle.flow_recv.proofs.held.take_out_at.Goals as goal
 
 pub returns-in-Some-clause-left : goal.returns-in-Some-clause-left

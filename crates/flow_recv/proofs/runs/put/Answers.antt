@@ -1,4 +1,4 @@
-use Rattle.std.proofs.Common.{refl, ap, sym, subst, ◌∙◌, ◌≡◌, List, [], None, false, length, arith}
+use Rattle.std.proofs.Common.{refl, ap, sym, subst, ◌∙◌, ◌≡◌, List, [], false, length, arith}
 use Rattle.std.specs.Prelude.{IsSome, IfSome}
 use Rattle.std.specs.Option.{IsSomeAnd}
 use Rattle.rtmfp_data_chunks.specs.Runs.{Run, single, is_whole}
@@ -8,6 +8,8 @@ use Rattle.flow_recv.proofs.Joining.{on_ok, from_ok, from_err}
 use Rattle.flow_recv.proofs.Placing.{puts_one, free_none}
 use Rattle.flow_recv.proofs.Putting.{apart_after, still_open, still_there, put_joined, without_new}
 use Rattle.flow_recv.proofs.Summing.{sum_with}
+use Rattle.flow_recv.specs.Order.{InOrder}
+use Rattle.flow_recv.proofs.Among.{order_with}
 use Rattle.flow_recv.proofs.runs.put.Goals as goal
 
 pub insert-requires-clause-free : goal.insert-requires-clause-free
@@ -57,3 +59,9 @@ join-requires-clause-few c =
     let one = single c.args.number c.args.part c.args.bytes.now in
     let at = ap (λ (ys : List Run). held_in ys) (c.in_ok-insert.ensures.added ∙ ap (λ (x : Run). with_run x c.args.runs.now) c.in_ok-single-2.ensures) in
     omega (arith, at, sum_with (λ (y : Run). length y.bytes) one c.args.runs.now, c.requires.few)
+
+pub remove-requires : goal.remove-requires
+remove-requires c =
+    let one = single c.args.number c.args.part c.args.bytes.now in
+    let at = c.in_ok-insert.ensures.added ∙ ap (λ (x : Run). with_run x c.args.runs.now) c.in_ok-single-2.ensures in
+    subst (InOrder 0) (sym (from_err c.join.result c.if-is_ok.ensures.value c.join.ensures.unchanged ∙ at)) (order_with one 0 c.args.runs.now refl (omega arith) c.requires.free c.requires.order)

@@ -3,7 +3,7 @@ use Rattle.std.specs.declared.ops.Bound.TheVariants.{Excluded}
 use Rattle.std.specs.Map.{values_of}
 use Rattle.rtmfp_data_chunks.specs.Runs.{Run}
 use Rattle.flow_recv.specs.Keyed.{IsFirstFrom}
-use Rattle.flow_recv.proofs.Keeping.{less_lt, lt_less}
+use Rattle.rtmfp_data_chunks.proofs.Keys.{less_lt, lt_less}
 use Rattle.flow_recv.proofs.Finding.{first_in, none_in}
 use Rattle.flow_recv.proofs.held.HeldRuns.after.Goals as goal
 

@@ -1,4 +1,4 @@
-use Rattle.std.proofs.Common.{◌≡◌, ℕ, nat_lt, List, length, ap, sym, ◌∙◌}
+use Rattle.std.proofs.Common.{ℕ, nat_lt, List, length, ap, ◌∙◌}
 use Rattle.std.specs.Map.{values_of}
 use Rattle.std.specs.Option.{is_some}
 use Rattle.rtmfp_data_chunks.specs.Runs.{Run, is_whole}

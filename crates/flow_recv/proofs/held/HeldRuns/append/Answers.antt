@@ -5,7 +5,8 @@ use Rattle.std.specs.Set.{remove_key}
 use Rattle.rtmfp_data_chunks.specs.Runs.{Run, single, joined, is_whole}
 use Rattle.flow_recv.specs.Keyed.{run_at, changed_run, IsKept}
 use Rattle.flow_recv.proofs.Joining.{from_ok, from_err}
-use Rattle.flow_recv.proofs.Keeping.{both, kept_changed, kept_undone, fits_open, is_key}
+use Rattle.rtmfp_data_chunks.proofs.Keys.{is_key}
+use Rattle.flow_recv.proofs.Keeping.{both, kept_changed, kept_undone, fits_open}
 use Rattle.flow_recv.proofs.held.HeldRuns.append.Goals as goal
 
 parts : (c : goal.Then-is_ok) → IsKept c.append_at.new.map.entries c.mark_whole.new.whole.keys × (values_of c.append_at.new.map.entries ≡ changed_run (λ y. joined y (single c.args.number c.args.part c.args.bytes.now)) c.args.first (values_of c.self.inside.map.entries))

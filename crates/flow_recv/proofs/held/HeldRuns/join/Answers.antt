@@ -7,7 +7,8 @@ use Rattle.rtmfp_data_chunks.specs.Runs.{Run, is_whole}
 use Rattle.flow_recv.specs.Keyed.{run_at, without_run, changed_run, changed_entry, over, rear_of, IsKept}
 use Rattle.flow_recv.proofs.Joining.{from_ok, from_err}
 use Rattle.flow_recv.proofs.Finding.{get_is}
-use Rattle.flow_recv.proofs.Keeping.{both, kept_joined, kept_undone, some_and, opened, is_key}
+use Rattle.rtmfp_data_chunks.proofs.Keys.{is_key}
+use Rattle.flow_recv.proofs.Keeping.{both, kept_joined, kept_undone, some_and, opened}
 use Rattle.flow_recv.proofs.held.HeldRuns.join.Goals as goal
 
 pub join_at-requires-clause-there : goal.join_at-requires-clause-there

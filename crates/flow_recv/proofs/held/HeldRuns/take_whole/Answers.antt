@@ -3,7 +3,8 @@ use Rattle.std.specs.Map.{values_of, lookup}
 use Rattle.rtmfp_data_chunks.specs.Runs.{is_whole}
 use Rattle.flow_recv.specs.Receiver.{first_of, without_first}
 use Rattle.flow_recv.specs.Keyed.{IsKept}
-use Rattle.flow_recv.proofs.Keeping.{kept_taken, no_whole, no_keys, is_key}
+use Rattle.rtmfp_data_chunks.proofs.Keys.{is_key}
+use Rattle.flow_recv.proofs.Keeping.{kept_taken, no_whole, no_keys}
 use Rattle.flow_recv.proofs.held.HeldRuns.take_whole.Goals as goal
 
 pub returns-in_default-clause-run : goal.returns-in_default-clause-run

@@ -1,9 +1,8 @@
-use Rattle.std.proofs.Common.{List, ℕ, ◌≡◌, ◌+◌, ◌<◌, ◌^◌, [], length, length-append, refl, sym, ap, ◌∙◌, subst, arith}
+use Rattle.std.proofs.Common.{List, ◌+◌, ◌<◌, ◌^◌, length, length-append, refl, sym, ap, ◌∙◌, subst, arith}
 use Rattle.rtmfp_data_chunks.specs.Runs.{Run, single, joined}
 use Rattle.flow_recv.specs.Receiver.{held_in}
-use Rattle.flow_recv.specs.declared.sums.Open.{Open}
-use Rattle.flow_recv.specs.Keyed.{run_at, changed_run}
-use Rattle.flow_recv.specs.Sums.{given, share, place, open_at}
+use Rattle.flow_recv.specs.Keyed.{run_at}
+use Rattle.flow_recv.specs.Sums.{place, open_at}
 use Rattle.flow_recv.proofs.Summing.{share_le, given_le, bytes_after, sums_changed}
 use Rattle.flow_recv.proofs.summed.SummedRuns.append.Goals as goal
 

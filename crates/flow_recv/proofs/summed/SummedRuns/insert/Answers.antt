@@ -2,7 +2,6 @@ use Rattle.std.proofs.Common.{List, sym, ap, ◌∙◌, subst, arith, length, �
 use Rattle.std.specs.List.{sum_by}
 use Rattle.rtmfp_data_chunks.specs.Runs.{Run}
 use Rattle.flow_recv.specs.Receiver.{held_in}
-use Rattle.flow_recv.specs.Keyed.{run_at}
 use Rattle.flow_recv.specs.Sums.{given, share, place}
 use Rattle.flow_recv.proofs.Summing.{sum_with, given_le, one_open}
 use Rattle.flow_recv.proofs.summed.SummedRuns.insert.Goals as goal

@@ -1,8 +1,8 @@
-use Rattle.std.proofs.Common.{List, ℕ, ◌≡◌, ◌+◌, ◌<◌, ◌^◌, ◌++◌, length, length-append, refl, sym, ap, ◌∙◌, subst, arith}
+use Rattle.std.proofs.Common.{List, ◌+◌, ◌<◌, ◌^◌, length, refl, sym, ◌∙◌, subst, arith}
 use Rattle.rtmfp_data_chunks.specs.Runs.{Run}
 use Rattle.flow_recv.specs.Receiver.{held_in}
-use Rattle.flow_recv.specs.Keyed.{run_at, without_run, changed_run, over}
-use Rattle.flow_recv.specs.Sums.{given, share, place, open_at}
+use Rattle.flow_recv.specs.Keyed.{run_at, over}
+use Rattle.flow_recv.specs.Sums.{place}
 use Rattle.flow_recv.proofs.Keeping.{opened}
 use Rattle.flow_recv.proofs.Summing.{share_le, share_left, given_le, joined_bytes, sums_joined}
 use Rattle.flow_recv.proofs.summed.SummedRuns.join.Goals as goal

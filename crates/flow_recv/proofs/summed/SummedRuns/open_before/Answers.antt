@@ -1,4 +1,4 @@
-use Rattle.std.proofs.Common.{List, ℕ, ◌≡◌, ◌-◌, ◌+◌, ◌<◌, ◌^◌, ◌/◌, sym, ap, min, ◌∙◌, subst, arith}
+use Rattle.std.proofs.Common.{List, ℕ, ◌≡◌, ◌-◌, ◌<◌, ◌^◌, ◌/◌, sym, ap, min, ◌∙◌, subst, arith}
 use Rattle.rtmfp_data_chunks.specs.Runs.{Run}
 use Rattle.flow_recv.specs.Receiver.{held_in}
 use Rattle.flow_recv.specs.Sums.{open_before, AllEndNear, AreSums, sum_from}

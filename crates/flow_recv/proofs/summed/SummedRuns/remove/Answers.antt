@@ -1,8 +1,8 @@
-use Rattle.std.proofs.Common.{List, sym, ap, ◌∙◌, subst, arith}
+use Rattle.std.proofs.Common.{List, ap, ◌∙◌, arith}
 use Rattle.std.specs.List.{sum_by}
 use Rattle.rtmfp_data_chunks.specs.Runs.{Run}
 use Rattle.flow_recv.specs.Keyed.{run_at}
-use Rattle.flow_recv.specs.Sums.{given, share, open_at}
+use Rattle.flow_recv.specs.Sums.{given, share}
 use Rattle.flow_recv.proofs.Summing.{sum_without, share_at, share_le}
 use Rattle.flow_recv.proofs.summed.SummedRuns.remove.Goals as goal
 

@@ -1,4 +1,4 @@
-use Rattle.std.proofs.Common.{sym, arith, ap, List, ℕ, ◌∙◌, ◌≡◌, get_or, length}
+use Rattle.std.proofs.Common.{arith, ap, List, ℕ, ◌∙◌, ◌≡◌, get_or, length}
 use Rattle.flow_recv.proofs.Summing.{made}
 use Rattle.flow_recv.proofs.sums.Sums.make.Goals as goal
 

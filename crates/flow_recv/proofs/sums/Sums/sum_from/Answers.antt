@@ -1,5 +1,4 @@
-use Rattle.std.proofs.Common.{◌+◌, ◌≤◌, ◌≡◌, suc, ap, arith, refl}
-use Rattle.flow_recv.specs.Sums.{sum_from}
+use Rattle.std.proofs.Common.{suc, arith}
 use Rattle.flow_recv.proofs.Summing.{sum_from_le}
 use Rattle.flow_recv.proofs.sums.Sums.sum_from.Goals as goal
 
