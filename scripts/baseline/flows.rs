@@ -1,11 +1,17 @@
 //! A plain Rust program of usual style that moves messages from a sender to a receiver in memory, for
-//! comparison with `bench_flows`: the same lines `move SIZE COUNT WAITING LOST WINDOW`, the same rules, no proofs.
+//! comparison with `bench_flows`: the same lines `move SIZE COUNT WAITING LOST WINDOW`, the same limits and
+//! refusals, deadlines, abandoned numbers and notices, no proofs. It scans where that serves: what is lost, what is
+//! overdue, and what an ack counts against.
 use std::collections::{BTreeMap, VecDeque};
 use std::io::{self, BufRead};
 
 const FRAGMENT: usize = 1_000;
+const LONGEST: usize = 1_048_576;
 const RESEND_AFTER: u64 = 250;
 const BUFFER: u64 = 2_097_152;
+const LARGE_BUFFER: u64 = 3_145_728;
+const NUMBERS: u64 = 65_536;
+const FLOW: u64 = 2;
 
 #[derive(Clone, Copy, PartialEq)]
 enum State {
@@ -13,16 +19,37 @@ enum State {
     Flying,
     Lost,
     Acknowledged,
+    Abandoned,
+}
+
+impl State {
+    fn is_settled(self) -> bool {
+        matches!(self, State::Acknowledged | State::Abandoned)
+    }
 }
 
 struct Row {
     begins: bool,
     ends: bool,
+    last: bool,
     bytes: Vec<u8>,
     state: State,
     moment: u64,
     ordinal: u64,
+    resends: u32,
     acks: u8,
+}
+
+impl Row {
+    fn new(begins: bool, ends: bool, last: bool, bytes: Vec<u8>) -> Row {
+        Row { begins, ends, last, bytes, state: State::Unsent, moment: 0, ordinal: 0, resends: 0, acks: 0 }
+    }
+}
+
+#[derive(Clone, Copy, Default)]
+struct Options {
+    deadline: Option<u64>,
+    resends: Option<u32>,
 }
 
 #[derive(Clone, Copy)]
@@ -30,11 +57,35 @@ struct Waiting {
     number: u64,
     count: u64,
     size: u64,
+    options: Options,
+}
+
+#[derive(Debug)]
+enum QueueRefusal {
+    Finished,
+    TooLong,
+    Backlog,
+    SequenceSpent,
+}
+
+#[derive(Debug, PartialEq)]
+enum NoChunk {
+    Nothing,
+    Window,
+    Room,
+}
+
+#[derive(Clone, Copy)]
+enum Pick {
+    Row(usize),
+    Notice,
 }
 
 struct Chunk<'a> {
     begins: bool,
     ends: bool,
+    abandon: bool,
+    last: bool,
     seq: u64,
     forward: u64,
     bytes: &'a [u8],
@@ -48,8 +99,14 @@ struct Sender {
     held: u64,
     fragments: u64,
     flight: u64,
+    flying: usize,
     lost: usize,
+    soonest: u64,
+    limited: bool,
     sent: u64,
+    upto: u64,
+    finish: Option<u64>,
+    notice: Option<u64>,
     order: u64,
     told: Option<u64>,
 }
@@ -63,143 +120,241 @@ impl Sender {
             held: 0,
             fragments: 0,
             flight: 0,
+            flying: 0,
             lost: 0,
+            soonest: u64::MAX,
+            limited: false,
             sent: 0,
+            upto: 0,
+            finish: None,
+            notice: None,
             order: 0,
             told: None,
         }
     }
 
-    fn queue(&mut self, message: &[u8]) -> bool {
+    fn next_number(&self) -> u64 {
+        self.forward + 1 + self.rows.len() as u64
+    }
+
+    fn queue(&mut self, message: &[u8], options: Options) -> Result<u64, QueueRefusal> {
         let count = message.len().div_ceil(FRAGMENT).max(1) as u64;
-        if self.held + message.len() as u64 > BUFFER || self.fragments + count > 65_536 {
-            return false;
+        let size = message.len() as u64;
+        if self.finish.is_some() {
+            return Err(QueueRefusal::Finished);
         }
-        let number = self.forward + 1 + self.rows.len() as u64;
-        self.waiting.push_back(Waiting { number, count, size: message.len() as u64 });
-        self.held += message.len() as u64;
+        if message.len() > LONGEST {
+            return Err(QueueRefusal::TooLong);
+        }
+        if self.held + size > BUFFER || self.fragments + count > NUMBERS {
+            return Err(QueueRefusal::Backlog);
+        }
+        let number = self.next_number();
+        if number.checked_add(count).is_none() {
+            return Err(QueueRefusal::SequenceSpent);
+        }
+        if self.waiting.is_empty() {
+            self.soonest = u64::MAX;
+            self.limited = false;
+        }
+        self.soonest = self.soonest.min(options.deadline.unwrap_or(u64::MAX));
+        self.limited |= options.resends.is_some();
+        self.waiting.push_back(Waiting { number, count, size, options });
+        self.held += size;
         self.fragments += count;
         for at in 0..count as usize {
             let end = message.len().min((at + 1) * FRAGMENT);
-            self.rows.push_back(Row {
-                begins: at == 0,
-                ends: at as u64 + 1 == count,
-                bytes: message[at * FRAGMENT..end].to_vec(),
-                state: State::Unsent,
-                moment: 0,
-                ordinal: 0,
-                acks: 0,
-            });
+            let bytes = message[at * FRAGMENT..end].to_vec();
+            self.rows.push_back(Row::new(at == 0, at as u64 + 1 == count, false, bytes));
         }
-        true
+        Ok(number)
+    }
+
+    #[allow(dead_code)]
+    fn finish(&mut self) -> Option<u64> {
+        if self.finish.is_some() {
+            return None;
+        }
+        self.finish = Some(self.next_number());
+        self.rows.push_back(Row::new(true, true, true, Vec::new()));
+        self.finish
+    }
+
+    fn sent_rows(&self) -> usize {
+        self.sent.saturating_sub(self.forward) as usize
     }
 
     fn find_lost(&mut self, moment: u64) {
-        let sent = (self.sent - self.forward.min(self.sent)) as usize;
+        let sent = self.sent_rows();
         for row in self.rows.iter_mut().take(sent) {
             if row.state == State::Flying && row.moment + RESEND_AFTER <= moment {
                 row.state = State::Lost;
                 self.flight -= row.bytes.len() as u64;
+                self.flying -= 1;
                 self.lost += 1;
             }
         }
     }
 
-    /// The index of the next row to be sent, where the limits allow it.
-    fn next(&mut self, window: u64, moment: u64) -> Option<usize> {
-        let unsent = (self.sent - self.forward.min(self.sent)) as usize;
-        let at = if self.lost > 0 {
-            self.rows.iter().position(|row| row.state == State::Lost)?
-        } else {
-            unsent
-        };
-        let row = self.rows.get_mut(at)?;
-        let len = row.bytes.len() as u64;
-        let limit = self.told.map_or(65_536, |blocks| blocks * 1024);
-        if self.flight + len > window || (self.flight > 0 && self.flight + len > limit) {
+    fn rows_of(&self, message: &Waiting) -> std::ops::Range<usize> {
+        let from = message.number.max(self.forward + 1) - self.forward - 1;
+        from as usize..(message.number + message.count - self.forward - 1) as usize
+    }
+
+    /// Abandons the first message whose deadline or limit of resends is passed.
+    fn overdue(&mut self, moment: u64) -> Option<u64> {
+        if moment <= self.soonest && !(self.limited && self.lost > 0) {
             return None;
         }
+        let at = self.waiting.iter().position(|message| {
+            message.options.deadline.is_some_and(|deadline| deadline < moment)
+                || message.options.resends.is_some_and(|limit| {
+                    self.rows.range(self.rows_of(message)).any(|row| row.state == State::Lost && row.resends >= limit)
+                })
+        })?;
+        Some(self.give_up(at))
+    }
+
+    fn give_up(&mut self, at: usize) -> u64 {
+        let message = self.waiting[at];
+        for index in self.rows_of(&message) {
+            if self.rows[index].state != State::Acknowledged {
+                self.let_go(index, State::Abandoned);
+            }
+        }
+        self.waiting.remove(at);
+        self.held -= message.size;
+        self.fragments -= message.count;
+        self.settle();
+        message.number
+    }
+
+    fn let_go(&mut self, index: usize, state: State) {
+        let row = &mut self.rows[index];
+        match row.state {
+            State::Flying => {
+                self.flight -= row.bytes.len() as u64;
+                self.flying -= 1;
+            }
+            State::Lost => self.lost -= 1,
+            _ => {}
+        }
+        row.state = state;
+        row.bytes = Vec::new();
+    }
+
+    fn pick(&self, moment: u64) -> Option<Pick> {
+        if self.lost > 0 {
+            return self.rows.iter().position(|row| row.state == State::Lost).map(Pick::Row);
+        }
+        let unsent = self.rows.iter().skip(self.sent_rows()).position(|row| row.state == State::Unsent);
+        if let Some(more) = unsent {
+            return Some(Pick::Row(self.sent_rows() + more));
+        }
+        let quiet = self.notice.is_none_or(|last| last + RESEND_AFTER <= moment);
+        (self.upto < self.forward && quiet).then_some(Pick::Notice)
+    }
+
+    /// What is to be sent next, where the limits allow it.
+    fn next(&mut self, room: usize, flight: u64, window: u64, moment: u64) -> Result<Pick, NoChunk> {
+        let pick = self.pick(moment).ok_or(NoChunk::Nothing)?;
+        let chunk = self.chunk(pick);
+        let len = chunk.bytes.len() as u64;
+        let limit = self.told.map_or(65_536, |blocks| blocks.saturating_mul(1024));
+        if self.flying > 0 && self.flight + len > limit {
+            return Err(NoChunk::Nothing);
+        }
+        if flight + len > window {
+            return Err(NoChunk::Window);
+        }
+        let head = vlu_len(FLOW) + vlu_len(chunk.seq) + vlu_len(chunk.seq - chunk.forward);
+        if 4 + head + chunk.bytes.len() > room {
+            return Err(NoChunk::Room);
+        }
+        self.send(pick, moment);
+        Ok(pick)
+    }
+
+    fn send(&mut self, pick: Pick, moment: u64) {
+        self.order += 1;
+        let Pick::Row(at) = pick else {
+            self.notice = Some(moment);
+            self.sent = self.sent.max(self.forward);
+            return;
+        };
+        let row = &mut self.rows[at];
         if row.state == State::Lost {
             self.lost -= 1;
+            row.resends = row.resends.saturating_add(1);
         }
-        self.order += 1;
         row.state = State::Flying;
         row.moment = moment;
         row.ordinal = self.order;
         row.acks = 0;
-        self.flight += len;
+        self.flight += row.bytes.len() as u64;
+        self.flying += 1;
         self.sent = self.sent.max(self.forward + 1 + at as u64);
-        Some(at)
     }
 
-    fn chunk(&self, at: usize) -> Chunk<'_> {
+    fn chunk(&self, pick: Pick) -> Chunk<'_> {
+        let forward = self.forward;
+        let Pick::Row(at) = pick else {
+            return Chunk { begins: true, ends: true, abandon: true, last: false, seq: forward, forward, bytes: &[] };
+        };
         let row = &self.rows[at];
-        Chunk {
-            begins: row.begins,
-            ends: row.ends,
-            seq: self.forward + 1 + at as u64,
-            forward: self.forward,
-            bytes: &row.bytes,
-        }
+        let seq = forward + 1 + at as u64;
+        Chunk { begins: row.begins, ends: row.ends, abandon: row.last, last: row.last, seq, forward, bytes: &row.bytes }
     }
 
     fn acknowledge(&mut self, first: u64, last: u64) -> u64 {
         let mut newest = 0;
         for number in first.max(self.forward + 1)..=last {
-            let row = &mut self.rows[(number - self.forward - 1) as usize];
-            if row.state == State::Acknowledged {
-                continue;
+            let index = (number - self.forward - 1) as usize;
+            if self.rows[index].state != State::Acknowledged {
+                newest = newest.max(self.rows[index].ordinal);
+                self.let_go(index, State::Acknowledged);
             }
-            match row.state {
-                State::Flying => self.flight -= row.bytes.len() as u64,
-                State::Lost => self.lost -= 1,
-                _ => {}
-            }
-            newest = newest.max(row.ordinal);
-            row.state = State::Acknowledged;
-            row.bytes = Vec::new();
         }
         newest
     }
 
-    fn take_ack(&mut self, ack: &[u8]) {
-        let mut at = 0;
-        let _flow = read_vlu(ack, &mut at);
-        let blocks = read_vlu(ack, &mut at);
-        let upto = read_vlu(ack, &mut at);
-        let mut newest = self.acknowledge(0, upto);
-        let mut last = upto;
-        while at < ack.len() {
-            let first = last + read_vlu(ack, &mut at) + 2;
-            last = first + read_vlu(ack, &mut at);
+    /// Takes an ack, unless it can't be read or speaks of a number that was never sent.
+    fn take_ack(&mut self, ack: &Ack<'_>) -> Result<(), u64> {
+        let greatest = ack.spans().last().map_or(ack.upto, |(_, last)| last);
+        if greatest > self.sent {
+            return Err(greatest);
+        }
+        let mut newest = self.acknowledge(0, ack.upto);
+        for (first, last) in ack.spans() {
             newest = newest.max(self.acknowledge(first, last));
         }
-        let sent = (self.sent - self.forward.min(self.sent)) as usize;
+        let sent = self.sent_rows();
         for row in self.rows.iter_mut().take(sent) {
             if row.state == State::Flying && row.ordinal < newest {
                 row.acks += 1;
                 if row.acks == 3 {
                     row.state = State::Lost;
                     self.flight -= row.bytes.len() as u64;
+                    self.flying -= 1;
                     self.lost += 1;
                 }
             }
         }
-        self.settle(last);
-        self.told = Some(blocks);
+        self.drop_done(greatest);
+        self.settle();
+        self.upto = ack.upto;
+        self.told = Some(ack.blocks);
+        Ok(())
     }
 
-    fn settle(&mut self, greatest: u64) {
+    fn drop_done(&mut self, greatest: u64) {
         let mut kept = VecDeque::new();
         while let Some(message) = self.waiting.front().copied() {
             if message.number > greatest {
                 break;
             }
             self.waiting.pop_front();
-            let from = message.number.max(self.forward + 1) - self.forward - 1;
-            let to = message.number + message.count - self.forward - 1;
-            let done = self.rows.range(from as usize..to as usize).all(|row| row.state == State::Acknowledged);
-            if done {
+            if self.rows.range(self.rows_of(&message)).all(|row| row.state.is_settled()) {
                 self.held -= message.size;
                 self.fragments -= message.count;
             } else {
@@ -209,10 +364,48 @@ impl Sender {
         for message in kept {
             self.waiting.push_front(message);
         }
-        while self.rows.front().is_some_and(|row| row.state == State::Acknowledged) {
+    }
+
+    fn settle(&mut self) {
+        while self.rows.front().is_some_and(|row| row.state.is_settled()) {
             self.rows.pop_front();
             self.forward += 1;
         }
+    }
+}
+
+/// An ack as it was read.
+struct Ack<'a> {
+    blocks: u64,
+    upto: u64,
+    pairs: &'a [u8],
+}
+
+impl<'a> Ack<'a> {
+    fn read(bytes: &'a [u8]) -> Option<Ack<'a>> {
+        let (_flow, rest) = read_vlu(bytes)?;
+        let (blocks, rest) = read_vlu(rest)?;
+        let (upto, pairs) = read_vlu(rest)?;
+        let (mut last, mut left) = (upto, pairs);
+        while !left.is_empty() {
+            let (holes, after) = read_vlu(left)?;
+            let (received, after) = read_vlu(after)?;
+            last = last.checked_add(holes)?.checked_add(2)?.checked_add(received)?;
+            left = after;
+        }
+        Some(Ack { blocks, upto, pairs })
+    }
+
+    fn spans(&self) -> impl Iterator<Item = (u64, u64)> + 'a {
+        let (mut last, mut left) = (self.upto, self.pairs);
+        std::iter::from_fn(move || {
+            let (holes, after) = read_vlu(left)?;
+            let (received, after) = read_vlu(after)?;
+            let first = last + holes + 2;
+            last = first + received;
+            left = after;
+            Some((first, last))
+        })
     }
 }
 
@@ -224,41 +417,128 @@ struct Run {
     bytes: Vec<u8>,
 }
 
+impl Run {
+    fn is_whole(&self) -> bool {
+        self.begins && self.ends
+    }
+}
+
+#[derive(Debug)]
+enum Refusal {
+    AfterFinal,
+    BeyondBuffer,
+}
+
 /// Spans of known numbers above the first one, and runs, each by its first number.
 struct Receiver {
+    arriving: bool,
     through: u64,
     above: BTreeMap<u64, u64>,
     runs: BTreeMap<u64, Run>,
+    open: usize,
     held: u64,
+    last: Option<u64>,
+    highest: u64,
 }
 
 impl Receiver {
-    fn new() -> Receiver {
-        Receiver { through: 0, above: BTreeMap::new(), runs: BTreeMap::new(), held: 0 }
+    fn new(arriving: bool) -> Receiver {
+        Receiver {
+            arriving,
+            through: 0,
+            above: BTreeMap::new(),
+            runs: BTreeMap::new(),
+            open: 0,
+            held: 0,
+            last: None,
+            highest: 0,
+        }
     }
 
     fn knows(&self, number: u64) -> bool {
         number <= self.through || self.above.range(..=number).next_back().is_some_and(|(_, last)| number <= *last)
     }
 
-    fn take(&mut self, chunk: &Chunk<'_>) {
-        if self.knows(chunk.seq) || self.held + chunk.bytes.len() as u64 > BUFFER {
-            return;
+    fn take(&mut self, chunk: &Chunk<'_>) -> Result<(), Refusal> {
+        if self.is_after_last(chunk) {
+            return Err(Refusal::AfterFinal);
         }
-        self.through = self.through.max(chunk.forward);
-        self.mark(chunk.seq);
+        let missing = !self.knows(chunk.seq);
+        if missing && chunk.forward < chunk.seq && self.is_beyond_buffer(chunk) {
+            return Err(Refusal::BeyondBuffer);
+        }
+        let before = self.through;
+        self.raise(chunk.forward);
+        if missing {
+            self.mark(chunk.seq);
+            if !chunk.abandon {
+                self.hold(chunk);
+            }
+        }
+        if before < chunk.forward {
+            self.drop_dead(before + 1, chunk.forward);
+        }
+        self.drop_dead(chunk.seq, chunk.seq);
+        if chunk.last {
+            self.last = Some(chunk.seq);
+        }
+        self.highest = self.highest.max(chunk.seq);
+        Ok(())
+    }
+
+    fn is_after_last(&self, chunk: &Chunk<'_>) -> bool {
+        match self.last {
+            Some(last) => last < chunk.seq || chunk.last && chunk.seq < last,
+            None => chunk.last && chunk.seq < self.highest,
+        }
+    }
+
+    /// The buffer is tested as if the forward number were taken.
+    fn is_beyond_buffer(&self, chunk: &Chunk<'_>) -> bool {
+        let through = self.through.max(chunk.forward);
+        let raised = self.above.range(..=through + 1).next_back().map_or(through, |(_, last)| through.max(*last));
+        let counted = if chunk.abandon { 0 } else { chunk.bytes.len() as u64 };
+        let passes = |held: u64| match chunk.seq == raised + 1 {
+            true => held + counted > LARGE_BUFFER,
+            false => held + counted > BUFFER || chunk.seq > raised + 1 + NUMBERS,
+        };
+        if !passes(self.held) {
+            return false;
+        }
+        let known = |number: u64| number <= through || self.knows(number);
+        let dying = self.runs.iter().filter(|(first, run)| {
+            !run.begins && known(*first - 1) || !run.ends && known(run.last + 1)
+        });
+        passes(self.held - dying.map(|(_, run)| run.bytes.len() as u64).sum::<u64>())
+    }
+
+    /// Nothing through a number is missing any more.
+    fn raise(&mut self, to: u64) {
+        self.through = self.through.max(to);
+        while let Some(first) = self.above.first_entry() {
+            if *first.key() > self.through + 1 {
+                break;
+            }
+            self.through = self.through.max(first.remove());
+        }
+    }
+
+    fn hold(&mut self, chunk: &Chunk<'_>) {
         self.held += chunk.bytes.len() as u64;
         let before = self.runs.range_mut(..chunk.seq).next_back();
         let fits = |run: &Run| run.last + 1 == chunk.seq && !run.ends && !chunk.begins;
         let first = match before {
             Some((first, run)) if fits(run) => {
+                let open = !run.is_whole();
                 run.bytes.extend_from_slice(chunk.bytes);
                 run.last = chunk.seq;
                 run.ends = chunk.ends;
+                self.open -= usize::from(open && run.is_whole());
                 *first
             }
             _ => {
                 let bytes = chunk.bytes.to_vec();
+                self.open += usize::from(!(chunk.begins && chunk.ends));
                 self.runs.insert(chunk.seq, Run { last: chunk.seq, begins: chunk.begins, ends: chunk.ends, bytes });
                 chunk.seq
             }
@@ -269,14 +549,15 @@ impl Receiver {
                     run.bytes.extend_from_slice(&later.bytes);
                     run.last = later.last;
                     run.ends = later.ends;
+                    self.open -= 1 + usize::from(run.is_whole());
                 }
             }
         }
     }
 
     fn mark(&mut self, number: u64) {
-        if number == self.through + 1 {
-            self.through = self.above.remove(&(number + 1)).unwrap_or(number);
+        if number <= self.through + 1 {
+            self.raise(number);
             return;
         }
         let end = self.above.remove(&(number + 1)).unwrap_or(number);
@@ -288,82 +569,124 @@ impl Receiver {
         }
     }
 
-    fn next_message(&mut self) -> Option<(u64, Vec<u8>)> {
-        let (first, run) = self.runs.first_key_value()?;
-        if !run.begins || !run.ends || *first > self.through {
-            return None;
+    /// Drops the runs beside some numbers that can't become messages any more.
+    fn drop_dead(&mut self, low: u64, high: u64) {
+        if self.open == 0 {
+            return;
         }
-        let (first, run) = self.runs.pop_first()?;
+        let mut next = self.runs.range(..low).next_back().map_or(low, |(first, _)| *first);
+        while let Some((first, run)) = self.runs.range(next..).next() {
+            let first = *first;
+            if first > high.saturating_add(1) {
+                break;
+            }
+            if !run.begins && self.knows(first - 1) || !run.ends && self.knows(run.last + 1) {
+                self.held -= run.bytes.len() as u64;
+                self.open -= 1;
+                self.runs.remove(&first);
+            }
+            next = first + 1;
+        }
+    }
+
+    fn next_message(&mut self) -> Option<(u64, Vec<u8>)> {
+        let first = match self.arriving {
+            true => *self.runs.iter().find(|(_, run)| run.is_whole())?.0,
+            false => {
+                let (first, run) = self.runs.first_key_value()?;
+                if !run.is_whole() || *first > self.through {
+                    return None;
+                }
+                *first
+            }
+        };
+        let run = self.runs.remove(&first)?;
         self.held -= run.bytes.len() as u64;
         Some((first, run.bytes))
     }
 
-    fn ack(&self, out: &mut Vec<u8>) {
-        put_vlu(2, out);
-        put_vlu((BUFFER - self.held.min(BUFFER)) / 1024, out);
+    /// An ack with as many pairs as fit; none where its head doesn't fit.
+    fn ack(&self, flow: u64, room: usize, out: &mut Vec<u8>) -> bool {
+        let blocks = BUFFER.saturating_sub(self.held) / 1024;
+        if vlu_len(flow) + vlu_len(blocks) + vlu_len(self.through) > room {
+            return false;
+        }
+        put_vlu(flow, out);
+        put_vlu(blocks, out);
         put_vlu(self.through, out);
         let mut after = self.through;
         for (first, last) in &self.above {
-            if out.len() + 20 > 1_100 {
+            if out.len() + vlu_len(first - after - 2) + vlu_len(last - first) > room {
                 break;
             }
             put_vlu(first - after - 2, out);
             put_vlu(last - first, out);
             after = *last;
         }
+        true
     }
 }
 
+fn vlu_len(value: u64) -> usize {
+    (value.max(1).ilog2() / 7 + 1) as usize
+}
+
 fn put_vlu(value: u64, out: &mut Vec<u8>) {
-    let bits = 64 - (value | 1).leading_zeros();
-    for group in (0..bits.div_ceil(7)).rev() {
+    for group in (0..vlu_len(value)).rev() {
         let more = if group > 0 { 0x80 } else { 0 };
         out.push((value >> (7 * group)) as u8 & 0x7f | more);
     }
 }
 
-fn read_vlu(bytes: &[u8], at: &mut usize) -> u64 {
-    let mut value = 0;
-    loop {
-        let byte = bytes[*at];
-        *at += 1;
+fn read_vlu(bytes: &[u8]) -> Option<(u64, &[u8])> {
+    let mut value = 0u64;
+    for (at, byte) in bytes.iter().enumerate() {
+        if at == 9 && (*byte >= 0x80 || value > u64::MAX >> 7) {
+            return None;
+        }
         value = value << 7 | u64::from(byte & 0x7f);
-        if byte < 0x80 {
-            return value;
+        if *byte < 0x80 {
+            return Some((value, &bytes[at + 1..]));
         }
     }
+    None
 }
 
 fn move_all(bytes: &[u8], size: usize, count: u64, waiting: usize, lost: u64, window: u64) -> (u64, u64) {
     let mut from = Sender::new();
-    let mut to = Receiver::new();
+    let mut to = Receiver::new(false);
     let mut acks: VecDeque<Vec<u8>> = VecDeque::new();
     let (mut queued, mut chunks, mut handed) = (0u64, 0u64, 0u64);
+    let put_ack = |to: &Receiver, acks: &mut VecDeque<Vec<u8>>| {
+        let mut ack = Vec::with_capacity(1_164);
+        if to.ack(FLOW, 1_160, &mut ack) {
+            acks.push_back(ack);
+        }
+    };
     for moment in 0.. {
         while let Some(ack) = acks.pop_front() {
-            from.take_ack(&ack);
+            if let Some(ack) = Ack::read(&ack) {
+                let _ = from.take_ack(&ack);
+            }
         }
-        while queued < count && from.waiting.len() < waiting && from.queue(&bytes[..size]) {
+        while queued < count && from.waiting.len() < waiting && from.queue(&bytes[..size], Options::default()).is_ok() {
             queued += 1;
         }
         from.find_lost(moment);
-        while let Some(at) = from.next(window, moment) {
+        from.overdue(moment);
+        while let Ok(pick) = from.next(1_164, from.flight, window, moment) {
             chunks += 1;
             if lost == 0 || chunks % lost != 0 {
-                to.take(&from.chunk(at));
+                let _ = to.take(&from.chunk(pick));
                 while to.next_message().is_some() {
                     handed += 1;
                 }
             }
             if chunks % 2 == 0 {
-                let mut ack = Vec::with_capacity(1_164);
-                to.ack(&mut ack);
-                acks.push_back(ack);
+                put_ack(&to, &mut acks);
             }
         }
-        let mut ack = Vec::with_capacity(1_164);
-        to.ack(&mut ack);
-        acks.push_back(ack);
+        put_ack(&to, &mut acks);
         if handed >= count {
             break;
         }

@@ -23,7 +23,7 @@ ghost use Rattle.flow_send.specs.Picked.{IsThere};
 
 use flow_recv::FlowReceiver;
 use flow_send::{FlowSender, MessageOptions, Pick};
-use rtmfp_base::Memory;
+use rtmfp_base::{Memory, Message};
 use rtmfp_data_chunks::{AckedSpans, DataCursor, DataView, Part, UserData};
 use rtmfp_forms::Outgoing;
 use std::alloc::AllocError;
@@ -65,7 +65,7 @@ struct Moved {
 struct Pair {
     from: FlowSender,
     to: FlowReceiver,
-    acks: VecDeque<Outgoing>,
+    acks: VecDeque<Message>,
     moved: Moved,
 }
 
@@ -157,7 +157,7 @@ fn move_all(rt: &impl AllocGlobal, bytes: &[u8], job: Job) -> Result<Moved, Memo
         queue(&mut pair, message, job);
         let _ = pair.from.find_lost(moment, RESEND_AFTER);
         let _ = pair.from.overdue(moment);
-        send_turn(&mut pair, moment, job)?;
+        send_turn(rt, &mut pair, moment, job)?;
         if pair.moved.handed >= job.count {
             break;
         }
@@ -179,7 +179,7 @@ fn queue(pair: &mut Pair, message: &[u8], job: Job) {
 }
 
 /// Sends what the limits allow.
-fn send_turn(pair: &mut Pair, moment: u64, job: Job) -> Result<(), Memory> {
+fn send_turn(rt: &impl AllocGlobal, pair: &mut Pair, moment: u64, job: Job) -> Result<(), Memory> {
     for _ in 0..u64::MAX {
         let flight = pair.from.flight();
         let chosen = pair
@@ -194,10 +194,10 @@ fn send_turn(pair: &mut Pair, moment: u64, job: Job) -> Result<(), Memory> {
             deliver(pair, pick);
         }
         if chunks % 2 == 0 {
-            ack(pair)?;
+            ack(rt, pair)?;
         }
     }
-    ack(pair)
+    ack(rt, pair)
 }
 
 /// Has the receiver take a chunk, and hand over what is ready then.
@@ -223,10 +223,11 @@ fn hand_over(to: &mut FlowReceiver) -> u64 {
 }
 
 /// Puts what the receiver has on its way.
-fn ack(pair: &mut Pair) -> Result<(), Memory> {
+fn ack(rt: &impl AllocGlobal, pair: &mut Pair) -> Result<(), Memory> {
     let mut out = Outgoing::new(0);
     if pair.to.ack_into(FLOW, &mut out).is_ok() {
-        pair.acks.push_back(out).map_err(AllocError::from)?;
+        let message = Message::copy_of(rt.alloc(), out.bytes())?;
+        pair.acks.push_back(message).map_err(AllocError::from)?;
     }
     Ok(())
 }
@@ -237,13 +238,13 @@ fn hear(pair: &mut Pair) {
         let Some(out) = pair.acks.pop_front() else {
             break;
         };
-        hear_one(&mut pair.from, &out);
+        hear_one(&mut pair.from, out.bytes());
     }
 }
 
 /// A sender hears an ack.
-fn hear_one(from: &mut FlowSender, out: &Outgoing) {
-    let payload = out.bytes().get(4..).unwrap_or(&[]);
+fn hear_one(from: &mut FlowSender, packet: &[u8]) {
+    let payload = packet.get(4..).unwrap_or(&[]);
     let mut cursor = DataCursor::new();
     let read = cursor.read(0x51, payload);
     if let Ok(
@@ -401,7 +402,7 @@ fn wide(rt: &impl AllocGlobal, count: u64) -> Result<Moved, Memory> {
         }
         let mut out = Outgoing::new(0);
         if to.ack_into(FLOW, &mut out).is_ok() {
-            hear_one(&mut from, &out);
+            hear_one(&mut from, out.bytes());
         }
     }
     Ok(Moved {
