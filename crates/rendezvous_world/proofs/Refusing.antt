@@ -12,7 +12,9 @@ use Rattle.rendezvous_world.specs.declared.step.StepFault.{StepFault}
 use Rattle.rendezvous_world.specs.declared.step.StepFault.TheVariants.{NoEnd, NoDatagram, BadStep, Forged, Memory}
 use Rattle.rendezvous_world.specs.Seen.{EndSeen, Seen}
 use Rattle.rendezvous_world.specs.Faults.{is_missing, lacks_end, lacks_datagram, is_like, is_outside, is_bad, is_forged, is_forged_by, step_fault}
-use Rattle.rendezvous_world.specs.Stepping.{Stepped}
+use Rattle.rendezvous_world.specs.Datagrams.{datagram_of}
+use Rattle.rendezvous_world.specs.Sent.{sent_in}
+use Rattle.rendezvous_world.specs.Stepping.{Stepped, called_by}
 use Rattle.rendezvous_world.specs.Sound.{AreBelow}
 use Rattle.rendezvous_world.specs.Inside.{named_of}
 use Rattle.rtmfp_text.specs.Names.{is_like as is_like_named}
@@ -106,67 +108,38 @@ or_false false b e = (refl, e)
 no_bytes : AreBytes []
 no_bytes k d lt = absurd (omega arith)
 
+-- a step of an end, which brings no datagram
+entering_alone : (w : Seen) (number end : ℕ) (step : Step) → AreBelow w.lines number → number < 2 ^ 32 → end < length w.ends → peer_of step < length w.ends → CallsAnEnd step → called_by step ≡ end →
+    datagram_of (sent_in w.lines) step ≡ None → step_fault w step ≡ None → IsEntering w number end step None []
+entering_alone w number end step above fits there peer calls called none fine = record {
+  above = above;
+  fits = fits;
+  there = there;
+  calls = calls;
+  called = called;
+  peer = peer;
+  datagram = sym none;
+  bytes = refl;
+  short = omega arith;
+  are_bytes = no_bytes;
+  fine = fine;
+}
+
 pub entering_open : (w : Seen) (number end peer : ℕ) (list : List AddressParts) → AreBelow w.lines number → number < 2 ^ 32 → (is_missing w end || is_missing w peer) ≡ false → IsEntering w number end (Open end peer list) None []
 entering_open w number end peer list above fits there =
     let both = or_false (is_missing w end) (is_missing w peer) there in
-    record {
-      above = above;
-      fits = fits;
-      there = there_is w end both.0;
-      calls = tt;
-      called = refl;
-      peer = there_is w peer both.1;
-      datagram = refl;
-      bytes = refl;
-      short = omega arith;
-      are_bytes = no_bytes;
-      fine = fault_left w number (Open end peer list) there refl refl;
-    }
+    entering_alone w number end (Open end peer list) above fits (there_is w end both.0) (there_is w peer both.1) tt refl refl (fault_left w number (Open end peer list) there refl refl)
 
-pub entering_cancel : (w : Seen) (number end n : ℕ) → AreBelow w.lines number → number < 2 ^ 32 → is_missing w end ≡ false → IsEntering w number end (Cancel end n) None []
-entering_cancel w number end n above fits there = record {
-  above = above;
-  fits = fits;
-  there = there_is w end there;
-  calls = tt;
-  called = refl;
-  peer = there_is w end there;
-  datagram = refl;
-  bytes = refl;
-  short = omega arith;
-  are_bytes = no_bytes;
-  fine = fault_left w number (Cancel end n) there refl refl;
-}
+-- one of an end that is there, which is given no other
+module _ (w : Seen) (number end : ℕ) (above : AreBelow w.lines number) (fits : number < 2 ^ 32) (there : is_missing w end ≡ false) where
+  pub entering_cancel : (n : ℕ) → IsEntering w number end (Cancel end n) None []
+  entering_cancel n = entering_alone w number end (Cancel end n) above fits (there_is w end there) (there_is w end there) tt refl refl (fault_left w number (Cancel end n) there refl refl)
 
-pub entering_close : (w : Seen) (number end near : ℕ) → AreBelow w.lines number → number < 2 ^ 32 → is_missing w end ≡ false → IsEntering w number end (Close end near) None []
-entering_close w number end near above fits there = record {
-  above = above;
-  fits = fits;
-  there = there_is w end there;
-  calls = tt;
-  called = refl;
-  peer = there_is w end there;
-  datagram = refl;
-  bytes = refl;
-  short = omega arith;
-  are_bytes = no_bytes;
-  fine = fault_left w number (Close end near) there refl refl;
-}
+  pub entering_close : (near : ℕ) → IsEntering w number end (Close end near) None []
+  entering_close near = entering_alone w number end (Close end near) above fits (there_is w end there) (there_is w end there) tt refl refl (fault_left w number (Close end near) there refl refl)
 
-pub entering_tick : (w : Seen) (number end : ℕ) → AreBelow w.lines number → number < 2 ^ 32 → is_missing w end ≡ false → IsEntering w number end (Tick end) None []
-entering_tick w number end above fits there = record {
-  above = above;
-  fits = fits;
-  there = there_is w end there;
-  calls = tt;
-  called = refl;
-  peer = there_is w end there;
-  datagram = refl;
-  bytes = refl;
-  short = omega arith;
-  are_bytes = no_bytes;
-  fine = fault_left w number (Tick end) there refl refl;
-}
+  pub entering_tick : IsEntering w number end (Tick end) None []
+  entering_tick = entering_alone w number end (Tick end) above fits (there_is w end there) (there_is w end there) tt refl refl (fault_left w number (Tick end) there refl refl)
 
 -- ---- a step that brings a datagram
 

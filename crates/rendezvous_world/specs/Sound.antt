@@ -16,8 +16,8 @@ use Rattle.rendezvous_world.specs.Stepping.{IsAnswered}
 --
 -- An end keeps the largest moment that it was given, of a refused call too. An open or a close
 -- that finds no memory has no line in the journal, so the end may keep a later moment than its log
--- tells. It keeps nothing else of that call, and the next call that is given a moment, which is no earlier,
--- makes the end keep what its log tells.
+-- tells. It keeps nothing else of that call, and the next call that is given a moment, which is no
+-- earlier, makes the end keep what its log tells.
 pub record StandsUpTo (last : ℕ) (setup : Setup) (log : List Event) (s : State) : Type 0 where
   -- the state that stands for the log
   pub told : State

@@ -64,9 +64,9 @@ pub record IsDoneOrRefused (refused : Option Refused) : Type 0 where
   pub opened : refused ≢ Some (OpenRefused NoMemoryToOpen)
   pub called : refused ≢ Some (CallRefused NoMemoryToCall)
 
--- What the line of a step can tell of its answer: an open, a cancel and a close are done or refused,
--- and the others are done or stopped. A call that is refused for want of memory has no line, and a new end
--- and a new moment call no end and have none.
+-- What the line of a step can tell of its answer: an open, a cancel and a close are done or
+-- refused, and the others are done or stopped. A call that is refused for want of memory has no
+-- line, and a new end and a new moment call no end and have none.
 abbrev pub HasItsAnswer : Step → Option Refused → Option Stop → Type 0
 HasItsAnswer (End name max_peers max_sessions cert) refused stopped = ⊥
 HasItsAnswer (At moment) refused stopped = ⊥
@@ -126,8 +126,8 @@ Allows ends s (Open end peer list) = open_refusal s (print_at ends peer) list �
 Allows ends s (Close end near) = IsSome (held_row s near)
 Allows ends s step = ⊥
 
--- An open or a close found no memory: all is as before, but that the end that was called keeps the moment of
--- the world, where it kept an earlier one.
+-- An open or a close found no memory: all is as before, but that the end that was called keeps the
+-- moment of the world, where it kept an earlier one.
 pub record Noted (w : Seen) (step : Step) (t : Seen) : Type 0 where
   pub end : EndSeen
   pub is_end : slice_get w.ends (called_by step) ≡ Some end

@@ -1,10 +1,10 @@
 //! The calls of ends that steps make.
 
-ghost use Rattle.std.specs.Prelude.{◌≡◌, ◌≢◌, ◌<◌, ◌≤◌, ◌^◌, [], false, length, IfSome, IsSome, None, true};
+ghost use Rattle.std.specs.Prelude.{◌≡◌, ◌≢◌, ◌<◌, ◌≤◌, ◌^◌, [], false, length, Err, IfSome, IsSome, None, true};
 ghost use Rattle.endpoint_model.specs.Effects.{open_refusal};
 ghost use Rattle.endpoint_model.specs.Event.{Cancel as CancelCall, Close as CloseCall, Open as OpenCall, Receive, Tick as TickCall};
 ghost use Rattle.endpoint_model.specs.InSessions.{held_row};
-ghost use Rattle.endpoint_model.specs.Log.{Step as StepOf, not_taken};
+ghost use Rattle.endpoint_model.specs.Log.{Step as StepOf, answer_of_call, not_taken};
 ghost use Rattle.endpoint_model.specs.State.{at_moment};
 ghost use Rattle.rendezvous_world.specs.Entering.{CallsAnEnd, IsUndone, event_by};
 ghost use Rattle.rendezvous_world.specs.History.{answer_to_call, answer_to_datagram, answer_to_open, answer_to_tick};
@@ -128,7 +128,17 @@ fn cancel(endpoint: &mut Endpoint, n: u64, out: &mut Outbox) -> Outcome
     ensures answer { result.undone ≡ false → IsDoneOrRefused result.refused }
     ensures undone { result.undone ≡ true → endpoint.new ≡ endpoint.old }
 {
-    match endpoint.cancel(n, out) {
+    told(endpoint.cancel(n, out))
+}
+
+/// What a cancel or a close answered.
+fn told(answer: Result<(), CallRefusal>) -> Outcome
+    ensures answer { answer_to_call result.refused ≡ answer_of_call answer }
+    ensures stopped { result.stopped ≡ None }
+    ensures done { result.undone ≡ false → IsDoneOrRefused result.refused }
+    ensures undone { result.undone ≡ true → answer ≡ Err CallRefusal.Memory }
+{
+    match answer {
         Ok(()) => Outcome {
             refused: None,
             stopped: None,
@@ -168,18 +178,7 @@ fn close(endpoint: &mut Endpoint, near: u32, moment: u64, out: &mut Outbox) -> O
     ensures held { result.undone ≡ true → IsSome (held_row endpoint.old near) }
     ensures noted { result.undone ≡ true → endpoint.new ≡ at_moment endpoint.old moment }
 {
-    match endpoint.close(near, moment, out) {
-        Ok(()) => Outcome {
-            refused: None,
-            stopped: None,
-            undone: false,
-        },
-        Err(refusal) => Outcome {
-            refused: Some(Refused::Call(refusal)),
-            stopped: None,
-            undone: found_none_to_call(refusal),
-        },
-    }
+    told(endpoint.close(near, moment, out))
 }
 
 /// Brings a datagram from an address.

@@ -116,6 +116,7 @@ impl World {
         ensures sound { IsSound self.now }
         ensures agreed { IsAgreed (setup_at self.now.ends) (history_of self.now) }
     {
+        // This is read for the prover alone, which finds here what holds of every world.
         let _moment = &self.moment;
     }
 
