@@ -35,17 +35,26 @@ bad-script 1|show|-|03 ff||0
 bad-script 1|show|-|-~||0
 bad-script 1|show|-|030~||0
 bad-script 2|show|-|~03^~|bad empty~|10
+sink-fault|show|write 1 0|0330000100~||0
+source-fault|show|read 1|0330000100~||0
+bad-script 1|show|-|03zz~||0
 bad-words|play|-|~||0
 bad-words|show show|-|~||0
 bad-words|Show|-|~||0
 bad-script 4|replay|-|# a comment~~end a 1 1 0123456789abcdefx~deliver 1 a 10.0.0.1:1935||0
 bad-script 2|replay|-|at 5~at 4~||0
 forged 3|replay|-|end a 65536 4096 The quick brown fox jumps over the lazy dog~end b 65536 4096 The quick brown fox jumps over the lazy dog.~inject b 10.0.0.1:1935 f3c13152dd4b532b2e8a6279421e678998a7793cffffffffffffffffffffffffffffffffe7c11d5a60~open b a 10.0.0.1:1935~||0
+done|replay --generate 7 --steps 0|-||ends=8 steps=0 sent=0 started=0 born=0 opened=0 confirmed=0 ended=0 dropped=0 kept=0~|85
+done|replay --generate 7 --steps 1|-||ends=8 steps=1 sent=0 started=0 born=0 opened=0 confirmed=0 ended=0 dropped=0 kept=0~|85
 done|replay --generate 5 --steps 1|-||ends=8 steps=1 sent=1 started=1 born=0 opened=0 confirmed=0 ended=0 dropped=0 kept=0~|85
 done|replay --generate 10 --steps 100|-||ends=8 steps=100 sent=46 started=10 born=2 opened=2 confirmed=1 ended=0 dropped=31 kept=3~|90
-done|replay --generate 1 --steps 10000|-||ends=8 steps=10000 sent=1740 started=38 born=29 opened=29 confirmed=28 ended=11 dropped=5205 kept=56~|101
+done|replay --generate 1 --steps 1000|-||ends=8 steps=1000 sent=347 started=37 born=28 opened=28 confirmed=27 ended=10 dropped=380 kept=55~|98
 done|replay --generate 3 --steps 400|-||ends=8 steps=400 sent=171 started=26 born=16 opened=12 confirmed=7 ended=2 dropped=90 kept=19~|94
 ";
+
+/// A row of a long run. Where tests are only tried, and not built, it takes minutes.
+const LONG: &str =
+    "done|replay --generate 1 --steps 100000|-||ends=8 steps=100000 sent=15441 started=38 born=29 opened=29 confirmed=28 ended=11 dropped=54237 kept=56~|104";
 
 /// Two ends, an attempt, and a datagram that nobody sent.
 const FORGE: &str =
@@ -118,7 +127,7 @@ fn words_of(alloc: Global, text: &str) -> Result<Vec<String>, AllocError> {
 }
 
 /// Whether a field says this status, with its line.
-fn says_status(field: &str, status: Status) -> bool {
+pub(crate) fn says_status(field: &str, status: Status) -> bool {
     let line = number(field, 1);
     match status {
         Status::Done => field == "done",
@@ -163,6 +172,12 @@ fn first_wrong(alloc: Global) -> Result<Option<&'static str>, AllocError> {
 #[test]
 fn runs_end_so(rt: HostRuntime) -> Result<(), Fail> {
     assert_eq!(rt; first_wrong(rt.alloc())?, None);
+    Ok(())
+}
+
+#[test]
+fn a_long_run_ends_so(rt: HostRuntime) -> Result<(), Fail> {
+    assert!(rt; is_so(rt.alloc(), LONG)?);
     Ok(())
 }
 

@@ -1,0 +1,292 @@
+//! Whole scripts, each with its report, and each run alone.
+
+use crate::cli::says_status;
+use rtmfp_cli::run;
+use rtmfp_host::{MemorySink, MemorySource};
+use std::alloc::{AllocError, Global};
+use std::test::Fail;
+
+/// Rows: a name and how the run ends, and then the lines of a script, each behind `> ` and before
+/// what is reported of it. `+ 8 NAME` stands for the first eight lines of another row, with what is
+/// reported of these.
+const ROWS: &str = "@ handshake = done
+> end a 65536 4096 The quick brown fox jumps over the lazy dog
+> end b 65536 4096 The quick brown fox jumps over the lazy dog.
+> open a b 10.0.0.2:1935
+3 a started peer=b n=1 near=3 ni=3
+3 a sent 1 10.0.0.2:1935 ihello
+> deliver 1 b 10.0.0.1:1935
+4 b sent 2 10.0.0.1:1935 rhello
+> deliver 2 a 10.0.0.2:1935
+5 a sent 3 10.0.0.2:1935 iikeying
+> deliver 3 b 10.0.0.1:1935
+6 b born peer=a n=1 near=6 far=3 ni=3 nr=6 k=0
+6 b sent 4 10.0.0.1:1935 rikeying
+> deliver 4 a 10.0.0.2:1935
+7 a opened peer=b n=1 near=3 far=6 ni=3 nr=6 k=0
+7 a sent 5 10.0.0.2:1935 ping
+> deliver 5 b 10.0.0.1:1935
+8 b confirmed near=6
+8 b sent 6 10.0.0.1:1935 pingreply
+@ both-call = done
+> end a 65536 4096 The quick brown fox jumps over the lazy dog
+> end b 65536 4096 The quick brown fox jumps over the lazy dog.
+> open a b 10.0.0.2:1935
+3 a started peer=b n=1 near=3 ni=3
+3 a sent 1 10.0.0.2:1935 ihello
+> open b a 10.0.0.1:1935
+4 b started peer=a n=1 near=4 ni=4
+4 b sent 2 10.0.0.1:1935 ihello
+> deliver 1 b 10.0.0.1:1935
+5 b sent 3 10.0.0.1:1935 rhello
+> deliver 2 a 10.0.0.2:1935
+6 a sent 4 10.0.0.2:1935 rhello
+> deliver 3 a 10.0.0.2:1935
+7 a sent 5 10.0.0.2:1935 iikeying
+> deliver 4 b 10.0.0.1:1935
+8 b sent 6 10.0.0.1:1935 iikeying
+> deliver 5 b 10.0.0.1:1935
+9 b drop 1 glare 1
+> deliver 6 a 10.0.0.2:1935
+10 a ended near=3 glare
+10 a born peer=b n=1 near=10 far=4 ni=4 nr=a k=1
+10 a sent 7 10.0.0.2:1935 rikeying
+> deliver 7 b 10.0.0.1:1935
+11 b opened peer=a n=1 near=4 far=10 ni=4 nr=a k=1
+11 b sent 8 10.0.0.1:1935 ping
+> deliver 8 a 10.0.0.2:1935
+12 a confirmed near=10
+12 a sent 9 10.0.0.2:1935 pingreply
+> deliver 5 b 10.0.0.1:1935
+13 b drop 1 stale 1
+@ the-keying-that-prevails-is-lost = done
++ 9 both-call
+> at 1000
+> tick b
+11 b sent 7 10.0.0.1:1935 iikeying
+> deliver 7 a 10.0.0.2:1935
+12 a ended near=3 glare
+12 a born peer=b n=1 near=12 far=4 ni=4 nr=c k=1
+12 a sent 8 10.0.0.2:1935 rikeying
+@ a-keying-three-times = done
++ 8 handshake
+> deliver 3 b 10.0.0.1:1935
+9 b sent 7 10.0.0.1:1935 rikeying
+> close b 6
+10 b ended near=6 near
+10 b sent 8 10.0.0.1:1935 close
+> deliver 3 b 10.0.0.1:1935
+11 b drop 1 stale 1
+> deliver 8 a 10.0.0.2:1935
+12 a ended near=3 far
+12 a sent 9 10.0.0.2:1935 closeack
+> deliver 9 b 10.0.0.1:1935
+13 b closed near=6
+@ both-cancel = done
++ 8 both-call
+> cancel a 1
+9 a ended near=3 cancelled
+> cancel b 1
+10 b ended near=4 cancelled
+> deliver 5 b 10.0.0.1:1935
+11 b born peer=a n=1 near=11 far=3 ni=3 nr=b k=1
+11 b sent 7 10.0.0.1:1935 rikeying
+> deliver 6 a 10.0.0.2:1935
+12 a born peer=b n=1 near=12 far=4 ni=4 nr=c k=1
+12 a sent 8 10.0.0.2:1935 rikeying
+> deliver 7 a 10.0.0.2:1935
+13 a drop 0 unknown-session
+> deliver 8 b 10.0.0.1:1935
+14 b drop 0 unknown-session
+> at 20000
+> tick a
+16 a ended near=12 unconfirmed
+> tick b
+17 b ended near=11 unconfirmed
+@ an-override = done
++ 8 handshake
+> close a 3
+9 a ended near=3 near
+9 a sent 7 10.0.0.2:1935 close
+> open a b 10.0.0.2:1935
+10 a started peer=b n=2 near=10 ni=a
+10 a sent 8 10.0.0.2:1935 ihello
+> deliver 8 b 10.0.0.1:1935
+11 b sent 9 10.0.0.1:1935 rhello
+> deliver 9 a 10.0.0.2:1935
+12 a sent 10 10.0.0.2:1935 iikeying
+> deliver 10 b 10.0.0.1:1935
+13 b ended near=6 override
+13 b born peer=a n=2 near=13 far=10 ni=a nr=d k=0
+13 b sent 11 10.0.0.1:1935 rikeying
+> deliver 3 b 10.0.0.1:1935
+14 b drop 1 stale 2
+> deliver 7 b 10.0.0.1:1935
+15 b drop 0 unknown-session
+@ a-keying-from-elsewhere = done
++ 5 handshake
+> deliver 3 b 10.9.9.9:4000
+6 b sent 4 10.9.9.9:4000 cookiechange
+> deliver 4 a 10.0.0.2:1935
+7 a sent 5 10.0.0.2:1935 iikeying
+> deliver 5 b 10.9.9.9:4000
+8 b born peer=a n=1 near=8 far=3 ni=3 nr=8 k=0
+8 b sent 6 10.9.9.9:4000 rikeying
+@ a-bit-is-turned = done
++ 3 handshake
+> bent 1 40 b 10.0.0.1:1935
+4 b drop 0 bad-tag
+@ no-datagram = done
++ 3 handshake
+> inject b 10.0.0.1:1935 00010203
+4 b drop 0 short
+@ a-datagram-that-is-not-there = bad-script 4
++ 3 handshake
+> deliver 99 b 10.0.0.1:1935
+@ a-datagram-that-nobody-sent = forged 4
++ 3 handshake
+> forge b 10.0.0.1:1935 0330000100
+@ no-room-for-a-peer = done
+> end b 1 4096 The quick brown fox jumps over the lazy dog.
+> end a 65536 4096 The quick brown fox jumps over the lazy dog
+> end i 65536 4096 abcdbcdecdefdefgefghfghighijhijkijkljklmklmnlmnomnopnopq
+> open b i 10.0.0.9:1935
+4 b started peer=i n=1 near=4 ni=4
+4 b sent 1 10.0.0.9:1935 ihello
+> open b a 10.0.0.1:1935
+5 b refused peers-full 1
+> open a b 10.0.0.2:1935
+6 a started peer=b n=1 near=6 ni=6
+6 a sent 2 10.0.0.2:1935 ihello
+> deliver 2 b 10.0.0.1:1935
+7 b sent 3 10.0.0.1:1935 rhello
+> deliver 3 a 10.0.0.2:1935
+8 a sent 4 10.0.0.2:1935 iikeying
+> deliver 4 b 10.0.0.1:1935
+9 b drop 1 peers-full 1
+@ an-end-that-moves = done
++ 8 handshake
+> at 10000
+> tick a
+10 a sent 7 10.0.0.2:1935 ping
+> deliver 7 b 10.0.0.1:6000
+11 b sent 8 10.0.0.1:6000 pingreply
+11 b sent 9 10.0.0.1:6000 ping
+> deliver 9 a 10.0.0.2:1935
+12 a sent 10 10.0.0.2:1935 pingreply
+> deliver 10 b 10.0.0.1:6000
+13 b moved near=6 10.0.0.1:6000
+@ opens-that-are-refused = done
++ 8 handshake
+> open a a 10.0.0.1:1935
+9 a refused own-print
+> open a b 10.0.0.2:1935
+10 a refused open 3
+> open a b
+11 a refused candidates 0
+@ an-attempt-is-there = done
++ 3 handshake
+> open a b 10.0.0.2:1935
+4 a refused opening 1
+@ no-room-for-a-session = done
+> end a 65536 1 The quick brown fox jumps over the lazy dog
+> end b 65536 4096 The quick brown fox jumps over the lazy dog.
+> end i 65536 4096 abcdbcdecdefdefgefghfghighijhijkijkljklmklmnlmnomnopnopq
+> open a i 10.0.0.9:1935
+4 a started peer=i n=1 near=4 ni=4
+4 a sent 1 10.0.0.9:1935 ihello
+> open a b 10.0.0.2:1935
+5 a refused sessions-full 1
+";
+
+/// The lines of a row, which has this name.
+fn row_named(name: &str) -> &'static str {
+    for row in ROWS.split("@ ") {
+        let (head, lines) = row.split_once('\n').unwrap_or(("", ""));
+        if head.split(" = ").next() == Some(name) {
+            return lines;
+        }
+    }
+    ""
+}
+
+fn push_line(line: &str, text: &mut Vec<u8>) -> Result<(), AllocError> {
+    for byte in line.as_bytes() {
+        text.push(*byte)?;
+    }
+    text.push(b'\n')?;
+    Ok(())
+}
+
+/// A script and its report.
+#[derive(Drop)]
+struct Transcript {
+    script: Vec<u8>,
+    report: Vec<u8>,
+}
+
+impl Transcript {
+    /// Adds the first lines of a script, so many at most, each with what is reported of it.
+    fn push(&mut self, lines: &str, most: u32) -> Result<(), AllocError> {
+        let mut left = most;
+        for line in lines.lines() {
+            match line.strip_prefix("> ") {
+                Some(step) => {
+                    if left == 0 {
+                        return Ok(());
+                    }
+                    left -= 1;
+                    push_line(step, &mut self.script)?;
+                }
+                None => push_line(line, &mut self.report)?,
+            }
+        }
+        Ok(())
+    }
+
+    /// What the lines of a row stand for.
+    fn of(alloc: Global, lines: &str) -> Result<Transcript, AllocError> {
+        let mut whole = Transcript {
+            script: Vec::new(alloc),
+            report: Vec::new(alloc),
+        };
+        let Some(front) = lines.strip_prefix("+ ") else {
+            whole.push(lines, u32::MAX)?;
+            return Ok(whole);
+        };
+        let (count, rest) = front.split_once(' ').unwrap_or(("", ""));
+        let (name, lines) = rest.split_once('\n').unwrap_or(("", ""));
+        whole.push(row_named(name), count.parse::<u32>().unwrap_or(0))?;
+        whole.push(lines, u32::MAX)?;
+        Ok(whole)
+    }
+}
+
+/// Whether a run of a row's script ends as the row says, and writes its report and nothing else.
+fn is_so(alloc: Global, row: &str) -> Result<bool, AllocError> {
+    let (head, lines) = row.split_once('\n').unwrap_or(("", ""));
+    let (_, end) = head.split_once(" = ").unwrap_or(("", ""));
+    let whole = Transcript::of(alloc, lines)?;
+    let mut words = Vec::new(alloc);
+    words.push(String::from_str(alloc, "replay")?)?;
+    let mut source = MemorySource::new(whole.script);
+    let mut sink = MemorySink::new(alloc);
+    let status = run(alloc, words.as_slice(), &mut source, &mut sink);
+    Ok(says_status(end, status) && sink.written() == Some(whole.report.as_slice()))
+}
+
+/// The first row that isn't so.
+fn first_wrong(alloc: Global) -> Result<Option<&'static str>, AllocError> {
+    for row in ROWS.split("@ ").skip(1) {
+        if !is_so(alloc, row)? {
+            return Ok(Some(row));
+        }
+    }
+    Ok(None)
+}
+
+#[test]
+fn scripts_have_their_reports(rt: HostRuntime) -> Result<(), Fail> {
+    assert_eq!(rt; first_wrong(rt.alloc())?, None);
+    Ok(())
+}
