@@ -1,0 +1,11 @@
+pub mod Sounds
+pub mod Indexed
+pub mod Next
+pub mod Handed
+pub mod Rejected
+pub mod Packs
+pub mod Acked
+pub mod Times
+pub mod Calls
+pub mod Takes
+pub mod Hearing

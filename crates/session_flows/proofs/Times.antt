@@ -1,0 +1,72 @@
+-- The first message that is to be abandoned at a tick.
+use Rattle.std.proofs.Common.{◌≡◌, ℕ, ◌+◌, ◌<◌, ◌≤◌, Bool, true, false, cond, ◌||◌, nat_lt, List, [], ◌∷◌, Option, Some, None, length, refl, sym, ap, ◌∙◌, subst, arith}
+use Rattle.std.specs.Prelude.{slice_get, is_some}
+use Rattle.std.specs.List.{find, list_any, position, position_or_len}
+use Rattle.std.proofs.lemmas.List.Folds.{find_at}
+use Rattle.std.proofs.lemmas.Option.{slice_get_past}
+use Rattle.std.proofs.lemmas.Bool.{ltb-false, ltb-true}
+use Rattle.flow_send.specs.Sender.{overdue}
+use Rattle.flow_send.specs.Flow.{Flow}
+use Rattle.session_core.specs.Session.{SessionState}
+use Rattle.session_core.specs.Closing.{is_held}
+use Rattle.session_flows.specs.Keeping.{FlowsState}
+use Rattle.session_flows.specs.Laws.{AreNumbered}
+use Rattle.session_flows.specs.Timing.{has_overdue, numbered, overdue_of, first_overdue, overdue_in}
+use Rattle.session_flows.proofs.Sounds.{numbered_at}
+
+some_numbered : (id : ℕ) (o : Option ℕ) → is_some (numbered id o) ≡ is_some o
+some_numbered id None = refl
+some_numbered id (Some seq) = refl
+
+any_by : (moment : ℕ) (x : Flow) (later : List Flow) (b : Bool) → has_overdue moment x ≡ b →
+    is_some (overdue_of moment (find (has_overdue moment) later)) ≡ list_any (has_overdue moment) later →
+    is_some (overdue_of moment (cond b (Some x) (find (has_overdue moment) later))) ≡ (b || list_any (has_overdue moment) later)
+any_by moment x later true e ih = some_numbered x.id (overdue moment x.sender) ∙ e
+any_by moment x later false e ih = ih
+
+any_of : (moment : ℕ) (fs : List Flow) → is_some (overdue_of moment (find (has_overdue moment) fs)) ≡ list_any (has_overdue moment) fs
+any_of moment [] = refl
+any_of moment (x ∷ later) = any_by moment x later (has_overdue moment x) refl (any_of moment later)
+
+-- of a held session
+held_by : (b : Bool) (o : Option (ℕ × ℕ)) → b ≡ true → cond b o None ≡ o
+held_by true o e = refl
+held_by false o e = absurd cc
+
+pub any_overdue_is : (session : SessionState) (s : FlowsState) (moment : ℕ) → is_held session.stage ≡ true → list_any (has_overdue moment) s.sending ≡ is_some (overdue_in session s moment)
+any_overdue_is session s moment held = sym (ap (λ (o : Option (ℕ × ℕ)). is_some o) (held_by (is_held session.stage) (first_overdue moment s) held) ∙ any_of moment s.sending)
+
+-- ---- the flow that has it
+
+none_by : (n len : ℕ) (b : Bool) → nat_lt n len ≡ b → cond b (Some n) None ≡ None → len ≤ n
+none_by n len true e h = absurd cc
+none_by n len false e h = ltb-false n len e
+
+some_by : (n len at : ℕ) (b : Bool) → cond b (Some n) None ≡ Some at → n ≡ at
+some_by n len at true h = cc
+some_by n len at false h = absurd cc
+
+within_by : (n len at : ℕ) (b : Bool) → nat_lt n len ≡ b → cond b (Some n) None ≡ Some at → at < len
+within_by n len at true e h = subst (λ (i : ℕ). i < len) (some_by n len at true h) (ltb-true n len e)
+within_by n len at false e h = absurd cc
+
+pub pos_within : (p : Flow → Bool) (fs : List Flow) (at : ℕ) → position p fs ≡ Some at → at < length fs
+pos_within p fs at h = within_by (position_or_len p fs) (length fs) at (nat_lt (position_or_len p fs) (length fs)) refl h
+
+none_found : (p : Flow → Bool) (fs : List Flow) → position p fs ≡ None → find p fs ≡ None
+none_found p fs h = find_at p fs ∙ slice_get_past fs (position_or_len p fs) (none_by (position_or_len p fs) (length fs) (nat_lt (position_or_len p fs) (length fs)) refl h)
+
+found_at : (p : Flow → Bool) (fs : List Flow) (at : ℕ) → position p fs ≡ Some at → find p fs ≡ slice_get fs at
+found_at p fs at h = find_at p fs ∙ ap (λ (i : ℕ). slice_get fs i) (some_by (position_or_len p fs) (length fs) at (nat_lt (position_or_len p fs) (length fs)) h)
+
+pub none_overdue : (session : SessionState) (s : FlowsState) (moment : ℕ) → is_held session.stage ≡ true → position (has_overdue moment) s.sending ≡ None → overdue_in session s moment ≡ None
+none_overdue session s moment held h =
+    held_by (is_held session.stage) (first_overdue moment s) held ∙ ap (λ (o : Option Flow). overdue_of moment o) (none_found (has_overdue moment) s.sending h)
+
+pub one_overdue : (session : SessionState) (s : FlowsState) (moment at : ℕ) (f : Flow) → is_held session.stage ≡ true → AreNumbered 0 s.sending → position (has_overdue moment) s.sending ≡ Some at →
+    slice_get s.sending at ≡ Some f → overdue_in session s moment ≡ numbered at (overdue moment f.sender)
+one_overdue session s moment at f held ids h there =
+    let id : f.id ≡ 0 + at = numbered_at 0 at s.sending f ids there in
+    held_by (is_held session.stage) (first_overdue moment s) held
+    ∙ ap (λ (o : Option Flow). overdue_of moment o) (found_at (has_overdue moment) s.sending at h ∙ there)
+    ∙ ap (λ (n : ℕ). numbered n (overdue moment f.sender)) (omega arith)

@@ -1,0 +1,11 @@
+use Rattle.std.proofs.Common.{◌≡◌, ◌≤◌, ◌-◌, length}
+use Rattle.session_flows.specs.Packing.{packs, packing_with, packing}
+use Rattle.session_flows.specs.Laws.{AreNumbered}
+use Rattle.session_flows.proofs.packing.fill.Given as goal
+
+abbrev pub invariant-loop : goal.invariant-loop
+invariant-loop l = record {
+  numbered : AreNumbered 0 l.sending;
+  packed : packs l.pace (1165 - l.counter) (packing_with l.sending l.out l.marks) ≡ packs l.pace 1165 (packing l.fn.sending l.fn.out);
+  longer : l.counter ≤ length l.out;
+}

@@ -1,0 +1,35 @@
+use Rattle.std.proofs.Common.{◌≡◌, ◌+◌, ◌<◌, Some, length, refl, sym, ◌∙◌, subst, arith}
+use Rattle.std.specs.Prelude.{slice_get}
+use Rattle.std.proofs.lemmas.Option.{slice_get_read}
+use Rattle.flow_send.specs.Flow.{Flow}
+use Rattle.session_flows.specs.Packing.{packed, flow_packed, Goes}
+use Rattle.session_flows.proofs.Sounds.{numbered_at, numbered_set}
+use Rattle.session_flows.proofs.Packs.{once_goes}
+use Rattle.session_flows.proofs.packing.pack_once.Goals as goal
+
+pub pack_flow-requires : goal.pack_flow-requires
+pack_flow-requires c =
+    let there : slice_get c.args.sending.now c.in-Some.at ≡ Some c.index-sending-at.result =
+    slice_get_read c.args.sending.now (length c.args.sending.now) c.in-Some.at c.index-sending-at.result refl c.in-Some.ensures.1 c.index-sending-at.is in
+    let id : c.index-sending-at.result.id ≡ 0 + c.in-Some.at = numbered_at 0 c.in-Some.at c.args.sending.now c.index-sending-at.result c.requires.numbered there in
+    let within : c.in-Some.at < length c.args.sending.now = c.in-Some.ensures.1 in
+    let few : c.index-sending-at.result.id < 256 = omega arith in
+    subst (λ (f : Flow). f.id < 256) c.index-sending-at.is few
+
+pub returns-clause-goes : goal.returns-clause-goes
+returns-clause-goes c =
+    let there : slice_get c.args.sending.now c.in-Some.at ≡ Some c.index-sending-at.result =
+    slice_get_read c.args.sending.now (length c.args.sending.now) c.in-Some.at c.index-sending-at.result refl c.in-Some.ensures.1 c.index-sending-at.is in
+    let id : c.index-sending-at.result.id ≡ 0 + c.in-Some.at = numbered_at 0 c.in-Some.at c.args.sending.now c.index-sending-at.result c.requires.numbered there in
+    let went = subst (λ (f : Flow). Goes (flow_packed c.args.pace c.session_flight-flight.result (packed f c.args.out.now c.args.marks.now)) c.pack_flow.result
+    (packed f c.args.out.now c.args.marks.now) (packed c.pack_flow.new.sender c.pack_flow.new.out c.pack_flow.new.marks)) (sym c.index-sending-at.is) c.pack_flow.ensures.goes in
+    let same = subst (λ (f : Flow). c.pack_flow.new.sender.id ≡ f.id) (sym c.index-sending-at.is) c.pack_flow.ensures.id in
+    once_goes c.args.pace c.args.sending.now c.args.out.now c.args.marks.now c.in-Some.at c.index-sending-at.result c.session_flight-flight.result c.pack_flow.result
+    c.pack_flow.new.sender c.pack_flow.new.out c.pack_flow.new.marks (c.in-Some.ensures.0 ∙ there) id there c.session_flight-flight.ensures c.requires.window same went
+
+pub returns-clause-numbered : goal.returns-clause-numbered
+returns-clause-numbered c =
+    let there : slice_get c.args.sending.now c.in-Some.at ≡ Some c.index-sending-at.result =
+    slice_get_read c.args.sending.now (length c.args.sending.now) c.in-Some.at c.index-sending-at.result refl c.in-Some.ensures.1 c.index-sending-at.is in
+    let same = subst (λ (f : Flow). c.pack_flow.new.sender.id ≡ f.id) (sym c.index-sending-at.is) c.pack_flow.ensures.id in
+    numbered_set 0 c.in-Some.at c.args.sending.now c.index-sending-at.result c.pack_flow.new.sender there same c.requires.numbered

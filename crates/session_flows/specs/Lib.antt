@@ -1,0 +1,12 @@
+pub mod Keeping
+pub mod Places
+pub mod Calling
+pub mod Told
+pub mod Causes
+pub mod Handing
+pub mod Chunks
+pub mod Owing
+pub mod Timing
+pub mod Packing
+pub mod Edges
+pub mod Laws

@@ -1,0 +1,272 @@
+//! What a session does with a chunk of its flows.
+
+ghost use Rattle.std.specs.Prelude.{◌≡◌, ◌+◌, ◌<◌, ◌≤◌, false, length, Some, None, Ok, Err, IfErr};
+ghost use Rattle.std.specs.Prelude.{OnOk, OnErr, IfOk, IsOk, MatchOption, map, ◌++◌, vec_len};
+ghost use Rattle.std.specs.Prelude.{vec_capacity, IfSome};
+ghost use Rattle.rtmfp_data_chunks.specs.Chunk.{user_parts};
+ghost use Rattle.flow_send.specs.Acks.{told};
+ghost use Rattle.flow_send.specs.Flow.{with_sender};
+ghost use Rattle.session_core.specs.Closing.{is_held, with_acknowledged};
+ghost use Rattle.session_flows.specs.Causes.{data_cause, ack_cause, probe_cause};
+ghost use Rattle.session_flows.specs.Causes.{exception_cause, early_cause, receiver_cause};
+ghost use Rattle.session_flows.specs.Causes.{untaken_of, is_there};
+ghost use Rattle.session_flows.specs.Keeping.{Abandoned};
+ghost use Rattle.session_flows.specs.Chunks.{data_taken, heard, session_heard, probed, rejecting};
+ghost use Rattle.session_flows.specs.Chunks.{waiting_at, finished_at, without_messages, numbers_of};
+ghost use Rattle.session_flows.specs.Chunks.{lost_if};
+ghost use Rattle.session_flows.specs.Places.{index_from, place_of};
+
+use crate::cause::{FlowCause, Untaken};
+use crate::flows::{Flows, MOST_FLOWS};
+use crate::taking::TakingFlow;
+use crate::told::{tells_astray, told_metadata};
+use flow_recv::{FlowReceiver, FlowRefusal};
+use flow_send::{AckFault, Acked, FlowSender};
+use rtmfp_data_chunks::{AckedSpans, UserData};
+use session_core::{Session, Stage};
+
+impl Flows {
+    /// The index of a receiving flow.
+    pub(crate) fn taking_index(&self, flow: u64) -> Option<usize>
+        ensures place { result ≡ index_from 0 flow self.now.taking }
+        ensures within { IfSome result (λ at. at < length self.now.taking) }
+    {
+        for (at, row) in self.taking.iter().enumerate() {
+            if row.id == flow {
+                return Some(at);
+            }
+        }
+        None
+    }
+
+    /// Takes a user data chunk, which makes its flow where it is the first of it, and owes an ack
+    /// for it. What is ready then is handed over by `hand_next`. A chunk that is discarded asks for
+    /// no memory.
+    pub fn take_data(&mut self, session: &Session, chunk: &UserData<'_>) -> Result<(), Untaken>
+        requires low { chunk.now.forward ≤ chunk.now.seq }
+        requires below { chunk.now.abandon ≡ false → chunk.now.forward < chunk.now.seq }
+        ensures taken { OnOk result (self.new ≡ data_taken self.old (user_parts chunk.now)) }
+        ensures cause { MatchOption (data_cause session.now self.old (user_parts chunk.now))
+            (IfErr result (λ e. e ≡ Untaken.Memory)) (λ c. result ≡ Err (Untaken.Cause c)) }
+        ensures err { OnErr result (self.new ≡ self.old) }
+    {
+        let at = self.taking_index(chunk.flow);
+        if let Some(cause) = self.early_cause(session, chunk, at.is_some()) {
+            return Err(Untaken::Cause(cause));
+        }
+        match at {
+            Some(at) => self.take_at(at, chunk),
+            None => self.make(chunk),
+        }
+    }
+
+    /// The causes that come before those of the receiver.
+    fn early_cause(&self, session: &Session, chunk: &UserData<'_>, there: bool) -> Option<FlowCause>
+        requires { there ≡ is_there self.now (user_parts chunk.now) }
+        ensures { result ≡ early_cause session.now self.now (user_parts chunk.now) }
+    {
+        if !is_held(session.stage()) {
+            return Some(FlowCause::WrongState);
+        }
+        if !there && told_metadata(&chunk.options).is_none() {
+            return Some(FlowCause::UnknownFlow);
+        }
+        if tells_astray(self.sending.len() as u64, &chunk.options) {
+            return Some(FlowCause::UnknownFlow);
+        }
+        if !there && self.taking.len() >= MOST_FLOWS {
+            return Some(FlowCause::FlowsFull(MOST_FLOWS as u64));
+        }
+        None
+    }
+
+    /// Takes a chunk of the flow at an index.
+    fn take_at(&mut self, at: usize, chunk: &UserData<'_>) -> Result<(), Untaken>
+        requires low { chunk.now.forward ≤ chunk.now.seq }
+        requires below { chunk.now.abandon ≡ false → chunk.now.forward < chunk.now.seq }
+        requires at { index_from 0 chunk.now.flow self.old.taking ≡ Some at }
+        requires within { at < length self.old.taking }
+        ensures taken { OnOk result (self.new ≡ data_taken self.old (user_parts chunk.now)) }
+        ensures cause { MatchOption (receiver_cause self.old (user_parts chunk.now))
+            (IfErr result (λ e. e ≡ Untaken.Memory)) (λ c. result ≡ Err (Untaken.Cause c)) }
+        ensures err { OnErr result (self.new ≡ self.old) }
+    {
+        let row = &mut self.taking[at];
+        if let Err(refusal) = row.receiver.take(chunk) {
+            return Err(untaken_of(refusal));
+        }
+        row.owed = true;
+        Ok(())
+    }
+
+    /// Takes the first chunk of a flow that isn't there.
+    fn make(&mut self, chunk: &UserData<'_>) -> Result<(), Untaken>
+        requires low { chunk.now.forward ≤ chunk.now.seq }
+        requires below { chunk.now.abandon ≡ false → chunk.now.forward < chunk.now.seq }
+        requires new { index_from 0 chunk.now.flow self.old.taking ≡ None }
+        requires room { length self.old.taking < 256 }
+        ensures taken { OnOk result (self.new ≡ data_taken self.old (user_parts chunk.now)) }
+        ensures cause { MatchOption (receiver_cause self.old (user_parts chunk.now))
+            (IfErr result (λ e. e ≡ Untaken.Memory)) (λ c. result ≡ Err (Untaken.Cause c)) }
+        ensures err { OnErr result (self.new ≡ self.old) }
+    {
+        let first = told_metadata(&chunk.options).unwrap_or(0);
+        let mut receiver = FlowReceiver::new(self.alloc, first);
+        if let Err(refusal) = receiver.take(chunk) {
+            return Err(untaken_of(refusal));
+        }
+        let at = self.place_for(chunk.flow);
+        let row = TakingFlow {
+            id: chunk.flow,
+            receiver,
+            owed: true,
+        };
+        if self.taking.insert(at, row).is_err() {
+            return Err(Untaken::Memory);
+        }
+        Ok(())
+    }
+}
+
+impl Flows {
+    /// The index at which a receiving flow is put in.
+    fn place_for(&self, flow: u64) -> usize
+        ensures place { result ≡ place_of flow self.now.taking }
+        ensures within { result ≤ length self.now.taking }
+    {
+        for (at, row) in self.taking.iter().enumerate() {
+            if flow < row.id {
+                return at;
+            }
+        }
+        self.taking.len()
+    }
+
+    /// Takes an ack: the blocks of 1,024 bytes that the other end has free for a flow, the number
+    /// at or below which all is acknowledged, and the spans above it. What it newly acknowledges
+    /// opens the session's window, and what it makes lost then closes it. It takes no memory.
+    pub fn take_ack(
+        &mut self,
+        session: &mut Session,
+        flow: u64,
+        blocks: u64,
+        upto: u64,
+        spans: AckedSpans<'_>,
+    ) -> Result<(), FlowCause>
+        ensures cause { MatchOption (ack_cause session.old self.old flow
+            (told blocks upto spans.entry)) (IsOk result) (λ c. result ≡ Err c) }
+        ensures flows { OnOk result (self.new
+            ≡ heard self.old flow (told blocks upto spans.entry)) }
+        ensures session { OnOk result (session.new
+            ≡ session_heard session.old self.old flow (told blocks upto spans.entry)) }
+        ensures err { OnErr result ((self.new ≡ self.old) × (session.new ≡ session.old)) }
+    {
+        if !is_held(session.stage()) {
+            return Err(FlowCause::WrongState);
+        }
+        let Some(at) = self.sending_index(flow) else {
+            return Err(FlowCause::UnknownFlow);
+        };
+        let sender = &mut self.sending[at];
+        let acked = match sender.take_ack(blocks, upto, spans) {
+            Ok(acked) => acked,
+            Err(AckFault::AckBeyond(number)) => return Err(FlowCause::AckBeyond(number)),
+        };
+        tell(session, acked);
+        Ok(())
+    }
+
+    /// Owes an ack for a buffer probe. It takes no memory.
+    pub fn take_probe(&mut self, session: &Session, flow: u64) -> Result<(), FlowCause>
+        ensures cause { MatchOption (probe_cause session.now self.old flow)
+            (IsOk result) (λ c. result ≡ Err c) }
+        ensures flows { OnOk result (self.new ≡ probed self.old flow) }
+        ensures err { OnErr result (self.new ≡ self.old) }
+    {
+        if !is_held(session.stage()) {
+            return Err(FlowCause::WrongState);
+        }
+        let Some(at) = self.taking_index(flow) else {
+            return Err(FlowCause::UnknownFlow);
+        };
+        let row = &mut self.taking[at];
+        row.owed = true;
+        Ok(())
+    }
+
+    /// Takes an exception, by which the other end rejects a flow: all its messages that wait are
+    /// abandoned, and it is finished. The numbers of the messages are put at the end of a list, for
+    /// which memory is found first. The answer is the last number of the flow, where it wasn't
+    /// finished before.
+    pub fn take_exception(
+        &mut self,
+        session: &Session,
+        flow: u64,
+        abandoned: &mut Vec<u64>,
+    ) -> Result<Option<u64>, Untaken>
+        ensures cause { MatchOption (exception_cause session.now self.old flow)
+            (IfErr result (λ e. e ≡ Untaken.Memory)) (λ c. result ≡ Err (Untaken.Cause c)) }
+        ensures flows { OnOk result (self.new ≡ (rejecting self.old flow).flows) }
+        ensures numbers { OnOk result (abandoned.new.items
+            ≡ abandoned.old.items ++ waiting_at self.old flow) }
+        ensures stated { IfOk result (λ last. (rejecting self.old flow).stated
+            ≡ map (Abandoned flow) (waiting_at self.old flow) ++ finished_at flow last) }
+        ensures err { OnErr result ((self.new ≡ self.old)
+            × (abandoned.new.items ≡ abandoned.old.items)) }
+    {
+        if !is_held(session.stage()) {
+            return Err(Untaken::Cause(FlowCause::WrongState));
+        }
+        let Some(at) = self.sending_index(flow) else {
+            return Err(Untaken::Cause(FlowCause::UnknownFlow));
+        };
+        let sender = &mut self.sending[at];
+        if abandoned.reserve(sender.waiting() as usize).is_err() {
+            return Err(Untaken::Memory);
+        }
+        abandon_all(sender, abandoned);
+        Ok(sender.finish())
+    }
+}
+
+/// Tells a session what an ack did: the bytes that it acknowledged first.
+fn tell(session: &mut Session, acked: Acked)
+    ensures { session.new ≡ lost_if acked.lost (with_acknowledged acked.bytes session.old) }
+{
+    session.acknowledged(acked.bytes);
+    if acked.lost {
+        session.lost(false);
+    }
+}
+
+/// Abandons all messages that wait, whose numbers are put at the end of a list that has room for
+/// them.
+fn abandon_all(sender: &mut FlowSender, abandoned: &mut Vec<u64>)
+    requires { vec_len abandoned.old + length sender.old.sender.waiting
+        ≤ vec_capacity abandoned.old }
+    ensures sender { sender.new ≡ with_sender sender.old (without_messages sender.old.sender) }
+    ensures numbers { abandoned.new.items
+        ≡ abandoned.old.items ++ numbers_of sender.old.sender.waiting }
+{
+    while let Some(number) = sender.abandon_first() {
+        let _ = abandoned.push(number);
+    }
+}
+
+/// A receiver's refusal, as the call tells it.
+fn untaken_of(refusal: FlowRefusal) -> Untaken
+    ensures { result ≡ untaken_of refusal }
+{
+    match refusal {
+        FlowRefusal::AfterFinal(number) => Untaken::Cause(FlowCause::AfterFinal(number)),
+        FlowRefusal::BeyondBuffer(held) => Untaken::Cause(FlowCause::BeyondBuffer(held)),
+        FlowRefusal::Memory => Untaken::Memory,
+    }
+}
+
+/// Whether a session of this stage hasn't ended.
+pub(crate) fn is_held(stage: Stage) -> bool
+    ensures { result ≡ is_held stage }
+{
+    stage == Stage::Opening || stage == Stage::Open
+}

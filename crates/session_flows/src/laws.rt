@@ -1,0 +1,22 @@
+//! Laws of a session's flows, each the contract of a function that does nothing.
+
+ghost use Rattle.session_flows.specs.Laws.{TheNextSends, HandsAllThatAreReady, LeavesNothingReady};
+ghost use Rattle.session_flows.specs.Laws.{LeavesNoMessage};
+
+/// Of the flows that may send, the one that sends has the highest priority, and the lowest ID of
+/// those with that priority. Where none sends, none may.
+pub fn the_highest_priority_sends_first()
+    ensures { TheNextSends }
+{}
+
+/// After a chunk its flow hands over all runs that may be, by rising numbers, and no others; then
+/// none is ready.
+pub fn all_that_is_ready_is_handed_over()
+    ensures all { HandsAllThatAreReady }
+    ensures none_left { LeavesNothingReady }
+{}
+
+/// After an exception no message of the flow waits.
+pub fn an_exception_abandons_all_messages()
+    ensures { LeavesNoMessage }
+{}

@@ -1,0 +1,29 @@
+//! Why a call on a session's flows is refused.
+
+use flow_send::QueueRefusal;
+use thiserror::Error;
+
+/// Why a call on a session's flows is refused, in the order in which the reasons count. All is as
+/// before.
+#[derive(Clone, Copy, Debug, PartialEq, Eq, Error)]
+pub enum CallRefusal {
+    /// The session opened no such flow.
+    #[error("the session opened no such flow")]
+    NoFlow,
+    /// There are this many flows that were opened here, as many as may be.
+    #[error("there are {0} flows")]
+    FlowsFull(u64),
+    /// The metadata, which has so many bytes, has more than 64, or the priority is above 7.
+    #[error("metadata of {0} bytes, or the priority, passes its limit")]
+    WideMetadata(u64),
+    #[error("not queued: {0}")]
+    Queue(QueueRefusal),
+    /// No message that waits begins at the number.
+    #[error("no such message waits")]
+    NotQueued,
+    /// The flow was finished before.
+    #[error("the flow is finished")]
+    Finished,
+    #[error("out of memory")]
+    Memory,
+}

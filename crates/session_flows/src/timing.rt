@@ -1,0 +1,78 @@
+//! What a tick makes lost, and which messages it abandons.
+
+ghost use Rattle.std.specs.Prelude.{◌≡◌, map, is_some};
+ghost use Rattle.std.specs.List.{list_any, position};
+ghost use Rattle.session_flows.specs.Timing.{after_late, session_late, overdue_in, overdue_done};
+ghost use Rattle.session_flows.specs.Timing.{has_late, losing, has_overdue};
+ghost use Rattle.session_flows.specs.Laws.{AreNumbered};
+
+use crate::chunks::is_held;
+use crate::flows::Flows;
+use flow_send::FlowSender;
+use session_core::Session;
+
+impl Flows {
+    /// Marks as lost, in a held session, each number in flight whose resend time has passed. A
+    /// session with such numbers has one loss by time. It takes no memory.
+    pub fn lose_late(&mut self, session: &mut Session, moment: u64)
+        ensures flows { self.new ≡ after_late session.old self.old moment }
+        ensures session { session.new ≡ session_late session.old self.old moment }
+    {
+        if !is_held(session.stage()) {
+            return;
+        }
+        if lose(&mut self.sending, moment, session.resend_after()) {
+            session.lost(true);
+        }
+    }
+
+    /// Whether a message is to be abandoned at a tick. It takes no memory.
+    pub fn any_overdue(&self, session: &Session, moment: u64) -> bool
+        ensures { result ≡ is_some (overdue_in session.now self.now moment) }
+    {
+        is_held(session.stage()) && any_overdue(&self.sending, moment)
+    }
+
+    /// Abandons the first message that is to be abandoned at a tick, and gives its flow and its
+    /// number. It takes no memory.
+    pub fn abandon_overdue(&mut self, session: &Session, moment: u64) -> Option<(u64, u64)>
+        ensures found { result ≡ overdue_in session.now self.old moment }
+        ensures flows { self.new ≡ (overdue_done self.old result).flows }
+    {
+        if !is_held(session.stage()) {
+            return None;
+        }
+        let at = overdue_at(&self.sending, moment)?;
+        let sender = &mut self.sending[at];
+        let seq = sender.overdue(moment)?;
+        Some((at as u64, seq))
+    }
+}
+
+fn any_overdue(sending: &[FlowSender], moment: u64) -> bool
+    ensures { result ≡ list_any (has_overdue moment) sending.now }
+{
+    sending.iter().any(|f| f.any_overdue(moment))
+}
+
+/// The index of the first flow that has a message to be abandoned.
+fn overdue_at(sending: &[FlowSender], moment: u64) -> Option<usize>
+    ensures { result ≡ position (has_overdue moment) sending.now }
+{
+    sending.iter().position(|f| f.any_overdue(moment))
+}
+
+/// Marks as lost each number in flight that was sent so long ago. True where there is one.
+fn lose(sending: &mut [FlowSender], moment: u64, resend_after: u64) -> bool
+    requires { AreNumbered 0 sending.old }
+    ensures late { result ≡ list_any (has_late moment resend_after) sending.old }
+    ensures after { sending.new ≡ map (losing moment resend_after) sending.old }
+    ensures numbered { AreNumbered 0 sending.new }
+{
+    let mut any = false;
+    for sender in sending.iter_mut() {
+        let late = sender.find_lost(moment, resend_after);
+        any |= late;
+    }
+    any
+}
