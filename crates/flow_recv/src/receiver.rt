@@ -174,6 +174,7 @@ impl FlowReceiver {
         // What is put reads back as the receiver's spans.
         ensures tells { TellsSpans flow (packet_limit - length out.old - 3) self.now }
     {
+        // Read for the prover alone, which has from it that the highest number fits 64 bits.
         let _highest = self.highest;
         let blocks = self.free_blocks();
         let head = vlu_len(flow) + vlu_len(blocks) + vlu_len(self.through);

@@ -31,6 +31,7 @@ fn acknowledge_span(rows: &mut Rows, forward: u64, first: u64, last: u64) -> u64
         else 0) (forward + 1) rows.old.rows }
     ensures room { rows.new.room ≡ rows.old.room }
 {
+    // Read for the prover alone: so many rows fit a `usize`.
     let _all = rows.len();
     let from = first.saturating_sub(forward).saturating_sub(1);
     let to = last.saturating_sub(forward);

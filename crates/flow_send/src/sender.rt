@@ -335,6 +335,7 @@ impl FlowSender {
             return None;
         }
         let number = self.next() as u64;
+        // Read for the prover alone: what the rows store fits 64 bits.
         let _stored = self.rows.stored();
         self.rows.push(HeldRow::end(self.alloc));
         self.finish = Some(number);
@@ -346,6 +347,7 @@ impl FlowSender {
         ensures count { result ≡ self.now.sender.sent - self.now.sender.forward }
         ensures inside { result ≤ length self.now.sender.rows }
     {
+        // Read for the prover alone: so many rows fit a `usize`.
         let _all = self.rows.len();
         self.sent.saturating_sub(self.forward) as usize
     }

@@ -52,6 +52,7 @@ impl Waiting {
         requires { self.now.number + self.now.count ≤ forward + 1 + length rows.now.rows }
         ensures { result ≡ still_waits (forward + 1) rows.now.rows self.now }
     {
+        // Read for the prover alone: so many rows fit a `usize`.
         let _all = rows.len();
         rows.waits(self.from(forward), self.to(forward))
     }
@@ -76,6 +77,7 @@ impl Waiting {
         ensures rows { rows.new.rows ≡ map_rows (give_up self.now) (forward + 1) rows.old.rows }
         ensures room { rows.new.room ≡ rows.old.room }
     {
+        // Read for the prover alone: so many rows fit a `usize`.
         let _all = rows.len();
         rows.give_up(self.from(forward), self.to(forward));
     }
@@ -116,6 +118,7 @@ impl Waiting {
         requires { self.now.number + self.now.count ≤ forward + 1 + length rows.now.rows }
         ensures { result ≡ is_spent self.now.options.resends self.now (forward + 1) rows.now.rows }
     {
+        // Read for the prover alone: so many rows fit a `usize`.
         let _all = rows.len();
         match self.options.resends {
             Some(limit) => rows.is_spent(self.from(forward), self.to(forward), limit),

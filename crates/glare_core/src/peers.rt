@@ -323,6 +323,7 @@ impl Peers {
         ensures facts { (from : ℕ) (facts : List Fact) → StandsFor from self.now facts →
             result ≡ length (peers_in facts) }
     {
+        // Read for the prover alone: as many rows as may be fit 32 bits.
         let _most = self.max_peers;
         self.rows.len() as u32
     }

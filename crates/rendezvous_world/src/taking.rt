@@ -40,6 +40,7 @@ fn certified_print(cert: &Certificate) -> [u8; 32]
     ensures print { result ≡ sha256 cert.now }
     ensures form { IsCertificate cert.now }
 {
+    // Read for the prover alone, which has from it what form the bytes have.
     let _bytes = cert.bytes();
     cert.print()
 }

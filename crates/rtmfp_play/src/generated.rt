@@ -235,6 +235,7 @@ fn delivery(end: usize, number: u64, sent: Option<(usize, Address)>) -> Step
 fn holds(world: &World)
     ensures { HistoryHolds world.now }
 {
+    // Read for the prover alone: its clause is what is told.
     let _journal = world.journal();
 }
 
