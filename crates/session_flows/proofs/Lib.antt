@@ -9,3 +9,4 @@ pub mod Times
 pub mod Calls
 pub mod Takes
 pub mod Hearing
+pub mod Within

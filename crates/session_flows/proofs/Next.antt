@@ -96,7 +96,7 @@ next_by : (pace : Pace) (n : ℕ) (x : Flow) (later : List Flow) (b : Bool) → 
 next_by pace n x later true e numbered h = first_with pace n x later (first_to_send pace later) numbered e h
 next_by pace n x later false e numbered h = skipped pace x later (first_to_send pace later) e h
 
-next_from : (pace : Pace) (n : ℕ) (fs : List Flow) → AreNumbered n fs → Next pace fs (first_to_send pace fs)
+pub next_from : (pace : Pace) (n : ℕ) (fs : List Flow) → AreNumbered n fs → Next pace fs (first_to_send pace fs)
 next_from pace n [] numbered = λ g i. absurd i
 next_from pace n (x ∷ later) numbered = next_by pace n x later (may_send pace x) refl numbered (next_from pace (n + 1) later numbered.1)
 

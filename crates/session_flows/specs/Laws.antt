@@ -12,7 +12,8 @@ use Rattle.session_flows.specs.declared.pace.Pace.{Pace}
 use Rattle.session_flows.specs.Keeping.{FlowsState, taking_at, Stated, Handed}
 use Rattle.session_flows.specs.Handing.{hands_all}
 use Rattle.session_flows.specs.Chunks.{without_messages}
-use Rattle.session_flows.specs.Packing.{may_send, first_to_send}
+use Rattle.session_flows.specs.Packing.{may_send, first_to_send, Packing, packed_once}
+use Rattle.session_flows.specs.Packing.{session_flight}
 
 -- ---- what is so of every session's flows
 
@@ -53,6 +54,13 @@ abbrev pub TheNextSends : Type 0
 TheNextSends = (pace : Pace) (sending : List Flow) → AreNumbered 0 sending →
     MatchOption (first_to_send pace sending) (NoneMaySend pace sending)
     (λ f. IsNextOf pace sending f)
+
+-- ---- the session's window
+
+-- A chunk that goes leaves no more bytes in flight than the window has.
+abbrev pub StaysWithin : Type 0
+StaysWithin = (pace : Pace) (p q : Packing) → AreNumbered 0 p.sending →
+    packed_once pace p ≡ Some q → session_flight q.sending ≤ pace.window
 
 -- ---- what is handed over
 

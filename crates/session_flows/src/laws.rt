@@ -1,12 +1,18 @@
 //! Laws of a session's flows, each the contract of a function that does nothing.
 
 ghost use Rattle.session_flows.specs.Laws.{TheNextSends, HandsAllThatAreReady, LeavesNothingReady};
-ghost use Rattle.session_flows.specs.Laws.{LeavesNoMessage};
+ghost use Rattle.session_flows.specs.Laws.{LeavesNoMessage, StaysWithin};
 
 /// Of the flows that may send, the one that sends has the highest priority, and the lowest ID of
 /// those with that priority. Where none sends, none may.
 pub fn the_highest_priority_sends_first()
     ensures { TheNextSends }
+{}
+
+/// A chunk that goes leaves no more bytes in flight, of all flows of the session, than its window
+/// has.
+pub fn flight_stays_within_the_window()
+    ensures { StaysWithin }
 {}
 
 /// After a chunk its flow hands over all runs that may be, by rising numbers, and no others; then
