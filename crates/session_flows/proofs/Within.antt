@@ -1,6 +1,6 @@
 -- A chunk that goes leaves no more bytes in flight than the window has.
 use Prim.Native.Nat.{zero, suc}
-use Rattle.std.proofs.Common.{◌≡◌, ℕ, ◌+◌, ◌-◌, ◌<◌, ◌≤◌, ◌==◌, Bool, true, false, cond, nat_lt, List, [], ◌∷◌, Option, Some, None, MatchOption, length, refl, sym, ap, ◌∙◌, subst, arith, ◌⊎◌, inl, inr}
+use Rattle.std.proofs.Common.{◌≡◌, ℕ, ◌+◌, ◌-◌, ◌<◌, ◌≤◌, ◌==◌, Bool, true, false, cond, nat_lt, List, [], ◌∷◌, Option, Some, None, MatchOption, length, refl, sym, ap, ◌∙◌, subst, arith, inl, inr}
 use Rattle.std.specs.Prelude.{slice_get, slice_set}
 use Rattle.std.proofs.lemmas.Bool.{ltb-false, eqb-true}
 use Rattle.std.proofs.lemmas.List.Sums.{sum_by-cons}
@@ -14,7 +14,7 @@ use Rattle.flow_send.specs.Sender.{Sender}
 use Rattle.flow_send.specs.Choice.{Choice, Nothing, Send, Notify, choice_bytes, chunk_for, sent_row, put_at, sent_after, count_up}
 use Rattle.flow_send.specs.Flow.{Flow, with_sender, chunk_refusal_of, if_room, data_length, chunk_options}
 use Rattle.session_flows.specs.declared.pace.Pace.{Pace}
-use Rattle.session_flows.specs.Packing.{chosen, first_to_send, flight_of, session_flight, is_first, Packed, packed, packed_by, refused_of, flow_packed, Packing, put_back, packed_of, packed_once}
+use Rattle.session_flows.specs.Packing.{chosen, first_to_send, flight_of, session_flight, is_first, packed, packed_by, refused_of, Packing, put_back, packed_of}
 use Rattle.session_flows.specs.Laws.{AreNumbered, IsNextOf, NoneMaySend, StaysWithin}
 use Rattle.session_flows.proofs.Next.{next_from}
 
