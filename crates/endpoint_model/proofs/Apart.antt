@@ -4,7 +4,7 @@ use Rattle.std.proofs.Common.{◌≡◌, ◌⊎◌, inl, inr, Some, None, refl, 
 use Rattle.glare_core.specs.declared.facts.Fact.{Fact}
 use Rattle.endpoint_model.specs.declared.entry.Entry.{Entry}
 use Rattle.endpoint_model.specs.declared.entry.Entry.TheVariants.{Fact as FactEntry, Closed, Moved, Discard, Out}
-use Rattle.endpoint_model.specs.Event.{Call, Open, Cancel, Close, Receive, Tick, OpenCall, ReceiveCall, open_in, receive_in}
+use Rattle.endpoint_model.specs.Event.{Call, Open, Cancel, Close, AddRow, Introduce, Receive, Tick, OpenCall, ReceiveCall, open_in, receive_in}
 use Rattle.endpoint_model.specs.Views.{Sending, fact_in, out_in}
 
 same_inside : {A : Type 0} (x y : A) → Some x ≡ Some y → x ≡ y
@@ -30,6 +30,8 @@ pub opens_alone : (call : Call) (o : OpenCall) → open_in call ≡ Some o → c
 opens_alone (Open peer candidates draws) o e = ap (λ (x : OpenCall). Open x.peer x.candidates x.draws) (same_inside (record { peer = peer; candidates = candidates; draws = draws }) o e)
 opens_alone (Cancel n) o e = absurd (cc)
 opens_alone (Close near) o e = absurd (cc)
+opens_alone (AddRow print addresses) o e = absurd (cc)
+opens_alone Introduce o e = absurd (cc)
 opens_alone (Receive from datagram draws) o e = absurd (cc)
 opens_alone (Tick draws) o e = absurd (cc)
 
@@ -37,5 +39,7 @@ pub receives_alone : (call : Call) (r : ReceiveCall) → receive_in call ≡ Som
 receives_alone (Open peer candidates draws) r e = absurd (cc)
 receives_alone (Cancel n) r e = absurd (cc)
 receives_alone (Close near) r e = absurd (cc)
+receives_alone (AddRow print addresses) r e = absurd (cc)
+receives_alone Introduce r e = absurd (cc)
 receives_alone (Receive from datagram draws) r e = ap (λ (x : ReceiveCall). Receive x.from x.datagram x.draws) (same_inside (record { from = from; datagram = datagram; draws = draws }) r e)
 receives_alone (Tick draws) r e = absurd (cc)

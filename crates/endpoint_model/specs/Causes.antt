@@ -2,10 +2,10 @@
 use Rattle.std.specs.Prelude.{ℕ, ◌-◌, ◌==◌, ◌||◌, nat_lt, not, Bool, true, false, is_some, if◌then◌else◌, List, [], ◌∷◌, length, Option, Some, None, Result, Ok, Err}
 use Rattle.std.specs.FinMap.{get, contains_key}
 use Rattle.rtmfp_forms.specs.Address.{AddressParts}
-use Rattle.rtmfp_chunks.specs.declared.kinds.TheConstants.{IHELLO, FIHELLO, RHELLO, COOKIE_CHANGE, IIKEYING, RIKEYING, PING, PING_REPLY, CLOSE, CLOSE_ACK, FRAGMENT}
+use Rattle.rtmfp_chunks.specs.declared.kinds.TheConstants.{IHELLO, FIHELLO, RHELLO, REDIRECT, COOKIE_CHANGE, IIKEYING, RIKEYING, PING, PING_REPLY, CLOSE, CLOSE_ACK, FRAGMENT}
 use Rattle.rtmfp_chunks.specs.declared.reading.ChunkFault.{ChunkFault}
 use Rattle.rtmfp_chunks.specs.declared.reading.ChunkFault.TheVariants.{Unknown, Malformed as BadField}
-use Rattle.rtmfp_chunks.specs.Chunk.{Chunk, IHello, FIHello, RHello, CookieChange, Ping}
+use Rattle.rtmfp_chunks.specs.Chunk.{Chunk, IHello, FIHello, RHello, Redirect, CookieChange, Ping}
 use Rattle.rtmfp_chunks.specs.FieldReading.{chunk_reading}
 use Rattle.rtmfp_packet.specs.Walk.{Placed}
 use Rattle.identity.specs.Certificates.{certificate_fault}
@@ -13,6 +13,7 @@ use Rattle.glare_core.specs.Calls.{where_true, first_that_stands}
 use Rattle.startup.specs.declared.cause.Cause.{Cause}
 use Rattle.startup.specs.declared.cause.Cause.TheVariants.{UnknownChunk, Malformed, WrongPlace, WrongState, NoAttempt, SecondKeying, Fragment as FragmentCause, Wide}
 use Rattle.startup.specs.Attempts.{rhello_cause, cookie_change_cause}
+use Rattle.startup.specs.Redirects.{redirect_cause}
 use Rattle.startup.specs.Keyings.{keying_fault, initiator_hello_cause, iikeying_cause, rikeying_cause}
 use Rattle.session_core.specs.Closing.{is_held, is_near_close}
 use Rattle.endpoint_model.specs.declared.row.Row.{Row}
@@ -20,6 +21,7 @@ use Rattle.endpoint_model.specs.declared.place.Place.{Place}
 use Rattle.endpoint_model.specs.declared.walk.Walk.{Walk}
 use Rattle.endpoint_model.specs.declared.place.Place.TheVariants.{Startup, Attempt, Session}
 use Rattle.endpoint_model.specs.State.{State, full}
+use Rattle.endpoint_model.specs.Introducing.{hello_cause}
 use Rattle.endpoint_model.specs.Admission.{sid_at}
 
 abbrev pub is_hello : ℕ → Bool
@@ -28,9 +30,9 @@ is_hello kind = (kind == IHELLO) || (kind == FIHELLO)
 -- the chunks that an end reads today
 abbrev pub is_known : ℕ → Bool
 is_known kind =
-    is_hello kind || (kind == RHELLO) || (kind == COOKIE_CHANGE) || (kind == IIKEYING)
-    || (kind == RIKEYING) || (kind == PING) || (kind == PING_REPLY) || (kind == CLOSE)
-    || (kind == CLOSE_ACK) || (kind == FRAGMENT)
+    is_hello kind || (kind == RHELLO) || (kind == REDIRECT) || (kind == COOKIE_CHANGE)
+    || (kind == IIKEYING) || (kind == RIKEYING) || (kind == PING) || (kind == PING_REPLY)
+    || (kind == CLOSE) || (kind == CLOSE_ACK) || (kind == FRAGMENT)
 
 -- The certificate of a responder's hello, which ends a payload of this length, isn't one.
 abbrev pub view_fault : ℕ → Chunk → Option Cause
@@ -53,7 +55,8 @@ form_cause kind payload =
 -- which chunks a place takes
 abbrev pub takes : Place → ℕ → Bool
 takes Startup kind =
-    (kind == IHELLO) || (kind == RHELLO) || (kind == COOKIE_CHANGE) || (kind == IIKEYING)
+    (kind == IHELLO) || (kind == RHELLO) || (kind == REDIRECT) || (kind == COOKIE_CHANGE)
+    || (kind == IIKEYING)
 takes (Attempt near) kind = (kind == COOKIE_CHANGE) || (kind == RIKEYING)
 takes (Session near) kind =
     (kind == FIHELLO) || (kind == PING) || (kind == PING_REPLY) || (kind == CLOSE)
@@ -73,16 +76,19 @@ has_state_for s Startup kind = true
 has_state_for s (Attempt near) kind = true
 has_state_for s (Session near) kind = row_takes (get s.sessions near) kind
 
--- the causes of hellos, of changes of cookies and of keyings
-abbrev pub read_cause : State → Place → Result Chunk ChunkFault → Option Cause
-read_cause s place (Ok (IHello epd tag)) = initiator_hello_cause s.startup epd tag
-read_cause s place (Ok (FIHello epd reply tag)) = initiator_hello_cause s.startup epd tag
-read_cause s place (Ok (RHello tag cookie cert)) = rhello_cause s.startup tag cookie cert
-read_cause s place (Ok (CookieChange old new)) =
+-- The causes of hellos, of redirects, of changes of cookies and of pings. A hello that was
+-- forwarded is forwarded to nobody.
+abbrev pub read_cause : State → Place → AddressParts → Result Chunk ChunkFault → Option Cause
+read_cause s place from (Ok (IHello epd tag)) = hello_cause s epd tag
+read_cause s place from (Ok (FIHello epd reply tag)) = initiator_hello_cause s.startup epd tag
+read_cause s place from (Ok (RHello tag cookie cert)) = rhello_cause s.startup tag cookie cert
+read_cause s place from (Ok (Redirect tag list)) = redirect_cause s.startup tag list from
+read_cause s place from (Ok (CookieChange old new)) =
     cookie_change_cause s.startup (sid_at place) old new
-read_cause s place (Ok (Ping bytes)) = where_true (nat_lt 1024 (length bytes)) (Wide (length bytes))
-read_cause s place (Ok chunk) = None
-read_cause s place (Err fault) = None
+read_cause s place from (Ok (Ping bytes)) =
+    where_true (nat_lt 1024 (length bytes)) (Wide (length bytes))
+read_cause s place from (Ok chunk) = None
+read_cause s place from (Err fault) = None
 
 -- A keying after another one of the same datagram.
 abbrev pub initiator_keying_cause : State → Walk → AddressParts → List ℕ → Option Cause
@@ -100,7 +106,7 @@ last_cause s place walk from c =
     if c.kind == IIKEYING then initiator_keying_cause s walk from c.payload
     else if c.kind == RIKEYING then responder_keying_cause s (sid_at place) c.payload
     else first_that_stands (where_true (not (has_state_for s place c.kind)) WrongState
-    ∷ read_cause s place (chunk_reading c.kind c.payload) ∷ [])
+    ∷ read_cause s place from (chunk_reading c.kind c.payload) ∷ [])
 
 abbrev pub chunk_cause : State → Place → Walk → AddressParts → Placed → Option Cause
 chunk_cause s place walk from c =

@@ -1,13 +1,17 @@
 -- What each call of an end does, item by item.
-use Rattle.std.specs.Prelude.{IsSome, ℕ, zero, suc, ◌+◌, ◌⊎◌, ◌==◌, ◌||◌, ◌≡◌, nat_lt, Bool, false, if◌then◌else◌, List, [], ◌∷◌, ◌++◌, length, take, Option, Some, None, Result, Ok}
+use Rattle.std.specs.Prelude.{IsSome, ℕ, zero, suc, ◌+◌, ◌⊎◌, ◌==◌, ◌||◌, ◌≡◌, nat_lt, not, Bool, true, false, if◌then◌else◌, List, [], ◌∷◌, ◌++◌, length, take, Option, Some, None, Result, Ok}
 use Rattle.std.specs.FinMap.{get, remove, insert}
 use Rattle.rtmfp_forms.specs.Address.{AddressParts}
-use Rattle.rtmfp_chunks.specs.declared.kinds.TheConstants.{IIKEYING, RIKEYING, PING_REPLY, CLOSE, CLOSE_ACK}
+use Rattle.rtmfp_chunks.specs.declared.kinds.TheConstants.{REDIRECT, IIKEYING, RIKEYING, PING_REPLY, CLOSE, CLOSE_ACK}
 use Rattle.rtmfp_chunks.specs.declared.reading.ChunkFault.{ChunkFault}
-use Rattle.rtmfp_chunks.specs.Chunk.{Chunk, IHello, FIHello, RHello, CookieChange, Ping, PingReply}
+use Rattle.rtmfp_chunks.specs.Chunk.{Chunk, IHello, FIHello, RHello, Redirect, CookieChange, Ping, PingReply}
 use Rattle.rtmfp_chunks.specs.FieldReading.{chunk_reading}
 use Rattle.rtmfp_chunks.specs.Writing.{chunk_bytes}
 use Rattle.rtmfp_packet.specs.Walk.{Placed}
+use Rattle.sha2.specs.Sha256.{sha256}
+use Rattle.cookies.specs.Cookie.{observed}
+use Rattle.identity.specs.declared.discriminator.Epd.{Epd}
+use Rattle.identity.specs.Discriminators.{discriminator_of}
 use Rattle.glare_core.specs.declared.facts.Fact.{Fact}
 use Rattle.glare_core.specs.declared.facts.Fact.TheVariants.{Started, Born, Opened, Confirmed, Ended}
 use Rattle.glare_core.specs.declared.answers.StartRefusal.{StartRefusal}
@@ -19,8 +23,10 @@ use Rattle.startup.specs.declared.answer.Keyed.TheVariants.{Change, Again, Birth
 use Rattle.startup.specs.declared.answer.Due.{Due}
 use Rattle.startup.specs.declared.answer.Due.TheVariants.{Ended as EndDue, Hello as HelloDue, Keying as KeyingDue}
 use Rattle.startup.specs.Attempts.{begin_spread, after_begin, cancel_fact, after_cancel, after_rhello, rhello_keying, after_cookie_change, cookie_change_keying}
+use Rattle.startup.specs.State.{SpreadParts}
+use Rattle.startup.specs.Redirects.{after_redirect, redirect_spread, sent_by_spread}
 use Rattle.startup.specs.Due.{due, after_due}
-use Rattle.startup.specs.Keyings.{initiator_hello_answer, keyed, after_keying, opened, after_opening}
+use Rattle.startup.specs.Keyings.{selects, initiator_hello_answer, keyed, after_keying, opened, after_opening}
 use Rattle.session_core.specs.declared.stage.Role.TheVariants.{Initiator, Responder}
 use Rattle.session_core.specs.declared.stage.SessionDue.{SessionDue}
 use Rattle.session_core.specs.Session.{new_session}
@@ -32,9 +38,10 @@ use Rattle.endpoint_model.specs.declared.row.Row.{Row}
 use Rattle.endpoint_model.specs.declared.entry.Entry.TheVariants.{Fact as FactEntry, Discard}
 use Rattle.endpoint_model.specs.declared.answers.OpenRefusal.{OpenRefusal}
 use Rattle.endpoint_model.specs.declared.answers.OpenRefusal.TheVariants.{Candidates, Start, SessionsFull}
-use Rattle.endpoint_model.specs.State.{State, Sessions, Did, nothing, after_entries, then_do, fact_entries, with_startup, with_row, with_sessions, new_row, free_from, full}
+use Rattle.endpoint_model.specs.State.{State, Sessions, Did, nothing, after_entries, then_do, fact_entries, with_startup, with_sessions, new_row, free_from, full}
 use Rattle.endpoint_model.specs.Sending.{sent_answer, sent_if, sent_spread, sent_in_session}
-use Rattle.endpoint_model.specs.InSessions.{told_in_session, tested, asks_at, answers_by, due_row, row_due_done}
+use Rattle.endpoint_model.specs.Introducing.{forwarded_to, redirected_to, redirect_of}
+use Rattle.endpoint_model.specs.InSessions.{sent_home, told_in_session, tested, asks_at, answers_by, due_row, row_due_done}
 use Rattle.endpoint_model.specs.Admission.{Admission, Rejected, Admitted, sid_at, confirming, confirms}
 use Rattle.endpoint_model.specs.Causes.{chunk_cause}
 use Rattle.endpoint_model.specs.Keying.{chunks_of}
@@ -189,36 +196,68 @@ opening_done s near from (Some fact) =
 abbrev pub responder_keyed : State → ℕ → AddressParts → List ℕ → Did
 responder_keyed s near from payload = opening_done s near from (opened s.startup near payload)
 
--- ---- chunks that state nothing: hellos, changes of cookies, and pings
+-- ---- chunks that state nothing: hellos, redirects, changes of cookies, and pings
 
--- How such a chunk is answered: not at all; by a startup packet, if there is one to send; or in the
--- session that it came in, by the bytes of a body.
+-- How such a chunk is answered: not at all; by a startup packet, if there is one to send, or by
+-- hellos, if there are some; in the session that it came in, by the bytes of a body; or by such
+-- bytes in the session of another end, if there is one, to where its datagrams go, and then by a
+-- startup packet, if there is one.
 pub data Reply : Type 0 where
   Silence : Reply
   InStartup : (answer : Option Answer) → Reply
+  Hellos : (spread : Option SpreadParts) → Reply
   InSession : (body : List ℕ) → Reply
+  Introduction : (to : Option ℕ) → (body : List ℕ) → (redirect : Option Answer) → Reply
+
+abbrev pub sent_spread_if : State → Option SpreadParts → Did
+sent_spread_if s None = nothing s
+sent_spread_if s (Some spread) = sent_spread s spread
+
+abbrev pub forwarded : State → Option ℕ → List ℕ → Did
+forwarded s None body = nothing s
+forwarded s (Some near) body = sent_home s near body
 
 abbrev pub replied : State → Place → AddressParts → Reply → Did
 replied s place from Silence = nothing s
 replied s place from (InStartup answer) = sent_if s answer
+replied s place from (Hellos spread) = sent_spread_if s spread
 replied s place from (InSession body) = sent_in_session s (sid_at place) from body
+replied s place from (Introduction to body redirect) =
+    then_do (forwarded s to body) (λ t. sent_if t redirect)
+
+-- A hello for another end is forwarded in that end's session, with the address that it came from as
+-- the one that was observed; and it is answered with the addresses of that end's row.
+abbrev pub introduction : State → Option Epd → List ℕ → List ℕ → AddressParts → Reply
+introduction s None epd tag from = Silence
+introduction s (Some selected) epd tag from =
+    Introduction (forwarded_to s selected.print) (chunk_bytes (FIHello epd (observed from) tag))
+    (redirect_of tag from (redirected_to s selected.print))
+
+-- A hello for this end is answered by the own hello, and does nothing else.
+abbrev pub hello_reply : State → List ℕ → List ℕ → AddressParts → Reply
+hello_reply s epd tag from =
+    if selects (discriminator_of epd) (sha256 s.startup.cert)
+    then InStartup (Some (initiator_hello_answer s.startup tag from s.moment))
+    else introduction s (discriminator_of epd) epd tag from
 
 -- what it leaves before it is answered
 abbrev pub read_left : State → Place → AddressParts → Result Chunk ChunkFault → State
 read_left s place from (Ok (RHello tag cookie cert)) =
     with_startup s (after_rhello s.startup tag cookie from s.moment)
+read_left s place from (Ok (Redirect tag list)) =
+    with_startup s (after_redirect s.startup tag list from s.moment)
 read_left s place from (Ok (CookieChange old new)) =
     with_startup s (after_cookie_change s.startup (sid_at place) old new s.moment)
 read_left s place from read = s
 
 -- and its answer
 abbrev pub read_reply : State → Place → AddressParts → Result Chunk ChunkFault → Reply
-read_reply s place from (Ok (IHello epd tag)) =
-    InStartup (Some (initiator_hello_answer s.startup tag from s.moment))
+read_reply s place from (Ok (IHello epd tag)) = hello_reply s epd tag from
 read_reply s place from (Ok (FIHello epd reply tag)) =
     InStartup (Some (initiator_hello_answer s.startup tag reply s.moment))
 read_reply s place from (Ok (RHello tag cookie cert)) =
     InStartup (rhello_keying s.startup tag cookie from)
+read_reply s place from (Ok (Redirect tag list)) = Hellos (redirect_spread s.startup tag list from)
 read_reply s place from (Ok (CookieChange old new)) =
     InStartup (cookie_change_keying s.startup (sid_at place) old new)
 read_reply s place from (Ok (Ping bytes)) = InSession (chunk_bytes (PingReply bytes))
@@ -290,10 +329,22 @@ part_received from draws (Admitted s place packet) count =
 
 -- ---- datagrams that add nothing but discards
 
--- The chunk is discarded, or it is an answer to a ping that moves nothing.
+-- it is an answer to a ping that moves nothing, or a redirect that adds no address
+abbrev pub adds_nothing : State → AddressParts → Result Chunk ChunkFault → Bool
+adds_nothing s from (Ok (Redirect tag list)) =
+    sent_by_spread (redirect_spread s.startup tag list from) == 0
+adds_nothing s from read = false
+
+abbrev pub is_idle : State → Place → AddressParts → Placed → Bool
+is_idle s place from c =
+    if c.kind == PING_REPLY then not (answers_by from c.payload (get s.sessions (sid_at place)))
+    else if c.kind == REDIRECT then adds_nothing s from (chunk_reading c.kind c.payload)
+    else false
+
+-- The chunk is discarded, or it does nothing.
 abbrev pub IsQuiet : State → Place → Walk → AddressParts → Placed → Type 0
-IsQuiet s place walk from c = IsSome (chunk_cause s place walk from c) ⊎
-    ((c.kind ≡ PING_REPLY) × (answers_by from c.payload (get s.sessions (sid_at place)) ≡ false))
+IsQuiet s place walk from c =
+    IsSome (chunk_cause s place walk from c) ⊎ (is_idle s place from c ≡ true)
 
 abbrev pub AreQuiet : State → Place → AddressParts → Walk → List Placed → Type 0
 AreQuiet s place from walk [] = Unit {0}

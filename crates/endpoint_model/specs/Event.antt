@@ -3,6 +3,7 @@
 use Rattle.std.specs.Prelude.{ℕ, List, Option, Some, None, max}
 use Rattle.sha2.specs.Sha256.{sha256}
 use Rattle.rtmfp_forms.specs.Address.{AddressParts}
+use Rattle.introducer.specs.declared.refusal.RowRefusal.{RowRefusal}
 use Rattle.endpoint_model.specs.declared.config.Config.{Config}
 use Rattle.endpoint_model.specs.declared.config.Draws.{Draws}
 use Rattle.endpoint_model.specs.declared.answers.OpenRefusal.{OpenRefusal}
@@ -27,6 +28,8 @@ pub data Call : Type 0 where
   Open : (peer : List ℕ) → (candidates : List AddressParts) → (draws : Draws) → Call
   Cancel : (n : ℕ) → Call
   Close : (near : ℕ) → Call
+  AddRow : (print : List ℕ) → (addresses : List AddressParts) → Call
+  Introduce : Call
   Receive : (from : AddressParts) → (datagram : List ℕ) → (draws : Draws) → Call
   Tick : (draws : Draws) → Call
 
@@ -70,6 +73,7 @@ pub data Answer : Type 0 where
   Done : Answer
   NotOpened : (refusal : OpenRefusal) → Answer
   Refused : (refusal : CallRefusal) → Answer
+  NotAdded : (refusal : RowRefusal) → Answer
   Stopped : (stop : Stop) → Answer
   OutOfMemory : Answer
 

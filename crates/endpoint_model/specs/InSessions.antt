@@ -1,5 +1,5 @@
 -- What an end does of its sessions: how they end, close and move, and what is due of them.
-use Rattle.std.specs.Prelude.{ℕ, ◌||◌, ◌==◌, Bool, true, false, is_some, if◌then◌else◌, List, [], ◌∷◌, Option, Some, None}
+use Rattle.std.specs.Prelude.{ℕ, ◌||◌, ◌==◌, Bool, false, is_some, if◌then◌else◌, List, [], ◌∷◌, Option, Some, None}
 use Rattle.std.specs.List.{find}
 use Rattle.std.specs.FinMap.{get, entries}
 use Rattle.rtmfp_forms.specs.Address.{AddressParts}

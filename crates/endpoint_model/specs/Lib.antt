@@ -7,5 +7,6 @@ pub mod Sending
 pub mod InSessions
 pub mod Admission
 pub mod Causes
+pub mod Introducing
 pub mod Effects
 pub mod Log

@@ -2,7 +2,6 @@
 use Rattle.std.specs.Prelude.{ℕ, ◌+◌, ◌<◌, ◌≡◌, ◌⊎◌, true, false, if◌then◌else◌, List, [], ◌∷◌, ◌++◌, drop, length, Option, Some, None, IsSome, IfSome, IfNone, OnOk, IfErr, IsOk, ◌≤◌, Result, Ok, Err}
 use Rattle.rtmfp_base.specs.declared.memory.Memory.{Memory}
 use Rattle.rtmfp_forms.specs.Address.{AddressParts}
-use Rattle.rtmfp_packet.specs.Whole.{Whole}
 use Rattle.startup.specs.Attempts.{cancel_fact}
 use Rattle.endpoint_model.specs.declared.config.Draws.{Draws}
 use Rattle.endpoint_model.specs.declared.entry.Entry.{Entry}
@@ -11,11 +10,15 @@ use Rattle.endpoint_model.specs.declared.answers.OpenRefusal.TheVariants.{Memory
 use Rattle.endpoint_model.specs.declared.answers.CallRefusal.{CallRefusal}
 use Rattle.endpoint_model.specs.declared.answers.CallRefusal.TheVariants.{NoAttempt, NoSession, Memory as NoMemory}
 use Rattle.endpoint_model.specs.declared.answers.Stopped.{Stopped as Stop}
-use Rattle.endpoint_model.specs.Event.{Setup, Call, Open, Cancel, Close, Receive, Tick, Answer, Began, Done, NotOpened, Refused, Stopped, OutOfMemory, Event}
+use Rattle.introducer.specs.declared.refusal.RowRefusal.{RowRefusal}
+use Rattle.introducer.specs.declared.refusal.RowRefusal.TheVariants.{Memory as NoMemoryForRow}
+use Rattle.introducer.specs.Directory.{row_refusal}
+use Rattle.endpoint_model.specs.Event.{Setup, Call, Open, Cancel, Close, AddRow, Introduce, Receive, Tick, Answer, Began, Done, NotOpened, Refused, NotAdded, Stopped, OutOfMemory, Event}
 use Rattle.endpoint_model.specs.Added.{Added}
 use Rattle.endpoint_model.specs.State.{State, Did, Does, nothing, fresh, at_moment, Done as DoneIn}
 use Rattle.endpoint_model.specs.Admission.{Admission, Rejected, Admitted, admission, confirms}
 use Rattle.endpoint_model.specs.Keying.{chunks_of}
+use Rattle.endpoint_model.specs.Introducing.{with_redirect, introducing}
 use Rattle.endpoint_model.specs.InSessions.{held_row, closing, asks_at}
 use Rattle.endpoint_model.specs.Effects.{open_refusal, opening, cancelling, ticks, gone_through, received, part_received, AddsDiscards, discards, first_due}
 
@@ -25,6 +28,11 @@ use Rattle.endpoint_model.specs.Effects.{open_refusal, opening, cancelling, tick
 abbrev pub not_opened : Option OpenRefusal → OpenRefusal
 not_opened None = NoMemoryToOpen
 not_opened (Some refusal) = refusal
+
+-- the same of a row that isn't added
+abbrev pub not_added : Option RowRefusal → RowRefusal
+not_added None = NoMemoryForRow
+not_added (Some refusal) = refusal
 
 -- No memory was found before the datagram was taken: for the discard of one that is refused, or for
 -- the Confirmed of one that confirms a session.
@@ -75,6 +83,13 @@ Answers s (Close near) Done entries t = IsSome (held_row s near) ×
 Answers s (Close near) (Refused refusal) entries t =
     IfNone (held_row s near) (refusal ≡ NoSession) ×
     IfSome (held_row s near) (λ row. refusal ≡ NoMemory) × Does (nothing s) t [] entries
+Answers s (AddRow print addresses) Done entries t =
+    (row_refusal s.redirects print (length addresses) ≡ None) ×
+    Does (nothing (with_redirect s print addresses)) t [] entries
+Answers s (AddRow print addresses) (NotAdded refusal) entries t =
+    (refusal ≡ not_added (row_refusal s.redirects print (length addresses))) ×
+    Does (nothing s) t [] entries
+Answers s Introduce Done entries t = Does (nothing (introducing s)) t [] entries
 Answers s (Receive from datagram draws) Done entries t =
     Does (received from draws (admission s datagram)) t [] entries
 Answers s (Receive from datagram draws) (Stopped stop) entries t =
@@ -133,6 +148,21 @@ cancel_event n result before after = event 0 (Cancel n) (answer_of_call result) 
 abbrev pub close_event : ℕ → ℕ → Result (Unit {0}) CallRefusal → List Entry → List Entry → Event
 close_event near moment result before after =
     event moment (Close near) (answer_of_call result) before after
+
+-- a call that is given no moment and adds no entry
+abbrev pub silent_event : Call → Answer → Event
+silent_event call answer =
+    record { moment = 0; call = call; answer = answer; entries = [] }
+
+abbrev pub answer_of_row : Result (Unit {0}) RowRefusal → Answer
+answer_of_row (Ok done) = Done
+answer_of_row (Err refusal) = NotAdded refusal
+
+abbrev pub row_event : List ℕ → List AddressParts → Result (Unit {0}) RowRefusal → Event
+row_event print addresses result = silent_event (AddRow print addresses) (answer_of_row result)
+
+abbrev pub introduce_event : Event
+introduce_event = silent_event Introduce Done
 
 abbrev pub answer_of_receive : Result (Unit {0}) Stop → Answer
 answer_of_receive (Ok done) = Done

@@ -2,7 +2,9 @@
 use Rattle.std.specs.Prelude.{ℕ, zero, suc, ◌+◌, ◌%◌, ◌^◌, ◌==◌, ◌≤◌, ◌&&◌, ◌||◌, not, Bool, max, nat_le, if◌then◌else◌, List, [], ◌∷◌, ◌++◌, length, Option, Some, None, ◌≡◌, refl}
 use Rattle.std.specs.Ordering.{nat_cmp}
 use Rattle.std.specs.FinMap.{FinMap, insert, remove, empty, contains_key, len, code}
-use Rattle.std.specs.Coded.{Coded, code_by, coded×, coded_ℕ}
+use Rattle.std.specs.Coded.{Coded, code_by, coded×, coded_ℕ, coded_bool}
+use Rattle.rtmfp_forms.specs.Address.{AddressParts}
+use Rattle.introducer.specs.Directory.{AddressRows, rows_code}
 use Rattle.glare_core.specs.declared.facts.Fact.{Fact}
 use Rattle.startup.specs.State.{StartupState, new_startup}
 use Rattle.session_core.specs.Session.{SessionState}
@@ -30,6 +32,10 @@ pub record State : Type 0 where
   -- the certificate, the secrets, what is held with the peers, and the attempts
   pub startup : StartupState
   pub sessions : Sessions
+  -- whether it forwards hellos to the ends that it keeps sessions with
+  pub introduces : Bool
+  -- the addresses that hellos for other ends are answered with, by the fingerprints of these
+  pub redirects : AddressRows
 
 -- a new end
 abbrev pub fresh : Setup → State
@@ -39,6 +45,8 @@ fresh setup = record {
   sealed = 0;
   startup = new_startup setup.cert setup.secret setup.cookie_secret setup.config.max_peers;
   sessions = empty;
+  introduces = setup.config.introduces;
+  redirects = empty;
 }
 
 -- an end keeps the largest moment that it was given
@@ -134,16 +142,20 @@ pub record Done (d : Did) (new : State) (before after : Added) : Type 0 where
 
 -- ---- how a state is stored: as the tuple of its fields
 
-abbrev pub state_code : Coded Config → Coded StartupState → Coded Row → Coded State
-state_code config startup row =
-    code_by (Config × (ℕ × (ℕ × (StartupState × Sessions))))
-    (coded× config (coded× coded_ℕ (coded× coded_ℕ (coded× startup (code coded_ℕ row)))))
-    (λ s. (s.config, (s.moment, (s.sealed, (s.startup, s.sessions)))))
+abbrev pub state_code : Coded Config → Coded StartupState → Coded Row → Coded AddressParts →
+    Coded State
+state_code config startup row address =
+    code_by (Config × (ℕ × (ℕ × (StartupState × (Sessions × (Bool × AddressRows))))))
+    (coded× config (coded× coded_ℕ (coded× coded_ℕ
+    (coded× startup (coded× (code coded_ℕ row) (coded× coded_bool (rows_code address)))))))
+    (λ s. (s.config, (s.moment, (s.sealed, (s.startup, (s.sessions, (s.introduces, s.redirects)))))))
     (λ p. record {
       config = p.0;
       moment = p.1.0;
       sealed = p.1.1.0;
       startup = p.1.1.1.0;
-      sessions = p.1.1.1.1;
+      sessions = p.1.1.1.1.0;
+      introduces = p.1.1.1.1.1.0;
+      redirects = p.1.1.1.1.1.1;
     })
     (λ _. refl)

@@ -4,11 +4,28 @@
 
 ghost use Rattle.std.specs.Prelude.{◌≡◌, ◌∷◌, ◌++◌, ◌-◌, ◌^◌, ℕ, List, [], false, Option, Some, None, replicate};
 ghost use Rattle.rtmfp_forms.specs.Address.{AddressParts};
+ghost use Rattle.rtmfp_chunks.specs.Chunk.{FIHello};
+ghost use Rattle.rtmfp_chunks.specs.Writing.{chunk_bytes};
+ghost use Rattle.identity.specs.declared.discriminator.Epd.{Epd};
+ghost use Rattle.glare_core.specs.declared.facts.Held.TheVariants.{HalfOpen, KeptAsInitiator};
+ghost use Rattle.glare_core.specs.declared.facts.Held.TheVariants.{KeptAsResponder, Opening};
+ghost use Rattle.glare_core.specs.declared.facts.Joined.{Joined};
+ghost use Rattle.glare_core.specs.Ledger.{held_with};
+ghost use Rattle.startup.specs.declared.answer.Answer.{Answer};
+ghost use Rattle.startup.specs.declared.cause.Cause.TheVariants.{NotSelected, Wide};
+ghost use Rattle.startup.specs.Redirects.{redirect_answer};
 ghost use Rattle.session_core.specs.Session.{SessionState};
 ghost use Rattle.endpoint_model.specs.declared.answers.OpenRefusal.TheVariants.{Candidates};
-ghost use Rattle.endpoint_model.specs.Effects.{candidates_refusal};
-ghost use Rattle.endpoint_model.specs.Sending.{sent_by, sent_startup, startup_number};
-ghost use Rattle.endpoint_model.specs.State.{State, is_free, new_row, next_id, nothing, with_sealed};
+ghost use Rattle.endpoint_model.specs.declared.place.Place.{Place};
+ghost use Rattle.endpoint_model.specs.Effects.{Introduction, candidates_refusal, introduction};
+ghost use Rattle.endpoint_model.specs.Effects.{replied};
+ghost use Rattle.endpoint_model.specs.InSessions.{sent_home};
+ghost use Rattle.endpoint_model.specs.Introducing.{forwarded_to, hello_cause, introducing};
+ghost use Rattle.endpoint_model.specs.Introducing.{kept_id, redirect_of, redirected_to};
+ghost use Rattle.endpoint_model.specs.Sending.{sent_answer, sent_by, sent_startup};
+ghost use Rattle.endpoint_model.specs.Sending.{startup_number};
+ghost use Rattle.endpoint_model.specs.State.{State, is_free, new_row, next_id, nothing, then_do};
+ghost use Rattle.endpoint_model.specs.State.{with_sealed};
 
 /// A startup packet's number is the first 8 bytes of the fingerprint and the packet's count, of
 /// which 2^64 - 1 is the last: then nothing goes out any more.
@@ -40,4 +57,39 @@ pub fn an_attempt_has_1_to_16_candidates()
     ensures least { candidates_refusal 1 ≡ None }
     ensures most { candidates_refusal 16 ≡ None }
     ensures more { candidates_refusal 17 ≡ Some (Candidates 17) }
+{}
+
+/// A hello is forwarded in a session that is kept, and in no attempt and no half-open session; and
+/// only by an end that introduces.
+pub fn a_hello_is_forwarded_in_a_kept_session()
+    ensures none { kept_id None ≡ None }
+    ensures opening { (n near : ℕ) (ni : List ℕ) → kept_id (Some (Opening n near ni)) ≡ None }
+    ensures half_open { (j : Joined) → kept_id (Some (HalfOpen j)) ≡ None }
+    ensures responder { (j : Joined) → kept_id (Some (KeptAsResponder j)) ≡ Some j.near }
+    ensures initiator { (j : Joined) → kept_id (Some (KeptAsInitiator j)) ≡ Some j.near }
+    ensures silent { (s : State) (print : List ℕ) →
+        forwarded_to (record s { introduces = false }) print ≡ None }
+    ensures introducing { (s : State) (print : List ℕ) → forwarded_to (introducing s) print
+        ≡ kept_id (held_with s.startup.ledger print) }
+{}
+
+/// A hello isn't answered for its wide tag first, and then for its discriminator. What is forwarded
+/// has the address that the hello came from as one that was observed, and goes out before the
+/// redirect; there is a redirect whether or not the hello was forwarded.
+pub fn a_hello_is_forwarded_and_then_answered()
+    ensures wide { (s : State) (epd : List ℕ) → hello_cause s epd (replicate 129 0)
+        ≡ Some (Wide 129) }
+    ensures nobody { (s : State) → hello_cause s [] (replicate 128 0) ≡ Some NotSelected }
+    ensures observed { (s : State) (e : Epd) (epd tag : List ℕ) (from : AddressParts) →
+        introduction s (Some e) epd tag from ≡ Introduction (forwarded_to s e.print)
+        (chunk_bytes (FIHello epd (record from { origin = 2 }) tag))
+        (redirect_of tag from (redirected_to s e.print)) }
+    ensures row { (tag : List ℕ) (from : AddressParts) (addresses : List AddressParts) →
+        redirect_of tag from (Some addresses) ≡ Some (redirect_answer tag addresses from) }
+    ensures redirect_alone { (s : State) (place : Place) (from : AddressParts) (body : List ℕ)
+        (answer : Answer) → replied s place from (Introduction None body (Some answer))
+        ≡ sent_answer s answer }
+    ensures both { (s : State) (place : Place) (from : AddressParts) (near : ℕ) (body : List ℕ)
+        (answer : Answer) → replied s place from (Introduction (Some near) body (Some answer))
+        ≡ then_do (sent_home s near body) (λ t. sent_answer t answer) }
 {}
