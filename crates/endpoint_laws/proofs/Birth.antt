@@ -1,5 +1,5 @@
 -- A session is born: what the state agrees with, after the end of what makes way and after the birth.
-use Rattle.std.proofs.Common.{◌≡◌, ℕ, ◌+◌, ◌-◌, ◌<◌, ◌≤◌, List, ◌∷◌, cond, true, false, Option, Some, None, is_some, ◌||◌, inr, refl, sym, ap, subst, ◌∙◌, arith}
+use Rattle.std.proofs.Common.{◌≡◌, ℕ, ◌+◌, ◌-◌, ◌<◌, ◌≤◌, List, ◌∷◌, cond, true, false, Option, Some, None, is_some, ◌||◌, refl, sym, ap, subst, ◌∙◌, arith}
 use Rattle.std.specs.Ordering.{nat_cmp}
 use Rattle.std.specs.Cmp.{nat_cmp_total}
 use Rattle.std.specs.FinMap.{FinMap, get, remove, len, len-remove}
@@ -19,7 +19,7 @@ use Rattle.endpoint_model.specs.Event.{Setup}
 use Rattle.endpoint_laws.specs.Past.{Stamped, stamped, is_close, ids_in_use}
 use Rattle.endpoint_model.specs.State.{State, uses, is_used}
 use Rattle.endpoint_laws.proofs.Matching.{of_peer, ids_more, ids_less}
-use Rattle.endpoint_laws.proofs.Tied.{by_later, thing_of, found_in}
+use Rattle.endpoint_laws.proofs.Tied.{by_later, found_in}
 use Rattle.endpoint_laws.proofs.Agrees.{Agrees, IsGiven, IsOurs, IsAt, combined, thing_at, is_session, found_row, no_attempt, used_here, used_elsewhere, agrees_changed}
 use Rattle.endpoint_laws.proofs.Moving.{beside_fact, still_none, none_there_still, noted_matches, rows_after_known, knows_held}
 use Rattle.endpoint_laws.proofs.Ending.{some_entry, ids_gone}
@@ -91,6 +91,8 @@ without_thing s fact thing = record {
   sealed = s.sealed;
   startup = record { cert = s.startup.cert; secret = s.startup.secret; cookie_secret = s.startup.cookie_secret; ledger = noted s.startup.ledger fact; attempts = without_id s.startup.attempts (attempt_id thing) };
   sessions = remove s.sessions (near_of thing);
+  introduces = s.introduces;
+  redirects = s.redirects;
 }
 
 pub record IsWithout (s : State) (fact : Fact) (thing : Held) : Type 0 where

@@ -217,7 +217,7 @@ module _ (setup : Setup) (from : AddressParts) (datagram : List ℕ) (draws : Dr
                   (sym (if_is (c.kind == 0x78) (responder_keying_cause s (sid_at place) c.payload) _ is.1) ∙ sym (if_not (c.kind == 0x38) (initiator_keying_cause s walk from c.payload) _ other.1) ∙ all.1.1.1.1.0)
                   (second_form (c.kind == 0x38) (c.kind == 0x78) (fault_in (initiator_keying_in c.payload)) (fault_in (responder_keying_in c.payload)) (read_fault (length c.payload) (chunk_reading c.kind c.payload)) other.1 is.1 all.1.0))
               | inr neither ↦
-                  let last = all_none (where_true (not (has_state_for s place c.kind)) WrongState ∷ read_cause s place (chunk_reading c.kind c.payload) ∷ [])
+                  let last = all_none (where_true (not (has_state_for s place c.kind)) WrongState ∷ read_cause s place from (chunk_reading c.kind c.payload) ∷ [])
                   (sym (if_not (c.kind == 0x78) (responder_keying_cause s (sid_at place) c.payload) _ neither.1) ∙ sym (if_not (c.kind == 0x38) (initiator_keying_cause s walk from c.payload) _ other.1) ∙ all.1.1.1.1.0) in
                   let has : has_state_for s place c.kind ≡ true = not_false (has_state_for s place c.kind) (test_fails (not (has_state_for s place c.kind)) WrongState last.0) in
                   subst (λ d. Goes setup call past s d) (sym (if_not (c.kind == 0x78) (responder_keyed s (sid_at place) from c.payload) _ neither.1)) (elim (either_way (is_told_in_session c.kind)) [

@@ -54,7 +54,7 @@ use Rattle.endpoint_model.specs.declared.place.Place.{Place}
 use Rattle.endpoint_model.specs.declared.place.Place.TheVariants.{Startup, Attempt}
 use Rattle.endpoint_model.specs.declared.entry.Entry.{Entry}
 use Rattle.endpoint_model.specs.declared.entry.Entry.TheVariants.{Fact as FactEntry, Out}
-use Rattle.endpoint_model.specs.Event.{Setup, own_of, Receive, Answer as CallAnswer, Began, Done, NotOpened, Refused, Stopped, OutOfMemory}
+use Rattle.endpoint_model.specs.Event.{Setup, own_of, Receive, Answer as CallAnswer, Began, Done, NotOpened, Refused, NotAdded, Stopped, OutOfMemory}
 use Rattle.endpoint_laws.specs.Past.{Stamped, onto, facts_of, ids_in_use, past_of, last_moment}
 use Rattle.endpoint_model.specs.Keying.{IsFirst, chunks_of}
 use Rattle.endpoint_laws.specs.Admissible.{Admissible, Offer}
@@ -398,6 +398,7 @@ went_entries noted t u place from datagram draws Done entries packet gone step a
     ∙ ap (λ (cs : List Placed). (chunks_did place from draws outset u cs).entries) (sym went)
 went_entries noted t u place from datagram draws (NotOpened refusal) entries packet gone step at quiet untested went = absurd went
 went_entries noted t u place from datagram draws (Refused refusal) entries packet gone step at quiet untested went = absurd went
+went_entries noted t u place from datagram draws (NotAdded refusal) entries packet gone step at quiet untested went = absurd went
 went_entries noted t u place from datagram draws (Stopped stop) entries packet gone step at quiet untested went =
     step.1.entries
     ∙ ap (λ (b : Bool). (if b then part_received from draws (admission noted datagram) stop.chunks else nothing noted).entries) went.0
@@ -413,6 +414,7 @@ went_first Done chunks gone went = ([], sym went ∙ sym (append-nil gone))
 went_first (NotOpened refusal) chunks gone went = absurd went
 went_first (Refused refusal) chunks gone went = absurd went
 went_first (Stopped stop) chunks gone went = (drop stop.chunks chunks, sym (take-append-drop stop.chunks chunks) ∙ ap (λ (cs : List Placed). cs ++ drop stop.chunks chunks) (sym went.1))
+went_first (NotAdded refusal) chunks gone went = absurd went
 went_first OutOfMemory chunks gone went = absurd went
 
 pub admissible_keyings_bear : AdmissibleKeyingsBear
@@ -422,7 +424,7 @@ admissible_keyings_bear setup log s t moment from datagram draws answer entries 
     let noted : State = at_moment s moment in
     let tied : Tied setup past noted = tied_alike setup past s (max s.moment moment) s.sealed (omega arith) said.holds.tied in
     let well : HeardWell past noted = λ near row e. known_more past past s.moment noted.moment near row.session (said.holds.well near row e) refl (λ done w. w) (omega arith) in
-    let sent_so : Sent setup past noted = record { numbered = said.holds.sent.numbered; sized = said.holds.sent.sized; short = said.holds.sent.short } in
+    let sent_so : Sent setup past noted = record { numbered = said.holds.sent.numbered; sized = said.holds.sent.sized; short = said.holds.sent.short; rows = said.holds.sent.rows } in
     let last : s.moment ≡ last_moment 0 log = said.moment in
     let now : ℕ = max (last_moment 0 log) moment in
     let at : noted.moment ≡ now = ap (λ (m : ℕ). max m moment) last in

@@ -47,7 +47,8 @@ use Rattle.endpoint_model.specs.declared.place.Place.TheVariants.{Startup, Attem
 use Rattle.endpoint_model.specs.declared.entry.Entry.{Entry}
 use Rattle.endpoint_model.specs.declared.entry.Entry.TheVariants.{Fact as FactEntry}
 use Rattle.endpoint_model.specs.declared.answers.Stopped.{Stopped as Stop}
-use Rattle.endpoint_model.specs.Event.{Call, Open, Cancel, Close, Receive, Tick, Answer as CallAnswer, Began, Done, NotOpened, Refused, Stopped, OutOfMemory}
+use Rattle.endpoint_model.specs.Event.{Call, Open, Cancel, Close, AddRow, Introduce, Receive, Tick, Answer as CallAnswer, Began, Done, NotOpened, Refused, NotAdded, Stopped, OutOfMemory}
+use Rattle.endpoint_model.specs.Introducing.{with_redirect, introducing}
 use Rattle.endpoint_laws.specs.Past.{Stamped, stamped, onto, facts_of, fact_and}
 use Rattle.endpoint_model.specs.State.{State, Did, Does, nothing, then_do, fact_entries, with_startup, with_row, with_session, free_from}
 use Rattle.endpoint_model.specs.Sending.{sent_answer, sent_each, sent_by, sent_in_session}
@@ -312,7 +313,7 @@ not_second s place from c is none =
     let clash : Some SecondKeying ≡ None =
     sym (ap (λ (b : Bool). if b then initiator_keying_cause s second from c.payload
     else if c.kind == 0x78 then responder_keying_cause s (sid_at place) c.payload
-    else first_that_stands (where_true (not (has_state_for s place c.kind)) WrongState ∷ read_cause s place (chunk_reading c.kind c.payload) ∷ [])) is) ∙ last in
+    else first_that_stands (where_true (not (has_state_for s place c.kind)) WrongState ∷ read_cause s place from (chunk_reading c.kind c.payload) ∷ [])) is) ∙ last in
     cc
 
 module _ (place : Place) (from : AddressParts) (draws : Draws) where
@@ -392,6 +393,8 @@ abbrev pub MayDraw : Call → List Entry → Type 0
 MayDraw (Open peer candidates draws) entries = Once draws.nonce entries
 MayDraw (Cancel n) entries = drawn entries ≡ []
 MayDraw (Close near) entries = drawn entries ≡ []
+MayDraw (AddRow print addresses) entries = drawn entries ≡ []
+MayDraw Introduce entries = drawn entries ≡ []
 MayDraw (Receive from datagram draws) entries = Once draws.nonce entries
 MayDraw (Tick draws) entries = drawn entries ≡ []
 
@@ -412,6 +415,9 @@ answers_draw s t (Cancel n) Done entries h = none_of (cancelling s n) t entries 
 answers_draw s t (Cancel n) (Refused refusal) entries h = none_of (nothing s) t entries h.2 refl
 answers_draw s t (Close near) Done entries h = none_of (closing s near) t entries h.1 (none_closing s near (held_row s near))
 answers_draw s t (Close near) (Refused refusal) entries h = none_of (nothing s) t entries h.2 refl
+answers_draw s t (AddRow print addresses) Done entries h = none_of (nothing (with_redirect s print addresses)) t entries h.1 refl
+answers_draw s t (AddRow print addresses) (NotAdded refusal) entries h = none_of (nothing s) t entries h.1 refl
+answers_draw s t Introduce Done entries h = none_of (nothing (introducing s)) t entries h refl
 answers_draw s t (Receive from datagram draws) Done entries h = once_of draws.nonce (received from draws (admission s datagram)) t entries h (once_received from draws (admission s datagram))
 answers_draw s t (Receive from datagram draws) (Stopped stop) entries h =
     once_of draws.nonce (stopped s from draws (admission s datagram) stop) t entries h.1 (once_stopped s from draws (admission s datagram) stop)

@@ -13,7 +13,7 @@ use Rattle.startup.specs.declared.answer.Keyed.{Keyed}
 use Rattle.startup.specs.declared.answer.Keyed.TheVariants.{Change, Again, Birth}
 use Rattle.startup.specs.declared.answer.Due.{Due}
 use Rattle.startup.specs.declared.answer.Due.TheVariants.{Ended as EndDue, Hello as HelloDue, Keying as KeyingDue}
-use Rattle.startup.specs.State.{SpreadParts, StartupState}
+use Rattle.startup.specs.State.{SpreadParts}
 use Rattle.startup.specs.Attempts.{begin_spread, after_begin, after_confirm, confirm_fact}
 use Rattle.startup.specs.Due.{after_due as after_due_in}
 use Rattle.glare_core.specs.declared.facts.Why.TheVariants.{Near as NearWhy, Far as FarWhy, Unconfirmed as NotConfirmed, Idle as WasIdle}
@@ -42,7 +42,7 @@ use Rattle.endpoint_model.specs.State.{State, Did, Does, nothing, after_entries,
 use Rattle.endpoint_model.specs.Sending.{last_count, startup_datagram, session_datagram, sent_startup, sent_answer, sent_if, sent_each, sent_spread, sent_by, sent_in_session}
 use Rattle.endpoint_model.specs.Admission.{sid_at, confirming_by, confirming}
 use Rattle.endpoint_model.specs.Causes.{chunk_cause}
-use Rattle.endpoint_model.specs.Effects.{opening, due_done, tick_once, with_born, keying_done, initiator_keyed, with_opened, opening_done, responder_keyed, Reply, Silence, InStartup, InSession, replied, read_left, read_reply, read_done, effect, discarded_or, chunk_did, item_done, Item, OfAttempt, OfSession, is_told_in_session, first_due}
+use Rattle.endpoint_model.specs.Effects.{opening, due_done, tick_once, with_born, keying_done, initiator_keyed, with_opened, opening_done, responder_keyed, Reply, Silence, InStartup, Hellos, InSession, Introduction, forwarded, replied, read_left, read_reply, read_done, effect, discarded_or, chunk_did, item_done, Item, OfAttempt, OfSession, is_told_in_session, first_due}
 use Rattle.endpoint_laws.proofs.Replies.{left_same}
 use Rattle.endpoint_laws.specs.Complete.{outs_in, outs_of}
 
@@ -127,10 +127,26 @@ few_opening_done : (s : State) (near : ℕ) (from : AddressParts) (o : Option Fa
 few_opening_done s near from None = few_nothing s
 few_opening_done s near from (Some fact) = few_opened s (with_startup s (after_opening s.startup near fact)) near from fact refl
 
+few_home_by : (s : State) (near : ℕ) (body : List ℕ) (o : Option Row) → Few s (sent_home_by s near body o)
+few_home_by s near body None = few_nothing s
+few_home_by s near body (Some row) = few_by s near row.session.address body (Some row)
+
+few_home : (s : State) (near : ℕ) (body : List ℕ) → Few s (sent_home s near body)
+few_home s near body = few_home_by s near body (get s.sessions near)
+
+few_forwarded : (s : State) (to : Option ℕ) (body : List ℕ) → Few s (forwarded s to body)
+few_forwarded s None body = few_nothing s
+few_forwarded s (Some near) body = few_home s near body
+
 few_replied : (s : State) (place : Place) (from : AddressParts) (reply : Reply) → Few s (replied s place from reply)
 few_replied s place from Silence = few_nothing s
 few_replied s place from (InStartup answer) = few_if s answer
+few_replied s place from (Hellos None) = few_nothing s
+few_replied s place from (Hellos (Some spread)) = few_each spread.plain spread.to s
 few_replied s place from (InSession body) = few_session s (sid_at place) from body
+few_replied s place from (Introduction to body redirect) =
+    let d : Did = forwarded s to body in
+    few_then s d (λ t. sent_if t redirect) (few_forwarded s to body) (few_if d.state redirect)
 
 few_read : (s : State) (place : Place) (from : AddressParts) (read : Result Chunk ChunkFault) → Few s (read_done s place from read)
 few_read s place from read =
@@ -141,13 +157,6 @@ either s true d e p q = p
 either s false d e p q = q
 
 -- ---- sessions
-
-few_home_by : (s : State) (near : ℕ) (body : List ℕ) (o : Option Row) → Few s (sent_home_by s near body o)
-few_home_by s near body None = few_nothing s
-few_home_by s near body (Some row) = few_by s near row.session.address body (Some row)
-
-few_home : (s : State) (near : ℕ) (body : List ℕ) → Few s (sent_home s near body)
-few_home s near body = few_home_by s near body (get s.sessions near)
 
 few_and_home : (s : State) (near : ℕ) (body : List ℕ) (d : Did) → d.state.sealed ≡ s.sealed → Few s (then_do d (λ t. sent_home t near body))
 few_and_home s near body d same = few_then s d (λ t. sent_home t near body) (few_same s d same) (few_home d.state near body)

@@ -5,7 +5,7 @@ use Rattle.rtmfp_base.proofs.Lowest.{first_is_there}
 use Rattle.rtmfp_forms.specs.Address.{AddressParts}
 use Rattle.rtmfp_packet.specs.Walk.{Placed}
 use Rattle.rtmfp_chunks.specs.declared.reading.ChunkFault.{ChunkFault}
-use Rattle.rtmfp_chunks.specs.Chunk.{Chunk, RHello, CookieChange, Ping, Close as CloseChunk, CloseAck}
+use Rattle.rtmfp_chunks.specs.Chunk.{Chunk, RHello, Redirect, CookieChange, Ping, Close as CloseChunk, CloseAck}
 use Rattle.rtmfp_chunks.specs.Writing.{chunk_bytes}
 use Rattle.mobility.specs.declared.pending.Test.{Test}
 use Rattle.mobility.specs.Tests.{asks, after_seen, after_reply, address_for}
@@ -41,7 +41,7 @@ use Rattle.endpoint_model.specs.State.{Sessions, State, Did, nothing, fact_entri
 use Rattle.endpoint_model.specs.Sending.{last_count, sent_startup, sent_answer, sent_if, sent_each, sent_spread, sent_by, sent_in_session}
 use Rattle.endpoint_model.specs.InSessions.{if_held, held_row, sent_home_by, sent_home, ended_as, dropped, closed, closing_by, closing, lingering, close_taken_by, moved_where, moved_by, told_in_session, tested_by, tested, is_row_due, due_row, session_due_done, kept_alive_by, row_due_done}
 use Rattle.endpoint_model.specs.Admission.{confirming_by, confirming, sid_at}
-use Rattle.endpoint_model.specs.Effects.{opening, cancelling, attempt_item, session_item, due_done, item_done, tick_once, Reply, Silence, InStartup, InSession, replied, read_left, read_reply, read_done, discarded}
+use Rattle.endpoint_model.specs.Effects.{opening, cancelling, attempt_item, session_item, due_done, item_done, tick_once, Reply, Silence, InStartup, Hellos, InSession, Introduction, forwarded, replied, read_left, read_reply, read_done, discarded}
 use Rattle.endpoint_laws.proofs.Hearing.{BeginsNone, NoneBegin, Descends, Had, descends_same, had_it, had_inserted, had_left, Follows, follows_nothing, follows_then, follows_if, KeepsHeard, heard_follows}
 
 -- ---- facts that begin no session
@@ -257,14 +257,24 @@ follows_confirming s (Session near) = by (get s.sessions near) refl
 
 left_moment : (s : State) (place : Place) (from : AddressParts) (read : Result Chunk ChunkFault) → ((read_left s place from read).moment ≡ s.moment) × ((read_left s place from read).sessions ≡ s.sessions)
 left_moment s place from (Ok (RHello tag cookie cert)) = (refl, refl)
+left_moment s place from (Ok (Redirect tag list)) = (refl, refl)
 left_moment s place from (Ok (CookieChange old new)) = (refl, refl)
 left_moment s place from (Ok _) = (refl, refl)
 left_moment s place from (Err fault) = (refl, refl)
 
+follows_forwarded : (s : State) (to : Option ℕ) (body : List ℕ) → Follows s (forwarded s to body)
+follows_forwarded s None body = follows_nothing s
+follows_forwarded s (Some near) body = follows_home s near body
+
 follows_replied : (s : State) (place : Place) (from : AddressParts) (reply : Reply) → Follows s (replied s place from reply)
 follows_replied s place from Silence = follows_nothing s
 follows_replied s place from (InStartup answer) = follows_answered s answer
+follows_replied s place from (Hellos None) = follows_nothing s
+follows_replied s place from (Hellos (Some spread)) = follows_spread s spread
 follows_replied s place from (InSession body) = follows_in_session s (sid_at place) from body
+follows_replied s place from (Introduction to body redirect) =
+    let d : Did = forwarded s to body in
+    follows_then s d (λ t. sent_if t redirect) (follows_forwarded s to body) (follows_answered d.state redirect)
 
 pub follows_read : (s : State) (place : Place) (from : AddressParts) (read : Result Chunk ChunkFault) → Follows s (read_done s place from read)
 follows_read s place from read =

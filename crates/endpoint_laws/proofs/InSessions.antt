@@ -1,13 +1,9 @@
 -- What an end does of its sessions: what is stated is lawful, and the state agrees with it.
-use Rattle.std.proofs.Common.{◌≡◌, ℕ, ◌+◌, ◌-◌, ◌<◌, ◌≤◌, ◌==◌, List, [], ◌∷◌, Bool, true, false, if◌then◌else◌, Option, Some, None, is_some, ◌||◌, inl, inr, ◌⊎◌, refl, sym, ap, subst, ◌∙◌, arith}
-use Rattle.std.specs.FinMap.{get, len, remove}
+use Rattle.std.proofs.Common.{◌≡◌, ℕ, List, [], ◌∷◌, Bool, true, false, if◌then◌else◌, Option, Some, None, is_some, ◌||◌, inl, inr, refl, sym, ap, subst, ◌∙◌, arith}
+use Rattle.std.specs.FinMap.{get}
 use Rattle.rtmfp_base.proofs.Maps.{get_inserted, get_beside, get_removed, get_left, len_known, len_less}
 use Rattle.rtmfp_forms.specs.Address.{AddressParts}
-use Rattle.rtmfp_packet.specs.Walk.{Placed}
-use Rattle.rtmfp_chunks.specs.Chunk.{Ping, Close as CloseChunk, CloseAck}
-use Rattle.rtmfp_chunks.specs.Writing.{chunk_bytes}
 use Rattle.glare_core.specs.declared.facts.Why.{Why}
-use Rattle.glare_core.specs.declared.facts.Why.TheVariants.{Near, Far, Unconfirmed as NotConfirmed, Idle as WasIdle}
 use Rattle.glare_core.specs.declared.facts.Fact.{Fact}
 use Rattle.glare_core.specs.declared.facts.Fact.TheVariants.{Ended}
 use Rattle.glare_core.specs.declared.facts.Joined.{Joined}
@@ -28,18 +24,18 @@ use Rattle.session_core.specs.Closing.{is_held}
 use Rattle.endpoint_model.specs.declared.row.Row.{Row}
 use Rattle.endpoint_model.specs.declared.entry.Entry.TheVariants.{Fact as FactEntry, Closed as ClosedEntry, Moved}
 use Rattle.endpoint_model.specs.Event.{Setup, own_of, Call}
-use Rattle.endpoint_model.specs.State.{State, Did, nothing, then_do, fact_entries, uses, is_used, with_startup, with_row, with_session, without_row}
+use Rattle.endpoint_model.specs.State.{State, Did, nothing, then_do, fact_entries, is_used, with_startup, with_row, with_session, without_row}
 use Rattle.endpoint_model.specs.InSessions.{sent_home_by, sent_home, ended_as, dropped, closed}
 use Rattle.endpoint_model.proofs.Members.{tested, without}
-use Rattle.endpoint_laws.specs.Past.{Stamped, stamped, onto, facts_of, is_close, ids_in_use, IsClosing}
+use Rattle.endpoint_laws.specs.Past.{Stamped, stamped, onto, facts_of, is_close, ids_in_use}
 use Rattle.endpoint_laws.specs.OfTheLog.{WasThing}
 use Rattle.endpoint_laws.specs.Lawful.{EndedLine, ClosedLine}
 use Rattle.endpoint_laws.proofs.Matching.{of_peer, Ids, ids_same, ids_less}
-use Rattle.endpoint_laws.proofs.Tied.{Tied, StageFits, IsClosedThing, thing_of}
+use Rattle.endpoint_laws.proofs.Tied.{Tied, StageFits, thing_of}
 use Rattle.endpoint_laws.proofs.Agrees.{IsAt, IsGiven, thing_at, near_of_session, is_session, found_at, found_of_session, closing_row_is, no_attempt, none_closes, thing_here, thing_elsewhere, used_here, used_elsewhere, agrees_changed, agrees_of, tied_of}
 use Rattle.endpoint_laws.proofs.Moving.{IsAlike, beside_fact, beside_closed, same_matches, noted_matches, rows_after_known, knows_held, tied_session, tied_more}
 use Rattle.endpoint_laws.proofs.Facts.{stands_of}
-use Rattle.endpoint_laws.proofs.Ending.{gave_end, ids_gone, some_entry}
+use Rattle.endpoint_laws.proofs.Ending.{gave_end, some_entry}
 use Rattle.endpoint_laws.proofs.Birth.{agrees_end}
 use Rattle.endpoint_laws.proofs.Going.{Goes, Keeps, goes_nothing, goes_then, goes_by}
 

@@ -123,6 +123,8 @@ module _ (setup : Setup) (from : AddressParts) (datagram : List ℕ) (draws : Dr
       sealed = s.sealed;
       startup = record { cert = s.startup.cert; secret = s.startup.secret; cookie_secret = s.startup.cookie_secret; ledger = noted l (Born j); attempts = s.startup.attempts };
       sessions = insert s.sessions j.near new;
+      introduces = s.introduces;
+      redirects = s.redirects;
     };
     entries = FactEntry (Born j) ∷ [];
   }
@@ -171,6 +173,8 @@ module _ (setup : Setup) (from : AddressParts) (datagram : List ℕ) (draws : Dr
         sealed = s.sealed;
         startup = record { cert = s.startup.cert; secret = s.startup.secret; cookie_secret = s.startup.cookie_secret; ledger = noted (noted l ended) (Born j); attempts = without_id s.startup.attempts (attempt_id thing) };
         sessions = insert (remove s.sessions (near_of thing)) j.near new;
+        introduces = s.introduces;
+        redirects = s.redirects;
       };
       entries = FactEntry ended ∷ FactEntry (Born j) ∷ [];
     }

@@ -20,7 +20,7 @@ mod OutSends
 mod OutKeyings
 mod OutItems
 mod NoFacts
-mod Replies
+pub mod Replies
 mod OutBirths
 mod InSessions
 mod Admitting

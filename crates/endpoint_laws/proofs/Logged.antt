@@ -1,6 +1,8 @@
 -- Each log that an end stands for is lawful, and its state agrees with it.
-use Rattle.std.proofs.Common.{◌≡◌, ℕ, ◌+◌, ◌≤◌, ◌<◌, ◌^◌, max, List, [], ◌∷◌, Bool, true, false, None, refl, sym, ap, subst, ◌∙◌, arith}
-use Rattle.std.specs.FinMap.{empty, get, get-empty}
+use Rattle.std.proofs.Common.{◌≡◌, ℕ, ◌+◌, ◌≤◌, ◌<◌, ◌^◌, max, List, [], ◌∷◌, length, Bool, true, false, cond, Some, None, refl, sym, ap, subst, ◌∙◌, arith}
+use Rattle.std.specs.FinMap.{empty, get, insert, get-empty, get-insert}
+use Rattle.std.specs.Cmp.Lexicographic.{slice_cmp}
+use Rattle.std.proofs.lemmas.Cmp.{nat_list_cmp_total}
 use Rattle.std.specs.Ordering.{nat_cmp}
 use Rattle.rtmfp_base.proofs.Maps.{none_is_some}
 use Rattle.glare_core.specs.Standing.{count}
@@ -8,12 +10,15 @@ use Rattle.endpoint_model.specs.declared.entry.Entry.{Entry}
 use Rattle.rtmfp_forms.specs.Address.{AddressParts}
 use Rattle.endpoint_model.specs.declared.config.Draws.{Draws}
 use Rattle.endpoint_model.specs.declared.answers.Stopped.{Stopped as Stop}
-use Rattle.endpoint_model.specs.Event.{Setup, own_of, Call, receive_in, Open, Cancel, Close, Receive, Tick, Answer, Began, Done, NotOpened, Refused, Stopped, OutOfMemory, Event}
+use Rattle.endpoint_model.specs.Event.{Setup, own_of, Call, receive_in, Open, Cancel, Close, AddRow, Introduce, Receive, Tick, Answer, Began, Done, NotOpened, Refused, NotAdded, Stopped, OutOfMemory, Event}
 use Rattle.endpoint_model.specs.State.{State, Did, Does, nothing, fresh, at_moment}
 use Rattle.endpoint_model.specs.Admission.{admission}
+use Rattle.endpoint_model.specs.Introducing.{with_redirect, introducing}
 use Rattle.endpoint_model.specs.InSessions.{closing}
 use Rattle.endpoint_model.specs.Effects.{opening, cancelling, ticks, received}
 use Rattle.endpoint_model.specs.Log.{Answers, Leads, StandsFor, stopped}
+use Rattle.introducer.specs.Directory.{AddressRows}
+use Rattle.introducer.proofs.FewRows.{few_addresses}
 use Rattle.endpoint_laws.specs.Past.{Stamped, OfEvent, onto, facts_of, past_of, last_moment, begun}
 use Rattle.endpoint_laws.specs.Taken.{was_gone_through, datagram_in}
 use Rattle.endpoint_laws.specs.Complete.{outs_in, outs_of}
@@ -21,7 +26,7 @@ use Rattle.endpoint_laws.specs.Laws.{IsSetup, IsCall, AreCalls, EveryLogIsLawful
 use Rattle.endpoint_laws.proofs.Bytes.{of_bytes}
 use Rattle.endpoint_laws.proofs.Lines.{FactPart, OutPart, CountPart, EntriesMeet, EventsMeet, events_lawful}
 use Rattle.endpoint_laws.proofs.Tied.{Tied, fresh_tied}
-use Rattle.endpoint_laws.proofs.Moving.{tied_alike, tied_more}
+use Rattle.endpoint_laws.proofs.Moving.{tied_alike, tied_more, tied_unseen}
 use Rattle.endpoint_laws.proofs.Starting.{goes_opening}
 use Rattle.endpoint_laws.proofs.Ending.{goes_cancelling}
 use Rattle.endpoint_laws.proofs.SessionChunks.{goes_closing}
@@ -34,10 +39,19 @@ use Rattle.endpoint_laws.proofs.Admitting.{admission_is}
 use Rattle.endpoint_laws.proofs.Counts.{few_after, answers_counted}
 use Rattle.endpoint_laws.proofs.Few.{few_same, few_opening, few_closing, few_does, onto_outs}
 use Rattle.endpoint_laws.proofs.OutNumbers.{numbered_new, numbered_begun}
-use Rattle.endpoint_laws.proofs.OutSends.{Sent}
+use Rattle.endpoint_laws.proofs.OutSends.{AreFew, Sent}
 use Rattle.endpoint_laws.proofs.OutBirths.{small_free}
 use Rattle.endpoint_laws.proofs.OutItems.{meets_opening, meets_cancelling}
-use Rattle.endpoint_laws.proofs.Orderly.{Orderly, StopHeard, orderly_nothing, ticks_orderly, received_orderly, stopped_orderly}
+use Rattle.endpoint_laws.proofs.Orderly.{Orderly, StopHeard, orderly_nothing, orderly_from, ticks_orderly, received_orderly, stopped_orderly}
+
+-- ---- rows of addresses
+
+few_inserted : (rows : AddressRows) (print : List ℕ) (addresses : List AddressParts) → length addresses ≤ 16 → AreFew rows → AreFew (insert rows print addresses)
+few_inserted rows print addresses few all q list e = by _ (sym (get-insert nat_list_cmp_total rows print addresses q) ∙ e)
+  where
+    by : (b : Bool) → cond b (Some addresses) (get rows q) ≡ Some list → length list ≤ 16
+    by true is = let same : addresses ≡ list = cc in subst (λ (l : List AddressParts). length l ≤ 16) same few
+    by false is = all q list is
 
 -- ---- calls
 
@@ -79,6 +93,20 @@ module _ (setup : Setup) (is : IsSetup setup) (past : List Stamped) (s t : State
     does = h.1;
   }
   answers_orderly (Close near) (Refused refusal) entries fits well h = record { did = nothing s; orderly = orderly_nothing setup (Close near) past s tied sent well; does = h.2 }
+  answers_orderly (AddRow print addresses) Done entries fits well h = record {
+    did = nothing (with_redirect s print addresses);
+    orderly = orderly_from setup (AddRow print addresses) past s (with_redirect s print addresses) (nothing (with_redirect s print addresses)) (record { moment = refl; sealed = refl })
+        (orderly_nothing setup (AddRow print addresses) past (with_redirect s print addresses) (tied_unseen setup past s s.introduces (insert s.redirects print addresses) tied)
+        (record { numbered = sent.numbered; sized = sent.sized; short = sent.short; rows = few_inserted s.redirects print addresses (few_addresses s.redirects print (length addresses) (sym h.0)) sent.rows }) well);
+    does = h.1;
+  }
+  answers_orderly (AddRow print addresses) (NotAdded refusal) entries fits well h = record { did = nothing s; orderly = orderly_nothing setup (AddRow print addresses) past s tied sent well; does = h.1 }
+  answers_orderly Introduce Done entries fits well h = record {
+    did = nothing (introducing s);
+    orderly = orderly_from setup Introduce past s (introducing s) (nothing (introducing s)) (record { moment = refl; sealed = refl })
+        (orderly_nothing setup Introduce past (introducing s) (tied_unseen setup past s true s.redirects tied) (record { numbered = sent.numbered; sized = sent.sized; short = sent.short; rows = sent.rows }) well);
+    does = h;
+  }
   answers_orderly (Receive from datagram draws) Done entries fits well h = record {
     did = received from draws (admission s datagram);
     orderly = received_orderly setup is from datagram draws fits past s (admission s datagram) (admission_is setup past s datagram tied sent (of_bytes datagram fits.0)) well;
@@ -175,19 +203,22 @@ module _ (setup : Setup) (past : List Stamped) (s : State) (e : Event) (holds : 
   known_for (Open peer candidates draws) answer is said = no_receive (Open peer candidates draws) is refl
   known_for (Cancel n) answer is said = no_receive (Cancel n) is refl
   known_for (Close near) answer is said = no_receive (Close near) is refl
+  known_for (AddRow print addresses) answer is said = no_receive (AddRow print addresses) is refl
+  known_for Introduce answer is said = no_receive Introduce is refl
   known_for (Tick draws) answer is said = no_receive (Tick draws) is refl
   known_for (Receive from datagram draws) Done is said = admitted from datagram draws is (ap was_gone_through said)
   known_for (Receive from datagram draws) (Stopped stop) is said = waits from datagram draws stop is said
   known_for (Receive from datagram draws) (Began n) is said = tt
   known_for (Receive from datagram draws) (NotOpened refusal) is said = tt
   known_for (Receive from datagram draws) (Refused refusal) is said = tt
+  known_for (Receive from datagram draws) (NotAdded refusal) is said = tt
   known_for (Receive from datagram draws) OutOfMemory is said = tt
 
   -- an event began, whose moment is noted
   holds_begun : Begun setup start noted e.call e.answer
   holds_begun = record {
     tied = tied_more setup past noted (begun (max s.moment e.moment) e) (omega arith) refl refl (tied_alike setup past s (max s.moment e.moment) s.sealed (omega arith) holds.tied);
-    sent = record { numbered = numbered_begun (own_of setup) past s.sealed s.sessions holds.sent.numbered (max s.moment e.moment) e; sized = holds.sent.sized; short = holds.sent.short };
+    sent = record { numbered = numbered_begun (own_of setup) past s.sealed s.sessions holds.sent.numbered (max s.moment e.moment) e; sized = holds.sent.sized; short = holds.sent.short; rows = holds.sent.rows };
     counted = holds.counted;
     known = known_for e.call e.answer refl refl;
   }
@@ -231,6 +262,7 @@ sent_fresh setup = record {
   numbered = numbered_new (own_of setup);
   sized = tt;
   short = λ near a e. absurd (none_is_some a (get {R = nat_cmp} empty near) (get-empty nat_cmp near) e);
+  rows = λ print addresses e. absurd (none_is_some addresses (get {R = slice_cmp nat_cmp} empty print) (get-empty (slice_cmp nat_cmp) print) e);
 }
 
 pub log_is : (setup : Setup) (log : List Event) (s : State) → IsSetup setup → AreCalls log → StandsFor setup log s → LogIs setup [] (fresh setup) log s

@@ -1,7 +1,6 @@
 -- What the state agrees with after a change that states no fact, and after one fact.
-use Rattle.std.proofs.Common.{◌≡◌, ℕ, ◌+◌, ◌<◌, ◌≤◌, List, ◌∷◌, Bool, true, false, if◌then◌else◌, cond, Option, Some, None, is_some, ◌||◌, inl, inr, ◌⊎◌, refl, sym, ap, subst, ◌∙◌, arith}
+use Rattle.std.proofs.Common.{◌≡◌, ℕ, ◌+◌, ◌<◌, ◌≤◌, List, ◌∷◌, Bool, true, false, cond, Option, Some, None, is_some, ◌||◌, inl, inr, ◌⊎◌, refl, sym, ap, subst, ◌∙◌, arith}
 use Rattle.std.specs.FinMap.{get}
-use Rattle.glare_core.specs.declared.facts.Why.{Why}
 use Rattle.glare_core.specs.declared.facts.Fact.{Fact}
 use Rattle.glare_core.specs.declared.facts.Fact.TheVariants.{Started, Born, Opened, Confirmed, Ended}
 use Rattle.glare_core.specs.declared.facts.Held.{Held}
@@ -10,6 +9,7 @@ use Rattle.glare_core.specs.Things.{near_of}
 use Rattle.glare_core.specs.Ledger.{Ledger, PeerRow, row_in, row_or_blank, row_after, held_with, knows, row_count, noted}
 use Rattle.glare_core.proofs.Maps.{len_inserted}
 use Rattle.rtmfp_base.proofs.Maps.{get_inserted, get_beside, len_known}
+use Rattle.introducer.specs.Directory.{AddressRows}
 use Rattle.startup.specs.State.{AttemptState}
 use Rattle.startup.specs.Attempts.{with_attempt}
 use Rattle.session_core.specs.Session.{SessionState}
@@ -18,7 +18,7 @@ use Rattle.startup.proofs.Stepping.{held_after_own, held_after_other}
 use Rattle.endpoint_model.specs.declared.row.Row.{Row}
 use Rattle.endpoint_model.specs.declared.entry.Entry.TheVariants.{Fact as FactEntry, Closed}
 use Rattle.endpoint_model.specs.Event.{Setup}
-use Rattle.endpoint_laws.specs.Past.{Stamped, stamped, is_close, Closes, GoesOn, IsClosing, fact_done, fact_and, closed_done, facts_of, ids_in_use, ids_after, ids_left, WasDone}
+use Rattle.endpoint_laws.specs.Past.{Stamped, stamped, is_close, Closes, GoesOn, IsClosing, fact_done, fact_and, closed_done, facts_of, ids_in_use, ids_after, ids_left}
 use Rattle.endpoint_laws.specs.OfTheLog.{WasThing}
 use Rattle.endpoint_model.specs.State.{State, uses, is_used, with_row, with_startup}
 use Rattle.endpoint_laws.proofs.Matching.{Found, of_peer, Matches, changed_matches, Ids, ids_same}
@@ -296,7 +296,7 @@ tied_more setup past s x in_time no_fact no_closed t =
 
 -- what doesn't touch what is held
 pub tied_alike : (setup : Setup) (past : List Stamped) (s : State) (moment sealed : ℕ) → s.moment ≤ moment → Tied setup past s →
-    Tied setup past (record { config = s.config; moment = moment; sealed = sealed; startup = s.startup; sessions = s.sessions })
+    Tied setup past (record s { moment = moment; sealed = sealed })
 tied_alike setup past s moment sealed up t = record {
   config = t.config;
   cert = t.cert;
@@ -316,6 +316,31 @@ tied_alike setup past s moment sealed up t = record {
   once = t.once;
   not_zero = t.not_zero;
   by_now = by_later s.moment moment past up t.by_now;
+  within = t.within;
+  rows = t.rows;
+}
+
+-- whom an end introduces touches nothing of it
+pub tied_unseen : (setup : Setup) (past : List Stamped) (s : State) (introduces : Bool) (redirects : AddressRows) → Tied setup past s → Tied setup past (record s { introduces = introduces; redirects = redirects })
+tied_unseen setup past s introduces redirects t = record {
+  config = t.config;
+  cert = t.cert;
+  secret = t.secret;
+  cookie_secret = t.cookie_secret;
+  own = t.own;
+  max_peers = t.max_peers;
+  account = t.account;
+  sound = t.sound;
+  sessions = t.sessions;
+  there = t.there;
+  closing = t.closing;
+  apart = t.apart;
+  started = t.started;
+  used = t.used;
+  count = t.count;
+  once = t.once;
+  not_zero = t.not_zero;
+  by_now = t.by_now;
   within = t.within;
   rows = t.rows;
 }

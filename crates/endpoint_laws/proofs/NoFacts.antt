@@ -13,7 +13,8 @@ use Rattle.endpoint_model.specs.Views.{fact_in, closed_in}
 use Rattle.endpoint_model.specs.State.{State, Did, nothing}
 use Rattle.endpoint_model.specs.Sending.{last_count, sent_startup, sent_answer, sent_if, sent_each, sent_by, sent_in_session}
 use Rattle.endpoint_model.specs.Admission.{sid_at}
-use Rattle.endpoint_model.specs.Effects.{Reply, Silence, InStartup, InSession, replied, read_left, read_reply, read_done}
+use Rattle.endpoint_model.specs.Effects.{Reply, Silence, InStartup, Hellos, InSession, Introduction, forwarded, replied, read_left, read_reply, read_done}
+use Rattle.endpoint_model.specs.InSessions.{sent_home_by}
 use Rattle.endpoint_laws.specs.Past.{Stamped, stamped, onto, fact_and, facts_of, ids_after, ids_left, ids_in_use}
 
 -- there is no fact, and this
@@ -75,10 +76,23 @@ none_by s near to body (Some row) = none_either (row.session.sealed == last_coun
 pub none_in_session : (s : State) (near : ℕ) (to : AddressParts) (body : List ℕ) → NoFacts (sent_in_session s near to body).entries
 none_in_session s near to body = none_by s near to body (get s.sessions near)
 
+none_home_by : (s : State) (near : ℕ) (body : List ℕ) (o : Option Row) → NoFacts (sent_home_by s near body o).entries
+none_home_by s near body None = tt
+none_home_by s near body (Some row) = none_by s near row.session.address body (Some row)
+
+none_forwarded : (s : State) (to : Option ℕ) (body : List ℕ) → NoFacts (forwarded s to body).entries
+none_forwarded s None body = tt
+none_forwarded s (Some near) body = none_home_by s near body (get s.sessions near)
+
 none_replied : (s : State) (place : Place) (from : AddressParts) (reply : Reply) → NoFacts (replied s place from reply).entries
 none_replied s place from Silence = tt
 none_replied s place from (InStartup answer) = none_if s answer
+none_replied s place from (Hellos None) = tt
+none_replied s place from (Hellos (Some spread)) = none_each s spread.plain spread.to
 none_replied s place from (InSession body) = none_in_session s (sid_at place) from body
+none_replied s place from (Introduction to body redirect) =
+    let d : Did = forwarded s to body in
+    none_in_both d.entries (sent_if d.state redirect).entries (none_forwarded s to body) (none_if d.state redirect)
 
 -- nor does a chunk that is no keying
 pub none_read : (s : State) (place : Place) (from : AddressParts) (read : Result Chunk ChunkFault) → NoFacts (read_done s place from read).entries
@@ -121,9 +135,28 @@ over_by : (s : State) (near : ℕ) (to : AddressParts) (body : List ℕ) (o : Op
 over_by s near to body None = tt
 over_by s near to body (Some row) = over_either (row.session.sealed == last_count) (nothing s) _ tt (refl, tt)
 
+over_each : (s : State) (plain : List ℕ) (to : List AddressParts) → NoneOver (sent_each s plain to).entries
+over_each s plain [] = tt
+over_each s plain (to ∷ rest) =
+    let first = sent_startup s to 0 plain in
+    none_over_both first.entries (sent_each first.state plain rest).entries (over_startup s to 0 plain) (over_each first.state plain rest)
+
+over_home_by : (s : State) (near : ℕ) (body : List ℕ) (o : Option Row) → NoneOver (sent_home_by s near body o).entries
+over_home_by s near body None = tt
+over_home_by s near body (Some row) = over_by s near row.session.address body (Some row)
+
+over_forwarded : (s : State) (to : Option ℕ) (body : List ℕ) → NoneOver (forwarded s to body).entries
+over_forwarded s None body = tt
+over_forwarded s (Some near) body = over_home_by s near body (get s.sessions near)
+
 over_replied : (s : State) (place : Place) (from : AddressParts) (reply : Reply) → NoneOver (replied s place from reply).entries
 over_replied s place from Silence = tt
 over_replied s place from (InStartup answer) = over_if s answer
+over_replied s place from (Hellos None) = tt
+over_replied s place from (Hellos (Some spread)) = over_each s spread.plain spread.to
+over_replied s place from (Introduction to body redirect) =
+    let d : Did = forwarded s to body in
+    none_over_both d.entries (sent_if d.state redirect).entries (over_forwarded s to body) (over_if d.state redirect)
 over_replied s place from (InSession body) = over_by s (sid_at place) from body (get s.sessions (sid_at place))
 
 pub over_read : (s : State) (place : Place) (from : AddressParts) (read : Result Chunk ChunkFault) → NoneOver (read_done s place from read).entries

@@ -11,15 +11,10 @@ use Rattle.crypto_profile.specs.Opening.{open_refusal, plain_of}
 use Rattle.crypto_profile.proofs.Opened.{opens_by_its_tag}
 use Rattle.packet_scramble.specs.Datagram.{sid_of}
 use Rattle.glare_core.specs.declared.facts.Fact.{Fact}
-use Rattle.glare_core.specs.declared.facts.Joined.{Joined}
 use Rattle.glare_core.specs.declared.facts.Held.{Held}
 use Rattle.glare_core.specs.declared.facts.Held.TheVariants.{Opening as OpeningHeld}
 use Rattle.glare_core.proofs.Accounts.{reads_held}
 use Rattle.startup.specs.State.{AttemptState}
-use Rattle.session_core.specs.declared.stage.Role.{Role}
-use Rattle.session_core.specs.declared.stage.Role.TheVariants.{Initiator, Responder}
-use Rattle.session_core.specs.declared.stage.Stage.{Stage}
-use Rattle.session_core.specs.declared.stage.Stage.TheVariants.{Opening, Open, NearClose, FarLinger, Closed}
 use Rattle.session_core.specs.Session.{context_between, context_of}
 use Rattle.session_core.specs.Hearing.{opens_in as opens_in_session}
 use Rattle.session_core.proofs.Hears.{opens_some_plain}

@@ -70,7 +70,7 @@ orderly_then setup call past s d next first later =
     }
 
 -- in a state that was reached without entries
-orderly_from : (setup : Setup) (call : Call) (past : List Stamped) (s t : State) (d : Did) → SameCounts s t → Orderly setup call past t d → Orderly setup call past s d
+pub orderly_from : (setup : Setup) (call : Call) (past : List Stamped) (s t : State) (d : Did) → SameCounts s t → Orderly setup call past t d → Orderly setup call past s d
 orderly_from setup call past s t d same orderly =
     let P : ℕ → Type 0 = λ m. EntriesMeet FactPart setup m call past d.entries in
     let Q : ℕ → Type 0 = λ m. Tied setup (onto m d.entries past) d.state in

@@ -206,6 +206,7 @@ module _ (setup : Setup) (now : ℕ) (call : Call) (past : List Stamped) (s : St
         numbered = numbered_born (own_of setup) before s.sealed (without_ended s.sessions ended) (numbered_without (own_of setup) before s.sealed s.sessions ended told.numbered) now j new refl refl refl;
         sized = ((near, ni, nr), told.sized);
         short = short;
+        rows = sent.rows;
       } in
       let may : MayGo setup after j.far (session_answer old j from).plain =
       rikeying_may setup after j.far old.secret j (sha256 old.cert) (ap sha256 old_cert) refl (inl (held_born j (facts_of before))) near ni nr in
@@ -274,6 +275,7 @@ module _ (setup : Setup) (now : ℕ) (call : Call) (past : List Stamped) (s : St
         numbered = numbered_opened (own_of setup) past s.sealed s.sessions sent.numbered now j new refl refl refl lawful was;
         sized = (tt, sent.sized);
         short = short_left s.startup.attempts j.near sent.short;
+        rows = sent.rows;
       } in
       let there : get state.sessions j.near ≡ Some new = get_inserted s.sessions j.near new in
       let ping : Meets setup now call after (sent_by state j.near from (chunk_bytes (Ping [])) (Some new)) =

@@ -21,12 +21,12 @@ use Rattle.endpoint_laws.specs.Past.{Stamped}
 use Rattle.endpoint_model.specs.State.{State}
 use Rattle.endpoint_model.specs.Admission.{sid_at}
 use Rattle.endpoint_model.specs.Effects.{initiator_keyed, responder_keyed, is_told_in_session, read_done, effect, discarded_or, chunk_did}
-use Rattle.endpoint_model.specs.Causes.{takes, has_state_for, read_cause, initiator_keying_cause, responder_keying_cause, last_cause, chunk_cause}
+use Rattle.endpoint_model.specs.Causes.{takes, has_state_for, read_cause, initiator_keying_cause, responder_keying_cause, chunk_cause}
 use Rattle.endpoint_laws.proofs.Tied.{Tied}
 use Rattle.endpoint_laws.proofs.OutSends.{Sent, Meets}
 use Rattle.endpoint_laws.proofs.OutItems.{meets_discarded}
 use Rattle.endpoint_laws.proofs.Replies.{meets_read}
-use Rattle.endpoint_laws.proofs.Chunked.{causes, last_none, told_kinds, not_at_startup, not_at_attempt, not_false}
+use Rattle.endpoint_laws.proofs.Chunked.{causes, told_kinds, not_at_startup, not_at_attempt, not_false}
 use Rattle.endpoint_laws.proofs.Facts.{all_none, test_fails}
 use Rattle.endpoint_laws.proofs.Passing.{PassedAt}
 use Rattle.endpoint_laws.proofs.OutSessions.{meets_told}
@@ -48,13 +48,13 @@ module _ (setup : Setup) (from : AddressParts) (datagram : List ℕ) (draws : Dr
     read_none b o e = (all_none (where_true (not b) WrongState ∷ o ∷ []) e).1.0
 
     by_kind : (a b t : Bool) (payload : List ℕ) (read : Result Chunk ChunkFault) → (t ≡ true → is_told_in_session c.kind ≡ true) → takes place c.kind ≡ true →
-        (if a then initiator_keying_cause s walk from payload else (if b then responder_keying_cause s (sid_at place) payload else first_that_stands (where_true (not (has_state_for s place c.kind)) WrongState ∷ read_cause s place read ∷ []))) ≡ None →
+        (if a then initiator_keying_cause s walk from payload else (if b then responder_keying_cause s (sid_at place) payload else first_that_stands (where_true (not (has_state_for s place c.kind)) WrongState ∷ read_cause s place from read ∷ []))) ≡ None →
         Meets setup s.moment call past
         (if a then initiator_keyed s from draws payload else (if b then responder_keyed s (sid_at place) from payload else (if t then told_in_session s (sid_at place) from c else read_done s place from read)))
     by_kind true b t payload read told taken none = meets_initiator setup s.moment call past s sent tied from draws walk payload small nonce none
     by_kind false true t payload read told taken none = meets_responder setup s.moment call past s sent tied from (sid_at place) payload
     by_kind false false true payload read told taken none = told_at place passed (told refl) taken
-    by_kind false false false payload read told taken none = meets_read setup s.moment call past s sent tied cert place from read (read_none (has_state_for s place c.kind) (read_cause s place read) none)
+    by_kind false false false payload read told taken none = meets_read setup s.moment call past s sent tied cert place from read (read_none (has_state_for s place c.kind) (read_cause s place from read) none)
 
     by_cause : (o : Option Cause) → chunk_cause s place walk from c ≡ o → Meets setup s.moment call past (discarded_or s c.at o (effect s place from draws c))
     by_cause None e =

@@ -56,13 +56,14 @@ pub short_left : (attempts : Attempts) (near : ℕ) → AreShort attempts → Ar
 short_left attempts near all q b e = all q b (found_left attempts near q b e).1
 
 pub sent_startup_changed : (setup : Setup) (past : List Stamped) (s : State) (t : StartupState) → Sent setup past s → AreShort t.attempts → Sent setup past (with_startup s t)
-sent_startup_changed setup past s t sent short = record { numbered = sent.numbered; sized = sent.sized; short = short }
+sent_startup_changed setup past s t sent short = record { numbered = sent.numbered; sized = sent.sized; short = short; rows = sent.rows }
 
 pub sent_fact : (setup : Setup) (past : List Stamped) (s : State) (now : ℕ) (fact : Fact) → Sent setup past s → IsSized fact → Sent setup (stamped now (FactEntry fact) ∷ past) s
 sent_fact setup past s now fact sent sized = record {
   numbered = numbered_fact (own_of setup) past s.sealed s.sessions sent.numbered now fact;
   sized = (sized, sent.sized);
   short = sent.short;
+  rows = sent.rows;
 }
 
 -- a fact, where there is one
@@ -84,6 +85,7 @@ sent_session_changed setup past s near old new sent there joined mine role count
   numbered = numbered_changed (own_of setup) past s.sealed s.sessions sent.numbered near old new there joined mine role count;
   sized = sent.sized;
   short = sent.short;
+  rows = sent.rows;
 }
 
 pub meets_discarded : (setup : Setup) (now : ℕ) (call : Call) (past : List Stamped) (s : State) (at : ℕ) (cause : Cause) → Sent setup past s → Meets setup now call past (discarded s at cause)
@@ -93,6 +95,7 @@ meets_discarded setup now call past s at cause sent = record {
     numbered = numbered_quiet (own_of setup) past s.sealed s.sessions sent.numbered (stamped now (Discard at cause)) refl refl;
     sized = sent.sized;
     short = sent.short;
+    rows = sent.rows;
   };
 }
 
@@ -128,7 +131,7 @@ meets_opening setup now call past s sent tied peer candidates draws peer_len non
     meets_after setup now call past (FactEntry fact ∷ []) _ (tt, tt)
     (meets_each setup now call (ihello_packet (0x01 ∷ peer) draws.tag) (λ p. ihello_may setup p 0 (0x01 ∷ peer) draws.tag (omega arith) (omega arith)) (distinct_candidates candidates)
     (stamped now (FactEntry fact) ∷ past) _
-    record { numbered = begun.numbered; sized = begun.sized; short = short_put s.startup.attempts near a sent.short (record { tag = omega arith; cookie = tt }) }
+    record { numbered = begun.numbered; sized = begun.sized; short = short_put s.startup.attempts near a sent.short (record { tag = omega arith; cookie = tt }); rows = sent.rows }
     tied.secret tied.own)
 
 -- ---- an attempt ends
@@ -147,7 +150,7 @@ meets_cancelling setup now call past s n sent =
     let after = sent_facts setup past s now (end_of o Cancelled) sent (ended_light o) in
     record {
       lines = lines_facts setup now call past (end_of o Cancelled);
-      sent = record { numbered = after.numbered; sized = after.sized; short = ended_short s.startup o sent.short };
+      sent = record { numbered = after.numbered; sized = after.sized; short = ended_short s.startup o sent.short; rows = sent.rows };
     }
 
 -- ---- keyings of attempts
@@ -165,7 +168,7 @@ module _ (setup : Setup) (past : List Stamped) (s : State) (sent : Sent setup pa
       let cert : length s.startup.cert ≤ 80 = subst (λ (c : List ℕ). length c ≤ 80) (sym tied.cert) short in
       iikeying_may setup past 0 s.startup.secret near cookie s.startup.cert a.ni a.n a.peer narrow cert tied.cert (attempt_held near a there) (attempt_sized near a there)
 
-  hello_may : (near : ℕ) (a : AttemptState) → get s.startup.attempts near ≡ Some a → (p : List Stamped) → MayGo setup p 0 (ihello_packet (0x01 ∷ a.peer) a.tag)
+  pub hello_may : (near : ℕ) (a : AttemptState) → get s.startup.attempts near ≡ Some a → (p : List Stamped) → MayGo setup p 0 (ihello_packet (0x01 ∷ a.peer) a.tag)
   hello_may near a there p = ihello_may setup p 0 (0x01 ∷ a.peer) a.tag (omega (arith, (attempt_sized near a there).0)) (sent.short near a there).tag
 
   -- ---- what is due
@@ -185,7 +188,7 @@ module _ (setup : Setup) (past : List Stamped) (s : State) (sent : Sent setup pa
         (if b then EndDue (ended_attempt e Expired) else repeat_of s.startup e.0 e.1))
     by_over true e there =
         let after = sent_fact setup past s now (ended_attempt e Expired) sent tt in
-        record { lines = (tt, tt); sent = record { numbered = after.numbered; sized = after.sized; short = short_left s.startup.attempts e.0 sent.short } }
+        record { lines = (tt, tt); sent = record { numbered = after.numbered; sized = after.sized; short = short_left s.startup.attempts e.0 sent.short; rows = sent.rows } }
     by_over false e there =
         let kept : IsShort e.1 = sent.short e.0 e.1 there in
         by_stage e e.1.stage there refl (with_attempt s.startup e.0 (repeated e.1 s.moment))
@@ -219,7 +222,7 @@ confirming_test setup now call past s near row sent there true =
     sent_session_changed setup (onto now (fact_entries o) past) s near row (record row { session = confirmed row.session }) after there refl refl refl refl in
     record {
       lines = lines_facts setup now call past o;
-      sent = record { numbered = changed.numbered; sized = changed.sized; short = sent.short };
+      sent = record { numbered = changed.numbered; sized = changed.sized; short = sent.short; rows = sent.rows };
     }
 
 confirming_found : (setup : Setup) (now : ℕ) (call : Call) (past : List Stamped) (s : State) (near : ℕ) (o : Option Row) → Sent setup past s → get s.sessions near ≡ o → Meets setup now call past (confirming_by s near o)

@@ -3,7 +3,7 @@ use Rattle.std.proofs.Common.{◌≡◌, ℕ, ◌^◌, ◌<◌, ◌≤◌, List,
 use Rattle.std.specs.Int.{w16, w64, to_be_bytes}
 use Rattle.std.proofs.lemmas.List.{length-take}
 use Rattle.rtmfp_forms.specs.Address.{AddressParts, address_bytes, host_len}
-use Rattle.rtmfp_chunks.specs.Chunk.{Chunk, IHello, RHello, CookieChange, IIKeying, RIKeying, parts_of}
+use Rattle.rtmfp_chunks.specs.Chunk.{Chunk, IHello, RHello, Redirect, CookieChange, IIKeying, RIKeying, parts_of}
 use Rattle.rtmfp_chunks.specs.Writing.{payload_bytes, PartsFit}
 use Rattle.crypto_profile.specs.Hmac.{hmac}
 use Rattle.crypto_profile.specs.Keys.{sign_key_of}
@@ -14,7 +14,8 @@ use Rattle.glare_core.specs.declared.facts.Held.TheVariants.{Opening}
 use Rattle.glare_core.specs.declared.facts.Joined.{Joined}
 use Rattle.glare_core.specs.Standing.{held}
 use Rattle.startup.specs.Packets.{startup_packet, ihello_packet, rhello_packet, cookiechange_packet, initiator_part, responder_part, iikeying_packet, iikeying_signed, rikeying_packet, rikeying_signed}
-use Rattle.startup.proofs.Sizes.{startup_length, ihello_length, rhello_length, cookiechange_length, iikeying_length, rikeying_length}
+use Rattle.startup.specs.Redirects.{addresses_bytes, redirect_packet}
+use Rattle.startup.proofs.Sizes.{startup_length, ihello_length, rhello_length, redirect_length, length-addresses_bytes, cookiechange_length, iikeying_length, rikeying_length}
 use Rattle.endpoint_model.specs.Event.{Setup, own_of}
 use Rattle.endpoint_laws.specs.Past.{Stamped, facts_of}
 use Rattle.endpoint_laws.specs.Lawful.{IsBornHere}
@@ -53,6 +54,13 @@ module _ (setup : Setup) (past : List Stamped) (sid : ℕ) where
   rhello_may tag cookie cert p q r packet reads =
       no_keyings _ _ packet 0x70 (payload_bytes (RHello tag cookie cert))
       (startup_alone (RHello tag cookie cert) packet (small (RHello tag cookie cert) (rhello_length tag cookie cert p q r)) reads) (omega arith) (omega arith)
+
+  pub redirect_may : (tag : List ℕ) (addresses : List AddressParts) → length tag ≤ 128 → length addresses ≤ 16 → MayGo setup past sid (redirect_packet tag addresses)
+  unfolding redirect_packet
+  redirect_may tag addresses p q packet reads =
+      let list : List ℕ = addresses_bytes addresses in
+      let short : length list ≤ 304 = omega (arith, length-addresses_bytes addresses) in
+      no_keyings _ _ packet 0x71 (payload_bytes (Redirect tag list)) (startup_alone (Redirect tag list) packet (small (Redirect tag list) (redirect_length tag list p short)) reads) (omega arith) (omega arith)
 
   pub cookiechange_may : (old new : List ℕ) → length old ≤ 128 → length new ≤ 128 → MayGo setup past sid (cookiechange_packet old new)
   unfolding cookiechange_packet

@@ -16,6 +16,7 @@ use Rattle.crypto_profile.specs.Keys.{keys_of}
 use Rattle.crypto_profile.specs.Sealing.{number_of, sealed_in}
 use Rattle.crypto_profile.proofs.Opened.{sealed_carries}
 use Rattle.packet_scramble.specs.Datagram.{datagram}
+use Rattle.introducer.specs.Directory.{AddressRows}
 use Rattle.startup.specs.State.{AttemptState, Attempts}
 use Rattle.startup.specs.declared.attempt.Stage.{Stage}
 use Rattle.startup.specs.declared.attempt.Stage.TheVariants.{Hello, Keying}
@@ -49,11 +50,16 @@ pub record IsShort (a : AttemptState) : Type 0 where
 abbrev pub AreShort : Attempts → Type 0
 AreShort attempts = (near : ℕ) (a : AttemptState) → get attempts near ≡ Some a → IsShort a
 
+-- a row of addresses has 16 or fewer
+abbrev pub AreFew : AddressRows → Type 0
+AreFew rows = (print : List ℕ) (addresses : List AddressParts) → get rows print ≡ Some addresses → length addresses ≤ 16
+
 -- what is kept of what went out, and the sizes of what goes out
 pub record Sent (setup : Setup) (past : List Stamped) (s : State) : Type 0 where
   pub numbered : Numbered (own_of setup) past s.sealed s.sessions
   pub sized : AreSized (facts_of past)
   pub short : AreShort s.startup.attempts
+  pub rows : AreFew s.redirects
 
 -- what a thing adds meets its lines, and it leaves this
 pub record Meets (setup : Setup) (now : ℕ) (call : Call) (past : List Stamped) (d : Did) : Type 0 where
@@ -128,6 +134,7 @@ module _ (setup : Setup) (now : ℕ) (call : Call) (past : List Stamped) (s : St
           numbered = numbered_startup (own_of setup) past s.sealed s.sessions sent.numbered now to (startup_datagram s sid plain) (unequal s.sealed last_count e) carries;
           sized = sent.sized;
           short = sent.short;
+          rows = sent.rows;
         };
       }
 
@@ -176,5 +183,6 @@ module _ (setup : Setup) (now : ℕ) (call : Call) (past : List Stamped) (s : St
               (record row { session = after_seal row.session }) (sealed_more (row.session.sealed == last_count) e) carries may.known;
           sized = sent.sized;
           short = sent.short;
+          rows = sent.rows;
         };
       }

@@ -1,5 +1,5 @@
 -- What an end does of its sessions: each datagram that goes out meets its line.
-use Rattle.std.proofs.Common.{◌≡◌, ℕ, ◌^◌, ◌<◌, ◌≤◌, List, [], ◌∷◌, length, Bool, true, false, ◌||◌, if◌then◌else◌, Option, Some, None, inl, inr, refl, sym, ap, subst, ◌∙◌, arith}
+use Rattle.std.proofs.Common.{◌≡◌, ℕ, ◌≤◌, List, [], ◌∷◌, length, Bool, true, false, ◌||◌, if◌then◌else◌, Option, Some, None, inl, inr, refl, sym, ◌∙◌, arith}
 use Rattle.std.specs.Prelude.{◌==◌}
 use Rattle.std.specs.FinMap.{get}
 use Rattle.rtmfp_forms.specs.Address.{AddressParts}
@@ -29,23 +29,20 @@ use Rattle.endpoint_model.specs.declared.entry.Entry.TheVariants.{Closed, Moved}
 use Rattle.endpoint_model.specs.Event.{Setup, Call, Close, Receive}
 use Rattle.endpoint_model.specs.State.{State, Did, nothing, then_do, fact_entries, with_row, with_session}
 use Rattle.endpoint_model.specs.Keying.{IsAmong, chunks_of}
-use Rattle.endpoint_model.specs.Causes.{row_takes}
 use Rattle.endpoint_model.specs.Sending.{sent_in_session}
-use Rattle.endpoint_model.specs.InSessions.{held_row, sent_home_by, sent_home, ended_as, dropped, closed, closing_by, closing, lingering, close_taken_by, moved_where, moved_by, told_in_session, test_begun, tested_by, tested, session_due_done, row_due_done}
+use Rattle.endpoint_model.specs.InSessions.{held_row, sent_home, ended_as, dropped, closed, closing_by, closing, lingering, close_taken_by, moved_where, moved_by, told_in_session, test_begun, tested_by, tested, row_due_done}
 use Rattle.endpoint_model.proofs.Members.{tested as tested_number}
 use Rattle.endpoint_laws.specs.Past.{Stamped, stamped, onto}
 use Rattle.endpoint_laws.specs.Lawful.{IsTick}
-use Rattle.endpoint_laws.proofs.Tied.{Tied, StageFits}
-use Rattle.endpoint_laws.proofs.Moving.{IsAlike}
-use Rattle.endpoint_laws.proofs.OutNumbers.{numbered_quiet, numbered_removed, numbered_changed}
+use Rattle.endpoint_laws.proofs.Tied.{Tied}
+use Rattle.endpoint_laws.proofs.OutNumbers.{numbered_quiet, numbered_removed}
 use Rattle.endpoint_laws.proofs.OutSends.{Sent, Meets, meets_nothing, meets_then}
 use Rattle.endpoint_laws.proofs.OutItems.{IsLight, sent_facts, lines_facts, sent_session_changed}
-use Rattle.endpoint_laws.proofs.Replies.{IsModest, says}
+use Rattle.endpoint_laws.proofs.Replies.{IsModest, says, home_by}
 use Rattle.endpoint_laws.proofs.Going.{Goes}
 use Rattle.endpoint_laws.proofs.Hearing.{IsKnown}
 use Rattle.endpoint_laws.proofs.Passing.{PassedIn}
-use Rattle.endpoint_laws.proofs.InSessions.{IsLeft}
-use Rattle.endpoint_laws.proofs.SessionChunks.{near_left, far_left, far_alike, held_is_there, near_not_held, goes_near, closes, goes_pending, goes_again, goes_alive}
+use Rattle.endpoint_laws.proofs.SessionChunks.{held_is_there, goes_near, closes, goes_pending, goes_again, goes_alive}
 
 ended_light : (o : Option Held) (peer : List ℕ) (why : Why) → IsLight (ended_fact o peer why)
 ended_light None peer why = tt
@@ -71,7 +68,7 @@ module _ (setup : Setup) (call : Call) (past : List Stamped) (s : State) (sent :
       sent_session_changed setup (onto s.moment (fact_entries o) past) s near row (record row { session = left }) after there joined own role count in
       record {
         lines = lines_facts setup s.moment call past o;
-        sent = record { numbered = changed.numbered; sized = changed.sized; short = sent.short };
+        sent = record { numbered = changed.numbered; sized = changed.sized; short = sent.short; rows = sent.rows };
       }
 
   meets_dropped : (why : Why) → Meets setup s.moment call past (dropped s near row why)
@@ -80,7 +77,7 @@ module _ (setup : Setup) (call : Call) (past : List Stamped) (s : State) (sent :
       let after : Sent setup (onto s.moment (fact_entries o) past) s = sent_facts setup past s s.moment o sent (ended_light (session_in (held_with s.startup.ledger row.session.joined.peer)) row.session.joined.peer why) in
       record {
         lines = lines_facts setup s.moment call past o;
-        sent = record { numbered = numbered_removed _ _ s.sealed s.sessions after.numbered near; sized = after.sized; short = sent.short };
+        sent = record { numbered = numbered_removed _ _ s.sealed s.sessions after.numbered near; sized = after.sized; short = sent.short; rows = sent.rows };
       }
 
   meets_changed : (new : Row) → new.session.joined ≡ row.session.joined → new.session.own ≡ row.session.own → new.session.role ≡ row.session.role → new.session.sealed ≡ row.session.sealed → Meets setup s.moment call past (nothing (with_row s near new))
@@ -89,7 +86,7 @@ module _ (setup : Setup) (call : Call) (past : List Stamped) (s : State) (sent :
   meets_moved : (new : Row) (to : AddressParts) → new.session.joined ≡ row.session.joined → new.session.own ≡ row.session.own → new.session.role ≡ row.session.role → new.session.sealed ≡ row.session.sealed →
       Meets setup s.moment call past (record { state = with_row s near new; entries = Moved near to ∷ [] })
   meets_moved new to joined own role count =
-      let after : Sent setup (stamped s.moment (Moved near to) ∷ past) s = record { numbered = numbered_quiet _ past s.sealed s.sessions sent.numbered (stamped s.moment (Moved near to)) refl refl; sized = sent.sized; short = sent.short } in
+      let after : Sent setup (stamped s.moment (Moved near to) ∷ past) s = record { numbered = numbered_quiet _ past s.sealed s.sessions sent.numbered (stamped s.moment (Moved near to)) refl refl; sized = sent.sized; short = sent.short; rows = sent.rows } in
       record { lines = (tt, tt); sent = sent_session_changed setup (stamped s.moment (Moved near to) ∷ past) s near row new after there joined own role count }
 
 meets_closed : (setup : Setup) (call : Call) (past : List Stamped) (s : State) → Sent setup past s → (near : ℕ) → Meets setup s.moment call past (closed s near)
@@ -99,14 +96,11 @@ meets_closed setup call past s sent near = record {
     numbered = numbered_removed _ (stamped s.moment (Closed near) ∷ past) s.sealed s.sessions (numbered_quiet _ past s.sealed s.sessions sent.numbered (stamped s.moment (Closed near)) refl refl) near;
     sized = sent.sized;
     short = sent.short;
+    rows = sent.rows;
   };
 }
 
 -- ---- a body to the session's address
-
-home_by : (setup : Setup) (now : ℕ) (call : Call) (past : List Stamped) (s : State) → Sent setup past s → Tied setup past s → (near : ℕ) (body : List ℕ) → IsModest body → (o : Option Row) → get s.sessions near ≡ o → Meets setup now call past (sent_home_by s near body o)
-home_by setup now call past s sent tied near body modest None is = meets_nothing setup now call past s sent
-home_by setup now call past s sent tied near body modest (Some row) is = says setup now call past s sent tied near row.session.address body modest (Some row) is
 
 -- something, and then that
 module _ (setup : Setup) (call : Call) (past : List Stamped) (s : State) (near : ℕ) (d : Did) (goes : Goes setup call past s d) (meets : Meets setup s.moment call past d) where

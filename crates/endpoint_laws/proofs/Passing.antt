@@ -1,5 +1,5 @@
 -- The datagram of a call, which a session takes.
-use Rattle.std.proofs.Common.{◌≡◌, ℕ, List, ◌∷◌, Some, sym, ap, subst, ◌∙◌}
+use Rattle.std.proofs.Common.{◌≡◌, ℕ, List, ◌∷◌, Some, sym, subst, ◌∙◌}
 use Rattle.std.specs.FinMap.{get}
 use Rattle.rtmfp_packet.specs.Whole.{Whole}
 use Rattle.endpoint_model.specs.declared.row.Row.{Row}

@@ -1,9 +1,8 @@
 -- What closes, their answers, answers to pings, tests of addresses, and time do to a session: what is stated is lawful, and the state agrees with it.
-use Rattle.std.proofs.Common.{◌≡◌, ℕ, ◌+◌, ◌-◌, ◌<◌, ◌≤◌, suc, List, [], ◌∷◌, Bool, true, false, not, ◌&&◌, nat_le, if◌then◌else◌, Option, Some, None, is_some, ◌||◌, inl, inr, ◌⊎◌, refl, sym, ap, subst, ◌∙◌, arith}
+use Rattle.std.proofs.Common.{◌≡◌, ℕ, ◌+◌, ◌≤◌, suc, List, [], ◌∷◌, Bool, true, false, ◌&&◌, if◌then◌else◌, Option, Some, None, ◌||◌, inl, inr, refl, sym, ap, subst, ◌∙◌, arith}
 use Rattle.std.specs.Prelude.{◌==◌}
 use Rattle.std.proofs.lemmas.Bool.Decides.{nat_tests}
 use Rattle.std.specs.FinMap.{get}
-use Rattle.rtmfp_base.proofs.Lowest.{first_is_there}
 use Rattle.crypto_profile.specs.declared.keys.Context.{Context}
 use Rattle.rtmfp_forms.specs.Address.{AddressParts}
 use Rattle.rtmfp_packet.specs.declared.head.Mode.{Mode}
@@ -11,14 +10,13 @@ use Rattle.rtmfp_packet.specs.Walk.{Placed}
 use Rattle.rtmfp_packet.specs.Whole.{Whole}
 use Rattle.rtmfp_chunks.specs.Chunk.{Chunk, Spells, Ping, Close as CloseChunk, CloseAck}
 use Rattle.rtmfp_chunks.specs.Writing.{chunk_bytes}
-use Rattle.glare_core.specs.declared.facts.Why.{Why}
 use Rattle.glare_core.specs.declared.facts.Why.TheVariants.{Near, Far, Unconfirmed as NotConfirmed, Idle as WasIdle}
 use Rattle.glare_core.specs.declared.facts.Joined.{Joined}
 use Rattle.glare_core.specs.declared.facts.Held.{Held}
-use Rattle.glare_core.specs.declared.facts.Held.TheVariants.{HalfOpen, KeptAsResponder, KeptAsInitiator}
+use Rattle.glare_core.specs.declared.facts.Held.TheVariants.{HalfOpen}
 use Rattle.glare_core.specs.Standing.{held}
-use Rattle.glare_core.specs.Things.{near_of, IsHalfOpen, IsSession, IsKept}
-use Rattle.glare_core.specs.Calls.{where_true, first_that_stands, MayEnd}
+use Rattle.glare_core.specs.Things.{IsHalfOpen, IsSession, IsKept}
+use Rattle.glare_core.specs.Calls.{where_true, first_that_stands}
 use Rattle.session_core.specs.declared.stage.Role.{Role}
 use Rattle.session_core.specs.declared.stage.Role.TheVariants.{Initiator, Responder}
 use Rattle.session_core.specs.declared.stage.Stage.{Stage}
@@ -33,29 +31,26 @@ use Rattle.endpoint_model.specs.declared.row.Row.{Row}
 use Rattle.endpoint_model.specs.declared.config.Draws.{Draws}
 use Rattle.endpoint_model.specs.declared.place.Place.{Place}
 use Rattle.endpoint_model.specs.declared.place.Place.TheVariants.{Startup, Attempt, Session}
-use Rattle.endpoint_model.specs.declared.entry.Entry.TheVariants.{Fact as FactEntry, Closed as ClosedEntry}
+use Rattle.endpoint_model.specs.declared.entry.Entry.TheVariants.{Closed as ClosedEntry}
 use Rattle.endpoint_model.specs.Event.{Setup, own_of, Call, Close, Receive}
-use Rattle.endpoint_model.specs.State.{State, Did, nothing, with_row, with_session, without_row}
+use Rattle.endpoint_model.specs.State.{State, nothing, with_row, with_session, without_row}
 use Rattle.endpoint_model.specs.Admission.{peers_mode}
 use Rattle.endpoint_model.specs.Keying.{IsAmong, chunks_of}
 use Rattle.endpoint_model.specs.Causes.{row_takes}
-use Rattle.endpoint_model.specs.Effects.{session_item}
-use Rattle.endpoint_model.specs.InSessions.{ended_as, closed as closed_entry, if_held, held_row, closing_by, closing, lingering, close_taken_by, moved_where, moved_by, told_in_session, test_begun, tested_by, tested, is_row_due, due_row, session_due_done, kept_alive_by, row_due_done}
+use Rattle.endpoint_model.specs.InSessions.{ended_as, closed as closed_entry, if_held, held_row, closing_by, closing, lingering, close_taken_by, moved_where, moved_by, told_in_session, test_begun, tested_by, tested, session_due_done, row_due_done}
 use Rattle.endpoint_model.specs.Sending.{sent_in_session}
 use Rattle.endpoint_model.proofs.Members.{tested as tested_number}
-use Rattle.endpoint_laws.specs.Past.{Stamped, stamped, facts_of, WasDone}
-use Rattle.endpoint_laws.specs.Contexts.{inward, OpensUnder, ReadsUnder}
+use Rattle.endpoint_laws.specs.Past.{Stamped}
+use Rattle.endpoint_laws.specs.Contexts.{inward, ReadsUnder}
 use Rattle.endpoint_laws.specs.OfTheLog.{WasThing}
 use Rattle.endpoint_laws.specs.Taken.{Taken, taken_since, count_in, IsNewAfter, PassesIn, TookIn, TookAt, Passes, inward_mode, TakesChunkOf}
-use Rattle.endpoint_laws.specs.Lawful.{IsTick, IsUnconfirmed, FarLine, BeganWith, IsIdle}
+use Rattle.endpoint_laws.specs.Lawful.{IsTick, FarLine, BeganWith, IsIdle}
 use Rattle.endpoint_laws.proofs.Tied.{Tied, StageFits, thing_of}
-use Rattle.endpoint_laws.proofs.Agrees.{near_of_session}
 use Rattle.endpoint_laws.proofs.Moving.{IsAlike, alike_itself}
 use Rattle.endpoint_laws.proofs.Going.{Goes, Keeps, goes_nothing, goes_then, goes_in_session, keeps_if}
-use Rattle.endpoint_laws.proofs.Ending.{item_left}
 use Rattle.endpoint_laws.proofs.Hearing.{lasting, first_fact, IsKnown}
 use Rattle.endpoint_laws.proofs.Passing.{Passed, PassedIn}
-use Rattle.endpoint_laws.proofs.InSessions.{IsLeft, was_itself, held_facts, id, goes_ended, goes_dropped, goes_closed, goes_changed, goes_moved, goes_home, goes_and_home}
+use Rattle.endpoint_laws.proofs.InSessions.{IsLeft, was_itself, held_facts, id, goes_ended, goes_dropped, goes_closed, goes_changed, goes_moved, goes_and_home}
 
 -- ---- a session as the thing that it is or was
 

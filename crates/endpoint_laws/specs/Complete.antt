@@ -23,7 +23,7 @@ use Rattle.endpoint_model.specs.declared.place.Place.TheVariants.{Attempt}
 use Rattle.endpoint_model.specs.declared.entry.Entry.{Entry}
 use Rattle.endpoint_model.specs.declared.entry.Entry.TheVariants.{Fact as FactEntry, Out}
 use Rattle.endpoint_model.specs.Views.{Sending, out_in}
-use Rattle.endpoint_model.specs.Event.{Setup, own_of, Receive, Answer, Began, Done, NotOpened, Refused, Stopped, OutOfMemory, Event, moment_at}
+use Rattle.endpoint_model.specs.Event.{Setup, own_of, Receive, Answer, Began, Done, NotOpened, Refused, NotAdded, Stopped, OutOfMemory, Event, moment_at}
 use Rattle.endpoint_laws.specs.Past.{Stamped, facts_of, past_of, last_moment, out_done}
 use Rattle.endpoint_laws.specs.Contexts.{session_context}
 use Rattle.endpoint_model.specs.Keying.{IsFirst, chunks_of}
@@ -87,6 +87,7 @@ WentThrough (Began n) chunks gone = ⊥
 WentThrough Done chunks gone = gone ≡ chunks
 WentThrough (NotOpened refusal) chunks gone = ⊥
 WentThrough (Refused refusal) chunks gone = ⊥
+WentThrough (NotAdded refusal) chunks gone = ⊥
 WentThrough (Stopped stop) chunks gone = (stop.taken ≡ true) × (gone ≡ take stop.chunks chunks)
 WentThrough OutOfMemory chunks gone = ⊥
 

@@ -11,7 +11,7 @@ use Rattle.glare_core.specs.declared.facts.Fact.TheVariants.{Started, Born, Open
 use Rattle.glare_core.specs.declared.facts.Held.{Held}
 use Rattle.glare_core.specs.declared.facts.Held.TheVariants.{Opening, HalfOpen, KeptAsResponder, KeptAsInitiator}
 use Rattle.session_core.specs.Hearing.{count_of}
-use Rattle.endpoint_model.specs.Event.{Setup, own_of, ReceiveCall, receive_in, Event, Answer, Began, Done, NotOpened, Refused, Stopped, OutOfMemory}
+use Rattle.endpoint_model.specs.Event.{Setup, own_of, ReceiveCall, receive_in, Answer, Began, Done, NotOpened, Refused, NotAdded, Stopped, OutOfMemory}
 use Rattle.endpoint_model.specs.Keying.{IsAmong, chunks_of}
 use Rattle.endpoint_laws.specs.Past.{Stamped, Happening, OfEvent, OfEntry, fact_done}
 use Rattle.endpoint_laws.specs.Contexts.{inward, OpensUnder, ReadsUnder}
@@ -29,6 +29,7 @@ was_gone_through (Began n) = true
 was_gone_through Done = true
 was_gone_through (NotOpened refusal) = true
 was_gone_through (Refused refusal) = true
+was_gone_through (NotAdded refusal) = true
 was_gone_through (Stopped stop) = stop.taken
 was_gone_through OutOfMemory = true
 
