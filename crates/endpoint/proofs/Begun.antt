@@ -17,7 +17,7 @@ use Rattle.startup.specs.declared.cause.Cause.TheVariants.{NoAttempt}
 use Rattle.startup.specs.declared.answer.Keyed.{Keyed}
 use Rattle.startup.specs.State.{AttemptState, StartupState}
 use Rattle.startup.specs.Keyings.{keyed, after_keying, opened, after_opening}
-use Rattle.endpoint_model.specs.declared.config.Config.{Config}
+use Rattle.endpoint.specs.declared.settings.Settings.{Settings}
 use Rattle.endpoint_model.specs.declared.config.Draws.{Draws}
 use Rattle.endpoint_model.specs.declared.entry.Entry.{Entry}
 use Rattle.endpoint_model.specs.declared.entry.Entry.TheVariants.{Fact as FactEntry}
@@ -59,10 +59,10 @@ added_first entries d new before between after is done = record {
 
 -- ---- what startup left
 
-pub startup_put : (config : Config) (moment sealed : ℕ) (startup next left : StartupState) (sessions rows : Sessions) → rows ≡ sessions → next ≡ left →
-    state_of config moment sealed next rows ≡ with_startup (state_of config moment sealed startup sessions) left
-startup_put config moment sealed startup next left sessions rows same is =
-    ap (λ r. state_of config moment sealed next r) same ∙ ap (λ x. state_of config moment sealed x sessions) is
+pub startup_put : (settings : Settings) (moment sealed : ℕ) (startup next left : StartupState) (sessions rows : Sessions) → rows ≡ sessions → next ≡ left →
+    state_of settings moment sealed next rows ≡ with_startup (state_of settings moment sealed startup sessions) left
+startup_put settings moment sealed startup next left sessions rows same is =
+    ap (λ r. state_of settings moment sealed next r) same ∙ ap (λ x. state_of settings moment sealed x sessions) is
 
 -- ---- an initiator's keying
 
@@ -77,20 +77,20 @@ keyed_so s t from draws payload near k new before after near_is keyed_is t_is do
     subst (λ o. Done (keying_done (left near) from o) new before after) (sym keyed_is) here in
     subst (λ n. Done (keying_done (left n) from (keyed s.startup payload from s.moment n draws.nonce)) new before after) near_is there
 
-pub born_state : (config : Config) (moment sealed : ℕ) (startup : StartupState) (rows new : Sessions) (ended : Option Fact) (born : Fact) (from : AddressParts) (print secret : List ℕ) →
+pub born_state : (settings : Settings) (moment sealed : ℕ) (startup : StartupState) (rows new : Sessions) (ended : Option Fact) (born : Fact) (from : AddressParts) (print secret : List ℕ) →
     print ≡ startup.ledger.own → secret ≡ startup.secret → new ≡ sessions_born rows ended born print from secret moment →
-    state_of config moment sealed startup new ≡ with_born (state_of config moment sealed startup rows) ended born from
-born_state config moment sealed startup rows new ended born from print secret print_is secret_is table =
-    ap (with_sessions (state_of config moment sealed startup rows))
+    state_of settings moment sealed startup new ≡ with_born (state_of settings moment sealed startup rows) ended born from
+born_state settings moment sealed startup rows new ended born from print secret print_is secret_is table =
+    ap (with_sessions (state_of settings moment sealed startup rows))
     (table ∙ ap (λ p. sessions_born rows ended born p from secret moment) print_is ∙ ap (λ x. sessions_born rows ended born startup.ledger.own from x moment) secret_is)
 
 -- ---- a responder's keying
 
-pub opened_state : (config : Config) (moment sealed : ℕ) (startup : StartupState) (rows new : Sessions) (fact : Fact) (from : AddressParts) (print secret : List ℕ) →
+pub opened_state : (settings : Settings) (moment sealed : ℕ) (startup : StartupState) (rows new : Sessions) (fact : Fact) (from : AddressParts) (print secret : List ℕ) →
     print ≡ startup.ledger.own → secret ≡ startup.secret → new ≡ sessions_opened rows fact print from secret moment →
-    state_of config moment sealed startup new ≡ with_opened (state_of config moment sealed startup rows) fact from
-opened_state config moment sealed startup rows new fact from print secret print_is secret_is table =
-    ap (with_sessions (state_of config moment sealed startup rows))
+    state_of settings moment sealed startup new ≡ with_opened (state_of settings moment sealed startup rows) fact from
+opened_state settings moment sealed startup rows new fact from print secret print_is secret_is table =
+    ap (with_sessions (state_of settings moment sealed startup rows))
     (table ∙ ap (λ p. sessions_opened rows fact p from secret moment) print_is ∙ ap (λ x. sessions_opened rows fact startup.ledger.own from x moment) secret_is)
 
 pub opened_so : (s t : State) (near : ℕ) (from : AddressParts) (payload : List ℕ) (fact : Fact) (new : State) (before after : Added) →
@@ -103,19 +103,19 @@ opened_so s t near from payload fact new before after is t_is done =
 
 -- ---- what an end keeps beside its state stays as it should be
 
-kept_end : (config : Config) (secret print : List ℕ) (keys : Keys) (s t left : StartupState) → IsEndpoint config secret print keys s → IsSameEnd s left → t ≡ left → IsEndpoint config secret print keys t
-kept_end config secret print keys s t left is same t_is =
-    subst (λ (x : StartupState). IsEndpoint config secret print keys x) (sym t_is) (end_stays config secret print keys s left is same)
+kept_end : (settings : Settings) (secret print : List ℕ) (keys : Keys) (s t left : StartupState) → IsEndpoint settings secret print keys s → IsSameEnd s left → t ≡ left → IsEndpoint settings secret print keys t
+kept_end settings secret print keys s t left is same t_is =
+    subst (λ (x : StartupState). IsEndpoint settings secret print keys x) (sym t_is) (end_stays settings secret print keys s left is same)
 
-pub kept_keying : (config : Config) (secret print : List ℕ) (keys : Keys) (s t : StartupState) (payload : List ℕ) (from : AddressParts) (moment near : ℕ) (nr : List ℕ) →
-    IsEndpoint config secret print keys s → t ≡ after_keying s payload from moment near nr → IsEndpoint config secret print keys t
-kept_keying config secret print keys s t payload from moment near nr is t_is =
-    kept_end config secret print keys s t (after_keying s payload from moment near nr) is (keying_keeps s payload from moment near nr) t_is
+pub kept_keying : (settings : Settings) (secret print : List ℕ) (keys : Keys) (s t : StartupState) (payload : List ℕ) (from : AddressParts) (moment near : ℕ) (nr : List ℕ) →
+    IsEndpoint settings secret print keys s → t ≡ after_keying s payload from moment near nr → IsEndpoint settings secret print keys t
+kept_keying settings secret print keys s t payload from moment near nr is t_is =
+    kept_end settings secret print keys s t (after_keying s payload from moment near nr) is (keying_keeps s payload from moment near nr) t_is
 
-pub kept_opening : (config : Config) (secret print : List ℕ) (keys : Keys) (s t : StartupState) (near : ℕ) (fact : Fact) →
-    IsEndpoint config secret print keys s → t ≡ after_opening s near fact → IsEndpoint config secret print keys t
-kept_opening config secret print keys s t near fact is t_is =
-    kept_end config secret print keys s t (after_opening s near fact) is (opening_keeps s near fact) t_is
+pub kept_opening : (settings : Settings) (secret print : List ℕ) (keys : Keys) (s t : StartupState) (near : ℕ) (fact : Fact) →
+    IsEndpoint settings secret print keys s → t ≡ after_opening s near fact → IsEndpoint settings secret print keys t
+kept_opening settings secret print keys s t near fact is t_is =
+    kept_end settings secret print keys s t (after_opening s near fact) is (opening_keeps s near fact) t_is
 
 -- ---- what isn't refused
 

@@ -18,7 +18,7 @@ use Rattle.startup.specs.declared.cause.Cause.{Cause}
 use Rattle.startup.specs.State.{AttemptState, StartupState}
 use Rattle.startup.specs.Attempts.{with_ledger, after_end_of}
 use Rattle.startup.specs.Keyings.{InitiatorKeying, initiator_keying_in, keying_of, after_again_or_birth, after_keyed_with, after_keyed_reading, after_keying, after_opening}
-use Rattle.endpoint_model.specs.declared.config.Config.{Config}
+use Rattle.endpoint.specs.declared.settings.Settings.{Settings}
 use Rattle.endpoint.specs.Stored.{IsEndpoint}
 
 -- A state of startup has the secret and the own fingerprint of another.
@@ -72,9 +72,9 @@ opening_keeps s near fact = record { secret_is = refl; own_is = refl }
 
 -- ---- so what an end keeps beside it stays as it should be
 
-pub end_stays : (config : Config) (secret print : List ℕ) (keys : Keys) (s t : StartupState) →
-    IsEndpoint config secret print keys s → IsSameEnd s t → IsEndpoint config secret print keys t
-end_stays config secret print keys s t is kept = record {
+pub end_stays : (settings : Settings) (secret print : List ℕ) (keys : Keys) (s t : StartupState) →
+    IsEndpoint settings secret print keys s → IsSameEnd s t → IsEndpoint settings secret print keys t
+end_stays settings secret print keys s t is kept = record {
   secret_is = is.secret_is ∙ sym kept.secret_is;
   print_is = is.print_is ∙ sym kept.own_is;
   keys_are = is.keys_are ∙ ap (λ x. keys_of x Startup) (sym kept.secret_is);

@@ -1,8 +1,11 @@
 -- A call brings an end from each log that it stands for to that log with its event.
-use Rattle.std.proofs.Common.{◌≡◌, ◌+◌, ℕ, List, [], ◌∷◌, ◌++◌, drop, length, true, false, is_some, Option, Some, None, Ok, Err, Result, OnOk, IfErr, IfSome, IfNone, IsSome, refl, sym, ap, ◌∙◌, subst, max, arith}
+use Rattle.std.proofs.Common.{◌≡◌, ◌+◌, ℕ, List, [], ◌∷◌, ◌++◌, drop, length, true, false, is_some, Option, Some, None, Ok, Err, Result, OnOk, OnErr, IfErr, IfSome, IfNone, IsSome, refl, sym, ap, ◌∙◌, subst, max, arith}
 use Rattle.std.proofs.lemmas.List.{append-nil}
 use Rattle.rtmfp_base.specs.declared.memory.Memory.{Memory}
 use Rattle.rtmfp_forms.specs.Address.{AddressParts}
+use Rattle.introducer.specs.declared.refusal.RowRefusal.{RowRefusal}
+use Rattle.introducer.specs.declared.refusal.RowRefusal.TheVariants.{Memory as NoMemoryForRow}
+use Rattle.introducer.specs.Directory.{row_refusal}
 use Rattle.startup.specs.Attempts.{cancel_fact}
 use Rattle.endpoint_model.specs.declared.config.Draws.{Draws}
 use Rattle.endpoint_model.specs.declared.entry.Entry.{Entry}
@@ -11,12 +14,13 @@ use Rattle.endpoint_model.specs.declared.answers.CallRefusal.{CallRefusal}
 use Rattle.endpoint_model.specs.declared.answers.CallRefusal.TheVariants.{NoAttempt, NoSession, Memory as NoMemory}
 use Rattle.endpoint_model.specs.declared.answers.Stopped.{Stopped as Stop}
 use Rattle.endpoint_model.specs.Added.{Added}
-use Rattle.endpoint_model.specs.Event.{Event, Cancel, Refused, Done as Finished}
+use Rattle.endpoint_model.specs.Event.{Event, Cancel, AddRow, Introduce, Refused, NotAdded, Done as Finished}
+use Rattle.endpoint_model.specs.Introducing.{with_redirect, introducing}
 use Rattle.endpoint_model.specs.State.{State, Did, Does, Done, nothing, fresh, at_moment}
 use Rattle.endpoint_model.specs.Admission.{admission}
 use Rattle.endpoint_model.specs.InSessions.{held_row, closing}
 use Rattle.endpoint_model.specs.Effects.{open_refusal, opening, cancelling, ticks, received, first_due}
-use Rattle.endpoint_model.specs.Log.{Step, Answers, Leads, Extends, IsTaken, IsStop, stopped, not_opened, open_event, cancel_event, close_event, receive_event, tick_event}
+use Rattle.endpoint_model.specs.Log.{Step, Answers, Leads, Extends, IsTaken, IsStop, stopped, not_opened, not_added, open_event, cancel_event, row_event, introduce_event, close_event, receive_event, tick_event}
 
 leads_more : (s t u : State) (es : List Event) (e : Event) → Leads s es t → Step t e u → Leads s (es ++ e ∷ []) u
 leads_more s t u [] e h step = (u, (let P : State → Type 0 = λ x. Step x e u in subst P (sym h) step), refl)
@@ -63,6 +67,43 @@ cancelled_extends s t n done before after some did =
     let entries : List Entry = drop (length before.entries) after.entries in
     extends s t (cancel_event n (Ok done) before.entries after.entries)
     (subst (λ (x : State). Answers x (Cancel n) Finished entries t) (sym (at_zero s)) (some, alone (cancelling s n) t before after did))
+
+-- ---- what an introducer is told
+
+pub on_ok : {A E P Q : Type 0} (r : Result A E) → (P → Q) → OnOk r P → OnOk r Q
+on_ok (Ok x) f h = f h
+on_ok (Err e) f h = tt
+
+pub on_err : {A E P Q : Type 0} (r : Result A E) → (P → Q) → OnErr r P → OnErr r Q
+on_err (Ok x) f h = tt
+on_err (Err e) f h = f h
+
+pub row_extends : (s t : State) (print : List ℕ) (addresses : List AddressParts) (result : Result (Unit {0}) RowRefusal) →
+    OnOk result (t ≡ with_redirect s print addresses) → OnErr result (t ≡ s) →
+    IfSome (row_refusal s.redirects print (length addresses)) (λ refusal. result ≡ Err refusal) →
+    IfNone (row_refusal s.redirects print (length addresses)) (IfErr result (λ refusal. refusal ≡ NoMemoryForRow)) →
+    Extends s t (row_event print addresses result)
+row_extends s t print addresses (Ok done) ok err refused memory =
+    extends s t (row_event print addresses (Ok done))
+    (subst (λ (x : State). Answers x (AddRow print addresses) Finished [] t) (sym (at_zero s))
+    (none_by (row_refusal s.redirects print (length addresses)) refused, record { state = ok; entries = refl }))
+  where
+    none_by : (o : Option RowRefusal) → IfSome o (λ refusal. Ok done ≡ Err refusal) → o ≡ None
+    none_by None h = refl
+    none_by (Some refusal) h = absurd (cc)
+row_extends s t print addresses (Err refusal) ok err refused memory =
+    extends s t (row_event print addresses (Err refusal))
+    (subst (λ (x : State). Answers x (AddRow print addresses) (NotAdded refusal) [] t) (sym (at_zero s))
+    (why_by (row_refusal s.redirects print (length addresses)) refused memory, record { state = err; entries = refl }))
+  where
+    why_by : (o : Option RowRefusal) → IfSome o (λ r. ◌≡◌ {A = Result (Unit {0}) RowRefusal} (Err refusal) (Err r)) → IfNone o (refusal ≡ NoMemoryForRow) → refusal ≡ not_added o
+    why_by None h m = m
+    why_by (Some r) h m = cc
+
+pub introduce_extends : (s t : State) → t ≡ introducing s → Extends s t introduce_event
+introduce_extends s t is =
+    extends s t introduce_event
+    (subst (λ (x : State). Answers x Introduce Finished [] t) (sym (at_zero s)) (record { state = is; entries = refl }))
 
 refused_extends : (s t : State) (n : ℕ) (refusal : CallRefusal) (before after : Added) →
     IfNone (cancel_fact s.startup n) (refusal ≡ NoAttempt) × IfSome (cancel_fact s.startup n) (λ _. refusal ≡ NoMemory) → Done (nothing s) t before after →

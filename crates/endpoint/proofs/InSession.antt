@@ -9,7 +9,7 @@ use Rattle.startup.specs.State.{StartupState}
 use Rattle.session_table.specs.declared.sealing.Sealed.{Sealed}
 use Rattle.session_table.specs.Table.{in_session, of_session, with_changed, sealed_by}
 use Rattle.endpoint_model.specs.declared.row.Row.{Row}
-use Rattle.endpoint_model.specs.declared.config.Config.{Config}
+use Rattle.endpoint.specs.declared.settings.Settings.{Settings}
 use Rattle.endpoint_model.specs.declared.entry.Entry.{Entry}
 use Rattle.endpoint_model.specs.declared.entry.Entry.TheVariants.{Out}
 use Rattle.endpoint_model.specs.Added.{Added}
@@ -50,18 +50,18 @@ sent_as : (s : State) (near : ℕ) (to : AddressParts) (body : List ℕ) (o : Op
 sent_as s near to body None found = refl
 sent_as s near to body (Some row) found = by_count s near to body row (is_spent row.session) found refl
 
-pub sent_one : (config : Config) (moment sealed : ℕ) (startup : StartupState) (old new : Sessions) (t : State) (near : ℕ) (to : AddressParts) (body : List ℕ) (answer : Option Sealed) (before after : Added) →
-    state_of config moment sealed startup old ≡ t → answer ≡ sealed_by moment body (get old near) → new ≡ in_session after_seal old near →
+pub sent_one : (settings : Settings) (moment sealed : ℕ) (startup : StartupState) (old new : Sessions) (t : State) (near : ℕ) (to : AddressParts) (body : List ℕ) (answer : Option Sealed) (before after : Added) →
+    state_of settings moment sealed startup old ≡ t → answer ≡ sealed_by moment body (get old near) → new ≡ in_session after_seal old near →
     after.entries ≡ before.entries ++ out_of to answer → before.free ≤ after.free + length (out_of to answer) → after.room ≡ before.room →
-    Done (sent_in_session t near to body) (state_of config moment sealed startup new) before after
-sent_one config moment sealed startup old new t near to body answer before after view answer_is new_is entries free room =
-    let s : State = state_of config moment sealed startup old in
+    Done (sent_in_session t near to body) (state_of settings moment sealed startup new) before after
+sent_one settings moment sealed startup old new t near to body answer before after view answer_is new_is entries free room =
+    let s : State = state_of settings moment sealed startup old in
     let did : sent_in_session s near to body ≡ sealed_did s near to (get old near) answer =
     sent_as s near to body (get old near) refl ∙ ap (sealed_did s near to (get old near)) (sym answer_is) in
-    let done : Done (sealed_did s near to (get old near) answer) (state_of config moment sealed startup new) before after =
+    let done : Done (sealed_did s near to (get old near) answer) (state_of settings moment sealed startup new) before after =
     record { state = ap (with_sessions s) new_is; entries = entries; free = free; room = room } in
-    subst (λ (u : State). Done (sent_in_session u near to body) (state_of config moment sealed startup new) before after) view
-    (subst (λ (d : Did). Done d (state_of config moment sealed startup new) before after) (sym did) done)
+    subst (λ (u : State). Done (sent_in_session u near to body) (state_of settings moment sealed startup new) before after) view
+    (subst (λ (d : Did). Done d (state_of settings moment sealed startup new) before after) (sym did) done)
 
 -- where nothing was sealed, nothing is added
 pub none_added : (s : State) (to : AddressParts) (answer : Option Sealed) (out : Added) → answer ≡ None → (out.entries ≡ out.entries ++ out_of to answer) × (out.free ≤ out.free + length (out_of to answer))

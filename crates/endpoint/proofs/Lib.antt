@@ -16,3 +16,4 @@ mod Relocating
 mod DueItems
 mod Walking
 mod Told
+mod Introduced

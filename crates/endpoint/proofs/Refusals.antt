@@ -1,8 +1,15 @@
 -- A walk over chunks that add nothing but discards.
-use Rattle.std.proofs.Common.{ℕ, ◌≡◌, ◌≤◌, ◌⊎◌, inl, inr, List, ◌∷◌, length, Option, Some, None, IsSome, false, refl, sym, ap, ◌∙◌, subst, arith}
+use Rattle.std.specs.Prelude.{◌==◌, if◌then◌else◌, not}
+use Rattle.std.proofs.Common.{ℕ, ◌≡◌, ◌≤◌, ◌⊎◌, inl, inr, List, ◌∷◌, length, Option, Some, None, Result, Ok, IsSome, Bool, true, false, refl, sym, ap, ◌∙◌, subst, arith}
+use Rattle.std.proofs.lemmas.Bool.{eqb-true, not-true}
 use Rattle.std.specs.FinMap.{get}
 use Rattle.rtmfp_forms.specs.Address.{AddressParts}
+use Rattle.rtmfp_chunks.specs.declared.reading.ChunkFault.{ChunkFault}
+use Rattle.rtmfp_chunks.specs.Chunk.{Chunk, Redirect}
+use Rattle.rtmfp_chunks.specs.FieldReading.{chunk_reading}
 use Rattle.rtmfp_packet.specs.Walk.{Placed}
+use Rattle.startup.specs.Attempts.{has_tag, lowest}
+use Rattle.startup.specs.Redirects.{redirect_spread, sent_by_spread, told_addresses}
 use Rattle.startup.specs.declared.cause.Cause.{Cause}
 use Rattle.endpoint_model.specs.declared.walk.Walk.{Walk}
 use Rattle.endpoint_model.specs.declared.config.Draws.{Draws}
@@ -10,9 +17,10 @@ use Rattle.endpoint_model.specs.declared.place.Place.{Place}
 use Rattle.endpoint_model.specs.Added.{Added}
 use Rattle.endpoint_model.specs.State.{State, Did, Done, nothing}
 use Rattle.endpoint_model.specs.Admission.{sid_at}
-use Rattle.endpoint_model.specs.InSessions.{answers_by}
-use Rattle.endpoint_model.specs.Effects.{AreQuiet, IsQuiet, chunk_did, discarded_or, discards_among, discards_for, effect, walked}
+use Rattle.endpoint_model.specs.InSessions.{answers_by, told_in_session}
+use Rattle.endpoint_model.specs.Effects.{AreQuiet, IsQuiet, adds_nothing, chunk_did, discarded_or, discards_among, discards_for, effect, initiator_keyed, is_idle, is_told_in_session, read_done, responder_keyed, walked}
 use Rattle.endpoint_model.specs.Causes.{chunk_cause}
+use Rattle.endpoint.proofs.Introduced.{idle_redirect}
 use Rattle.endpoint.proofs.Relocating.{unmoved}
 
 -- Nothing has changed, what is left adds nothing but discards, and there is room for these.
@@ -28,6 +36,28 @@ reply_does s place from draws c quiet =
     let as_kind : ℕ → Placed = λ x. record { kind = x; at = c.at; payload = c.payload } in
     ap (λ (x : ℕ). effect s place from draws (as_kind x)) quiet.0 ∙ unmoved s (sid_at place) from c.payload (get s.sessions (sid_at place)) quiet.1
 
+-- a redirect that adds no address
+redirect_does : (s : State) (place : Place) (from : AddressParts) (draws : Draws) (c : Placed) (tag list : List ℕ) → c.kind ≡ 0x71 → chunk_reading c.kind c.payload ≡ Ok (Redirect tag list) →
+    sent_by_spread (redirect_spread s.startup tag list from) ≡ 0 → effect s place from draws c ≡ nothing s
+redirect_does s place from draws c tag list is reads none =
+    let as_kind : ℕ → Result Chunk ChunkFault → Did = λ k r. if k == 0x38 then initiator_keyed s from draws c.payload else if k == 0x78 then responder_keyed s (sid_at place) from c.payload
+    else if is_told_in_session k then told_in_session s (sid_at place) from c else read_done s place from r in
+    ap (λ r. as_kind c.kind r) reads ∙ ap (λ (k : ℕ). as_kind k (Ok (Redirect tag list))) is
+    ∙ idle_redirect s (lowest (has_tag tag) s.startup.attempts) (told_addresses list from) none
+
+idle_does : (s : State) (place : Place) (from : AddressParts) (draws : Draws) (c : Placed) → is_idle s place from c ≡ true → effect s place from draws c ≡ nothing s
+idle_does s place from draws c quiet = by (c.kind == 0x41) (c.kind == 0x71) refl refl quiet
+  where
+    read_by : (r : Result Chunk ChunkFault) → c.kind ≡ 0x71 → chunk_reading c.kind c.payload ≡ r → adds_nothing s from r ≡ true → effect s place from draws c ≡ nothing s
+    read_by (Ok (Redirect tag list)) kind is e = redirect_does s place from draws c tag list kind is (eqb-true (sent_by_spread (redirect_spread s.startup tag list from)) 0 e)
+    read_by r kind is e = absurd (cc)
+
+    by : (a b : Bool) → (c.kind == 0x41) ≡ a → (c.kind == 0x71) ≡ b → (if a then not (answers_by from c.payload (get s.sessions (sid_at place))) else if b then adds_nothing s from (chunk_reading c.kind c.payload) else false) ≡ true →
+        effect s place from draws c ≡ nothing s
+    by true b is other e = reply_does s place from draws c (eqb-true c.kind 0x41 is, not-true (answers_by from c.payload (get s.sessions (sid_at place))) e)
+    by false true is other e = read_by (chunk_reading c.kind c.payload) (eqb-true c.kind 0x71 other) refl e
+    by false false is other e = absurd (cc)
+
 quiet_leaves : (s : State) (at : ℕ) (cause : Option Cause) (d : Did) → IsSome cause ⊎ (d ≡ nothing s) →
     ((discarded_or s at cause d).state ≡ s) × (length (discarded_or s at cause d).entries ≡ discards_for cause)
 quiet_leaves s at None d (inl none) = absurd (cc)
@@ -36,7 +66,7 @@ quiet_leaves s at (Some cause) d quiet = (refl, refl)
 
 does_nothing : (s : State) (place : Place) (from : AddressParts) (draws : Draws) (walk : Walk) (c : Placed) → IsQuiet s place walk from c → IsSome (chunk_cause s place walk from c) ⊎ (effect s place from draws c ≡ nothing s)
 does_nothing s place from draws walk c (inl some) = inl some
-does_nothing s place from draws walk c (inr quiet) = inr (reply_does s place from draws c quiet)
+does_nothing s place from draws walk c (inr quiet) = inr (idle_does s place from draws c quiet)
 
 -- A chunk that adds nothing but its discard leaves the rest as it is, and takes the place for it.
 pub one_refused : (place : Place) (from : AddressParts) (draws : Draws) (walk : Walk) (start s new : State) (c : Placed) (rest : List Placed) (before after : Added) →

@@ -1,5 +1,5 @@
 -- A chunk that isn't discarded, as it was read once and with what was found of it.
-use Rattle.std.specs.Prelude.{ℕ, ◌==◌, ◌≤◌, not, Bool, true, false, if◌then◌else◌, [], ◌∷◌, length, Option, Some, None, Ok, ◌≡◌}
+use Rattle.std.specs.Prelude.{ℕ, ◌==◌, ◌≤◌, not, Bool, true, if◌then◌else◌, [], ◌∷◌, length, Option, Some, None, Ok, ◌≡◌}
 use Rattle.std.specs.FinMap.{get}
 use Rattle.rtmfp_forms.specs.Address.{AddressParts}
 use Rattle.rtmfp_chunks.specs.Chunk.{chunk_of, Chunk}
@@ -7,6 +7,7 @@ use Rattle.rtmfp_chunks.specs.Chunk.{Close as CloseChunk, CloseAck as CloseAckCh
 use Rattle.rtmfp_chunks.specs.Chunk.{PingReply as PingReplyChunk}
 use Rattle.rtmfp_chunks.specs.FieldReading.{chunk_reading}
 use Rattle.rtmfp_packet.specs.Walk.{Placed}
+use Rattle.identity.specs.Discriminators.{discriminator_of}
 use Rattle.rtmfp_chunks.specs.Writing.{IsWritable, chunk_bytes}
 use Rattle.glare_core.specs.Calls.{where_true, first_that_stands}
 use Rattle.startup.specs.declared.cause.Cause.{Cause}
@@ -16,6 +17,7 @@ use Rattle.startup.specs.State.{peer_of_attempt}
 use Rattle.startup.specs.Attempts.{wide, rhello_cause, cookie_change_cause, after_rhello}
 use Rattle.startup.specs.Attempts.{rhello_keying, after_cookie_change, cookie_change_keying}
 use Rattle.startup.specs.Keyings.{initiator_keying_in, responder_keying_in, initiator_hello_answer}
+use Rattle.startup.specs.Redirects.{adds, after_redirect, redirect_cause, redirect_spread}
 use Rattle.startup.specs.Read.{initiator_of, responder_of}
 use Rattle.startup.specs.Judging.{judged_initiator}
 use Rattle.endpoint_model.specs.declared.config.Draws.{Draws}
@@ -29,10 +31,12 @@ use Rattle.endpoint_model.specs.InSessions.{answers_by, close_taken_by, closed, 
 use Rattle.endpoint_model.specs.InSessions.{told_in_session}
 use Rattle.endpoint_model.specs.Causes.{has_state_for, read_cause, takes}
 use Rattle.endpoint_model.specs.Effects.{initiator_keyed, responder_keyed, read_done}
-use Rattle.endpoint_model.specs.Effects.{is_told_in_session}
+use Rattle.endpoint_model.specs.Effects.{adds_nothing, introduction, is_told_in_session}
+use Rattle.endpoint_model.specs.Effects.{replied, sent_spread_if}
 use Rattle.endpoint.specs.declared.judging.Verdict.{Verdict}
 use Rattle.endpoint.specs.declared.judging.Verdict.TheVariants.{Hello, ResponderHello, CookieChange}
 use Rattle.endpoint.specs.declared.judging.Verdict.TheVariants.{InitiatorKeying, ResponderKeying}
+use Rattle.endpoint.specs.declared.judging.Verdict.TheVariants.{Introduction, Redirect}
 use Rattle.endpoint.specs.declared.judging.Verdict.TheVariants.{Reply, Close, CloseAck}
 use Rattle.endpoint.specs.declared.judging.Verdict.TheVariants.{PingReply, Quiet}
 
@@ -43,10 +47,10 @@ known_cause place kind form last =
     ∷ where_true (not (takes place kind)) WrongPlace ∷ last ∷ [])
 
 -- the last cause of one that is no keying
-abbrev pub other_cause : State → Place → Placed → Option Cause
-other_cause s place c =
+abbrev pub other_cause : State → Place → AddressParts → Placed → Option Cause
+other_cause s place from c =
     first_that_stands (where_true (not (has_state_for s place c.kind)) WrongState
-    ∷ read_cause s place (chunk_reading c.kind c.payload) ∷ [])
+    ∷ read_cause s place from (chunk_reading c.kind c.payload) ∷ [])
 
 -- the chunks that a session takes at a stage, of those that sessions take
 abbrev pub stage_takes : Stage → ℕ → Bool
@@ -70,11 +74,11 @@ view_done s place from (PingReplyChunk bytes) =
     moved_by s (sid_at place) from bytes (get s.sessions (sid_at place))
 view_done s place from chunk = read_done s place from (Ok chunk)
 
--- it is an answer to a ping that moves nothing
-abbrev pub moves_nothing : State → Place → AddressParts → Chunk → Bool
-moves_nothing s place from (PingReplyChunk bytes) =
+-- it is an answer to a ping that moves nothing, or a redirect that adds no address
+abbrev pub does_nothing : State → Place → AddressParts → Chunk → Bool
+does_nothing s place from (PingReplyChunk bytes) =
     not (answers_by from bytes (get s.sessions (sid_at place)))
-moves_nothing s place from chunk = false
+does_nothing s place from chunk = adds_nothing s from (Ok chunk)
 
 -- what it does
 abbrev pub verdict_did : State → Place → AddressParts → Draws → Verdict → Did
@@ -83,6 +87,11 @@ verdict_did s place from draws (Hello tag to) =
 verdict_did s place from draws (ResponderHello tag cookie cert) =
     sent_if (with_startup s (after_rhello s.startup tag.now cookie.now from s.moment))
     (rhello_keying s.startup tag.now cookie.now from)
+verdict_did s place from draws (Introduction epd tag selected) =
+    replied s place from (introduction s (Some selected) epd.now tag.now from)
+verdict_did s place from draws (Redirect tag list count) =
+    sent_spread_if (with_startup s (after_redirect s.startup tag.now list.now from s.moment))
+    (redirect_spread s.startup tag.now list.now from)
 verdict_did s place from draws (CookieChange old new) =
     sent_if (with_startup s
     (after_cookie_change s.startup (sid_at place) old.now new.now s.moment))
@@ -105,6 +114,11 @@ abbrev pub IsSo : State → Place → AddressParts → Verdict → Type 0
 IsSo s place from (Hello tag to) = wide tag.now ≡ None
 IsSo s place from (ResponderHello tag cookie cert) =
     rhello_cause s.startup tag.now cookie.now cert.now ≡ None
+IsSo s place from (Introduction epd tag selected) = (wide tag.now ≡ None)
+    × (discriminator_of epd.now ≡ Some selected)
+IsSo s place from (Redirect tag list count) =
+    (redirect_cause s.startup tag.now list.now from ≡ None)
+    × (count ≡ adds s.startup tag.now list.now from)
 IsSo s place from (CookieChange old new) =
     cookie_change_cause s.startup (sid_at place) old.now new.now ≡ None
 IsSo s place from (InitiatorKeying fields hearing) =

@@ -42,6 +42,12 @@ impl Endpoint {
     {
         match verdict {
             Verdict::Hello { tag, to } => self.answer_hello(tag, to, out),
+            Verdict::Introduction { epd, tag, selected } => {
+                self.introduce_to(selected, epd, tag, from, out)
+            }
+            Verdict::Redirect { tag, list, count } => {
+                self.take_redirect(tag, list, *count, from, out)
+            }
             Verdict::ResponderHello { tag, cookie, cert } => {
                 self.take_hello(tag, cookie, cert, from, out)
             }

@@ -1,9 +1,11 @@
 //! One end.
 
+use crate::settings::Settings;
 use crypto_profile::{Context, Keys};
 use endpoint_model::Config;
 use glare_core::Held;
 use identity::Certificate;
+use introducer::Directory;
 use session_table::SessionTable;
 use startup::Startup;
 use std::alloc::Global;
@@ -12,11 +14,12 @@ use std::marker::Model;
 /// One end: what it keeps of its attempts and sessions.
 ///
 /// Contracts see its limits, the largest moment that it was given, how many startup packets it
-/// sealed, and what it keeps of attempts and of sessions, each by their session IDs.
+/// sealed, what it keeps of attempts and of sessions, each by their session IDs, whether it
+/// introduces, and its rows of addresses.
 #[derive(Drop)]
 pub struct Endpoint {
     pub(crate) alloc: Global,
-    pub(crate) config: Config,
+    pub(crate) settings: Settings,
     pub(crate) moment: u64,
     pub(crate) secret: [u8; 32],
     /// The fingerprint of the own certificate.
@@ -34,17 +37,18 @@ impl Model for Endpoint {
     ghost use Rattle.endpoint_model.specs.contracts.config.Config as config_type;
     ghost use Rattle.startup.specs.contracts.startup.Startup as startup_type;
     ghost use Rattle.endpoint_model.specs.contracts.row.Row as row_type;
+    ghost use Rattle.rtmfp_forms.specs.contracts.address.Address as address_type;
 
     ghost Value = { State };
 
     ghost coded = { state_code config_type.the_row.coded startup_type.the_row.coded
-        row_type.the_row.coded };
+        row_type.the_row.coded address_type.the_row.coded };
 
     ghost use Rattle.endpoint.specs.Stored.{state_of, IsEndpoint};
 
-    ghost view = { λ e. state_of e.config e.moment e.sealed e.startup e.sessions.rows };
+    ghost view = { λ e. state_of e.settings e.moment e.sealed e.startup e.sessions.rows };
 
-    ghost invariant = { λ e. IsEndpoint e.config e.secret e.print e.keys e.startup };
+    ghost invariant = { λ e. IsEndpoint e.settings e.secret e.print e.keys e.startup };
 }
 
 impl Endpoint {
@@ -81,7 +85,11 @@ impl Endpoint {
         let print = cert.print();
         Endpoint {
             alloc,
-            config,
+            settings: Settings {
+                config,
+                introduces: config.introduces,
+                directory: Directory::new(alloc),
+            },
             moment: 0,
             secret,
             print,

@@ -10,17 +10,17 @@ ghost use Rattle.rtmfp_chunks.specs.FieldReading.{chunk_reading};
 ghost use Rattle.rtmfp_packet.specs.Chunks.{shown};
 ghost use Rattle.startup.specs.Keyings.{keying_fault};
 ghost use Rattle.endpoint_model.specs.Admission.{sid_at};
-ghost use Rattle.endpoint_model.specs.Effects.{effect, initiator_keyed, responder_keyed};
+ghost use Rattle.endpoint_model.specs.Effects.{effect, initiator_keyed, is_idle, responder_keyed};
 ghost use Rattle.endpoint_model.specs.InSessions.{answers_by, moved_by};
 ghost use Rattle.endpoint_model.specs.Causes.{chunk_cause, initiator_keying_cause, is_known};
 ghost use Rattle.endpoint_model.specs.Causes.{read_cause, read_fault, responder_keying_cause};
 ghost use Rattle.endpoint_model.specs.Causes.{has_state_for, row_takes, takes, view_fault};
-ghost use Rattle.endpoint.specs.Judging.{known_cause, moves_nothing, other_cause, other_done};
+ghost use Rattle.endpoint.specs.Judging.{does_nothing, known_cause, other_cause, other_done};
 ghost use Rattle.endpoint.specs.Judging.{stage_takes, Stands, view_done};
 
 use crate::endpoint::Endpoint;
 use endpoint_model::{Place, Walk};
-use identity::Certificate;
+use identity::{Certificate, Epd};
 use rtmfp_chunks::kinds::*;
 use rtmfp_chunks::{ChunkFault, ChunkView, read_chunk};
 use rtmfp_forms::Address;
@@ -40,6 +40,19 @@ pub(crate) enum Verdict<'a> {
     Hello {
         tag: &'a [u8],
         to: Address,
+    },
+    /// The hello of an initiator with this discriminator and tag, which selects another end that is
+    /// introduced.
+    Introduction {
+        epd: &'a [u8],
+        tag: &'a [u8],
+        selected: Epd,
+    },
+    /// The redirect of an attempt, and how many hellos it sends.
+    Redirect {
+        tag: &'a [u8],
+        list: &'a [u8],
+        count: usize,
     },
     /// The hello of a responder, which answers an attempt.
     ResponderHello {
@@ -85,6 +98,7 @@ fn is_known(kind: u8) -> bool
     kind == IHELLO
         || kind == FIHELLO
         || kind == RHELLO
+        || kind == REDIRECT
         || kind == COOKIE_CHANGE
         || kind == IIKEYING
         || kind == RIKEYING
@@ -101,7 +115,11 @@ fn takes(place: Place, kind: u8) -> bool
 {
     match place {
         Place::Startup => {
-            kind == IHELLO || kind == RHELLO || kind == COOKIE_CHANGE || kind == IIKEYING
+            kind == IHELLO
+                || kind == RHELLO
+                || kind == REDIRECT
+                || kind == COOKIE_CHANGE
+                || kind == IIKEYING
         }
         Place::Attempt(_) => kind == COOKIE_CHANGE || kind == RIKEYING,
         Place::Session(_) => {
@@ -228,20 +246,16 @@ impl Endpoint {
     ) -> Result<Verdict<'a>, Cause>
         ensures ok { IfOk result (Stands self.now place from.now
             (λ _. view_done self.now place from.now (chunk_of view.entry))) }
-        ensures none { IfOk result (λ _. read_cause self.now place (Ok (chunk_of view.entry)) ≡
-            None) }
-        ensures refused { IfErr result (λ cause. read_cause self.now place (Ok (chunk_of
-            view.entry)) ≡ Some cause) }
-        ensures quiet { moves_nothing self.now place from.now (chunk_of view.entry) ≡ true →
+        ensures none { IfOk result (λ _. read_cause self.now place from.now
+            (Ok (chunk_of view.entry)) ≡ None) }
+        ensures refused { IfErr result (λ cause. read_cause self.now place from.now
+            (Ok (chunk_of view.entry)) ≡ Some cause) }
+        ensures quiet { does_nothing self.now place from.now (chunk_of view.entry) ≡ true →
             IfOk result (λ verdict. verdict ≡ Verdict.Quiet) }
     {
         match view {
-            ChunkView::IHello { epd, tag } => {
-                match self.startup.initiator_hello_cause(epd, tag) {
-                    Some(cause) => Err(cause),
-                    None => Ok(Verdict::Hello { tag, to: *from }),
-                }
-            }
+            ChunkView::IHello { epd, tag } => self.judge_hello(place, from, epd, tag),
+            ChunkView::Redirect { tag, list } => self.judge_redirect(place, from, tag, list),
             ChunkView::FIHello { epd, reply, tag } => {
                 match self.startup.initiator_hello_cause(epd, tag) {
                     Some(cause) => Err(cause),
@@ -347,13 +361,12 @@ impl Endpoint {
         ensures none { IfOk result (λ _. known_cause place chunk.now.kind
             (read_fault (length chunk.now.payload.now)
             (chunk_reading chunk.now.kind chunk.now.payload.now))
-            (other_cause self.now place (shown chunk.now)) ≡ None) }
+            (other_cause self.now place from.now (shown chunk.now)) ≡ None) }
         ensures refused { IfErr result (λ cause. known_cause place chunk.now.kind
             (read_fault (length chunk.now.payload.now)
             (chunk_reading chunk.now.kind chunk.now.payload.now))
-            (other_cause self.now place (shown chunk.now)) ≡ Some cause) }
-        ensures quiet { chunk.now.kind ≡ 0x41 → answers_by from.now chunk.now.payload.now
-            (get self.now.sessions (sid_at place)) ≡ false →
+            (other_cause self.now place from.now (shown chunk.now)) ≡ Some cause) }
+        ensures quiet { is_idle self.now place from.now (shown chunk.now) ≡ true →
             IfOk result (λ verdict. verdict ≡ Verdict.Quiet) }
     {
         let view = match read_formed(chunk.kind, chunk.payload) {
@@ -387,9 +400,8 @@ impl Endpoint {
             (shown chunk.now) ≡ None) }
         ensures refused { IfErr result (λ cause. chunk_cause self.now place walk from.now
             (shown chunk.now) ≡ Some cause) }
-        // An answer to a ping that moves nothing does nothing.
-        ensures quiet { chunk.now.kind ≡ 0x41 → answers_by from.now chunk.now.payload.now
-            (get self.now.sessions (sid_at place)) ≡ false →
+        // An answer to a ping that moves nothing does nothing, and so a redirect that adds nothing.
+        ensures quiet { is_idle self.now place from.now (shown chunk.now) ≡ true →
             IfOk result (λ verdict. verdict ≡ Verdict.Quiet) }
     {
         if !is_known(chunk.kind) {

@@ -18,8 +18,8 @@ impl Endpoint {
     pub(crate) fn full(&self) -> Option<u32>
         ensures { result ≡ full self.now }
     {
-        if self.uses() >= self.config.max_sessions as usize {
-            Some(self.config.max_sessions)
+        if self.uses() >= self.settings.config.max_sessions as usize {
+            Some(self.settings.config.max_sessions)
         } else {
             None
         }

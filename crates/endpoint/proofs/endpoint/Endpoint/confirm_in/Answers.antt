@@ -29,7 +29,7 @@ returns-in-Some c =
     let i = c.self.inside in
     let row : Row = c.in-Some.row.now in
     let peer = ap (λ (j : Joined). j.peer) c.joined.ensures in
-    confirmed_done (state_of i.config i.moment i.sealed i.startup i.sessions.rows) c.args.self.now c.args.near row (of_session confirmed row) c.confirm-fact.new.self c.confirm.new.self.rows c.confirm-fact.result c.args.out.now c.add_fact.new.out
+    confirmed_done (state_of i.settings i.moment i.sealed i.startup i.sessions.rows) c.args.self.now c.args.near row (of_session confirmed row) c.confirm-fact.new.self c.confirm.new.self.rows c.confirm-fact.result c.args.out.now c.add_fact.new.out
     c.self.view_is (sym c.in-Some.ensures) c.requires.half_open refl (c.confirm.ensures ∙ ap (with_changed (of_session confirmed) i.sessions.rows c.args.near) (sym c.in-Some.ensures))
     (c.confirm-fact.ensures.after ∙ ap (after_confirm i.startup) peer) (c.confirm-fact.ensures.fact ∙ ap (confirm_fact i.startup) peer) c.add_fact.ensures.entries c.add_fact.ensures.free c.add_fact.ensures.room
 

@@ -13,26 +13,26 @@ use Rattle.endpoint.proofs.endpoint.Endpoint.initiator_keyed.Goals as goal
 
 pub invariant_of-self-in-Ok-Change : goal.invariant_of-self-in-Ok-Change
 invariant_of-self-in-Ok-Change c =
-    kept_keying c.self.inside.config c.self.inside.secret c.self.inside.print c.self.inside.keys c.self.inside.startup c.apply_initiator_keying.new.self
+    kept_keying c.self.inside.settings c.self.inside.secret c.self.inside.print c.self.inside.keys c.self.inside.startup c.apply_initiator_keying.new.self
     c.args.fields.now.payload.now c.args.from.now c.self.inside.moment c.free_from-near.result c.args.draws.now.nonce c.self.invariant c.in-Ok-Change.ensures.ok.1
 
 pub invariant_of-self-in-Ok-Again : goal.invariant_of-self-in-Ok-Again
 invariant_of-self-in-Ok-Again c =
-    kept_keying c.self.inside.config c.self.inside.secret c.self.inside.print c.self.inside.keys c.self.inside.startup c.apply_initiator_keying.new.self
+    kept_keying c.self.inside.settings c.self.inside.secret c.self.inside.print c.self.inside.keys c.self.inside.startup c.apply_initiator_keying.new.self
     c.args.fields.now.payload.now c.args.from.now c.self.inside.moment c.free_from-near.result c.args.draws.now.nonce c.self.invariant c.in-Ok-Again.ensures.ok.1
 
 pub invariant_of-self-in-Ok-Birth : goal.invariant_of-self-in-Ok-Birth
 invariant_of-self-in-Ok-Birth c =
-    kept_keying c.self.inside.config c.self.inside.secret c.self.inside.print c.self.inside.keys c.self.inside.startup c.apply_initiator_keying.new.self
+    kept_keying c.self.inside.settings c.self.inside.secret c.self.inside.print c.self.inside.keys c.self.inside.startup c.apply_initiator_keying.new.self
     c.args.fields.now.payload.now c.args.from.now c.self.inside.moment c.free_from-near.result c.args.draws.now.nonce c.self.invariant c.in-Ok-Birth.ensures.ok.1
 
 pub returns-in-Ok-Birth-clause-ok : goal.returns-in-Ok-Birth-clause-ok
 returns-in-Ok-Birth-clause-ok c =
-    let v : State = state_of c.self.inside.config c.self.inside.moment c.self.inside.sealed c.self.inside.startup c.self.inside.sessions.rows in
-    let t : State = state_of c.self.inside.config c.self.inside.moment c.self.inside.sealed c.apply_initiator_keying.new.self c.reserve.new.self.rows in
+    let v : State = state_of c.self.inside.settings c.self.inside.moment c.self.inside.sealed c.self.inside.startup c.self.inside.sessions.rows in
+    let t : State = state_of c.self.inside.settings c.self.inside.moment c.self.inside.sealed c.apply_initiator_keying.new.self c.reserve.new.self.rows in
     let k : Keyed = Birth c.in-Ok-Birth.ended c.in-Ok-Birth.born c.in-Ok-Birth.answer in
-    let kept : IsEndpoint c.self.inside.config c.self.inside.secret c.self.inside.print c.self.inside.keys c.apply_initiator_keying.new.self =
-    kept_keying c.self.inside.config c.self.inside.secret c.self.inside.print c.self.inside.keys c.self.inside.startup c.apply_initiator_keying.new.self
+    let kept : IsEndpoint c.self.inside.settings c.self.inside.secret c.self.inside.print c.self.inside.keys c.apply_initiator_keying.new.self =
+    kept_keying c.self.inside.settings c.self.inside.secret c.self.inside.print c.self.inside.keys c.self.inside.startup c.apply_initiator_keying.new.self
     c.args.fields.now.payload.now c.args.from.now c.self.inside.moment c.free_from-near.result c.args.draws.now.nonce c.self.invariant c.in-Ok-Birth.ensures.ok.1 in
     let is : keyed c.self.inside.startup c.args.fields.now.payload.now c.args.from.now c.self.inside.moment c.free_from-near.result c.args.draws.now.nonce ≡ Some k =
     c.in-Ok-Birth.ensures.ok.0 ∙ ap (λ (x : Keyed). Some x) c.in-Ok-Birth.field-0-is in
@@ -42,10 +42,10 @@ returns-in-Ok-Birth-clause-ok c =
     (c.add_fact.ensures.entries ∙ ap (λ xs. xs ++ fact_entries c.in-Ok-Birth.ended) c.make_room.ensures.entries)
     (omega (arith, c.add_fact.ensures.free, c.make_room.ensures.free)) (c.add_fact.ensures.room ∙ c.make_room.ensures.room)
     c.add.ensures.entries c.add.ensures.free c.add.ensures.room in
-    let put = startup_put c.self.inside.config c.self.inside.moment c.self.inside.sealed c.self.inside.startup c.apply_initiator_keying.new.self
+    let put = startup_put c.self.inside.settings c.self.inside.moment c.self.inside.sealed c.self.inside.startup c.apply_initiator_keying.new.self
     (after_keying c.self.inside.startup c.args.fields.now.payload.now c.args.from.now c.self.inside.moment c.free_from-near.result c.args.draws.now.nonce)
     c.self.inside.sessions.rows c.reserve.new.self.rows c.reserve.ensures.rows c.in-Ok-Birth.ensures.ok.1 in
-    let bore = born_state c.self.inside.config c.self.inside.moment c.self.inside.sealed c.apply_initiator_keying.new.self c.reserve.new.self.rows c.keep_born.new.sessions.rows
+    let bore = born_state c.self.inside.settings c.self.inside.moment c.self.inside.sealed c.apply_initiator_keying.new.self c.reserve.new.self.rows c.keep_born.new.sessions.rows
     c.in-Ok-Birth.ended c.in-Ok-Birth.born c.args.from.now c.self.inside.print c.self.inside.secret kept.print_is kept.secret_is c.keep_born.ensures in
     let sent : Done (sent_answer (with_born t c.in-Ok-Birth.ended c.in-Ok-Birth.born c.args.from.now) c.in-Ok-Birth.answer) c.send_answer-in-Ok-Birth.new.self c.add.new.self c.send_answer-in-Ok-Birth.new.out =
     subst (λ (u : State). Done (sent_answer u c.in-Ok-Birth.answer) c.send_answer-in-Ok-Birth.new.self c.add.new.self c.send_answer-in-Ok-Birth.new.out) bore c.send_answer-in-Ok-Birth.ensures in

@@ -12,5 +12,5 @@ returns-clause-ok c =
     (done_as_read c.args.self.now c.args.place c.args.from.now (shown c.args.chunk.now) (chunk_of c.in-Ok.view) c.in-Ok.ensures.reads c.in-Ok.ensures.kind) c.judge_view.ensures.ok
 
 pub returns-clause-quiet : goal.returns-clause-quiet
-returns-clause-quiet c is quiet =
-    c.judge_view.ensures.quiet (quiet_as_read c.args.self.now c.args.place c.args.from.now (shown c.args.chunk.now) (chunk_of c.in-Ok.view) c.in-Ok.ensures.reads c.in-Ok.ensures.kind is quiet)
+returns-clause-quiet c quiet =
+    c.judge_view.ensures.quiet (quiet_as_read c.args.self.now c.args.place c.args.from.now (shown c.args.chunk.now) (chunk_of c.in-Ok.view) c.in-Ok.ensures.reads c.in-Ok.ensures.kind quiet)

@@ -4,7 +4,3 @@ use Rattle.endpoint.proofs.endpoint.Endpoint.judge_view.Goals as goal
 -- so that a wrong body is refused fast
 pub returns-in-CloseAck-clause-ok : goal.returns-in-CloseAck-clause-ok
 returns-in-CloseAck-clause-ok c = search rules
-
--- so that a wrong body is refused fast
-pub returns-in-None-initiator_hello_cause-clause-ok : goal.returns-in-None-initiator_hello_cause-clause-ok
-returns-in-None-initiator_hello_cause-clause-ok c = search rules

@@ -12,20 +12,20 @@ use Rattle.endpoint.proofs.endpoint.Endpoint.responder_keyed.Goals as goal
 
 pub returns-clause-ok : goal.returns-clause-ok
 returns-clause-ok c =
-    let v : State = state_of c.self.inside.config c.self.inside.moment c.self.inside.sealed c.self.inside.startup c.self.inside.sessions.rows in
+    let v : State = state_of c.self.inside.settings c.self.inside.moment c.self.inside.sealed c.self.inside.startup c.self.inside.sessions.rows in
     let h : (opened c.self.inside.startup c.args.near c.args.fields.now.payload.now ≡ Some c.apply_responder_keying-fact.result) ×
     (c.apply_responder_keying-fact.new.self ≡ after_opening c.self.inside.startup c.args.near c.apply_responder_keying-fact.result) =
     (c.apply_responder_keying-fact.ensures.fact, c.apply_responder_keying-fact.ensures.after) in
-    let t : State = state_of c.self.inside.config c.self.inside.moment c.self.inside.sealed c.apply_responder_keying-fact.new.self c.keep_opened.new.sessions.rows in
-    let u : State = state_of c.self.inside.config c.self.inside.moment c.self.inside.sealed c.apply_responder_keying-fact.new.self c.reserve.new.self.rows in
-    let kept : IsEndpoint c.self.inside.config c.self.inside.secret c.self.inside.print c.self.inside.keys c.apply_responder_keying-fact.new.self =
-    kept_opening c.self.inside.config c.self.inside.secret c.self.inside.print c.self.inside.keys c.self.inside.startup c.apply_responder_keying-fact.new.self
+    let t : State = state_of c.self.inside.settings c.self.inside.moment c.self.inside.sealed c.apply_responder_keying-fact.new.self c.keep_opened.new.sessions.rows in
+    let u : State = state_of c.self.inside.settings c.self.inside.moment c.self.inside.sealed c.apply_responder_keying-fact.new.self c.reserve.new.self.rows in
+    let kept : IsEndpoint c.self.inside.settings c.self.inside.secret c.self.inside.print c.self.inside.keys c.apply_responder_keying-fact.new.self =
+    kept_opening c.self.inside.settings c.self.inside.secret c.self.inside.print c.self.inside.keys c.self.inside.startup c.apply_responder_keying-fact.new.self
     c.args.near c.apply_responder_keying-fact.result c.self.invariant h.1 in
     let put : u ≡ with_startup v (after_opening c.self.inside.startup c.args.near c.apply_responder_keying-fact.result) =
-    startup_put c.self.inside.config c.self.inside.moment c.self.inside.sealed c.self.inside.startup c.apply_responder_keying-fact.new.self
+    startup_put c.self.inside.settings c.self.inside.moment c.self.inside.sealed c.self.inside.startup c.apply_responder_keying-fact.new.self
     (after_opening c.self.inside.startup c.args.near c.apply_responder_keying-fact.result) c.self.inside.sessions.rows c.reserve.new.self.rows c.reserve.ensures.rows h.1 in
     let opens : t ≡ with_opened u c.apply_responder_keying-fact.result c.args.from.now =
-    opened_state c.self.inside.config c.self.inside.moment c.self.inside.sealed c.apply_responder_keying-fact.new.self c.reserve.new.self.rows c.keep_opened.new.sessions.rows
+    opened_state c.self.inside.settings c.self.inside.moment c.self.inside.sealed c.apply_responder_keying-fact.new.self c.reserve.new.self.rows c.keep_opened.new.sessions.rows
     c.apply_responder_keying-fact.result c.args.from.now c.self.inside.print c.self.inside.secret kept.print_is kept.secret_is c.keep_opened.ensures in
     let added : IsAdded c.args.out.now c.add.new.self (FactEntry c.apply_responder_keying-fact.result ∷ []) =
     record { entries_are = c.add.ensures.entries ∙ ap (λ xs. xs ++ FactEntry c.apply_responder_keying-fact.result ∷ []) c.make_room.ensures.entries; free = omega (arith, c.add.ensures.free, c.make_room.ensures.free); room = c.add.ensures.room ∙ c.make_room.ensures.room } in

@@ -26,7 +26,7 @@ pub returns-in-Some-clause-done : goal.returns-in-Some-clause-done
 returns-in-Some-clause-done c =
     let i = c.self.inside in
     let peer = ap (λ (j : Joined). j.peer) c.joined.ensures in
-    told_done (state_of i.config i.moment i.sealed i.startup i.sessions.rows) c.args.self.now c.args.near c.args.why c.in-Some.row.now c.end-fact.new.self c.end-fact.result c.args.out.now c.add_fact.new.out
+    told_done (state_of i.settings i.moment i.sealed i.startup i.sessions.rows) c.args.self.now c.args.near c.args.why c.in-Some.row.now c.end-fact.new.self c.end-fact.result c.args.out.now c.add_fact.new.out
     c.self.view_is (sym c.in-Some.ensures) (c.end-fact.ensures.after ∙ ap (λ p. after_end i.startup p c.args.why) peer) (c.end-fact.ensures.fact ∙ ap (λ p. end_fact i.startup p c.args.why) peer)
     c.add_fact.ensures.entries c.add_fact.ensures.free c.add_fact.ensures.room
 
