@@ -23,7 +23,7 @@ use Rattle.endpoint_laws.specs.History.{Happened, History, log_of, past_at, IsHo
 use Rattle.endpoint_laws.proofs.Opened.{opens_in_found}
 use Rattle.rendezvous_world.specs.declared.journal.JournalLine.{JournalLine}
 use Rattle.rendezvous_world.specs.declared.step.Step.{Step}
-use Rattle.rendezvous_world.specs.declared.step.Step.TheVariants.{End, At, Open, Cancel, Close, Deliver, Bent, Inject, Forge, Tick}
+use Rattle.rendezvous_world.specs.declared.step.Step.TheVariants.{End, At, Introduce, Redirect, Open, Cancel, Close, Deliver, Bent, Inject, Forge, Tick}
 use Rattle.rendezvous_world.specs.declared.step.StepFault.{StepFault}
 use Rattle.rendezvous_world.specs.declared.step.StepFault.TheVariants.{NoEnd, NoDatagram, BadStep, Forged}
 use Rattle.rendezvous_world.specs.Seen.{EndSeen, Seen, setup_at}
@@ -87,6 +87,8 @@ has_peer w (At moment) e = tt
 has_peer w (Open end peer list) e = not_missing w peer (or_false (is_missing w end) (is_missing w peer) e).1
 has_peer w (Cancel end n) e = tt
 has_peer w (Close end near) e = tt
+has_peer w (Introduce end) e = tt
+has_peer w (Redirect end peer list) e = not_missing w peer (or_false (is_missing w end) (is_missing w peer) e).1
 has_peer w (Deliver number end from) e = tt
 has_peer w (Bent number place end from) e = tt
 has_peer w (Inject end from bytes) e = tt
@@ -112,6 +114,8 @@ is_call ends number datagram (At moment) small bytes = tt
 is_call ends number datagram (Open end peer list) small bytes = (length-sha256 (setup_at ends peer).cert, length-two 0 number, small, length-two 2 number)
 is_call ends number datagram (Cancel end n) small bytes = tt
 is_call ends number datagram (Close end near) small bytes = tt
+is_call ends number datagram (Introduce end) small bytes = tt
+is_call ends number datagram (Redirect end peer list) small bytes = tt
 is_call ends number datagram (Deliver sent end from) small bytes = (bytes, length-two 0 number, small, length-two 1 number)
 is_call ends number datagram (Bent sent place end from) small bytes = (bytes, length-two 0 number, small, length-two 1 number)
 is_call ends number datagram (Inject end from b) small bytes = (bytes, length-two 0 number, small, length-two 1 number)
@@ -125,6 +129,8 @@ given_from ends number datagram last moment (At at) le = le
 given_from ends number datagram last moment (Open end peer list) le = le
 given_from ends number datagram last moment (Cancel end n) le = tt
 given_from ends number datagram last moment (Close end near) le = le
+given_from ends number datagram last moment (Introduce end) le = tt
+given_from ends number datagram last moment (Redirect end peer list) le = tt
 given_from ends number datagram last moment (Deliver sent end from) le = le
 given_from ends number datagram last moment (Bent sent place end from) le = le
 given_from ends number datagram last moment (Inject end from b) le = le
@@ -138,6 +144,8 @@ draws_line ends number datagram (At moment) entries h = inl h
 draws_line ends number datagram (Open end peer list) entries h = h
 draws_line ends number datagram (Cancel end n) entries h = inl h
 draws_line ends number datagram (Close end near) entries h = inl h
+draws_line ends number datagram (Introduce end) entries h = inl h
+draws_line ends number datagram (Redirect end peer list) entries h = inl h
 draws_line ends number datagram (Deliver sent end from) entries h = h
 draws_line ends number datagram (Bent sent place end from) entries h = h
 draws_line ends number datagram (Inject end from b) entries h = h
@@ -175,6 +183,8 @@ module _ (w : Seen) (is : IsWorld w) where
   honest_step number end (Open who peer list) there unforged = tt
   honest_step number end (Cancel who n) there unforged = tt
   honest_step number end (Close who near) there unforged = tt
+  honest_step number end (Introduce who) there unforged = tt
+  honest_step number end (Redirect who peer list) there unforged = tt
   honest_step number end (Deliver sent who from) there unforged = honest_datagram who end (datagram_of (sent_in w.lines) (Deliver sent who from)) from (draws_of number) there unforged
   honest_step number end (Bent sent place who from) there unforged = honest_datagram who end (datagram_of (sent_in w.lines) (Bent sent place who from)) from (draws_of number) there unforged
   honest_step number end (Inject who from bytes) there unforged = honest_datagram who end (Some bytes) from (draws_of number) there unforged

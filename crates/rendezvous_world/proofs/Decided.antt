@@ -11,17 +11,20 @@ use Rattle.endpoint_model.specs.declared.answers.OpenRefusal.TheVariants.{Memory
 use Rattle.endpoint_model.specs.declared.answers.CallRefusal.{CallRefusal}
 use Rattle.endpoint_model.specs.declared.answers.CallRefusal.TheVariants.{NoAttempt, NoSession, Memory as NoMemoryToCall}
 use Rattle.endpoint_model.specs.declared.answers.Stopped.{Stopped as Stop}
-use Rattle.endpoint_model.specs.Event.{Call, Open as OpenCall, Cancel as CancelCall, Close as CloseCall, Receive, Tick as TickCall, Answer, Began, Done, NotOpened, Refused as RefusedCall, Stopped, OutOfMemory, Event}
+use Rattle.endpoint_model.specs.Event.{Call, Open as OpenCall, Cancel as CancelCall, Close as CloseCall, AddRow, Introduce as IntroduceCall, Receive, Tick as TickCall, Answer, Began, Done, NotOpened, Refused as RefusedCall, NotAdded, Stopped, OutOfMemory, Event}
 use Rattle.endpoint_model.specs.State.{State, Did, Does, after_entries, at_moment, nothing, then_do}
 use Rattle.endpoint_model.specs.Admission.{admission}
 use Rattle.endpoint_model.specs.InSessions.{held_row, closing}
 use Rattle.endpoint_model.specs.Effects.{cancelling, opening, received, tick_once, ticks, first_due, item_done}
-use Rattle.endpoint_model.specs.Log.{Answers, Step as StepOf, not_opened}
+use Rattle.endpoint_model.specs.Introducing.{with_redirect, introducing}
+use Rattle.introducer.specs.declared.refusal.RowRefusal.{RowRefusal}
+use Rattle.introducer.specs.declared.refusal.RowRefusal.TheVariants.{Memory as NoMemoryForRow}
+use Rattle.endpoint_model.specs.Log.{Answers, Step as StepOf, not_opened, not_added}
 use Rattle.rendezvous_world.specs.declared.journal.JournalLine.{JournalLine}
 use Rattle.rendezvous_world.specs.declared.journal.Refused.{Refused}
-use Rattle.rendezvous_world.specs.declared.journal.Refused.TheVariants.{Open as OpenRefused, Call as CallRefused}
+use Rattle.rendezvous_world.specs.declared.journal.Refused.TheVariants.{Open as OpenRefused, Call as CallRefused, Row as RowRefused}
 use Rattle.rendezvous_world.specs.declared.step.Step.{Step}
-use Rattle.rendezvous_world.specs.declared.step.Step.TheVariants.{End, At, Open, Cancel, Close, Deliver, Bent, Inject, Forge, Tick}
+use Rattle.rendezvous_world.specs.declared.step.Step.TheVariants.{End, At, Introduce, Redirect, Open, Cancel, Close, Deliver, Bent, Inject, Forge, Tick}
 use Rattle.rendezvous_world.specs.Seen.{EndSeen, Seen}
 use Rattle.rendezvous_world.specs.Same.{AreSameWorlds, without_room}
 use Rattle.rendezvous_world.specs.Sent.{Sent, sent_among, sent_in}
@@ -53,6 +56,7 @@ IsWhole (Began n) = Unit {0}
 IsWhole Done = Unit {0}
 IsWhole (NotOpened refusal) = refusal ≢ NoMemoryToOpen
 IsWhole (RefusedCall refusal) = refusal ≢ NoMemoryToCall
+IsWhole (NotAdded refusal) = refusal ≢ NoMemoryForRow
 IsWhole (Stopped stop) = ⊥
 IsWhole OutOfMemory = ⊥
 
@@ -111,6 +115,23 @@ one_close s near (RefusedCall refusal) (RefusedCall other) xs ys t r p q h k =
 one_close s near (RefusedCall refusal) other xs ys t r p q h k = absurd k
 one_close s near answer other xs ys t r p q h k = absurd h
 
+-- a row that isn't refused for want of memory
+one_row : (s : State) (print : List ℕ) (addresses : List AddressParts) (a b : Answer) (xs ys : List Entry) (t r : State) → IsWhole a → IsWhole b →
+    Answers s (AddRow print addresses) a xs t → Answers s (AddRow print addresses) b ys r → SameAnswer a b xs ys t r
+one_row s print addresses Done Done xs ys t r p q h k = same_did Done Done (nothing (with_redirect s print addresses)) (nothing (with_redirect s print addresses)) xs ys t r refl refl h.1 k.1
+one_row s print addresses Done (NotAdded refusal) xs ys t r p q h k = absurd (q (k.0 ∙ ap not_added h.0))
+one_row s print addresses Done other xs ys t r p q h k = absurd k
+one_row s print addresses (NotAdded refusal) Done xs ys t r p q h k = absurd (p (h.0 ∙ ap not_added k.0))
+one_row s print addresses (NotAdded refusal) (NotAdded other) xs ys t r p q h k =
+    same_did (NotAdded refusal) (NotAdded other) (nothing s) (nothing s) xs ys t r (ap NotAdded (h.0 ∙ sym k.0)) refl h.1 k.1
+one_row s print addresses (NotAdded refusal) other xs ys t r p q h k = absurd k
+one_row s print addresses answer other xs ys t r p q h k = absurd h
+
+one_introduce : (s : State) (a b : Answer) (xs ys : List Entry) (t r : State) → IsWhole a → IsWhole b → Answers s IntroduceCall a xs t → Answers s IntroduceCall b ys r → SameAnswer a b xs ys t r
+one_introduce s Done Done xs ys t r p q h k = same_did Done Done (nothing (introducing s)) (nothing (introducing s)) xs ys t r refl refl h k
+one_introduce s Done other xs ys t r p q h k = absurd k
+one_introduce s answer other xs ys t r p q h k = absurd h
+
 one_receive : (s : State) (from : AddressParts) (datagram : List ℕ) (draws : Draws) (a b : Answer) (xs ys : List Entry) (t r : State) → IsWhole a → IsWhole b →
     Answers s (Receive from datagram draws) a xs t → Answers s (Receive from datagram draws) b ys r → SameAnswer a b xs ys t r
 one_receive s from datagram draws Done Done xs ys t r p q h k =
@@ -134,6 +155,8 @@ one_call : (s : State) (call : Call) (a b : Answer) (xs ys : List Entry) (t r : 
 one_call s (OpenCall peer candidates draws) a b xs ys t r p q h k = one_open s peer candidates draws a b xs ys t r p q h k
 one_call s (CancelCall n) a b xs ys t r p q h k = one_cancel s n a b xs ys t r p q h k
 one_call s (CloseCall near) a b xs ys t r p q h k = one_close s near a b xs ys t r p q h k
+one_call s (AddRow print addresses) a b xs ys t r p q h k = one_row s print addresses a b xs ys t r p q h k
+one_call s IntroduceCall a b xs ys t r p q h k = one_introduce s a b xs ys t r p q h k
 one_call s (Receive from datagram draws) a b xs ys t r p q h k = one_receive s from datagram draws a b xs ys t r p q h k
 one_call s (TickCall draws) a b xs ys t r p q h k = one_tick s draws a b xs ys t r p q h k
 
@@ -145,12 +168,20 @@ whole (At moment) refused stopped entries h none = absurd h
 whole (Open end peer list) None stopped entries h none = tt
 whole (Open end peer list) (Some (OpenRefused refusal)) stopped entries h none = λ e. h.1.opened (ap (λ (x : OpenRefusal). Some (OpenRefused x)) e)
 whole (Open end peer list) (Some (CallRefused refusal)) stopped entries h none = λ e. h.1.called (ap (λ (x : CallRefusal). Some (CallRefused x)) e)
+whole (Open end peer list) (Some (RowRefused refusal)) stopped entries h none = λ e. h.1.added (ap (λ (x : RowRefusal). Some (RowRefused x)) e)
 whole (Cancel end n) None stopped entries h none = tt
 whole (Cancel end n) (Some (OpenRefused refusal)) stopped entries h none = λ e. h.1.opened (ap (λ (x : OpenRefusal). Some (OpenRefused x)) e)
 whole (Cancel end n) (Some (CallRefused refusal)) stopped entries h none = λ e. h.1.called (ap (λ (x : CallRefusal). Some (CallRefused x)) e)
+whole (Cancel end n) (Some (RowRefused refusal)) stopped entries h none = λ e. h.1.added (ap (λ (x : RowRefusal). Some (RowRefused x)) e)
 whole (Close end near) None stopped entries h none = tt
 whole (Close end near) (Some (OpenRefused refusal)) stopped entries h none = λ e. h.1.opened (ap (λ (x : OpenRefusal). Some (OpenRefused x)) e)
 whole (Close end near) (Some (CallRefused refusal)) stopped entries h none = λ e. h.1.called (ap (λ (x : CallRefusal). Some (CallRefused x)) e)
+whole (Close end near) (Some (RowRefused refusal)) stopped entries h none = λ e. h.1.added (ap (λ (x : RowRefusal). Some (RowRefused x)) e)
+whole (Introduce end) refused stopped entries h none = tt
+whole (Redirect end peer list) None stopped entries h none = tt
+whole (Redirect end peer list) (Some (OpenRefused refusal)) stopped entries h none = λ e. h.1.opened (ap (λ (x : OpenRefusal). Some (OpenRefused x)) e)
+whole (Redirect end peer list) (Some (CallRefused refusal)) stopped entries h none = λ e. h.1.called (ap (λ (x : CallRefusal). Some (CallRefused x)) e)
+whole (Redirect end peer list) (Some (RowRefused refusal)) stopped entries h none = λ e. h.1.added (ap (λ (x : RowRefusal). Some (RowRefused x)) e)
 whole (Deliver number end from) refused None entries h none = tt
 whole (Deliver number end from) refused (Some stop) entries h none = absurd (cc)
 whole (Bent number place end from) refused None entries h none = tt
@@ -167,6 +198,13 @@ same_refusal : (a b : Option Refused) → answer_to_call a ≡ answer_to_call b 
 same_refusal None None e = refl
 same_refusal None (Some (OpenRefused r)) e = absurd (cc)
 same_refusal None (Some (CallRefused r)) e = absurd (cc)
+same_refusal None (Some (RowRefused r)) e = absurd (cc)
+same_refusal (Some (RowRefused r)) None e = absurd (cc)
+same_refusal (Some (RowRefused r)) (Some (OpenRefused s)) e = absurd (cc)
+same_refusal (Some (RowRefused r)) (Some (CallRefused s)) e = absurd (cc)
+same_refusal (Some (OpenRefused r)) (Some (RowRefused s)) e = absurd (cc)
+same_refusal (Some (CallRefused r)) (Some (RowRefused s)) e = absurd (cc)
+same_refusal (Some (RowRefused r)) (Some (RowRefused s)) e = let same : r ≡ s = cc in ap (λ (x : RowRefusal). Some (RowRefused x)) same
 same_refusal (Some (OpenRefused r)) None e = absurd (cc)
 same_refusal (Some (CallRefused r)) None e = absurd (cc)
 same_refusal (Some (OpenRefused r)) (Some (OpenRefused s)) e = let same : r ≡ s = cc in ap (λ (x : OpenRefusal). Some (OpenRefused x)) same
@@ -180,6 +218,13 @@ one_refusal (At moment) a b p q xs ys h k e = absurd h
 one_refusal (Open end peer list) None None p q xs ys h k e = refl
 one_refusal (Open end peer list) None (Some (OpenRefused r)) p q xs ys h k e = absurd (cc)
 one_refusal (Open end peer list) None (Some (CallRefused r)) p q xs ys h k e = absurd (cc)
+one_refusal (Open end peer list) None (Some (RowRefused r)) p q xs ys h k e = absurd (cc)
+one_refusal (Open end peer list) (Some (RowRefused r)) None p q xs ys h k e = absurd (cc)
+one_refusal (Open end peer list) (Some (RowRefused r)) (Some (OpenRefused s)) p q xs ys h k e = absurd (cc)
+one_refusal (Open end peer list) (Some (RowRefused r)) (Some (CallRefused s)) p q xs ys h k e = absurd (cc)
+one_refusal (Open end peer list) (Some (OpenRefused r)) (Some (RowRefused s)) p q xs ys h k e = absurd (cc)
+one_refusal (Open end peer list) (Some (CallRefused r)) (Some (RowRefused s)) p q xs ys h k e = absurd (cc)
+one_refusal (Open end peer list) (Some (RowRefused r)) (Some (RowRefused s)) p q xs ys h k e = let same : r ≡ s = cc in ap (λ (x : RowRefusal). Some (RowRefused x)) same
 one_refusal (Open end peer list) (Some (OpenRefused r)) None p q xs ys h k e = absurd (cc)
 one_refusal (Open end peer list) (Some (CallRefused r)) None p q xs ys h k e = absurd (cc)
 one_refusal (Open end peer list) (Some (OpenRefused r)) (Some (OpenRefused s)) p q xs ys h k e = let same : r ≡ s = cc in ap (λ (x : OpenRefusal). Some (OpenRefused x)) same
@@ -188,6 +233,8 @@ one_refusal (Open end peer list) (Some (CallRefused r)) (Some (OpenRefused s)) p
 one_refusal (Open end peer list) (Some (CallRefused r)) (Some (CallRefused s)) p q xs ys h k e = let same : r ≡ s = cc in ap (λ (x : CallRefusal). Some (CallRefused x)) same
 one_refusal (Cancel end n) a b p q xs ys h k e = same_refusal a b e
 one_refusal (Close end near) a b p q xs ys h k e = same_refusal a b e
+one_refusal (Introduce end) a b p q xs ys h k e = h.0 ∙ sym k.0
+one_refusal (Redirect end peer list) a b p q xs ys h k e = same_refusal a b e
 one_refusal (Deliver number end from) a b p q xs ys h k e = h ∙ sym k
 one_refusal (Bent number place end from) a b p q xs ys h k e = h ∙ sym k
 one_refusal (Inject end from bytes) a b p q xs ys h k e = h ∙ sym k
@@ -326,6 +373,8 @@ same_step w v n (At moment) t s before h k = same_by (with_moment w moment) (wit
 same_step w v n (Open end peer list) t s before h k = same_called w v n (Open end peer list) t s before h k
 same_step w v n (Cancel end number) t s before h k = same_called w v n (Cancel end number) t s before h k
 same_step w v n (Close end near) t s before h k = same_called w v n (Close end near) t s before h k
+same_step w v n (Introduce end) t s before h k = same_called w v n (Introduce end) t s before h k
+same_step w v n (Redirect end peer list) t s before h k = same_called w v n (Redirect end peer list) t s before h k
 same_step w v n (Deliver sent end from) t s before h k = same_called w v n (Deliver sent end from) t s before h k
 same_step w v n (Bent sent place end from) t s before h k = same_called w v n (Bent sent place end from) t s before h k
 same_step w v n (Inject end from bytes) t s before h k = same_called w v n (Inject end from bytes) t s before h k

@@ -15,7 +15,7 @@ use Rattle.rendezvous_world.specs.declared.journal.JournalLine.{JournalLine}
 use Rattle.rendezvous_world.specs.declared.journal.Refused.{Refused}
 use Rattle.rendezvous_world.specs.declared.step.StepFault.TheVariants.{Memory}
 use Rattle.rendezvous_world.specs.declared.step.Step.{Step}
-use Rattle.rendezvous_world.specs.declared.step.Step.TheVariants.{End, At, Open, Cancel, Close, Deliver, Bent, Inject, Forge, Tick}
+use Rattle.rendezvous_world.specs.declared.step.Step.TheVariants.{End, At, Introduce, Redirect, Open, Cancel, Close, Deliver, Bent, Inject, Forge, Tick}
 use Rattle.rendezvous_world.specs.Seen.{EndSeen, Seen, print_at}
 use Rattle.rendezvous_world.specs.Line.{IsOne}
 use Rattle.rendezvous_world.specs.Sent.{Sent, sent_among, sent_in}
@@ -79,6 +79,8 @@ call_same ends print line bytes datagram (At moment) p b = refl
 call_same ends print line bytes datagram (Open end peer list) p b = ap (λ (x : List ℕ). call_by x line bytes (Open end peer list)) p
 call_same ends print line bytes datagram (Cancel end n) p b = refl
 call_same ends print line bytes datagram (Close end near) p b = refl
+call_same ends print line bytes datagram (Introduce end) p b = refl
+call_same ends print line bytes datagram (Redirect end peer list) p b = ap (λ (x : List ℕ). call_by x line bytes (Redirect end peer list)) p
 call_same ends print line bytes datagram (Deliver number end from) p b = ap (λ (x : List ℕ). call_by print line x (Deliver number end from)) b
 call_same ends print line bytes datagram (Bent number place end from) p b = ap (λ (x : List ℕ). call_by print line x (Bent number place end from)) b
 call_same ends print line bytes datagram (Inject end from plain) p b = ap (λ (x : List ℕ). call_by print line x (Inject end from plain)) b
@@ -93,6 +95,8 @@ undone_is ends print moment (At at) old new p h = absurd h
 undone_is ends print moment (Open end peer list) old new p h = inr (subst (λ (x : List ℕ). open_refusal old x list ≡ None) p h.0, h.1)
 undone_is ends print moment (Cancel end n) old new p h = inl h
 undone_is ends print moment (Close end near) old new p h = inr h
+undone_is ends print moment (Introduce end) old new p h = absurd h
+undone_is ends print moment (Redirect end peer list) old new p h = inl h
 undone_is ends print moment (Deliver number end from) old new p h = absurd h
 undone_is ends print moment (Bent number place end from) old new p h = absurd h
 undone_is ends print moment (Inject end from bytes) old new p h = absurd h
@@ -114,6 +118,8 @@ answered_one (At moment) refused stopped h = absurd h
 answered_one (Open end peer list) refused stopped h = only_refused refused stopped h.0
 answered_one (Cancel end n) refused stopped h = only_refused refused stopped h.0
 answered_one (Close end near) refused stopped h = only_refused refused stopped h.0
+answered_one (Introduce end) refused stopped h = only_refused refused stopped h.1
+answered_one (Redirect end peer list) refused stopped h = only_refused refused stopped h.0
 answered_one (Deliver number end from) refused stopped h = only_stopped refused stopped h
 answered_one (Bent number place end from) refused stopped h = only_stopped refused stopped h
 answered_one (Inject end from bytes) refused stopped h = only_stopped refused stopped h

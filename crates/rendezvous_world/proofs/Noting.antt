@@ -5,8 +5,10 @@ use Rattle.glare_core.specs.Steps.{Among}
 use Rattle.glare_core.specs.Told.{AllDifferent}
 use Rattle.startup.specs.Attempts.{after_cancel}
 use Rattle.endpoint_model.specs.declared.entry.Entry.{Entry}
-use Rattle.endpoint_model.specs.Event.{Setup, own_of, Call, Open, Cancel, Close, Receive, Tick, Answer, Began, Done, NotOpened, Refused, Stopped, OutOfMemory, Event}
+use Rattle.endpoint_model.specs.Event.{Setup, own_of, Call, Open, Cancel, Close, AddRow, Introduce, Receive, Tick, Answer, Began, Done, NotOpened, Refused, NotAdded, Stopped, OutOfMemory, Event}
 use Rattle.endpoint_model.specs.State.{State, at_moment, with_startup}
+use Rattle.endpoint_model.specs.Introducing.{with_redirect, introducing}
+use Rattle.rtmfp_forms.specs.Address.{AddressParts}
 use Rattle.endpoint_laws.specs.OpensIn.{opens_in}
 use Rattle.endpoint_model.specs.Log.{StandsFor, Answers, Step as StepOf}
 use Rattle.endpoint_laws.specs.Laws.{AreCalls}
@@ -23,7 +25,7 @@ use Rattle.rendezvous_world.proofs.Told.{SameSetups, same_lines, honest_same}
 -- ---- states
 
 in_moment : State → ℕ → State
-in_moment s moment = record { config = s.config; moment = moment; sealed = s.sealed; startup = s.startup; sessions = s.sessions }
+in_moment s moment = record s { moment = moment }
 
 -- a moment that isn't after the next one is forgotten with it
 pub noted_before : (s : State) (noted moment : ℕ) → noted ≤ moment → at_moment (at_moment s noted) moment ≡ at_moment s moment
@@ -67,6 +69,8 @@ abbrev pub IsGivenFrom : ℕ → ℕ → Call → Type 0
 IsGivenFrom last moment (Open peer candidates draws) = last ≤ moment
 IsGivenFrom last moment (Cancel n) = Unit {0}
 IsGivenFrom last moment (Close near) = last ≤ moment
+IsGivenFrom last moment (AddRow print addresses) = Unit {0}
+IsGivenFrom last moment Introduce = Unit {0}
 IsGivenFrom last moment (Receive from datagram draws) = last ≤ moment
 IsGivenFrom last moment (Tick draws) = last ≤ moment
 
@@ -98,14 +102,39 @@ module _ (last : ℕ) (setup : Setup) (log : List Event) (s t : State) (moment :
       record { told = after; stands = extends h.told after (event_with (Cancel n) (Refused refusal)) told setup log h.stands; noted = h.noted; passed = h.passed; state = step.2.state }
   untimed n (Began count) step = absurd step
   untimed n (NotOpened refusal) step = absurd step
+  untimed n (NotAdded refusal) step = absurd step
   untimed n (Stopped stop) step = absurd step
   untimed n OutOfMemory step = absurd step
+
+  -- nor are the calls of an introducer
+  untimed_row : (print : List ℕ) (addresses : List AddressParts) (answer : Answer) → Answers (at_moment (at_moment h.told moment) h.noted) (AddRow print addresses) answer entries t →
+      StandsUpTo last setup (log ++ event_with (AddRow print addresses) answer ∷ []) t
+  untimed_row print addresses Done step =
+      let after : State = with_redirect (at_moment h.told moment) print addresses in
+      let told : StepOf h.told (event_with (AddRow print addresses) Done) after = (step.0, record { state = refl; entries = step.1.entries }) in
+      record { told = after; stands = extends h.told after (event_with (AddRow print addresses) Done) told setup log h.stands; noted = h.noted; passed = h.passed; state = step.1.state }
+  untimed_row print addresses (NotAdded refusal) step =
+      let after : State = at_moment h.told moment in
+      let told : StepOf h.told (event_with (AddRow print addresses) (NotAdded refusal)) after = (step.0, record { state = refl; entries = step.1.entries }) in
+      record { told = after; stands = extends h.told after (event_with (AddRow print addresses) (NotAdded refusal)) told setup log h.stands; noted = h.noted; passed = h.passed; state = step.1.state }
+  untimed_row print addresses answer step = absurd step
+
+  untimed_introduce : (answer : Answer) → Answers (at_moment (at_moment h.told moment) h.noted) Introduce answer entries t → StandsUpTo last setup (log ++ event_with Introduce answer ∷ []) t
+  untimed_introduce Done step =
+      let after : State = introducing (at_moment h.told moment) in
+      let told : StepOf h.told (event_with Introduce Done) after = record { state = refl; entries = step.entries } in
+      record { told = after; stands = extends h.told after (event_with Introduce Done) told setup log h.stands; noted = h.noted; passed = h.passed; state = step.state }
+  untimed_introduce answer step = absurd step
 
   stands_by : (call : Call) (answer : Answer) → IsGivenFrom last moment call → Answers (at_moment s moment) call answer entries t → StandsUpTo last setup (log ++ event_with call answer ∷ []) t
   stands_by (Open peer candidates draws) answer from step = timed (Open peer candidates draws) answer from step
   stands_by (Cancel n) answer from step =
       untimed n answer (subst (λ (x : State). Answers x (Cancel n) answer entries t) (noted_both h.told h.noted moment) (from_told (Cancel n) answer step))
   stands_by (Close near) answer from step = timed (Close near) answer from step
+  stands_by (AddRow print addresses) answer from step =
+      untimed_row print addresses answer (subst (λ (x : State). Answers x (AddRow print addresses) answer entries t) (noted_both h.told h.noted moment) (from_told (AddRow print addresses) answer step))
+  stands_by Introduce answer from step =
+      untimed_introduce answer (subst (λ (x : State). Answers x Introduce answer entries t) (noted_both h.told h.noted moment) (from_told Introduce answer step))
   stands_by (Receive address datagram draws) answer from step = timed (Receive address datagram draws) answer from step
   stands_by (Tick draws) answer from step = timed (Tick draws) answer from step
 

@@ -7,7 +7,7 @@ use Rattle.glare_core.specs.Calls.{first_that_stands, where_true}
 use Rattle.endpoint_laws.specs.Laws.{AreBytes}
 use Rattle.rtmfp_forms.specs.Address.{AddressParts}
 use Rattle.rendezvous_world.specs.declared.step.Step.{Step}
-use Rattle.rendezvous_world.specs.declared.step.Step.TheVariants.{End, At, Open, Cancel, Close, Deliver, Bent, Inject, Forge, Tick}
+use Rattle.rendezvous_world.specs.declared.step.Step.TheVariants.{End, At, Introduce, Redirect, Open, Cancel, Close, Deliver, Bent, Inject, Forge, Tick}
 use Rattle.rendezvous_world.specs.declared.step.StepFault.{StepFault}
 use Rattle.rendezvous_world.specs.declared.step.StepFault.TheVariants.{NoEnd, NoDatagram, BadStep, Forged, Memory}
 use Rattle.rendezvous_world.specs.Seen.{EndSeen, Seen}
@@ -84,6 +84,8 @@ stepped w number (At moment) r t calls h = absurd calls
 stepped w number (Open end peer list) r t calls h = h.ok
 stepped w number (Cancel end n) r t calls h = h.ok
 stepped w number (Close end near) r t calls h = h.ok
+stepped w number (Introduce end) r t calls h = h.ok
+stepped w number (Redirect end peer list) r t calls h = h.ok
 stepped w number (Deliver sent end from) r t calls h = h.ok
 stepped w number (Bent sent place end from) r t calls h = h.ok
 stepped w number (Inject end from bytes) r t calls h = h.ok
@@ -130,6 +132,11 @@ entering_open w number end peer list above fits there =
     let both = or_false (is_missing w end) (is_missing w peer) there in
     entering_alone w number end (Open end peer list) above fits (there_is w end both.0) (there_is w peer both.1) tt refl refl (fault_left w number (Open end peer list) there refl refl)
 
+pub entering_redirect : (w : Seen) (number end peer : ℕ) (list : List AddressParts) → AreBelow w.lines number → number < 2 ^ 32 → (is_missing w end || is_missing w peer) ≡ false → IsEntering w number end (Redirect end peer list) None []
+entering_redirect w number end peer list above fits there =
+    let both = or_false (is_missing w end) (is_missing w peer) there in
+    entering_alone w number end (Redirect end peer list) above fits (there_is w end both.0) (there_is w peer both.1) tt refl refl (fault_left w number (Redirect end peer list) there refl refl)
+
 -- one of an end that is there, which is given no other
 module _ (w : Seen) (number end : ℕ) (above : AreBelow w.lines number) (fits : number < 2 ^ 32) (there : is_missing w end ≡ false) where
   pub entering_cancel : (n : ℕ) → IsEntering w number end (Cancel end n) None []
@@ -137,6 +144,9 @@ module _ (w : Seen) (number end : ℕ) (above : AreBelow w.lines number) (fits :
 
   pub entering_close : (near : ℕ) → IsEntering w number end (Close end near) None []
   entering_close near = entering_alone w number end (Close end near) above fits (there_is w end there) (there_is w end there) tt refl refl (fault_left w number (Close end near) there refl refl)
+
+  pub entering_introduce : IsEntering w number end (Introduce end) None []
+  entering_introduce = entering_alone w number end (Introduce end) above fits (there_is w end there) (there_is w end there) tt refl refl (fault_left w number (Introduce end) there refl refl)
 
   pub entering_tick : IsEntering w number end (Tick end) None []
   entering_tick = entering_alone w number end (Tick end) above fits (there_is w end there) (there_is w end there) tt refl refl (fault_left w number (Tick end) there refl refl)

@@ -1,12 +1,12 @@
 -- The history that a journal tells, line by line.
 use Rattle.std.proofs.Common.{◌≡◌, ◌≢◌, ℕ, ◌<◌, ◌≤◌, List, [], ◌∷◌, ◌++◌, Bool, if◌then◌else◌, Option, inl, inr, ◌⊎◌, refl, sym, ap, subst, ◌∙◌, arith}
 use Rattle.std.specs.List.{AllByRecursion}
-use Rattle.endpoint_model.specs.Event.{Setup, own_of, Call, Open as OpenCall, Event}
+use Rattle.endpoint_model.specs.Event.{Setup, own_of, Call, AddRow, Open as OpenCall, Event}
 use Rattle.endpoint_laws.specs.Laws.{IsCall, AreCalls}
 use Rattle.endpoint_laws.specs.History.{Happened, History, log_of, past_at, IsHonestCall, IsHonest, TakesPart}
 use Rattle.rendezvous_world.specs.declared.journal.JournalLine.{JournalLine}
 use Rattle.rendezvous_world.specs.declared.step.Step.{Step}
-use Rattle.rendezvous_world.specs.declared.step.Step.TheVariants.{End, At, Open, Cancel, Close, Deliver, Bent, Inject, Forge, Tick}
+use Rattle.rendezvous_world.specs.declared.step.Step.TheVariants.{End, At, Introduce, Redirect, Open, Cancel, Close, Deliver, Bent, Inject, Forge, Tick}
 use Rattle.rendezvous_world.specs.Draws.{two_numbers, draws_of}
 use Rattle.rendezvous_world.specs.Seen.{EndSeen, setup_at}
 use Rattle.rendezvous_world.specs.History.{call_of, happened, after_lines, moment_given, answer_of}
@@ -26,6 +26,8 @@ module _ (count : ℕ) (ends later : List EndSeen) (same : SameSetups count ends
   same_call number datagram (Open end peer list) has = ap (λ (setup : Setup). OpenCall (own_of setup) list (draws_of number)) (same peer has)
   same_call number datagram (Cancel end n) has = refl
   same_call number datagram (Close end near) has = refl
+  same_call number datagram (Introduce end) has = refl
+  same_call number datagram (Redirect end peer list) has = ap (λ (setup : Setup). AddRow (own_of setup) list) (same peer has)
   same_call number datagram (Deliver sent end from) has = refl
   same_call number datagram (Bent sent place end from) has = refl
   same_call number datagram (Inject end from bytes) has = refl

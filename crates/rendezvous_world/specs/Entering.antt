@@ -6,13 +6,13 @@ use Rattle.endpoint_laws.specs.Laws.{AreBytes}
 use Rattle.endpoint_model.specs.State.{State, at_moment}
 use Rattle.endpoint_model.specs.InSessions.{held_row}
 use Rattle.endpoint_model.specs.Effects.{open_refusal}
-use Rattle.endpoint_model.specs.Event.{Call, Open as OpenCall, Cancel as CancelCall, Close as CloseCall, Receive, Tick as TickCall, Event}
+use Rattle.endpoint_model.specs.Event.{Call, Open as OpenCall, Cancel as CancelCall, Close as CloseCall, AddRow, Introduce as IntroduceCall, Receive, Tick as TickCall, Event}
 use Rattle.rendezvous_world.specs.declared.bringing.Fetched.{Fetched}
 use Rattle.rendezvous_world.specs.declared.bringing.Fetched.TheVariants.{Missing, Forged as IsForged, Sent as IsSent}
 use Rattle.rendezvous_world.specs.declared.journal.JournalLine.{JournalLine}
 use Rattle.rendezvous_world.specs.declared.journal.Refused.{Refused}
 use Rattle.rendezvous_world.specs.declared.step.Step.{Step}
-use Rattle.rendezvous_world.specs.declared.step.Step.TheVariants.{End, At, Open, Cancel, Close, Deliver, Bent, Inject, Forge, Tick}
+use Rattle.rendezvous_world.specs.declared.step.Step.TheVariants.{End, At, Introduce, Redirect, Open, Cancel, Close, Deliver, Bent, Inject, Forge, Tick}
 use Rattle.rendezvous_world.specs.declared.step.StepFault.{StepFault}
 use Rattle.rendezvous_world.specs.declared.step.StepFault.TheVariants.{Forged, Memory}
 use Rattle.rendezvous_world.specs.Draws.{draws_of}
@@ -41,6 +41,8 @@ peer_of (End name max_peers max_sessions cert) = 0
 peer_of (At moment) = 0
 peer_of (Cancel end n) = end
 peer_of (Close end near) = end
+peer_of (Introduce end) = end
+peer_of (Redirect end peer list) = peer
 peer_of (Deliver number end from) = end
 peer_of (Bent number place end from) = end
 peer_of (Inject end from bytes) = end
@@ -52,6 +54,8 @@ abbrev pub call_by : List ℕ → ℕ → List ℕ → Step → Call
 call_by print line bytes (Open end peer list) = OpenCall print list (draws_of line)
 call_by print line bytes (Cancel end n) = CancelCall n
 call_by print line bytes (Close end near) = CloseCall near
+call_by print line bytes (Introduce end) = IntroduceCall
+call_by print line bytes (Redirect end peer list) = AddRow print list
 call_by print line bytes (Deliver number end from) = Receive from bytes (draws_of line)
 call_by print line bytes (Bent number place end from) = Receive from bytes (draws_of line)
 call_by print line bytes (Inject end from plain) = Receive from bytes (draws_of line)
@@ -67,13 +71,14 @@ event_by print line moment step bytes refused stopped entries = record {
   entries = entries;
 }
 
--- What an open, a cancel or a close leaves that found no memory, at the end in this state: an open
--- and a close, which nothing else refused, have noted the moment, and a cancel has left all as
--- before.
+-- What an open, a cancel, a close or a row leaves that found no memory, at the end in this state: an
+-- open and a close, which nothing else refused, have noted the moment, and a cancel and a row have
+-- left all as before.
 abbrev pub IsUndone : List ℕ → ℕ → Step → State → State → Type 0
 IsUndone print moment (Open end peer list) old new = (open_refusal old print list ≡ None) ×
     (new ≡ at_moment old moment)
 IsUndone print moment (Cancel end n) old new = new ≡ old
+IsUndone print moment (Redirect end peer list) old new = new ≡ old
 IsUndone print moment (Close end near) old new = IsSome (held_row old near) ×
     (new ≡ at_moment old moment)
 IsUndone print moment step old new = ⊥

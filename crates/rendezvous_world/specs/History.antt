@@ -4,13 +4,13 @@ use Rattle.glare_core.specs.declared.facts.Fact.TheVariants.{Started}
 use Rattle.endpoint_model.specs.declared.entry.Entry.{Entry}
 use Rattle.endpoint_model.specs.declared.entry.Entry.TheVariants.{Fact}
 use Rattle.endpoint_model.specs.declared.answers.Stopped.{Stopped as Stop}
-use Rattle.endpoint_model.specs.Event.{Call, Open as OpenCall, Cancel as CancelCall, Close as CloseCall, Receive, Tick as TickCall, Answer, Began, Done, NotOpened, Refused as RefusedCall, Stopped, OutOfMemory, Event}
+use Rattle.endpoint_model.specs.Event.{Call, Open as OpenCall, Cancel as CancelCall, Close as CloseCall, AddRow, Introduce as IntroduceCall, Receive, Tick as TickCall, Answer, Began, Done, NotOpened, Refused as RefusedCall, NotAdded, Stopped, OutOfMemory, Event}
 use Rattle.endpoint_laws.specs.History.{Happened, History}
 use Rattle.rendezvous_world.specs.declared.journal.JournalLine.{JournalLine}
 use Rattle.rendezvous_world.specs.declared.journal.Refused.{Refused}
-use Rattle.rendezvous_world.specs.declared.journal.Refused.TheVariants.{Open as OpenRefused, Call as CallRefused}
+use Rattle.rendezvous_world.specs.declared.journal.Refused.TheVariants.{Open as OpenRefused, Call as CallRefused, Row as RowRefused}
 use Rattle.rendezvous_world.specs.declared.step.Step.{Step}
-use Rattle.rendezvous_world.specs.declared.step.Step.TheVariants.{Open, Cancel, Close, Deliver, Bent, Inject, Forge}
+use Rattle.rendezvous_world.specs.declared.step.Step.TheVariants.{Introduce, Redirect, Open, Cancel, Close, Deliver, Bent, Inject, Forge}
 use Rattle.rendezvous_world.specs.Draws.{draws_of}
 use Rattle.rendezvous_world.specs.Seen.{EndSeen, Seen, print_at}
 
@@ -24,6 +24,8 @@ abbrev pub call_of : List EndSeen → ℕ → Option (List ℕ) → Step → Cal
 call_of ends line datagram (Open end peer list) = OpenCall (print_at ends peer) list (draws_of line)
 call_of ends line datagram (Cancel end n) = CancelCall n
 call_of ends line datagram (Close end near) = CloseCall near
+call_of ends line datagram (Introduce end) = IntroduceCall
+call_of ends line datagram (Redirect end peer list) = AddRow (print_at ends peer) list
 call_of ends line datagram (Deliver number end from) =
     Receive from (bytes_or_none datagram) (draws_of line)
 call_of ends line datagram (Bent number place end from) =
@@ -34,9 +36,11 @@ call_of ends line datagram (Forge end from plain) =
     Receive from (bytes_or_none datagram) (draws_of line)
 call_of ends line datagram step = TickCall (draws_of line)
 
--- the moment that the call is given; a cancel is given none
+-- the moment that the call is given; a cancel is given none, nor are the calls of an introducer
 abbrev pub moment_given : ℕ → Step → ℕ
 moment_given moment (Cancel end n) = 0
+moment_given moment (Introduce end) = 0
+moment_given moment (Redirect end peer list) = 0
 moment_given moment step = moment
 
 -- the number of the first attempt that was started
@@ -49,12 +53,14 @@ abbrev pub answer_to_open : Option Refused → List Entry → Answer
 answer_to_open None entries = Began (number_started entries)
 answer_to_open (Some (OpenRefused refusal)) entries = NotOpened refusal
 answer_to_open (Some (CallRefused refusal)) entries = RefusedCall refusal
+answer_to_open (Some (RowRefused refusal)) entries = NotAdded refusal
 
--- a cancel and a close
+-- a cancel, a close, and a row of an introducer
 abbrev pub answer_to_call : Option Refused → Answer
 answer_to_call None = Done
 answer_to_call (Some (OpenRefused refusal)) = NotOpened refusal
 answer_to_call (Some (CallRefused refusal)) = RefusedCall refusal
+answer_to_call (Some (RowRefused refusal)) = NotAdded refusal
 
 abbrev pub answer_to_datagram : Option Stop → Answer
 answer_to_datagram None = Done
@@ -69,6 +75,8 @@ abbrev pub answer_of : Step → Option Refused → Option Stop → List Entry �
 answer_of (Open end peer list) refused stopped entries = answer_to_open refused entries
 answer_of (Cancel end n) refused stopped entries = answer_to_call refused
 answer_of (Close end near) refused stopped entries = answer_to_call refused
+answer_of (Introduce end) refused stopped entries = Done
+answer_of (Redirect end peer list) refused stopped entries = answer_to_call refused
 answer_of (Deliver number end from) refused stopped entries = answer_to_datagram stopped
 answer_of (Bent number place end from) refused stopped entries = answer_to_datagram stopped
 answer_of (Inject end from bytes) refused stopped entries = answer_to_datagram stopped

@@ -6,14 +6,15 @@ use Rattle.endpoint_model.specs.declared.answers.OpenRefusal.{OpenRefusal}
 use Rattle.endpoint_model.specs.declared.answers.OpenRefusal.TheVariants.{Candidates as BadCandidates, Start, SessionsFull as FullOfSessions, Memory as OpenMemory}
 use Rattle.endpoint_model.specs.declared.answers.CallRefusal.TheVariants.{NoAttempt as LacksAttempt, NoSession as LacksSession, Memory as CallMemory}
 use Rattle.endpoint_model.specs.declared.answers.Stopped.{Stopped as Stop}
+use Rattle.introducer.specs.declared.refusal.RowRefusal.TheVariants.{Candidates as WrongCount, RowsFull as FullOfRows, Memory as RowMemory}
 use Rattle.rendezvous_world.specs.declared.journal.Refused.{Refused}
-use Rattle.rendezvous_world.specs.declared.journal.Refused.TheVariants.{Open as OpenRefused, Call as CallRefused}
+use Rattle.rendezvous_world.specs.declared.journal.Refused.TheVariants.{Open as OpenRefused, Call as CallRefused, Row as RowRefused}
 use Rattle.rendezvous_world.specs.declared.kept.KeptAnswer.{KeptAnswer}
-use Rattle.rendezvous_world.specs.declared.kept.KeptAnswer.TheVariants.{Done, Stopped, Candidates, Opening, Open as IsOpen, PeersFull, AttemptsSpent, OwnPrint, NoRow, SessionsFull, NoMemoryToOpen, NoAttempt, NoSession, NoMemoryToCall}
+use Rattle.rendezvous_world.specs.declared.kept.KeptAnswer.TheVariants.{Done, Stopped, Candidates, Opening, Open as IsOpen, PeersFull, AttemptsSpent, OwnPrint, NoRow, SessionsFull, NoMemoryToOpen, NoAttempt, NoSession, NoMemoryToCall, BadRow, RowsFull, NoMemoryForRow}
 use Rattle.rendezvous_world.specs.declared.kept.KeptStep.{KeptStep}
-use Rattle.rendezvous_world.specs.declared.kept.KeptStep.TheVariants.{Open as KeptOpen, Cancel as KeptCancel, Close as KeptClose, Deliver as KeptDeliver, Bent as KeptBent, Inject as KeptInject, Forge as KeptForge, Tick as KeptTick}
+use Rattle.rendezvous_world.specs.declared.kept.KeptStep.TheVariants.{Open as KeptOpen, Cancel as KeptCancel, Close as KeptClose, Introduce as KeptIntroduce, Redirect as KeptRedirect, Deliver as KeptDeliver, Bent as KeptBent, Inject as KeptInject, Forge as KeptForge, Tick as KeptTick}
 use Rattle.rendezvous_world.specs.declared.step.Step.{Step}
-use Rattle.rendezvous_world.specs.declared.step.Step.TheVariants.{Open, Cancel, Close, Deliver, Bent, Inject, Forge, Tick}
+use Rattle.rendezvous_world.specs.declared.step.Step.TheVariants.{Introduce, Redirect, Open, Cancel, Close, Deliver, Bent, Inject, Forge, Tick}
 
 -- A step that called an end.
 pub record LineSeen : Type 0 where
@@ -41,6 +42,8 @@ abbrev pub step_kept : ℕ → KeptStep → Step
 step_kept end (KeptOpen peer list) = Open end peer list
 step_kept end (KeptCancel n) = Cancel end n
 step_kept end (KeptClose near) = Close end near
+step_kept end KeptIntroduce = Introduce end
+step_kept end (KeptRedirect peer list) = Redirect end peer list
 step_kept end (KeptDeliver from number) = Deliver number end from
 step_kept end (KeptBent from place number) = Bent number place end from
 step_kept end (KeptInject from bytes) = Inject end from bytes.value
@@ -65,6 +68,9 @@ refused_kept NoMemoryToOpen = refused_to_open OpenMemory
 refused_kept NoAttempt = Some (CallRefused LacksAttempt)
 refused_kept NoSession = Some (CallRefused LacksSession)
 refused_kept NoMemoryToCall = Some (CallRefused CallMemory)
+refused_kept (BadRow count) = Some (RowRefused (WrongCount count))
+refused_kept (RowsFull count) = Some (RowRefused (FullOfRows count))
+refused_kept NoMemoryForRow = Some (RowRefused RowMemory)
 
 abbrev pub stopped_kept : KeptAnswer → Option Stop
 stopped_kept (Stopped stop) = Some stop

@@ -8,12 +8,13 @@ use Rattle.endpoint_model.specs.Effects.{open_refusal}
 use Rattle.endpoint_model.specs.Log.{Step as StepOf, not_taken}
 use Rattle.rendezvous_world.specs.declared.journal.JournalLine.{JournalLine}
 use Rattle.rendezvous_world.specs.declared.journal.Refused.{Refused}
-use Rattle.rendezvous_world.specs.declared.journal.Refused.TheVariants.{Open as OpenRefused, Call as CallRefused}
+use Rattle.rendezvous_world.specs.declared.journal.Refused.TheVariants.{Open as OpenRefused, Call as CallRefused, Row as RowRefused}
 use Rattle.endpoint_model.specs.declared.answers.OpenRefusal.TheVariants.{Memory as NoMemoryToOpen}
 use Rattle.endpoint_model.specs.declared.answers.CallRefusal.TheVariants.{Memory as NoMemoryToCall}
+use Rattle.introducer.specs.declared.refusal.RowRefusal.TheVariants.{Memory as NoMemoryForRow}
 use Rattle.endpoint_model.specs.declared.answers.Stopped.{Stopped as Stop}
 use Rattle.rendezvous_world.specs.declared.step.Step.{Step}
-use Rattle.rendezvous_world.specs.declared.step.Step.TheVariants.{End, At, Open, Cancel, Close, Deliver, Bent, Inject, Forge, Tick}
+use Rattle.rendezvous_world.specs.declared.step.Step.TheVariants.{End, At, Introduce, Redirect, Open, Cancel, Close, Deliver, Bent, Inject, Forge, Tick}
 use Rattle.rendezvous_world.specs.Seen.{EndSeen, Seen, group_secret, print_at}
 use Rattle.rendezvous_world.specs.Sent.{sent_in}
 use Rattle.rendezvous_world.specs.Datagrams.{datagram_of}
@@ -53,6 +54,8 @@ called_by (At moment) = 0
 called_by (Open end peer list) = end
 called_by (Cancel end n) = end
 called_by (Close end near) = end
+called_by (Introduce end) = end
+called_by (Redirect end peer list) = end
 called_by (Deliver number end from) = end
 called_by (Bent number place end from) = end
 called_by (Inject end from bytes) = end
@@ -63,16 +66,19 @@ called_by (Tick end) = end
 pub record IsDoneOrRefused (refused : Option Refused) : Type 0 where
   pub opened : refused ≢ Some (OpenRefused NoMemoryToOpen)
   pub called : refused ≢ Some (CallRefused NoMemoryToCall)
+  pub added : refused ≢ Some (RowRefused NoMemoryForRow)
 
--- What the line of a step can tell of its answer: an open, a cancel and a close are done or
--- refused, and the others are done or stopped. A call that is refused for want of memory has no
--- line, and a new end and a new moment call no end and have none.
+-- What the line of a step can tell of its answer: an open, a cancel, a close and a row are done or
+-- refused, that an end introduces is done, and the others are done or stopped. A call that is
+-- refused for want of memory has no line, and a new end and a new moment call no end and have none.
 abbrev pub HasItsAnswer : Step → Option Refused → Option Stop → Type 0
 HasItsAnswer (End name max_peers max_sessions cert) refused stopped = ⊥
 HasItsAnswer (At moment) refused stopped = ⊥
 HasItsAnswer (Open end peer list) refused stopped = (stopped ≡ None) × IsDoneOrRefused refused
 HasItsAnswer (Cancel end n) refused stopped = (stopped ≡ None) × IsDoneOrRefused refused
 HasItsAnswer (Close end near) refused stopped = (stopped ≡ None) × IsDoneOrRefused refused
+HasItsAnswer (Introduce end) refused stopped = (refused ≡ None) × (stopped ≡ None)
+HasItsAnswer (Redirect end peer list) refused stopped = (stopped ≡ None) × IsDoneOrRefused refused
 HasItsAnswer (Deliver number end from) refused stopped = refused ≡ None
 HasItsAnswer (Bent number place end from) refused stopped = refused ≡ None
 HasItsAnswer (Inject end from bytes) refused stopped = refused ≡ None

@@ -2,7 +2,7 @@
 
 ghost use Rattle.std.specs.Prelude.{◌≡◌, ◌≢◌, ◌<◌, ◌≤◌, ◌^◌, [], false, length, Err, IfSome, IsSome, None, true};
 ghost use Rattle.endpoint_model.specs.Effects.{open_refusal};
-ghost use Rattle.endpoint_model.specs.Event.{Cancel as CancelCall, Close as CloseCall, Open as OpenCall, Receive, Tick as TickCall};
+ghost use Rattle.endpoint_model.specs.Event.{AddRow, Cancel as CancelCall, Close as CloseCall, Done, Introduce, Open as OpenCall, Receive, Tick as TickCall};
 ghost use Rattle.endpoint_model.specs.InSessions.{held_row};
 ghost use Rattle.endpoint_model.specs.Log.{Step as StepOf, answer_of_call, not_taken};
 ghost use Rattle.endpoint_model.specs.State.{at_moment};
@@ -13,7 +13,7 @@ ghost use Rattle.rendezvous_world.specs.Stepping.{HasItsAnswer, IsDoneOrRefused}
 use crate::draws::draws_of;
 use crate::journal::Refused;
 use crate::step::{Addresses, Step};
-use endpoint::{CallRefusal, Draws, Endpoint, OpenRefusal, Outbox, Stopped};
+use endpoint::{CallRefusal, Draws, Endpoint, OpenRefusal, Outbox, RowRefusal, Stopped};
 use identity::Epd;
 use rtmfp_forms::Address;
 
@@ -30,7 +30,7 @@ pub(crate) struct Outcome {
 }
 
 /// Makes the call of the step of a line at a moment. The fingerprint is that of the peer of an
-/// open, and the bytes those of the datagram that the step brings.
+/// open or a row, and the bytes those of the datagram that the step brings.
 pub(crate) fn call_end(
     endpoint: &mut Endpoint,
     print: &[u8; 32],
@@ -57,6 +57,8 @@ pub(crate) fn call_end(
         Step::Open { list, .. } => open(endpoint, print, list, moment, &draws, out),
         Step::Cancel { n, .. } => cancel(endpoint, *n, out),
         Step::Close { near, .. } => close(endpoint, *near, moment, out),
+        Step::Introduce { .. } => introduce(endpoint, out),
+        Step::Redirect { list, .. } => add_row(endpoint, print, list, out),
         Step::Deliver { from, .. } => receive(endpoint, from, moment, bytes, &draws, out),
         Step::Bent { from, .. } => receive(endpoint, from, moment, bytes, &draws, out),
         Step::Inject { from, .. } => receive(endpoint, from, moment, bytes, &draws, out),
@@ -179,6 +181,68 @@ fn close(endpoint: &mut Endpoint, near: u32, moment: u64, out: &mut Outbox) -> O
     ensures noted { result.undone ≡ true → endpoint.new ≡ at_moment endpoint.old moment }
 {
     told(endpoint.close(near, moment, out))
+}
+
+/// The end introduces others from now on.
+fn introduce(endpoint: &mut Endpoint, out: &mut Outbox) -> Outcome
+    requires { out.old.entries ≡ [] }
+    ensures event { StepOf endpoint.old (record {
+      moment = 0;
+      call = Introduce;
+      answer = Done;
+      entries = out.new.entries;
+    }) endpoint.new }
+    ensures refused { result.refused ≡ None }
+    ensures stopped { result.stopped ≡ None }
+    ensures undone { result.undone ≡ false }
+{
+    let _out = out;
+    endpoint.introduce();
+    Outcome {
+        refused: None,
+        stopped: None,
+        undone: false,
+    }
+}
+
+/// Adds a row of addresses for the end with this fingerprint.
+fn add_row(endpoint: &mut Endpoint, print: &[u8; 32], list: &Addresses, out: &mut Outbox) -> Outcome
+    requires { out.old.entries ≡ [] }
+    ensures event { StepOf endpoint.old (record {
+      moment = 0;
+      call = AddRow print.now list.now;
+      answer = answer_to_call result.refused;
+      entries = out.new.entries;
+    }) endpoint.new }
+    ensures stopped { result.stopped ≡ None }
+    ensures answer { result.undone ≡ false → IsDoneOrRefused result.refused }
+    ensures undone { result.undone ≡ true → endpoint.new ≡ endpoint.old }
+{
+    let _out = out;
+    match endpoint.add_row(*print, list.as_slice()) {
+        Ok(()) => Outcome {
+            refused: None,
+            stopped: None,
+            undone: false,
+        },
+        Err(refusal) => Outcome {
+            refused: Some(Refused::Row(refusal)),
+            stopped: None,
+            undone: found_none_for_row(refusal),
+        },
+    }
+}
+
+/// Whether a row was refused for want of memory.
+fn found_none_for_row(refusal: RowRefusal) -> bool
+    ensures yes { result ≡ true → refusal ≡ RowRefusal.Memory }
+    ensures no { result ≡ false → refusal ≢ RowRefusal.Memory }
+{
+    match refusal {
+        RowRefusal::Candidates(_) => false,
+        RowRefusal::RowsFull(_) => false,
+        RowRefusal::Memory => true,
+    }
 }
 
 /// Brings a datagram from an address.

@@ -4,7 +4,7 @@ ghost use Rattle.std.specs.Prelude.{◌≡◌, IfOk};
 
 use crate::kept::{KeptAnswer, KeptStep};
 use crate::step::Step;
-use endpoint::{CallRefusal, OpenRefusal, Outbox, Stopped};
+use endpoint::{CallRefusal, OpenRefusal, Outbox, RowRefusal, Stopped};
 use rtmfp_base::{Memory, Message};
 use std::alloc::Global;
 use std::marker::Model;
@@ -15,6 +15,7 @@ use std::marker::Model;
 pub enum Refused {
     Open(OpenRefusal),
     Call(CallRefusal),
+    Row(RowRefusal),
 }
 
 /// A step that called an end: the number of its line in the script, the end, the moment of the

@@ -7,7 +7,7 @@ ghost use Rattle.rendezvous_world.specs.Stepping.{called_by};
 
 use crate::journal::Refused;
 use crate::step::{Addresses, Step};
-use endpoint::{CallRefusal, OpenRefusal, Stopped};
+use endpoint::{CallRefusal, OpenRefusal, RowRefusal, Stopped};
 use glare_core::StartRefusal;
 use rtmfp_base::{Memory, Message};
 use rtmfp_forms::Address;
@@ -25,6 +25,11 @@ pub(crate) enum KeptStep {
     },
     Close {
         near: u32,
+    },
+    Introduce,
+    Redirect {
+        peer: u32,
+        list: Addresses,
     },
     Deliver {
         from: Address,
@@ -92,6 +97,11 @@ impl KeptStep {
             },
             Step::Cancel { n, .. } => KeptStep::Cancel { n: *n },
             Step::Close { near, .. } => KeptStep::Close { near: *near },
+            Step::Introduce { .. } => KeptStep::Introduce,
+            Step::Redirect { peer, list, .. } => KeptStep::Redirect {
+                peer: in_32_bits(*peer)?,
+                list: list.copy(alloc)?,
+            },
             Step::Deliver { number, from, .. } => KeptStep::Deliver {
                 from: *from,
                 number: *number,
@@ -130,6 +140,12 @@ impl KeptStep {
             },
             KeptStep::Cancel { n } => Step::Cancel { end, n: *n },
             KeptStep::Close { near } => Step::Close { end, near: *near },
+            KeptStep::Introduce => Step::Introduce { end },
+            KeptStep::Redirect { peer, list } => Step::Redirect {
+                end,
+                peer: *peer as usize,
+                list: list.copy(alloc)?,
+            },
             KeptStep::Deliver { from, number } => Step::Deliver {
                 number: *number,
                 end,
@@ -177,6 +193,9 @@ pub(crate) enum KeptAnswer {
     NoAttempt,
     NoSession,
     NoMemoryToCall,
+    BadRow(u64),
+    RowsFull(u64),
+    NoMemoryForRow,
 }
 
 impl KeptAnswer {
@@ -200,6 +219,9 @@ impl KeptAnswer {
             Some(Refused::Call(CallRefusal::NoAttempt)) => KeptAnswer::NoAttempt,
             Some(Refused::Call(CallRefusal::NoSession)) => KeptAnswer::NoSession,
             Some(Refused::Call(CallRefusal::Memory)) => KeptAnswer::NoMemoryToCall,
+            Some(Refused::Row(RowRefusal::Candidates(count))) => KeptAnswer::BadRow(count),
+            Some(Refused::Row(RowRefusal::RowsFull(count))) => KeptAnswer::RowsFull(count),
+            Some(Refused::Row(RowRefusal::Memory)) => KeptAnswer::NoMemoryForRow,
         }
     }
 
@@ -237,6 +259,9 @@ impl KeptAnswer {
             KeptAnswer::NoAttempt => Some(Refused::Call(CallRefusal::NoAttempt)),
             KeptAnswer::NoSession => Some(Refused::Call(CallRefusal::NoSession)),
             KeptAnswer::NoMemoryToCall => Some(Refused::Call(CallRefusal::Memory)),
+            KeptAnswer::BadRow(count) => Some(Refused::Row(RowRefusal::Candidates(*count))),
+            KeptAnswer::RowsFull(count) => Some(Refused::Row(RowRefusal::RowsFull(*count))),
+            KeptAnswer::NoMemoryForRow => Some(Refused::Row(RowRefusal::Memory)),
         }
     }
 

@@ -83,6 +83,16 @@ pub enum Step {
         end: usize,
         near: u32,
     },
+    /// An end introduces others to each other from now on.
+    Introduce {
+        end: usize,
+    },
+    /// An end answers hellos for another with these addresses.
+    Redirect {
+        end: usize,
+        peer: usize,
+        list: Addresses,
+    },
     /// The datagram that was sent as this one, counted from 1, reaches an end from an address.
     Deliver {
         number: u64,
@@ -127,6 +137,8 @@ impl Step {
             Step::Open { peer, .. } => *peer,
             Step::Cancel { end, .. } => *end,
             Step::Close { end, .. } => *end,
+            Step::Introduce { end } => *end,
+            Step::Redirect { peer, .. } => *peer,
             Step::Deliver { end, .. } => *end,
             Step::Bent { end, .. } => *end,
             Step::Inject { end, .. } => *end,

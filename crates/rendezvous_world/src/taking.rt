@@ -163,6 +163,38 @@ impl World {
         self.enter(line, end, &Step::Close { end, near }, None, &mut [])
     }
 
+    /// Lets an end introduce others from now on.
+    pub(crate) fn introduce(&mut self, line: u64, end: usize) -> Result<(), StepFault>
+        requires above { AreBelow self.old.lines line }
+        requires fits { line < 2 ^ 32 }
+        ensures { IsDone self.old line (Step.Introduce end) result self.new }
+    {
+        if self.lacks(end) {
+            return Err(StepFault::NoEnd);
+        }
+        self.enter(line, end, &Step::Introduce { end }, None, &mut [])
+    }
+
+    /// Lets an end have a row of addresses for another.
+    pub(crate) fn redirect(
+        &mut self,
+        line: u64,
+        step: &Step,
+        end: usize,
+        peer: usize,
+        list: &Addresses,
+    ) -> Result<(), StepFault>
+        requires above { AreBelow self.old.lines line }
+        requires fits { line < 2 ^ 32 }
+        requires step { step.now ≡ Step.Redirect end peer list.now }
+        ensures { IsDone self.old line (Step.Redirect end peer list.now) result self.new }
+    {
+        if self.lacks_one(end, peer) {
+            return Err(StepFault::NoEnd);
+        }
+        self.enter(line, end, step, None, &mut [])
+    }
+
     /// Lets an end do what is due.
     pub(crate) fn tick(&mut self, line: u64, end: usize) -> Result<(), StepFault>
         requires above { AreBelow self.old.lines line }

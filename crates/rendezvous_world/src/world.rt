@@ -137,6 +137,8 @@ impl World {
             Step::Open { end, peer, list } => self.open(line, step, *end, *peer, list),
             Step::Cancel { end, n } => self.cancel(line, *end, *n),
             Step::Close { end, near } => self.close(line, *end, *near),
+            Step::Introduce { end } => self.introduce(line, *end),
+            Step::Redirect { end, peer, list } => self.redirect(line, step, *end, *peer, list),
             Step::Deliver { number, end, from } => self.deliver(line, step, *number, *end, from),
             Step::Bent {
                 number,

@@ -1,4 +1,4 @@
-use Rattle.std.proofs.Common.{Bool, refl, sym, ap, ◌∙◌}
+use Rattle.std.proofs.Common.{Bool, refl, ap, ◌∙◌}
 use Rattle.glare_core.specs.Calls.{where_true}
 use Rattle.rendezvous_world.specs.declared.step.StepFault.TheVariants.{Forged}
 use Rattle.rendezvous_world.proofs.Refusing.{memory_done, entered_done, entering_bringing}

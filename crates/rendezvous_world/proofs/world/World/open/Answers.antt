@@ -1,7 +1,7 @@
 use Rattle.std.proofs.Common.{[], None, sym, ◌∙◌, subst}
 use Rattle.rendezvous_world.specs.declared.step.Step.{Step}
 use Rattle.rendezvous_world.specs.declared.step.Step.TheVariants.{Open}
-use Rattle.rendezvous_world.specs.Entering.{IsDone, IsEntered, IsEntering}
+use Rattle.rendezvous_world.specs.Entering.{IsEntered, IsEntering}
 use Rattle.rendezvous_world.proofs.Refusing.{lacking_done, entered_done, entering_open}
 use Rattle.rendezvous_world.proofs.world.World.open.Goals as goal
 
