@@ -6,10 +6,10 @@ use Rattle.rtmfp_forms.specs.Address.{AddressParts}
 use Rattle.rtmfp_text.specs.AddressText.{address_text}
 use Rattle.rtmfp_text.specs.Words.{bytes_text}
 use Rattle.rtmfp_script.specs.declared.line.ScriptLine.{ScriptLine}
-use Rattle.rtmfp_script.specs.declared.line.ScriptLine.TheVariants.{End, At, Open, Cancel, Close, Tick, Deliver, Bent, Inject, Forge}
+use Rattle.rtmfp_script.specs.declared.line.ScriptLine.TheVariants.{End, Introduce, Redirect, At, Open, Cancel, Close, Tick, Deliver, Bent, Inject, Forge}
 use Rattle.rtmfp_script.specs.Grammar.{IsName, IsCert, IsPlainAddress, IsBytesUpTo, EachIsPlainAddress, IsWithin, IsLineOf, line_text, words_text, line_limit}
 use Rattle.rtmfp_script.specs.Fields.{split_of, ◌>>=◌}
-use Rattle.rtmfp_script.specs.Lines.{end_of, at_of, open_of, open_to, cancel_of, close_of, tick_of, deliver_of, bent_of, inject_of, forge_of, word_of, step_of}
+use Rattle.rtmfp_script.specs.Lines.{end_of, introduce_of, redirect_of, at_of, open_of, open_to, cancel_of, close_of, tick_of, deliver_of, bent_of, inject_of, forge_of, word_of, step_of}
 use Rattle.rtmfp_script.proofs.Splits.{split_text, split_nothing}
 use Rattle.rtmfp_script.proofs.Numbers.{number_of-decimal, number_below-decimal}
 use Rattle.rtmfp_script.proofs.Digits.{bytes_of-text}
@@ -31,6 +31,23 @@ end_read name peers sessions cert n p s c =
       number_below-decimal (2 ^ 32) peers (omega arith) p,
       number_below-decimal (2 ^ 32) sessions (omega arith) s,
       cert_of-cert cert c,
+    ) refl
+
+introduce_read : (name : List ℕ) → IsName name → introduce_of name ≡ Some (Introduce name)
+unfolding introduce_of
+introduce_read name n = rw (name_of-name name n) refl
+
+redirect_read : (name peer : List ℕ) (first : AddressParts) (more : List AddressParts) → IsName name → IsName peer → length (first ∷ more) ≤ 16 → EachIsPlainAddress (first ∷ more) →
+    redirect_of (name ++ 32 ∷ (peer ++ 32 ∷ words_text (map address_text (first ∷ more)))) ≡ Some (Redirect name peer (first ∷ more))
+unfolding redirect_of
+redirect_read name peer first more n p few good =
+    rw (
+      split_text 32 name (peer ++ 32 ∷ words_text (map address_text (first ∷ more))) (lacks_name name n),
+      split_text 32 peer (words_text (map address_text (first ∷ more))) (lacks_name peer p),
+      name_of-name name n,
+      name_of-name peer p,
+      addresses_of-text first more (omega (arith, few)) good,
+      le-leb (length (first ∷ more)) 16 few,
     ) refl
 
 at_read : (moment : ℕ) → moment < 2 ^ 64 → at_of (decimal moment) ≡ Some (At moment)
@@ -123,6 +140,9 @@ cut_of line = split_of 32 line >>= λ a. word_of a.0 a.1
 said_read : (said : ScriptLine) → IsWithin said → cut_of (line_text said) ≡ Some said
 unfolding split_of word_of
 said_read (End name peers sessions cert) w = end_read name peers sessions cert w.0 w.1 w.2 w.3
+said_read (Introduce name) n = introduce_read name n
+said_read (Redirect name peer []) w = absurd (omega (arith, w.2))
+said_read (Redirect name peer (first ∷ more)) w = redirect_read name peer first more w.0 w.1 w.3 w.4
 said_read (At moment) m = at_read moment m
 said_read (Open name peer []) w = open_alone name peer w.0 w.1
 said_read (Open name peer (first ∷ more)) w = open_read name peer first more w.0 w.1 w.2 w.3

@@ -7,10 +7,10 @@ use Rattle.std.proofs.lemmas.Slice.Eq.{bytes_eq-Decides}
 use Rattle.rtmfp_forms.specs.Address.{AddressParts}
 use Rattle.rtmfp_text.specs.AddressText.{address_text}
 use Rattle.rtmfp_script.specs.declared.line.ScriptLine.{ScriptLine}
-use Rattle.rtmfp_script.specs.declared.line.ScriptLine.TheVariants.{Open}
+use Rattle.rtmfp_script.specs.declared.line.ScriptLine.TheVariants.{Redirect, Open}
 use Rattle.rtmfp_script.specs.Grammar.{IsName, EachIsPlainAddress, IsWithin, IsLineOf, line_text, words_text, line_limit}
 use Rattle.rtmfp_script.specs.Fields.{split_of, name_of, cert_of, number_of, number_below, bytes_of, address_of, addresses_of, either, ◌>>=◌}
-use Rattle.rtmfp_script.specs.Lines.{end_of, at_of, open_of, open_to, cancel_of, close_of, tick_of, deliver_of, bent_of, inject_of, forge_of, word_of, step_of}
+use Rattle.rtmfp_script.specs.Lines.{end_of, introduce_of, row_said, redirect_of, at_of, open_of, open_to, cancel_of, close_of, tick_of, deliver_of, bent_of, inject_of, forge_of, word_of, step_of}
 use Rattle.rtmfp_script.proofs.Splits.{some_some, bind_some, split_joined}
 use Rattle.rtmfp_script.proofs.Numbers.{number_of-some, number_below-some}
 use Rattle.rtmfp_script.proofs.Digits.{bytes_of-some}
@@ -48,6 +48,13 @@ end_sound rest said h =
           (rejoin 32 b.0.1 c.0.0 c.0.1 _ _ (split_joined 32 b.0.1 c.0 c.1) s.0 t.0)));
       within = (n.1, p.1, s.1, t.1);
     })
+
+introduce_sound : (rest : List ℕ) (said : ScriptLine) → introduce_of rest ≡ Some said → IsSaid (codes "introduce") rest said
+unfolding introduce_of
+introduce_sound rest said h =
+    let name = bind_some (name_of rest) _ said h in
+    let n = name_of-some rest name.0 name.1 in
+    subst (IsSaid (codes "introduce") rest) (some_some _ _ name.2) (record { text = after (codes "introduce") rest _ n.0; within = n.1 })
 
 at_sound : (rest : List ℕ) (said : ScriptLine) → at_of rest ≡ Some said → IsSaid (codes "at") rest said
 unfolding at_of
@@ -214,6 +221,39 @@ open_sound rest said h =
       within = (n.1, p.peer_is, p.few, p.good);
     })
 
+-- ---- redirect
+
+-- a row that is said has these addresses, 16 at most
+row_is : (name peer : List ℕ) (addresses : List AddressParts) (said : ScriptLine) → row_said name peer addresses ≡ Some said → (Redirect name peer addresses ≡ said) × (length addresses ≤ 16)
+row_is name peer addresses said h = elim (cases_Bool (nat_le (length addresses) 16)) [
+  | inl few ↦ (some_some _ _ (rw few at h), leb-true _ _ few)
+  | inr many ↦ absurd (let none : None ≡ Some said = rw many at h in cc)
+]
+
+-- there is one address at least
+some_address : (text : List ℕ) (addresses : List AddressParts) → ((front : List ℕ) → words_text (front ∷ map address_text addresses) ≡ front ++ 32 ∷ text) → 1 ≤ length addresses
+some_address text [] is = let clash : [] ≡ 32 ∷ text = is [] in absurd (cc)
+some_address text (first ∷ more) is = omega arith
+
+redirect_sound : (rest : List ℕ) (said : ScriptLine) → redirect_of rest ≡ Some said → IsSaid (codes "redirect") rest said
+unfolding redirect_of
+redirect_sound rest said h =
+    let a = bind_some (split_of 32 rest) _ said h in
+    let b = bind_some (split_of 32 a.0.1) _ said a.2 in
+    let name = bind_some (name_of a.0.0) _ said b.2 in
+    let peer = bind_some (name_of b.0.0) _ said name.2 in
+    let addresses = bind_some (addresses_of b.0.1) _ said peer.2 in
+    let n = name_of-some a.0.0 name.0 name.1 in
+    let p = name_of-some b.0.0 peer.0 peer.1 in
+    let l = addresses_of-some b.0.1 addresses.0 addresses.1 in
+    let row = row_is name.0 peer.0 addresses.0 said addresses.2 in
+    subst (IsSaid (codes "redirect") rest) row.0 (record {
+      text = after (codes "redirect") rest _
+          (rejoin 32 rest a.0.0 a.0.1 _ _ (split_joined 32 rest a.0 a.1) n.0
+          (rejoin 32 a.0.1 b.0.0 b.0.1 peer.0 b.0.1 (split_joined 32 a.0.1 b.0 b.1) p.0 refl ∙ sym (l.text_is peer.0)));
+      within = (n.1, p.1, some_address b.0.1 addresses.0 l.text_is, row.1, l.good);
+    })
+
 -- ---- by the first word
 
 -- the word is this one, or another
@@ -232,6 +272,8 @@ pub word_sound : (word rest : List ℕ) (said : ScriptLine) → word_of word res
 unfolding word_of
 word_sound word rest said =
     by word rest said (codes "end") (end_of rest) _ (end_sound rest said)
+    (by word rest said (codes "introduce") (introduce_of rest) _ (introduce_sound rest said)
+    (by word rest said (codes "redirect") (redirect_of rest) _ (redirect_sound rest said)
     (by word rest said (codes "at") (at_of rest) _ (at_sound rest said)
     (by word rest said (codes "open") (open_of rest) _ (open_sound rest said)
     (by word rest said (codes "cancel") (cancel_of rest) _ (cancel_sound rest said)
@@ -240,7 +282,7 @@ word_sound word rest said =
     (by word rest said (codes "deliver") (deliver_of rest) _ (deliver_sound rest said)
     (by word rest said (codes "bent") (bent_of rest) _ (bent_sound rest said)
     (by word rest said (codes "inject") (inject_of rest) _ (inject_sound rest said)
-    (by word rest said (codes "forge") (forge_of rest) None (forge_sound rest said) (λ h. absurd (cc h)))))))))))
+    (by word rest said (codes "forge") (forge_of rest) None (forge_sound rest said) (λ h. absurd (cc h)))))))))))))
 
 pub step_sound : (line : List ℕ) (said : ScriptLine) → step_of line ≡ Some said → IsLineOf line said
 unfolding step_of

@@ -5,7 +5,7 @@ use Rattle.rtmfp_forms.specs.Address.{AddressParts, IsAddress}
 use Rattle.rtmfp_text.specs.AddressText.{address_text}
 use Rattle.rtmfp_text.specs.Words.{bytes_text}
 use Rattle.rtmfp_script.specs.declared.line.ScriptLine.{ScriptLine}
-use Rattle.rtmfp_script.specs.declared.line.ScriptLine.TheVariants.{End, At, Open, Cancel, Close, Tick, Deliver, Bent, Inject, Forge}
+use Rattle.rtmfp_script.specs.declared.line.ScriptLine.TheVariants.{End, Introduce, Redirect, At, Open, Cancel, Close, Tick, Deliver, Bent, Inject, Forge}
 
 -- words, with one space between each two
 abbrev pub words_text : List (List ℕ) → List ℕ
@@ -17,6 +17,9 @@ words_text (word ∷ next ∷ words) = word ++ 32 ∷ words_text (next ∷ words
 abbrev pub line_text : ScriptLine → List ℕ
 line_text (End name peers sessions cert) = words_text
     (codes "end" ∷ name ∷ decimal peers ∷ decimal sessions ∷ cert ∷ [])
+line_text (Introduce name) = words_text (codes "introduce" ∷ name ∷ [])
+line_text (Redirect name peer addresses) = words_text
+    (codes "redirect" ∷ name ∷ peer ∷ map address_text addresses)
 line_text (At moment) = words_text (codes "at" ∷ decimal moment ∷ [])
 line_text (Open name peer candidates) = words_text
     (codes "open" ∷ name ∷ peer ∷ map address_text candidates)
@@ -66,6 +69,9 @@ pub record IsBytesUpTo (most : ℕ) (bytes : List ℕ) : Type 0 where
 abbrev pub IsWithin : ScriptLine → Type 0
 IsWithin (End name peers sessions cert) = IsName name × (peers < 2 ^ 32) × (sessions < 2 ^ 32) ×
     IsCert cert
+IsWithin (Introduce name) = IsName name
+IsWithin (Redirect name peer addresses) = IsName name × IsName peer × (1 ≤ length addresses) ×
+    (length addresses ≤ 16) × EachIsPlainAddress addresses
 IsWithin (At moment) = moment < 2 ^ 64
 IsWithin (Open name peer candidates) = IsName name × IsName peer × (length candidates ≤ 32) ×
     EachIsPlainAddress candidates
@@ -83,6 +89,8 @@ abbrev pub TakesMemory : ScriptLine → Type 0
 TakesMemory (Inject name from bytes) = Unit {0}
 TakesMemory (Forge name from bytes) = Unit {0}
 TakesMemory (End name peers sessions cert) = ⊥
+TakesMemory (Introduce name) = ⊥
+TakesMemory (Redirect name peer addresses) = ⊥
 TakesMemory (At moment) = ⊥
 TakesMemory (Open name peer candidates) = ⊥
 TakesMemory (Cancel name number) = ⊥

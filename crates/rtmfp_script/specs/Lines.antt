@@ -1,8 +1,9 @@
 -- How a line is read, as a function.
 use Rattle.std.specs.Prelude.{ℕ, ◌^◌, nat_le, List, [], length, codes, Option, Some, None, if◌then◌else◌}
 use Rattle.std.specs.Str.{bytes_eq}
+use Rattle.rtmfp_forms.specs.Address.{AddressParts}
 use Rattle.rtmfp_script.specs.declared.line.ScriptLine.{ScriptLine}
-use Rattle.rtmfp_script.specs.declared.line.ScriptLine.TheVariants.{End, At, Open, Cancel, Close, Tick, Deliver, Bent, Inject, Forge}
+use Rattle.rtmfp_script.specs.declared.line.ScriptLine.TheVariants.{End, Introduce, Redirect, At, Open, Cancel, Close, Tick, Deliver, Bent, Inject, Forge}
 use Rattle.rtmfp_script.specs.declared.line.Said.{Said}
 use Rattle.rtmfp_script.specs.declared.line.Said.TheVariants.{Nothing, Step, Outside}
 use Rattle.rtmfp_script.specs.Grammar.{IsLineOf, IsSkipped, TakesMemory, line_limit}
@@ -19,6 +20,23 @@ end_of rest =
     number_below (2 ^ 32) c.0 >>= λ sessions.
     cert_of c.1 >>= λ cert.
     Some (End name peers sessions cert)
+
+unfoldable pub introduce_of : List ℕ → Option ScriptLine
+introduce_of rest = name_of rest >>= λ name. Some (Introduce name)
+
+-- a row of these addresses, where they are 16 at most
+abbrev pub row_said : List ℕ → List ℕ → List AddressParts → Option ScriptLine
+row_said name peer addresses =
+    if nat_le (length addresses) 16 then Some (Redirect name peer addresses) else None
+
+unfoldable pub redirect_of : List ℕ → Option ScriptLine
+redirect_of rest =
+    split_of 32 rest >>= λ a.
+    split_of 32 a.1 >>= λ b.
+    name_of a.0 >>= λ name.
+    name_of b.0 >>= λ peer.
+    addresses_of b.1 >>= λ addresses.
+    row_said name peer addresses
 
 unfoldable pub at_of : List ℕ → Option ScriptLine
 at_of rest = number_of rest >>= λ moment. Some (At moment)
@@ -92,6 +110,8 @@ forge_of rest =
 unfoldable pub word_of : List ℕ → List ℕ → Option ScriptLine
 word_of word rest =
     if bytes_eq word (codes "end") then end_of rest
+    else if bytes_eq word (codes "introduce") then introduce_of rest
+    else if bytes_eq word (codes "redirect") then redirect_of rest
     else if bytes_eq word (codes "at") then at_of rest
     else if bytes_eq word (codes "open") then open_of rest
     else if bytes_eq word (codes "cancel") then cancel_of rest

@@ -10,6 +10,9 @@ use std::marker::Model;
 /// The most addresses of an `open` (own).
 pub(crate) const MOST_CANDIDATES: usize = 32;
 
+/// The most addresses of a `redirect` (own).
+pub(crate) const MOST_OF_A_ROW: usize = 16;
+
 /// At most 32 addresses, in the order of the line.
 #[derive(Drop)]
 pub struct Candidates {
@@ -71,6 +74,20 @@ pub enum ScriptLine {
         sessions: u32,
         /// Its certificate.
         cert: Certificate,
+    },
+    /// `introduce NAME`: the end introduces others to each other from now on.
+    Introduce {
+        /// The end.
+        name: Name,
+    },
+    /// `redirect NAME PEER ADDR ...`: the end answers hellos for the peer with addresses.
+    Redirect {
+        /// The end.
+        name: Name,
+        /// The end that is sought.
+        peer: Name,
+        /// Where it may be, 1 to 16 addresses.
+        addresses: Candidates,
     },
     /// `at MS`: the moment of all ends from now on, in milliseconds.
     At {

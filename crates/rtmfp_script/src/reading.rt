@@ -1,12 +1,12 @@
 //! Lines that are read.
 ghost use Rattle.std.specs.Prelude.{◌≡◌, ◌↔◌, IsTrue, IfErr, IfOk};
 ghost use Rattle.rtmfp_script.specs.Grammar.{IsLineOf, IsSkipped, TakesMemory};
-ghost use Rattle.rtmfp_script.specs.Lines.{end_of, at_of, open_of, open_to, cancel_of, close_of, tick_of, deliver_of, bent_of, inject_of, forge_of, word_of, step_of, StepTakesMemory, Says};
+ghost use Rattle.rtmfp_script.specs.Lines.{end_of, introduce_of, redirect_of, row_said, at_of, open_of, open_to, cancel_of, close_of, tick_of, deliver_of, bent_of, inject_of, forge_of, word_of, step_of, StepTakesMemory, Says};
 
 use crate::address::{address, addresses};
 use crate::bytes::bytes;
 use crate::fields::{cert, name, number, number32, split};
-use crate::line::{Candidates, Said, ScriptLine};
+use crate::line::{Candidates, MOST_OF_A_ROW, Said, ScriptLine};
 use rtmfp_base::Memory;
 use rtmfp_text::Name;
 use std::alloc::Global;
@@ -32,6 +32,36 @@ fn read_end(rest: &[u8]) -> Option<ScriptLine>
         peers: number32(second)?,
         sessions: number32(third)?,
         cert: cert(rest)?,
+    })
+}
+
+#[tactic(auto, unfolding(crate::specs::Lines::introduce_of))]
+fn read_introduce(rest: &[u8]) -> Option<ScriptLine>
+    ensures { result ≡ introduce_of rest.now }
+{
+    Some(ScriptLine::Introduce { name: name(rest)? })
+}
+
+#[tactic(auto, unfolding(crate::specs::Lines::redirect_of))]
+fn read_redirect(rest: &[u8]) -> Option<ScriptLine>
+    ensures { result ≡ redirect_of rest.now }
+{
+    let (first, rest) = split(b' ', rest)?;
+    let (second, rest) = split(b' ', rest)?;
+    row_said(name(first)?, name(second)?, addresses(rest)?)
+}
+
+/// A row of these addresses, where they are 16 at most.
+fn row_said(name: Name, peer: Name, addresses: Candidates) -> Option<ScriptLine>
+    ensures { result ≡ row_said name peer addresses }
+{
+    if addresses.as_slice().len() > MOST_OF_A_ROW {
+        return None;
+    }
+    Some(ScriptLine::Redirect {
+        name,
+        peer,
+        addresses,
     })
 }
 
@@ -182,6 +212,12 @@ fn read_word(alloc: Global, word: &[u8], rest: &[u8]) -> Result<Option<ScriptLin
 {
     if word == b"end".as_slice() {
         return Ok(read_end(rest));
+    }
+    if word == b"introduce".as_slice() {
+        return Ok(read_introduce(rest));
+    }
+    if word == b"redirect".as_slice() {
+        return Ok(read_redirect(rest));
     }
     if word == b"at".as_slice() {
         return Ok(read_at(rest));
