@@ -6,6 +6,8 @@ use Rattle.endpoint_model.specs.declared.answers.OpenRefusal.{OpenRefusal}
 use Rattle.endpoint_model.specs.declared.answers.OpenRefusal.TheVariants.{Candidates, Start, SessionsFull, Memory as OpenMemory}
 use Rattle.endpoint_model.specs.declared.answers.CallRefusal.{CallRefusal}
 use Rattle.endpoint_model.specs.declared.answers.CallRefusal.TheVariants.{NoAttempt, NoSession, Memory as CallMemory}
+use Rattle.introducer.specs.declared.refusal.RowRefusal.{RowRefusal}
+use Rattle.introducer.specs.declared.refusal.RowRefusal.TheVariants.{Candidates as BadRow, RowsFull, Memory as RowMemory}
 use Rattle.rtmfp_text.specs.Words.{number_field_text, text_of}
 use Rattle.rtmfp_report.specs.LineText.{line_text}
 
@@ -30,6 +32,12 @@ unfoldable pub call_refusal_text : CallRefusal → List ℕ
 call_refusal_text NoAttempt = codes "no-attempt"
 call_refusal_text NoSession = codes "no-session"
 call_refusal_text CallMemory = []
+
+-- why a row of addresses isn't added; no text for want of memory
+unfoldable pub row_refusal_text : RowRefusal → List ℕ
+row_refusal_text (BadRow count) = number_field_text (codes "candidates ") count
+row_refusal_text (RowsFull limit) = number_field_text (codes "rows-full ") limit
+row_refusal_text RowMemory = []
 
 -- the line of a call that was refused so
 unfoldable pub refused_line : ℕ → List ℕ → List ℕ → List ℕ

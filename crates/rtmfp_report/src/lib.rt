@@ -14,5 +14,5 @@ mod tally;
 
 pub use entries::push_entries;
 pub use group_keys::GroupKeys;
-pub use refusals::{push_call_refusal, push_open_refusal};
+pub use refusals::{push_call_refusal, push_open_refusal, push_row_refusal};
 pub use tally::{Tally, push_summary};

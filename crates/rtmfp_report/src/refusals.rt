@@ -1,9 +1,9 @@
 //! The lines of calls that were refused.
 ghost use Rattle.std.specs.Prelude.{◌≡◌, ◌++◌, OnOk};
-ghost use Rattle.rtmfp_report.specs.RefusalText.{call_refusal_text, open_refusal_text, refused_line, start_refusal_text};
+ghost use Rattle.rtmfp_report.specs.RefusalText.{call_refusal_text, open_refusal_text, refused_line, row_refusal_text, start_refusal_text};
 
 use crate::lines::push_head;
-use endpoint::{CallRefusal, OpenRefusal};
+use endpoint::{CallRefusal, OpenRefusal, RowRefusal};
 use glare_core::StartRefusal;
 use rtmfp_text::{Name, Text};
 use std::alloc::AllocError;
@@ -42,6 +42,36 @@ pub fn push_call_refusal(
     text.push(call_name(refusal))?;
     text.push("\n")?;
     Ok(())
+}
+
+/// Adds the line of a row of addresses that the end with this name didn't add. Want of memory has no
+/// name; it isn't reported.
+pub fn push_row_refusal(
+    line: u64,
+    name: &Name,
+    refusal: &RowRefusal,
+    text: &mut Text,
+) -> Result<(), AllocError>
+    ensures { OnOk result (text.new ≡ text.old
+        ++ refused_line line name.now (row_refusal_text refusal.now)) }
+{
+    push_head(line, name, text)?;
+    text.push("refused ")?;
+    push_row_name(refusal, text)?;
+    text.push("\n")?;
+    Ok(())
+}
+
+/// Adds why a row of addresses isn't added.
+#[tactic(auto, unfolding(crate::specs::RefusalText::row_refusal_text))]
+fn push_row_name(refusal: &RowRefusal, text: &mut Text) -> Result<(), AllocError>
+    ensures { OnOk result (text.new ≡ text.old ++ row_refusal_text refusal.now) }
+{
+    match refusal {
+        RowRefusal::Candidates(count) => text.push_number_field("candidates ", *count),
+        RowRefusal::RowsFull(limit) => text.push_number_field("rows-full ", *limit),
+        RowRefusal::Memory => text.push(""),
+    }
 }
 
 /// Adds why an attempt isn't opened.
