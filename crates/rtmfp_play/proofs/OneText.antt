@@ -7,7 +7,7 @@ use Rattle.rtmfp_script.specs.Grammar.{IsLineOf, IsSkipped}
 use Rattle.rtmfp_script.proofs.Saying.{one_saying}
 use Rattle.rendezvous_world.specs.declared.journal.JournalLine.{JournalLine}
 use Rattle.rendezvous_world.specs.declared.journal.Refused.{Refused}
-use Rattle.rendezvous_world.specs.declared.journal.Refused.TheVariants.{Open as OpenRefused, Call as CallRefused}
+use Rattle.rendezvous_world.specs.declared.journal.Refused.TheVariants.{Open as OpenRefused, Call as CallRefused, Row as RowRefused}
 use Rattle.rendezvous_world.specs.declared.step.Step.{Step}
 use Rattle.rendezvous_world.specs.Inside.{named_of}
 use Rattle.rendezvous_world.specs.Same.{AreSameWorlds, without_room}
@@ -23,6 +23,7 @@ told_stays : (ends : List Named) (sent : ℕ) (line : JournalLine) (refused : Op
 told_stays ends sent line None = refl
 told_stays ends sent line (Some (OpenRefused refusal)) = refl
 told_stays ends sent line (Some (CallRefused refusal)) = refl
+told_stays ends sent line (Some (RowRefused refusal)) = refl
 
 next_stays : (ends : List Named) (sent : ℕ) (lines : List JournalLine) (at : ℕ) → told_next ends sent (slice_get (map without_room lines) at) ≡ told_next ends sent (slice_get lines at)
 next_stays ends sent [] at = refl

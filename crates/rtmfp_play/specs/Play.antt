@@ -11,7 +11,7 @@ use Rattle.rendezvous_world.specs.declared.step.StepFault.{StepFault}
 use Rattle.rendezvous_world.specs.declared.step.StepFault.TheVariants.{NoEnd, NoDatagram, BadStep, Forged, Memory}
 use Rattle.rendezvous_world.specs.declared.journal.JournalLine.{JournalLine}
 use Rattle.rendezvous_world.specs.declared.journal.Refused.{Refused}
-use Rattle.rendezvous_world.specs.declared.journal.Refused.TheVariants.{Open as OpenRefused, Call as CallRefused}
+use Rattle.rendezvous_world.specs.declared.journal.Refused.TheVariants.{Open as OpenRefused, Call as CallRefused, Row as RowRefused}
 use Rattle.endpoint_laws.specs.Agreed.{IsAgreed}
 use Rattle.rendezvous_world.specs.Seen.{Seen, group_secret, setup_at}
 use Rattle.rendezvous_world.specs.History.{history_of}
@@ -21,7 +21,7 @@ use Rattle.rendezvous_world.specs.Sent.{sent_in}
 use Rattle.rendezvous_world.specs.Faults.{step_fault}
 use Rattle.rendezvous_world.specs.Stepping.{Stepped}
 use Rattle.rtmfp_report.specs.EntryText.{entries_text}
-use Rattle.rtmfp_report.specs.RefusalText.{refused_line, open_refusal_text, call_refusal_text}
+use Rattle.rtmfp_report.specs.RefusalText.{refused_line, open_refusal_text, call_refusal_text, row_refusal_text}
 
 -- ---- the step that a line says
 
@@ -48,6 +48,10 @@ step_said ends (line.Open name peer addresses) =
 step_said ends (line.Cancel name number) = step_by (number_of ends name)
     (λ end. step.Cancel end number)
 step_said ends (line.Close name near) = step_by (number_of ends name) (λ end. step.Close end near)
+step_said ends (line.Introduce name) = step_by (number_of ends name) (λ end. step.Introduce end)
+step_said ends (line.Redirect name peer addresses) =
+    step_by_both (number_of ends name) (number_of ends peer)
+    (λ end other. step.Redirect end other addresses)
 step_said ends (line.Tick name) = step_by (number_of ends name) (λ end. step.Tick end)
 step_said ends (line.Deliver number name from) =
     step_by (number_of ends name) (λ end. step.Deliver number end from)
@@ -79,6 +83,8 @@ told_of ends sent line (Some (OpenRefused refusal)) =
     refused_line line.line (name_at ends line.end) (open_refusal_text refusal)
 told_of ends sent line (Some (CallRefused refusal)) =
     refused_line line.line (name_at ends line.end) (call_refusal_text refusal)
+told_of ends sent line (Some (RowRefused refusal)) =
+    refused_line line.line (name_at ends line.end) (row_refusal_text refusal)
 
 abbrev pub told_next : List Named → ℕ → Option JournalLine → List ℕ
 told_next ends sent None = []

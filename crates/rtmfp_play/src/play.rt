@@ -11,7 +11,9 @@ use crate::said::Said;
 use rendezvous_world::{Addresses, JournalLine, Refused, Step, StepFault, World};
 use rtmfp_base::Message;
 use rtmfp_forms::Address;
-use rtmfp_report::{GroupKeys, push_call_refusal, push_entries, push_open_refusal};
+use rtmfp_report::{
+    GroupKeys, push_call_refusal, push_entries, push_open_refusal, push_row_refusal,
+};
 use rtmfp_script::{Said as LineSaid, ScriptLine, read_line};
 use rtmfp_text::{Directory, Name, Named, Text};
 use std::alloc::{AllocError, Global};
@@ -128,6 +130,12 @@ fn step_said(alloc: Global, ends: &Directory, said: ScriptLine) -> Result<Option
         } => open_said(alloc, ends, &name, &peer, candidates.as_slice()),
         ScriptLine::Cancel { name, number } => Ok(cancel_said(ends, &name, number)),
         ScriptLine::Close { name, near } => Ok(close_said(ends, &name, near)),
+        ScriptLine::Introduce { name } => Ok(introduce_said(ends, &name)),
+        ScriptLine::Redirect {
+            name,
+            peer,
+            addresses,
+        } => redirect_said(alloc, ends, &name, &peer, addresses.as_slice()),
         ScriptLine::Tick { name } => Ok(tick_said(ends, &name)),
         ScriptLine::Deliver { number, name, from } => Ok(deliver_said(ends, number, &name, from)),
         ScriptLine::Bent {
@@ -173,6 +181,33 @@ fn close_said(ends: &Directory, name: &Name, near: u32) -> Option<Step>
 {
     let end = ends.number_of(name)?;
     Some(Step::Close { end, near })
+}
+
+fn introduce_said(ends: &Directory, name: &Name) -> Option<Step>
+    ensures { result ≡ step_by (number_of ends.now name.now) (λ end. Step.Introduce end) }
+{
+    let end = ends.number_of(name)?;
+    Some(Step::Introduce { end })
+}
+
+fn redirect_said(
+    alloc: Global,
+    ends: &Directory,
+    name: &Name,
+    peer: &Name,
+    addresses: &[Address],
+) -> Result<Option<Step>, AllocError>
+    ensures { IfOk result (λ step. step ≡ step_by_both (number_of ends.now name.now)
+        (number_of ends.now peer.now) (λ end other. Step.Redirect end other addresses.now)) }
+{
+    let Some(end) = ends.number_of(name) else {
+        return Ok(None);
+    };
+    let Some(peer) = ends.number_of(peer) else {
+        return Ok(None);
+    };
+    let list = Addresses::of(Vec::from_slice(alloc, addresses)?);
+    Ok(Some(Step::Redirect { end, peer, list }))
 }
 
 fn tick_said(ends: &Directory, name: &Name) -> Option<Step>
@@ -264,6 +299,7 @@ fn push_told(
     match line.refused() {
         Some(Refused::Open(refusal)) => push_open_refusal(line.line(), &name, &refusal, text),
         Some(Refused::Call(refusal)) => push_call_refusal(line.line(), &name, &refusal, text),
+        Some(Refused::Row(refusal)) => push_row_refusal(line.line(), &name, &refusal, text),
         None => push_done(keys, ends, &name, sent, line, scratch, text),
     }
 }
