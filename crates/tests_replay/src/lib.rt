@@ -9,6 +9,8 @@ mod cli;
 #[cfg(test)]
 mod host;
 #[cfg(test)]
+mod introductions;
+#[cfg(test)]
 mod report;
 #[cfg(test)]
 mod script;
