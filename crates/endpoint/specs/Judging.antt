@@ -6,6 +6,7 @@ use Rattle.rtmfp_chunks.specs.Chunk.{chunk_of, Chunk}
 use Rattle.rtmfp_chunks.specs.Chunk.{Close as CloseChunk, CloseAck as CloseAckChunk}
 use Rattle.rtmfp_chunks.specs.Chunk.{PingReply as PingReplyChunk}
 use Rattle.rtmfp_chunks.specs.FieldReading.{chunk_reading}
+use Rattle.rtmfp_chunks.specs.declared.kinds.TheConstants.{FRAGMENT, CLOSE, CLOSE_ACK}
 use Rattle.rtmfp_packet.specs.Walk.{Placed}
 use Rattle.identity.specs.Discriminators.{discriminator_of}
 use Rattle.rtmfp_chunks.specs.Writing.{IsWritable, chunk_bytes}
@@ -43,7 +44,7 @@ use Rattle.endpoint.specs.declared.judging.Verdict.TheVariants.{PingReply, Quiet
 -- the causes of a chunk whose type is known, where these are that of its form and its last one
 abbrev pub known_cause : Place → ℕ → Option Cause → Option Cause → Option Cause
 known_cause place kind form last =
-    first_that_stands (form ∷ where_true (kind == 0x7f) FragmentCause
+    first_that_stands (form ∷ where_true (kind == FRAGMENT) FragmentCause
     ∷ where_true (not (takes place kind)) WrongPlace ∷ last ∷ [])
 
 -- the last cause of one that is no keying
@@ -55,8 +56,8 @@ other_cause s place from c =
 -- the chunks that a session takes at a stage, of those that sessions take
 abbrev pub stage_takes : Stage → ℕ → Bool
 stage_takes stage kind =
-    if kind == 0x0c then true
-    else if kind == 0x4c then is_near_close stage
+    if kind == CLOSE then true
+    else if kind == CLOSE_ACK then is_near_close stage
     else is_held stage
 
 -- what one does that is no keying
