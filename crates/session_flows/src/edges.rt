@@ -14,14 +14,17 @@ ghost use Rattle.flow_send.specs.Edges.{with_blocks};
 ghost use Rattle.flow_send.specs.Edges.{acked_up_to};
 ghost use Rattle.session_flows.specs.declared.taking.TakingFlow.{TakingFlow};
 ghost use Rattle.session_flows.specs.Keeping.{FlowsState, no_flows, in_taking, Opened, Queued};
-ghost use Rattle.session_flows.specs.Keeping.{Abandoned, Finished};
+ghost use Rattle.session_flows.specs.Keeping.{Abandoned, Finished, Handed};
 ghost use Rattle.session_flows.specs.Calling.{open_refusal, opening, queue_refused, queueing};
 ghost use Rattle.session_flows.specs.Calling.{abandon_refused, abandoning, finish_refused};
 ghost use Rattle.session_flows.specs.Calling.{finishing};
 ghost use Rattle.session_flows.specs.Told.{metadata_in, begins_with_a, named, is_astray};
 ghost use Rattle.session_flows.specs.Causes.{data_cause, ack_cause, probe_cause, exception_cause};
-ghost use Rattle.session_flows.specs.Chunks.{rejecting};
-ghost use Rattle.session_flows.specs.Owing.{acks_put, is_full_for};
+ghost use Rattle.rtmfp_data_chunks.specs.Chunk.{Data, Next, Probe, Exception};
+ghost use Rattle.session_flows.specs.Causes.{chunk_cause};
+ghost use Rattle.session_flows.specs.Chunks.{rejecting, chunk_done, session_after, data_taken};
+ghost use Rattle.session_flows.specs.Handing.{ready_in};
+ghost use Rattle.session_flows.specs.Owing.{acks_put, is_full_for, owes};
 ghost use Rattle.session_flows.specs.Packing.{first_to_send, goes, follows, packing, packs};
 ghost use Rattle.session_flows.specs.Edges.{option_with, chunk_of_flow, flow_with, new_at};
 ghost use Rattle.session_flows.specs.Edges.{taking_with, fresh_at, owed_at, flows_of, pace_with};
@@ -235,4 +238,38 @@ pub fn a_packet()
         (flow_with 0 4 (numbers (unsent 0 0 (104 ∷ []) ∷ unsent 0 0 (111 ∷ []) ∷ [])) ∷ [])
         (1 ∷ []))).packet
         ≡ 1 ∷ 16 ∷ 0 ∷ 9 ∷ 128 ∷ 0 ∷ 1 ∷ 1 ∷ 2 ∷ 0 ∷ 109 ∷ 0 ∷ 104 ∷ 17 ∷ 0 ∷ 2 ∷ 0 ∷ 111 ∷ [] }
+{}
+
+/// What a chunk does whole. In queueing order a message waits for those before it, in arrival order
+/// it doesn't; a repeated chunk hands over nothing, and each that is taken owes an ack.
+pub fn chunks()
+    ensures handed { (chunk_done no_flows (Data (chunk_of_flow 5 1 metadata))).stated
+        ≡ Handed 5 1 (7 ∷ []) ∷ [] }
+    ensures behind_a_gap { (chunk_done no_flows (Data (chunk_of_flow 5 2 metadata))).stated ≡ [] }
+    ensures both { (chunk_done (chunk_done no_flows (Data (chunk_of_flow 5 2 metadata))).flows
+        (Next (chunk_of_flow 5 1 None))).stated
+        ≡ Handed 5 1 (7 ∷ []) ∷ Handed 5 2 (7 ∷ []) ∷ [] }
+    ensures again { (chunk_done (chunk_done no_flows (Data (chunk_of_flow 5 1 metadata))).flows
+        (Data (chunk_of_flow 5 1 None))).stated ≡ [] }
+    ensures arriving { (chunk_done no_flows (Data (chunk_of_flow 5 2
+        (Some (option_with 0 (97 ∷ []) ∷ []))))).stated ≡ Handed 5 2 (7 ∷ []) ∷ [] }
+    ensures owed { owes (chunk_done no_flows (Data (chunk_of_flow 5 2 metadata))).flows ≡ true }
+    ensures probe { owes (chunk_done (flows_of [] (fresh_at 3 ∷ [])) (Probe 3)).flows ≡ true }
+    ensures exception { (chunk_done two_messages (Exception 0 7)).stated
+        ≡ Abandoned 0 1 ∷ Abandoned 0 2 ∷ Finished 0 3 ∷ [] }
+    ensures quiet { (session : SessionState) → session_after session no_flows (Probe 3) ≡ session }
+    ensures cause { (session : SessionState) → chunk_cause (in_stage Open session) no_flows
+        (Exception 0 7) ≡ Some FlowCause.UnknownFlow }
+    ensures closing { (session : SessionState) → chunk_cause (in_stage NearClose session) no_flows
+        (Next (chunk_of_flow 5 1 metadata)) ≡ Some FlowCause.WrongState }
+{}
+
+/// A session that has ended hands over nothing that a stopped call left ready.
+pub fn what_was_left_ready()
+    ensures held { (session : SessionState) → ready_in (in_stage Open session)
+        (data_taken no_flows (chunk_of_flow 5 1 metadata)) ≡ Some 5 }
+    ensures ended { (session : SessionState) → ready_in (in_stage NearClose session)
+        (data_taken no_flows (chunk_of_flow 5 1 metadata)) ≡ None }
+    ensures none { (session : SessionState) → ready_in (in_stage Open session)
+        (data_taken no_flows (chunk_of_flow 5 2 metadata)) ≡ None }
 {}
