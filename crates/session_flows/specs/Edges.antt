@@ -9,6 +9,7 @@ use Rattle.flow_send.specs.Edges.{numbers, unsent}
 use Rattle.flow_send.specs.Flow.{Flow, flow_options}
 use Rattle.flow_recv.specs.Receiver.{Receiver, fresh}
 use Rattle.session_core.specs.declared.stage.Stage.{Stage}
+use Rattle.session_core.specs.declared.stage.Stage.TheVariants.{Open}
 use Rattle.session_core.specs.Session.{SessionState}
 use Rattle.session_flows.specs.declared.taking.TakingFlow.{TakingFlow}
 use Rattle.session_flows.specs.declared.pace.Pace.{Pace}
@@ -66,6 +67,10 @@ pace_with moment window = record { moment = moment; resend_after = 1000; window 
 abbrev pub in_stage : Stage → SessionState → SessionState
 in_stage stage session = record session { stage = stage }
 
+-- an open session that timed no round trip, whose resend time is 1,000 ms
+abbrev pub untimed : SessionState → SessionState
+untimed session = record session { stage = Open; trip = None }
+
 -- neither a deadline nor a limit of resends
 abbrev pub no_limits : MessageOptions
 no_limits = record { deadline = None; resends = None }
@@ -82,6 +87,11 @@ two_messages = (queueing one_message 0 (8 ∷ 9 ∷ []) no_limits).flows
 
 abbrev pub finished_flow : FlowsState
 finished_flow = (finishing one_message 0).flows
+
+-- a message with this deadline, in flow 0 of two
+abbrev pub with_deadline : ℕ → FlowsState
+with_deadline deadline = (queueing (flows_of (new_at 0 ∷ new_at 1 ∷ []) []) 0 (7 ∷ [])
+    (record { deadline = Some deadline; resends = None })).flows
 
 -- metadata and an association, as options of a chunk
 abbrev pub metadata : Option (List OptionParts)

@@ -31,7 +31,11 @@ ghost use Rattle.session_flows.specs.Edges.{taking_with, fresh_at, owed_at, flow
 ghost use Rattle.session_flows.specs.Edges.{in_stage, no_limits, one_flow, one_message};
 ghost use Rattle.session_flows.specs.Edges.{two_messages, finished_flow, metadata, answering};
 ghost use Rattle.session_flows.specs.Edges.{made_answering, sending_some, sending_none};
-ghost use Rattle.session_flows.specs.Edges.{numbers_of};
+ghost use Rattle.session_flows.specs.Edges.{numbers_of, untimed, with_deadline};
+ghost use Rattle.session_flows.specs.Timing.{overdue_in, overdue_done, session_late};
+ghost use Rattle.session_flows.specs.Packing.{is_data_due};
+ghost use Rattle.session_core.specs.Congestion.{shrunk};
+ghost use Rattle.flow_send.specs.Edges.{three};
 
 use crate::cause::FlowCause;
 use crate::refusal::CallRefusal;
@@ -272,4 +276,42 @@ pub fn what_was_left_ready()
         (data_taken no_flows (chunk_of_flow 5 1 metadata)) ≡ None }
     ensures none { (session : SessionState) → ready_in (in_stage Open session)
         (data_taken no_flows (chunk_of_flow 5 2 metadata)) ≡ None }
+{}
+
+/// A message is abandoned at a tick above its deadline, also in a half-open session, and not in
+/// one that is closing. Then its number is told to be given up.
+pub fn deadlines()
+    ensures at_it { (session : SessionState) → overdue_in (in_stage Open session) (with_deadline 5)
+        5 ≡ None }
+    ensures above_it { (session : SessionState) → overdue_in (in_stage Open session)
+        (with_deadline 5) 6 ≡ Some (0, 1) }
+    ensures half_open { (session : SessionState) → overdue_in (in_stage Opening session)
+        (with_deadline 5) 6 ≡ Some (0, 1) }
+    ensures closing { (session : SessionState) → overdue_in (in_stage NearClose session)
+        (with_deadline 5) 6 ≡ None }
+    ensures stated { (overdue_done (with_deadline 5) (Some (0, 1))).stated ≡ Abandoned 0 1 ∷ [] }
+    ensures told { goes (pace_with 6 4380)
+        (overdue_done (with_deadline 5) (Some (0, 1))).flows.sending ≡ true }
+    ensures once { (session : SessionState) → overdue_in (in_stage Open session)
+        (overdue_done (with_deadline 5) (Some (0, 1))).flows 6 ≡ None }
+{}
+
+/// What was sent the resend time before is lost, and it is one loss by time, however many numbers
+/// and flows it is of. A session that has ended loses nothing.
+pub fn losses_by_time()
+    ensures before_it { (session : SessionState) → session_late (untimed session)
+        (flows_of (flow_with 0 4 three ∷ []) []) 1999 ≡ untimed session }
+    ensures at_it { (session : SessionState) → (session_late (untimed session)
+        (flows_of (flow_with 0 4 three ∷ []) []) 2000).congestion ≡ shrunk true session.congestion }
+    ensures of_two { (session : SessionState) → (session_late (untimed session)
+        (flows_of (flow_with 0 4 three ∷ flow_with 1 4 three ∷ []) []) 2000).congestion
+        ≡ shrunk true session.congestion }
+    ensures of_the_second { (session : SessionState) → (session_late (untimed session)
+        (flows_of (new_at 0 ∷ flow_with 1 4 three ∷ []) []) 2000).congestion
+        ≡ shrunk true session.congestion }
+    ensures ended { (session : SessionState) → session_late
+        (in_stage FarLinger (untimed session)) (flows_of (flow_with 0 4 three ∷ []) []) 2000
+        ≡ in_stage FarLinger (untimed session) }
+    ensures half_open_sends_nothing { (session : SessionState) → is_data_due
+        (in_stage Opening (untimed session)) one_message 0 ≡ false }
 {}
