@@ -17,18 +17,6 @@ pub rise_paid : (low : ℕ) (ts : List TakingFlow) → Rise low ts → Rise low 
 rise_paid low [] h = tt
 rise_paid low (t ∷ later) h = (h.0, rise_paid (t.id + 1) later h.1)
 
-length_paid : (ts : List TakingFlow) → length (map paid ts) ≡ length ts
-length_paid [] = refl
-length_paid (t ∷ later) = let k : length (map paid later) ≡ length later = length_paid later in omega arith
-
-pub sound_paid : (s : FlowsState) → IsSound s → IsSound (owing_none s)
-sound_paid s h = record {
-  numbered = h.numbered;
-  few = h.few;
-  rise = rise_paid 0 s.taking h.rise;
-  few_taking = omega (arith, length_paid s.taking, h.few_taking);
-}
-
 abbrev Same : List TakingFlow → List TakingFlow → Type 0
 Same xs ys = (length ys ≡ length xs) × ((low : ℕ) → Rise low xs → Rise low ys)
 
@@ -48,9 +36,6 @@ put_by t later packet false full ih =
 put_same : (ts : List TakingFlow) (packet : List ℕ) → Same ts (acks_put ts packet).taking
 put_same [] packet = (refl, λ low h. h)
 put_same (t ∷ later) packet = put_by t later packet t.owed (is_full_for t packet) (put_same later)
-
-pub rise_put : (ts : List TakingFlow) (packet : List ℕ) → Rise 0 ts → Rise 0 (acks_put ts packet).taking
-rise_put ts packet h = (put_same ts packet).1 0 h
 
 pub sound_put : (s : FlowsState) (packet : List ℕ) → IsSound s → IsSound (after_acks s packet)
 sound_put s packet h =

@@ -30,12 +30,6 @@ step pace fs at x within is =
     ap (λ (l : List Flow). first_to_send pace l) (drop_more fs at x within)
     ∙ ap (λ (y : Flow). first_to_send pace (y ∷ drop (at + 1) fs)) is
 
--- it may not send
-pub skips : (pace : Pace) (fs : List Flow) (at : ℕ) (x : Flow) (o : Option ℕ) → at < length fs → get_or fs at x ≡ x → may_send pace x ≡ false → IsNextFrom pace fs (at + 1) o → IsNextFrom pace fs at o
-skips pace fs at x None within is never h = step pace fs at x within is ∙ ap (λ (b : Bool). cond b (Some (before_other x (first_to_send pace (drop (at + 1) fs)))) (first_to_send pace (drop (at + 1) fs))) never ∙ h
-skips pace fs at x (Some i) within is never h =
-    (step pace fs at x within is ∙ ap (λ (b : Bool). cond b (Some (before_other x (first_to_send pace (drop (at + 1) fs)))) (first_to_send pace (drop (at + 1) fs))) never ∙ h.0, h.1)
-
 sends : (pace : Pace) (fs : List Flow) (at : ℕ) (x : Flow) (o : Option Flow) → at < length fs → get_or fs at x ≡ x → may_send pace x ≡ true → first_to_send pace (drop (at + 1) fs) ≡ o →
     first_to_send pace (drop at fs) ≡ Some (before_other x o)
 sends pace fs at x o within is so e =

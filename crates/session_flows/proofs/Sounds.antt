@@ -77,15 +77,3 @@ room_left s size priority h = room_by (length s.sending) size priority (nat_le 2
 pub numbered_losing : (moment resend n : ℕ) (fs : List Flow) → AreNumbered n fs → AreNumbered n (map (losing moment resend) fs)
 numbered_losing moment resend n [] h = tt
 numbered_losing moment resend n (x ∷ later) h = (h.0, numbered_losing moment resend (n + 1) later h.1)
-
-length_losing : (moment resend : ℕ) (fs : List Flow) → length (map (losing moment resend) fs) ≡ length fs
-length_losing moment resend [] = refl
-length_losing moment resend (x ∷ later) = let k : length (map (losing moment resend) later) ≡ length later = length_losing moment resend later in omega arith
-
-pub sound_losing : (moment resend : ℕ) (s : FlowsState) → IsSound s → IsSound (with_sending s (map (losing moment resend) s.sending))
-sound_losing moment resend s h = record {
-  numbered = numbered_losing moment resend 0 s.sending h.numbered;
-  few = omega (arith, length_losing moment resend s.sending, h.few);
-  rise = h.rise;
-  few_taking = h.few_taking;
-}
