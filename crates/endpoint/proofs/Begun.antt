@@ -12,8 +12,6 @@ use Rattle.crypto_profile.specs.Keys.{Keys}
 use Rattle.rtmfp_forms.specs.Address.{AddressParts, is_same_place}
 use Rattle.rtmfp_chunks.specs.Chunk.{Ping}
 use Rattle.glare_core.specs.declared.facts.Fact.{Fact}
-use Rattle.startup.specs.declared.cause.Cause.{Cause}
-use Rattle.startup.specs.declared.cause.Cause.TheVariants.{NoAttempt}
 use Rattle.startup.specs.declared.answer.Keyed.{Keyed}
 use Rattle.startup.specs.State.{AttemptState, StartupState}
 use Rattle.startup.specs.Keyings.{keyed, after_keying, opened, after_opening}
@@ -118,10 +116,6 @@ kept_opening settings secret print keys s t near fact is t_is =
     kept_end settings secret print keys s t (after_opening s near fact) is (opening_keeps s near fact) t_is
 
 -- ---- what isn't refused
-
-pub no_cause : (there : Bool) (cause : Option Cause) → (if there then cause else Some NoAttempt) ≡ None → cause ≡ None
-no_cause true cause e = e
-no_cause false cause e = absurd (cc)
 
 some_place : (candidates start place : Option OpenRefusal) → first_that_stands (candidates ∷ start ∷ place ∷ []) ≡ None → place ≡ None
 some_place None None None e = refl
