@@ -6,7 +6,8 @@ use Rattle.flow_send.specs.declared.waiting.MessageOptions.{MessageOptions}
 use Rattle.flow_send.specs.declared.outcome.QueueRefusal.{QueueRefusal}
 use Rattle.flow_send.specs.declared.outcome.QueueRefusal.TheVariants as sender
 use Rattle.flow_send.specs.Sender.{new_sender, next_of, queued, waits, abandoned, finished}
-use Rattle.flow_send.specs.Flow.{Flow, flow_options, with_sender, queue_refusal, next_message}
+use Rattle.flow_send.specs.Flow.{Flow, with_sender, queue_refusal, next_message}
+use Rattle.rtmfp_data_chunks.specs.FlowOptions.{flow_options}
 use Rattle.flow_send.specs.Flow.{is_finished}
 use Rattle.flow_send.specs.declared.outcome.NotQueued.{NotQueued as NotQueuedHere}
 use Rattle.session_flows.specs.declared.refusal.CallRefusal.{CallRefusal}

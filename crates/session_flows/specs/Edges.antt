@@ -6,7 +6,8 @@ use Rattle.rtmfp_data_chunks.specs.Chunk.{UserParts}
 use Rattle.flow_send.specs.declared.waiting.MessageOptions.{MessageOptions}
 use Rattle.flow_send.specs.Sender.{Sender, new_sender}
 use Rattle.flow_send.specs.Edges.{numbers, unsent}
-use Rattle.flow_send.specs.Flow.{Flow, flow_options}
+use Rattle.flow_send.specs.Flow.{Flow}
+use Rattle.rtmfp_data_chunks.specs.FlowOptions.{flow_options}
 use Rattle.flow_recv.specs.Receiver.{Receiver, fresh}
 use Rattle.session_core.specs.declared.stage.Stage.{Stage}
 use Rattle.session_core.specs.declared.stage.Stage.TheVariants.{Open}
