@@ -17,7 +17,7 @@ use Rattle.endpoint_model.specs.Effects.{Item, first_due, item_done, tick_once, 
 use Rattle.endpoint.specs.declared.ticking.DueItem.{DueItem}
 use Rattle.endpoint.specs.declared.ticking.DueItem.TheVariants.{Attempt, Session}
 use Rattle.session_table.specs.Table.{due_of as due_in_row}
-use Rattle.endpoint.specs.Steps.{row_due_by, attempt_done, session_item, attempt_or, due_item}
+use Rattle.endpoint.specs.DueItems.{row_due_by, attempt_done, session_item, attempt_or, due_item}
 use Rattle.endpoint.proofs.Begun.{none_due}
 
 -- ---- the first session, as the table tells it

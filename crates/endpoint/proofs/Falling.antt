@@ -27,7 +27,7 @@ use Rattle.endpoint_model.specs.InSessions.{is_row_due, sent_home, sent_home_by,
 use Rattle.endpoint_model.specs.Effects.{due_done, tick_once}
 use Rattle.endpoint.specs.declared.ticking.DueItem.{DueItem}
 use Rattle.endpoint.specs.declared.ticking.DueItem.TheVariants.{Attempt, Session}
-use Rattle.endpoint.specs.Steps.{attempt_done, due_item, row_due_by}
+use Rattle.endpoint.specs.DueItems.{attempt_done, due_item, row_due_by}
 use Rattle.endpoint.proofs.DueItems.{some_due, attempt_sends, attempt_is_next, session_is_next, next_done}
 
 -- ---- attempts

@@ -14,7 +14,7 @@ use Rattle.endpoint_model.specs.declared.place.Place.TheVariants.{Startup, Attem
 use Rattle.endpoint_model.specs.State.{State}
 use Rattle.endpoint_model.specs.Admission.{place_of, startup_keys}
 use Rattle.endpoint_laws.specs.OpensIn.{startup_unless, context_in_session, context_found, opens_in}
-use Rattle.endpoint.specs.NamedContext.{context_towards, context_of_place, named_context}
+use Rattle.end_state.specs.NamedContext.{context_towards, context_of_place, named_context}
 
 in_startup : (o : Option SealFault) (c : Context) → startup_unless o ≡ Some c → ◌≡◌ {A = Option Context} (Some StartupContext) (Some c)
 in_startup None c e = e

@@ -20,8 +20,8 @@ use Rattle.endpoint_model.specs.Admission.{sid_at}
 use Rattle.endpoint_model.specs.InSessions.{answers_by, told_in_session}
 use Rattle.endpoint_model.specs.Effects.{AreQuiet, IsQuiet, adds_nothing, chunk_did, discarded_or, discards_among, discards_for, effect, initiator_keyed, is_idle, is_told_in_session, read_done, responder_keyed, walked}
 use Rattle.endpoint_model.specs.Causes.{chunk_cause}
-use Rattle.endpoint.proofs.Introduced.{idle_redirect}
-use Rattle.endpoint.proofs.Relocating.{unmoved}
+use Rattle.end_chunks.proofs.Introduced.{idle_redirect}
+use Rattle.end_chunks.proofs.Relocating.{unmoved}
 
 -- Nothing has changed, what is left adds nothing but discards, and there is room for these.
 pub record IsRoomy (start s : State) (place : Place) (from : AddressParts) (walk : Walk) (rest : List Placed) (free : ℕ) : Type 0 where

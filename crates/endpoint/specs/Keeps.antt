@@ -1,7 +1,8 @@
 -- Whether an end keeps a session with a peer.
 use Rattle.std.specs.Prelude.{ℕ, Bool, true, false, List, Option, Some, None}
 use Rattle.glare_core.specs.declared.facts.Held.{Held}
-use Rattle.glare_core.specs.declared.facts.Held.TheVariants.{Opening, HalfOpen, KeptAsResponder, KeptAsInitiator}
+use Rattle.glare_core.specs.declared.facts.Held.TheVariants.{Opening, HalfOpen, KeptAsResponder}
+use Rattle.glare_core.specs.declared.facts.Held.TheVariants.{KeptAsInitiator}
 use Rattle.glare_core.specs.Ledger.{held_with}
 use Rattle.endpoint_model.specs.State.{State}
 

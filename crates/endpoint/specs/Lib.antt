@@ -1,7 +1,4 @@
-pub mod Stored
 pub mod Keeps
-pub mod NamedContext
 pub mod Kinds
-pub mod Judging
-pub mod Steps
+pub mod DueItems
 pub mod Walks

@@ -1,138 +1,95 @@
 //! How a datagram is taken, or refused as a whole (own rules over RFC 7016 section 3.5).
 
-ghost use Rattle.std.specs.Prelude.{◌≡◌, ◌≤◌, IfOk, IfErr, OnOk, Ok, Err, drop, length, take};
-ghost use Rattle.std.specs.Int.{w32, from_be_bytes};
+ghost use Rattle.std.specs.Prelude.{◌≡◌, IfOk, IfErr, OnOk, Ok, Err, drop, length, take};
 ghost use Rattle.std.specs.FinMap.{get};
 ghost use Rattle.rtmfp_packet.specs.Head.{mode_number};
-ghost use Rattle.endpoint_model.specs.Admission.{fault_number, has_mode, heard_in, mode_at, opened_datagram, opened_in_startup, peers_mode, place_of, placed};
+ghost use Rattle.endpoint_model.specs.Admission.{fault_number, has_mode, heard_in, mode_at};
+ghost use Rattle.endpoint_model.specs.Admission.{opened_datagram, opened_in_startup, peers_mode};
 
-use crate::endpoint::Endpoint;
-use crypto_profile::{CIPHERED_AT, open_in_place};
+use crypto_profile::open_in_place;
+use end_state::{EndState, PLAIN_AT, word_of};
 use endpoint_model::Place;
 use packet_scramble::{SEALED_AT, unscramble};
 use rtmfp_packet::{Mode, PacketFault, PacketHead};
 use session_core::{Role, Unheard};
 use startup::Cause;
 
-/// The bytes of a datagram before its plain packet.
-pub(crate) const PLAIN_AT: usize = SEALED_AT + CIPHERED_AT;
-
-impl Endpoint {
-    /// What a session ID names.
-    pub(crate) fn place_of(&self, sid: u32) -> Option<Place>
-        ensures { result ≡ place_of self.now sid }
-    {
-        if sid == 0 {
-            Some(Place::Startup)
-        } else if self.startup.has_attempt(sid) {
-            Some(Place::Attempt(sid))
-        } else if self.sessions.has(sid) {
-            Some(Place::Session(sid))
-        } else {
-            None
-        }
-    }
-
-    /// Opens a sealed part in the startup context, in place.
-    fn open_in_startup(&self, sid: u32, part: &mut [u8]) -> Result<(), Cause>
-        ensures ok { OnOk result (opened_in_startup self.now sid part.old ≡ Ok (drop 32 part.new)) }
-        ensures err { IfErr result (λ cause. opened_in_startup self.now sid part.old ≡ Err cause) }
-        ensures front { OnOk result (take 32 part.new ≡ take 32 part.old) }
-        ensures length { length part.new ≡ length part.old }
-    {
-        match open_in_place(&self.keys, sid, part) {
-            Ok(_) => Ok(()),
-            Err(_) => Err(Cause::BadTag),
-        }
-    }
-
-    /// Opens a sealed part in a session, in place. It takes no number yet.
-    fn open_in_session(&self, near: u32, part: &mut [u8]) -> Result<(), Cause>
-        ensures ok { OnOk result (heard_in (get self.now.sessions near) part.old
-            ≡ Ok (drop 32 part.new)) }
-        ensures err { IfErr result (λ cause. heard_in (get self.now.sessions near) part.old
-            ≡ Err cause) }
-        ensures front { OnOk result (take 32 part.new ≡ take 32 part.old) }
-        ensures length { length part.new ≡ length part.old }
-    {
-        match self.sessions.row(near) {
-            Some(row) => match row.session.open(part) {
-                Ok(_) => Ok(()),
-                Err(Unheard::Short) => Err(Cause::Short),
-                Err(Unheard::BadTag) => Err(Cause::BadTag),
-                Err(Unheard::Repeated) => Err(Cause::Repeated),
-            },
-            None => Err(Cause::UnknownSession),
-        }
-    }
-
-    /// Looks up the session that a datagram's session ID names, where it names one, so that it is
-    /// found at once from now on.
-    pub(crate) fn look_up(&mut self, datagram: &[u8])
-        ensures { self.new ≡ self.old }
-    {
-        if datagram.len() < PLAIN_AT {
-            return;
-        }
-        let (head, part) = datagram.split_at(SEALED_AT);
-        let sid = unscramble(word_of(head), part);
-        self.sessions.look_up(sid);
-    }
-
-    /// Opens a datagram in place, and says where it belongs, or why it is refused. Nothing of it
-    /// counts as taken yet.
-    pub(crate) fn open_datagram(&self, datagram: &mut [u8]) -> Result<Place, Cause>
-        ensures ok { IfOk result (λ place. opened_datagram self.now datagram.old
-            ≡ Ok (place, drop 36 datagram.new)) }
-        ensures err { IfErr result (λ cause. opened_datagram self.now datagram.old ≡ Err cause) }
-        ensures front { OnOk result (take 36 datagram.new ≡ take 36 datagram.old) }
-        ensures length { length datagram.new ≡ length datagram.old }
-    {
-        if datagram.len() < PLAIN_AT {
-            return Err(Cause::Short);
-        }
-        let (head, part) = datagram.split_at_mut(SEALED_AT);
-        let sid = unscramble(word_of(head), part);
-        match self.place_of(sid) {
-            Some(Place::Startup) => match self.open_in_startup(0, part) {
-                Ok(()) => Ok(Place::Startup),
-                Err(cause) => Err(cause),
-            },
-            Some(Place::Attempt(near)) => match self.open_in_startup(near, part) {
-                Ok(()) => Ok(Place::Attempt(near)),
-                Err(cause) => Err(cause),
-            },
-            Some(Place::Session(near)) => match self.open_in_session(near, part) {
-                Ok(()) => Ok(Place::Session(near)),
-                Err(cause) => Err(cause),
-            },
-            None => Err(Cause::UnknownSession),
-        }
-    }
-
-    /// The mode that packets have at a place.
-    pub(crate) fn mode_at(&self, place: Place) -> Mode
-        ensures { result ≡ mode_at self.now place }
-    {
-        match place {
-            Place::Startup => Mode::Startup,
-            Place::Attempt(_) => Mode::Startup,
-            Place::Session(near) => match self.sessions.row(near) {
-                Some(row) => peers_mode(row.session.role()),
-                None => Mode::Startup,
-            },
-        }
+/// Opens a sealed part in the startup context, in place.
+fn open_in_startup(end: &EndState, sid: u32, part: &mut [u8]) -> Result<(), Cause>
+    ensures ok { OnOk result (opened_in_startup end.now sid part.old ≡ Ok (drop 32 part.new)) }
+    ensures err { IfErr result (λ cause. opened_in_startup end.now sid part.old ≡ Err cause) }
+    ensures front { OnOk result (take 32 part.new ≡ take 32 part.old) }
+    ensures length { length part.new ≡ length part.old }
+{
+    match open_in_place(&end.keys, sid, part) {
+        Ok(_) => Ok(()),
+        Err(_) => Err(Cause::BadTag),
     }
 }
 
-/// The first four bytes, as one number.
-pub(crate) fn word_of(head: &[u8]) -> u32
-    requires { length head.now ≡ 4 }
-    ensures { result ≡ from_be_bytes w32 head.now }
+/// Opens a sealed part in a session, in place. It takes no number yet.
+fn open_in_session(end: &EndState, near: u32, part: &mut [u8]) -> Result<(), Cause>
+    ensures ok { OnOk result (heard_in (get end.now.sessions near) part.old
+        ≡ Ok (drop 32 part.new)) }
+    ensures err { IfErr result (λ cause. heard_in (get end.now.sessions near) part.old
+        ≡ Err cause) }
+    ensures front { OnOk result (take 32 part.new ≡ take 32 part.old) }
+    ensures length { length part.new ≡ length part.old }
 {
-    let mut word = [0; 4];
-    word.copy_from_slice(head);
-    u32::from_be_bytes(word)
+    match end.sessions.row(near) {
+        Some(row) => match row.session.open(part) {
+            Ok(_) => Ok(()),
+            Err(Unheard::Short) => Err(Cause::Short),
+            Err(Unheard::BadTag) => Err(Cause::BadTag),
+            Err(Unheard::Repeated) => Err(Cause::Repeated),
+        },
+        None => Err(Cause::UnknownSession),
+    }
+}
+
+/// Opens a datagram in place, and says where it belongs, or why it is refused. Nothing of it
+/// counts as taken yet.
+pub(crate) fn open_datagram(end: &EndState, datagram: &mut [u8]) -> Result<Place, Cause>
+    ensures ok { IfOk result (λ place. opened_datagram end.now datagram.old
+        ≡ Ok (place, drop 36 datagram.new)) }
+    ensures err { IfErr result (λ cause. opened_datagram end.now datagram.old ≡ Err cause) }
+    ensures front { OnOk result (take 36 datagram.new ≡ take 36 datagram.old) }
+    ensures length { length datagram.new ≡ length datagram.old }
+{
+    if datagram.len() < PLAIN_AT {
+        return Err(Cause::Short);
+    }
+    let (head, part) = datagram.split_at_mut(SEALED_AT);
+    let sid = unscramble(word_of(head), part);
+    match end.place_of(sid) {
+        Some(Place::Startup) => match open_in_startup(end, 0, part) {
+            Ok(()) => Ok(Place::Startup),
+            Err(cause) => Err(cause),
+        },
+        Some(Place::Attempt(near)) => match open_in_startup(end, near, part) {
+            Ok(()) => Ok(Place::Attempt(near)),
+            Err(cause) => Err(cause),
+        },
+        Some(Place::Session(near)) => match open_in_session(end, near, part) {
+            Ok(()) => Ok(Place::Session(near)),
+            Err(cause) => Err(cause),
+        },
+        None => Err(Cause::UnknownSession),
+    }
+}
+
+/// The mode that packets have at a place.
+pub(crate) fn mode_at(end: &EndState, place: Place) -> Mode
+    ensures { result ≡ mode_at end.now place }
+{
+    match place {
+        Place::Startup => Mode::Startup,
+        Place::Attempt(_) => Mode::Startup,
+        Place::Session(near) => match end.sessions.row(near) {
+            Some(row) => peers_mode(row.session.role()),
+            None => Mode::Startup,
+        },
+    }
 }
 
 /// The mode of the packets of the peer of an end with this role.

@@ -1,14 +1,13 @@
 //! Attempts that are opened and given up.
 
-ghost use Rattle.std.specs.Prelude.{◌≡◌, ◌+◌, IfErr, IfNone, IfOk, IfSome, IsSome, None, OnErr, OnOk, Err};
+ghost use Rattle.std.specs.Prelude.{◌≡◌, ◌+◌, IfErr, IfNone, IfOk, IfSome, None, OnErr, OnOk, Err};
 ghost use Rattle.startup.specs.Attempts.{cancel_fact};
 ghost use Rattle.endpoint_model.specs.Effects.{cancelling, open_refusal, opening};
 ghost use Rattle.endpoint_model.specs.Log.{Extends, cancel_event, open_event};
 ghost use Rattle.endpoint_model.specs.State.{Done, at_moment, nothing};
 
 use crate::endpoint::Endpoint;
-use crate::outbox::Outbox;
-use crate::sending::blanks;
+use end_state::{EndState, Outbox, blanks};
 use endpoint_model::{CallRefusal, Draws, Entry, OpenRefusal};
 use identity::Epd;
 use rtmfp_forms::Address;
@@ -47,62 +46,15 @@ impl Endpoint {
             (open_event moment epd.now.print candidates.now draws.now result out.old.entries
             out.new.entries) }
     {
-        self.advance(moment);
-        if let Some(refusal) = self.open_refusal(epd, candidates) {
+        self.end.advance(moment);
+        if let Some(refusal) = open_refusal(&self.end, epd, candidates) {
             return Err(refusal);
         }
-        match self.begin(epd, candidates, draws, out) {
-            Ok(n) => Ok(n),
-            Err(_) => Err(OpenRefusal::Memory),
-        }
-    }
-
-    /// Why no attempt is opened, but for want of memory.
-    fn open_refusal(&self, epd: &Epd, candidates: &[Address]) -> Option<OpenRefusal>
-        ensures { result ≡ open_refusal self.now epd.now.print candidates.now }
-    {
-        let count = candidates.len();
-        if count == 0 || count > CANDIDATES {
-            return Some(OpenRefusal::Candidates(count as u64));
-        }
-        if let Some(refusal) = self.startup.peers().start_refusal(&epd.print) {
-            return Some(OpenRefusal::Start(refusal));
-        }
-        match self.full() {
-            Some(limit) => Some(OpenRefusal::SessionsFull(u64::from(limit))),
-            None => None,
-        }
-    }
-
-    /// Opens an attempt that nothing refuses.
-    fn begin(
-        &mut self,
-        epd: &Epd,
-        candidates: &[Address],
-        draws: &Draws,
-        out: &mut Outbox,
-    ) -> Result<u64, AllocError>
-        requires { open_refusal self.old epd.now.print candidates.now ≡ None }
-        ensures number { IfOk result (λ n. n ≡ self.old.startup.ledger.started + 1) }
-        ensures ok { OnOk result (Done (opening self.old epd.now.print candidates.now draws.now)
-            self.new out.old out.new) }
-        ensures err { OnErr result (Done (nothing self.old) self.new out.old out.new) }
-    {
-        let near = self.free_from(draws.word);
-        let n = self.startup.peers().started() + 1;
-        let blanks = blanks(self.alloc, candidates.len())?;
-        out.make_room(1 + candidates.len())?;
-        match self
-            .startup
-            .begin(epd, candidates, near, draws.nonce, draws.tag, self.moment)
-        {
-            Ok((fact, spread)) => {
-                out.add(Entry::Fact(fact));
-                self.send_each(blanks, spread.addresses(), &spread.plain, out);
-                Ok(n)
-            }
-            Err(_) => Err(AllocError),
-        }
+        let n = match begin(&mut self.end, epd, candidates, draws, out) {
+            Ok(n) => n,
+            Err(_) => return Err(OpenRefusal::Memory),
+        };
+        Ok(n)
     }
 
     /// Gives up the held attempt with this number.
@@ -121,24 +73,73 @@ impl Endpoint {
         ensures stands { Extends self.old self.new
             (cancel_event n result out.old.entries out.new.entries) }
     {
-        if !self.startup.has_number(n) {
+        if !self.end.has_number(n) {
             return Err(CallRefusal::NoAttempt);
         }
-        match self.give_up(n, out) {
-            Ok(()) => Ok(()),
-            Err(_) => Err(CallRefusal::Memory),
-        }
-    }
-
-    /// Gives up the attempt with this number, if there is one.
-    fn give_up(&mut self, n: u64, out: &mut Outbox) -> Result<(), AllocError>
-        ensures ok { OnOk result (Done (cancelling self.old n) self.new out.old out.new) }
-        ensures err { OnErr result (Done (nothing self.old) self.new out.old out.new) }
-    {
-        out.make_room(1)?;
-        if let Some(fact) = self.startup.cancel(n) {
-            out.add(Entry::Fact(fact));
+        match give_up(&mut self.end, n, out) {
+            Ok(()) => {}
+            Err(_) => return Err(CallRefusal::Memory),
         }
         Ok(())
     }
+}
+
+/// Why no attempt is opened, but for want of memory.
+fn open_refusal(end: &EndState, epd: &Epd, candidates: &[Address]) -> Option<OpenRefusal>
+    ensures { result ≡ open_refusal end.now epd.now.print candidates.now }
+{
+    let count = candidates.len();
+    if count == 0 || count > CANDIDATES {
+        return Some(OpenRefusal::Candidates(count as u64));
+    }
+    if let Some(refusal) = end.startup.peers().start_refusal(&epd.print) {
+        return Some(OpenRefusal::Start(refusal));
+    }
+    match end.full() {
+        Some(limit) => Some(OpenRefusal::SessionsFull(u64::from(limit))),
+        None => None,
+    }
+}
+
+/// Opens an attempt that nothing refuses.
+fn begin(
+    end: &mut EndState,
+    epd: &Epd,
+    candidates: &[Address],
+    draws: &Draws,
+    out: &mut Outbox,
+) -> Result<u64, AllocError>
+    requires { open_refusal end.old epd.now.print candidates.now ≡ None }
+    ensures number { IfOk result (λ n. n ≡ end.old.startup.ledger.started + 1) }
+    ensures ok { OnOk result (Done (opening end.old epd.now.print candidates.now draws.now)
+        end.new out.old out.new) }
+    ensures err { OnErr result (Done (nothing end.old) end.new out.old out.new) }
+{
+    let near = end.free_from(draws.word);
+    let n = end.startup.peers().started() + 1;
+    let blanks = blanks(end.alloc, candidates.len())?;
+    out.make_room(1 + candidates.len())?;
+    match end
+        .startup
+        .begin(epd, candidates, near, draws.nonce, draws.tag, end.moment)
+    {
+        Ok((fact, spread)) => {
+            out.add(Entry::Fact(fact));
+            end.send_each(blanks, spread.addresses(), &spread.plain, out);
+            Ok(n)
+        }
+        Err(_) => Err(AllocError),
+    }
+}
+
+/// Gives up the attempt with this number, if there is one.
+fn give_up(end: &mut EndState, n: u64, out: &mut Outbox) -> Result<(), AllocError>
+    ensures ok { OnOk result (Done (cancelling end.old n) end.new out.old out.new) }
+    ensures err { OnErr result (Done (nothing end.old) end.new out.old out.new) }
+{
+    out.make_room(1)?;
+    if let Some(fact) = end.startup.cancel(n) {
+        out.add(Entry::Fact(fact));
+    }
+    Ok(())
 }

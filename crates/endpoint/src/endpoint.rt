@@ -1,13 +1,12 @@
 //! One end.
 
-use crate::settings::Settings;
-use crypto_profile::{Context, Keys};
+ghost use Rattle.std.specs.Prelude.{◌≡◌};
+ghost use Rattle.endpoint.specs.Keeps.{keeps};
+
+use end_state::EndState;
 use endpoint_model::Config;
 use glare_core::Held;
 use identity::Certificate;
-use introducer::Directory;
-use session_table::SessionTable;
-use startup::Startup;
 use std::alloc::Global;
 use std::marker::Model;
 
@@ -18,42 +17,23 @@ use std::marker::Model;
 /// introduces, and its rows of addresses.
 #[derive(Drop)]
 pub struct Endpoint {
-    pub(crate) alloc: Global,
-    pub(crate) settings: Settings,
-    pub(crate) moment: u64,
-    pub(crate) secret: [u8; 32],
-    /// The fingerprint of the own certificate.
-    pub(crate) print: [u8; 32],
-    /// The keys of startup packets.
-    pub(crate) keys: Keys,
-    /// How many startup packets were sealed.
-    pub(crate) sealed: u64,
-    pub(crate) startup: Startup,
-    pub(crate) sessions: SessionTable,
+    pub(crate) end: EndState,
 }
 
 impl Model for Endpoint {
-    ghost use Rattle.endpoint_model.specs.State.{State, state_code};
-    ghost use Rattle.endpoint_model.specs.contracts.config.Config as config_type;
-    ghost use Rattle.startup.specs.contracts.startup.Startup as startup_type;
-    ghost use Rattle.endpoint_model.specs.contracts.row.Row as row_type;
-    ghost use Rattle.rtmfp_forms.specs.contracts.address.Address as address_type;
+    ghost use Rattle.endpoint_model.specs.State.{State};
+    ghost use Rattle.end_state.specs.contracts.end_state.EndState as end_type;
 
     ghost Value = { State };
 
-    ghost coded = { state_code config_type.the_row.coded startup_type.the_row.coded
-        row_type.the_row.coded address_type.the_row.coded };
+    ghost coded = { end_type.the_row.coded };
 
-    ghost use Rattle.endpoint.specs.Stored.{state_of, IsEndpoint};
-
-    ghost view = { λ e. state_of e.settings e.moment e.sealed e.startup e.sessions.rows };
-
-    ghost invariant = { λ e. IsEndpoint e.settings e.secret e.print e.keys e.startup };
+    ghost view = { λ e. e.end };
 }
 
 impl Endpoint {
     ghost use Rattle.std.specs.Prelude.{◌≡◌, ◌≤◌, []};
-    ghost use Rattle.endpoint_model.specs.State.{fresh, at_moment};
+    ghost use Rattle.endpoint_model.specs.State.{fresh};
     ghost use Rattle.endpoint_model.specs.Log.{StandsFor};
     ghost use Rattle.endpoint.specs.Keeps.{keeps};
 
@@ -82,21 +62,8 @@ impl Endpoint {
           cookie_secret = cookie_secret;
         }) [] result }
     {
-        let print = cert.print();
         Endpoint {
-            alloc,
-            settings: Settings {
-                config,
-                introduces: config.introduces,
-                directory: Directory::new(alloc),
-            },
-            moment: 0,
-            secret,
-            print,
-            keys: Keys::of(&secret, &Context::Startup),
-            sealed: 0,
-            startup: Startup::new(alloc, cert, secret, cookie_secret, config.max_peers),
-            sessions: SessionTable::new(alloc),
+            end: EndState::new(alloc, config, cert, secret, cookie_secret),
         }
     }
 
@@ -105,19 +72,19 @@ impl Endpoint {
     pub fn keeps(&self, peer: &[u8; 32]) -> bool
         ensures { result ≡ keeps self.now peer.now }
     {
-        match self.startup.peers().held(peer) {
-            Some(Held::KeptAsResponder(_)) => true,
-            Some(Held::KeptAsInitiator(_)) => true,
-            Some(Held::HalfOpen(_)) => false,
-            Some(Held::Opening { .. }) => false,
-            None => false,
-        }
+        keeps(&self.end, peer)
     }
+}
 
-    /// Notes the moment that a call is given.
-    pub(crate) fn advance(&mut self, moment: u64)
-        ensures { self.new ≡ at_moment self.old moment }
-    {
-        self.moment = self.moment.max(moment);
+/// Whether an end keeps a session with this peer.
+fn keeps(end: &EndState, peer: &[u8; 32]) -> bool
+    ensures { result ≡ keeps end.now peer.now }
+{
+    match end.startup.peers().held(peer) {
+        Some(Held::KeptAsResponder(_)) => true,
+        Some(Held::KeptAsInitiator(_)) => true,
+        Some(Held::HalfOpen(_)) => false,
+        Some(Held::Opening { .. }) => false,
+        None => false,
     }
 }

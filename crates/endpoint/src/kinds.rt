@@ -5,6 +5,7 @@ ghost use Rattle.rtmfp_packet.specs.declared.head.PacketFault.{PacketFault as Pa
 ghost use Rattle.rtmfp_packet.specs.Reading.{PacketReading};
 ghost use Rattle.rtmfp_packet.specs.Whole.{Whole};
 ghost use Rattle.endpoint.specs.Kinds.{kinds_in, kinds_left, kinds_read};
+ghost use Rattle.std.specs.Iterator.{YieldsFirst, item_count};
 
 use rtmfp_packet::{Chunks, read_packet};
 

@@ -3,29 +3,18 @@
 
 mod admission;
 mod attempts;
-mod chunks;
 mod closing;
 mod contexts;
 mod endpoint;
 mod introducing;
-mod judging;
-mod keyings;
 mod kinds;
-mod moving;
-mod outbox;
 mod receiving;
-mod sealing;
-mod sending;
-mod session_ids;
-mod session_sending;
-mod session_steps;
 mod session_ticking;
-mod settings;
 mod ticking;
 
+pub use end_state::Outbox;
 pub use endpoint::Endpoint;
 pub use endpoint_laws::laws;
 pub use endpoint_model::{CallRefusal, Config, Draws, Entry, OpenRefusal, Stopped};
 pub use introducer::RowRefusal;
 pub use kinds::{Kinds, outgoing_kinds};
-pub use outbox::Outbox;

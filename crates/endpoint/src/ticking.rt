@@ -1,15 +1,15 @@
 //! What time makes due.
 
-ghost use Rattle.std.specs.Prelude.{◌≡◌, ◌≤◌, ℕ, IsSome, None, OnErr, OnOk, Some};
+ghost use Rattle.std.specs.Prelude.{◌≡◌, ℕ, IsSome, None, OnErr, OnOk, Some};
 ghost use Rattle.startup.specs.Due.{due, due_sends};
 ghost use Rattle.endpoint_model.specs.Effects.{first_due, tick_once, ticks};
 ghost use Rattle.endpoint_model.specs.Log.{Extends, tick_event};
 ghost use Rattle.endpoint_model.specs.State.{Done, at_moment, nothing};
-ghost use Rattle.endpoint.specs.Steps.{attempt_done, due_item};
+ghost use Rattle.endpoint.specs.DueItems.{attempt_done, due_item};
 
 use crate::endpoint::Endpoint;
-use crate::outbox::Outbox;
-use crate::sending::blanks;
+use crate::session_ticking::{due_session, session_due};
+use end_state::{EndState, Outbox, blanks};
 use endpoint_model::{Draws, Entry};
 use rtmfp_base::Memory;
 use session_core::SessionDue;
@@ -43,69 +43,69 @@ impl Endpoint {
         ensures stands { Extends self.old self.new
             (tick_event moment draws.now result out.old.entries out.new.entries) }
     {
-        self.advance(moment);
-        self.do_due(out)
+        self.end.advance(moment);
+        do_due(&mut self.end, out)
     }
+}
 
-    /// Does all that is due at the moment that is kept.
-    fn do_due(&mut self, out: &mut Outbox) -> Result<(), Memory>
-        ensures some { (count : ℕ) × Done (ticks count self.old) self.new out.old out.new }
-        ensures all { OnOk result (first_due self.new ≡ None) }
-        ensures left { OnErr result (IsSome (first_due self.new)) }
-    {
-        // Each attempt and each session is due once at a moment, so this ends.
-        while let Some(item) = self.first_due() {
-            match self.do_item(item, out) {
-                Ok(()) => {}
-                Err(_) => return Err(Memory),
+/// Does all that is due at the moment that is kept.
+fn do_due(end: &mut EndState, out: &mut Outbox) -> Result<(), Memory>
+    ensures some { (count : ℕ) × Done (ticks count end.old) end.new out.old out.new }
+    ensures all { OnOk result (first_due end.new ≡ None) }
+    ensures left { OnErr result (IsSome (first_due end.new)) }
+{
+    // Each attempt and each session is due once at a moment, so this ends.
+    while let Some(item) = first_due(end) {
+        match do_item(end, item, out) {
+            Ok(()) => {}
+            Err(_) => return Err(Memory),
+        }
+    }
+    Ok(())
+}
+
+/// The first thing that is due: of attempts, and then of sessions.
+fn first_due(end: &EndState) -> Option<DueItem>
+    ensures { result ≡ due_item end.now }
+{
+    match end.startup.due_sends(end.moment) {
+        Some(sends) => Some(DueItem::Attempt { sends }),
+        None => due_session(end),
+    }
+}
+
+/// Does the first thing that is due.
+fn do_item(end: &mut EndState, item: DueItem, out: &mut Outbox) -> Result<(), AllocError>
+    requires { due_item end.old ≡ Some item }
+    ensures ok { OnOk result (Done (tick_once end.old) end.new out.old out.new) }
+    ensures err { OnErr result (Done (nothing end.old) end.new out.old out.new) }
+{
+    match item {
+        DueItem::Attempt { sends } => attempt_due(end, sends, out),
+        DueItem::Session { near, due } => session_due(end, near, due, out),
+    }
+}
+
+/// Does the first thing that is due of attempts, which sends so many datagrams.
+fn attempt_due(end: &mut EndState, sends: usize, out: &mut Outbox) -> Result<(), AllocError>
+    requires { due_sends end.old.startup end.old.moment ≡ Some sends }
+    ensures ok { OnOk result (Done (attempt_done end.old
+        (due end.old.startup end.old.moment)) end.new out.old out.new) }
+    ensures err { OnErr result (Done (nothing end.old) end.new out.old out.new) }
+{
+    let mut blanks = blanks(end.alloc, sends)?;
+    out.make_room(sends.max(1))?;
+    match end.startup.due(end.moment) {
+        Some(Due::Ended(fact)) => out.add(Entry::Fact(fact)),
+        Some(Due::Hello(spread)) => {
+            end.send_each(blanks, spread.addresses(), &spread.plain, out);
+        }
+        Some(Due::Keying(answer)) => {
+            if let Some(blank) = blanks.pop() {
+                end.send_answer(blank, &answer, out);
             }
         }
-        Ok(())
+        None => {}
     }
-
-    /// The first thing that is due: of attempts, and then of sessions.
-    fn first_due(&self) -> Option<DueItem>
-        ensures { result ≡ due_item self.now }
-    {
-        match self.startup.due_sends(self.moment) {
-            Some(sends) => Some(DueItem::Attempt { sends }),
-            None => self.due_session(),
-        }
-    }
-
-    /// Does the first thing that is due.
-    fn do_item(&mut self, item: DueItem, out: &mut Outbox) -> Result<(), AllocError>
-        requires { due_item self.old ≡ Some item }
-        ensures ok { OnOk result (Done (tick_once self.old) self.new out.old out.new) }
-        ensures err { OnErr result (Done (nothing self.old) self.new out.old out.new) }
-    {
-        match item {
-            DueItem::Attempt { sends } => self.attempt_due(sends, out),
-            DueItem::Session { near, due } => self.session_due(near, due, out),
-        }
-    }
-
-    /// Does the first thing that is due of attempts, which sends so many datagrams.
-    fn attempt_due(&mut self, sends: usize, out: &mut Outbox) -> Result<(), AllocError>
-        requires { due_sends self.old.startup self.old.moment ≡ Some sends }
-        ensures ok { OnOk result (Done (attempt_done self.old
-            (due self.old.startup self.old.moment)) self.new out.old out.new) }
-        ensures err { OnErr result (Done (nothing self.old) self.new out.old out.new) }
-    {
-        let mut blanks = blanks(self.alloc, sends)?;
-        out.make_room(sends.max(1))?;
-        match self.startup.due(self.moment) {
-            Some(Due::Ended(fact)) => out.add(Entry::Fact(fact)),
-            Some(Due::Hello(spread)) => {
-                self.send_each(blanks, spread.addresses(), &spread.plain, out);
-            }
-            Some(Due::Keying(answer)) => {
-                if let Some(blank) = blanks.pop() {
-                    self.send_answer(blank, &answer, out);
-                }
-            }
-            None => {}
-        }
-        Ok(())
-    }
+    Ok(())
 }

@@ -1,16 +1,16 @@
-use Rattle.std.proofs.Common.{rules, subst}
-use Rattle.endpoint_model.specs.State.{State}
+use Rattle.std.proofs.Common.{rules, ap, ◌∙◌, subst}
+use Rattle.endpoint_model.specs.State.{State, at_moment}
 use Rattle.endpoint.proofs.Begun.{SomeDone}
 use Rattle.endpoint.proofs.Extending.{tick_extends}
 use Rattle.endpoint.proofs.endpoint.Endpoint.tick.Goals as goal
 
 pub returns-clause-some : goal.returns-clause-some
-returns-clause-some c = subst (λ (s : State). SomeDone s c.do_due.new.self c.args.out.now c.do_due.new.out) c.advance.ensures c.do_due.ensures.some
+returns-clause-some c = subst (λ (s : State). SomeDone s c.do_due.new.end c.args.out.now c.do_due.new.out) (c.advance.ensures ∙ ap (λ (s : State). at_moment s c.args.moment) c.self.view_is) c.do_due.ensures.some
 
 pub returns-clause-stands : goal.returns-clause-stands
 returns-clause-stands c =
-    tick_extends c.args.self.now c.do_due.new.self c.args.moment c.args.draws.now c.do_due.result c.args.out.now c.do_due.new.out
-    (subst (λ (s : State). SomeDone s c.do_due.new.self c.args.out.now c.do_due.new.out) c.advance.ensures c.do_due.ensures.some) c.do_due.ensures.all
+    tick_extends c.args.self.now c.do_due.new.end c.args.moment c.args.draws.now c.do_due.result c.args.out.now c.do_due.new.out
+    (subst (λ (s : State). SomeDone s c.do_due.new.end c.args.out.now c.do_due.new.out) (c.advance.ensures ∙ ap (λ (s : State). at_moment s c.args.moment) c.self.view_is) c.do_due.ensures.some) c.do_due.ensures.all
 
 -- so that a wrong body is refused fast
 pub returns-clause-left : goal.returns-clause-left

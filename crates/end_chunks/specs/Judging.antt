@@ -1,0 +1,146 @@
+-- A chunk that isn't discarded, as it was read once and with what was found of it.
+use Rattle.std.specs.Prelude.{ℕ, ◌==◌, ◌≤◌, not, Bool, true, if◌then◌else◌, [], ◌∷◌, length, Option}
+use Rattle.std.specs.Prelude.{Some, None, Ok, ◌≡◌}
+use Rattle.std.specs.FinMap.{get}
+use Rattle.rtmfp_forms.specs.Address.{AddressParts}
+use Rattle.rtmfp_chunks.specs.Chunk.{chunk_of, Chunk}
+use Rattle.rtmfp_chunks.specs.Chunk.{Close as CloseChunk, CloseAck as CloseAckChunk}
+use Rattle.rtmfp_chunks.specs.Chunk.{PingReply as PingReplyChunk}
+use Rattle.rtmfp_chunks.specs.FieldReading.{chunk_reading}
+use Rattle.rtmfp_chunks.specs.declared.kinds.TheConstants.{FRAGMENT, CLOSE, CLOSE_ACK}
+use Rattle.rtmfp_packet.specs.Walk.{Placed}
+use Rattle.identity.specs.Discriminators.{discriminator_of}
+use Rattle.rtmfp_chunks.specs.Writing.{IsWritable, chunk_bytes}
+use Rattle.glare_core.specs.Calls.{where_true, first_that_stands}
+use Rattle.startup.specs.declared.cause.Cause.{Cause}
+use Rattle.startup.specs.declared.cause.Cause.TheVariants.{WrongPlace, WrongState}
+use Rattle.startup.specs.declared.cause.Cause.TheVariants.{Fragment as FragmentCause}
+use Rattle.startup.specs.State.{peer_of_attempt}
+use Rattle.startup.specs.Attempts.{wide, rhello_cause, cookie_change_cause, after_rhello}
+use Rattle.startup.specs.Attempts.{rhello_keying, after_cookie_change, cookie_change_keying}
+use Rattle.startup.specs.Keyings.{initiator_keying_in, responder_keying_in, initiator_hello_answer}
+use Rattle.startup.specs.Redirects.{adds, after_redirect, redirect_cause, redirect_spread}
+use Rattle.startup.specs.Read.{initiator_of, responder_of}
+use Rattle.startup.specs.Judging.{judged_initiator}
+use Rattle.endpoint_model.specs.declared.config.Draws.{Draws}
+use Rattle.endpoint_model.specs.declared.place.Place.{Place}
+use Rattle.endpoint_model.specs.State.{State, Did, nothing, with_startup, full}
+use Rattle.endpoint_model.specs.Sending.{sent_answer, sent_if, sent_in_session}
+use Rattle.endpoint_model.specs.Admission.{sid_at}
+use Rattle.session_core.specs.declared.stage.Stage.{Stage}
+use Rattle.session_core.specs.Closing.{is_held, is_near_close}
+use Rattle.endpoint_model.specs.InSessions.{answers_by, close_taken_by, closed, moved_by}
+use Rattle.endpoint_model.specs.InSessions.{told_in_session}
+use Rattle.endpoint_model.specs.Causes.{has_state_for, read_cause, takes}
+use Rattle.endpoint_model.specs.Effects.{initiator_keyed, responder_keyed, read_done}
+use Rattle.endpoint_model.specs.Effects.{adds_nothing, introduction, is_told_in_session}
+use Rattle.endpoint_model.specs.Effects.{replied, sent_spread_if}
+use Rattle.end_chunks.specs.declared.judging.Verdict.{Verdict}
+use Rattle.end_chunks.specs.declared.judging.Verdict.TheVariants.{Hello, ResponderHello}
+use Rattle.end_chunks.specs.declared.judging.Verdict.TheVariants.{CookieChange}
+use Rattle.end_chunks.specs.declared.judging.Verdict.TheVariants.{InitiatorKeying, ResponderKeying}
+use Rattle.end_chunks.specs.declared.judging.Verdict.TheVariants.{Introduction, Redirect}
+use Rattle.end_chunks.specs.declared.judging.Verdict.TheVariants.{Reply, Close, CloseAck}
+use Rattle.end_chunks.specs.declared.judging.Verdict.TheVariants.{PingReply, Quiet}
+
+-- the causes of a chunk whose type is known, where these are that of its form and its last one
+abbrev pub known_cause : Place → ℕ → Option Cause → Option Cause → Option Cause
+known_cause place kind form last =
+    first_that_stands (form ∷ where_true (kind == FRAGMENT) FragmentCause
+    ∷ where_true (not (takes place kind)) WrongPlace ∷ last ∷ [])
+
+-- the last cause of one that is no keying
+abbrev pub other_cause : State → Place → AddressParts → Placed → Option Cause
+other_cause s place from c =
+    first_that_stands (where_true (not (has_state_for s place c.kind)) WrongState
+    ∷ read_cause s place from (chunk_reading c.kind c.payload) ∷ [])
+
+-- the chunks that a session takes at a stage, of those that sessions take
+abbrev pub stage_takes : Stage → ℕ → Bool
+stage_takes stage kind =
+    if kind == CLOSE then true
+    else if kind == CLOSE_ACK then is_near_close stage
+    else is_held stage
+
+-- what one does that is no keying
+abbrev pub other_done : State → Place → AddressParts → Placed → Did
+other_done s place from c =
+    if is_told_in_session c.kind then told_in_session s (sid_at place) from c
+    else read_done s place from (chunk_reading c.kind c.payload)
+
+-- the same by what was read
+abbrev pub view_done : State → Place → AddressParts → Chunk → Did
+view_done s place from CloseChunk =
+    close_taken_by s (sid_at place) (get s.sessions (sid_at place))
+view_done s place from CloseAckChunk = closed s (sid_at place)
+view_done s place from (PingReplyChunk bytes) =
+    moved_by s (sid_at place) from bytes (get s.sessions (sid_at place))
+view_done s place from chunk = read_done s place from (Ok chunk)
+
+-- it is an answer to a ping that moves nothing, or a redirect that adds no address
+abbrev pub does_nothing : State → Place → AddressParts → Chunk → Bool
+does_nothing s place from (PingReplyChunk bytes) =
+    not (answers_by from bytes (get s.sessions (sid_at place)))
+does_nothing s place from chunk = adds_nothing s from (Ok chunk)
+
+-- what it does
+abbrev pub verdict_did : State → Place → AddressParts → Draws → Verdict → Did
+verdict_did s place from draws (Hello tag to) =
+    sent_answer s (initiator_hello_answer s.startup tag.now to s.moment)
+verdict_did s place from draws (ResponderHello tag cookie cert) =
+    sent_if (with_startup s (after_rhello s.startup tag.now cookie.now from s.moment))
+    (rhello_keying s.startup tag.now cookie.now from)
+verdict_did s place from draws (Introduction epd tag selected) =
+    replied s place from (introduction s (Some selected) epd.now tag.now from)
+verdict_did s place from draws (Redirect tag list count) =
+    sent_spread_if (with_startup s (after_redirect s.startup tag.now list.now from s.moment))
+    (redirect_spread s.startup tag.now list.now from)
+verdict_did s place from draws (CookieChange old new) =
+    sent_if (with_startup s
+    (after_cookie_change s.startup (sid_at place) old.now new.now s.moment))
+    (cookie_change_keying s.startup (sid_at place) old.now new.now)
+verdict_did s place from draws (InitiatorKeying fields hearing) =
+    initiator_keyed s from draws fields.payload.now
+verdict_did s place from draws (ResponderKeying fields peer) =
+    responder_keyed s (sid_at place) from fields.payload.now
+verdict_did s place from draws (Reply chunk) =
+    sent_in_session s (sid_at place) from (chunk_bytes (chunk_of chunk))
+verdict_did s place from draws Close =
+    close_taken_by s (sid_at place) (get s.sessions (sid_at place))
+verdict_did s place from draws CloseAck = closed s (sid_at place)
+verdict_did s place from draws (PingReply bytes) =
+    moved_by s (sid_at place) from bytes.now (get s.sessions (sid_at place))
+verdict_did s place from draws Quiet = nothing s
+
+-- what was found is so
+abbrev pub IsSo : State → Place → AddressParts → Verdict → Type 0
+IsSo s place from (Hello tag to) = wide tag.now ≡ None
+IsSo s place from (ResponderHello tag cookie cert) =
+    rhello_cause s.startup tag.now cookie.now cert.now ≡ None
+IsSo s place from (Introduction epd tag selected) = (wide tag.now ≡ None)
+    × (discriminator_of epd.now ≡ Some selected)
+IsSo s place from (Redirect tag list count) =
+    (redirect_cause s.startup tag.now list.now from ≡ None)
+    × (count ≡ adds s.startup tag.now list.now from)
+IsSo s place from (CookieChange old new) =
+    cookie_change_cause s.startup (sid_at place) old.now new.now ≡ None
+IsSo s place from (InitiatorKeying fields hearing) =
+    (initiator_keying_in fields.payload.now ≡ Ok (initiator_of fields))
+    × (judged_initiator s.startup fields.payload.now from s.moment (full s) (initiator_of fields)
+    ≡ Ok hearing)
+IsSo s place from (ResponderKeying fields peer) =
+    (responder_keying_in fields.payload.now ≡ Ok (responder_of fields))
+    × (peer_of_attempt (get s.startup.attempts (sid_at place)) ≡ Some peer)
+IsSo s place from (Reply chunk) = IsWritable (chunk_of chunk)
+    × (length (chunk_bytes (chunk_of chunk)) ≤ 1159)
+IsSo s place from Close = Unit {0}
+IsSo s place from CloseAck = Unit {0}
+IsSo s place from (PingReply bytes) =
+    answers_by from bytes.now (get s.sessions (sid_at place)) ≡ true
+IsSo s place from Quiet = Unit {0}
+
+-- the chunk does what the verdict says, and what was found of it is so
+pub record Stands (s : State) (place : Place) (from : AddressParts) (does : Draws → Did)
+    (verdict : Verdict) : Type 0 where
+  pub so : IsSo s place from verdict
+  pub does_so : (draws : Draws) → does draws ≡ verdict_did s place from draws verdict

@@ -1,0 +1,186 @@
+//! One chunk of a datagram: it is discarded for its cause, or does what it does.
+
+ghost use Rattle.std.specs.Prelude.{◌≡◌, ◌<◌, ◌≤◌, ◌^◌, IsOk, None, OnErr, OnOk, length};
+ghost use Rattle.rtmfp_chunks.specs.Chunk.{chunk_of};
+ghost use Rattle.rtmfp_chunks.specs.Writing.{IsWritable, chunk_bytes};
+ghost use Rattle.rtmfp_packet.specs.Chunks.{shown};
+ghost use Rattle.startup.specs.Attempts.{after_cookie_change, after_rhello, cookie_change_cause};
+ghost use Rattle.startup.specs.Attempts.{cookie_change_keying, rhello_cause, rhello_keying, wide};
+ghost use Rattle.startup.specs.Keyings.{initiator_hello_answer};
+ghost use Rattle.endpoint_model.specs.Effects.{IsQuiet, chunk_did, discards_for};
+ghost use Rattle.endpoint_model.specs.Causes.{chunk_cause};
+ghost use Rattle.endpoint_model.specs.Sending.{sent_answer, sent_if, sent_in_session};
+ghost use Rattle.endpoint_model.specs.State.{Done, nothing, with_startup};
+ghost use Rattle.end_chunks.specs.Judging.{IsSo, verdict_did};
+
+use crate::closing::take_close;
+use crate::introducing::{introduce_to, take_redirect};
+use crate::judging::{Verdict, judge, sid_at};
+use crate::keyings::{initiator_keyed, responder_keyed};
+use crate::moving::take_ping_reply;
+use end_state::{EndState, Outbox, blank};
+use endpoint_model::{Draws, Place, Walk};
+use rtmfp_chunks::ChunkView;
+use rtmfp_forms::Address;
+use rtmfp_packet::RawChunk;
+use std::alloc::AllocError;
+
+/// Does what a chunk does that isn't discarded.
+fn apply(
+    end: &mut EndState,
+    verdict: &Verdict<'_>,
+    place: Place,
+    from: &Address,
+    draws: &Draws,
+    out: &mut Outbox,
+) -> Result<(), AllocError>
+    requires { IsSo end.old place from.now verdict.now }
+    ensures ok { OnOk result (Done (verdict_did end.old place from.now draws.now verdict.now)
+        end.new out.old out.new) }
+    ensures err { OnErr result (Done (nothing end.old) end.new out.old out.new) }
+    ensures quiet { verdict.now ≡ Verdict.Quiet → IsOk result }
+{
+    match verdict {
+        Verdict::Hello { tag, to } => answer_hello(end, tag, to, out),
+        Verdict::Introduction { epd, tag, selected } => {
+            introduce_to(end, selected, epd, tag, from, out)
+        }
+        Verdict::Redirect { tag, list, count } => {
+            take_redirect(end, tag, list, *count, from, out)
+        }
+        Verdict::ResponderHello { tag, cookie, cert } => {
+            take_hello(end, tag, cookie, cert, from, out)
+        }
+        Verdict::CookieChange { old, new } => change_cookie(end, sid_at(place), old, new, out),
+        Verdict::InitiatorKeying { fields, hearing } => {
+            initiator_keyed(end, fields, hearing, from, draws, out)
+        }
+        Verdict::ResponderKeying { fields, peer } => {
+            responder_keyed(end, sid_at(place), fields, peer, from, out)
+        }
+        Verdict::Reply { chunk } => reply(end, sid_at(place), from, chunk, out),
+        Verdict::Close => take_close(end, sid_at(place), out),
+        Verdict::CloseAck => end.finish_closing(sid_at(place), out),
+        Verdict::PingReply { bytes } => take_ping_reply(end, sid_at(place), from, bytes, out),
+        Verdict::Quiet => Ok(()),
+    }
+}
+
+/// Answers a hello that selects this end and has this tag, to an address.
+fn answer_hello(
+    end: &mut EndState,
+    tag: &[u8],
+    to: &Address,
+    out: &mut Outbox,
+) -> Result<(), AllocError>
+    requires { wide tag.now ≡ None }
+    ensures ok { OnOk result
+        (Done (sent_answer end.old (initiator_hello_answer end.old.startup tag.now to.now
+        end.old.moment)) end.new out.old out.new) }
+    ensures err { OnErr result (Done (nothing end.old) end.new out.old out.new) }
+{
+    let blank = blank(end.alloc)?;
+    out.make_room(1)?;
+    let answer = end.startup.apply_hello(tag, to, end.moment);
+    end.send_answer(blank, &answer, out);
+    Ok(())
+}
+
+/// Takes a responder's hello that nothing refuses, from an address.
+fn take_hello(
+    end: &mut EndState,
+    tag: &[u8],
+    cookie: &[u8],
+    cert: &[u8],
+    from: &Address,
+    out: &mut Outbox,
+) -> Result<(), AllocError>
+    requires { rhello_cause end.old.startup tag.now cookie.now cert.now ≡ None }
+    ensures ok { OnOk result
+        (Done (sent_if (with_startup end.old
+        (after_rhello end.old.startup tag.now cookie.now from.now end.old.moment))
+        (rhello_keying end.old.startup tag.now cookie.now from.now)) end.new out.old
+        out.new) }
+    ensures err { OnErr result (Done (nothing end.old) end.new out.old out.new) }
+{
+    let blank = blank(end.alloc)?;
+    out.make_room(1)?;
+    if let Ok(answer) = end
+        .startup
+        .responder_hello(tag, cookie, cert, from, end.moment)
+    {
+        end.send_answer(blank, &answer, out);
+    }
+    Ok(())
+}
+
+/// Takes a change of a cookie that nothing refuses, under a session ID.
+fn change_cookie(
+    end: &mut EndState,
+    sid: u32,
+    old: &[u8],
+    new: &[u8],
+    out: &mut Outbox,
+) -> Result<(), AllocError>
+    requires { cookie_change_cause end.old.startup sid old.now new.now ≡ None }
+    ensures ok { OnOk result
+        (Done (sent_if (with_startup end.old
+        (after_cookie_change end.old.startup sid old.now new.now end.old.moment))
+        (cookie_change_keying end.old.startup sid old.now new.now)) end.new out.old out.new) }
+    ensures err { OnErr result (Done (nothing end.old) end.new out.old out.new) }
+{
+    let blank = blank(end.alloc)?;
+    out.make_room(1)?;
+    if let Ok(answer) = end.startup.cookie_change(sid, old, new, end.moment) {
+        end.send_answer(blank, &answer, out);
+    }
+    Ok(())
+}
+
+/// Answers a chunk by another, in the session with this session ID, to an address.
+fn reply(
+    end: &mut EndState,
+    near: u32,
+    to: &Address,
+    chunk: &ChunkView<'_>,
+    out: &mut Outbox,
+) -> Result<(), AllocError>
+    requires writable { IsWritable (chunk_of chunk.now) }
+    requires short { length (chunk_bytes (chunk_of chunk.now)) ≤ 1159 }
+    ensures ok { OnOk result
+        (Done (sent_in_session end.old near to.now (chunk_bytes (chunk_of chunk.now)))
+        end.new out.old out.new) }
+    ensures err { OnErr result (Done (nothing end.old) end.new out.old out.new) }
+{
+    let blank = blank(end.alloc)?;
+    out.make_room(1)?;
+    end.send_in_session(blank, near, to, chunk, out);
+    Ok(())
+}
+
+/// Takes one chunk, which came from an address: it is discarded for its cause, or does what it
+/// does.
+pub fn take_chunk(
+    end: &mut EndState,
+    place: Place,
+    from: &Address,
+    draws: &Draws,
+    walk: Walk,
+    chunk: &RawChunk<'_>,
+    out: &mut Outbox,
+) -> Result<(), AllocError>
+    requires { chunk.now.at < 2 ^ 32 }
+    ensures ok { OnOk result
+        (Done (chunk_did place from.now draws.now walk end.old (shown chunk.now))
+        end.new out.old out.new) }
+    ensures err { OnErr result (Done (nothing end.old) end.new out.old out.new) }
+    // A chunk that adds nothing but its discard asks for no memory where there is room.
+    ensures enough { IsQuiet end.old place walk from.now (shown chunk.now) →
+        discards_for (chunk_cause end.old place walk from.now (shown chunk.now))
+        ≤ out.old.free → IsOk result }
+{
+    match judge(end, place, walk, from, chunk) {
+        Ok(verdict) => apply(end, &verdict, place, from, draws, out),
+        Err(cause) => end.discard(chunk.at, cause, out),
+    }
+}

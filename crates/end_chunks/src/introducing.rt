@@ -1,0 +1,187 @@
+//! What an end does for others as an introducer, and redirects of its own attempts.
+
+ghost use Rattle.std.specs.Prelude.{◌≡◌, ◌<◌, ◌≤◌, ◌+◌, IfErr, IfOk, None, Ok, OnErr, OnOk};
+ghost use Rattle.std.specs.Prelude.{Some, length};
+ghost use Rattle.identity.specs.Discriminators.{discriminator_of};
+ghost use Rattle.cookies.specs.Cookie.{observed};
+ghost use Rattle.rtmfp_chunks.specs.Chunk.{FIHello, Redirect};
+ghost use Rattle.rtmfp_chunks.specs.Writing.{chunk_bytes};
+ghost use Rattle.startup.specs.Attempts.{wide};
+ghost use Rattle.startup.specs.Redirects.{adds, after_redirect, redirect_cause, redirect_spread};
+ghost use Rattle.endpoint_model.specs.Effects.{forwarded, hello_reply, read_done, replied};
+ghost use Rattle.endpoint_model.specs.Effects.{sent_spread_if};
+ghost use Rattle.endpoint_model.specs.Introducing.{forwarded_to, hello_cause};
+ghost use Rattle.endpoint_model.specs.Introducing.{redirect_of, redirected_to};
+ghost use Rattle.endpoint_model.specs.Sending.{sent_if};
+ghost use Rattle.endpoint_model.specs.State.{Done, nothing, then_do, with_startup};
+ghost use Rattle.end_chunks.specs.Judging.{Stands};
+
+use crate::judging::Verdict;
+use end_state::{EndState, Outbox, blank, blanks};
+use endpoint_model::Place;
+use identity::Epd;
+use rtmfp_chunks::ChunkView;
+use rtmfp_forms::Address;
+use startup::{Cause, wide};
+use std::alloc::AllocError;
+
+/// The origin of an address that an end observed.
+const OBSERVED: u8 = 2;
+
+/// An address as one that an end observed.
+fn observed(address: &Address) -> Address
+    ensures { result ≡ observed address.now }
+{
+    Address {
+        v6: address.v6,
+        origin: OBSERVED,
+        host: address.host,
+        port: address.port,
+    }
+}
+
+/// What a hello does, which came from an address and is for the end that its discriminator
+/// selects; or why it is discarded.
+pub(crate) fn judge_hello<'a>(
+    end: &EndState,
+    place: Place,
+    from: &Address,
+    epd: &'a [u8],
+    tag: &'a [u8],
+) -> Result<Verdict<'a>, Cause>
+    ensures ok { IfOk result (Stands end.now place from.now
+        (λ _. replied end.now place from.now
+        (hello_reply end.now epd.now tag.now from.now))) }
+    ensures none { IfOk result (λ _. hello_cause end.now epd.now tag.now ≡ None) }
+    ensures refused { IfErr result (λ cause. hello_cause end.now epd.now tag.now
+        ≡ Some cause) }
+{
+    if let Some(cause) = wide(tag) {
+        return Err(cause);
+    }
+    if end.startup.initiator_hello_cause(epd, tag).is_none() {
+        return Ok(Verdict::Hello { tag, to: *from });
+    }
+    let Some(selected) = Epd::read(epd) else {
+        return Err(Cause::NotSelected);
+    };
+    if end.introduces_to(&selected) {
+        Ok(Verdict::Introduction { epd, tag, selected })
+    } else {
+        Err(Cause::NotSelected)
+    }
+}
+
+/// What a redirect does, which came from an address, or why it is discarded.
+pub(crate) fn judge_redirect<'a>(
+    end: &EndState,
+    place: Place,
+    from: &Address,
+    tag: &'a [u8],
+    list: &'a [u8],
+) -> Result<Verdict<'a>, Cause>
+    ensures ok { IfOk result (Stands end.now place from.now
+        (λ _. read_done end.now place from.now (Ok (Redirect tag.now list.now)))) }
+    ensures none { IfOk result (λ _. redirect_cause end.now.startup tag.now list.now from.now
+        ≡ None) }
+    ensures refused { IfErr result (λ cause. redirect_cause end.now.startup tag.now list.now
+        from.now ≡ Some cause) }
+    ensures quiet { adds end.now.startup tag.now list.now from.now ≡ 0 →
+        IfOk result (λ verdict. verdict ≡ Verdict.Quiet) }
+{
+    match end.startup.judge_redirect(tag, list, from) {
+        Ok(count) => {
+            if count == 0 {
+                Ok(Verdict::Quiet)
+            } else {
+                Ok(Verdict::Redirect { tag, list, count })
+            }
+        }
+        Err(cause) => Err(cause),
+    }
+}
+
+/// Forwards a hello for this end, with the address that it came from, where it is forwarded.
+fn forward(
+    end: &mut EndState,
+    blank: Vec<u8>,
+    selected: &Epd,
+    epd: &[u8],
+    tag: &[u8],
+    from: &Address,
+    out: &mut Outbox,
+)
+    requires blank { length blank.items ≡ 1200 }
+    requires room { 0 < out.old.free }
+    requires tag { wide tag.now ≡ None }
+    requires selected { discriminator_of epd.now ≡ Some selected.now }
+    ensures done { Done (forwarded end.old (forwarded_to end.old selected.now.print)
+        (chunk_bytes (FIHello epd.now (observed from.now) tag.now))) end.new out.old out.new }
+    ensures room { out.old.free ≤ out.new.free + 1 }
+{
+    let Some(near) = end.forwarded_to(&selected.print) else {
+        return;
+    };
+    let chunk = ChunkView::FIHello {
+        epd,
+        reply: observed(from),
+        tag,
+    };
+    end.send_home(blank, near, &chunk, out);
+}
+
+/// Does what a hello with this tag asks that came from an address and selects another end: it
+/// is forwarded to that end, and then answered with the addresses of its row.
+pub(crate) fn introduce_to(
+    end: &mut EndState,
+    selected: &Epd,
+    epd: &[u8],
+    tag: &[u8],
+    from: &Address,
+    out: &mut Outbox,
+) -> Result<(), AllocError>
+    requires tag { wide tag.now ≡ None }
+    requires selected { discriminator_of epd.now ≡ Some selected.now }
+    ensures ok { OnOk result (Done (then_do (forwarded end.old
+        (forwarded_to end.old selected.now.print)
+        (chunk_bytes (FIHello epd.now (observed from.now) tag.now)))
+        (λ t. sent_if t (redirect_of tag.now from.now
+        (redirected_to end.old selected.now.print)))) end.new out.old out.new) }
+    ensures err { OnErr result (Done (nothing end.old) end.new out.old out.new) }
+{
+    let first = blank(end.alloc)?;
+    let second = blank(end.alloc)?;
+    out.make_room(2)?;
+    let redirect = end.redirect_to(selected, tag, from);
+    forward(end, first, selected, epd, tag, from, out);
+    if let Some(answer) = redirect {
+        end.send_answer(second, &answer, out);
+    }
+    Ok(())
+}
+
+/// Takes a redirect that nothing refuses and that sends so many hellos, from an address.
+pub(crate) fn take_redirect(
+    end: &mut EndState,
+    tag: &[u8],
+    list: &[u8],
+    count: usize,
+    from: &Address,
+    out: &mut Outbox,
+) -> Result<(), AllocError>
+    requires none { redirect_cause end.old.startup tag.now list.now from.now ≡ None }
+    requires count { count ≡ adds end.old.startup tag.now list.now from.now }
+    ensures ok { OnOk result
+        (Done (sent_spread_if (with_startup end.old
+        (after_redirect end.old.startup tag.now list.now from.now end.old.moment))
+        (redirect_spread end.old.startup tag.now list.now from.now)) end.new out.old
+        out.new) }
+    ensures err { OnErr result (Done (nothing end.old) end.new out.old out.new) }
+{
+    let blanks = blanks(end.alloc, count)?;
+    out.make_room(count)?;
+    if let Ok(spread) = end.startup.redirect(tag, list, from, end.moment) {
+        end.send_each(blanks, spread.addresses(), &spread.plain, out);
+    }
+    Ok(())
+}

@@ -1,0 +1,164 @@
+//! Keyings that bear and open sessions.
+
+ghost use Rattle.std.specs.Prelude.{◌≡◌, ◌<◌, ◌≤◌, Ok, OnErr, OnOk, Some};
+ghost use Rattle.std.specs.FinMap.{get};
+ghost use Rattle.startup.specs.State.{peer_of_attempt};
+ghost use Rattle.startup.specs.Keyings.{initiator_keying_in, responder_keying_in};
+ghost use Rattle.startup.specs.Read.{initiator_of, responder_of};
+ghost use Rattle.startup.specs.Judging.{judged_initiator};
+ghost use Rattle.endpoint_model.specs.Effects.{initiator_keyed, responder_keyed, sessions_born};
+ghost use Rattle.endpoint_model.specs.Effects.{sessions_opened, without_ended};
+ghost use Rattle.endpoint_model.specs.State.{Done, full, nothing};
+
+use end_state::{EndState, Outbox, add_fact, blank};
+use endpoint_model::{Draws, Entry, Row};
+use glare_core::Fact;
+use mobility::Moves;
+use rtmfp_chunks::ChunkView;
+use rtmfp_forms::Address;
+use session_core::{Role, Session};
+use session_table::SessionTable;
+use startup::{Hearing, InitiatorFields, Keyed, ResponderFields};
+use std::alloc::AllocError;
+
+/// Hears an initiator's keying that was found to be this, which came from an address.
+pub(crate) fn initiator_keyed(
+    end: &mut EndState,
+    fields: &InitiatorFields<'_>,
+    hearing: &Hearing,
+    from: &Address,
+    draws: &Draws,
+    out: &mut Outbox,
+) -> Result<(), AllocError>
+    requires reads { initiator_keying_in fields.now.payload.now ≡ Ok (initiator_of fields.now) }
+    requires judged { judged_initiator end.old.startup fields.now.payload.now from.now
+        end.old.moment (full end.old) (initiator_of fields.now) ≡ Ok hearing.now }
+    ensures ok { OnOk result (Done (initiator_keyed end.old from.now draws.now
+        fields.now.payload.now) end.new out.old out.new) }
+    ensures err { OnErr result (Done (nothing end.old) end.new out.old out.new) }
+{
+    let near = end.free_from(draws.word);
+    let blank = blank(end.alloc)?;
+    out.make_room(3)?;
+    end.sessions.reserve()?;
+    match end
+        .startup
+        .apply_initiator_keying(fields, hearing, from, end.moment, near, draws.nonce)
+    {
+        Ok(Keyed::Change(answer)) => {
+            end.send_answer(blank, &answer, out);
+            Ok(())
+        }
+        Ok(Keyed::Again(answer)) => {
+            end.send_answer(blank, &answer, out);
+            Ok(())
+        }
+        Ok(
+            Keyed::Birth {
+                ended,
+                born,
+                answer,
+            },
+        ) => {
+            keep_born(
+                &mut end.sessions,
+                &ended,
+                &born,
+                &end.print,
+                from,
+                &end.secret,
+                end.moment,
+            );
+            add_fact(ended, out);
+            out.add(Entry::Fact(born));
+            end.send_answer(blank, &answer, out);
+            Ok(())
+        }
+        Err(_) => Err(AllocError),
+    }
+}
+
+/// Takes a responder's keying that opens the attempt with this session ID, which is one with
+/// this peer; it came from an address.
+pub(crate) fn responder_keyed(
+    end: &mut EndState,
+    near: u32,
+    fields: &ResponderFields<'_>,
+    peer: &[u8; 32],
+    from: &Address,
+    out: &mut Outbox,
+) -> Result<(), AllocError>
+    requires reads { responder_keying_in fields.now.payload.now ≡ Ok (responder_of fields.now) }
+    requires peer { peer_of_attempt (get end.old.startup.attempts near) ≡ Some peer.now }
+    ensures ok { OnOk result (Done (responder_keyed end.old near from.now
+        fields.now.payload.now) end.new out.old out.new) }
+    ensures err { OnErr result (Done (nothing end.old) end.new out.old out.new) }
+{
+    let blank = blank(end.alloc)?;
+    out.make_room(2)?;
+    end.sessions.reserve()?;
+    let fact = end.startup.apply_responder_keying(near, peer, fields);
+    keep_opened(
+        &mut end.sessions,
+        &fact,
+        &end.print,
+        from,
+        &end.secret,
+        end.moment,
+    );
+    out.add(Entry::Fact(fact));
+    end.send_in_session(blank, near, from, &ChunkView::Ping { bytes: &[] }, out);
+    Ok(())
+}
+
+/// Keeps a session that was born, half-open, and forgets what ended. There is room for one more.
+fn keep_born(
+    sessions: &mut SessionTable,
+    ended: &Option<Fact>,
+    born: &Fact,
+    print: &[u8; 32],
+    from: &Address,
+    secret: &[u8; 32],
+    moment: u64,
+)
+    requires { 0 < sessions.old.free }
+    ensures { sessions.new.rows ≡ sessions_born sessions.old.rows ended.now born.now print.now
+        from.now secret.now moment }
+{
+    if let Fact::Born(joined) = born {
+        forget_ended(sessions, ended);
+        let session = Session::new(joined, print, Role::Responder, *from, secret, moment);
+        let moves = Moves::new();
+        sessions.keep(Row { session, moves });
+    }
+}
+
+/// Keeps a session that was opened. There is room for one more.
+fn keep_opened(
+    sessions: &mut SessionTable,
+    opened: &Fact,
+    print: &[u8; 32],
+    from: &Address,
+    secret: &[u8; 32],
+    moment: u64,
+)
+    requires { 0 < sessions.old.free }
+    ensures { sessions.new.rows ≡ sessions_opened sessions.old.rows opened.now print.now from.now
+        secret.now moment }
+{
+    if let Fact::Opened(joined) = opened {
+        let session = Session::new(joined, print, Role::Initiator, *from, secret, moment);
+        let moves = Moves::new();
+        sessions.keep(Row { session, moves });
+    }
+}
+
+/// Forgets the session that a fact ended, where there is one.
+fn forget_ended(sessions: &mut SessionTable, ended: &Option<Fact>)
+    ensures rows { sessions.new.rows ≡ without_ended sessions.old.rows ended.now }
+    ensures free { sessions.old.free ≤ sessions.new.free }
+{
+    if let Some(Fact::Ended { near, .. }) = ended {
+        sessions.forget(*near);
+    }
+}

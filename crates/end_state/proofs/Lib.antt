@@ -1,0 +1,4 @@
+pub mod InSession
+pub mod Changing
+pub mod Endings
+pub mod Confirms

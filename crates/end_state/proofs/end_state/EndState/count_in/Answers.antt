@@ -1,0 +1,15 @@
+use Rattle.std.proofs.Common.{Option, refl}
+use Rattle.session_core.specs.Session.{SessionState}
+use Rattle.session_core.specs.Hearing.{counted}
+use Rattle.endpoint_model.specs.Admission.{counted_by}
+use Rattle.session_table.specs.Table.{of_session}
+use Rattle.endpoint_model.specs.declared.row.Row.{Row}
+use Rattle.endpoint_model.specs.State.{State}
+use Rattle.end_state.proofs.Changing.{changed_state}
+use Rattle.end_state.proofs.end_state.EndState.count_in.Goals as goal
+
+pub returns : goal.returns
+returns c =
+    let i = c.self.inside in
+    changed_state i.settings i.moment i.sealed i.startup i.sessions.rows c.take_number.new.self.rows c.args.self.now c.args.near (of_session (λ (x : SessionState). counted x c.args.part.now))
+    (λ (s : State) (o : Option Row). counted_by s c.args.near c.args.part.now o) c.self.view_is c.take_number.ensures refl (λ row. refl)

@@ -1,0 +1,14 @@
+use Rattle.std.proofs.Common.{Option, refl}
+use Rattle.session_core.specs.Closing.{asked_to_close}
+use Rattle.end_state.specs.Steps.{session_changed}
+use Rattle.session_table.specs.Table.{of_session}
+use Rattle.endpoint_model.specs.declared.row.Row.{Row}
+use Rattle.endpoint_model.specs.State.{State}
+use Rattle.end_state.proofs.Changing.{changed_state}
+use Rattle.end_state.proofs.end_state.EndState.linger.Goals as goal
+
+pub returns : goal.returns
+returns c =
+    let i = c.self.inside in
+    changed_state i.settings i.moment i.sealed i.startup i.sessions.rows c.linger.new.self.rows c.args.self.now c.args.near (of_session (asked_to_close i.moment))
+    (λ (s : State) (o : Option Row). session_changed asked_to_close s c.args.near o) c.self.view_is c.linger.ensures refl (λ row. refl)

@@ -1,0 +1,38 @@
+use Rattle.std.proofs.Common.{sym, ap, ◌∙◌}
+use Rattle.std.specs.FinMap.{get}
+use Rattle.crypto_profile.specs.declared.keys.Context.TheVariants.{Startup}
+use Rattle.crypto_profile.specs.Keys.{keys_of}
+use Rattle.glare_core.specs.declared.facts.Joined.{Joined}
+use Rattle.startup.specs.State.{StartupState}
+use Rattle.startup.specs.Attempts.{end_fact, after_end}
+use Rattle.endpoint_model.specs.State.{State}
+use Rattle.end_state.specs.Stored.{state_of}
+use Rattle.end_state.proofs.Confirms.{own_stays}
+use Rattle.end_state.proofs.Endings.{told_done, told_room, untold_done}
+use Rattle.end_state.proofs.end_state.EndState.tell_end.Goals as goal
+
+pub invariant_of-self : goal.invariant_of-self
+invariant_of-self c =
+    let i = c.self.inside in
+    let secret = ap (λ (s : StartupState). s.secret) (sym c.end-fact.ensures.after) in
+    record {
+      secret_is = c.self.invariant.secret_is ∙ secret;
+      print_is = c.self.invariant.print_is ∙ own_stays i.startup.ledger (end_fact i.startup c.joined.result.now.peer c.args.why) ∙ ap (λ (s : StartupState). s.ledger.own) (sym c.end-fact.ensures.after);
+      keys_are = c.self.invariant.keys_are ∙ ap (λ x. keys_of x Startup) secret;
+      few = c.self.invariant.few;
+    }
+
+pub returns-in-Some-clause-done : goal.returns-in-Some-clause-done
+returns-in-Some-clause-done c =
+    let i = c.self.inside in
+    let peer = ap (λ (j : Joined). j.peer) c.joined.ensures in
+    told_done (state_of i.settings i.moment i.sealed i.startup i.sessions.rows) c.args.self.now c.args.near c.args.why c.in-Some.row.now c.end-fact.new.self c.end-fact.result c.args.out.now c.add_fact.new.out
+    c.self.view_is (sym c.in-Some.ensures) (c.end-fact.ensures.after ∙ ap (λ p. after_end i.startup p c.args.why) peer) (c.end-fact.ensures.fact ∙ ap (λ p. end_fact i.startup p c.args.why) peer)
+    c.add_fact.ensures.entries c.add_fact.ensures.free c.add_fact.ensures.room
+
+pub returns-in-Some-clause-room : goal.returns-in-Some-clause-room
+returns-in-Some-clause-room c = told_room c.end-fact.result c.args.out.now.free c.add_fact.new.out.free c.add_fact.ensures.free
+
+pub returns-in-None-clause-done : goal.returns-in-None-clause-done
+returns-in-None-clause-done c =
+    untold_done c.args.self.now c.args.near c.args.why c.args.out.now (ap (λ (s : State). get s.sessions c.args.near) (sym c.self.view_is) ∙ sym c.in-None.ensures)

@@ -1,0 +1,23 @@
+-- Steps of a session, by the row that is kept under its session ID.
+use Rattle.std.specs.Prelude.{ℕ, Option, Some, None}
+use Rattle.glare_core.specs.declared.facts.Why.{Why}
+use Rattle.startup.specs.Attempts.{end_fact, after_end}
+use Rattle.session_core.specs.Session.{SessionState}
+use Rattle.endpoint_model.specs.declared.row.Row.{Row}
+use Rattle.endpoint_model.specs.State.{State, Did, nothing, fact_entries, with_startup}
+use Rattle.endpoint_model.specs.State.{with_session}
+
+-- ---- steps of a session
+
+-- the session in a row changes so from a moment on
+abbrev pub session_changed : (ℕ → SessionState → SessionState) → State → ℕ → Option Row → State
+session_changed change s near None = s
+session_changed change s near (Some row) = with_session s near row (change s.moment row.session)
+
+-- The end of a session is told, and what is held with its peer ends. Its row stays.
+abbrev pub end_told : State → Why → Option Row → Did
+end_told s why None = nothing s
+end_told s why (Some row) = record {
+  state = with_startup s (after_end s.startup row.session.joined.peer why);
+  entries = fact_entries (end_fact s.startup row.session.joined.peer why);
+}

@@ -1,0 +1,126 @@
+//! What the session ID of a datagram names, and the context in which a datagram opens.
+
+ghost use Rattle.std.specs.Prelude.{◌≡◌, length};
+ghost use Rattle.std.specs.Int.{w32, from_be_bytes};
+ghost use Rattle.std.specs.FinMap.{get};
+ghost use Rattle.endpoint_model.specs.Admission.{place_of};
+ghost use Rattle.end_state.specs.NamedContext.{context_towards, named_context};
+ghost use Rattle.endpoint_laws.specs.OpensIn.{context_in_session, context_in_startup, opens_in};
+
+use crate::end_state::EndState;
+use crypto_profile::{CIPHERED_AT, Context, open_refusal};
+use endpoint_model::Place;
+use packet_scramble::{SEALED_AT, unscramble};
+
+/// The bytes of a datagram before its plain packet.
+pub const PLAIN_AT: usize = SEALED_AT + CIPHERED_AT;
+
+impl EndState {
+    /// What a session ID names.
+    pub fn place_of(&self, sid: u32) -> Option<Place>
+        ensures { result ≡ place_of self.now sid }
+    {
+        if sid == 0 {
+            Some(Place::Startup)
+        } else if self.startup.has_attempt(sid) {
+            Some(Place::Attempt(sid))
+        } else if self.sessions.has(sid) {
+            Some(Place::Session(sid))
+        } else {
+            None
+        }
+    }
+
+    /// Looks up the session that a datagram's session ID names, where it names one, so that it is
+    /// found at once from now on.
+    pub fn look_up(&mut self, datagram: &[u8])
+        ensures { self.new ≡ self.old }
+    {
+        if datagram.len() < PLAIN_AT {
+            return;
+        }
+        let (head, part) = datagram.split_at(SEALED_AT);
+        let sid = unscramble(word_of(head), part);
+        self.sessions.look_up(sid);
+    }
+
+    /// The context that a datagram's session ID names.
+    pub fn find_named(&self, datagram: &[u8]) -> Option<Context>
+        ensures { result ≡ named_context self.now datagram.now }
+    {
+        if datagram.len() < PLAIN_AT {
+            return None;
+        }
+        let (head, part) = datagram.split_at(SEALED_AT);
+        let sid = unscramble(word_of(head), part);
+        match self.place_of(sid) {
+            Some(Place::Startup) => Some(Context::Startup),
+            Some(Place::Attempt(_)) => Some(Context::Startup),
+            Some(Place::Session(near)) => self.context_towards(near),
+            None => None,
+        }
+    }
+
+    /// A session's context towards this end.
+    fn context_towards(&self, near: u32) -> Option<Context>
+        ensures { result ≡ context_towards (get self.now.sessions near) }
+    {
+        match self.sessions.row(near) {
+            Some(row) => Some(row.session.context(false)),
+            None => None,
+        }
+    }
+
+    /// The context in which a datagram opens, by what is kept.
+    pub fn find_context(&self, datagram: &[u8]) -> Option<Context>
+        ensures { result ≡ opens_in self.now datagram.now }
+    {
+        if datagram.len() < PLAIN_AT {
+            return None;
+        }
+        let (head, part) = datagram.split_at(SEALED_AT);
+        let sid = unscramble(word_of(head), part);
+        match self.place_of(sid) {
+            Some(Place::Startup) => self.context_in_startup(0, part),
+            Some(Place::Attempt(near)) => self.context_in_startup(near, part),
+            Some(Place::Session(near)) => self.context_in_session(near, part),
+            None => None,
+        }
+    }
+
+    /// The startup context, where a sealed part opens in it under this session ID.
+    fn context_in_startup(&self, sid: u32, part: &[u8]) -> Option<Context>
+        ensures { result ≡ context_in_startup self.now sid part.now }
+    {
+        match open_refusal(&self.keys, sid, part) {
+            None => Some(Context::Startup),
+            Some(_) => None,
+        }
+    }
+
+    /// A session's context towards this end, where a sealed part opens in it.
+    fn context_in_session(&self, near: u32, part: &[u8]) -> Option<Context>
+        ensures { result ≡ context_in_session (get self.now.sessions near) part.now }
+    {
+        match self.sessions.row(near) {
+            Some(row) => {
+                if row.session.opens(part) {
+                    Some(row.session.context(false))
+                } else {
+                    None
+                }
+            }
+            None => None,
+        }
+    }
+}
+
+/// The first four bytes, as one number.
+pub fn word_of(head: &[u8]) -> u32
+    requires { length head.now ≡ 4 }
+    ensures { result ≡ from_be_bytes w32 head.now }
+{
+    let mut word = [0; 4];
+    word.copy_from_slice(head);
+    u32::from_be_bytes(word)
+}

@@ -1,0 +1,129 @@
+//! What an end keeps.
+
+use crate::settings::Settings;
+use crypto_profile::{Context, Keys};
+use endpoint_model::Config;
+use identity::Certificate;
+use introducer::{Directory, RowRefusal};
+use rtmfp_forms::Address;
+use session_table::SessionTable;
+use startup::Startup;
+use std::alloc::Global;
+use std::marker::Model;
+
+/// What an end keeps of its attempts and sessions.
+///
+/// Contracts see its limits, the largest moment that it was given, how many startup packets it
+/// sealed, what it keeps of attempts and of sessions, each by their session IDs, whether it
+/// introduces, and its rows of addresses.
+#[derive(Drop)]
+pub struct EndState {
+    pub alloc: Global,
+    pub settings: Settings,
+    pub moment: u64,
+    pub secret: [u8; 32],
+    /// The fingerprint of the own certificate.
+    pub print: [u8; 32],
+    /// The keys of startup packets.
+    pub keys: Keys,
+    /// How many startup packets were sealed.
+    pub sealed: u64,
+    pub startup: Startup,
+    pub sessions: SessionTable,
+}
+
+impl Model for EndState {
+    ghost use Rattle.endpoint_model.specs.State.{State, state_code};
+    ghost use Rattle.endpoint_model.specs.contracts.config.Config as config_type;
+    ghost use Rattle.startup.specs.contracts.startup.Startup as startup_type;
+    ghost use Rattle.endpoint_model.specs.contracts.row.Row as row_type;
+    ghost use Rattle.rtmfp_forms.specs.contracts.address.Address as address_type;
+
+    ghost Value = { State };
+
+    ghost coded = { state_code config_type.the_row.coded startup_type.the_row.coded
+        row_type.the_row.coded address_type.the_row.coded };
+
+    ghost use Rattle.end_state.specs.Stored.{state_of, IsEnd};
+
+    ghost view = { λ e. state_of e.settings e.moment e.sealed e.startup e.sessions.rows };
+
+    ghost invariant = { λ e. IsEnd e.settings e.secret e.print e.keys e.startup };
+}
+
+impl EndState {
+    ghost use Rattle.std.specs.Prelude.{◌≡◌, ◌≤◌, is_some, length, Err, IfErr, IfNone, IfSome};
+    ghost use Rattle.std.specs.Prelude.{OnErr, OnOk};
+    ghost use Rattle.introducer.specs.Directory.{row_refusal};
+    ghost use Rattle.startup.specs.Attempts.{cancel_fact};
+    ghost use Rattle.endpoint_model.specs.Introducing.{introducing, with_redirect};
+    ghost use Rattle.endpoint_model.specs.State.{fresh, at_moment};
+
+    /// An end that holds nothing yet. It takes no memory.
+    pub fn new(
+        alloc: Global,
+        config: Config,
+        cert: Certificate,
+        secret: [u8; 32],
+        cookie_secret: [u8; 32],
+    ) -> EndState
+        requires { config.max_sessions ≤ 65536 }
+        ensures { result
+            ≡ fresh (record {
+              config = config;
+              cert = cert;
+              secret = secret;
+              cookie_secret = cookie_secret;
+            }) }
+    {
+        let print = cert.print();
+        EndState {
+            alloc,
+            settings: Settings {
+                config,
+                introduces: config.introduces,
+                directory: Directory::new(alloc),
+            },
+            moment: 0,
+            secret,
+            print,
+            keys: Keys::of(&secret, &Context::Startup),
+            sealed: 0,
+            startup: Startup::new(alloc, cert, secret, cookie_secret, config.max_peers),
+            sessions: SessionTable::new(alloc),
+        }
+    }
+
+    /// Notes the moment that a call is given.
+    pub fn advance(&mut self, moment: u64)
+        ensures { self.new ≡ at_moment self.old moment }
+    {
+        self.moment = self.moment.max(moment);
+    }
+
+    /// Whether a held attempt has this number.
+    pub fn has_number(&self, n: u64) -> bool
+        ensures { result ≡ is_some (cancel_fact self.now.startup n) }
+    {
+        self.startup.has_number(n)
+    }
+
+    /// Adds a row of addresses for the end of this fingerprint, instead of one that is there.
+    pub fn add_row(&mut self, print: [u8; 32], addresses: &[Address]) -> Result<(), RowRefusal>
+        ensures ok { OnOk result (self.new ≡ with_redirect self.old print addresses.now) }
+        ensures refused { IfSome (row_refusal self.old.redirects print (length addresses.now))
+            (λ refusal. result ≡ Err refusal) }
+        ensures memory { IfNone (row_refusal self.old.redirects print (length addresses.now))
+            (IfErr result (λ refusal. refusal ≡ RowRefusal.Memory)) }
+        ensures err { OnErr result (self.new ≡ self.old) }
+    {
+        self.settings.directory.add_row(print, addresses)
+    }
+
+    /// The end introduces others from now on.
+    pub fn introduce(&mut self)
+        ensures { self.new ≡ introducing self.old }
+    {
+        self.settings.introduces = true;
+    }
+}

@@ -1,0 +1,22 @@
+//! What an end keeps, and the single steps that bring it from state to state: reads, datagrams that
+//! go out, ends that are told.
+#![tactic(auto)]
+
+mod contexts;
+mod end_state;
+mod introducing;
+mod outbox;
+mod sealing;
+mod sending;
+mod session_ids;
+mod session_sending;
+mod session_steps;
+mod settings;
+mod taking;
+
+pub use contexts::{PLAIN_AT, word_of};
+pub use end_state::EndState;
+pub use outbox::{Outbox, add_fact};
+pub use sealing::blank;
+pub use sending::blanks;
+pub use settings::Settings;

@@ -1,0 +1,98 @@
+//! Datagrams of an end that go out.
+
+ghost use Rattle.std.specs.Prelude.{◌≡◌, ◌<◌, ◌≤◌, All, IfOk, length};
+ghost use Rattle.endpoint_model.specs.State.{Done};
+ghost use Rattle.endpoint_model.specs.Sending.{sent_answer, sent_each, sent_startup};
+ghost use Rattle.endpoint_model.specs.Sending.{startup_number};
+
+use crate::end_state::EndState;
+use crate::outbox::Outbox;
+use crate::sealing::{blank, seal};
+use crypto_profile::Context;
+use endpoint_model::Entry;
+use rtmfp_forms::{Address, Outgoing};
+use startup::Answer;
+use std::alloc::{AllocError, Global};
+
+/// The number of a startup packet: the first 8 bytes of the fingerprint of its sender, and its
+/// count.
+fn startup_number(print: &[u8; 32], count: u64) -> [u8; 16]
+    ensures { result ≡ startup_number print.now count }
+{
+    let mut number = [0; 16];
+    let (front, back) = number.split_at_mut(8);
+    front.copy_from_slice(&print[..8]);
+    back.copy_from_slice(&count.to_be_bytes());
+    number
+}
+
+impl EndState {
+    /// Sends a startup packet, for which memory and room were found. Where all counts are used
+    /// nothing is sent.
+    fn send_startup(
+        &mut self,
+        blank: Vec<u8>,
+        to: &Address,
+        sid: u32,
+        plain: &Outgoing,
+        out: &mut Outbox,
+    )
+        requires blank { length blank.items ≡ 1200 }
+        requires room { 0 < out.old.free }
+        ensures { Done (sent_startup self.old to.now sid plain.now) self.new out.old out.new }
+    {
+        if self.sealed == u64::MAX {
+            return;
+        }
+        self.sealed += 1;
+        let number = startup_number(&self.print, self.sealed);
+        let datagram = seal(blank, &self.keys, sid, number, plain);
+        out.add(Entry::Out {
+            to: *to,
+            datagram,
+            context: Context::Startup,
+        });
+    }
+
+    /// Sends a startup packet that answers something.
+    pub fn send_answer(&mut self, blank: Vec<u8>, answer: &Answer, out: &mut Outbox)
+        requires blank { length blank.items ≡ 1200 }
+        requires room { 0 < out.old.free }
+        ensures { Done (sent_answer self.old answer.now) self.new out.old out.new }
+    {
+        self.send_startup(blank, &answer.to, answer.sid, &answer.plain, out);
+    }
+
+    /// Sends a startup packet to several addresses, under session ID 0.
+    pub fn send_each(
+        &mut self,
+        mut blanks: Vec<Vec<u8>>,
+        addresses: &[Address],
+        plain: &Outgoing,
+        out: &mut Outbox,
+    )
+        requires blanks { All (λ bytes. length bytes.items ≡ 1200) blanks.items }
+        requires enough { length addresses.now ≤ length blanks.items }
+        requires room { length addresses.now ≤ out.old.free }
+        ensures { Done (sent_each self.old plain.now addresses.now) self.new out.old out.new }
+    {
+        for to in addresses {
+            let Some(blank) = blanks.pop() else {
+                return;
+            };
+            self.send_startup(blank, to, 0, plain, out);
+        }
+    }
+}
+
+/// Memory for so many datagrams.
+pub fn blanks(alloc: Global, count: usize) -> Result<Vec<Vec<u8>>, AllocError>
+    ensures each { IfOk result (λ list. All (λ bytes. length bytes.items ≡ 1200) list.items) }
+    ensures count { IfOk result (λ list. length list.items ≡ count) }
+{
+    let mut list = Vec::with_capacity(alloc, count)?;
+    for _ in 0..count {
+        list.push(blank(alloc)?)?;
+    }
+    Ok(list)
+}

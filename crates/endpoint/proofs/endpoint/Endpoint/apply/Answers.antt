@@ -1,6 +1,0 @@
-use Rattle.std.proofs.Common.{rules}
-use Rattle.endpoint.proofs.endpoint.Endpoint.apply.Goals as goal
-
--- so that a wrong body is refused fast
-pub returns-in-Quiet-clause-quiet : goal.returns-in-Quiet-clause-quiet
-returns-in-Quiet-clause-quiet c = search rules

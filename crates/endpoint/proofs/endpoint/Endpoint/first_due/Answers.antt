@@ -1,6 +1,0 @@
-use Rattle.std.proofs.Common.{rules}
-use Rattle.endpoint.proofs.endpoint.Endpoint.first_due.Goals as goal
-
--- so that a wrong body is refused fast
-pub returns-in-Some : goal.returns-in-Some
-returns-in-Some c = search rules

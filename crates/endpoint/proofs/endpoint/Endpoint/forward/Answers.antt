@@ -1,5 +1,0 @@
-use Rattle.endpoint.proofs.Introduced.{forwarded_length}
-use Rattle.endpoint.proofs.endpoint.Endpoint.forward.Goals as goal
-
-pub send_home-requires-clause-short : goal.send_home-requires-clause-short
-send_home-requires-clause-short c = forwarded_length c.args.epd.now c.args.tag.now c.observed.result c.args.selected.now c.requires.tag c.requires.selected

@@ -1,6 +1,0 @@
-use Rattle.std.proofs.Common.{rules}
-use Rattle.endpoint.proofs.endpoint.Endpoint.judge_view.Goals as goal
-
--- so that a wrong body is refused fast
-pub returns-in-CloseAck-clause-ok : goal.returns-in-CloseAck-clause-ok
-returns-in-CloseAck-clause-ok c = search rules

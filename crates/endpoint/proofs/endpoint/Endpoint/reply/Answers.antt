@@ -1,6 +1,0 @@
-use Rattle.std.proofs.Common.{rules}
-use Rattle.endpoint.proofs.endpoint.Endpoint.reply.Goals as goal
-
--- so that a wrong body is refused fast
-pub returns-clause-ok : goal.returns-clause-ok
-returns-clause-ok c = search rules
