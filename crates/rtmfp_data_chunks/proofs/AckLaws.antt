@@ -11,7 +11,7 @@ use Rattle.rtmfp_data_chunks.specs.Fields.{NumbersSpell, NumbersBreak}
 use Rattle.rtmfp_data_chunks.specs.Acks.{BitsPass, PairsBreak}
 use Rattle.rtmfp_data_chunks.specs.Spelling.{BitmapSpells, AckRangesSpell, AckBreaks, NumbersStand, DataReading}
 use Rattle.rtmfp_data_chunks.specs.Reader.{numbers_then, passing_byte, bits_checked, bitmap_then, pairs_then, ack_ranges_then, probe_then, exception_then}
-use Rattle.rtmfp_data_chunks.proofs.Numbers.{bytes_behind, NumbersAre, numbers_are, numbers_found, numbers_broken}
+use Rattle.rtmfp_data_chunks.proofs.NumberLaws.{bytes_behind, NumbersAre, numbers_are, numbers_found, numbers_broken}
 use Rattle.rtmfp_data_chunks.proofs.Bits.{bits_fit, bits_pass, bits_fit_again, bits_pass_again}
 use Rattle.rtmfp_data_chunks.proofs.Pairs.{PairsAre, pairs_are, pairs_found, pairs_broken}
 

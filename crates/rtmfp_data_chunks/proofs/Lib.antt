@@ -1,5 +1,5 @@
 pub mod Spanning
-pub mod Numbers
+pub mod NumberLaws
 pub mod OptionLists
 pub mod Pairs
 pub mod Bits

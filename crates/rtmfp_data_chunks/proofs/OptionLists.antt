@@ -15,7 +15,7 @@ use Rattle.rtmfp_data_chunks.specs.declared.view.DataFault.TheVariants.{Unknown,
 use Rattle.rtmfp_data_chunks.specs.Chunk.{UserParts}
 use Rattle.rtmfp_data_chunks.specs.Fields.{flag, part_number, FlagsTell, OptionsStand, OptionsBreak}
 use Rattle.rtmfp_data_chunks.specs.Reader.{listed, options_at, part_numbered, user_then}
-use Rattle.rtmfp_data_chunks.proofs.Numbers.{bytes_behind}
+use Rattle.rtmfp_data_chunks.proofs.NumberLaws.{bytes_behind}
 
 -- ---- a list of options is spelled, or has a fault
 

@@ -10,7 +10,7 @@ use Rattle.rtmfp_data_chunks.specs.declared.view.DataFault.TheVariants.{Unknown,
 use Rattle.rtmfp_data_chunks.specs.Fields.{NumbersSpell}
 use Rattle.rtmfp_data_chunks.specs.Acks.{PairsTell, last_told, PairBreaks, PairsBreak}
 use Rattle.rtmfp_data_chunks.specs.Reader.{numbers_then, walk_within, pairs_then}
-use Rattle.rtmfp_data_chunks.proofs.Numbers.{bytes_behind, NumbersAre, numbers_are, numbers_found, numbers_broken}
+use Rattle.rtmfp_data_chunks.proofs.NumberLaws.{bytes_behind, NumbersAre, numbers_are, numbers_found, numbers_broken}
 
 -- a pair takes bytes
 pub pair_some : (n m : ℕ) (s : List ℕ) → NumbersSpell (n ∷ m ∷ []) s → 0 < length s

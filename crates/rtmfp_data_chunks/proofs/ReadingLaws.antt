@@ -10,11 +10,11 @@ use Rattle.rtmfp_data_chunks.specs.declared.view.DataView.{DataView}
 use Rattle.rtmfp_data_chunks.specs.Chunk.{data_chunk, UserParts, DataChunk, Data, Next, AckBitmap, AckRanges, Probe, Exception}
 use Rattle.rtmfp_data_chunks.specs.Spelling.{is_known, DataSpells, DataReading, shown, before_next, IsOrdered}
 use Rattle.rtmfp_data_chunks.specs.Writing.{IsDataChunk}
-use Rattle.rtmfp_data_chunks.specs.Reader.{Shows, data_then, next_then, bitmap_then, ack_ranges_then, probe_then, exception_then, data_at}
+use Rattle.rtmfp_data_chunks.specs.Reader.{Shows, data_then, next_then, bitmap_then, ack_ranges_then, probe_then, exception_then, data_reading}
 use Rattle.rtmfp_data_chunks.proofs.UserLaws.{DataIs, data_is, data_found, data_bad, data_broken, NextIs, next_is, next_found, next_broken}
 use Rattle.rtmfp_data_chunks.proofs.AckLaws.{bitmap_is, bitmap_found, bitmap_broken, ranges_is, ranges_found, ranges_broken, probe_is, probe_found, probe_broken, exception_is, exception_found, exception_broken}
 
--- ---- what the reader gives is so
+-- ---- what the function gives is so
 
 data_read : (last : Option Numbers) (b : List ℕ) (r : Result UserParts DataFault) → DataIs b r → DataReading last 0x10 b (r >>= λ user. Ok (Data user))
 data_read last b (Ok user) h = (refl, h)
@@ -28,9 +28,9 @@ next_read last b (Err (Unknown told)) h = absurd h
 next_read last b (Err (Malformed at)) h = inr (inl (refl, h))
 next_read last b (Err (BadOffset at)) h = absurd h
 
-reads : (last : Option Numbers) (kind : ℕ) (b : List ℕ) → IsBytes b → DataReading last kind b (data_at last kind b)
-unfolding data_at
-reads last kind b fits =
+pub data_reads : (last : Option Numbers) (kind : ℕ) (b : List ℕ) → IsBytes b → DataReading last kind b (data_reading last kind b)
+unfolding data_reading
+data_reads last kind b fits =
     elim (cases_eq kind 0x10) [
       | inl e ↦ rw e (data_read last b (data_then b) (data_is b fits))
       | inr n1 ↦ rw (ne_eqb kind 0x10 n1)
@@ -57,7 +57,7 @@ reads last kind b fits =
           ])
     ]
 
--- ---- what is so is what the reader gives
+-- ---- what is so is what the function gives
 
 abbrev as_data : UserParts → Result DataChunk DataFault
 as_data user = Ok (Data user)
@@ -65,64 +65,65 @@ as_data user = Ok (Data user)
 abbrev as_next : UserParts → Result DataChunk DataFault
 as_next user = Ok (Next user)
 
-at_data : (last : Option Numbers) (kind : ℕ) (b : List ℕ) → kind ≡ 0x10 → data_at last kind b ≡ (data_then b >>= as_data)
-unfolding data_at
+at_data : (last : Option Numbers) (kind : ℕ) (b : List ℕ) → kind ≡ 0x10 → data_reading last kind b ≡ (data_then b >>= as_data)
+unfolding data_reading
 at_data last kind b e = rw e refl
 
-at_next : (last : Option Numbers) (kind : ℕ) (b : List ℕ) → kind ≡ 0x11 → data_at last kind b ≡ (next_then last b >>= as_next)
-unfolding data_at
+at_next : (last : Option Numbers) (kind : ℕ) (b : List ℕ) → kind ≡ 0x11 → data_reading last kind b ≡ (next_then last b >>= as_next)
+unfolding data_reading
 at_next last kind b e = rw e refl
 
-at_bitmap : (last : Option Numbers) (kind : ℕ) (b : List ℕ) → kind ≡ 0x50 → data_at last kind b ≡ bitmap_then b
-unfolding data_at
+at_bitmap : (last : Option Numbers) (kind : ℕ) (b : List ℕ) → kind ≡ 0x50 → data_reading last kind b ≡ bitmap_then b
+unfolding data_reading
 at_bitmap last kind b e = rw e refl
 
-at_ranges : (last : Option Numbers) (kind : ℕ) (b : List ℕ) → kind ≡ 0x51 → data_at last kind b ≡ ack_ranges_then b
-unfolding data_at
+at_ranges : (last : Option Numbers) (kind : ℕ) (b : List ℕ) → kind ≡ 0x51 → data_reading last kind b ≡ ack_ranges_then b
+unfolding data_reading
 at_ranges last kind b e = rw e refl
 
-at_probe : (last : Option Numbers) (kind : ℕ) (b : List ℕ) → kind ≡ 0x18 → data_at last kind b ≡ probe_then b
-unfolding data_at
+at_probe : (last : Option Numbers) (kind : ℕ) (b : List ℕ) → kind ≡ 0x18 → data_reading last kind b ≡ probe_then b
+unfolding data_reading
 at_probe last kind b e = rw e refl
 
-at_exception : (last : Option Numbers) (kind : ℕ) (b : List ℕ) → kind ≡ 0x5e → data_at last kind b ≡ exception_then b
-unfolding data_at
+at_exception : (last : Option Numbers) (kind : ℕ) (b : List ℕ) → kind ≡ 0x5e → data_reading last kind b ≡ exception_then b
+unfolding data_reading
 at_exception last kind b e = rw e refl
 
-at_unknown : (last : Option Numbers) (kind : ℕ) (b : List ℕ) → is_known kind ≡ false → data_at last kind b ≡ Err (Unknown kind)
-unfolding data_at
+at_unknown : (last : Option Numbers) (kind : ℕ) (b : List ℕ) → is_known kind ≡ false → data_reading last kind b ≡ Err (Unknown kind)
+unfolding data_reading
 at_unknown last kind b none =
     let apart : (n : ℕ) → is_known n ≡ true → kind ≡ n → ⊥ = λ n known e. absurd (cc (none, known, ap is_known e)) in
     rw (ne_eqb kind 0x10 (apart 0x10 refl), ne_eqb kind 0x11 (apart 0x11 refl), ne_eqb kind 0x50 (apart 0x50 refl), ne_eqb kind 0x51 (apart 0x51 refl), ne_eqb kind 0x18 (apart 0x18 refl), ne_eqb kind 0x5e (apart 0x5e refl)) refl
 
-only : (last : Option Numbers) (kind : ℕ) (b : List ℕ) (r : Result DataChunk DataFault) → IsBytes b → DataReading last kind b r → data_at last kind b ≡ r
-only last kind b (Ok (Data user)) fits (e, h) = at_data last kind b e ∙ ap (λ x. x >>= as_data) (data_found b user h)
-only last kind b (Ok (Next user)) fits (e, h) = at_next last kind b e ∙ ap (λ x. x >>= as_next) (next_found last b user h)
-only last kind b (Ok (AckBitmap flow blocks upto bits)) fits (e, h) = at_bitmap last kind b e ∙ bitmap_found flow blocks upto bits b fits h
-only last kind b (Ok (AckRanges flow blocks upto pairs)) fits (e, h) = at_ranges last kind b e ∙ ranges_found flow blocks upto pairs b h
-only last kind b (Ok (Probe flow)) fits (e, h) = at_probe last kind b e ∙ probe_found flow b h
-only last kind b (Ok (Exception flow code)) fits (e, h) = at_exception last kind b e ∙ exception_found flow code b h
-only last kind b (Err (Unknown told)) fits (e, none) = at_unknown last kind b none ∙ ap (λ (n : ℕ). Err (Unknown n)) (sym e)
-only last kind b (Err (Malformed at)) fits (inl (e, h)) = at_data last kind b e ∙ ap (λ x. x >>= as_data) (data_broken b at h)
-only last kind b (Err (Malformed at)) fits (inr (inl (e, h))) = at_next last kind b e ∙ ap (λ x. x >>= as_next) (next_broken last b at h)
-only last kind b (Err (Malformed at)) fits (inr (inr (inl (e, h)))) = at_bitmap last kind b e ∙ bitmap_broken b at fits h
-only last kind b (Err (Malformed at)) fits (inr (inr (inr (inl (e, h))))) = at_ranges last kind b e ∙ ranges_broken b at h
-only last kind b (Err (Malformed at)) fits (inr (inr (inr (inr (inl (e, h)))))) = at_probe last kind b e ∙ probe_broken b at h
-only last kind b (Err (Malformed at)) fits (inr (inr (inr (inr (inr (e, h)))))) = at_exception last kind b e ∙ exception_broken b at h
-only last kind b (Err (BadOffset at)) fits (e, h) = at_data last kind b e ∙ ap (λ x. x >>= as_data) (data_bad b at h)
+-- of an ack by bits only the eight bits of each byte count
+pub data_reading_is : (last : Option Numbers) (kind : ℕ) (b : List ℕ) (r : Result DataChunk DataFault) → (kind ≡ 0x50 → IsBytes b) → DataReading last kind b r → data_reading last kind b ≡ r
+data_reading_is last kind b (Ok (Data user)) fits (e, h) = at_data last kind b e ∙ ap (λ x. x >>= as_data) (data_found b user h)
+data_reading_is last kind b (Ok (Next user)) fits (e, h) = at_next last kind b e ∙ ap (λ x. x >>= as_next) (next_found last b user h)
+data_reading_is last kind b (Ok (AckBitmap flow blocks upto bits)) fits (e, h) = at_bitmap last kind b e ∙ bitmap_found flow blocks upto bits b (fits e) h
+data_reading_is last kind b (Ok (AckRanges flow blocks upto pairs)) fits (e, h) = at_ranges last kind b e ∙ ranges_found flow blocks upto pairs b h
+data_reading_is last kind b (Ok (Probe flow)) fits (e, h) = at_probe last kind b e ∙ probe_found flow b h
+data_reading_is last kind b (Ok (Exception flow code)) fits (e, h) = at_exception last kind b e ∙ exception_found flow code b h
+data_reading_is last kind b (Err (Unknown told)) fits (e, none) = at_unknown last kind b none ∙ ap (λ (n : ℕ). Err (Unknown n)) (sym e)
+data_reading_is last kind b (Err (Malformed at)) fits (inl (e, h)) = at_data last kind b e ∙ ap (λ x. x >>= as_data) (data_broken b at h)
+data_reading_is last kind b (Err (Malformed at)) fits (inr (inl (e, h))) = at_next last kind b e ∙ ap (λ x. x >>= as_next) (next_broken last b at h)
+data_reading_is last kind b (Err (Malformed at)) fits (inr (inr (inl (e, h)))) = at_bitmap last kind b e ∙ bitmap_broken b at (fits e) h
+data_reading_is last kind b (Err (Malformed at)) fits (inr (inr (inr (inl (e, h))))) = at_ranges last kind b e ∙ ranges_broken b at h
+data_reading_is last kind b (Err (Malformed at)) fits (inr (inr (inr (inr (inl (e, h)))))) = at_probe last kind b e ∙ probe_broken b at h
+data_reading_is last kind b (Err (Malformed at)) fits (inr (inr (inr (inr (inr (e, h)))))) = at_exception last kind b e ∙ exception_broken b at h
+data_reading_is last kind b (Err (BadOffset at)) fits (e, h) = at_data last kind b e ∙ ap (λ x. x >>= as_data) (data_bad b at h)
 
 -- ---- what the reader's answer shows
 
-shown_is : (r : Result DataView DataFault) (read : Result DataChunk DataFault) → Shows data_chunk r read → read ≡ shown r
+pub shown_is : (r : Result DataView DataFault) (read : Result DataChunk DataFault) → Shows data_chunk r read → read ≡ shown r
 shown_is (Ok view) read h = h
 shown_is (Err fault) read h = h
 
-pub reads_shown : (last : Option Numbers) (kind : ℕ) (b : List ℕ) (r : Result DataView DataFault) → IsBytes b → Shows data_chunk r (data_at last kind b) → DataReading last kind b (shown r)
-reads_shown last kind b r fits h = subst (DataReading last kind b) (shown_is r (data_at last kind b) h) (reads last kind b fits)
+pub reads_shown : (last : Option Numbers) (kind : ℕ) (b : List ℕ) (r : Result DataView DataFault) → IsBytes b → Shows data_chunk r (data_reading last kind b) → DataReading last kind b (shown r)
+reads_shown last kind b r fits h = subst (DataReading last kind b) (shown_is r (data_reading last kind b) h) (data_reads last kind b fits)
 
-pub only_shown : (last : Option Numbers) (kind : ℕ) (b : List ℕ) (r : Result DataView DataFault) → IsBytes b → Shows data_chunk r (data_at last kind b)
+pub only_shown : (last : Option Numbers) (kind : ℕ) (b : List ℕ) (r : Result DataView DataFault) → IsBytes b → Shows data_chunk r (data_reading last kind b)
     → (other : Result DataChunk DataFault) → DataReading last kind b other → other ≡ shown r
-only_shown last kind b r fits h other reading = sym (only last kind b other fits reading) ∙ shown_is r (data_at last kind b) h
+only_shown last kind b r fits h other reading = sym (data_reading_is last kind b other (λ bits. fits) reading) ∙ shown_is r (data_reading last kind b) h
 
 -- ---- what is read can be written, and is ordered
 
@@ -153,4 +154,4 @@ stays_ordered last kind b (Err fault) ordered h = tt
 -- ---- a payload reads in one way
 
 pub data_reading_same : (last : Option Numbers) (kind : ℕ) (b : List ℕ) (x y : Result DataChunk DataFault) → IsBytes b → DataReading last kind b x → DataReading last kind b y → x ≡ y
-data_reading_same last kind b x y fits p q = sym (only last kind b x fits p) ∙ only last kind b y fits q
+data_reading_same last kind b x y fits p q = sym (data_reading_is last kind b x (λ bits. fits) p) ∙ data_reading_is last kind b y (λ bits. fits) q

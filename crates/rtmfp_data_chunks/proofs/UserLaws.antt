@@ -12,7 +12,7 @@ use Rattle.rtmfp_data_chunks.specs.Chunk.{UserParts}
 use Rattle.rtmfp_data_chunks.specs.Fields.{NumbersSpell, NoNumber, NumbersBreak, flag}
 use Rattle.rtmfp_data_chunks.specs.Spelling.{UserSpells, HasBadOffset, HasBadOptions, FlaggedBreak, UserBreaks, NextSpells, NextBodyBreaks, NextBreaks}
 use Rattle.rtmfp_data_chunks.specs.Reader.{number_then, numbers_then, user_then, is_bad_offset, data_then, next_body, next_then}
-use Rattle.rtmfp_data_chunks.proofs.Numbers.{bytes_behind, NumberIs, number_is, number_found, number_none, NumbersAre, numbers_are, numbers_found, numbers_broken}
+use Rattle.rtmfp_data_chunks.proofs.NumberLaws.{bytes_behind, NumberIs, number_is, number_found, number_none, NumbersAre, numbers_are, numbers_found, numbers_broken}
 use Rattle.rtmfp_data_chunks.proofs.OptionLists.{UserFound, UserIs, user_is, user_found, user_broken}
 
 -- ---- the offset of the forward number

@@ -1,4 +1,5 @@
--- The same from left to right, with the first fault that is met.
+-- How a payload reads, as one function (`data_reading`): field by field from left to right, with
+-- the first fault that is met.
 use Rattle.std.specs.Prelude.{◌≡◌, ℕ, zero, suc, ◌+◌, ◌-◌, ◌/◌, ◌%◌, ◌^◌, ◌==◌, if◌then◌else◌, nat_lt, not, min, Bool, true, false, List, [], ◌∷◌, length, drop, get_or, Option, Some, None, Result, Ok, Err}
 use Rattle.std.specs.Option.{option_map}
 use Rattle.rtmfp_vlu.specs.declared.reading.VluFault.{VluFault}
@@ -139,7 +140,7 @@ ack_ranges_then b = do
   end ← pairs_then (length b) (get_or numbers.0 2 0) numbers.1
   Ok (AckRanges (get_or numbers.0 0 0) (get_or numbers.0 1 0) (get_or numbers.0 2 0) numbers.1)
 
--- ---- all chunks
+-- ---- numbers alone, behind which bytes say nothing
 
 unfoldable pub probe_then : List ℕ → Result DataChunk DataFault
 probe_then b = do
@@ -151,8 +152,11 @@ exception_then b = do
   numbers ← numbers_then 2 (length b) b
   Ok (Exception (get_or numbers.0 0 0) (get_or numbers.0 1 0))
 
-unfoldable pub data_at : Option Numbers → ℕ → List ℕ → Result DataChunk DataFault
-data_at last kind b =
+-- ---- all chunks
+
+-- a payload of this type, behind the chunk before it
+unfoldable pub data_reading : Option Numbers → ℕ → List ℕ → Result DataChunk DataFault
+data_reading last kind b =
     if kind == 0x10 then data_then b >>= (λ user. Ok (Data user))
     else if kind == 0x11 then next_then last b >>= (λ user. Ok (Next user))
     else if kind == 0x50 then bitmap_then b

@@ -2,7 +2,8 @@
 ghost use Rattle.std.specs.Prelude.{◌≡◌, None, Result, IfOk};
 ghost use Rattle.rtmfp_data_chunks.specs.declared.view.DataFault.{DataFault};
 ghost use Rattle.rtmfp_data_chunks.specs.Chunk.{DataChunk, data_chunk};
-ghost use Rattle.rtmfp_data_chunks.specs.Spelling.{DataReading, shown, before_next};
+ghost use Rattle.rtmfp_data_chunks.specs.Spelling.{DataReading, shown, before_next, IsOrdered};
+ghost use Rattle.rtmfp_data_chunks.specs.Reader.{data_reading};
 ghost use Rattle.rtmfp_data_chunks.specs.Writing.{IsDataChunk};
 
 use crate::reading::read_kind;
@@ -37,12 +38,31 @@ impl DataCursor {
         DataCursor { before: None }
     }
 
+    /// A cursor that goes on behind these numbers, which another one had come to.
+    pub fn behind(before: Option<Numbers>) -> DataCursor
+        requires { IsOrdered before }
+        ensures { result ≡ before }
+    {
+        DataCursor { before }
+    }
+
+    /// What a next chunk would stand behind here.
+    pub fn before(&self) -> Option<Numbers>
+        ensures exact { result ≡ self.now }
+        ensures ordered { IsOrdered result }
+    {
+        self.before
+    }
+
     /// Reads a chunk of type `kind` from its payload. What it gives are parts of the payload.
     pub fn read<'a>(&mut self, kind: u8, payload: &'a [u8]) -> Result<DataView<'a>, DataFault>
         // The payload reads so, and in no other way.
         ensures reads { DataReading self.old kind payload.now (shown result) }
         ensures only { (other : Result DataChunk DataFault) →
             DataReading self.old kind payload.now other → other ≡ shown result }
+
+        // All of this as one function.
+        ensures exact { shown result ≡ data_reading self.old kind payload.now }
 
         // What is read can be written.
         ensures whole { IfOk result (λ view. IsDataChunk (data_chunk view)) }

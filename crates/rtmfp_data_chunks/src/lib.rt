@@ -15,6 +15,6 @@ mod writing;
 pub use acked::AckedSpans;
 pub use cursor::DataCursor;
 pub use flow_options::{all_known, flow_named, metadata_in, spell_flow_options};
-pub use user_data::{Part, UserData};
+pub use user_data::{Numbers, Part, UserData};
 pub use view::{DataFault, DataView};
 pub use writing::write_data;

@@ -1,7 +1,7 @@
 //! The payload of each chunk of flows.
 ghost use Rattle.std.specs.Prelude.{◌≡◌, ◌<◌, ◌≤◌, length, IfSome};
 ghost use Rattle.rtmfp_data_chunks.specs.Chunk.{user_parts, data_chunk};
-ghost use Rattle.rtmfp_data_chunks.specs.Reader.{Shows, is_bad_offset, data_then, next_then, bitmap_then, ack_ranges_then, probe_then, exception_then, data_at, passing_byte, pairs_then};
+ghost use Rattle.rtmfp_data_chunks.specs.Reader.{Shows, is_bad_offset, data_then, next_then, bitmap_then, ack_ranges_then, probe_then, exception_then, data_reading, passing_byte, pairs_then};
 
 use crate::fields::{abandons, number, three_numbers, two_numbers, user_data};
 use crate::kinds;
@@ -152,13 +152,13 @@ fn read_exception(payload: &[u8]) -> Result<DataView<'_>, DataFault>
 }
 
 /// Reads a chunk of this type behind the chunk before it.
-#[tactic(auto, unfolding(crate::specs::Reader::data_at))]
+#[tactic(auto, unfolding(crate::specs::Reader::data_reading))]
 pub(crate) fn read_kind(
     before: Option<Numbers>,
     kind: u8,
     payload: &[u8],
 ) -> Result<DataView<'_>, DataFault>
-    ensures { Shows data_chunk result (data_at before kind payload.now) }
+    ensures { Shows data_chunk result (data_reading before kind payload.now) }
 {
     match kind {
         kinds::DATA => Ok(DataView::Data(read_data(payload)?)),

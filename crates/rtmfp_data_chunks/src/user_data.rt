@@ -31,10 +31,10 @@ pub struct UserData<'a> {
     pub bytes: &'a [u8],
 }
 
-/// The numbers of a user data chunk.
-#[derive(Clone, Copy)]
-pub(crate) struct Numbers {
-    pub(crate) flow: u64,
-    pub(crate) seq: u64,
-    pub(crate) forward: u64,
+/// The numbers of a user data chunk, from which those of a next chunk behind it follow.
+#[derive(Clone, Copy, Debug, PartialEq, Eq)]
+pub struct Numbers {
+    pub flow: u64,
+    pub seq: u64,
+    pub forward: u64,
 }

@@ -49,7 +49,8 @@ fn takes(view: &DataView<'_>, session: &mut Session, flows: &mut Flows) -> bool 
     }
 }
 
-/// Takes the chunks of a packet, which are of these types.
+/// Takes the chunks of a packet, which are of these types. Each is read by a cursor of its own,
+/// which goes on behind the one before it.
 fn takes_all(packet: &Packet<'_>, kinds: &[u8], session: &mut Session, flows: &mut Flows) -> bool {
     let mut cursor = DataCursor::new();
     let mut left = kinds.iter();
@@ -57,6 +58,7 @@ fn takes_all(packet: &Packet<'_>, kinds: &[u8], session: &mut Session, flows: &m
         if left.next() != Some(&chunk.kind) {
             return false;
         }
+        cursor = DataCursor::behind(cursor.before());
         match cursor.read(chunk.kind, chunk.payload) {
             Ok(view) => {
                 if !takes(&view, session, flows) {

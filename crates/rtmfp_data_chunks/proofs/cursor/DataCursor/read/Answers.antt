@@ -1,6 +1,7 @@
 use Rattle.std.proofs.Common.{sym, arith}
 use Rattle.rtmfp_data_chunks.specs.Spelling.{shown}
-use Rattle.rtmfp_data_chunks.proofs.ReadingLaws.{reads_shown, only_shown, view_whole, stays_ordered}
+use Rattle.rtmfp_data_chunks.specs.Reader.{data_reading}
+use Rattle.rtmfp_data_chunks.proofs.ReadingLaws.{shown_is, reads_shown, only_shown, view_whole, stays_ordered}
 use Rattle.rtmfp_data_chunks.proofs.cursor.DataCursor.read.Goals as goal
 
 pub returns-clause-reads : goal.returns-clause-reads
@@ -10,6 +11,10 @@ returns-clause-reads c =
 pub returns-clause-only : goal.returns-clause-only
 returns-clause-only c other h =
     only_shown c.self.inside.before c.args.kind c.args.payload.now c.read_kind-read.result (λ i. omega (arith, c.type_inv.payload i)) c.read_kind-read.ensures other (rw (sym c.self.view_is) at h)
+
+pub returns-clause-exact : goal.returns-clause-exact
+returns-clause-exact c =
+    rw (sym c.self.view_is) (sym (shown_is c.read_kind-read.result (data_reading c.self.inside.before c.args.kind c.args.payload.now) c.read_kind-read.ensures))
 
 pub returns-clause-whole : goal.returns-clause-whole
 returns-clause-whole c =
