@@ -23,3 +23,4 @@ pub mod Walking
 pub mod Foremost
 pub mod Lowest
 pub mod Losing
+pub mod Fitting

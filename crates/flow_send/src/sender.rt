@@ -6,6 +6,7 @@ ghost use Rattle.std.specs.Prelude.{Ok, Err, nat_lt, MatchOption, MatchResult, t
 ghost use Rattle.std.specs.Prelude.{if◌then◌else◌, ◌↔◌};
 ghost use Rattle.std.specs.Option.{is_some};
 ghost use Rattle.std.specs.List.{list_any};
+ghost use Rattle.rtmfp_vlu.specs.Vlu.{vlu};
 ghost use Rattle.rtmfp_data_chunks.specs.Fragments.{fragments_of_length};
 ghost use Rattle.rtmfp_data_chunks.specs.Taken.{chunk_of};
 ghost use Rattle.rtmfp_data_chunks.specs.FlowOptions.{flow_options};
@@ -21,6 +22,7 @@ ghost use Rattle.flow_send.specs.Choice.{sent_after};
 ghost use Rattle.flow_send.specs.Picked.{picked, picked_if, IsThere, IsOffered};
 ghost use Rattle.flow_send.specs.Flow.{Flow, with_sender, is_finished, queue_refusal};
 ghost use Rattle.flow_send.specs.Flow.{next_message, data_length, chunk_options, chunk_refusal};
+ghost use Rattle.flow_send.specs.Flow.{options_length};
 
 use crate::acking::{acknowledge, greatest};
 use crate::backlog::Backlog;
@@ -67,8 +69,8 @@ pub struct FlowSender {
 }
 
 impl Model for FlowSender {
-    ghost use Rattle.std.specs.Prelude.{◌≡◌, ◌≤◌, ◌+◌, None};
-    ghost use Rattle.rtmfp_forms.specs.Options.{OptionsSpell};
+    ghost use Rattle.std.specs.Prelude.{◌≡◌, ◌≤◌, ◌+◌, None, length};
+    ghost use Rattle.rtmfp_forms.specs.Options.{OptionsSpell, options_bytes};
     ghost use Rattle.rtmfp_forms.specs.OptionReading.{options_in};
     ghost use Rattle.flow_send.specs.Sender.{sender_of};
     ghost use Rattle.flow_send.specs.Steady.{Steady};
@@ -88,7 +90,8 @@ impl Model for FlowSender {
     ghost invariant = { λ f.
         Steady (sender_of f.forward f.rows.rows f.waiting f.finish f.sent f.upto f.told f.notice
         f.order)
-        × OptionsSpell (options_in f.options.items) f.options.items
+        × (OptionsSpell (options_in f.options.items) f.options.items
+        × (length (options_bytes (options_in f.options.items)) ≤ 79))
         × (f.finish ≡ None → 1 ≤ f.rows.room)
         × Follows f.sendings (f.forward + 1) f.rows.rows };
 }
@@ -115,6 +118,8 @@ impl FlowSender {
               new_sender first;
         }) }
     {
+        // Read for the prover alone: a number has ten bytes at most.
+        let _answer = answer_len(answers);
         Ok(FlowSender {
             alloc,
             id,
@@ -418,6 +423,8 @@ impl FlowSender {
         ensures picked { IfOk result (λ p. choice moment resend_after self.now.sender
             ≡ picked self.now.sender p) }
         ensures offered { IfOk result (λ p. IsOffered self.now.sender p) }
+        // No chunk of a flow has more bytes.
+        ensures fits { 1113 ≤ room → result ≢ Err NoChunk.Room }
     {
         let Some(pick) = self.pick(moment, resend_after) else {
             return Err(NoChunk::Nothing);
@@ -552,8 +559,9 @@ impl FlowSender {
         window: u64,
     ) -> Option<NoChunk>
         requires { IsThere self.now.sender pick }
-        ensures { result ≡ chunk_refusal self.now first room flight window
+        ensures refusal { result ≡ chunk_refusal self.now first room flight window
             (picked self.now.sender pick) }
+        ensures fits { 1113 ≤ room → result ≢ Some NoChunk.Room }
     {
         let chunk = self.chunk(pick, first);
         if u128::from(flight) + self.pick_bytes(pick) as u128 > u128::from(window) {
@@ -573,6 +581,7 @@ impl FlowSender {
             ≡ Some (chunk_of result) }
         ensures options { result.options ≡ chunk_options self.now first }
         ensures flow { result.flow ≡ self.now.id }
+        ensures short { options_length result.options + length (chunk_of result).bytes ≤ 1079 }
     {
         match pick {
             Pick::Row(at) => {
@@ -603,7 +612,8 @@ impl FlowSender {
 
     /// The options of a chunk.
     fn chunk_options(&self, first: bool) -> Option<Options<'_>>
-        ensures { result ≡ chunk_options self.now first }
+        ensures options { result ≡ chunk_options self.now first }
+        ensures short { options_length result ≤ 79 }
     {
         if !first || self.told.is_some() {
             return None;
@@ -636,10 +646,23 @@ impl FlowSender {
     }
 }
 
+/// The bytes of the number of a flow that is answered.
+fn answer_len(answers: Option<u64>) -> usize
+    ensures { MatchOption answers (result ≡ 0)
+        (λ flow. (result ≡ length (vlu flow)) × (result ≤ 10)) }
+{
+    match answers {
+        Some(flow) => vlu_len(flow),
+        None => 0,
+    }
+}
+
 /// The length of a user data chunk with its type and length.
 fn data_len(chunk: &UserData<'_>) -> u128
     requires { chunk.now.forward ≤ chunk.now.seq }
-    ensures { result ≡ data_length chunk.now.flow chunk.now.options (chunk_of chunk.now) }
+    ensures length { result ≡ data_length chunk.now.flow chunk.now.options (chunk_of chunk.now) }
+    ensures most { result ≤ 34 + (options_length chunk.now.options
+        + length (chunk_of chunk.now).bytes) }
 {
     let numbers = vlu_len(chunk.flow) + vlu_len(chunk.seq) + vlu_len(chunk.seq - chunk.forward);
     let options = match &chunk.options {

@@ -1,5 +1,5 @@
-use Rattle.std.proofs.Common.{◌≡◌, ◌+◌, ◌-◌, List, [], None, ap, sym, ◌∙◌, subst}
-use Rattle.rtmfp_forms.specs.Options.{OptionParts, OptionsSpell}
+use Rattle.std.proofs.Common.{◌≡◌, ◌+◌, ◌-◌, ◌≤◌, List, [], None, length, ap, sym, ◌∙◌, subst}
+use Rattle.rtmfp_forms.specs.Options.{OptionParts, OptionsSpell, options_bytes}
 use Rattle.rtmfp_forms.specs.OptionReading.{options_in}
 use Rattle.rtmfp_forms.proofs.Lists.{options_in-spelled}
 use Rattle.flow_send.specs.declared.waiting.Waiting.{Waiting}
@@ -11,6 +11,7 @@ use Rattle.rtmfp_data_chunks.specs.FlowOptions.{flow_options}
 use Rattle.flow_send.specs.Flow.{Flow}
 use Rattle.flow_send.proofs.Steadies.{steady_new}
 use Rattle.flow_send.proofs.Followed.{begin}
+use Rattle.flow_send.proofs.Fitting.{options_size}
 use Rattle.flow_send.proofs.sender.FlowSender.new.Goals as goal
 use Rattle.flow_send.proofs.sender.FlowSender.new.Goals.{After-new-3}
 
@@ -26,7 +27,10 @@ listed c = options_in-spelled (flow_options c.args.metadata.now c.args.answers) 
 pub invariant_of-result : goal.invariant_of-result
 invariant_of-result c = (
   subst Steady (sym (fresh c)) (steady_new c.args.first c.requires.first c.ranges.first.fits),
-  subst (λ (os : List OptionParts). OptionsSpell os c.in_ok-spell_flow_options.field-0.items) (sym (listed c)) c.in_ok-spell_flow_options.ensures,
+  (
+    subst (λ (os : List OptionParts). OptionsSpell os c.in_ok-spell_flow_options.field-0.items) (sym (listed c)) c.in_ok-spell_flow_options.ensures,
+    subst (λ (os : List OptionParts). length (options_bytes os) ≤ 79) (sym (listed c)) (options_size c.args.metadata.now c.args.answers c.answer_len-answer.result c.requires.metadata c.answer_len-answer.ensures),
+  ),
   λ none. c.in_ok-new.ensures.room,
   begin c.new-2.result (c.args.first - 1 + 1) c.in_ok-new.field-0.rows (ap (λ (o : Ordered). o.queue) c.new-2.ensures) c.in_ok-new.ensures.none,
 )
