@@ -10,3 +10,4 @@ pub mod Calls
 pub mod Takes
 pub mod Hearing
 pub mod Within
+pub mod Falling

@@ -139,8 +139,16 @@ once_goes pace fs packet marks at x flight result y out new first id there e few
 
 -- ---- until none goes
 
-clash : false ≡ true → ⊥
+pub clash : false ≡ true → ⊥
 clash e = absurd cc
+
+pub some_goes : (o : Option Packing) (p q : Packing) → Goes o true p q → o ≡ Some q
+some_goes None p q h = absurd (clash (sym h.0))
+some_goes (Some r) p q h = ap (λ (x : Packing). Some x) (sym h.1)
+
+pub goes_same : (o : Option Packing) (p q : Packing) → Goes o false p q → q ≡ p
+goes_same None p q h = h.1
+goes_same (Some r) p q h = absurd (clash h.0)
 
 stop_by : (pace : Pace) (n : ℕ) (p q : Packing) (o : Option Packing) → Goes o false p q → packs_on (packs pace n) p o ≡ q
 stop_by pace n p q None h = sym h.1

@@ -2,6 +2,7 @@
 use Prim.Native.Nat.{zero, suc}
 use Rattle.std.proofs.Common.{◌≡◌, ℕ, ◌+◌, ◌-◌, ◌<◌, ◌≤◌, ◌==◌, Bool, true, false, cond, nat_lt, List, [], ◌∷◌, Option, Some, None, MatchOption, length, refl, sym, ap, ◌∙◌, subst, arith, inl, inr}
 use Rattle.std.specs.Prelude.{slice_get, slice_set}
+use Rattle.std.specs.List.{sum_by}
 use Rattle.std.proofs.lemmas.Bool.{ltb-false, eqb-true}
 use Rattle.std.proofs.lemmas.List.Sums.{sum_by-cons}
 use Rattle.rtmfp_forms.specs.Outgoing.{packet_limit}
@@ -22,9 +23,6 @@ use Rattle.session_flows.proofs.Next.{next_from}
 
 rows_cons : (r : Row) (later : List Row) → in_flight (r ∷ later) ≡ row_flight r + in_flight later
 rows_cons r later = sum_by-cons row_flight r later
-
-flows_cons : (f : Flow) (later : List Flow) → session_flight (f ∷ later) ≡ flight_of f + session_flight later
-flows_cons f later = sum_by-cons flight_of f later
 
 same_by : (n k : ℕ) (new r : Row) (later : List Row) (b : Bool) → (k == n) ≡ b → n < k → in_flight (map_rows (put_at n new) (k + 1) later) ≡ in_flight later →
     row_flight (cond b new r) + in_flight (map_rows (put_at n new) (k + 1) later) ≡ row_flight r + in_flight later
@@ -64,16 +62,17 @@ sent_most moment (Send n r) s = put_most n (s.forward + 1) (sent_row moment (cou
 some_same : {x y : Flow} → ◌≡◌ {A = Option Flow} (Some x) (Some y) → x ≡ y
 some_same e = cc
 
-flight_set : (fs : List Flow) (k : ℕ) (f g : Flow) → slice_get fs k ≡ Some f → session_flight (slice_set fs k g) + flight_of f ≡ session_flight fs + flight_of g
-flight_set [] k f g h = absurd cc
-flight_set (x ∷ later) zero f g h = let same : x ≡ f = some_same h in let e : flight_of x ≡ flight_of f = ap (λ (y : Flow). flight_of y) same in
-    let a : session_flight (g ∷ later) ≡ flight_of g + session_flight later = flows_cons g later in
-    let b : session_flight (x ∷ later) ≡ flight_of x + session_flight later = flows_cons x later in omega arith
-flight_set (x ∷ later) (suc k) f g h = let ih : session_flight (slice_set later k g) + flight_of f ≡ session_flight later + flight_of g = flight_set later k f g h in
-    let a : session_flight (x ∷ slice_set later k g) ≡ flight_of x + session_flight (slice_set later k g) = flows_cons x (slice_set later k g) in
-    let b : session_flight (x ∷ later) ≡ flight_of x + session_flight later = flows_cons x later in omega arith
+-- a sum over flows, of which one is changed
+pub sum_set : (m : Flow → ℕ) (fs : List Flow) (k : ℕ) (f g : Flow) → slice_get fs k ≡ Some f → sum_by m (slice_set fs k g) + m f ≡ sum_by m fs + m g
+sum_set m [] k f g h = absurd cc
+sum_set m (x ∷ later) zero f g h = let same : x ≡ f = some_same h in let e : m x ≡ m f = ap m same in
+    let a : sum_by m (g ∷ later) ≡ m g + sum_by m later = sum_by-cons m g later in
+    let b : sum_by m (x ∷ later) ≡ m x + sum_by m later = sum_by-cons m x later in omega arith
+sum_set m (x ∷ later) (suc k) f g h = let ih : sum_by m (slice_set later k g) + m f ≡ sum_by m later + m g = sum_set m later k f g h in
+    let a : sum_by m (x ∷ slice_set later k g) ≡ m x + sum_by m (slice_set later k g) = sum_by-cons m x (slice_set later k g) in
+    let b : sum_by m (x ∷ later) ≡ m x + sum_by m later = sum_by-cons m x later in omega arith
 
-in_place : (n : ℕ) (fs : List Flow) (f : Flow) → AreNumbered n fs → IsIn f fs → (k : ℕ) × (f.id ≡ n + k) × (slice_get fs k ≡ Some f)
+pub in_place : (n : ℕ) (fs : List Flow) (f : Flow) → AreNumbered n fs → IsIn f fs → (k : ℕ) × (f.id ≡ n + k) × (slice_get fs k ≡ Some f)
 in_place n [] f h i = absurd i
 in_place n (x ∷ later) f h (inl e) = (0, (let same : f.id ≡ x.id = ap (λ (y : Flow). y.id) e in omega (arith, h.0)), ap (λ (y : Flow). Some y) (sym e))
 in_place n (x ∷ later) f h (inr there) =
@@ -92,21 +91,21 @@ after_flow : (pace : Pace) (fs : List Flow) (f : Flow) (k : ℕ) → slice_get f
     session_flight (slice_set fs k (with_sender f (sent_after pace.moment (chosen pace f) f.sender))) ≤ pace.window
 after_flow pace fs f k there within =
     let set : session_flight (slice_set fs k (with_sender f (sent_after pace.moment (chosen pace f) f.sender))) + flight_of f ≡ session_flight fs + flight_of (with_sender f (sent_after pace.moment (chosen pace f) f.sender)) =
-    flight_set fs k f (with_sender f (sent_after pace.moment (chosen pace f) f.sender)) there in
+    sum_set flight_of fs k f (with_sender f (sent_after pace.moment (chosen pace f) f.sender)) there in
     let most : flight_of (with_sender f (sent_after pace.moment (chosen pace f) f.sender)) ≤ flight_of f + choice_bytes (chosen pace f) = sent_most pace.moment (chosen pace f) f.sender in
     omega arith
 
 some_packing : {p q : Packing} → ◌≡◌ {A = Option Packing} (Some p) (Some q) → p ≡ q
 some_packing e = cc
 
-put_within : (pace : Pace) (p q : Packing) (f : Flow) (k : ℕ) (c : Option Chunk) → f.id ≡ k → slice_get p.sending k ≡ Some f → (x : Option NoChunk) →
-    x ≡ chunk_refusal_of f (is_first p.marks f.id) (packet_limit - length p.packet) (session_flight p.sending) pace.window (chosen pace f) c →
+put_within : (pace : Pace) (p q : Packing) (f : Flow) (k : ℕ) (c : Option Chunk) → f.id ≡ k → slice_get p.sending k ≡ Some f → (room : ℕ) (x : Option NoChunk) →
+    x ≡ chunk_refusal_of f (is_first p.marks f.id) room (session_flight p.sending) pace.window (chosen pace f) c →
     put_back p.sending (packed_by pace (packed f p.packet p.marks) x c) ≡ Some q → session_flight q.sending ≤ pace.window
-put_within pace p q f k c id there (Some refused) e h = absurd cc
-put_within pace p q f k None id there None e h = absurd cc
-put_within pace p q f k (Some c) id there None e h =
+put_within pace p q f k c id there room (Some refused) e h = absurd cc
+put_within pace p q f k None id there room None e h = absurd cc
+put_within pace p q f k (Some c) id there room None e h =
     let within : session_flight p.sending + choice_bytes (chosen pace f) ≤ pace.window =
-    room_of f (is_first p.marks f.id) (packet_limit - length p.packet) (session_flight p.sending) pace.window (chosen pace f) c _ refl (sym e) in
+    room_of f (is_first p.marks f.id) room (session_flight p.sending) pace.window (chosen pace f) c _ refl (sym e) in
     let after : session_flight (slice_set p.sending f.id (with_sender f (sent_after pace.moment (chosen pace f) f.sender))) ≤ pace.window =
     subst (λ (i : ℕ). session_flight (slice_set p.sending i (with_sender f (sent_after pace.moment (chosen pace f) f.sender))) ≤ pace.window) (sym id) (after_flow pace p.sending f k there within) in
     subst (λ (x : Packing). session_flight x.sending ≤ pace.window) (some_packing h) after
@@ -116,7 +115,7 @@ goes_within pace p q None numbered next h = absurd cc
 goes_within pace p q (Some f) numbered next h =
     let r = in_place 0 p.sending f numbered next.is_in in
     let id : f.id ≡ 0 + r.0 = r.1 in
-    put_within pace p q f r.0 (chunk_for f.sender (chosen pace f)) (omega arith) r.2 (refused_of pace (session_flight p.sending) (packed f p.packet p.marks)) refl h
+    put_within pace p q f r.0 (chunk_for f.sender (chosen pace f)) (omega arith) r.2 _ (refused_of pace (session_flight p.sending) (packed f p.packet p.marks)) refl h
 
 pub stays_within : StaysWithin
 stays_within pace p q numbered h = goes_within pace p q (first_to_send pace p.sending) numbered (next_from pace 0 p.sending numbered) h

@@ -13,7 +13,7 @@ use Rattle.session_flows.specs.Keeping.{FlowsState, taking_at, Stated, Handed}
 use Rattle.session_flows.specs.Handing.{hands_all}
 use Rattle.session_flows.specs.Chunks.{without_messages}
 use Rattle.session_flows.specs.Packing.{may_send, first_to_send, Packing, packed_once}
-use Rattle.session_flows.specs.Packing.{session_flight}
+use Rattle.session_flows.specs.Packing.{session_flight, left_to_send}
 
 -- ---- what is so of every session's flows
 
@@ -61,6 +61,13 @@ TheNextSends = (pace : Pace) (sending : List Flow) → AreNumbered 0 sending →
 abbrev pub StaysWithin : Type 0
 StaysWithin = (pace : Pace) (p q : Packing) → AreNumbered 0 p.sending →
     packed_once pace p ≡ Some q → session_flight q.sending ≤ pace.window
+
+-- ---- that packing ends
+
+-- A chunk that goes takes one from what is left to send.
+abbrev pub TakesOne : Type 0
+TakesOne = (pace : Pace) (p q : Packing) → AreNumbered 0 p.sending → 0 < pace.resend_after →
+    packed_once pace p ≡ Some q → left_to_send pace p.sending ≡ left_to_send pace q.sending + 1
 
 -- ---- what is handed over
 

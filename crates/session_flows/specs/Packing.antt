@@ -1,6 +1,6 @@
 -- Which chunk of a session's flows goes next, and how chunks are packed into a datagram.
 use Prim.Native.Nat.{zero, suc}
-use Rattle.std.specs.Prelude.{ℕ, ◌+◌, ◌-◌, ◌==◌, ◌&&◌, nat_lt, nat_le, not, Bool, true, false}
+use Rattle.std.specs.Prelude.{ℕ, ◌+◌, ◌-◌, ◌==◌, ◌&&◌, ◌||◌, nat_lt, nat_le, not, Bool, true, false}
 use Rattle.std.specs.Prelude.{if◌then◌else◌, is_some, List, [], ◌∷◌, ◌++◌, length, Option, Some}
 use Rattle.std.specs.Prelude.{None}
 use Rattle.std.specs.Prelude.{slice_get, slice_set, slice_index_or, replicate, drop, ◌≡◌, ◌<◌}
@@ -10,8 +10,9 @@ use Rattle.rtmfp_data_chunks.specs.Runs.{Chunk}
 use Rattle.rtmfp_data_chunks.specs.Chunk.{UserParts, DataChunk, Data, Next}
 use Rattle.rtmfp_data_chunks.specs.Writing.{data_bytes}
 use Rattle.flow_send.specs.declared.outcome.NoChunk.{NoChunk}
-use Rattle.flow_send.specs.Rows.{in_flight}
-use Rattle.flow_send.specs.Choice.{Choice, choice, choice_bytes, chunk_for, sent_after}
+use Rattle.flow_send.specs.Rows.{Row, is_unsent, is_lost, in_flight}
+use Rattle.flow_send.specs.Choice.{Choice, Nothing, Send, Notify, choice, choice_bytes, chunk_for}
+use Rattle.flow_send.specs.Choice.{notice_due, sent_after}
 use Rattle.flow_send.specs.Flow.{Flow, with_sender, user_data, chunk_options, chunk_refusal}
 use Rattle.session_core.specs.Session.{SessionState}
 use Rattle.session_core.specs.Closing.{is_open}
@@ -165,6 +166,25 @@ packs pace (suc count) p = packs_on (packs pace count) p (packed_once pace p)
 -- As many as go: each has a byte at least, and a packet at most 1,164.
 abbrev pub filled : Pace → List Flow → List ℕ → Packing
 filled pace sending packet = packs pace 1165 (packing sending packet)
+
+-- ---- what is left to send at a moment
+
+abbrev pub to_send_of : Row → ℕ
+to_send_of r = if is_unsent r.state || is_lost r.state then 1 else 0
+
+abbrev pub notices_in : Choice → ℕ
+notices_in Nothing = 0
+notices_in (Send n r) = 0
+notices_in Notify = 1
+
+-- the numbers that are unsent or lost, and a notice that is due
+abbrev pub left_of : Pace → Flow → ℕ
+left_of pace f = sum_by to_send_of f.sender.rows
+    + notices_in (notice_due pace.moment pace.resend_after f.sender)
+
+-- of all flows, whatever their limits
+abbrev pub left_to_send : Pace → List Flow → ℕ
+left_to_send pace sending = sum_by (left_of pace) sending
 
 -- ---- what an open session sends
 

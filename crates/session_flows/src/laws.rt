@@ -1,7 +1,7 @@
 //! Laws of a session's flows, each the contract of a function that does nothing.
 
 ghost use Rattle.session_flows.specs.Laws.{TheNextSends, HandsAllThatAreReady, LeavesNothingReady};
-ghost use Rattle.session_flows.specs.Laws.{LeavesNoMessage, StaysWithin};
+ghost use Rattle.session_flows.specs.Laws.{LeavesNoMessage, StaysWithin, TakesOne};
 
 /// Of the flows that may send, the one that sends has the highest priority, and the lowest ID of
 /// those with that priority. Where none sends, none may.
@@ -13,6 +13,11 @@ pub fn the_highest_priority_sends_first()
 /// has.
 pub fn flight_stays_within_the_window()
     ensures { StaysWithin }
+{}
+
+/// A chunk that goes takes one from what is left to send at a moment, so packing ends.
+pub fn each_chunk_takes_one()
+    ensures { TakesOne }
 {}
 
 /// After a chunk its flow hands over all runs that may be, by rising numbers, and no others; then

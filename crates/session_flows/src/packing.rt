@@ -12,6 +12,7 @@ ghost use Rattle.session_flows.specs.Packing.{packed, packing_with, pace_of, may
 ghost use Rattle.session_flows.specs.Packing.{first_to_send, session_flight, follows, as_chunk};
 ghost use Rattle.session_flows.specs.Packing.{numbers_in, marked, flow_packed, packed_once, packs};
 ghost use Rattle.session_flows.specs.Packing.{filled, goes, is_data_due, Goes, IsNextFrom};
+ghost use Rattle.session_flows.specs.Packing.{left_to_send};
 ghost use Rattle.session_flows.specs.Laws.{AreNumbered};
 
 use crate::flows::Flows;
@@ -43,6 +44,10 @@ impl Flows {
             (filled (pace_of session.now moment) self.old.sending out.old).sending }
         ensures packet { out.new
             ≡ (filled (pace_of session.now moment) self.old.sending out.old).packet }
+        // Where a chunk is due, one goes into a packet that has no more than its head.
+        ensures falls { is_data_due session.now self.old moment ≡ true → length out.old ≤ 51 →
+            left_to_send (pace_of session.now moment) self.new.sending
+            < left_to_send (pace_of session.now moment) self.old.sending }
         // None goes any more.
         ensures full { is_none (packed_once (pace_of session.now moment)
             (filled (pace_of session.now moment) self.old.sending out.old)) ≡ true }
@@ -164,6 +169,8 @@ fn fill(pace: Pace, sending: &mut [FlowSender], out: &mut Outgoing)
     ensures flows { sending.new ≡ (filled pace sending.old out.old).sending }
     ensures packet { out.new ≡ (filled pace sending.old out.old).packet }
     ensures full { is_none (packed_once pace (filled pace sending.old out.old)) ≡ true }
+    ensures falls { goes pace sending.old ≡ true → length out.old ≤ 51 → 0 < pace.resend_after →
+        left_to_send pace sending.new < left_to_send pace sending.old }
     ensures numbered { AreNumbered 0 sending.new }
 {
     let mut marks = Marks {
@@ -189,6 +196,7 @@ fn pack_once(pace: Pace, sending: &mut [FlowSender], marks: &mut Marks, out: &mu
         (packing_with sending.new out.new marks.new) }
     ensures numbered { AreNumbered 0 sending.new }
     ensures longer { result ≡ true → length out.old < length out.new }
+    ensures due { goes pace sending.old ≡ true → length out.old ≤ 51 → result ≡ true }
 {
     let Some(at) = first_to_send(pace, sending) else {
         return false;
@@ -210,6 +218,8 @@ fn pack_flow(
         (packed sender.old out.old marks.old) (packed sender.new out.new marks.new) }
     ensures id { sender.new.id ≡ sender.old.id }
     ensures longer { result ≡ true → length out.old < length out.new }
+    ensures due { may_send pace sender.old ≡ true → length out.old ≤ 51 →
+        flight + choice_bytes (chosen pace sender.old) ≤ pace.window → result ≡ true }
 {
     let first = !marks.begun[sender.id() as usize];
     let Ok(pick) = sender.offers(

@@ -1,10 +1,12 @@
-use Rattle.std.proofs.Common.{◌≡◌, ◌+◌, ◌<◌, Some, length, refl, sym, ◌∙◌, subst, arith}
+use Rattle.std.proofs.Common.{◌≡◌, ◌+◌, ◌<◌, ◌≤◌, true, Some, length, refl, sym, ◌∙◌, subst, arith}
 use Rattle.std.specs.Prelude.{slice_get}
 use Rattle.std.proofs.lemmas.Option.{slice_get_read}
 use Rattle.flow_send.specs.Flow.{Flow}
-use Rattle.session_flows.specs.Packing.{packed, flow_packed, Goes}
+use Rattle.flow_send.specs.Choice.{choice_bytes}
+use Rattle.session_flows.specs.Packing.{packed, flow_packed, Goes, first_to_send, may_send, chosen, session_flight}
 use Rattle.session_flows.proofs.Sounds.{numbered_at, numbered_set}
-use Rattle.session_flows.proofs.Packs.{once_goes}
+use Rattle.session_flows.proofs.Packs.{once_goes, chosen_may}
+use Rattle.session_flows.proofs.Falling.{due_within}
 use Rattle.session_flows.proofs.packing.pack_once.Goals as goal
 
 pub pack_flow-requires : goal.pack_flow-requires
@@ -33,3 +35,13 @@ returns-clause-numbered c =
     slice_get_read c.args.sending.now (length c.args.sending.now) c.in-Some.at c.index-sending-at.result refl c.in-Some.ensures.1 c.index-sending-at.is in
     let same = subst (λ (f : Flow). c.pack_flow.new.sender.id ≡ f.id) (sym c.index-sending-at.is) c.pack_flow.ensures.id in
     numbered_set 0 c.in-Some.at c.args.sending.now c.index-sending-at.result c.pack_flow.new.sender there same c.requires.numbered
+
+pub returns-clause-due : goal.returns-clause-due
+returns-clause-due c is_due few =
+    let there : slice_get c.args.sending.now c.in-Some.at ≡ Some c.index-sending-at.result =
+    slice_get_read c.args.sending.now (length c.args.sending.now) c.in-Some.at c.index-sending-at.result refl c.in-Some.ensures.1 c.index-sending-at.is in
+    let first : first_to_send c.args.pace c.args.sending.now ≡ Some c.index-sending-at.result = c.in-Some.ensures.0 ∙ there in
+    let may : may_send c.args.pace c.index-sending-at.result ≡ true = chosen_may c.args.pace c.args.sending.now c.index-sending-at.result first in
+    let within : session_flight c.args.sending.now + choice_bytes (chosen c.args.pace c.index-sending-at.result) ≤ c.args.pace.window = due_within c.args.pace c.args.sending.now c.index-sending-at.result first is_due in
+    let due = subst (λ (f : Flow). may_send c.args.pace f ≡ true → length c.args.out.now ≤ 51 → c.session_flight-flight.result + choice_bytes (chosen c.args.pace f) ≤ c.args.pace.window → c.pack_flow.result ≡ true) (sym c.index-sending-at.is) c.pack_flow.ensures.due in
+    due may few (omega (arith, within, c.session_flight-flight.ensures))
