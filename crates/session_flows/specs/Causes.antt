@@ -25,7 +25,8 @@ use Rattle.session_flows.specs.declared.cause.Untaken.{Untaken}
 use Rattle.session_flows.specs.declared.cause.Untaken.TheVariants.{Cause as Discarded}
 use Rattle.session_flows.specs.declared.cause.Untaken.TheVariants.{Memory as NoMemory}
 use Rattle.session_flows.specs.Keeping.{FlowsState, sending_at, taking_at}
-use Rattle.session_flows.specs.Told.{options_of, metadata_in, begins_with_a, any_astray}
+use Rattle.rtmfp_data_chunks.specs.FlowOptions.{metadata_in, all_known}
+use Rattle.session_flows.specs.Told.{options_of, begins_with_a}
 
 -- ---- data and next
 
@@ -51,7 +52,7 @@ metadata_of user = metadata_in (options_of user.options)
 -- names a flow that isn't there.
 abbrev pub is_unknown : FlowsState → UserParts → Bool
 is_unknown s user = (not (is_there s user) && is_none (metadata_of user))
-    || any_astray (length s.sending) (options_of user.options)
+    || not (all_known (length s.sending) (options_of user.options))
 
 -- it would make one flow more than 256
 abbrev pub is_one_too_many : FlowsState → UserParts → Bool

@@ -33,7 +33,7 @@ made s user = made_by s user (taking_at s user.flow)
 
 -- its receiver takes the chunk, and is owed an ack for
 abbrev pub taken_of : UserParts → TakingFlow → TakingFlow
-taken_of user t = record { id = t.id; receiver = taken t.receiver (piece_of user); owed = true }
+taken_of user t = record t { receiver = taken t.receiver (piece_of user); owed = true }
 
 abbrev pub data_taken : FlowsState → UserParts → FlowsState
 data_taken s user = with_changed (made s user) user.flow (taken_of user)
@@ -67,7 +67,7 @@ session_heard session s id a = opened_by session a (sending_at s id)
 -- ---- a buffer probe: an ack is owed
 
 abbrev pub owing : TakingFlow → TakingFlow
-owing t = record { id = t.id; receiver = t.receiver; owed = true }
+owing t = record t { owed = true }
 
 abbrev pub probed : FlowsState → ℕ → FlowsState
 probed s id = with_changed s id owing

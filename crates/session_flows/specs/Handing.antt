@@ -12,7 +12,7 @@ use Rattle.session_flows.specs.Keeping.{FlowsState, taking_at, with_changed, Sta
 use Rattle.session_flows.specs.Keeping.{Did, nothing, then_do}
 
 abbrev pub with_receiver : (Receiver → Receiver) → TakingFlow → TakingFlow
-with_receiver f t = record { id = t.id; receiver = f t.receiver; owed = t.owed }
+with_receiver f t = record t { receiver = f t.receiver }
 
 -- ---- the next message of a flow
 

@@ -16,10 +16,10 @@ abbrev pub no_flows : FlowsState
 no_flows = record { sending = []; taking = [] }
 
 abbrev pub with_sending : FlowsState → List Flow → FlowsState
-with_sending s sending = record { sending = sending; taking = s.taking }
+with_sending s sending = record s { sending = sending }
 
 abbrev pub with_taking : FlowsState → List TakingFlow → FlowsState
-with_taking s taking = record { sending = s.sending; taking = taking }
+with_taking s taking = record s { taking = taking }
 
 -- ---- sending flows
 

@@ -15,7 +15,7 @@ abbrev pub owes : FlowsState → Bool
 owes s = list_any is_owed s.taking
 
 abbrev pub paid : TakingFlow → TakingFlow
-paid t = record { id = t.id; receiver = t.receiver; owed = false }
+paid t = record t { owed = false }
 
 -- flows, and a packet that was begun
 pub record Acked : Type 0 where

@@ -7,9 +7,8 @@ ghost use Rattle.rtmfp_data_chunks.specs.Chunk.{user_parts};
 ghost use Rattle.flow_send.specs.Acks.{told};
 ghost use Rattle.flow_send.specs.Flow.{with_sender};
 ghost use Rattle.session_core.specs.Closing.{is_held, with_acknowledged};
-ghost use Rattle.session_flows.specs.Causes.{data_cause, ack_cause, probe_cause};
-ghost use Rattle.session_flows.specs.Causes.{exception_cause, early_cause, receiver_cause};
-ghost use Rattle.session_flows.specs.Causes.{untaken_of, is_there};
+ghost use Rattle.session_flows.specs.Causes.{data_cause, ack_cause, probe_cause, exception_cause};
+ghost use Rattle.session_flows.specs.Causes.{early_cause, receiver_cause, untaken_of, is_there};
 ghost use Rattle.session_flows.specs.Keeping.{Abandoned};
 ghost use Rattle.session_flows.specs.Chunks.{data_taken, heard, session_heard, probed, rejecting};
 ghost use Rattle.session_flows.specs.Chunks.{waiting_at, finished_at, without_messages, numbers_of};
@@ -19,7 +18,7 @@ ghost use Rattle.session_flows.specs.Places.{index_from, place_of};
 use crate::cause::{FlowCause, Untaken};
 use crate::flows::{Flows, MOST_FLOWS};
 use crate::taking::TakingFlow;
-use crate::told::{tells_astray, told_metadata};
+use crate::told::{tells_known, told_metadata};
 use flow_recv::{FlowReceiver, FlowRefusal};
 use flow_send::{AckFault, Acked, FlowSender};
 use rtmfp_data_chunks::{AckedSpans, UserData};
@@ -71,7 +70,7 @@ impl Flows {
         if !there && told_metadata(&chunk.options).is_none() {
             return Some(FlowCause::UnknownFlow);
         }
-        if tells_astray(self.sending.len() as u64, &chunk.options) {
+        if !tells_known(self.sending.len() as u64, &chunk.options) {
             return Some(FlowCause::UnknownFlow);
         }
         if !there && self.taking.len() >= MOST_FLOWS {
@@ -126,9 +125,7 @@ impl Flows {
         }
         Ok(())
     }
-}
 
-impl Flows {
     /// The index at which a receiving flow is put in.
     fn place_for(&self, flow: u64) -> usize
         ensures place { result ≡ place_of flow self.now.taking }

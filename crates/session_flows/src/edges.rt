@@ -10,32 +10,31 @@ ghost use Rattle.flow_recv.specs.Receiver.{fresh};
 ghost use Rattle.flow_send.specs.declared.outcome.QueueRefusal.{QueueRefusal};
 ghost use Rattle.flow_send.specs.Acks.{told};
 ghost use Rattle.flow_send.specs.Edges.{numbers, unsent, flying, lost, acked, given_up};
-ghost use Rattle.flow_send.specs.Edges.{with_blocks};
-ghost use Rattle.flow_send.specs.Edges.{acked_up_to};
+ghost use Rattle.flow_send.specs.Edges.{with_blocks, acked_up_to, three};
 ghost use Rattle.session_flows.specs.declared.taking.TakingFlow.{TakingFlow};
 ghost use Rattle.session_flows.specs.Keeping.{FlowsState, no_flows, in_taking, Opened, Queued};
 ghost use Rattle.session_flows.specs.Keeping.{Abandoned, Finished, Handed};
 ghost use Rattle.session_flows.specs.Calling.{open_refusal, opening, queue_refused, queueing};
 ghost use Rattle.session_flows.specs.Calling.{abandon_refused, abandoning, finish_refused};
 ghost use Rattle.session_flows.specs.Calling.{finishing};
-ghost use Rattle.session_flows.specs.Told.{metadata_in, begins_with_a, named, is_astray};
+ghost use Rattle.rtmfp_data_chunks.specs.FlowOptions.{metadata_in, flow_named, names_known};
+ghost use Rattle.session_flows.specs.Told.{begins_with_a};
 ghost use Rattle.session_flows.specs.Causes.{data_cause, ack_cause, probe_cause, exception_cause};
-ghost use Rattle.rtmfp_data_chunks.specs.Chunk.{Data, Next, Probe, Exception};
 ghost use Rattle.session_flows.specs.Causes.{chunk_cause};
+ghost use Rattle.rtmfp_data_chunks.specs.Chunk.{Data, Next, Probe, Exception};
 ghost use Rattle.session_flows.specs.Chunks.{rejecting, chunk_done, session_after, data_taken};
 ghost use Rattle.session_flows.specs.Handing.{ready_in};
 ghost use Rattle.session_flows.specs.Owing.{acks_put, is_full_for, owes};
 ghost use Rattle.session_flows.specs.Packing.{first_to_send, goes, follows, packing, packs};
+ghost use Rattle.session_flows.specs.Packing.{is_data_due};
 ghost use Rattle.session_flows.specs.Edges.{option_with, chunk_of_flow, flow_with, new_at};
 ghost use Rattle.session_flows.specs.Edges.{taking_with, fresh_at, owed_at, flows_of, pace_with};
 ghost use Rattle.session_flows.specs.Edges.{in_stage, no_limits, one_flow, one_message};
 ghost use Rattle.session_flows.specs.Edges.{two_messages, finished_flow, metadata, answering};
-ghost use Rattle.session_flows.specs.Edges.{made_answering, sending_some, sending_none};
-ghost use Rattle.session_flows.specs.Edges.{numbers_of, untimed, with_deadline};
+ghost use Rattle.session_flows.specs.Edges.{made_answering, sending_some, sending_none, numbers_of};
+ghost use Rattle.session_flows.specs.Edges.{untimed, with_deadline};
 ghost use Rattle.session_flows.specs.Timing.{overdue_in, overdue_done, session_late};
-ghost use Rattle.session_flows.specs.Packing.{is_data_due};
 ghost use Rattle.session_core.specs.Congestion.{shrunk};
-ghost use Rattle.flow_send.specs.Edges.{three};
 
 use crate::cause::FlowCause;
 use crate::refusal::CallRefusal;
@@ -75,7 +74,6 @@ pub fn calls_on_a_flow()
 
 /// The first metadata count, and an `a` at their beginning. An association names a flow by one
 /// number, in any spelling, and nothing else.
-#[tactic(auto, unfolding(rtmfp_vlu::specs::Reading::number_at, rtmfp_vlu::specs::Reading::end_within))]
 pub fn what_options_tell()
     ensures first { metadata_in (option_with 3 [] ∷ option_with 0 (1 ∷ []) ∷ option_with 0 [] ∷ [])
         ≡ Some (1 ∷ []) }
@@ -83,20 +81,19 @@ pub fn what_options_tell()
     ensures an_a { begins_with_a (97 ∷ 98 ∷ []) ≡ true }
     ensures no_a { begins_with_a (98 ∷ 97 ∷ []) ≡ false }
     ensures empty { begins_with_a [] ≡ false }
-    ensures one { named (5 ∷ []) ≡ Some 5 }
-    ensures long { named (128 ∷ 5 ∷ []) ≡ Some 5 }
-    ensures more { named (5 ∷ 0 ∷ []) ≡ None }
-    ensures cut { named (128 ∷ []) ≡ None }
-    ensures nothing { named [] ≡ None }
-    ensures there { is_astray 6 (option_with 10 (5 ∷ [])) ≡ false }
-    ensures beyond { is_astray 5 (option_with 10 (5 ∷ [])) ≡ true }
-    ensures no_number { is_astray 6 (option_with 10 []) ≡ true }
-    ensures other_kind { is_astray 0 (option_with 11 (5 ∷ [])) ≡ false }
+    ensures one { flow_named (5 ∷ []) ≡ Some 5 }
+    ensures long { flow_named (128 ∷ 5 ∷ []) ≡ Some 5 }
+    ensures more { flow_named (5 ∷ 0 ∷ []) ≡ None }
+    ensures cut { flow_named (128 ∷ []) ≡ None }
+    ensures nothing { flow_named [] ≡ None }
+    ensures there { names_known 6 (option_with 10 (5 ∷ [])) ≡ true }
+    ensures beyond { names_known 5 (option_with 10 (5 ∷ [])) ≡ false }
+    ensures no_number { names_known 6 (option_with 10 []) ≡ false }
+    ensures other_kind { names_known 0 (option_with 11 (5 ∷ [])) ≡ true }
 {}
 
 /// The causes of data, in their order: a session that has ended; a flow that isn't there and isn't
 /// made, or an association with none; one flow too many; and those of the receiver.
-#[tactic(auto, unfolding(rtmfp_vlu::specs::Reading::number_at, rtmfp_vlu::specs::Reading::end_within))]
 pub fn causes_of_data()
     ensures closing { (session : SessionState) → data_cause (in_stage NearClose session) no_flows
         (chunk_of_flow 5 1 None) ≡ Some FlowCause.WrongState }

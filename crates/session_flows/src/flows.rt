@@ -1,8 +1,7 @@
 //! The flows of one session, and the calls on those that it sends.
 
 ghost use Rattle.std.specs.Prelude.{◌≡◌, ◌<◌, ◌∷◌, [], length, Some, None, Ok, Err, IfOk, OnErr};
-ghost use Rattle.std.specs.Prelude.{IfErr};
-ghost use Rattle.std.specs.Prelude.{MatchOption, slice_get, IsOk};
+ghost use Rattle.std.specs.Prelude.{IfErr, MatchOption, slice_get, IsOk};
 ghost use Rattle.flow_send.specs.Sender.{next_of};
 ghost use Rattle.flow_send.specs.declared.outcome.QueueRefusal.{QueueRefusal};
 ghost use Rattle.session_flows.specs.Keeping.{no_flows, Opened, Queued, Abandoned, Finished};
