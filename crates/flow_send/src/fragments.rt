@@ -1,6 +1,6 @@
 //! Messages cut into fragments.
 
-ghost use Rattle.std.specs.Prelude.{◌≡◌, ◌+◌, ◌<◌, ◌≤◌, ℕ, IfOk, length};
+ghost use Rattle.std.specs.Prelude.{◌≡◌, ◌+◌, ◌<◌, ◌≤◌, ◌∷◌, ℕ, IfOk, length};
 ghost use Rattle.rtmfp_data_chunks.specs.Fragments.{fragments_of_length, part_of};
 ghost use Rattle.flow_send.specs.Sender.{rows_of};
 
@@ -11,6 +11,13 @@ use std::collections::VecDeque;
 
 /// The bytes of each fragment but the last.
 const FRAGMENT: usize = 1000;
+
+/// The first fragment of a message, and those after it.
+#[derive(Drop)]
+pub struct Pieces {
+    pub first: HeldRow,
+    pub more: VecDeque<HeldRow>,
+}
 
 /// How many fragments a message of a length has.
 pub fn fragments_of(length: u64) -> u64
@@ -40,19 +47,21 @@ fn part_of(count: u64, at: u64) -> Part
     Part::Middle
 }
 
-/// The fragments of a message, whatever the number of the first one.
-pub fn cut(alloc: Global, message: &[u8], count: u64) -> Result<VecDeque<HeldRow>, AllocError>
+/// The fragments of a message, whatever the number of the first one. That one stands apart, so that
+/// a message which has no other asks for no list.
+pub fn cut(alloc: Global, message: &[u8], count: u64) -> Result<Pieces, AllocError>
     requires count { count ≡ fragments_of_length (length message.now) }
     ensures rows { (n : ℕ) →
-        IfOk result (λ rows. rows.items ≡ rows_of (record { number = n; bytes = message.now }) n
-        count) }
+        IfOk result (λ cut. cut.first ∷ cut.more.items
+        ≡ rows_of (record { number = n; bytes = message.now }) n count) }
 {
-    let mut rows = VecDeque::with_capacity(alloc, count as usize)?;
-    let mut rest = message;
-    for at in 0..count {
-        let (piece, more) = rest.split_at(rest.len().min(FRAGMENT));
-        rows.push_back(HeldRow::fragment(alloc, part_of(count, at), piece)?)?;
-        rest = more;
+    let (piece, mut rest) = message.split_at(message.len().min(FRAGMENT));
+    let first = HeldRow::fragment(alloc, part_of(count, 0), piece)?;
+    let mut more = VecDeque::with_capacity(alloc, count as usize - 1)?;
+    for at in 1..count {
+        let (piece, behind) = rest.split_at(rest.len().min(FRAGMENT));
+        more.push_back(HeldRow::fragment(alloc, part_of(count, at), piece)?)?;
+        rest = behind;
     }
-    Ok(rows)
+    Ok(Pieces { first, more })
 }

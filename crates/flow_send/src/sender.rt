@@ -188,13 +188,14 @@ impl FlowSender {
         if size > u64::MAX - self.rows.stored() {
             return Err(AllocError);
         }
-        let fragments = cut(self.alloc, message, count)?;
-        self.rows.reserve(fragments.len() + 1)?;
+        let pieces = cut(self.alloc, message, count)?;
+        self.rows.reserve(pieces.more.len() + 2)?;
         // A number that is sent again has two sendings among those since the oldest one in flight.
         self.sendings.reserve(
             self.rows
                 .len()
-                .saturating_add(fragments.len())
+                .saturating_add(pieces.more.len())
+                .saturating_add(1)
                 .saturating_mul(2),
         )?;
         self.waiting.push(Waiting {
@@ -203,7 +204,8 @@ impl FlowSender {
             size,
             options,
         })?;
-        self.rows.append(fragments);
+        self.rows.push(pieces.first);
+        self.rows.append(pieces.more);
         Ok(())
     }
 

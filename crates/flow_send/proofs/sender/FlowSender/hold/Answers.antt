@@ -1,5 +1,6 @@
-use Rattle.std.proofs.Common.{◌≡◌, ℕ, ◌+◌, List, [], ◌∷◌, ◌++◌, length, None, ap, sym, ◌∙◌, subst, arith}
+use Rattle.std.proofs.Common.{◌≡◌, ℕ, ◌+◌, List, [], ◌∷◌, ◌++◌, length, None, ap, sym, ◌∙◌, subst, arith, append_assoc}
 use Rattle.std.specs.List.{sum_by}
+use Rattle.std.proofs.lemmas.List.Sums.{sum_by-cons, sum_by-append}
 use Rattle.rtmfp_data_chunks.specs.Fragments.{Message, fragments_of_length}
 use Rattle.rtmfp_forms.specs.OptionReading.{options_in}
 use Rattle.flow_send.specs.declared.waiting.Waiting.{Waiting}
@@ -15,15 +16,24 @@ use Rattle.flow_send.proofs.Walking.{all_below}
 use Rattle.flow_send.proofs.sender.FlowSender.hold.Goals as goal
 use Rattle.flow_send.proofs.sender.FlowSender.hold.Goals.{After-append}
 
+pub push-requires-2-clause-fits : goal.push-requires-2-clause-fits
+push-requires-2-clause-fits c =
+    let m : Message = record { number = 0; bytes = c.args.message.now } in
+    let pieces = c.in_ok-pieces.pieces in
+    let few = rows_stored m 0 c.fragments_of-count.result in
+    let left = ap (λ (rs : List Row). sum_by stored_of rs) c.reserve.ensures.rows in
+    let right = ap (λ (rs : List Row). sum_by stored_of rs) (c.in_ok-pieces.ensures.rows 0) in
+    omega (arith, c.stored.ensures, few, left, right, sum_by-cons stored_of pieces.first pieces.more.items, c.if-size-stored.false)
+
 pub append-requires-clause-fits : goal.append-requires-clause-fits
 append-requires-clause-fits c =
     let m : Message = record { number = 0; bytes = c.args.message.now } in
-    let old : c.reserve.new.self.rows ≡ c.self.inside.rows.rows = c.reserve.ensures.rows in
-    let new : c.in_ok-fragments.fragments.items ≡ rows_of m 0 c.fragments_of-count.result = c.in_ok-fragments.ensures.rows 0 in
+    let pieces = c.in_ok-pieces.pieces in
     let few = rows_stored m 0 c.fragments_of-count.result in
-    let left = ap (λ (rs : List Row). sum_by stored_of rs) old in
-    let right = ap (λ (rs : List Row). sum_by stored_of rs) new in
-    omega (arith, c.stored.ensures, few, left, right, c.if-size-stored.false)
+    let left = ap (λ (rs : List Row). sum_by stored_of rs) c.reserve.ensures.rows in
+    let right = ap (λ (rs : List Row). sum_by stored_of rs) (c.in_ok-pieces.ensures.rows 0) in
+    let pushed = ap (λ (rs : List Row). sum_by stored_of rs) c.push-2.ensures.rows in
+    omega (arith, c.stored.ensures, few, left, right, pushed, sum_by-append stored_of c.reserve.new.self.rows (pieces.first ∷ []), sum_by-cons stored_of pieces.first pieces.more.items, sum_by-cons stored_of pieces.first [], c.if-size-stored.false)
 
 abbrev At : After-append → Sender
 At c = let i = c.self.inside in sender_of i.forward i.rows.rows i.waiting i.finish i.sent i.upto i.told i.notice i.order
@@ -33,10 +43,12 @@ after c =
     let i = c.self.inside in
     let s = At c in
     let m = next_message s c.args.message.now in
+    let pieces = c.in_ok-pieces.pieces in
     let number : c.args.number ≡ next_of s = c.requires.number ∙ ap (λ (f : Flow). next_of f.sender) (sym c.self.view_is) in
     let count : c.fragments_of-count.result ≡ fragments_of_length (length c.args.message.now) = c.fragments_of-count.ensures in
     let rows : c.append.new.self.rows ≡ i.rows.rows ++ rows_of m m.number (fragments_of_length (length c.args.message.now)) =
-    c.append.ensures.rows ∙ (ap (λ (rs : List Row). rs ++ c.in_ok-fragments.fragments.items) c.reserve.ensures.rows ∙ (ap (λ (rs : List Row). i.rows.rows ++ rs) (c.in_ok-fragments.ensures.rows (next_of s)) ∙ ap (λ k. i.rows.rows ++ rows_of m m.number k) count)) in
+    c.append.ensures.rows ∙ (ap (λ (rs : List Row). rs ++ pieces.more.items) (c.push-2.ensures.rows ∙ ap (λ (rs : List Row). rs ++ pieces.first ∷ []) c.reserve.ensures.rows)
+    ∙ (append_assoc i.rows.rows (pieces.first ∷ []) pieces.more.items ∙ (ap (λ (rs : List Row). i.rows.rows ++ rs) (c.in_ok-pieces.ensures.rows (next_of s)) ∙ ap (λ k. i.rows.rows ++ rows_of m m.number k) count))) in
     let W : ℕ → ℕ → Waiting = λ n k. record { number = n; count = k; size = length c.args.message.now; options = c.args.options } in
     let waiting : c.push.new.self ≡ i.waiting ++ waiting_of m c.args.options ∷ [] = c.in_ok-push.ensures.pushed ∙ (ap (λ k. i.waiting ++ W k c.fragments_of-count.result ∷ []) number ∙ ap (λ k. i.waiting ++ W (next_of s) k ∷ []) count) in
     ap (λ (rs : List Row). sender_of i.forward rs c.push.new.self i.finish i.sent i.upto i.told i.notice i.order) rows
@@ -51,7 +63,7 @@ invariant_of-self-2 c =
     let a = allowed s (length c.args.message.now) (subst (λ (f : Flow). queue_refusal f.sender (length c.args.message.now) ≡ None) (sym c.self.view_is) c.requires.allowed) in (
       subst Steady (sym (after c)) (steady_queued s c.args.message.now c.args.options c.self.invariant.0 a.unfinished a.bytes a.fragments a.numbers),
       c.self.invariant.1,
-      λ none. omega (arith, c.append.ensures.room, c.in_ok-reserve.ensures.room, c.len.ensures),
+      λ none. omega (arith, c.append.ensures.room, c.push-2.ensures.room, c.in_ok-reserve.ensures.room, c.len.ensures),
       held c.self.inside.sendings c.reserve-2.new.self (c.self.inside.forward + 1) c.self.inside.rows.rows c.append.new.self.rows (next_message s c.args.message.now) (fragments_of_length (length c.args.message.now)) c.reserve-2.ensures (rows_after c) c.self.invariant.3,
     )
 
