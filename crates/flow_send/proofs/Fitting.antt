@@ -1,9 +1,9 @@
 -- How many bytes a chunk of a flow has at most.
 use Prim.Native.Nat.{zero, suc}
-use Rattle.std.proofs.Common.{◌≡◌, ℕ, ◌+◌, ◌<◌, ◌≤◌, ◌^◌, List, [], ◌∷◌, ◌++◌, Option, Some, None, MatchOption, length, refl, ap, arith, length-append}
+use Rattle.std.proofs.Common.{◌≡◌, ℕ, ◌+◌, ◌<◌, ◌≤◌, List, [], ◌∷◌, ◌++◌, Option, Some, None, MatchOption, length, ap, arith, length-append}
 use Rattle.rtmfp_vlu.specs.Vlu.{vlu}
 use Rattle.rtmfp_vlu.proofs.Fields.{vlu-small}
-use Rattle.rtmfp_forms.specs.Options.{OptionParts, counted_bytes, option_bytes, options_bytes}
+use Rattle.rtmfp_forms.specs.Options.{option_bytes, options_bytes}
 use Rattle.rtmfp_forms.proofs.Respelling.{length-options_bytes}
 use Rattle.std.specs.List.{flat_map}
 use Rattle.rtmfp_data_chunks.specs.FlowOptions.{metadata_option, association, associations, flow_options}

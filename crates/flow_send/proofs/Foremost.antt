@@ -1,17 +1,15 @@
 -- The first of the messages that wait.
-use Rattle.std.proofs.Common.{◌≡◌, ℕ, ◌+◌, ◌<◌, ◌≤◌, nat_lt, nat_le, ◌==◌, cond, not, Bool, true, false, ◌&&◌, ◌||◌, List, [], ◌∷◌, length, drop, Some, None, refl, ap, sym, ◌∙◌, arith, inl, inr, ◌⊎◌}
+use Rattle.std.proofs.Common.{◌≡◌, ℕ, ◌+◌, ◌<◌, ◌≤◌, nat_lt, nat_le, ◌==◌, cond, not, Bool, true, false, ◌&&◌, ◌||◌, List, [], ◌∷◌, length, Some, None, refl, ap, sym, ◌∙◌, arith, inl, inr, ◌⊎◌}
 use Rattle.std.specs.List.{filter, slice_get}
-use Rattle.std.specs.List.Sorted.{IsStrictlySortedBy}
-use Rattle.std.specs.Map.{keys_of, values_of}
-use Rattle.std.specs.Ordering.{nat_cmp}
+use Rattle.std.specs.Map.{values_of}
 use Rattle.std.proofs.lemmas.Bool.{eq-eqb, lt-leb, le-leb, lt-ltb}
 use Rattle.rtmfp_data_chunks.specs.HandsOver.{IsIn}
 use Rattle.flow_send.specs.declared.waiting.Waiting.{Waiting}
 use Rattle.flow_send.specs.Rows.{Row}
-use Rattle.flow_send.specs.Sender.{message_at, without_message, first_number}
+use Rattle.flow_send.specs.Sender.{without_message}
 use Rattle.flow_send.specs.Acks.{still_waits}
 use Rattle.flow_send.specs.Steady.{Line}
-use Rattle.flow_send.specs.Messages.{keyed, IsKeyed, touches, keeps}
+use Rattle.flow_send.specs.Messages.{touches, keeps}
 use Rattle.rtmfp_data_chunks.proofs.Filtering.{filter_all}
 use Rattle.flow_send.proofs.Walking.{in_low, in_line}
 

@@ -4,7 +4,7 @@ use Rattle.rtmfp_forms.specs.Outgoing.{packet_limit}
 use Rattle.flow_recv.specs.Acking.{ack_bytes}
 use Rattle.session_flows.specs.declared.taking.TakingFlow.{TakingFlow}
 use Rattle.session_flows.specs.Keeping.{FlowsState}
-use Rattle.session_flows.specs.Owing.{Acked, with_front, acks_put, is_full_for, paid, after_acks, owing_none}
+use Rattle.session_flows.specs.Owing.{Acked, with_front, acks_put, is_full_for, paid, after_acks}
 use Rattle.session_flows.specs.Laws.{Rise, IsSound}
 
 -- flows in front of those that are left

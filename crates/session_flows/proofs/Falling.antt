@@ -1,11 +1,10 @@
 -- A chunk that goes takes one from what is left to send, and where one is due, one goes.
 use Prim.Native.Nat.{zero, suc}
-use Rattle.std.proofs.Common.{◌≡◌, ℕ, ◌+◌, ◌-◌, ◌<◌, ◌≤◌, ◌==◌, ◌&&◌, ◌||◌, Bool, true, false, cond, nat_lt, nat_le, min, List, [], ◌∷◌, Option, Some, None, Result, Err, MatchOption, length, refl, sym, ap, ◌∙◌, subst, arith}
+use Rattle.std.proofs.Common.{◌≡◌, ℕ, ◌+◌, ◌<◌, ◌≤◌, ◌==◌, ◌&&◌, ◌||◌, Bool, true, false, cond, nat_lt, List, [], ◌∷◌, Option, Some, None, Result, Err, MatchOption, refl, sym, ap, ◌∙◌, subst, arith}
 use Rattle.std.specs.Prelude.{slice_get, slice_set, is_some, IsOk}
 use Rattle.std.specs.List.{sum_by}
 use Rattle.std.proofs.lemmas.Bool.{eqb-true, eqb-false, lt-leb, le-ltb, leb-true}
 use Rattle.std.proofs.lemmas.List.Sums.{sum_by-cons}
-use Rattle.rtmfp_forms.specs.Outgoing.{packet_limit}
 use Rattle.rtmfp_data_chunks.specs.Runs.{Chunk}
 use Rattle.flow_send.specs.declared.state.State.{State}
 use Rattle.flow_send.specs.declared.state.State.TheVariants.{Unsent, Flying, Lost, Acknowledged, Abandoned}
@@ -15,9 +14,9 @@ use Rattle.flow_send.specs.declared.pick.Pick.{Pick}
 use Rattle.flow_send.specs.Rows.{Row, is_unsent, is_lost, map_rows}
 use Rattle.flow_send.specs.Sender.{Sender}
 use Rattle.flow_send.specs.Choice.{Choice, Nothing, Send, Notify, first_in, or_else, notice_due, next_choice, within_limit, choice_bytes, chunk_for, sent_row, put_at, sent_after, count_up}
-use Rattle.flow_send.specs.Flow.{Flow, with_sender, chunk_refusal, chunk_refusal_of, if_room, data_length, chunk_options}
+use Rattle.flow_send.specs.Flow.{Flow, with_sender, chunk_refusal_of, if_room, data_length, chunk_options}
 use Rattle.session_flows.specs.declared.pace.Pace.{Pace}
-use Rattle.session_flows.specs.Packing.{chosen, may_send, first_to_send, session_flight, packed, packed_by, refused_of, Packing, put_back, packed_of, to_send_of, notices_in, left_of, left_to_send, goes_by, goes}
+use Rattle.session_flows.specs.Packing.{chosen, first_to_send, session_flight, packed, packed_by, refused_of, Packing, put_back, packed_of, to_send_of, notices_in, left_of, left_to_send, goes_by, goes}
 use Rattle.session_flows.specs.Laws.{AreNumbered, IsNextOf, NoneMaySend, TakesOne}
 use Rattle.session_flows.proofs.Next.{next_from}
 use Rattle.session_flows.proofs.Packs.{clash}

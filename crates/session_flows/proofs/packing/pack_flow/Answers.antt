@@ -1,4 +1,4 @@
-use Rattle.std.proofs.Common.{◌≡◌, ◌≤◌, ◌+◌, arith}
+use Rattle.std.proofs.Common.{arith}
 use Rattle.flow_send.specs.Choice.{chunk_for}
 use Rattle.session_flows.specs.Packing.{chosen}
 use Rattle.session_flows.proofs.Falling.{none_refuses}

@@ -1,4 +1,4 @@
-use Rattle.std.proofs.Common.{◌≡◌, ◌+◌, ◌<◌, ◌≤◌, length, sym, subst, ap, ◌∙◌, rules, arith}
+use Rattle.std.proofs.Common.{◌+◌, ◌<◌, ◌≤◌, length, sym, subst, ap, rules, arith}
 use Rattle.flow_send.specs.declared.pick.Pick.{Pick}
 use Rattle.flow_send.specs.Rows.{Row, row_at}
 use Rattle.flow_send.specs.Picked.{IsThere}
