@@ -1,5 +1,5 @@
-//! Two ends by hand: a caller `a` and an answerer `b`, and what is done with them, as the words of a
-//! row say.
+//! Two ends by hand: a caller `a` and an answerer `b`, and what is done with them, as the words of
+//! a row say.
 
 use crypto_profile::{Context, Keys, seal_in_place};
 use endpoint::{Config, Draws, Endpoint, Entry, Outbox};
@@ -90,6 +90,17 @@ fn last_of(alloc: Global, out: &Outbox) -> Result<Vec<u8>, AllocError> {
     Ok(last)
 }
 
+/// The last bytes of the addresses that the datagrams of an outbox go to, in their order.
+fn places_of(alloc: Global, out: &Outbox) -> Result<String, AllocError> {
+    let mut text = String::new(alloc);
+    for entry in out.entries() {
+        if let Entry::Out { to, .. } = entry {
+            text.push_str(format!(in alloc; "{} ", to.host[3])?.as_str())?;
+        }
+    }
+    Ok(text)
+}
+
 /// A datagram of this plain packet, sealed in a context under a session ID and a count.
 fn sealed(
     alloc: Global,
@@ -146,11 +157,30 @@ fn bytes(alloc: Global, row: &str, index: usize) -> Result<Vec<u8>, Fail> {
     Ok(hex::decode(alloc, digits.as_bytes()).ok().ok_or("bytes")?)
 }
 
-/// What an end adds, and its last datagram.
-type Added = (String, Vec<u8>);
+/// What an end adds, its last datagram, and where its datagrams go.
+#[derive(Drop)]
+struct Added {
+    text: String,
+    last: Vec<u8>,
+    places: String,
+}
 
-fn added(alloc: Global, out: &Outbox) -> Result<Added, Fail> {
-    Ok((text_of(alloc, out)?, last_of(alloc, out)?))
+/// What was added to an outbox.
+fn all_of(alloc: Global, out: &Outbox) -> Result<Added, Fail> {
+    Ok(Added {
+        text: text_of(alloc, out)?,
+        last: last_of(alloc, out)?,
+        places: places_of(alloc, out)?,
+    })
+}
+
+/// What a call tells that adds nothing.
+fn says(alloc: Global, text: String) -> Added {
+    Added {
+        text,
+        last: Vec::new(alloc),
+        places: String::new(alloc),
+    }
 }
 
 fn outbox(alloc: Global) -> Result<Outbox, Fail> {
@@ -173,7 +203,7 @@ fn receives(
         return Err(Fail::from("a datagram that no end is given"));
     }
     match end.receive(address(from), moment, datagram, &draws(drawn), &mut out) {
-        Ok(()) => added(alloc, &out),
+        Ok(()) => all_of(alloc, &out),
         Err(_) => Err(Fail::from("a datagram found no memory")),
     }
 }
@@ -186,15 +216,15 @@ fn opens(alloc: Global, end: &mut Endpoint, row: &str) -> Result<Added, Fail> {
     let candidates = both.get(..number(row, 3) as usize).unwrap_or(&[]);
     let moment = u64::from(number(row, 5));
     match end.open(&peer, candidates, moment, &draws(number(row, 4)), &mut out) {
-        Ok(_) => added(alloc, &out),
-        Err(refusal) => Ok((format!(in alloc; "{refusal:?}")?, Vec::new(alloc))),
+        Ok(_) => all_of(alloc, &out),
+        Err(refusal) => Ok(says(alloc, format!(in alloc; "{refusal:?}")?)),
     }
 }
 
 fn ticks(alloc: Global, end: &mut Endpoint, moment: u64) -> Result<Added, Fail> {
     let mut out = outbox(alloc)?;
     match end.tick(moment, &draws(4), &mut out) {
-        Ok(()) => added(alloc, &out),
+        Ok(()) => all_of(alloc, &out),
         Err(_) => Err(Fail::from("a tick found no memory")),
     }
 }
@@ -202,17 +232,48 @@ fn ticks(alloc: Global, end: &mut Endpoint, moment: u64) -> Result<Added, Fail> 
 fn cancels(alloc: Global, end: &mut Endpoint, n: u64) -> Result<Added, Fail> {
     let mut out = outbox(alloc)?;
     match end.cancel(n, &mut out) {
-        Ok(()) => added(alloc, &out),
-        Err(_) => Ok((String::from_str(alloc, "refused")?, Vec::new(alloc))),
+        Ok(()) => all_of(alloc, &out),
+        Err(_) => Ok(says(alloc, String::from_str(alloc, "refused")?)),
     }
 }
 
 fn closes(alloc: Global, end: &mut Endpoint, near: u32, moment: u64) -> Result<Added, Fail> {
     let mut out = outbox(alloc)?;
     match end.close(near, moment, &mut out) {
-        Ok(()) => added(alloc, &out),
-        Err(refusal) => Ok((format!(in alloc; "{refusal:?}")?, Vec::new(alloc))),
+        Ok(()) => all_of(alloc, &out),
+        Err(refusal) => Ok(says(alloc, format!(in alloc; "{refusal:?}")?)),
     }
+}
+
+/// Adds a row for an end, of so many addresses, 17 at most, which are one place where it says so.
+fn adds_row(alloc: Global, end: &mut Endpoint, row: &str) -> Result<Added, Fail> {
+    let peer = epd_of(alloc, word(row, 2))?;
+    let mut addresses = Vec::new(alloc);
+    for index in 0..number(row, 3).min(17) {
+        let last = if word(row, 4) == "same" { 0 } else { index };
+        addresses.push(address((last % 256) as u8))?;
+    }
+    match end.add_row(peer.print, addresses.as_slice()) {
+        Ok(()) => Ok(says(alloc, String::new(alloc))),
+        Err(refusal) => Ok(says(alloc, format!(in alloc; "{refusal:?}")?)),
+    }
+}
+
+/// Adds a row of one address for each of so many ends, up to the first that is refused.
+fn adds_rows(alloc: Global, end: &mut Endpoint, count: u32) -> Result<Added, Fail> {
+    for index in 0..count {
+        let name = format!(in alloc; "peer{index}")?;
+        let peer = epd_of(alloc, name.as_str())?;
+        if let Err(refusal) = end.add_row(peer.print, &[address(0)]) {
+            return Ok(says(alloc, format!(in alloc; "{name} {refusal:?}")?));
+        }
+    }
+    Ok(says(alloc, String::new(alloc)))
+}
+
+fn introduces(alloc: Global, end: &mut Endpoint) -> Result<Added, Fail> {
+    end.introduce();
+    Ok(says(alloc, String::new(alloc)))
 }
 
 /// What an end does by itself, as a row says.
@@ -222,6 +283,9 @@ fn acts(alloc: Global, end: &mut Endpoint, row: &str) -> Result<Added, Fail> {
         "open" => opens(alloc, end, row),
         "tick" => ticks(alloc, end, u64::from(value)),
         "close" => closes(alloc, end, value, u64::from(number(row, 3))),
+        "introduce" => introduces(alloc, end),
+        "row" => adds_row(alloc, end, row),
+        "rows" => adds_rows(alloc, end, value),
         _ => cancels(alloc, end, u64::from(value)),
     }
 }
@@ -238,8 +302,8 @@ fn context_name(end: &Endpoint, datagram: &[u8]) -> &'static str {
     }
 }
 
-/// The datagram that a member of the group makes, as a row says from a word on: of the startup under
-/// a session ID, or in the session of the handshake with a count.
+/// The datagram that a member of the group makes, as a row says from a word on: of the startup
+/// under a session ID, or in the session of the handshake with a count.
 fn made(alloc: Global, row: &str, index: usize) -> Result<Vec<u8>, Fail> {
     let value = number(row, index.saturating_add(2));
     let plain = bytes(alloc, row, index.saturating_add(3))?;
@@ -250,13 +314,15 @@ fn made(alloc: Global, row: &str, index: usize) -> Result<Vec<u8>, Fail> {
     sealed(alloc, &Context::Startup, value, 1, plain.as_slice())
 }
 
-/// A caller and an answerer, the last datagram, and one that is kept.
+/// A caller and an answerer, the last datagram, one that is kept, and where the datagrams of the
+/// last call went.
 #[derive(Drop)]
 pub(crate) struct Ends {
     a: Endpoint,
     b: Endpoint,
     last: Vec<u8>,
     kept: Vec<u8>,
+    places: String,
 }
 
 impl Ends {
@@ -266,11 +332,19 @@ impl Ends {
             b: end(alloc, ANSWERER, 16, 16)?,
             last: Vec::new(alloc),
             kept: Vec::new(alloc),
+            places: String::new(alloc),
         })
     }
 
     pub(crate) fn last(&self) -> &[u8] {
         self.last.as_slice()
+    }
+
+    /// Keeps what an end added, and tells it.
+    fn notes(&mut self, added: Added) -> String {
+        self.last = added.last;
+        self.places = added.places;
+        added.text
     }
 
     /// Gives an end a datagram.
@@ -283,13 +357,12 @@ impl Ends {
         datagram: &[u8],
     ) -> Result<String, Fail> {
         let moment = u64::from(number(row, 4));
-        let (text, last) = if word(row, 1) == "a" {
+        let added = if word(row, 1) == "a" {
             receives(alloc, &mut self.a, from, moment, drawn, datagram)?
         } else {
             receives(alloc, &mut self.b, from, moment, drawn, datagram)?
         };
-        self.last = last;
-        Ok(text)
+        Ok(self.notes(added))
     }
 
     /// Gives the answerer a packet of the session of the handshake.
@@ -300,8 +373,8 @@ impl Ends {
         plain: &[u8],
     ) -> Result<String, Fail> {
         let datagram = sealed(alloc, &to_responder(alloc)?, 6, count, plain)?;
-        let (text, _) = receives(alloc, &mut self.b, 1, 0, 8, datagram.as_slice())?;
-        Ok(text)
+        let added = receives(alloc, &mut self.b, 1, 0, 8, datagram.as_slice())?;
+        Ok(added.text)
     }
 
     /// A new end in the place of one.
@@ -317,24 +390,25 @@ impl Ends {
 
     /// What one of them does by itself.
     fn acts(&mut self, alloc: Global, row: &str) -> Result<String, Fail> {
-        let (text, last) = if word(row, 1) == "a" {
+        let added = if word(row, 1) == "a" {
             acts(alloc, &mut self.a, row)?
         } else {
             acts(alloc, &mut self.b, row)?
         };
-        self.last = last;
-        Ok(text)
+        Ok(self.notes(added))
     }
 
-    /// Gives an end a datagram that a member of the group makes, as a row says. One of the session
-    /// comes from where the row says, and its call draws by its count.
+    /// Gives an end a datagram that a member of the group makes, from where the row says. The call of
+    /// one of the session draws by its count.
     fn makes(&mut self, alloc: Global, row: &str) -> Result<String, Fail> {
         let datagram = made(alloc, row, 0)?;
-        if word(row, 0) == "session" {
-            let from = (number(row, 5).max(1) % 256) as u8;
-            return self.gives(alloc, row, from, number(row, 2), datagram.as_slice());
-        }
-        self.gives(alloc, row, 1, 4, datagram.as_slice())
+        let from = (number(row, 5).max(1) % 256) as u8;
+        let drawn = if word(row, 0) == "session" {
+            number(row, 2)
+        } else {
+            4
+        };
+        self.gives(alloc, row, from, drawn, datagram.as_slice())
     }
 
     /// Gives an end the last datagram, or the one that is kept, as a row says.
@@ -362,6 +436,8 @@ impl Ends {
         match word(row, 0) {
             "new" => self.renews(alloc, row),
             "open" | "tick" | "cancel" | "close" => self.acts(alloc, row),
+            "introduce" | "row" | "rows" => self.acts(alloc, row),
+            "places" => Ok(String::from_str(alloc, self.places.as_str())?),
             "last" | "kept" => self.passes(alloc, row),
             "keep" => {
                 self.kept = Vec::from_slice(alloc, self.last.as_slice())?;

@@ -7,7 +7,7 @@ use std::test::Fail;
 
 /// A session is born, which isn't confirmed yet. The datagrams have the lengths of those in
 /// handshake.rt.
-const OPENING: &str = "new a 16 16 = 
+pub(crate) const OPENING: &str = "new a 16 16 = 
 new b 16 16 = 
 open a answerer 1 3 = started 1 3; out 90;
 last b 1 4 = out 113;
@@ -238,7 +238,7 @@ session b 18 010c0000 2000 9 = ended 6 Far; out 42;
 ";
 
 /// The first row of a table that isn't so of these ends.
-fn first_wrong(
+pub(crate) fn first_wrong(
     alloc: Global,
     ends: &mut Ends,
     table: &'static str,
