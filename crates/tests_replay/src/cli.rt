@@ -14,10 +14,10 @@ use std::test::Fail;
 ///
 /// `done`: a last line without an end is done, too. `flush 2` is the flush before the read that
 /// finds the end, and `flush 3` the last one. The text before a bad line is passed on, and where
-/// that fails it is the sink's fault. A read that fails isn't tried again; the text so far is passed
-/// on before it. The datagram that is injected was made apart from this program: a plain packet
-/// that opens, and that nobody sent. The lines of generated runs are what the plain program of
-/// `scripts/baseline` prints, which was written apart from this one.
+/// that fails it is the sink's fault. A read that fails isn't tried again; the text so far is
+/// passed on before it. The datagram that is injected was made apart from this program: a plain
+/// packet that opens, and that nobody sent. The lines of generated runs are what the plain program
+/// of `scripts/baseline` prints, which was written apart from this one.
 const ROWS: &str = "done|show|-|~|bad empty~|10
 sink-fault|show|flush 2|~|bad empty~|0
 sink-fault|show|flush 3|~|bad empty~|10

@@ -1,21 +1,19 @@
 //! Ends that introduce others, through the program: scripts with their reports.
 
-use rtmfp_cli::{Status, run};
-use rtmfp_host::{MemorySink, MemorySource};
+use crate::transcripts::{first_wrong, gives};
 use std::alloc::{AllocError, Global};
 use std::test::Fail;
 
-/// Scripts, each with its report: a line of the script stands behind `> `, and below it what it
-/// gives. A line `=` stands between two scripts. Addresses are of 10.0.0.9 for the introducer `i`,
-/// of 10.0.0.1 for `a` and of 10.0.0.2 for `b`.
+/// Rows as those of transcripts.rt. Addresses are of 10.0.0.9 for the introducer `i`, of 10.0.0.1
+/// for `a` and of 10.0.0.2 for `b`.
 ///
-/// First an introduction by a forwarded hello: `a` is answered where its hello came from, and its
-/// keying comes from another port, for which the cookie isn't good. Then two redirects: to an
-/// address that is no candidate yet, and once more; and to 16 addresses, which would be 17 with the
-/// one that there is. Then whom a hello is forwarded to: nobody while the session of `b` is half-open,
-/// once it is closed, where it was idle, or where `i` doesn't introduce. A row answers beside, the
-/// last one, and in no attempt that was answered already.
-const SCRIPTS: &str = "> end i 65536 4096 abcdbcdecdefdefgefghfghighijhijkijkljklmklmnlmnomnopnopq
+/// In the introduction by a forwarded hello `a` is answered where its hello came from, and its
+/// keying comes from another port, for which the cookie isn't good. The rows of sessions tell whom
+/// a hello is forwarded to: the end with which a session is kept, in the one that was kept last,
+/// and nobody while it is half-open and once it has ended, however that was. Those of redirects
+/// tell which addresses one adds, and of rows with which a hello is answered.
+const ROWS: &str = "@ an-introduction = done
+> end i 65536 4096 abcdbcdecdefdefgefghfghighijhijkijkljklmklmnlmnomnopnopq
 > end a 65536 4096 The quick brown fox jumps over the lazy dog
 > end b 65536 4096 The quick brown fox jumps over the lazy dog.
 > introduce i
@@ -53,10 +51,8 @@ const SCRIPTS: &str = "> end i 65536 4096 abcdbcdecdefdefgefghfghighijhijkijkljk
 17 b sent 13 10.0.0.1:5001 rikeying
 > deliver 7 a 10.0.0.2:1935
 18 a drop 1 not-selected
-=
-> end i 65536 4096 abcdbcdecdefdefgefghfghighijhijkijkljklmklmnlmnomnopnopq
-> end a 65536 4096 The quick brown fox jumps over the lazy dog
-> end b 65536 4096 The quick brown fox jumps over the lazy dog.
+@ a-redirect = done
++ 3 an-introduction
 > redirect i b 10.0.0.2:1935
 > open a b 10.0.0.9:1935
 5 a started peer=b n=1 near=5 ni=5
@@ -66,10 +62,8 @@ const SCRIPTS: &str = "> end i 65536 4096 abcdbcdecdefdefgefghfghighijhijkijkljk
 > deliver 2 a 10.0.0.9:1935
 7 a sent 3 10.0.0.2:1935 ihello
 > deliver 2 a 10.0.0.9:1935
-=
-> end i 65536 4096 abcdbcdecdefdefgefghfghighijhijkijkljklmklmnlmnomnopnopq
-> end a 65536 4096 The quick brown fox jumps over the lazy dog
-> end b 65536 4096 The quick brown fox jumps over the lazy dog.
+@ too-many-candidates = done
++ 3 an-introduction
 > redirect i b 10.3.0.1:1 10.3.0.2:1 10.3.0.3:1 10.3.0.4:1 10.3.0.5:1 10.3.0.6:1 10.3.0.7:1 10.3.0.8:1 10.3.0.9:1 10.3.0.10:1 10.3.0.11:1 10.3.0.12:1 10.3.0.13:1 10.3.0.14:1 10.3.0.15:1 10.3.0.16:1
 > open a b 10.0.0.9:1935
 5 a started peer=b n=1 near=5 ni=5
@@ -78,10 +72,8 @@ const SCRIPTS: &str = "> end i 65536 4096 abcdbcdecdefdefgefghfghighijhijkijkljk
 6 i sent 2 10.0.0.1:1935 redirect
 > deliver 2 a 10.0.0.9:1935
 7 a drop 1 candidates-full 1
-=
-> end i 65536 4096 abcdbcdecdefdefgefghfghighijhijkijkljklmklmnlmnomnopnopq
-> end a 65536 4096 The quick brown fox jumps over the lazy dog
-> end b 65536 4096 The quick brown fox jumps over the lazy dog.
+@ a-session-and-a-row = done
++ 3 an-introduction
 > open b i 10.0.0.9:1935
 4 b started peer=i n=1 near=4 ni=4
 4 b sent 1 10.0.0.9:1935 ihello
@@ -125,10 +117,8 @@ const SCRIPTS: &str = "> end i 65536 4096 abcdbcdecdefdefgefghfghighijhijkijkljk
 21 a sent 16 10.0.0.2:1935 iikeying
 > deliver 10 a 10.0.0.9:1935
 22 a drop 1 wrong-state
-=
-> end i 65536 4096 abcdbcdecdefdefgefghfghighijhijkijkljklmklmnlmnomnopnopq
-> end a 65536 4096 The quick brown fox jumps over the lazy dog
-> end b 65536 4096 The quick brown fox jumps over the lazy dog.
+@ an-end-that-introduces-later = done
++ 3 an-introduction
 > open b i 10.0.0.9:1935
 4 b started peer=i n=1 near=4 ni=4
 4 b sent 1 10.0.0.9:1935 ihello
@@ -158,44 +148,242 @@ const SCRIPTS: &str = "> end i 65536 4096 abcdbcdecdefdefgefghfghighijhijkijkljk
 15 i ended near=7 idle
 > deliver 7 i 10.0.0.1:1935
 16 i drop 1 not-selected
+@ an-overridden-session = done
++ 11 an-introduction
+> close b 5
+12 b ended near=5 near
+12 b sent 8 10.0.0.9:1935 close
+> open b i 10.0.0.9:1935
+13 b started peer=i n=2 near=13 ni=d
+13 b sent 9 10.0.0.9:1935 ihello
+> deliver 9 i 10.0.0.2:1935
+14 i sent 10 10.0.0.2:1935 rhello
+> deliver 10 b 10.0.0.9:1935
+15 b sent 11 10.0.0.9:1935 iikeying
+> deliver 7 i 10.0.0.1:1935
+16 i sent 12 10.0.0.2:1935 fihello
+> deliver 11 i 10.0.0.2:1935
+17 i ended near=8 override
+17 i born peer=b n=2 near=17 far=13 ni=d nr=11 k=0
+17 i sent 13 10.0.0.2:1935 rikeying
+> deliver 7 i 10.0.0.1:1935
+18 i drop 1 not-selected
+> deliver 13 b 10.0.0.9:1935
+19 b opened peer=i n=2 near=13 far=17 ni=d nr=11 k=0
+19 b sent 14 10.0.0.9:1935 ping
+> deliver 14 i 10.0.0.2:1935
+20 i confirmed near=17
+20 i sent 15 10.0.0.2:1935 pingreply
+> deliver 7 i 10.0.0.1:1935
+21 i sent 16 10.0.0.2:1935 fihello
+> deliver 16 b 10.0.0.9:1935
+22 b sent 17 10.0.0.1:1935 rhello
+> deliver 12 b 10.0.0.9:1935
+23 b drop 5 wrong-state
+@ a-session-that-the-peer-closes = done
++ 11 an-introduction
+> close b 5
+12 b ended near=5 near
+12 b sent 8 10.0.0.9:1935 close
+> deliver 7 i 10.0.0.1:1935
+13 i sent 9 10.0.0.2:1935 fihello
+> deliver 9 b 10.0.0.9:1935
+14 b drop 5 wrong-state
+> deliver 8 i 10.0.0.2:1935
+15 i ended near=8 far
+15 i sent 10 10.0.0.2:1935 closeack
+> deliver 7 i 10.0.0.1:1935
+16 i drop 1 not-selected
+> at 19000
+> tick i
+18 i closed near=8
+> deliver 7 i 10.0.0.1:1935
+19 i drop 1 not-selected
+@ a-session-that-is-not-confirmed = done
++ 8 an-introduction
+> open a b 10.0.0.9:1935
+9 a started peer=b n=1 near=9 ni=9
+9 a sent 5 10.0.0.9:1935 ihello
+> deliver 5 i 10.0.0.1:1935
+10 i drop 1 not-selected
+> at 19999
+> tick i
+> deliver 5 i 10.0.0.1:1935
+13 i drop 1 not-selected
+> at 20000
+> tick i
+15 i ended near=8 unconfirmed
+> deliver 5 i 10.0.0.1:1935
+16 i drop 1 not-selected
+@ an-idle-session = done
++ 11 an-introduction
+> at 119999
+> tick i
+13 i sent 8 10.0.0.2:1935 ping
+> deliver 7 i 10.0.0.1:1935
+14 i sent 9 10.0.0.2:1935 fihello
+> at 120000
+> deliver 7 i 10.0.0.1:1935
+16 i sent 10 10.0.0.2:1935 fihello
+> tick i
+17 i ended near=8 idle
+> deliver 7 i 10.0.0.1:1935
+18 i drop 1 not-selected
+@ the-session-that-is-kept-later = done
++ 11 an-introduction
+> close i 8
+12 i ended near=8 near
+12 i sent 8 10.0.0.2:1935 close
+> deliver 8 b 10.0.0.9:1935
+13 b ended near=5 far
+13 b sent 9 10.0.0.9:1935 closeack
+> deliver 7 i 10.0.0.1:1935
+14 i drop 1 not-selected
+> open i b 10.0.0.2:1935
+15 i started peer=b n=1 near=15 ni=f
+15 i sent 10 10.0.0.2:1935 ihello
+> deliver 10 b 10.0.0.9:1935
+16 b sent 11 10.0.0.9:1935 rhello
+> deliver 11 i 10.0.0.2:1935
+17 i sent 12 10.0.0.2:1935 iikeying
+> deliver 7 i 10.0.0.1:1935
+18 i drop 1 not-selected
+> deliver 12 b 10.0.0.9:1935
+19 b born peer=i n=1 near=19 far=15 ni=f nr=13 k=1
+19 b sent 13 10.0.0.9:1935 rikeying
+> deliver 13 i 10.0.0.2:1935
+20 i opened peer=b n=1 near=15 far=19 ni=f nr=13 k=1
+20 i sent 14 10.0.0.2:1935 ping
+> deliver 7 i 10.0.0.1:1935
+21 i sent 15 10.0.0.2:1935 fihello
+> deliver 15 b 10.0.0.9:1935
+22 b confirmed near=19
+22 b sent 16 10.0.0.1:1935 rhello
+> deliver 9 i 10.0.0.2:1935
+23 i closed near=8
+> deliver 7 i 10.0.0.1:1935
+24 i sent 17 10.0.0.2:1935 fihello
+> deliver 17 b 10.0.0.9:1935
+25 b sent 18 10.0.0.1:1935 rhello
+@ a-row-that-is-replaced = done
++ 3 an-introduction
+> redirect i b 10.0.0.3:1935
+> open a b 10.0.0.9:1935
+5 a started peer=b n=1 near=5 ni=5
+5 a sent 1 10.0.0.9:1935 ihello
+> deliver 1 i 10.0.0.1:1935
+6 i sent 2 10.0.0.1:1935 redirect
+> redirect i b 10.0.0.5:1935 10.0.0.4:1935
+> deliver 1 i 10.0.0.1:1935
+8 i sent 3 10.0.0.1:1935 redirect
+> deliver 3 a 10.0.0.9:1935
+9 a sent 4 10.0.0.5:1935 ihello
+9 a sent 5 10.0.0.4:1935 ihello
+> deliver 2 a 10.0.0.9:1935
+10 a sent 6 10.0.0.3:1935 ihello
+> deliver 3 a 10.0.0.9:1935
+@ a-row-for-the-end-itself = done
++ 4 an-introduction
+> redirect i i 10.0.0.8:1935
+> open a i 10.0.0.9:1935
+6 a started peer=i n=1 near=6 ni=6
+6 a sent 1 10.0.0.9:1935 ihello
+> deliver 1 i 10.0.0.1:1935
+7 i sent 2 10.0.0.1:1935 rhello
+@ a-row-of-no-address = bad-script 4
++ 3 an-introduction
+> redirect i b
+@ a-row-of-17-addresses = bad-script 4
++ 3 an-introduction
+> redirect i b 10.3.0.1:1 10.3.0.2:1 10.3.0.3:1 10.3.0.4:1 10.3.0.5:1 10.3.0.6:1 10.3.0.7:1 10.3.0.8:1 10.3.0.9:1 10.3.0.10:1 10.3.0.11:1 10.3.0.12:1 10.3.0.13:1 10.3.0.14:1 10.3.0.15:1 10.3.0.16:1 10.3.0.17:1
+@ a-row-of-17-times-one-address = bad-script 4
++ 3 an-introduction
+> redirect i b 10.3.0.1:1 10.3.0.1:1 10.3.0.1:1 10.3.0.1:1 10.3.0.1:1 10.3.0.1:1 10.3.0.1:1 10.3.0.1:1 10.3.0.1:1 10.3.0.1:1 10.3.0.1:1 10.3.0.1:1 10.3.0.1:1 10.3.0.1:1 10.3.0.1:1 10.3.0.1:1 10.3.0.1:1
+@ a-row-of-16-times-one-address = done
++ 3 an-introduction
+> redirect i b 10.3.0.1:1 10.3.0.1:1 10.3.0.1:1 10.3.0.1:1 10.3.0.1:1 10.3.0.1:1 10.3.0.1:1 10.3.0.1:1 10.3.0.1:1 10.3.0.1:1 10.3.0.1:1 10.3.0.1:1 10.3.0.1:1 10.3.0.1:1 10.3.0.1:1 10.3.0.1:1
+> open a b 10.0.0.9:1935
+5 a started peer=b n=1 near=5 ni=5
+5 a sent 1 10.0.0.9:1935 ihello
+> deliver 1 i 10.0.0.1:1935
+6 i sent 2 10.0.0.1:1935 redirect
+> deliver 2 a 10.0.0.9:1935
+7 a sent 3 10.3.0.1:1 ihello
+@ candidates-of-an-attempt = done
++ 3 an-introduction
+> open a b
+4 a refused candidates 0
+> open a b 10.3.0.1:1 10.3.0.2:1 10.3.0.3:1 10.3.0.4:1 10.3.0.5:1 10.3.0.6:1 10.3.0.7:1 10.3.0.8:1 10.3.0.9:1 10.3.0.10:1 10.3.0.11:1 10.3.0.12:1 10.3.0.13:1 10.3.0.14:1 10.3.0.15:1 10.3.0.16:1 10.3.0.17:1
+5 a refused candidates 17
+> open a b 10.3.0.1:1 10.3.0.1:1 10.3.0.1:1 10.3.0.1:1 10.3.0.1:1 10.3.0.1:1 10.3.0.1:1 10.3.0.1:1 10.3.0.1:1 10.3.0.1:1 10.3.0.1:1 10.3.0.1:1 10.3.0.1:1 10.3.0.1:1 10.3.0.1:1 10.3.0.1:1 10.3.0.1:1
+6 a refused candidates 17
+> open a b 10.3.0.1:1 10.3.0.1:1 10.3.0.1:1 10.3.0.1:1 10.3.0.1:1 10.3.0.1:1 10.3.0.1:1 10.3.0.1:1 10.3.0.1:1 10.3.0.1:1 10.3.0.1:1 10.3.0.1:1 10.3.0.1:1 10.3.0.1:1 10.3.0.1:1 10.3.0.1:1
+7 a started peer=b n=1 near=7 ni=7
+7 a sent 1 10.3.0.1:1 ihello
+@ as-many-candidates-as-may-be = done
++ 3 an-introduction
+> redirect i b 10.0.0.9:1935 10.3.0.1:1 10.3.0.2:1 10.3.0.3:1 10.3.0.4:1 10.3.0.5:1 10.3.0.6:1 10.3.0.7:1 10.3.0.8:1 10.3.0.9:1 10.3.0.10:1 10.3.0.11:1 10.3.0.12:1 10.3.0.13:1 10.3.0.14:1 10.3.0.15:1
+> open a b 10.0.0.9:1935
+5 a started peer=b n=1 near=5 ni=5
+5 a sent 1 10.0.0.9:1935 ihello
+> deliver 1 i 10.0.0.1:1935
+6 i sent 2 10.0.0.1:1935 redirect
+> deliver 2 a 10.0.0.9:1935
+7 a sent 3 10.3.0.1:1 ihello
+7 a sent 4 10.3.0.2:1 ihello
+7 a sent 5 10.3.0.3:1 ihello
+7 a sent 6 10.3.0.4:1 ihello
+7 a sent 7 10.3.0.5:1 ihello
+7 a sent 8 10.3.0.6:1 ihello
+7 a sent 9 10.3.0.7:1 ihello
+7 a sent 10 10.3.0.8:1 ihello
+7 a sent 11 10.3.0.9:1 ihello
+7 a sent 12 10.3.0.10:1 ihello
+7 a sent 13 10.3.0.11:1 ihello
+7 a sent 14 10.3.0.12:1 ihello
+7 a sent 15 10.3.0.13:1 ihello
+7 a sent 16 10.3.0.14:1 ihello
+7 a sent 17 10.3.0.15:1 ihello
+> redirect i b 10.3.0.16:1
+> deliver 1 i 10.0.0.1:1935
+9 i sent 18 10.0.0.1:1935 redirect
+> deliver 18 a 10.0.0.9:1935
+10 a drop 1 candidates-full 16
+> deliver 2 a 10.0.0.9:1935
 ";
-
-/// The lines of a script behind their marks, or the lines of its report.
-fn lines_of(alloc: Global, script: &str, of_script: bool) -> Result<Vec<u8>, AllocError> {
-    let mut bytes = Vec::new(alloc);
-    for line in script.lines() {
-        if line.starts_with("> ") == of_script {
-            let text = line.strip_prefix("> ").unwrap_or(line);
-            bytes.extend_from_slice(text.as_bytes())?;
-            bytes.push(b'\n')?;
-        }
-    }
-    Ok(bytes)
-}
-
-/// Whether a script gives its report.
-fn is_so(alloc: Global, script: &str) -> Result<bool, AllocError> {
-    let mut words = Vec::new(alloc);
-    words.push(String::from_str(alloc, "replay")?)?;
-    let mut source = MemorySource::new(lines_of(alloc, script, true)?);
-    let mut sink = MemorySink::new(alloc);
-    let status = run(alloc, words.as_slice(), &mut source, &mut sink);
-    let report = lines_of(alloc, script, false)?;
-    Ok(status == Status::Done && sink.written() == Some(report.as_slice()))
-}
-
-/// The first script that doesn't give its report.
-fn first_wrong(alloc: Global) -> Result<Option<&'static str>, AllocError> {
-    for script in SCRIPTS.split("=\n") {
-        if !is_so(alloc, script)? {
-            return Ok(Some(script));
-        }
-    }
-    Ok(None)
-}
 
 #[test]
 fn introductions_go_so(rt: HostRuntime) -> Result<(), Fail> {
-    assert_eq!(rt; first_wrong(rt.alloc())?, None);
+    assert_eq!(rt; first_wrong(rt.alloc(), ROWS)?, None);
+    Ok(())
+}
+
+/// As many ends as may be, of which the first has a row for each, itself included. A row is replaced
+/// then, the last one answers a hello, and one end more is a bad line: so an end of a script never
+/// comes to the row after the last one.
+fn many_rows(alloc: Global) -> Result<Vec<u8>, AllocError> {
+    let mut script = String::new(alloc);
+    for end in 0..1024_u32 {
+        let line = format!(in alloc; "end e{end} 16 16 0123456789abcdefe{end}\n")?;
+        script.push_str(line.as_str())?;
+    }
+    for end in 0..1024_u32 {
+        let line = format!(in alloc; "redirect e0 e{end} 10.0.0.3:1\n")?;
+        script.push_str(line.as_str())?;
+    }
+    script.push_str("redirect e0 e0 10.0.0.4:1\nopen e1 e1023 10.0.0.9:1\n")?;
+    script.push_str("deliver 1 e0 10.0.0.1:1\nend e1024 16 16 0123456789abcdefe1024\n")?;
+    Vec::from_slice(alloc, script.as_bytes())
+}
+
+const MANY_ROWS: &str = "2050 e1 started peer=e1023 n=1 near=2050 ni=802
+2050 e1 sent 1 10.0.0.9:1 ihello
+2051 e0 sent 2 10.0.0.1:1 redirect
+";
+
+#[test]
+fn an_end_of_a_script_has_1024_rows(rt: HostRuntime) -> Result<(), Fail> {
+    let script = many_rows(rt.alloc())?;
+    assert!(rt; gives(rt.alloc(), script, "bad-script 2052", MANY_ROWS.as_bytes())?);
     Ok(())
 }

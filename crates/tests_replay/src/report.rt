@@ -1,12 +1,13 @@
-//! The lines of a report that the script of the program `rtmfp_refused` doesn't show: each cause and
-//! each end by its name, and what is told of a datagram.
+//! The lines of a report that the script of the program `rtmfp_refused` doesn't show: each cause
+//! and each end by its name, what is told of a datagram, and why a row isn't added.
 
 use crypto_profile::{Context, Keys, seal_in_place};
 use endpoint::{Entry, OpenRefusal};
 use glare_core::{Fact, Joined, StartRefusal, Why};
+use introducer::RowRefusal;
 use rtmfp_base::Message;
 use rtmfp_forms::Address;
-use rtmfp_report::{GroupKeys, push_entries, push_open_refusal};
+use rtmfp_report::{GroupKeys, push_entries, push_open_refusal, push_row_refusal};
 use rtmfp_text::{Directory, Name, Named, Text};
 use startup::Cause;
 use std::alloc::Global;
@@ -106,6 +107,8 @@ const OTHER_LINES: &str =
 1 a sent 1 10.0.0.2:1935 none
 1 a sent 1 10.0.0.2:1935 none
 1 a refused attempts-spent
+1 a refused candidates 17
+1 a refused rows-full 1024
 ";
 
 fn name() -> Result<Name, Fail> {
@@ -201,6 +204,8 @@ fn other_lines(alloc: Global) -> Result<Text, Fail> {
     report(alloc, sent(alloc, &[3; 35])?, &mut text)?;
     let refusal = OpenRefusal::Start(StartRefusal::AttemptsSpent);
     push_open_refusal(1, &name()?, &refusal, &mut text)?;
+    push_row_refusal(1, &name()?, &RowRefusal::Candidates(17), &mut text)?;
+    push_row_refusal(1, &name()?, &RowRefusal::RowsFull(1024), &mut text)?;
     Ok(text)
 }
 

@@ -199,9 +199,9 @@ const ROWS: &str = "@ handshake = done
 5 a refused sessions-full 1
 ";
 
-/// The lines of a row, which has this name.
-fn row_named(name: &str) -> &'static str {
-    for row in ROWS.split("@ ") {
+/// The lines of the row of this name.
+fn row_named(rows: &'static str, name: &str) -> &'static str {
+    for row in rows.split("@ ") {
         let (head, lines) = row.split_once('\n').unwrap_or(("", ""));
         if head.split(" = ").next() == Some(name) {
             return lines;
@@ -244,8 +244,8 @@ impl Transcript {
         Ok(())
     }
 
-    /// What the lines of a row stand for.
-    fn of(alloc: Global, lines: &str) -> Result<Transcript, AllocError> {
+    /// What the lines of one of these rows stand for.
+    fn of(alloc: Global, rows: &'static str, lines: &str) -> Result<Transcript, AllocError> {
         let mut whole = Transcript {
             script: Vec::new(alloc),
             report: Vec::new(alloc),
@@ -256,29 +256,42 @@ impl Transcript {
         };
         let (count, rest) = front.split_once(' ').unwrap_or(("", ""));
         let (name, lines) = rest.split_once('\n').unwrap_or(("", ""));
-        whole.push(row_named(name), count.parse::<u32>().unwrap_or(0))?;
+        whole.push(row_named(rows, name), count.parse::<u32>().unwrap_or(0))?;
         whole.push(lines, u32::MAX)?;
         Ok(whole)
     }
 }
 
-/// Whether a run of a row's script ends as the row says, and writes its report and nothing else.
-fn is_so(alloc: Global, row: &str) -> Result<bool, AllocError> {
-    let (head, lines) = row.split_once('\n').unwrap_or(("", ""));
-    let (_, end) = head.split_once(" = ").unwrap_or(("", ""));
-    let whole = Transcript::of(alloc, lines)?;
+/// Whether a run of a script ends so, and writes this report and nothing else.
+pub(crate) fn gives(
+    alloc: Global,
+    script: Vec<u8>,
+    end: &str,
+    report: &[u8],
+) -> Result<bool, AllocError> {
     let mut words = Vec::new(alloc);
     words.push(String::from_str(alloc, "replay")?)?;
-    let mut source = MemorySource::new(whole.script);
+    let mut source = MemorySource::new(script);
     let mut sink = MemorySink::new(alloc);
     let status = run(alloc, words.as_slice(), &mut source, &mut sink);
-    Ok(says_status(end, status) && sink.written() == Some(whole.report.as_slice()))
+    Ok(says_status(end, status) && sink.written() == Some(report))
 }
 
-/// The first row that isn't so.
-fn first_wrong(alloc: Global) -> Result<Option<&'static str>, AllocError> {
-    for row in ROWS.split("@ ").skip(1) {
-        if !is_so(alloc, row)? {
+/// Whether a run of the script of one of these rows ends as the row says, with its report.
+fn is_so(alloc: Global, rows: &'static str, row: &str) -> Result<bool, AllocError> {
+    let (head, lines) = row.split_once('\n').unwrap_or(("", ""));
+    let (_, end) = head.split_once(" = ").unwrap_or(("", ""));
+    let whole = Transcript::of(alloc, rows, lines)?;
+    gives(alloc, whole.script, end, whole.report.as_slice())
+}
+
+/// The first of these rows that isn't so.
+pub(crate) fn first_wrong(
+    alloc: Global,
+    rows: &'static str,
+) -> Result<Option<&'static str>, AllocError> {
+    for row in rows.split("@ ").skip(1) {
+        if !is_so(alloc, rows, row)? {
             return Ok(Some(row));
         }
     }
@@ -287,6 +300,6 @@ fn first_wrong(alloc: Global) -> Result<Option<&'static str>, AllocError> {
 
 #[test]
 fn scripts_have_their_reports(rt: HostRuntime) -> Result<(), Fail> {
-    assert_eq!(rt; first_wrong(rt.alloc())?, None);
+    assert_eq!(rt; first_wrong(rt.alloc(), ROWS)?, None);
     Ok(())
 }
