@@ -46,5 +46,6 @@ open_before block runs = sum_by (before block) runs
 -- those that aren't whole end from a number on, and at most 65,537 above it
 abbrev pub AllEndNear : ℕ → List Run → Type 0
 AllEndNear through [] = Unit {0}
-AllEndNear through (y ∷ later) = (is_whole y ≡ false → (through ≤ y.last) × (y.last ≤ through + 65537)) ×
+AllEndNear through (y ∷ later) =
+    (is_whole y ≡ false → (through ≤ y.last) × (y.last ≤ through + 65537)) ×
     AllEndNear through later
