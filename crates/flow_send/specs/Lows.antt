@@ -18,7 +18,8 @@ low_at lows block = get_or lows (block % 1028) 18446744073709551615
 
 -- no deadline is before the moment of its message's block
 abbrev pub AreLows : List ℕ → List Waiting → Type 0
-AreLows lows ws = (w : Waiting) → IsIn w ws → IsNotBefore (low_at lows (block_of w.number)) w.options.deadline
+AreLows lows ws = (w : Waiting) → IsIn w ws →
+    IsNotBefore (low_at lows (block_of w.number)) w.options.deadline
 
 -- the first block from one to before another whose moment is before one
 abbrev pub IsFirstLow : List ℕ → ℕ → ℕ → ℕ → Option ℕ → Type 0
@@ -47,4 +48,5 @@ IsLowIn block ws low = (w : Waiting) → IsIn w ws → block_of w.number ≡ blo
 
 -- each message begins in a block from one to before another
 abbrev pub AllInBlocks : ℕ → ℕ → List Waiting → Type 0
-AllInBlocks from to ws = (w : Waiting) → IsIn w ws → (from ≤ block_of w.number) × (block_of w.number < to)
+AllInBlocks from to ws = (w : Waiting) → IsIn w ws →
+    (from ≤ block_of w.number) × (block_of w.number < to)

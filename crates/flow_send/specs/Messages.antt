@@ -70,5 +70,5 @@ touched spans y = list_any (λ p. touches p.0 p.1 y) spans
 
 -- each that has none of the numbers that an ack tells still waits
 abbrev pub OthersWait : ℕ → List (ℕ × ℕ) → ℕ → List Row → List Waiting → Type 0
-OthersWait upto spans n rows ws = (y : Waiting) → IsIn y ws → touched ((0, upto) ∷ spans) y ≡ false →
-    still_waits n rows y ≡ true
+OthersWait upto spans n rows ws = (y : Waiting) → IsIn y ws →
+    touched ((0, upto) ∷ spans) y ≡ false → still_waits n rows y ≡ true
