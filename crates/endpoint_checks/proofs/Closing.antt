@@ -1,5 +1,5 @@
 -- What the table refuses of a Closed.
-use Rattle.std.proofs.Common.{ℕ, ◌+◌, ◌≤◌, ◌==◌, List, [], ◌∷◌, ◌≡◌, ◌⊎◌, inl, inr, sym, subst, refl, cond, Some, None, true, false, ◌∙◌, arith}
+use Rattle.std.proofs.Common.{ℕ, ◌+◌, ◌≤◌, List, [], ◌∷◌, ◌≡◌, ◌⊎◌, inl, inr, sym, subst, refl, cond, Some, None, true, false, ◌∙◌, arith}
 use Rattle.std.specs.Str.{bytes_eq}
 use Rattle.rtmfp_chunks.specs.Chunk.{CloseAck}
 use Rattle.glare_core.specs.declared.facts.Why.{Why}
@@ -10,7 +10,7 @@ use Rattle.glare_core.specs.declared.facts.Held.{Held}
 use Rattle.glare_core.specs.declared.facts.Held.TheVariants.{HalfOpen}
 use Rattle.glare_core.specs.declared.facts.Joined.{Joined}
 use Rattle.endpoint_model.specs.declared.entry.Entry.TheVariants.{Fact as FactEntry, Closed}
-use Rattle.endpoint_laws.specs.Past.{Stamped, begun, stamped, is_close, IsClosing}
+use Rattle.endpoint_laws.specs.Past.{Stamped, begun, stamped, IsClosing}
 use Rattle.endpoint_laws.specs.Taken.{TakesChunkOf}
 use Rattle.endpoint_checks.specs.Closings.{TheTableRefusesClosings}
 use Rattle.endpoint_checks.proofs.Logs.{same}

@@ -1,5 +1,5 @@
 -- What the table refuses of an Ended.
-use Rattle.std.proofs.Common.{ℕ, ◌+◌, ◌≤◌, List, [], ◌∷◌, ◌≡◌, inl, inr, sym, ap, subst, refl, cond, Some, None, true, false, ◌∙◌, arith}
+use Rattle.std.proofs.Common.{ℕ, ◌+◌, ◌≤◌, List, ◌≡◌, inl, sym, ap, subst, refl, cond, Some, None, true, false, ◌∙◌, arith}
 use Rattle.std.specs.Prelude.{Bool}
 use Rattle.std.specs.Str.{bytes_eq}
 use Rattle.glare_core.specs.declared.facts.Held.{Held}

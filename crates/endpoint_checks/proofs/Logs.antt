@@ -4,7 +4,7 @@ use Rattle.std.specs.Str.{bytes_eq}
 use Rattle.std.proofs.lemmas.Slice.Eq.{bytes_eq-Decides}
 use Rattle.std.specs.Prelude.{Bool}
 use Rattle.endpoint_model.specs.Event.{Setup, Event, moment_at}
-use Rattle.endpoint_laws.specs.Past.{Stamped, onto, past_of, last_moment, begun, with_event}
+use Rattle.endpoint_laws.specs.Past.{Stamped, past_of, last_moment, begun, with_event}
 use Rattle.endpoint_laws.specs.Lawful.{EntriesLawful, LawfulFrom}
 
 -- bytes are themselves, and no others

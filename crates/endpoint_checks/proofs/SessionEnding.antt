@@ -1,5 +1,5 @@
 -- What the table refuses of an Ended of a session that nothing overrides.
-use Rattle.std.proofs.Common.{ℕ, ◌+◌, ◌≤◌, ◌==◌, List, [], ◌∷◌, ◌≡◌, ◌≢◌, inl, inr, sym, ap, subst, refl, cond, Some, None, true, false, ◌∙◌, arith}
+use Rattle.std.proofs.Common.{ℕ, ◌+◌, ◌≤◌, ◌==◌, List, [], ◌∷◌, ◌≡◌, inl, inr, sym, ap, subst, refl, cond, Some, None, true, false, ◌∙◌, arith}
 use Rattle.std.specs.Prelude.{Bool, if◌then◌else◌}
 use Rattle.std.proofs.lemmas.Bool.{eq-eqb}
 use Rattle.std.specs.Str.{bytes_eq}

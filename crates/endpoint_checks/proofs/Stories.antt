@@ -1,6 +1,5 @@
 -- Histories that aren't honest, aren't fresh, or aren't agreed.
-use Rattle.std.proofs.Common.{ℕ, List, [], ◌∷◌, length, drop, ◌≡◌, ◌⊎◌, inl, inr, refl, sym, subst, cond, Some, None, true, false, arith}
-use Rattle.std.specs.Prelude.{Bool}
+use Rattle.std.proofs.Common.{ℕ, List, [], ◌∷◌, length, drop, ◌≡◌, ◌⊎◌, inl, inr, refl, sym, subst, cond, Some, None, true, arith}
 use Rattle.std.specs.Str.{bytes_eq}
 use Rattle.crypto_profile.specs.declared.keys.Context.{Context}
 use Rattle.crypto_profile.specs.declared.keys.Context.TheVariants.{Startup}
@@ -8,7 +7,6 @@ use Rattle.crypto_profile.specs.Sealing.{sealed_in, Opens}
 use Rattle.packet_scramble.specs.Datagram.{datagram, sid_of}
 use Rattle.glare_core.specs.declared.facts.Why.{Why}
 use Rattle.glare_core.specs.declared.facts.Fact.TheVariants.{Started, Born, Ended}
-use Rattle.glare_core.specs.declared.facts.Held.{Held}
 use Rattle.glare_core.specs.declared.facts.Held.TheVariants.{Opening, HalfOpen}
 use Rattle.glare_core.specs.Tells.{as_responder}
 use Rattle.endpoint_model.specs.Views.{out_in}

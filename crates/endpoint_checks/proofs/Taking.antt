@@ -1,6 +1,5 @@
 -- What is refused of a datagram that a session doesn't take.
-use Rattle.std.proofs.Common.{ℕ, ◌+◌, ◌≤◌, ◌<◌, List, [], ◌∷◌, length, drop, length-drop, ◌≡◌, ◌≢◌, refl, sym, ap, subst, ◌∙◌, true, false, arith}
-use Rattle.std.specs.Prelude.{Bool, if◌then◌else◌}
+use Rattle.std.proofs.Common.{ℕ, ◌+◌, ◌≤◌, ◌<◌, List, [], ◌∷◌, length, drop, length-drop, ◌≡◌, ◌≢◌, sym, ap, subst, ◌∙◌, false, arith}
 use Rattle.crypto_profile.specs.declared.keys.Context.{Context}
 use Rattle.rtmfp_forms.specs.Address.{AddressParts}
 use Rattle.rtmfp_packet.specs.Whole.{Whole}

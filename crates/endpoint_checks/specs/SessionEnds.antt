@@ -129,7 +129,9 @@ pub record IdlesRefused (setup : Setup) (moment : ℕ) (c d : Call) (from : Addr
   pub of_half_open : IsRefused setup (after_birth c j (doing moment (Tick draws) (ends j Idle)))
   -- a tick 119,999 ms after the session began, by its birth or its opening, also where that wasn't
   -- at 0
-  pub early : IsRefused setup (after_confirmed 0 c d j (doing 119999 (Tick draws) (ends j Idle) ∷ []))
+  pub early
+      : IsRefused setup
+      (after_confirmed 0 c d j (doing 119999 (Tick draws) (ends j Idle) ∷ []))
   pub early_later
       : IsRefused setup
       (after_confirmed 7 c d j (doing 120006 (Tick draws) (ends j Idle) ∷ []))
