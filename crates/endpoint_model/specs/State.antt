@@ -148,7 +148,8 @@ state_code config startup row address =
     code_by (Config × (ℕ × (ℕ × (StartupState × (Sessions × (Bool × AddressRows))))))
     (coded× config (coded× coded_ℕ (coded× coded_ℕ
     (coded× startup (coded× (code coded_ℕ row) (coded× coded_bool (rows_code address)))))))
-    (λ s. (s.config, (s.moment, (s.sealed, (s.startup, (s.sessions, (s.introduces, s.redirects)))))))
+    (λ s. (s.config, (s.moment, (s.sealed,
+    (s.startup, (s.sessions, (s.introduces, s.redirects)))))))
     (λ p. record {
       config = p.0;
       moment = p.1.0;
