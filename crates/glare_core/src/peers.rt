@@ -262,8 +262,8 @@ impl Peers {
     /// Ends what is held with the peer: it gives Ended; None exactly where nothing is held. It
     /// takes no memory.
     ///
-    /// An attempt may end here with Cancelled or Expired, a half-open session with Unconfirmed, Near
-    /// or Far, a kept one with Near, Far or Idle: what is given is lawful then.
+    /// An attempt may end here with Cancelled or Expired, a half-open session with Unconfirmed,
+    /// Near or Far, a kept one with Near, Far or Idle: what is given is lawful then.
     pub fn end(&mut self, peer: &[u8; 32], why: Why) -> Option<Fact>
         ensures fact { result ≡ ended_fact (held_with self.old peer.now) peer.now why }
         ensures ledger { self.new ≡ noted_if self.old result }

@@ -138,9 +138,9 @@ pub fn a_redirect_adds_new_places()
     ensures told { or_source (v4 0 1 ∷ []) (v4 2 9) ≡ v4 0 1 ∷ [] }
 {}
 
-/// The hellos of a redirect go to its new candidates alone and count as a sending, and leave the gap
-/// as it was: only a repeat goes on to the next one. A redirect that adds nothing leaves all as it
-/// was.
+/// The hellos of a redirect go to its new candidates alone and count as a sending, and leave the
+/// gap as it was: only a repeat goes on to the next one. A redirect that adds nothing leaves all as
+/// it was.
 pub fn a_redirect_counts_as_a_sending()
     ensures kept { (s : StartupState) (a : AttemptState) →
         after_extension s (5, timed 0 1000 2 a) (v4 0 3 ∷ []) 3000
