@@ -62,7 +62,8 @@ impl MemorySpawner {
 
     /// Keeps a start, where there is memory for it.
     fn note_start(&mut self, words: &[String], child: Option<u32>)
-        requires { IsBelow (next_child self.old) (SpawnCall.Start (map string_bytes words.now) child) }
+        requires { IsBelow (next_child self.old)
+            (SpawnCall.Start (map string_bytes words.now) child) }
         ensures calls { Appended (spawner_calls self.old) (spawner_calls self.new)
             (SpawnCall.Start (map string_bytes words.now) child) }
         ensures ends { spawner_ends self.new ≡ spawner_ends self.old }
