@@ -5,6 +5,7 @@ ghost use Rattle.std.specs.Prelude.{◌≡◌, IfErr, IfOk, None, Ok, Some, fals
 ghost use Rattle.std.specs.FinMap.{get};
 ghost use Rattle.glare_core.specs.Calls.{where_true};
 ghost use Rattle.rtmfp_forms.specs.Address.{AddressParts};
+ghost use Rattle.rtmfp_chunks.specs.declared.kinds.TheConstants.{IIKEYING, RIKEYING};
 ghost use Rattle.rtmfp_chunks.specs.Chunk.{chunk_of, kind_of};
 ghost use Rattle.rtmfp_chunks.specs.FieldReading.{chunk_reading};
 ghost use Rattle.rtmfp_packet.specs.Chunks.{shown};
@@ -298,10 +299,11 @@ fn judge_initiator<'a>(
 ) -> Result<Verdict<'a>, Cause>
     ensures ok { IfOk result (Stands end.now place from.now
         (λ draws. initiator_keyed end.now from.now draws payload.now)) }
-    ensures none { IfOk result (λ _. known_cause place 0x38 (keying_fault 0x38 payload.now)
+    ensures none { IfOk result (λ _. known_cause place IIKEYING
+        (keying_fault IIKEYING payload.now)
         (initiator_keying_cause end.now walk from.now payload.now) ≡ None) }
-    ensures refused { IfErr result (λ cause. known_cause place 0x38 (keying_fault 0x38
-        payload.now) (initiator_keying_cause end.now walk from.now payload.now) ≡ Some cause) }
+    ensures refused { IfErr result (λ cause. known_cause place IIKEYING
+        (keying_fault IIKEYING payload.now) (initiator_keying_cause end.now walk from.now payload.now) ≡ Some cause) }
 {
     let fields = match read_initiator_keying(payload) {
         Ok(fields) => fields,
@@ -331,10 +333,11 @@ fn judge_responder<'a>(
 ) -> Result<Verdict<'a>, Cause>
     ensures ok { IfOk result (λ verdict. (from : AddressParts) → Stands end.now place from
         (λ _. responder_keyed end.now (sid_at place) from payload.now) verdict) }
-    ensures none { IfOk result (λ _. known_cause place 0x78 (keying_fault 0x78 payload.now)
+    ensures none { IfOk result (λ _. known_cause place RIKEYING
+        (keying_fault RIKEYING payload.now)
         (responder_keying_cause end.now (sid_at place) payload.now) ≡ None) }
-    ensures refused { IfErr result (λ cause. known_cause place 0x78 (keying_fault 0x78
-        payload.now)
+    ensures refused { IfErr result (λ cause. known_cause place RIKEYING
+        (keying_fault RIKEYING payload.now)
         (responder_keying_cause end.now (sid_at place) payload.now) ≡ Some cause) }
 {
     let fields = match read_responder_keying(payload) {
