@@ -303,7 +303,8 @@ fn judge_initiator<'a>(
         (keying_fault IIKEYING payload.now)
         (initiator_keying_cause end.now walk from.now payload.now) ≡ None) }
     ensures refused { IfErr result (λ cause. known_cause place IIKEYING
-        (keying_fault IIKEYING payload.now) (initiator_keying_cause end.now walk from.now payload.now) ≡ Some cause) }
+        (keying_fault IIKEYING payload.now)
+        (initiator_keying_cause end.now walk from.now payload.now) ≡ Some cause) }
 {
     let fields = match read_initiator_keying(payload) {
         Ok(fields) => fields,
