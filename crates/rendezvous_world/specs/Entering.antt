@@ -71,9 +71,9 @@ event_by print line moment step bytes refused stopped entries = record {
   entries = entries;
 }
 
--- What an open, a cancel, a close or a row leaves that found no memory, at the end in this state: an
--- open and a close, which nothing else refused, have noted the moment, and a cancel and a row have
--- left all as before.
+-- What an open, a cancel, a close or a row leaves that found no memory, at the end in this state:
+-- an open and a close, which nothing else refused, have noted the moment, and a cancel and a row
+-- have left all as before.
 abbrev pub IsUndone : List ℕ → ℕ → Step → State → State → Type 0
 IsUndone print moment (Open end peer list) old new = (open_refusal old print list ≡ None) ×
     (new ≡ at_moment old moment)
