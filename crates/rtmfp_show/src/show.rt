@@ -1,5 +1,5 @@
 //! What `show` prints of a packet.
-ghost use Rattle.std.specs.Prelude.{◌≡◌, ◌++◌, ◌≤◌, length, OnOk, IfOk, MatchBool};
+ghost use Rattle.std.specs.Prelude.{◌≡◌, ◌++◌, ◌≤◌, [], false, length, OnOk, IfOk, MatchBool};
 ghost use Rattle.rtmfp_packet.specs.Head.{mode_number};
 ghost use Rattle.rtmfp_data_chunks.specs.Spelling.{shown};
 ghost use Rattle.rtmfp_text.specs.Words.{number_text};
@@ -24,8 +24,9 @@ const PACKET: usize = LIMIT / 2;
 /// Makes the text of a line. It is `false`, with no text, where the line is outside the grammar.
 pub fn show_line(line: &[u8], text: &mut Text) -> Result<bool, AllocError>
     requires { length line.now ≤ LIMIT }
-    ensures { IfOk result (λ good. MatchBool good (ShowsLine line.now text.new)
+    ensures shown { IfOk result (λ good. MatchBool good (ShowsLine line.now text.new)
         (IsNoPacket line.now)) }
+    ensures none { IfOk result (λ good. good ≡ false → text.new ≡ []) }
 {
     text.clear();
     let mut packet = [0; PACKET];
