@@ -21,3 +21,9 @@ SteppedAs Text w n step t before after = Stepped w n step t × HistoryHolds t ×
     (after ≡ before ++ report_since w t)
 SteppedAs Bad w n step t before after = IsBadStep (step_fault w step)
 SteppedAs Forged w n step t before after = step_fault w step ≡ Some ForgedStep
+
+-- A line that isn't done leaves the world, and the text that there was, as they were.
+abbrev pub StaysAs : Said → Seen → Seen → List ℕ → List ℕ → Type 0
+StaysAs Text w t before after = Unit {0}
+StaysAs Bad w t before after = (t ≡ w) × (after ≡ before)
+StaysAs Forged w t before after = (t ≡ w) × (after ≡ before)

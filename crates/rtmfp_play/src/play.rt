@@ -1,11 +1,11 @@
 //! What `replay` does with a line of a script.
-ghost use Rattle.std.specs.Prelude.{◌≡◌, ◌++◌, ◌+◌, ◌<◌, ◌≤◌, ◌^◌, IfOk, OnOk, length, slice_get};
+ghost use Rattle.std.specs.Prelude.{◌≡◌, ◌++◌, ◌+◌, ◌<◌, ◌≤◌, ◌^◌, [], IfOk, OnOk, length, slice_get};
 ghost use Rattle.rendezvous_world.specs.Seen.{group_secret};
 ghost use Rattle.rtmfp_report.specs.EntryText.{entries_text};
 ghost use Rattle.rendezvous_world.specs.Sent.{sent_in};
 ghost use Rattle.rendezvous_world.specs.Sound.{AreBelow};
 ghost use Rattle.rtmfp_play.specs.Play.{name_at, number_of, step_by, step_by_both, step_said, told_next, told_of};
-ghost use Rattle.rtmfp_play.specs.Playing.{PlayedAs, SteppedAs};
+ghost use Rattle.rtmfp_play.specs.Playing.{PlayedAs, StaysAs, SteppedAs};
 
 use crate::said::Said;
 use rendezvous_world::{Addresses, JournalLine, Refused, Step, StepFault, World};
@@ -38,6 +38,7 @@ pub(crate) fn play_in(
     requires fits { number < 2 ^ 32 }
     ensures played { IfOk result (λ said. PlayedAs said world.old number line.now world.new
         text.new) }
+    ensures stays { IfOk result (λ said. StaysAs said world.old world.new [] text.new) }
     ensures above { IfOk result (λ said. said ≡ Said.Text → AreBelow world.new.lines (number + 1)) }
     ensures keys { keys.new ≡ keys.old }
 {
@@ -67,6 +68,7 @@ fn take_step(
     requires fits { number < 2 ^ 32 }
     ensures stepped { IfOk result (λ said. SteppedAs said world.old number step.now world.new
         text.old text.new) }
+    ensures stays { IfOk result (λ said. StaysAs said world.old world.new text.old text.new) }
     ensures above { IfOk result (λ said. said ≡ Said.Text → AreBelow world.new.lines (number + 1)) }
     ensures keys { keys.new ≡ keys.old }
 {

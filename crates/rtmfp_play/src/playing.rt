@@ -1,8 +1,8 @@
 //! The state of a run over the lines of a script.
 
-ghost use Rattle.std.specs.Prelude.{◌≡◌, ◌+◌, ◌<◌, ◌≤◌, ◌^◌, IfOk, length};
+ghost use Rattle.std.specs.Prelude.{◌≡◌, ◌+◌, ◌<◌, ◌≤◌, ◌^◌, [], IfOk, length};
 ghost use Rattle.rendezvous_world.specs.Sound.{AreBelow};
-ghost use Rattle.rtmfp_play.specs.Playing.{PlayedAs};
+ghost use Rattle.rtmfp_play.specs.Playing.{PlayedAs, StaysAs};
 
 use crate::play::{LINE_LIMIT, play_in};
 use crate::said::Said;
@@ -58,7 +58,8 @@ impl Playing {
     }
 }
 
-/// Does a line of a script, and makes the text of its report.
+/// Does a line of a script, and makes the text of its report. A line that isn't done has no text,
+/// and the world stays as it was.
 pub fn play_line(
     alloc: Global,
     playing: &mut Playing,
@@ -71,6 +72,7 @@ pub fn play_line(
     requires fits { number < 2 ^ 32 }
     ensures played { IfOk result (λ said. PlayedAs said playing.old number line.now playing.new
         text.new) }
+    ensures stays { IfOk result (λ said. StaysAs said playing.old playing.new [] text.new) }
     ensures above { IfOk result (λ said. said ≡ Said.Text →
         AreBelow playing.new.lines (number + 1)) }
 {
