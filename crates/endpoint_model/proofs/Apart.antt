@@ -3,8 +3,8 @@
 use Rattle.std.proofs.Common.{◌≡◌, ◌⊎◌, inl, inr, Some, None, refl, ap}
 use Rattle.glare_core.specs.declared.facts.Fact.{Fact}
 use Rattle.endpoint_model.specs.declared.entry.Entry.{Entry}
-use Rattle.endpoint_model.specs.declared.entry.Entry.TheVariants.{Fact as FactEntry, Closed, Moved, Discard, Out}
-use Rattle.endpoint_model.specs.Event.{Call, Open, Cancel, Close, AddRow, Introduce, Receive, Tick, OpenCall, ReceiveCall, open_in, receive_in}
+use Rattle.endpoint_model.specs.declared.entry.Entry.TheVariants.{Fact as FactEntry, Closed, Moved, FlowOpened, Queued, Finished, Abandoned, Handed, Discard, Out}
+use Rattle.endpoint_model.specs.Event.{Call, Open, Cancel, Close, AddRow, Introduce, OnFlows, Receive, Tick, OpenCall, ReceiveCall, open_in, receive_in}
 use Rattle.endpoint_model.specs.Views.{Sending, fact_in, out_in}
 
 same_inside : {A : Type 0} (x y : A) → Some x ≡ Some y → x ≡ y
@@ -22,6 +22,11 @@ kind_of (FactEntry fact) = inl (fact, refl)
 kind_of (Out to datagram context) = inr (inl (record { to = to; datagram = datagram; context = context }, refl))
 kind_of (Closed near) = inr (inr (record { no_fact = refl; no_out = refl }))
 kind_of (Moved near to) = inr (inr (record { no_fact = refl; no_out = refl }))
+kind_of (FlowOpened near flow) = inr (inr (record { no_fact = refl; no_out = refl }))
+kind_of (Queued near flow seq message) = inr (inr (record { no_fact = refl; no_out = refl }))
+kind_of (Finished near flow seq) = inr (inr (record { no_fact = refl; no_out = refl }))
+kind_of (Abandoned near flow seq) = inr (inr (record { no_fact = refl; no_out = refl }))
+kind_of (Handed near flow seq message) = inr (inr (record { no_fact = refl; no_out = refl }))
 kind_of (Discard place cause) = inr (inr (record { no_fact = refl; no_out = refl }))
 
 -- ---- calls
@@ -32,6 +37,7 @@ opens_alone (Cancel n) o e = absurd (cc)
 opens_alone (Close near) o e = absurd (cc)
 opens_alone (AddRow print addresses) o e = absurd (cc)
 opens_alone Introduce o e = absurd (cc)
+opens_alone (OnFlows near c) o e = absurd (cc)
 opens_alone (Receive from datagram draws) o e = absurd (cc)
 opens_alone (Tick draws) o e = absurd (cc)
 
@@ -41,5 +47,6 @@ receives_alone (Cancel n) r e = absurd (cc)
 receives_alone (Close near) r e = absurd (cc)
 receives_alone (AddRow print addresses) r e = absurd (cc)
 receives_alone Introduce r e = absurd (cc)
+receives_alone (OnFlows near c) r e = absurd (cc)
 receives_alone (Receive from datagram draws) r e = ap (λ (x : ReceiveCall). Receive x.from x.datagram x.draws) (same_inside (record { from = from; datagram = datagram; draws = draws }) r e)
 receives_alone (Tick draws) r e = absurd (cc)

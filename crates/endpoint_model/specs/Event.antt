@@ -10,6 +10,7 @@ use Rattle.endpoint_model.specs.declared.answers.OpenRefusal.{OpenRefusal}
 use Rattle.endpoint_model.specs.declared.answers.CallRefusal.{CallRefusal}
 use Rattle.endpoint_model.specs.declared.answers.Stopped.{Stopped as Stop}
 use Rattle.endpoint_model.specs.declared.entry.Entry.{Entry}
+use Rattle.endpoint_model.specs.FlowCall.{FlowCall}
 
 -- what an end is given: its limits, its certificate, the secret of its group, and the secret of its
 -- cookies
@@ -23,13 +24,15 @@ pub record Setup : Type 0 where
 abbrev pub own_of : Setup → List ℕ
 own_of setup = sha256 setup.cert
 
--- a call; an open names its peer by the fingerprint
+-- A call; an open names its peer by the fingerprint, and one on flows its session by the session
+-- ID.
 pub data Call : Type 0 where
   Open : (peer : List ℕ) → (candidates : List AddressParts) → (draws : Draws) → Call
   Cancel : (n : ℕ) → Call
   Close : (near : ℕ) → Call
   AddRow : (print : List ℕ) → (addresses : List AddressParts) → Call
   Introduce : Call
+  OnFlows : (near : ℕ) → (call : FlowCall) → Call
   Receive : (from : AddressParts) → (datagram : List ℕ) → (draws : Draws) → Call
   Tick : (draws : Draws) → Call
 

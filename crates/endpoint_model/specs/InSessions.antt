@@ -91,7 +91,7 @@ close_taken_by s near (Some row) = then_do (lingering s near row)
 abbrev pub moved_where : State → ℕ → Row → Option Test → Option AddressParts → Did
 moved_where s near row moves None = nothing s
 moved_where s near row moves (Some to) = record {
-  state = with_row s near (record { session = moved_to to row.session; moves = moves });
+  state = with_row s near (record row { session = moved_to to row.session; moves = moves });
   entries = Moved near to ∷ [];
 }
 

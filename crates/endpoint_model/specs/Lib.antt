@@ -1,10 +1,12 @@
 pub mod Views
 pub mod Added
+pub mod FlowCall
 pub mod Event
 pub mod Keying
 pub mod State
 pub mod Sending
 pub mod InSessions
+pub mod OnFlows
 pub mod Admission
 pub mod Causes
 pub mod Introducing

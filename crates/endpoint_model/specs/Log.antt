@@ -13,13 +13,15 @@ use Rattle.endpoint_model.specs.declared.answers.Stopped.{Stopped as Stop}
 use Rattle.introducer.specs.declared.refusal.RowRefusal.{RowRefusal}
 use Rattle.introducer.specs.declared.refusal.RowRefusal.TheVariants.{Memory as NoMemoryForRow}
 use Rattle.introducer.specs.Directory.{row_refusal}
-use Rattle.endpoint_model.specs.Event.{Setup, Call, Open, Cancel, Close, AddRow, Introduce, Receive, Tick, Answer, Began, Done, NotOpened, Refused, NotAdded, Stopped, OutOfMemory, Event}
+use Rattle.endpoint_model.specs.Event.{Setup, Call, Open, Cancel, Close, AddRow, Introduce, OnFlows, Receive, Tick, Answer, Began, Done, NotOpened, Refused, NotAdded, Stopped, OutOfMemory, Event}
 use Rattle.endpoint_model.specs.Added.{Added}
 use Rattle.endpoint_model.specs.State.{State, Did, Does, nothing, fresh, at_moment, Done as DoneIn}
 use Rattle.endpoint_model.specs.Admission.{Admission, Rejected, Admitted, admission, confirms}
 use Rattle.endpoint_model.specs.Keying.{chunks_of}
 use Rattle.endpoint_model.specs.Introducing.{with_redirect, introducing}
 use Rattle.endpoint_model.specs.InSessions.{held_row, closing, asks_at}
+use Rattle.endpoint_model.specs.FlowCall.{FlowCall}
+use Rattle.endpoint_model.specs.OnFlows.{call_refusal, flow_called}
 use Rattle.endpoint_model.specs.Effects.{open_refusal, opening, cancelling, ticks, gone_through, received, part_received, AddsDiscards, discards, first_due}
 
 -- ---- what a call may answer, add and leave, from a state in which its moment is noted
@@ -33,6 +35,11 @@ not_opened (Some refusal) = refusal
 abbrev pub not_added : Option RowRefusal → RowRefusal
 not_added None = NoMemoryForRow
 not_added (Some refusal) = refusal
+
+-- and of another call
+abbrev pub not_called : Option CallRefusal → CallRefusal
+not_called None = NoMemory
+not_called (Some refusal) = refusal
 
 -- No memory was found before the datagram was taken: for the discard of one that is refused, or for
 -- the Confirmed of one that confirms a session.
@@ -90,6 +97,10 @@ Answers s (AddRow print addresses) (NotAdded refusal) entries t =
     (refusal ≡ not_added (row_refusal s.redirects print (length addresses))) ×
     Does (nothing s) t [] entries
 Answers s Introduce Done entries t = Does (nothing (introducing s)) t [] entries
+Answers s (OnFlows near call) Done entries t = (call_refusal s near call ≡ None) ×
+    Does (flow_called s near call) t [] entries
+Answers s (OnFlows near call) (Refused refusal) entries t =
+    (refusal ≡ not_called (call_refusal s near call)) × Does (nothing s) t [] entries
 Answers s (Receive from datagram draws) Done entries t =
     Does (received from draws (admission s datagram)) t [] entries
 Answers s (Receive from datagram draws) (Stopped stop) entries t =
@@ -138,7 +149,7 @@ abbrev pub open_event : ℕ → List ℕ → List AddressParts → Draws → Res
 open_event moment peer candidates draws result before after =
     event moment (Open peer candidates draws) (answer_of_open result) before after
 
-abbrev pub answer_of_call : Result (Unit {0}) CallRefusal → Answer
+abbrev pub answer_of_call : {A : Type 0} → Result A CallRefusal → Answer
 answer_of_call (Ok done) = Done
 answer_of_call (Err refusal) = Refused refusal
 
@@ -148,6 +159,11 @@ cancel_event n result before after = event 0 (Cancel n) (answer_of_call result) 
 abbrev pub close_event : ℕ → ℕ → Result (Unit {0}) CallRefusal → List Entry → List Entry → Event
 close_event near moment result before after =
     event moment (Close near) (answer_of_call result) before after
+
+abbrev pub flow_event : {A : Type 0} → ℕ → FlowCall → Result A CallRefusal → List Entry →
+    List Entry → Event
+flow_event near call result before after =
+    event 0 (OnFlows near call) (answer_of_call result) before after
 
 -- a call that is given no moment and adds no entry
 abbrev pub silent_event : Call → Answer → Event

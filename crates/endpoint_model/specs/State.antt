@@ -8,6 +8,7 @@ use Rattle.introducer.specs.Directory.{AddressRows, rows_code}
 use Rattle.glare_core.specs.declared.facts.Fact.{Fact}
 use Rattle.startup.specs.State.{StartupState, new_startup}
 use Rattle.session_core.specs.Session.{SessionState}
+use Rattle.session_flows.specs.Keeping.{no_flows}
 use Rattle.endpoint_model.specs.declared.row.Row.{Row}
 use Rattle.endpoint_model.specs.declared.config.Config.{Config}
 use Rattle.endpoint_model.specs.declared.entry.Entry.{Entry}
@@ -21,7 +22,7 @@ Sessions = FinMap nat_cmp Row
 
 -- the row of a session that begins
 abbrev pub new_row : SessionState → Row
-new_row session = record { session = session; moves = None }
+new_row session = record { session = session; moves = None; flows = no_flows }
 
 pub record State : Type 0 where
   pub config : Config
@@ -148,8 +149,16 @@ state_code config startup row address =
     code_by (Config × (ℕ × (ℕ × (StartupState × (Sessions × (Bool × AddressRows))))))
     (coded× config (coded× coded_ℕ (coded× coded_ℕ
     (coded× startup (coded× (code coded_ℕ row) (coded× coded_bool (rows_code address)))))))
-    (λ s. (s.config, (s.moment, (s.sealed,
-    (s.startup, (s.sessions, (s.introduces, s.redirects)))))))
+    (λ s. (
+      s.config,
+      (
+        s.moment,
+        (
+          s.sealed,
+          (s.startup, (s.sessions, (s.introduces, s.redirects))),
+        ),
+      ),
+    ))
     (λ p. record {
       config = p.0;
       moment = p.1.0;

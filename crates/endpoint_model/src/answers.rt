@@ -1,5 +1,6 @@
 //! What the calls of an end answer.
 
+use flow_send::QueueRefusal;
 use glare_core::StartRefusal;
 use thiserror::Error;
 
@@ -30,6 +31,24 @@ pub enum CallRefusal {
     /// No held session has this session ID.
     #[error("no session has this session ID")]
     NoSession,
+    /// The session opened no such flow.
+    #[error("the session opened no such flow")]
+    NoFlow,
+    /// There are this many flows that were opened here, as many as may be.
+    #[error("there are {0} flows")]
+    FlowsFull(u64),
+    /// The metadata, which has so many bytes, has more than 64, or the priority is above 7.
+    #[error("metadata of {0} bytes, or the priority, passes its limit")]
+    WideMetadata(u64),
+    /// It is never `QueueRefusal::Memory`.
+    #[error("not queued: {0}")]
+    Queue(QueueRefusal),
+    /// No message that waits begins at the number.
+    #[error("no such message waits")]
+    NotQueued,
+    /// The flow was finished before.
+    #[error("the flow is finished")]
+    Finished,
     #[error("out of memory")]
     Memory,
 }

@@ -23,6 +23,43 @@ pub enum Entry {
         /// The new address.
         to: Address,
     },
+    /// A flow was opened in a session.
+    FlowOpened {
+        /// The session's ID at this end.
+        near: u32,
+        /// The flow's ID.
+        flow: u64,
+    },
+    /// A message was queued in a flow.
+    Queued {
+        near: u32,
+        flow: u64,
+        /// The number of its first fragment.
+        seq: u64,
+        message: Message,
+    },
+    /// A flow was finished.
+    Finished {
+        near: u32,
+        flow: u64,
+        /// Its last number.
+        seq: u64,
+    },
+    /// A message that waits is sent no longer.
+    Abandoned {
+        near: u32,
+        flow: u64,
+        /// The number of its first fragment.
+        seq: u64,
+    },
+    /// A message of a flow of the other end is handed over.
+    Handed {
+        near: u32,
+        flow: u64,
+        /// The number of its first fragment.
+        seq: u64,
+        message: Message,
+    },
     /// A datagram, or a chunk of one, was discarded.
     Discard {
         /// The place of the chunk's type byte in the plain packet; 0 for the datagram.

@@ -2,6 +2,7 @@
 
 use mobility::Moves;
 use session_core::Session;
+use session_flows::Flows;
 
 /// A session as an end keeps it: what the end itself has to keep of it stands here, beside the
 /// session.
@@ -11,4 +12,6 @@ pub struct Row {
     pub session: Session,
     /// The test of another address of the peer.
     pub moves: Moves,
+    /// Its flows.
+    pub flows: Flows,
 }
