@@ -1,5 +1,5 @@
 -- The nonces that a call draws: none, or that of its draws, once.
-use Rattle.std.proofs.Common.{◌≡◌, ℕ, zero, suc, List, [], ◌∷◌, ◌++◌, take, Bool, true, false, not, if◌then◌else◌, Option, Some, None, Result, Ok, Err, inl, inr, ◌⊎◌, refl, sym, ap, ◌∙◌}
+use Rattle.std.proofs.Common.{◌≡◌, ℕ, zero, suc, List, [], ◌∷◌, ◌++◌, take, map, Bool, true, false, not, if◌then◌else◌, Option, Some, None, Result, Ok, Err, inl, inr, ◌⊎◌, refl, sym, ap, ◌∙◌}
 use Rattle.std.specs.Prelude.{◌==◌}
 use Rattle.std.specs.FinMap.{get}
 use Rattle.rtmfp_forms.specs.Address.{AddressParts}
@@ -47,8 +47,10 @@ use Rattle.endpoint_model.specs.declared.place.Place.TheVariants.{Startup, Attem
 use Rattle.endpoint_model.specs.declared.entry.Entry.{Entry}
 use Rattle.endpoint_model.specs.declared.entry.Entry.TheVariants.{Fact as FactEntry}
 use Rattle.endpoint_model.specs.declared.answers.Stopped.{Stopped as Stop}
-use Rattle.endpoint_model.specs.Event.{Call, Open, Cancel, Close, AddRow, Introduce, Receive, Tick, Answer as CallAnswer, Began, Done, NotOpened, Refused, NotAdded, Stopped, OutOfMemory}
+use Rattle.endpoint_model.specs.Event.{Call, Open, Cancel, Close, AddRow, Introduce, OnFlows, Receive, Tick, Answer as CallAnswer, Began, Done, NotOpened, Refused, NotAdded, Stopped, OutOfMemory}
 use Rattle.endpoint_model.specs.Introducing.{with_redirect, introducing}
+use Rattle.endpoint_model.specs.FlowCall.{FlowCall, flow_did}
+use Rattle.endpoint_model.specs.OnFlows.{flow_entry, flow_called_by, flow_called}
 use Rattle.endpoint_laws.specs.Past.{Stamped, stamped, onto, facts_of, fact_and}
 use Rattle.endpoint_model.specs.State.{State, Did, Does, nothing, then_do, fact_entries, with_startup, with_row, with_session, free_from}
 use Rattle.endpoint_model.specs.Sending.{sent_answer, sent_each, sent_by, sent_in_session}
@@ -57,6 +59,7 @@ use Rattle.endpoint_model.specs.Keying.{chunks_of}
 use Rattle.endpoint_model.specs.Effects.{opening, cancelling, due_done, tick_once, ticks, keying_done, initiator_keyed, opening_done, responder_keyed, with_born, read_done, effect, discarded_or, chunk_did, chunks_did, received, part_received, outset, attempt_item, first_due, session_item, is_told_in_session, gone_through}
 use Rattle.endpoint_model.specs.Causes.{initiator_keying_cause, responder_keying_cause, has_state_for, read_cause, last_cause, chunk_cause}
 use Rattle.endpoint_laws.specs.Lawful.{nonces_of}
+use Rattle.endpoint_laws.proofs.Unseen.{AreUnseen, flows_unseen}
 use Rattle.endpoint_laws.proofs.Chunked.{last_none}
 use Rattle.endpoint_laws.proofs.NoFacts.{NoFactAnd, NoFacts, the_rest, none_answer, none_each, none_by, none_in_session, none_read}
 use Rattle.endpoint_model.specs.Log.{stopped, Answers}
@@ -387,6 +390,19 @@ once_stopped s from draws a stop = by stop.taken
     by true = once_part from draws a stop.chunks
     by false = inl refl
 
+-- ---- flows
+
+none_unseen : (entries : List Entry) → AreUnseen entries → drawn entries ≡ []
+none_unseen [] are = refl
+none_unseen (entry ∷ rest) are = ap (λ (o : Option Fact). drawn_and o (drawn rest)) are.0.no_fact ∙ none_unseen rest are.1
+
+none_flow_called : (s : State) (near : ℕ) (c : FlowCall) → drawn (flow_called s near c).entries ≡ []
+none_flow_called s near c = by (held_row s near)
+  where
+    by : (o : Option Row) → drawn (flow_called_by s near c o).entries ≡ []
+    by None = refl
+    by (Some row) = let d = flow_did row.flows c in none_unseen (map (flow_entry near) d.stated) (flows_unseen near d.stated)
+
 -- ---- a call
 
 abbrev pub MayDraw : Call → List Entry → Type 0
@@ -395,6 +411,7 @@ MayDraw (Cancel n) entries = drawn entries ≡ []
 MayDraw (Close near) entries = drawn entries ≡ []
 MayDraw (AddRow print addresses) entries = drawn entries ≡ []
 MayDraw Introduce entries = drawn entries ≡ []
+MayDraw (OnFlows near call) entries = drawn entries ≡ []
 MayDraw (Receive from datagram draws) entries = Once draws.nonce entries
 MayDraw (Tick draws) entries = drawn entries ≡ []
 
@@ -418,6 +435,8 @@ answers_draw s t (Close near) (Refused refusal) entries h = none_of (nothing s) 
 answers_draw s t (AddRow print addresses) Done entries h = none_of (nothing (with_redirect s print addresses)) t entries h.1 refl
 answers_draw s t (AddRow print addresses) (NotAdded refusal) entries h = none_of (nothing s) t entries h.1 refl
 answers_draw s t Introduce Done entries h = none_of (nothing (introducing s)) t entries h refl
+answers_draw s t (OnFlows near call) Done entries h = none_of (flow_called s near call) t entries h.1 (none_flow_called s near call)
+answers_draw s t (OnFlows near call) (Refused refusal) entries h = none_of (nothing s) t entries h.1 refl
 answers_draw s t (Receive from datagram draws) Done entries h = once_of draws.nonce (received from draws (admission s datagram)) t entries h (once_received from draws (admission s datagram))
 answers_draw s t (Receive from datagram draws) (Stopped stop) entries h =
     once_of draws.nonce (stopped s from draws (admission s datagram) stop) t entries h.1 (once_stopped s from draws (admission s datagram) stop)

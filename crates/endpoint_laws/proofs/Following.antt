@@ -90,7 +90,7 @@ alive_by true moment s = record { same = refl; opening = λ e. (e, refl) }
 alive_by false moment s = descends_same s
 
 -- a row that is replaced
-follows_row : (s t : State) (near : ℕ) (old new : Row) (entries : List Entry) → get s.sessions near ≡ Some old → Descends old.session new.session → NoneBegin entries → t.moment ≡ s.moment → t.sessions ≡ s.sessions →
+pub follows_row : (s t : State) (near : ℕ) (old new : Row) (entries : List Entry) → get s.sessions near ≡ Some old → Descends old.session new.session → NoneBegin entries → t.moment ≡ s.moment → t.sessions ≡ s.sessions →
     Follows s (record { state = with_row t near new; entries = entries })
 follows_row s t near old new entries is d none moment same = record {
   none = none;
@@ -213,7 +213,7 @@ follows_moved s near from bytes = by (get s.sessions near) refl
   where
     to_where : (row : Row) (moves : Option Test) → get s.sessions near ≡ Some row → (o : Option AddressParts) → Follows s (moved_where s near row moves o)
     to_where row moves is None = follows_nothing s
-    to_where row moves is (Some to) = follows_row s s near row (record { session = moved_to to row.session; moves = moves }) _ is (record { same = refl; opening = λ e. (e, refl) }) ((λ q. refl), tt) refl refl
+    to_where row moves is (Some to) = follows_row s s near row (record row { session = moved_to to row.session; moves = moves }) _ is (record { same = refl; opening = λ e. (e, refl) }) ((λ q. refl), tt) refl refl
 
     by : (o : Option Row) → get s.sessions near ≡ o → Follows s (moved_by s near from bytes o)
     by None is = follows_nothing s

@@ -30,6 +30,7 @@ mod Keyed
 mod Numbers
 mod Hearing
 mod Following
+mod Unseen
 mod HeardChunks
 mod Passing
 mod SessionChunks
@@ -42,6 +43,7 @@ mod Counts
 mod Taking
 mod HeardEvents
 mod HeardAdmission
+mod OnFlows
 mod Orderly
 pub mod Logged
 pub mod Opened

@@ -10,11 +10,12 @@ use Rattle.endpoint_model.specs.declared.entry.Entry.{Entry}
 use Rattle.rtmfp_forms.specs.Address.{AddressParts}
 use Rattle.endpoint_model.specs.declared.config.Draws.{Draws}
 use Rattle.endpoint_model.specs.declared.answers.Stopped.{Stopped as Stop}
-use Rattle.endpoint_model.specs.Event.{Setup, own_of, Call, receive_in, Open, Cancel, Close, AddRow, Introduce, Receive, Tick, Answer, Began, Done, NotOpened, Refused, NotAdded, Stopped, OutOfMemory, Event}
+use Rattle.endpoint_model.specs.Event.{Setup, own_of, Call, receive_in, Open, Cancel, Close, AddRow, Introduce, OnFlows, Receive, Tick, Answer, Began, Done, NotOpened, Refused, NotAdded, Stopped, OutOfMemory, Event}
 use Rattle.endpoint_model.specs.State.{State, Did, Does, nothing, fresh, at_moment}
 use Rattle.endpoint_model.specs.Admission.{admission}
 use Rattle.endpoint_model.specs.Introducing.{with_redirect, introducing}
 use Rattle.endpoint_model.specs.InSessions.{closing}
+use Rattle.endpoint_model.specs.OnFlows.{flow_called}
 use Rattle.endpoint_model.specs.Effects.{opening, cancelling, ticks, received}
 use Rattle.endpoint_model.specs.Log.{Answers, Leads, StandsFor, stopped}
 use Rattle.introducer.specs.Directory.{AddressRows}
@@ -32,6 +33,7 @@ use Rattle.endpoint_laws.proofs.Ending.{goes_cancelling}
 use Rattle.endpoint_laws.proofs.SessionChunks.{goes_closing}
 use Rattle.endpoint_laws.proofs.OutSessions.{meets_closing}
 use Rattle.endpoint_laws.proofs.Hearing.{HeardWell}
+use Rattle.endpoint_laws.proofs.OnFlows.{goes_flow_called, meets_flow_called, few_flow_called, heard_flow_called}
 use Rattle.endpoint_laws.proofs.Following.{heard_opening, heard_cancelling, heard_closing}
 use Rattle.endpoint_laws.proofs.HeardEvents.{AreNamed, are_named, heard_fresh, heard_begun, no_datagram, not_gone_through, gone_through_is, AdmissionHeard}
 use Rattle.endpoint_laws.proofs.HeardAdmission.{heard_admission}
@@ -107,6 +109,17 @@ module _ (setup : Setup) (is : IsSetup setup) (past : List Stamped) (s t : State
         (orderly_nothing setup Introduce past (introducing s) (tied_unseen setup past s true s.redirects tied) (record { numbered = sent.numbered; sized = sent.sized; short = sent.short; rows = sent.rows }) well);
     does = h;
   }
+  answers_orderly (OnFlows near call) Done entries fits well h = record {
+    did = flow_called s near call;
+    orderly = record {
+      goes = goes_flow_called s near call setup (OnFlows near call) past tied;
+      meets = meets_flow_called s near call setup (OnFlows near call) past sent;
+      few = few_flow_called s near call;
+      heard = heard_flow_called s near call past well;
+    };
+    does = h.1;
+  }
+  answers_orderly (OnFlows near call) (Refused refusal) entries fits well h = record { did = nothing s; orderly = orderly_nothing setup (OnFlows near call) past s tied sent well; does = h.1 }
   answers_orderly (Receive from datagram draws) Done entries fits well h = record {
     did = received from draws (admission s datagram);
     orderly = received_orderly setup is from datagram draws fits past s (admission s datagram) (admission_is setup past s datagram tied sent (of_bytes datagram fits.0)) well;
@@ -205,6 +218,7 @@ module _ (setup : Setup) (past : List Stamped) (s : State) (e : Event) (holds : 
   known_for (Close near) answer is said = no_receive (Close near) is refl
   known_for (AddRow print addresses) answer is said = no_receive (AddRow print addresses) is refl
   known_for Introduce answer is said = no_receive Introduce is refl
+  known_for (OnFlows near call) answer is said = no_receive (OnFlows near call) is refl
   known_for (Tick draws) answer is said = no_receive (Tick draws) is refl
   known_for (Receive from datagram draws) Done is said = admitted from datagram draws is (ap was_gone_through said)
   known_for (Receive from datagram draws) (Stopped stop) is said = waits from datagram draws stop is said

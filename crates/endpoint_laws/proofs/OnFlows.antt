@@ -1,0 +1,135 @@
+-- What an end does with the flows of a session: it states no fact and sends nothing, and the session in the row is changed to one like it.
+use Rattle.std.proofs.Common.{◌≡◌, ℕ, List, [], ◌∷◌, map, Bool, true, false, if◌then◌else◌, Option, Some, None, refl, sym, ap, subst, ◌∙◌, arith}
+use Rattle.std.specs.FinMap.{get}
+use Rattle.glare_core.specs.declared.facts.Fact.{Fact}
+use Rattle.session_core.specs.Session.{SessionState}
+use Rattle.endpoint_model.specs.declared.row.Row.{Row}
+use Rattle.endpoint_model.specs.declared.entry.Entry.{Entry}
+use Rattle.endpoint_model.specs.Event.{Setup, Call}
+use Rattle.endpoint_model.specs.FlowCall.{FlowCall, flow_did}
+use Rattle.endpoint_model.specs.State.{State, Did, nothing, with_row}
+use Rattle.endpoint_model.specs.InSessions.{held_row}
+use Rattle.endpoint_model.specs.OnFlows.{flow_entry, flow_called_by, flow_called}
+use Rattle.endpoint_laws.specs.Past.{Stamped, stamped, onto, fact_and, facts_of}
+use Rattle.endpoint_laws.proofs.Unseen.{IsUnseen, AreUnseen, flows_unseen}
+use Rattle.endpoint_laws.proofs.Lines.{FactPart, FactMeets, OutPart, OutMeets, ClosedMeets, EntriesMeet}
+use Rattle.endpoint_laws.proofs.Tied.{Tied}
+use Rattle.endpoint_laws.proofs.Moving.{IsAlike, alike_itself, tied_session, tied_more}
+use Rattle.endpoint_laws.proofs.Going.{Goes, Keeps, goes_nothing}
+use Rattle.endpoint_laws.proofs.OutNumbers.{numbered_quiet}
+use Rattle.endpoint_laws.proofs.OutHeld.{AreSized}
+use Rattle.endpoint_laws.proofs.OutSends.{Sent, Meets, meets_nothing}
+use Rattle.endpoint_laws.proofs.OutItems.{sent_session_changed}
+use Rattle.endpoint_laws.proofs.Few.{Few, few_nothing, few_same}
+use Rattle.endpoint_laws.proofs.Hearing.{BeginsNone, NoneBegin, Descends, descends_same, KeepsHeard, Follows, heard_follows}
+use Rattle.endpoint_laws.proofs.Following.{follows_row, heard_nothing}
+use Rattle.endpoint_laws.proofs.SessionChunks.{held_is_there}
+
+-- ---- entries that are unseen
+
+module _ (setup : Setup) (call : Call) (s : State) where
+  facts_meet : (entries : List Entry) (past : List Stamped) → AreUnseen entries → EntriesMeet FactPart setup s.moment call past entries
+  facts_meet [] past are = tt
+  facts_meet (entry ∷ rest) past are = (
+    (
+      subst (FactMeets setup s.moment call past rest) (sym are.0.no_fact) tt,
+      subst (ClosedMeets setup s.moment call past) (sym are.0.no_closed) tt,
+    ),
+    facts_meet rest (stamped s.moment entry ∷ past) are.1,
+  )
+
+  outs_meet : (entries : List Entry) (past : List Stamped) → AreUnseen entries → EntriesMeet OutPart setup s.moment call past entries
+  outs_meet [] past are = tt
+  outs_meet (entry ∷ rest) past are = (subst (OutMeets setup past) (sym are.0.no_out) tt, outs_meet rest (stamped s.moment entry ∷ past) are.1)
+
+  tied_unseen : (entries : List Entry) (past : List Stamped) → AreUnseen entries → Tied setup past s → Tied setup (onto s.moment entries past) s
+  tied_unseen [] past are tied = tied
+  tied_unseen (entry ∷ rest) past are tied =
+      tied_unseen rest (stamped s.moment entry ∷ past) are.1 (tied_more setup past s (stamped s.moment entry) (omega arith) are.0.no_fact are.0.no_closed tied)
+
+  sent_unseen : (entries : List Entry) (past : List Stamped) → AreUnseen entries → Sent setup past s → Sent setup (onto s.moment entries past) s
+  sent_unseen [] past are sent = sent
+  sent_unseen (entry ∷ rest) past are sent = sent_unseen rest (stamped s.moment entry ∷ past) are.1 (record {
+    numbered = numbered_quiet _ past s.sealed s.sessions sent.numbered (stamped s.moment entry) are.0.no_out are.0.no_fact;
+    sized = subst AreSized (sym (ap (λ (o : Option Fact). fact_and o (facts_of past)) are.0.no_fact)) sent.sized;
+    short = sent.short;
+    rows = sent.rows;
+  })
+
+none_begin : (entries : List Entry) → AreUnseen entries → NoneBegin entries
+none_begin [] are = tt
+none_begin (entry ∷ rest) are = (subst BeginsNone (sym are.0.no_fact) (λ near. refl), none_begin rest are.1)
+
+-- ---- a row is changed, and nothing is seen of it
+
+pub record IsLike (moment : ℕ) (old new : SessionState) : Type 0 where
+  pub alike : IsAlike moment old new
+  pub descends : Descends old new
+  pub sealed : new.sealed ≡ old.sealed
+
+pub like_itself : (moment : ℕ) (session : SessionState) → IsLike moment session session
+like_itself moment session = record { alike = alike_itself moment session; descends = descends_same session; sealed = refl }
+
+module _ (s : State) (near : ℕ) (old new : Row) (there : get s.sessions near ≡ Some old) (like : IsLike s.moment old.session new.session) (entries : List Entry) (are : AreUnseen entries) where
+  abbrev changed : Did
+  changed = record { state = with_row s near new; entries = entries }
+
+  pub goes_unseen : (setup : Setup) (call : Call) → Keeps setup call s changed
+  goes_unseen setup call past tied = record {
+    meets = facts_meet setup call s entries past are;
+    tied = tied_session setup (onto s.moment entries past) s near old new (tied_unseen setup call s entries past are tied) there like.alike;
+    moment = refl;
+  }
+
+  pub meets_unseen : (setup : Setup) (call : Call) (past : List Stamped) → Sent setup past s → Meets setup s.moment call past changed
+  meets_unseen setup call past sent = record {
+    lines = outs_meet setup call s entries past are;
+    sent = sent_session_changed setup (onto s.moment entries past) s near old new (sent_unseen setup call s entries past are sent) there like.alike.joined like.alike.own like.alike.role like.sealed;
+  }
+
+  pub few_unseen : Few s changed
+  few_unseen = few_same s changed refl
+
+  pub heard_unseen : KeepsHeard s changed
+  heard_unseen = heard_follows s changed (follows_row s s near old new entries there like.descends (none_begin entries are) refl refl)
+
+-- ---- a call
+
+module _ (s : State) (near : ℕ) (c : FlowCall) where
+  abbrev did : Did
+  did = flow_called s near c
+
+  module _ (setup : Setup) (call : Call) (past : List Stamped) where
+    goes_by : (o : Option Row) → held_row s near ≡ o → Tied setup past s → Goes setup call past s (flow_called_by s near c o)
+    goes_by None is tied = goes_nothing setup call s past tied
+    goes_by (Some row) is tied =
+        let d = flow_did row.flows c in
+        goes_unseen s near row (record row { flows = d.flows }) (held_is_there (get s.sessions near) row is).0 (like_itself s.moment row.session) (map (flow_entry near) d.stated) (flows_unseen near d.stated) setup call past tied
+
+    meets_by : (o : Option Row) → held_row s near ≡ o → Sent setup past s → Meets setup s.moment call past (flow_called_by s near c o)
+    meets_by None is sent = meets_nothing setup s.moment call past s sent
+    meets_by (Some row) is sent =
+        let d = flow_did row.flows c in
+        meets_unseen s near row (record row { flows = d.flows }) (held_is_there (get s.sessions near) row is).0 (like_itself s.moment row.session) (map (flow_entry near) d.stated) (flows_unseen near d.stated) setup call past sent
+
+    pub goes_flow_called : Tied setup past s → Goes setup call past s did
+    goes_flow_called tied = goes_by (held_row s near) refl tied
+
+    pub meets_flow_called : Sent setup past s → Meets setup s.moment call past did
+    meets_flow_called sent = meets_by (held_row s near) refl sent
+
+  few_by : (o : Option Row) → Few s (flow_called_by s near c o)
+  few_by None = few_nothing s
+  few_by (Some row) = few_same s (flow_called_by s near c (Some row)) refl
+
+  pub few_flow_called : Few s did
+  few_flow_called = few_by (held_row s near)
+
+  heard_by : (o : Option Row) → held_row s near ≡ o → KeepsHeard s (flow_called_by s near c o)
+  heard_by None is = heard_nothing s
+  heard_by (Some row) is =
+      let d = flow_did row.flows c in
+      heard_unseen s near row (record row { flows = d.flows }) (held_is_there (get s.sessions near) row is).0 (like_itself s.moment row.session) (map (flow_entry near) d.stated) (flows_unseen near d.stated)
+
+  pub heard_flow_called : KeepsHeard s did
+  heard_flow_called = heard_by (held_row s near) refl
