@@ -3,3 +3,4 @@ mod Likely
 mod Changing
 mod SealedParts
 mod DueRows
+mod Called

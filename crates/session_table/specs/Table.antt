@@ -60,7 +60,7 @@ tested from token moment row = record row {
 
 -- the session goes to where the answer to its test came from
 abbrev pub moved : AddressParts → List ℕ → Row → Row
-moved from bytes row = record {
+moved from bytes row = record row {
   session = moved_to from row.session;
   moves = after_reply row.moves from bytes;
 }

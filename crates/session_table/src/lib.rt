@@ -2,6 +2,7 @@
 //! is due of them. It knows no attempts, no entries and no other end.
 #![tactic(auto)]
 
+mod calls;
 mod changes;
 mod due;
 mod index;

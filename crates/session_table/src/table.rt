@@ -2,6 +2,9 @@
 
 use crate::index::{index_near, index_of};
 use endpoint_model::Row;
+use mobility::Moves;
+use session_core::Session;
+use session_flows::Flows;
 use std::alloc::{AllocError, Global};
 use std::marker::Model;
 
@@ -10,6 +13,7 @@ use std::marker::Model;
 /// Contracts see the rows by their session IDs, and for how many more there is room.
 #[derive(Drop)]
 pub struct SessionTable {
+    pub(crate) alloc: Global,
     /// The rows, in any order.
     pub(crate) rows: Vec<Row>,
     /// The index of the session of the last datagram, where a session is looked for first.
@@ -38,6 +42,7 @@ impl SessionTable {
     ghost use Rattle.std.specs.Prelude.{◌≡◌, ◌<◌, ◌≤◌, ◌^◌, OnOk};
     ghost use Rattle.std.specs.Option.{option_copied};
     ghost use Rattle.std.specs.FinMap.{contains_key, empty, get, insert, len, remove};
+    ghost use Rattle.endpoint_model.specs.State.{new_row};
     ghost use Rattle.session_table.specs.Table.{near_of};
 
     /// A table without sessions. It takes no memory.
@@ -45,6 +50,7 @@ impl SessionTable {
         ensures { result.rows ≡ empty }
     {
         SessionTable {
+            alloc,
             rows: Vec::new(alloc),
             likely: 0,
         }
@@ -92,17 +98,31 @@ impl SessionTable {
         self.rows.reserve(1)
     }
 
+    /// Keeps a session that begins under its session ID, for which there is room: no address of it
+    /// is tested, and it has no flows.
+    pub fn keep(&mut self, session: Session)
+        requires { 0 < self.old.free }
+        ensures { self.new.rows ≡ insert self.old.rows session.joined.near (new_row session) }
+    {
+        self.keep_row(Row {
+            session,
+            moves: Moves::new(),
+            flows: Flows::new(self.alloc),
+        });
+    }
+
     /// Keeps a row under the session ID of its session, for which there is room.
-    pub fn keep(&mut self, row: Row)
+    fn keep_row(&mut self, row: Row)
         requires { 0 < self.old.free }
         ensures { self.new.rows ≡ insert self.old.rows (near_of row) row }
     {
         match index_of(&self.rows, row.session.joined().near) {
             Some(index) => self.rows[index] = row,
-            None => match self.rows.push(row) {
-                Ok(()) => {}
-                Err(_) => {}
-            },
+            None => {
+                let Ok(()) = self.rows.push(row) else {
+                    return;
+                };
+            }
         }
     }
 

@@ -4,7 +4,7 @@ use Rattle.glare_core.specs.declared.facts.Joined.{Joined}
 use Rattle.endpoint_model.specs.declared.row.Row.{Row}
 use Rattle.session_table.specs.Table.{Table, near_of, table_of}
 use Rattle.session_table.proofs.Rows.{index_in, put_at, put_besides}
-use Rattle.session_table.proofs.table.SessionTable.keep.Goals as goal
+use Rattle.session_table.proofs.table.SessionTable.keep_row.Goals as goal
 
 pub invariant_of-self : goal.invariant_of-self
 invariant_of-self c =
