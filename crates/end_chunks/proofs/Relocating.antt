@@ -21,7 +21,7 @@ use Rattle.end_chunks.specs.Steps.{test_pending}
 
 -- the row of a session that moved
 abbrev pub moved_row : Row → AddressParts → Row
-moved_row row from = record { session = moved_to from row.session; moves = None }
+moved_row row from = record row { session = moved_to from row.session; moves = None }
 
 moves_as : (s : State) (near : ℕ) (from : AddressParts) (bytes : List ℕ) (row : Row) (b : Bool) → is_answered row.moves from bytes ≡ b →
     moved_by s near from bytes (Some row) ≡ moved_where s near row (if b then None else row.moves) (if b then Some from else None)

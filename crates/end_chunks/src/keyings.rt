@@ -11,9 +11,8 @@ ghost use Rattle.endpoint_model.specs.Effects.{sessions_opened, without_ended};
 ghost use Rattle.endpoint_model.specs.State.{Done, full, nothing};
 
 use end_state::{EndState, Outbox, add_fact, blank};
-use endpoint_model::{Draws, Entry, Row};
+use endpoint_model::{Draws, Entry};
 use glare_core::Fact;
-use mobility::Moves;
 use rtmfp_chunks::ChunkView;
 use rtmfp_forms::Address;
 use session_core::{Role, Session};
@@ -128,8 +127,7 @@ fn keep_born(
     if let Fact::Born(joined) = born {
         forget_ended(sessions, ended);
         let session = Session::new(joined, print, Role::Responder, *from, secret, moment);
-        let moves = Moves::new();
-        sessions.keep(Row { session, moves });
+        sessions.keep(session);
     }
 }
 
@@ -148,8 +146,7 @@ fn keep_opened(
 {
     if let Fact::Opened(joined) = opened {
         let session = Session::new(joined, print, Role::Initiator, *from, secret, moment);
-        let moves = Moves::new();
-        sessions.keep(Row { session, moves });
+        sessions.keep(session);
     }
 }
 

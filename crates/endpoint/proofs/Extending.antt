@@ -14,13 +14,15 @@ use Rattle.endpoint_model.specs.declared.answers.CallRefusal.{CallRefusal}
 use Rattle.endpoint_model.specs.declared.answers.CallRefusal.TheVariants.{NoAttempt, NoSession, Memory as NoMemory}
 use Rattle.endpoint_model.specs.declared.answers.Stopped.{Stopped as Stop}
 use Rattle.endpoint_model.specs.Added.{Added}
-use Rattle.endpoint_model.specs.Event.{Event, Cancel, AddRow, Introduce, Refused, NotAdded, Done as Finished}
+use Rattle.endpoint_model.specs.Event.{Event, Cancel, AddRow, Introduce, OnFlows, Refused, NotAdded, Done as Finished}
 use Rattle.endpoint_model.specs.Introducing.{with_redirect, introducing}
 use Rattle.endpoint_model.specs.State.{State, Did, Does, Done, nothing, fresh, at_moment}
 use Rattle.endpoint_model.specs.Admission.{admission}
 use Rattle.endpoint_model.specs.InSessions.{held_row, closing}
+use Rattle.endpoint_model.specs.FlowCall.{FlowCall}
+use Rattle.endpoint_model.specs.OnFlows.{call_refusal, flow_called}
 use Rattle.endpoint_model.specs.Effects.{open_refusal, opening, cancelling, ticks, received, first_due}
-use Rattle.endpoint_model.specs.Log.{Step, Answers, Leads, Extends, IsTaken, IsStop, stopped, not_opened, not_added, open_event, cancel_event, row_event, introduce_event, close_event, receive_event, tick_event}
+use Rattle.endpoint_model.specs.Log.{Step, Answers, Leads, Extends, IsTaken, IsStop, stopped, not_opened, not_added, open_event, cancel_event, row_event, introduce_event, close_event, flow_event, not_called, receive_event, tick_event}
 
 leads_more : (s t u : State) (es : List Event) (e : Event) → Leads s es t → Step t e u → Leads s (es ++ e ∷ []) u
 leads_more s t u [] e h step = (u, (let P : State → Type 0 = λ x. Step x e u in subst P (sym h) step), refl)
@@ -149,6 +151,22 @@ no_session_extends s t near moment out none is =
 pub no_room_extends : (s t : State) (near moment : ℕ) (before after : Added) → is_some (held_row s near) ≡ true → Done (nothing (at_moment s moment)) t before after →
     Extends s t (close_event near moment (Err NoMemory) before.entries after.entries)
 no_room_extends s t near moment before after some did = unclosed_extends s t near moment NoMemory before after (one_there (held_row s near) NoSession some) did
+
+-- ---- calls on flows
+
+pub called_extends : {A : Type 0} (s t : State) (near : ℕ) (call : FlowCall) (answer : A) (before after : Added) → call_refusal s near call ≡ None → Done (flow_called s near call) t before after →
+    Extends s t (flow_event near call (Ok answer) before.entries after.entries)
+called_extends s t near call answer before after none did =
+    let entries : List Entry = drop (length before.entries) after.entries in
+    extends s t (flow_event near call (Ok answer) before.entries after.entries)
+    (subst (λ (x : State). Answers x (OnFlows near call) Finished entries t) (sym (at_zero s)) (none, alone (flow_called s near call) t before after did))
+
+pub uncalled_extends : (A : Type 0) (s t : State) (near : ℕ) (call : FlowCall) (refusal : CallRefusal) (before after : Added) → refusal ≡ not_called (call_refusal s near call) → Done (nothing s) t before after →
+    Extends s t (flow_event {A = A} near call (Err refusal) before.entries after.entries)
+uncalled_extends A s t near call refusal before after is did =
+    let entries : List Entry = drop (length before.entries) after.entries in
+    extends s t (flow_event {A = A} near call (Err refusal) before.entries after.entries)
+    (subst (λ (x : State). Answers x (OnFlows near call) (Refused refusal) entries t) (sym (at_zero s)) (is, alone (nothing s) t before after did))
 
 tick_steps : (s t : State) (moment : ℕ) (draws : Draws) (r : Result (Unit {0}) Memory) (before after : Added) →
     (count : ℕ) × Done (ticks count (at_moment s moment)) t before after → OnOk r (first_due t ≡ None) →

@@ -2,7 +2,7 @@
 //! a row say.
 
 use crypto_profile::{Context, Keys, seal_in_place};
-use endpoint::{Config, Draws, Endpoint, Entry, Outbox};
+use endpoint::{CallRefusal, Config, Draws, Endpoint, Entry, MessageOptions, Outbox};
 use glare_core::Fact;
 use identity::{CertFault, Certificate, Epd};
 use packet_scramble::scramble;
@@ -71,6 +71,25 @@ fn text_of(alloc: Global, out: &Outbox) -> Result<String, AllocError> {
             Entry::Fact(fact) => fact_text(alloc, fact)?,
             Entry::Closed { near } => format!(in alloc; "closed {near}; ")?,
             Entry::Moved { near, to } => format!(in alloc; "moved {near} {}; ", to.host[3])?,
+            Entry::FlowOpened { near, flow } => format!(in alloc; "flow {near} {flow}; ")?,
+            Entry::Queued {
+                near,
+                flow,
+                seq,
+                message,
+            } => format!(in alloc; "queued {near} {flow} {seq} {}; ", message.len())?,
+            Entry::Finished { near, flow, seq } => {
+                format!(in alloc; "finished {near} {flow} {seq}; ")?
+            }
+            Entry::Abandoned { near, flow, seq } => {
+                format!(in alloc; "abandoned {near} {flow} {seq}; ")?
+            }
+            Entry::Handed {
+                near,
+                flow,
+                seq,
+                message,
+            } => format!(in alloc; "handed {near} {flow} {seq} {}; ", message.len())?,
             Entry::Discard { place, cause } => format!(in alloc; "drop {place} {cause:?}; ")?,
             Entry::Out { datagram, .. } => format!(in alloc; "out {}; ", datagram.len())?,
         };
@@ -276,6 +295,60 @@ fn introduces(alloc: Global, end: &mut Endpoint) -> Result<Added, Fail> {
     Ok(says(alloc, String::new(alloc)))
 }
 
+/// What was added, or why nothing was.
+fn called<T: Drop>(
+    alloc: Global,
+    out: &Outbox,
+    answer: Result<T, CallRefusal>,
+) -> Result<Added, Fail> {
+    match answer {
+        Ok(_) => all_of(alloc, out),
+        Err(refusal) => Ok(says(alloc, format!(in alloc; "{refusal:?}")?)),
+    }
+}
+
+/// Opens a flow with a priority and metadata.
+fn opens_flow(alloc: Global, end: &mut Endpoint, row: &str) -> Result<Added, Fail> {
+    let mut out = outbox(alloc)?;
+    let metadata = bytes(alloc, row, 4)?;
+    let priority = (number(row, 3) % 256) as u8;
+    let result = end.open_flow(
+        number(row, 2),
+        priority,
+        metadata.as_slice(),
+        None,
+        &mut out,
+    );
+    called(alloc, &out, result)
+}
+
+/// Queues a message of so many bytes.
+fn queues(alloc: Global, end: &mut Endpoint, row: &str) -> Result<Added, Fail> {
+    let mut out = outbox(alloc)?;
+    let mut message = Vec::new(alloc);
+    message.resize(number(row, 4) as usize, 7)?;
+    let options = MessageOptions {
+        deadline: None,
+        resends: None,
+    };
+    let flow = u64::from(number(row, 3));
+    let result = end.queue(number(row, 2), flow, message.as_slice(), options, &mut out);
+    called(alloc, &out, result)
+}
+
+fn abandons(alloc: Global, end: &mut Endpoint, row: &str) -> Result<Added, Fail> {
+    let mut out = outbox(alloc)?;
+    let (flow, seq) = (u64::from(number(row, 3)), u64::from(number(row, 4)));
+    let result = end.abandon(number(row, 2), flow, seq, &mut out);
+    called(alloc, &out, result)
+}
+
+fn finishes(alloc: Global, end: &mut Endpoint, row: &str) -> Result<Added, Fail> {
+    let mut out = outbox(alloc)?;
+    let result = end.finish(number(row, 2), u64::from(number(row, 3)), &mut out);
+    called(alloc, &out, result)
+}
+
 /// What an end does by itself, as a row says.
 fn acts(alloc: Global, end: &mut Endpoint, row: &str) -> Result<Added, Fail> {
     let value = number(row, 2);
@@ -286,6 +359,10 @@ fn acts(alloc: Global, end: &mut Endpoint, row: &str) -> Result<Added, Fail> {
         "introduce" => introduces(alloc, end),
         "row" => adds_row(alloc, end, row),
         "rows" => adds_rows(alloc, end, value),
+        "flow" => opens_flow(alloc, end, row),
+        "queue" => queues(alloc, end, row),
+        "abandon" => abandons(alloc, end, row),
+        "finish" => finishes(alloc, end, row),
         _ => cancels(alloc, end, u64::from(value)),
     }
 }
@@ -438,6 +515,7 @@ impl Ends {
             "open" | "tick" | "cancel" | "close" => self.acts(alloc, row),
             "introduce" | "row" | "rows" => self.acts(alloc, row),
             "places" => Ok(String::from_str(alloc, self.places.as_str())?),
+            "flow" | "queue" | "abandon" | "finish" => self.acts(alloc, row),
             "last" | "kept" => self.passes(alloc, row),
             "keep" => {
                 self.kept = Vec::from_slice(alloc, self.last.as_slice())?;

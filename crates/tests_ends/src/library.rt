@@ -35,6 +35,11 @@ fn an_end_tells_what_to_send_and_what_happened(rt: HostRuntime) -> Result<(), Fa
             Entry::Fact(_) => told = told.saturating_add(1),
             Entry::Closed { .. } => {}
             Entry::Moved { .. } => {}
+            Entry::FlowOpened { .. } => {}
+            Entry::Queued { .. } => {}
+            Entry::Finished { .. } => {}
+            Entry::Abandoned { .. } => {}
+            Entry::Handed { .. } => {}
             Entry::Discard { .. } => dropped = dropped.saturating_add(1),
         }
     }

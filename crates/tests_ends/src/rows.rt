@@ -237,6 +237,55 @@ session b 17 01010000 1000 1 = out 42; out 58;
 session b 18 010c0000 2000 9 = ended 6 Far; out 42;
 ";
 
+/// Calls on flows of a half-open session, then of one that is kept, and when it is closing: each
+/// refusal at its edge.
+const FLOWS: &str = "flow b 5 4 6d = NoSession
+flow a 3 4 6d = NoSession
+flow b 6 8 - = WideMetadata(0)
+flow b 6 7 - = flow 6 0;
+flow b 6 0 6d6d6d6d6d6d6d6d6d6d6d6d6d6d6d6d6d6d6d6d6d6d6d6d6d6d6d6d6d6d6d6d6d6d6d6d6d6d6d6d6d6d6d6d6d6d6d6d6d6d6d6d6d6d6d6d6d6d6d6d6d6d6d6d6d = WideMetadata(65)
+flow b 6 0 6d6d6d6d6d6d6d6d6d6d6d6d6d6d6d6d6d6d6d6d6d6d6d6d6d6d6d6d6d6d6d6d6d6d6d6d6d6d6d6d6d6d6d6d6d6d6d6d6d6d6d6d6d6d6d6d6d6d6d6d6d6d6d6d = flow 6 1;
+queue b 5 0 1 = NoSession
+queue b 6 2 1 = NoFlow
+queue b 6 0 1048577 = Queue(TooLong(1048576))
+queue b 6 0 0 = queued 6 0 1 0;
+queue b 6 0 1001 = queued 6 0 2 1001;
+queue b 6 0 1000 = queued 6 0 4 1000;
+queue b 6 1 1 = queued 6 1 1 1;
+abandon b 5 0 2 = NoSession
+abandon b 6 2 2 = NoFlow
+abandon b 6 0 3 = NotQueued
+abandon b 6 0 2 = abandoned 6 0 2;
+abandon b 6 0 2 = NotQueued
+abandon b 6 0 5 = NotQueued
+finish b 5 0 = NoSession
+finish b 6 2 = NoFlow
+finish b 6 0 = finished 6 0 5;
+finish b 6 0 = Finished
+queue b 6 0 0 = Queue(Finished)
+abandon b 6 0 4 = abandoned 6 0 4;
+kept b 1 9 = out 149;
+last a 2 7 = opened 3 6; out 42;
+flow a 3 4 6d = flow 3 0;
+close b 6 0 = ended 6 Near; out 42;
+flow b 6 0 - = NoSession
+queue b 6 1 1 = NoSession
+abandon b 6 1 1 = NoSession
+finish b 6 1 = NoSession
+";
+
+/// What a flow holds of messages: 2,097,152 bytes.
+const BACKLOG: &str = "flow b 6 0 - = flow 6 0;
+queue b 6 0 1048576 = queued 6 0 1 1048576;
+queue b 6 0 1048575 = queued 6 0 1050 1048575;
+queue b 6 0 2 = Queue(Backlog(2097151))
+queue b 6 0 1 = queued 6 0 2099 1;
+queue b 6 0 1 = Queue(Backlog(2097152))
+queue b 6 0 0 = queued 6 0 2100 0;
+abandon b 6 0 1050 = abandoned 6 0 1050;
+queue b 6 0 1048575 = queued 6 0 2101 1048575;
+";
+
 /// The first row of a table that isn't so of these ends.
 pub(crate) fn first_wrong(
     alloc: Global,
@@ -271,12 +320,34 @@ fn rows_are_so(rt: HostRuntime) -> Result<(), Fail> {
         (OPENING, UNCONFIRMED),
         (OPENING, KEPT_ALIVE),
         (OPENING, MOVES),
+        (OPENING, FLOWS),
+        (OPENING, BACKLOG),
     ];
     for (before, table) in tables {
         let mut ends = Ends::new(rt.alloc())?;
         assert_eq!(rt; first_wrong(rt.alloc(), &mut ends, before)?, None);
         assert_eq!(rt; first_wrong(rt.alloc(), &mut ends, table)?, None);
     }
+    Ok(())
+}
+
+/// A session opens 256 flows, and no more.
+fn flows_are_limited(alloc: Global) -> Result<bool, Fail> {
+    let mut ends = Ends::new(alloc)?;
+    let _ = first_wrong(alloc, &mut ends, OPENING)?;
+    for id in 0..256_u32 {
+        let opened = ends.told(alloc, "flow b 6 0 -")?;
+        if opened.as_str() != format!(in alloc; "flow 6 {id}; ")?.as_str() {
+            return Ok(false);
+        }
+    }
+    let refused = ends.told(alloc, "flow b 6 8 -")?;
+    Ok(refused.as_str() == "FlowsFull(256)")
+}
+
+#[test]
+fn a_session_opens_256_flows_at_most(rt: HostRuntime) -> Result<(), Fail> {
+    assert!(rt; flows_are_limited(rt.alloc())?);
     Ok(())
 }
 

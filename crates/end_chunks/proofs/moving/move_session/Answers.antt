@@ -23,6 +23,6 @@ returns c =
     let answered : is_answered row.moves from bytes ≡ true = sym (ap (answers_by from bytes) there.1) ∙ answers in
     let table : c.move_to.new.self.rows ≡ insert s.sessions c.args.near (moved_row row from) =
     c.move_to.ensures ∙ ap (with_changed (moved from bytes) s.sessions c.args.near) there.1
-    ∙ ap (λ (m : Option Test). insert s.sessions c.args.near (record { session = moved_to from row.session; moves = m })) (test_over row.moves from bytes answered) in
+    ∙ ap (λ (m : Option Test). insert s.sessions c.args.near (record row { session = moved_to from row.session; moves = m })) (test_over row.moves from bytes answered) in
     moved_done s c.args.end.now c.args.near from bytes row _ c.args.out.now c.add.new.self c.end.view_is there.1 c.requires.answers
     (ap (λ (m : Sessions). with_sessions s m) table) c.add.ensures.entries c.add.ensures.free c.add.ensures.room

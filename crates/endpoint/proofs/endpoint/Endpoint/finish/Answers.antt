@@ -1,0 +1,26 @@
+use Rattle.std.proofs.Common.{◌≡◌, ℕ, None, sym, ap, ◌∙◌, subst}
+use Rattle.endpoint_model.specs.declared.answers.CallRefusal.TheVariants.{Memory as NoMemory}
+use Rattle.endpoint_model.specs.FlowCall.{Finish}
+use Rattle.endpoint_model.specs.OnFlows.{call_refusal, flow_called}
+use Rattle.endpoint_model.specs.Log.{not_called}
+use Rattle.endpoint_model.specs.State.{State, Done, nothing}
+use Rattle.endpoint.proofs.Extending.{called_extends, uncalled_extends, nothing_done}
+use Rattle.endpoint.proofs.endpoint.Endpoint.finish.Goals as goal
+
+pub returns-in-Some-clause-stands : goal.returns-in-Some-clause-stands
+returns-in-Some-clause-stands c =
+    uncalled_extends (Unit {0}) c.args.self.now c.args.self.now c.args.near (Finish c.args.flow) c.in-Some.refusal c.args.out.now c.args.out.now
+    (ap not_called (c.in-Some.ensures ∙ ap (λ (s : State). call_refusal s c.args.near (Finish c.args.flow)) c.self.view_is))
+    (nothing_done c.args.self.now c.args.out.now)
+
+pub returns-clause-stands : goal.returns-clause-stands
+returns-clause-stands c =
+    called_extends {A = Unit {0}} c.args.self.now c.finish_held.new.end c.args.near (Finish c.args.flow) tt c.args.out.now c.finish_held.new.out
+    (sym (c.in_default.ensures ∙ ap (λ (s : State). call_refusal s c.args.near (Finish c.args.flow)) c.self.view_is))
+    (subst (λ (s : State). Done (flow_called s c.args.near (Finish c.args.flow)) c.finish_held.new.end c.args.out.now c.finish_held.new.out) c.self.view_is c.in-Ok.ensures.ok)
+
+pub returns-in-Err-clause-stands : goal.returns-in-Err-clause-stands
+returns-in-Err-clause-stands c =
+    uncalled_extends (Unit {0}) c.args.self.now c.finish_held.new.end c.args.near (Finish c.args.flow) NoMemory c.args.out.now c.finish_held.new.out
+    (ap not_called (c.in_default.ensures ∙ ap (λ (s : State). call_refusal s c.args.near (Finish c.args.flow)) c.self.view_is))
+    (subst (λ (s : State). Done (nothing s) c.finish_held.new.end c.args.out.now c.finish_held.new.out) c.self.view_is c.in-Err.ensures.err)

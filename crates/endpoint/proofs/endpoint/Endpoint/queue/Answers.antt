@@ -1,0 +1,26 @@
+use Rattle.std.proofs.Common.{◌≡◌, ℕ, None, sym, ap, ◌∙◌, subst}
+use Rattle.endpoint_model.specs.declared.answers.CallRefusal.TheVariants.{Memory as NoMemory}
+use Rattle.endpoint_model.specs.FlowCall.{Queue}
+use Rattle.endpoint_model.specs.OnFlows.{call_refusal, flow_called}
+use Rattle.endpoint_model.specs.Log.{not_called}
+use Rattle.endpoint_model.specs.State.{State, Done, nothing}
+use Rattle.endpoint.proofs.Extending.{called_extends, uncalled_extends, nothing_done}
+use Rattle.endpoint.proofs.endpoint.Endpoint.queue.Goals as goal
+
+pub returns-in-Some-clause-stands : goal.returns-in-Some-clause-stands
+returns-in-Some-clause-stands c =
+    uncalled_extends ℕ c.args.self.now c.args.self.now c.args.near (Queue c.args.flow c.args.message.now c.args.options) c.in-Some.refusal c.args.out.now c.args.out.now
+    (ap not_called (c.in-Some.ensures ∙ ap (λ (s : State). call_refusal s c.args.near (Queue c.args.flow c.args.message.now c.args.options)) c.self.view_is))
+    (nothing_done c.args.self.now c.args.out.now)
+
+pub returns-clause-stands : goal.returns-clause-stands
+returns-clause-stands c =
+    called_extends {A = ℕ} c.args.self.now c.queue_held.new.end c.args.near (Queue c.args.flow c.args.message.now c.args.options) c.in-Ok.seq c.args.out.now c.queue_held.new.out
+    (sym (c.in_default.ensures ∙ ap (λ (s : State). call_refusal s c.args.near (Queue c.args.flow c.args.message.now c.args.options)) c.self.view_is))
+    (subst (λ (s : State). Done (flow_called s c.args.near (Queue c.args.flow c.args.message.now c.args.options)) c.queue_held.new.end c.args.out.now c.queue_held.new.out) c.self.view_is c.in-Ok.ensures.ok)
+
+pub returns-in-Err-clause-stands : goal.returns-in-Err-clause-stands
+returns-in-Err-clause-stands c =
+    uncalled_extends ℕ c.args.self.now c.queue_held.new.end c.args.near (Queue c.args.flow c.args.message.now c.args.options) NoMemory c.args.out.now c.queue_held.new.out
+    (ap not_called (c.in_default.ensures ∙ ap (λ (s : State). call_refusal s c.args.near (Queue c.args.flow c.args.message.now c.args.options)) c.self.view_is))
+    (subst (λ (s : State). Done (nothing s) c.queue_held.new.end c.args.out.now c.queue_held.new.out) c.self.view_is c.in-Err.ensures.err)
