@@ -172,7 +172,7 @@ lacks_low b n low fits = each_is IsDigit (λ x. x ≢ b) (λ x is. digit_not_low
 lower_not : (b x : ℕ) → is_lower_digit b ≡ false → is_lower_digit x ≡ true → x ≢ b
 lower_not b x bad good e = let both : true ≡ false = sym good ∙ ap is_lower_digit e ∙ bad in cc both
 
-lacks_encoded : (b : ℕ) (bytes : List ℕ) → is_lower_digit b ≡ false → list_all (λ x. nat_lt x 256) bytes ≡ true → Lacks b (encode_lower bytes)
+pub lacks_encoded : (b : ℕ) (bytes : List ℕ) → is_lower_digit b ≡ false → list_all (λ x. nat_lt x 256) bytes ≡ true → Lacks b (encode_lower bytes)
 lacks_encoded b bytes bad fits = each_is (λ x. is_lower_digit x ≡ true) (λ x. x ≢ b) (λ x good. lower_not b x bad good) (encode_lower bytes) (each_passes is_lower_digit (encode_lower bytes) (lower_encoded bytes fits))
 
 pub v4_of-text : (a b c d : ℕ) → a < 256 → b < 256 → c < 256 → d < 256 → v4_of (v4_host_text ((a ∷ b ∷ c ∷ d ∷ []) ++ replicate 12 0)) ≡ Some (a ∷ b ∷ c ∷ d ∷ [])
@@ -288,8 +288,8 @@ lacks_port host port small lacks =
     let fits : port < 2 ^ 64 = omega arith in
     each_append (λ x. x ≢ 32) host (58 ∷ decimal port) lacks (λ e. cc e, lacks_low 32 port (omega arith) fits)
 
-record HasNoSpace (xs : List ℕ) : Type 0 where
-  lacks : Lacks 32 xs
+pub record HasNoSpace (xs : List ℕ) : Type 0 where
+  pub lacks : Lacks 32 xs
 
 no_space_v4 : (port a b c d : ℕ) → port < 2 ^ 16 → a < 256 → b < 256 → c < 256 → d < 256 → HasNoSpace (v4_host_text ((a ∷ b ∷ c ∷ d ∷ []) ++ replicate 12 0) ++ 58 ∷ decimal port)
 no_space_v4 port a b c d small ha hb hc hd = record { lacks = lacks_port (v4_host_text ((a ∷ b ∷ c ∷ d ∷ []) ++ replicate 12 0)) port small (lacks_space_v4 a b c d ha hb hc hd) }

@@ -4,18 +4,20 @@ use Rattle.std.specs.Prelude.{decimal, nat_le}
 use Rattle.std.proofs.lemmas.Bool.{le-leb}
 use Rattle.rtmfp_forms.specs.Address.{AddressParts}
 use Rattle.rtmfp_text.specs.AddressText.{address_text}
-use Rattle.rtmfp_text.specs.Words.{bytes_text}
+use Rattle.rtmfp_text.specs.Words.{bytes_text, number_text}
 use Rattle.rtmfp_script.specs.declared.line.ScriptLine.{ScriptLine}
-use Rattle.rtmfp_script.specs.declared.line.ScriptLine.TheVariants.{End, Introduce, Redirect, At, Open, Cancel, Close, Tick, Deliver, Bent, Inject, Forge}
-use Rattle.rtmfp_script.specs.Grammar.{IsName, IsCert, IsPlainAddress, IsBytesUpTo, EachIsPlainAddress, IsWithin, IsLineOf, line_text, words_text, line_limit}
-use Rattle.rtmfp_script.specs.Fields.{split_of, ◌>>=◌}
-use Rattle.rtmfp_script.specs.Lines.{end_of, introduce_of, redirect_of, at_of, open_of, open_to, cancel_of, close_of, tick_of, deliver_of, bent_of, inject_of, forge_of, word_of, step_of}
+use Rattle.rtmfp_script.specs.declared.line.ScriptLine.TheVariants.{End, Introduce, Redirect, At, Open, Cancel, Close, Flow, Queue, Abandon, Finish, Tick, Deliver, Bent, Inject, Forge}
+use Rattle.rtmfp_script.specs.declared.content.Content.{Content}
+use Rattle.rtmfp_script.specs.Grammar.{IsName, IsCert, IsPlainAddress, IsBytesUpTo, EachIsPlainAddress, AreBytes, IsBelow, IsContent, IsWithin, IsLineOf, content_text, word_for, line_text, words_text, line_limit}
+use Rattle.rtmfp_script.specs.Fields.{split_of, number_of, number_below, ◌>>=◌}
+use Rattle.rtmfp_script.specs.Lines.{end_of, introduce_of, redirect_of, at_of, open_of, open_to, cancel_of, close_of, flow_in, flow_of, queue_in, queue_of, abandon_of, finish_of, tick_of, deliver_of, bent_of, inject_of, forge_of, word_of, step_of}
 use Rattle.rtmfp_script.proofs.Splits.{split_text, split_nothing}
 use Rattle.rtmfp_script.proofs.Numbers.{number_of-decimal, number_below-decimal}
-use Rattle.rtmfp_script.proofs.Digits.{bytes_of-text}
+use Rattle.rtmfp_script.proofs.Digits.{bytes_of-text, hexadecimal_of-text}
 use Rattle.rtmfp_script.proofs.NamesRead.{name_of-name, lacks_name, cert_of-cert}
 use Rattle.rtmfp_script.proofs.Addresses.{address_of-text, lacks_address, lacks_low}
 use Rattle.rtmfp_script.proofs.AddressesRead.{addresses_of-text}
+use Rattle.rtmfp_script.proofs.Contents.{limit_by-text, no_space_number, no_space_bytes, answers_of-text, content_of-text}
 
 end_read : (name : List ℕ) (peers sessions : ℕ) (cert : List ℕ) → IsName name → peers < 2 ^ 32 → sessions < 2 ^ 32 → IsCert cert →
     end_of (name ++ 32 ∷ (decimal peers ++ 32 ∷ (decimal sessions ++ 32 ∷ cert))) ≡ Some (End name peers sessions cert)
@@ -61,6 +63,79 @@ cancel_read name number n m = rw (split_text 32 name (decimal number) (lacks_nam
 close_read : (name : List ℕ) (near : ℕ) → IsName name → near < 2 ^ 32 → close_of (name ++ 32 ∷ decimal near) ≡ Some (Close name near)
 unfolding close_of
 close_read name near n m = rw (split_text 32 name (decimal near) (lacks_name name n), name_of-name name n, number_below-decimal (2 ^ 32) near (omega arith) m) refl
+
+flow_in_read : (name : List ℕ) (near priority : ℕ) (metadata : List ℕ) (answers : Option ℕ) → priority < 256 → AreBytes metadata → IsBelow (2 ^ 64) answers →
+    flow_in name near (decimal priority ++ 32 ∷ words_text (bytes_text metadata ∷ word_for answers)) ≡ Some (Flow name near priority metadata answers)
+unfolding flow_in
+flow_in_read name near priority metadata answers p m a =
+    rw (
+      split_text 32 (decimal priority) (words_text (bytes_text metadata ∷ word_for answers)) (lacks_low 32 priority (omega arith) (omega arith)),
+      number_below-decimal 256 priority (omega arith) p,
+      answers_of-text (bytes_text metadata) answers (no_space_bytes metadata m).lacks a,
+      hexadecimal_of-text metadata m,
+    ) refl
+
+flow_read : (name : List ℕ) (near priority : ℕ) (metadata : List ℕ) (answers : Option ℕ) → IsName name → near < 2 ^ 32 → priority < 256 → AreBytes metadata → IsBelow (2 ^ 64) answers →
+    flow_of (name ++ 32 ∷ (decimal near ++ 32 ∷ (decimal priority ++ 32 ∷ words_text (bytes_text metadata ∷ word_for answers)))) ≡ Some (Flow name near priority metadata answers)
+unfolding flow_of
+flow_read name near priority metadata answers n i p m a =
+    rw (
+      split_text 32 name (decimal near ++ 32 ∷ (decimal priority ++ 32 ∷ words_text (bytes_text metadata ∷ word_for answers))) (lacks_name name n),
+      split_text 32 (decimal near) (decimal priority ++ 32 ∷ words_text (bytes_text metadata ∷ word_for answers)) (lacks_low 32 near (omega arith) (omega arith)),
+      name_of-name name n,
+      number_below-decimal (2 ^ 32) near (omega arith) i,
+    ) (flow_in_read name near priority metadata answers p m a)
+
+queue_in_read : (name : List ℕ) (near flow : ℕ) (deadline resends : Option ℕ) (content : Content) → flow < 2 ^ 64 → IsBelow (2 ^ 64) deadline → IsBelow (2 ^ 32) resends → IsContent content →
+    queue_in name near (decimal flow ++ 32 ∷ (number_text deadline ++ 32 ∷ (number_text resends ++ 32 ∷ content_text content))) ≡ Some (Queue name near flow deadline resends content)
+unfolding queue_in
+queue_in_read name near flow deadline resends content f d r c =
+    rw (
+      split_text 32 (decimal flow) (number_text deadline ++ 32 ∷ (number_text resends ++ 32 ∷ content_text content)) (lacks_low 32 flow (omega arith) f),
+      split_text 32 (number_text deadline) (number_text resends ++ 32 ∷ content_text content) (no_space_number (2 ^ 64) deadline (omega arith) d).lacks,
+      split_text 32 (number_text resends) (content_text content) (no_space_number (2 ^ 32) resends (omega arith) r).lacks,
+      number_of-decimal flow f,
+      limit_by-text number_of (2 ^ 64) deadline (omega arith) number_of-decimal d,
+      limit_by-text (number_below (2 ^ 32)) (2 ^ 32) resends (omega arith) (λ n small. number_below-decimal (2 ^ 32) n (omega arith) small) r,
+      content_of-text content c,
+    ) refl
+
+queue_read : (name : List ℕ) (near flow : ℕ) (deadline resends : Option ℕ) (content : Content) → IsName name → near < 2 ^ 32 → flow < 2 ^ 64 → IsBelow (2 ^ 64) deadline → IsBelow (2 ^ 32) resends → IsContent content →
+    queue_of (name ++ 32 ∷ (decimal near ++ 32 ∷ (decimal flow ++ 32 ∷ (number_text deadline ++ 32 ∷ (number_text resends ++ 32 ∷ content_text content))))) ≡ Some (Queue name near flow deadline resends content)
+unfolding queue_of
+queue_read name near flow deadline resends content n i f d r c =
+    rw (
+      split_text 32 name (decimal near ++ 32 ∷ (decimal flow ++ 32 ∷ (number_text deadline ++ 32 ∷ (number_text resends ++ 32 ∷ content_text content)))) (lacks_name name n),
+      split_text 32 (decimal near) (decimal flow ++ 32 ∷ (number_text deadline ++ 32 ∷ (number_text resends ++ 32 ∷ content_text content))) (lacks_low 32 near (omega arith) (omega arith)),
+      name_of-name name n,
+      number_below-decimal (2 ^ 32) near (omega arith) i,
+    ) (queue_in_read name near flow deadline resends content f d r c)
+
+abandon_read : (name : List ℕ) (near flow seq : ℕ) → IsName name → near < 2 ^ 32 → flow < 2 ^ 64 → seq < 2 ^ 64 →
+    abandon_of (name ++ 32 ∷ (decimal near ++ 32 ∷ (decimal flow ++ 32 ∷ decimal seq))) ≡ Some (Abandon name near flow seq)
+unfolding abandon_of
+abandon_read name near flow seq n i f s =
+    rw (
+      split_text 32 name (decimal near ++ 32 ∷ (decimal flow ++ 32 ∷ decimal seq)) (lacks_name name n),
+      split_text 32 (decimal near) (decimal flow ++ 32 ∷ decimal seq) (lacks_low 32 near (omega arith) (omega arith)),
+      split_text 32 (decimal flow) (decimal seq) (lacks_low 32 flow (omega arith) f),
+      name_of-name name n,
+      number_below-decimal (2 ^ 32) near (omega arith) i,
+      number_of-decimal flow f,
+      number_of-decimal seq s,
+    ) refl
+
+finish_read : (name : List ℕ) (near flow : ℕ) → IsName name → near < 2 ^ 32 → flow < 2 ^ 64 →
+    finish_of (name ++ 32 ∷ (decimal near ++ 32 ∷ decimal flow)) ≡ Some (Finish name near flow)
+unfolding finish_of
+finish_read name near flow n i f =
+    rw (
+      split_text 32 name (decimal near ++ 32 ∷ decimal flow) (lacks_name name n),
+      split_text 32 (decimal near) (decimal flow) (lacks_low 32 near (omega arith) (omega arith)),
+      name_of-name name n,
+      number_below-decimal (2 ^ 32) near (omega arith) i,
+      number_of-decimal flow f,
+    ) refl
 
 tick_read : (name : List ℕ) → IsName name → tick_of name ≡ Some (Tick name)
 unfolding tick_of
@@ -148,6 +223,10 @@ said_read (Open name peer []) w = open_alone name peer w.0 w.1
 said_read (Open name peer (first ∷ more)) w = open_read name peer first more w.0 w.1 w.2 w.3
 said_read (Cancel name number) w = cancel_read name number w.0 w.1
 said_read (Close name near) w = close_read name near w.0 w.1
+said_read (Flow name near priority metadata answers) w = flow_read name near priority metadata answers w.0 w.1 w.2 w.3 w.4
+said_read (Queue name near flow deadline resends content) w = queue_read name near flow deadline resends content w.0 w.1 w.2 w.3 w.4 w.5
+said_read (Abandon name near flow seq) w = abandon_read name near flow seq w.0 w.1 w.2 w.3
+said_read (Finish name near flow) w = finish_read name near flow w.0 w.1 w.2
 said_read (Tick name) n = tick_read name n
 said_read (Deliver number name from) w = deliver_read number name from w.0 w.1 w.2
 said_read (Bent number place name from) w = bent_read number place name from w.0 w.1 w.2 w.3

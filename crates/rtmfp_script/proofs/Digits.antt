@@ -9,8 +9,8 @@ use Rattle.hex.specs.declared.error.FromHexError.{FromHexError}
 use Rattle.hex.proofs.HexLemmas.{decode_pairs-encode_with, IsDigits-lower_digits, length-encode_with}
 use Rattle.hex.proofs.Pairs.{cons_byte, decode_pairs-ok_pair}
 use Rattle.rtmfp_text.specs.Words.{bytes_text}
-use Rattle.rtmfp_script.specs.Grammar.{IsBytesUpTo}
-use Rattle.rtmfp_script.specs.Fields.{is_lower_digit, digits_of, bytes_of, is_hyphen, value_of}
+use Rattle.rtmfp_script.specs.Grammar.{IsBytesUpTo, AreBytes}
+use Rattle.rtmfp_script.specs.Fields.{is_lower_digit, digits_of, bytes_of, hexadecimal_of, is_hyphen, value_of}
 use Rattle.rtmfp_script.proofs.Splits.{some_some}
 
 -- ---- one digit
@@ -165,7 +165,7 @@ digits_of-encoded bytes h =
 
 -- ---- with a hyphen for none
 
-hyphen_is : (word : List ℕ) → is_hyphen word ≡ true → word ≡ codes "-"
+pub hyphen_is : (word : List ℕ) → is_hyphen word ≡ true → word ≡ codes "-"
 hyphen_is [] h = absurd (cc)
 hyphen_is (b ∷ []) h = ap (λ (x : ℕ). x ∷ []) (eqb-true b 45 h)
 hyphen_is (b ∷ c ∷ word) h = absurd (cc)
@@ -206,6 +206,31 @@ bytes_of-text most (b ∷ bytes) is =
     let some : nat_le 1 (length (encode_lower (b ∷ bytes))) ≡ true = le-leb _ _ (omega arith) in
     let few : nat_le (length (encode_lower (b ∷ bytes))) (2 * most) ≡ true = le-leb _ _ (omega arith) in
     rw (plain, some, few) (digits_of-encoded (b ∷ bytes) is.each)
+
+-- ---- however many
+
+pub hexadecimal_of-some : (word bytes : List ℕ) → hexadecimal_of word ≡ Some bytes → (word ≡ bytes_text bytes) × AreBytes bytes
+unfolding hexadecimal_of
+hexadecimal_of-some word bytes h = elim (cases_Bool (is_hyphen word)) [
+  | inl is ↦
+      let none : [] ≡ bytes = some_some [] bytes (rw is at h) in
+      (hyphen_is word is ∙ ap bytes_text none, subst AreBytes none refl)
+  | inr other ↦ elim (cases_Bool (nat_le 1 (length word))) [
+    | inl good ↦
+        let some : 1 ≤ length word = grind (arith, nat_tests, good) in
+        let found = digits_of-some word bytes (rw (other, good) at h) in
+        (found.0 ∙ sym (some_text bytes (subst (λ (xs : List ℕ). 1 ≤ length xs) found.0 some)), found.1)
+    | inr bad ↦ absurd (let none : None ≡ Some bytes = rw (other, bad) at h in cc)
+  ]
+]
+
+pub hexadecimal_of-text : (bytes : List ℕ) → AreBytes bytes → hexadecimal_of (bytes_text bytes) ≡ Some bytes
+unfolding hexadecimal_of
+hexadecimal_of-text [] is = refl
+hexadecimal_of-text (b ∷ bytes) is =
+    let plain : is_hyphen (encode_lower (b ∷ bytes)) ≡ false = two_digits b bytes in
+    let some : nat_le 1 (length (encode_lower (b ∷ bytes))) ≡ true = le-leb _ _ (omega (arith, length-encoded (b ∷ bytes))) in
+    rw (plain, some) (digits_of-encoded (b ∷ bytes) is)
 
 -- digits that pass have bytes
 pub digits_of-good : (word : List ℕ) → length word % 2 ≡ 0 → list_all is_lower_digit word ≡ true → IsSome (digits_of word)

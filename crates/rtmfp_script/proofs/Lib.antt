@@ -5,6 +5,7 @@ pub mod AddressSteps
 pub mod NamesRead
 pub mod Addresses
 pub mod AddressesRead
+pub mod Contents
 pub mod Sound
 pub mod Complete
 pub mod Saying

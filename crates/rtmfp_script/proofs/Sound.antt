@@ -1,22 +1,25 @@
 -- What was read of a line is what it says.
-use Rattle.std.proofs.Common.{◌≡◌, ℕ, ◌^◌, ◌≤◌, true, List, [], ◌∷◌, ◌++◌, length, map, Option, Some, None, refl, sym, ap, ◌∙◌, subst, arith, inl, inr}
-use Rattle.std.specs.Prelude.{codes, nat_le, if◌then◌else◌}
+use Rattle.std.proofs.Common.{◌≡◌, ℕ, ◌^◌, ◌<◌, ◌≤◌, true, List, [], ◌∷◌, ◌++◌, length, map, Option, Some, None, refl, sym, ap, ◌∙◌, subst, arith, inl, inr}
+use Rattle.std.specs.Prelude.{codes, decimal, nat_le, if◌then◌else◌}
 use Rattle.std.specs.Str.{bytes_eq}
 use Rattle.std.proofs.lemmas.Bool.{cases_Bool, leb-true}
 use Rattle.std.proofs.lemmas.Slice.Eq.{bytes_eq-Decides}
 use Rattle.rtmfp_forms.specs.Address.{AddressParts}
 use Rattle.rtmfp_text.specs.AddressText.{address_text}
+use Rattle.rtmfp_text.specs.Words.{bytes_text, number_text}
 use Rattle.rtmfp_script.specs.declared.line.ScriptLine.{ScriptLine}
-use Rattle.rtmfp_script.specs.declared.line.ScriptLine.TheVariants.{Redirect, Open}
-use Rattle.rtmfp_script.specs.Grammar.{IsName, EachIsPlainAddress, IsWithin, IsLineOf, line_text, words_text, line_limit}
-use Rattle.rtmfp_script.specs.Fields.{split_of, name_of, cert_of, number_of, number_below, bytes_of, address_of, addresses_of, either, ◌>>=◌}
-use Rattle.rtmfp_script.specs.Lines.{end_of, introduce_of, row_said, redirect_of, at_of, open_of, open_to, cancel_of, close_of, tick_of, deliver_of, bent_of, inject_of, forge_of, word_of, step_of}
+use Rattle.rtmfp_script.specs.declared.line.ScriptLine.TheVariants.{Redirect, Open, Flow, Queue, Abandon, Finish}
+use Rattle.rtmfp_script.specs.declared.content.Content.{Content}
+use Rattle.rtmfp_script.specs.Grammar.{IsName, EachIsPlainAddress, AreBytes, IsBelow, IsContent, IsWithin, IsLineOf, content_text, word_for, line_text, words_text, line_limit}
+use Rattle.rtmfp_script.specs.Fields.{split_of, name_of, cert_of, number_of, number_below, bytes_of, hexadecimal_of, limit_by, content_of, address_of, addresses_of, either, ◌>>=◌}
+use Rattle.rtmfp_script.specs.Lines.{end_of, introduce_of, row_said, redirect_of, at_of, open_of, open_to, cancel_of, close_of, answers_of, flow_in, flow_of, queue_in, queue_of, abandon_of, finish_of, tick_of, deliver_of, bent_of, inject_of, forge_of, word_of, step_of}
 use Rattle.rtmfp_script.proofs.Splits.{some_some, bind_some, split_joined}
 use Rattle.rtmfp_script.proofs.Numbers.{number_of-some, number_below-some}
-use Rattle.rtmfp_script.proofs.Digits.{bytes_of-some}
+use Rattle.rtmfp_script.proofs.Digits.{bytes_of-some, hexadecimal_of-some}
 use Rattle.rtmfp_script.proofs.NamesRead.{rejoin, name_of-some, cert_of-some}
 use Rattle.rtmfp_script.proofs.Addresses.{address_of-some}
 use Rattle.rtmfp_script.proofs.AddressesRead.{addresses_of-some}
+use Rattle.rtmfp_script.proofs.Contents.{limit_by-some, answers_of-some, content_of-some}
 
 -- a word, and what stands behind its space, say this
 pub record IsSaid (word rest : List ℕ) (said : ScriptLine) : Type 0 where
@@ -254,6 +257,161 @@ redirect_sound rest said h =
       within = (n.1, p.1, some_address b.0.1 addresses.0 l.text_is, row.1, l.good);
     })
 
+-- ---- flows
+
+-- what opens a flow
+record IsFlow (name : List ℕ) (near : ℕ) (rest : List ℕ) (said : ScriptLine) : Type 0 where
+  priority : ℕ
+  metadata : List ℕ
+  answers : Option ℕ
+  is : Flow name near priority metadata answers ≡ said
+  text : rest ≡ decimal priority ++ 32 ∷ words_text (bytes_text metadata ∷ word_for answers)
+  small : priority < 256
+  bytes : AreBytes metadata
+  below : IsBelow (2 ^ 64) answers
+
+flow_in_sound : (name : List ℕ) (near : ℕ) (rest : List ℕ) (said : ScriptLine) → flow_in name near rest ≡ Some said → IsFlow name near rest said
+unfolding flow_in
+flow_in_sound name near rest said h =
+    let a = bind_some (split_of 32 rest) _ said h in
+    let priority = bind_some (number_below 256 a.0.0) _ said a.2 in
+    let b = bind_some (answers_of a.0.1) _ said priority.2 in
+    let metadata = bind_some (hexadecimal_of b.0.0) _ said b.2 in
+    let p = number_below-some 256 a.0.0 priority.0 priority.1 in
+    let t = answers_of-some a.0.1 b.0 b.1 in
+    let m = hexadecimal_of-some b.0.0 metadata.0 metadata.1 in
+    record {
+      priority = priority.0;
+      metadata = metadata.0;
+      answers = b.0.1;
+      is = some_some (Flow name near priority.0 metadata.0 b.0.1) said metadata.2;
+      text = rejoin 32 rest a.0.0 a.0.1 _ _ (split_joined 32 rest a.0 a.1) p.0 (t.text ∙ ap (λ (w : List ℕ). words_text (w ∷ word_for b.0.1)) m.0);
+      small = p.1;
+      bytes = m.1;
+      below = t.below;
+    }
+
+flow_sound : (rest : List ℕ) (said : ScriptLine) → flow_of rest ≡ Some said → IsSaid (codes "flow") rest said
+unfolding flow_of
+flow_sound rest said h =
+    let a = bind_some (split_of 32 rest) _ said h in
+    let b = bind_some (split_of 32 a.0.1) _ said a.2 in
+    let name = bind_some (name_of a.0.0) _ said b.2 in
+    let near = bind_some (number_below (2 ^ 32) b.0.0) _ said name.2 in
+    let n = name_of-some a.0.0 name.0 name.1 in
+    let i = number_below-some (2 ^ 32) b.0.0 near.0 near.1 in
+    let f = flow_in_sound name.0 near.0 b.0.1 said near.2 in
+    subst (IsSaid (codes "flow") rest) {x = Flow name.0 near.0 f.priority f.metadata f.answers} f.is (record {
+      text = after (codes "flow") rest _
+          (rejoin 32 rest a.0.0 a.0.1 _ _ (split_joined 32 rest a.0 a.1) n.0
+          (rejoin 32 a.0.1 b.0.0 b.0.1 _ _ (split_joined 32 a.0.1 b.0 b.1) i.0 f.text));
+      within = (n.1, i.1, f.small, f.bytes, f.below);
+    })
+
+-- what stands behind the session of a message
+abbrev queue_rest : ℕ → Option ℕ → Option ℕ → Content → List ℕ
+queue_rest flow deadline resends content = decimal flow ++ 32 ∷ (number_text deadline ++ 32 ∷ (number_text resends ++ 32 ∷ content_text content))
+
+-- what queues a message
+record IsQueue (name : List ℕ) (near : ℕ) (rest : List ℕ) (said : ScriptLine) : Type 0 where
+  flow : ℕ
+  deadline : Option ℕ
+  resends : Option ℕ
+  content : Content
+  is : Queue name near flow deadline resends content ≡ said
+  text : rest ≡ queue_rest flow deadline resends content
+  flow_fits : flow < 2 ^ 64
+  deadline_fits : IsBelow (2 ^ 64) deadline
+  resends_fit : IsBelow (2 ^ 32) resends
+  content_is : IsContent content
+
+queue_in_sound : (name : List ℕ) (near : ℕ) (rest : List ℕ) (said : ScriptLine) → queue_in name near rest ≡ Some said → IsQueue name near rest said
+unfolding queue_in
+queue_in_sound name near rest said h =
+    let a = bind_some (split_of 32 rest) _ said h in
+    let b = bind_some (split_of 32 a.0.1) _ said a.2 in
+    let c = bind_some (split_of 32 b.0.1) _ said b.2 in
+    let flow = bind_some (number_of a.0.0) _ said c.2 in
+    let deadline = bind_some (limit_by number_of b.0.0) _ said flow.2 in
+    let resends = bind_some (limit_by (number_below (2 ^ 32)) c.0.0) _ said deadline.2 in
+    let content = bind_some (content_of c.0.1) _ said resends.2 in
+    let f = number_of-some a.0.0 flow.0 flow.1 in
+    let d = limit_by-some number_of (2 ^ 64) b.0.0 deadline.0 number_of-some deadline.1 in
+    let r = limit_by-some (number_below (2 ^ 32)) (2 ^ 32) c.0.0 resends.0 (number_below-some (2 ^ 32)) resends.1 in
+    let x = content_of-some c.0.1 content.0 content.1 in
+    record {
+      flow = flow.0;
+      deadline = deadline.0;
+      resends = resends.0;
+      content = content.0;
+      is = some_some (Queue name near flow.0 deadline.0 resends.0 content.0) said content.2;
+      text =
+          rejoin 32 rest a.0.0 a.0.1 _ _ (split_joined 32 rest a.0 a.1) f.0
+          (rejoin 32 a.0.1 b.0.0 b.0.1 _ _ (split_joined 32 a.0.1 b.0 b.1) d.0
+          (rejoin 32 b.0.1 c.0.0 c.0.1 _ _ (split_joined 32 b.0.1 c.0 c.1) r.0 x.0));
+      flow_fits = f.1;
+      deadline_fits = d.1;
+      resends_fit = r.1;
+      content_is = x.1;
+    }
+
+queue_sound : (rest : List ℕ) (said : ScriptLine) → queue_of rest ≡ Some said → IsSaid (codes "queue") rest said
+unfolding queue_of
+queue_sound rest said h =
+    let a = bind_some (split_of 32 rest) _ said h in
+    let b = bind_some (split_of 32 a.0.1) _ said a.2 in
+    let name = bind_some (name_of a.0.0) _ said b.2 in
+    let near = bind_some (number_below (2 ^ 32) b.0.0) _ said name.2 in
+    let n = name_of-some a.0.0 name.0 name.1 in
+    let i = number_below-some (2 ^ 32) b.0.0 near.0 near.1 in
+    let q = queue_in_sound name.0 near.0 b.0.1 said near.2 in
+    subst (IsSaid (codes "queue") rest) {x = Queue name.0 near.0 q.flow q.deadline q.resends q.content} q.is (record {
+      text = after (codes "queue") rest (name.0 ++ 32 ∷ (decimal near.0 ++ 32 ∷ queue_rest q.flow q.deadline q.resends q.content))
+          (rejoin 32 rest a.0.0 a.0.1 _ (decimal near.0 ++ 32 ∷ queue_rest q.flow q.deadline q.resends q.content) (split_joined 32 rest a.0 a.1) n.0
+          (rejoin 32 a.0.1 b.0.0 b.0.1 _ (queue_rest q.flow q.deadline q.resends q.content) (split_joined 32 a.0.1 b.0 b.1) i.0 q.text));
+      within = (n.1, i.1, q.flow_fits, q.deadline_fits, q.resends_fit, q.content_is);
+    })
+
+abandon_sound : (rest : List ℕ) (said : ScriptLine) → abandon_of rest ≡ Some said → IsSaid (codes "abandon") rest said
+unfolding abandon_of
+abandon_sound rest said h =
+    let a = bind_some (split_of 32 rest) _ said h in
+    let b = bind_some (split_of 32 a.0.1) _ said a.2 in
+    let c = bind_some (split_of 32 b.0.1) _ said b.2 in
+    let name = bind_some (name_of a.0.0) _ said c.2 in
+    let near = bind_some (number_below (2 ^ 32) b.0.0) _ said name.2 in
+    let flow = bind_some (number_of c.0.0) _ said near.2 in
+    let seq = bind_some (number_of c.0.1) _ said flow.2 in
+    let n = name_of-some a.0.0 name.0 name.1 in
+    let i = number_below-some (2 ^ 32) b.0.0 near.0 near.1 in
+    let f = number_of-some c.0.0 flow.0 flow.1 in
+    let s = number_of-some c.0.1 seq.0 seq.1 in
+    subst (IsSaid (codes "abandon") rest) {x = Abandon name.0 near.0 flow.0 seq.0} (some_some _ _ seq.2) (record {
+      text = after (codes "abandon") rest _
+          (rejoin 32 rest a.0.0 a.0.1 _ _ (split_joined 32 rest a.0 a.1) n.0
+          (rejoin 32 a.0.1 b.0.0 b.0.1 _ _ (split_joined 32 a.0.1 b.0 b.1) i.0
+          (rejoin 32 b.0.1 c.0.0 c.0.1 _ _ (split_joined 32 b.0.1 c.0 c.1) f.0 s.0)));
+      within = (n.1, i.1, f.1, s.1);
+    })
+
+finish_sound : (rest : List ℕ) (said : ScriptLine) → finish_of rest ≡ Some said → IsSaid (codes "finish") rest said
+unfolding finish_of
+finish_sound rest said h =
+    let a = bind_some (split_of 32 rest) _ said h in
+    let b = bind_some (split_of 32 a.0.1) _ said a.2 in
+    let name = bind_some (name_of a.0.0) _ said b.2 in
+    let near = bind_some (number_below (2 ^ 32) b.0.0) _ said name.2 in
+    let flow = bind_some (number_of b.0.1) _ said near.2 in
+    let n = name_of-some a.0.0 name.0 name.1 in
+    let i = number_below-some (2 ^ 32) b.0.0 near.0 near.1 in
+    let f = number_of-some b.0.1 flow.0 flow.1 in
+    subst (IsSaid (codes "finish") rest) {x = Finish name.0 near.0 flow.0} (some_some _ _ flow.2) (record {
+      text = after (codes "finish") rest _
+          (rejoin 32 rest a.0.0 a.0.1 _ _ (split_joined 32 rest a.0 a.1) n.0
+          (rejoin 32 a.0.1 b.0.0 b.0.1 _ _ (split_joined 32 a.0.1 b.0 b.1) i.0 f.0));
+      within = (n.1, i.1, f.1);
+    })
+
 -- ---- by the first word
 
 -- the word is this one, or another
@@ -278,11 +436,15 @@ word_sound word rest said =
     (by word rest said (codes "open") (open_of rest) _ (open_sound rest said)
     (by word rest said (codes "cancel") (cancel_of rest) _ (cancel_sound rest said)
     (by word rest said (codes "close") (close_of rest) _ (close_sound rest said)
+    (by word rest said (codes "flow") (flow_of rest) _ (flow_sound rest said)
+    (by word rest said (codes "queue") (queue_of rest) _ (queue_sound rest said)
+    (by word rest said (codes "abandon") (abandon_of rest) _ (abandon_sound rest said)
+    (by word rest said (codes "finish") (finish_of rest) _ (finish_sound rest said)
     (by word rest said (codes "tick") (tick_of rest) _ (tick_sound rest said)
     (by word rest said (codes "deliver") (deliver_of rest) _ (deliver_sound rest said)
     (by word rest said (codes "bent") (bent_of rest) _ (bent_sound rest said)
     (by word rest said (codes "inject") (inject_of rest) _ (inject_sound rest said)
-    (by word rest said (codes "forge") (forge_of rest) None (forge_sound rest said) (λ h. absurd (cc h)))))))))))))
+    (by word rest said (codes "forge") (forge_of rest) None (forge_sound rest said) (λ h. absurd (cc h)))))))))))))))))
 
 pub step_sound : (line : List ℕ) (said : ScriptLine) → step_of line ≡ Some said → IsLineOf line said
 unfolding step_of

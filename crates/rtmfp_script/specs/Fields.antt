@@ -5,7 +5,9 @@ use Rattle.std.specs.Char.{is_ascii_digit}
 use Rattle.hex.specs.Hex.{decode_pairs}
 use Rattle.hex.specs.declared.error.FromHexError.{FromHexError}
 use Rattle.rtmfp_forms.specs.Address.{AddressParts}
-use Rattle.rtmfp_script.specs.Grammar.{is_name_byte}
+use Rattle.rtmfp_script.specs.Grammar.{is_name_byte, IsGiven}
+use Rattle.rtmfp_script.specs.declared.content.Content.{Content}
+use Rattle.rtmfp_script.specs.declared.content.Content.TheVariants.{Given, Counting}
 
 -- the second step, if the first gave a value
 infixl 10 ◌>>=◌
@@ -99,6 +101,37 @@ bytes_of most word =
     if is_hyphen word then Some []
     else if nat_le 1 (length word) && nat_le (length word) (2 * most) then digits_of word
     else None
+
+-- any number of bytes, with a hyphen for none
+unfoldable pub hexadecimal_of : List ℕ → Option (List ℕ)
+hexadecimal_of word =
+    if is_hyphen word then Some []
+    else if nat_le 1 (length word) then digits_of word
+    else None
+
+-- ---- limits
+
+-- a number that is read so, with a hyphen for none
+unfoldable pub limit_by : (List ℕ → Option ℕ) → List ℕ → Option (Option ℕ)
+limit_by read word =
+    if is_hyphen word then Some None else (read word >>= λ number. Some (Some number))
+
+-- ---- the bytes of a message
+
+unfoldable pub counting_of : List ℕ → Option Content
+counting_of digits = number_below (2 ^ 32) digits >>= λ count. only_if (nat_le count 2000000)
+    (Counting count)
+
+-- a star in front says that the bytes count
+unfoldable pub content_of : List ℕ → Option Content
+content_of word =
+    if slice_index word 0 == 42 then counting_of (drop 1 word)
+    else (hexadecimal_of word >>= λ bytes. Some (Given bytes))
+
+-- there are bytes, in digits
+abbrev pub IsSomeGiven : Option Content → Type 0
+IsSomeGiven None = ⊥
+IsSomeGiven (Some content) = IsGiven content
 
 -- ---- addresses
 

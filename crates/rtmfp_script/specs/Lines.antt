@@ -3,11 +3,11 @@ use Rattle.std.specs.Prelude.{ℕ, ◌^◌, nat_le, List, [], length, codes, Opt
 use Rattle.std.specs.Str.{bytes_eq}
 use Rattle.rtmfp_forms.specs.Address.{AddressParts}
 use Rattle.rtmfp_script.specs.declared.line.ScriptLine.{ScriptLine}
-use Rattle.rtmfp_script.specs.declared.line.ScriptLine.TheVariants.{End, Introduce, Redirect, At, Open, Cancel, Close, Tick, Deliver, Bent, Inject, Forge}
+use Rattle.rtmfp_script.specs.declared.line.ScriptLine.TheVariants.{End, Introduce, Redirect, At, Open, Cancel, Close, Flow, Queue, Abandon, Finish, Tick, Deliver, Bent, Inject, Forge}
 use Rattle.rtmfp_script.specs.declared.line.Said.{Said}
 use Rattle.rtmfp_script.specs.declared.line.Said.TheVariants.{Nothing, Step, Outside}
 use Rattle.rtmfp_script.specs.Grammar.{IsLineOf, IsSkipped, TakesMemory, line_limit}
-use Rattle.rtmfp_script.specs.Fields.{split_of, name_of, cert_of, number_of, number_below, bytes_of, address_of, addresses_of, either, ◌>>=◌}
+use Rattle.rtmfp_script.specs.Fields.{split_of, name_of, cert_of, number_of, number_below, bytes_of, hexadecimal_of, limit_by, content_of, address_of, addresses_of, either, ◌>>=◌}
 
 -- what stands behind the first word of a line
 unfoldable pub end_of : List ℕ → Option ScriptLine
@@ -65,6 +65,69 @@ close_of rest =
     number_below (2 ^ 32) a.1 >>= λ near.
     Some (Close name near)
 
+-- a word, and the number behind it, where there is one
+unfoldable pub answers_of : List ℕ → Option (List ℕ × Option ℕ)
+answers_of rest = either (Some (rest, None))
+    (λ parts. number_of parts.1 >>= λ number. Some (parts.0, Some number))
+    (split_of 32 rest)
+
+-- the flow that an end opens in a session
+unfoldable pub flow_in : List ℕ → ℕ → List ℕ → Option ScriptLine
+flow_in name near rest =
+    split_of 32 rest >>= λ a.
+    number_below 256 a.0 >>= λ priority.
+    answers_of a.1 >>= λ b.
+    hexadecimal_of b.0 >>= λ metadata.
+    Some (Flow name near priority metadata b.1)
+
+unfoldable pub flow_of : List ℕ → Option ScriptLine
+flow_of rest =
+    split_of 32 rest >>= λ a.
+    split_of 32 a.1 >>= λ b.
+    name_of a.0 >>= λ name.
+    number_below (2 ^ 32) b.0 >>= λ near.
+    flow_in name near b.1
+
+-- the message that an end queues in a session
+unfoldable pub queue_in : List ℕ → ℕ → List ℕ → Option ScriptLine
+queue_in name near rest =
+    split_of 32 rest >>= λ a.
+    split_of 32 a.1 >>= λ b.
+    split_of 32 b.1 >>= λ c.
+    number_of a.0 >>= λ flow.
+    limit_by number_of b.0 >>= λ deadline.
+    limit_by (number_below (2 ^ 32)) c.0 >>= λ resends.
+    content_of c.1 >>= λ content.
+    Some (Queue name near flow deadline resends content)
+
+unfoldable pub queue_of : List ℕ → Option ScriptLine
+queue_of rest =
+    split_of 32 rest >>= λ a.
+    split_of 32 a.1 >>= λ b.
+    name_of a.0 >>= λ name.
+    number_below (2 ^ 32) b.0 >>= λ near.
+    queue_in name near b.1
+
+unfoldable pub abandon_of : List ℕ → Option ScriptLine
+abandon_of rest =
+    split_of 32 rest >>= λ a.
+    split_of 32 a.1 >>= λ b.
+    split_of 32 b.1 >>= λ c.
+    name_of a.0 >>= λ name.
+    number_below (2 ^ 32) b.0 >>= λ near.
+    number_of c.0 >>= λ flow.
+    number_of c.1 >>= λ seq.
+    Some (Abandon name near flow seq)
+
+unfoldable pub finish_of : List ℕ → Option ScriptLine
+finish_of rest =
+    split_of 32 rest >>= λ a.
+    split_of 32 a.1 >>= λ b.
+    name_of a.0 >>= λ name.
+    number_below (2 ^ 32) b.0 >>= λ near.
+    number_of b.1 >>= λ flow.
+    Some (Finish name near flow)
+
 unfoldable pub tick_of : List ℕ → Option ScriptLine
 tick_of rest = name_of rest >>= λ name. Some (Tick name)
 
@@ -116,6 +179,10 @@ word_of word rest =
     else if bytes_eq word (codes "open") then open_of rest
     else if bytes_eq word (codes "cancel") then cancel_of rest
     else if bytes_eq word (codes "close") then close_of rest
+    else if bytes_eq word (codes "flow") then flow_of rest
+    else if bytes_eq word (codes "queue") then queue_of rest
+    else if bytes_eq word (codes "abandon") then abandon_of rest
+    else if bytes_eq word (codes "finish") then finish_of rest
     else if bytes_eq word (codes "tick") then tick_of rest
     else if bytes_eq word (codes "deliver") then deliver_of rest
     else if bytes_eq word (codes "bent") then bent_of rest

@@ -1,7 +1,7 @@
 //! Bytes in hexadecimal digits.
 ghost use Rattle.std.specs.Prelude.{◌≡◌, ◌<◌, ◌^◌, length, IfErr, IfOk, IsSome};
 ghost use Rattle.std.specs.List.{list_all};
-ghost use Rattle.rtmfp_script.specs.Fields.{is_lower_digit, digits_of, is_hyphen, bytes_of};
+ghost use Rattle.rtmfp_script.specs.Fields.{is_lower_digit, digits_of, is_hyphen, bytes_of, hexadecimal_of};
 
 use hex::FromHexError;
 use rtmfp_base::{Memory, Message};
@@ -18,6 +18,21 @@ pub(crate) fn bytes(alloc: Global, word: &[u8], most: usize) -> Result<Option<Me
         return Ok(Some(Message::of(Vec::new(alloc))));
     }
     if word.is_empty() || word.len() > 2 * most {
+        return Ok(None);
+    }
+    digits(alloc, word)
+}
+
+/// The bytes that a word has in digits, however many; a hyphen stands for none.
+#[tactic(auto, unfolding(crate::specs::Fields::hexadecimal_of))]
+pub(crate) fn hexadecimal(alloc: Global, word: &[u8]) -> Result<Option<Message>, Memory>
+    ensures value { IfOk result (λ bytes. bytes ≡ hexadecimal_of word.now) }
+    ensures memory { IfErr result (λ _. IsSome (hexadecimal_of word.now)) }
+{
+    if is_hyphen(word) {
+        return Ok(Some(Message::of(Vec::new(alloc))));
+    }
+    if word.is_empty() {
         return Ok(None);
     }
     digits(alloc, word)
@@ -71,7 +86,7 @@ pub(crate) fn thirty_two(word: &[u8]) -> Option<[u8; 32]>
     }
 }
 
-fn is_hyphen(word: &[u8]) -> bool
+pub(crate) fn is_hyphen(word: &[u8]) -> bool
     ensures { result ≡ is_hyphen word.now }
 {
     match word {

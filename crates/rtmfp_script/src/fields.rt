@@ -3,8 +3,9 @@ ghost use Rattle.std.specs.Prelude.{◌≡◌, ◌≤◌, ◌<◌, ◌^◌, ◌*
 ghost use Rattle.std.specs.Fmt.{decimal};
 ghost use Rattle.std.specs.List.{list_all};
 ghost use Rattle.rtmfp_script.specs.Grammar.{is_name_byte};
-ghost use Rattle.rtmfp_script.specs.Fields.{split_of, is_name, name_of, is_cert, cert_of, with_digit, number_from, is_unwritten, number_of, number_below};
+ghost use Rattle.rtmfp_script.specs.Fields.{split_of, is_name, name_of, is_cert, cert_of, with_digit, number_from, is_unwritten, number_of, number_below, limit_by};
 
+use crate::bytes::is_hyphen;
 use identity::Certificate;
 use memchr::memchr;
 use rtmfp_text::Name;
@@ -151,4 +152,26 @@ pub(crate) fn number8(word: &[u8]) -> Option<u8>
     ensures { result ≡ number_below 256 word.now }
 {
     u8::try_from(number(word)?).ok()
+}
+
+/// A number, with a hyphen for none.
+#[tactic(auto, unfolding(crate::specs::Fields::limit_by))]
+pub(crate) fn limit(word: &[u8]) -> Option<Option<u64>>
+    ensures { result ≡ limit_by number_of word.now }
+{
+    if is_hyphen(word) {
+        return Some(None);
+    }
+    Some(Some(number(word)?))
+}
+
+/// A number of 32 bits, with a hyphen for none.
+#[tactic(auto, unfolding(crate::specs::Fields::limit_by))]
+pub(crate) fn limit32(word: &[u8]) -> Option<Option<u32>>
+    ensures { result ≡ limit_by (number_below (2 ^ 32)) word.now }
+{
+    if is_hyphen(word) {
+        return Some(None);
+    }
+    Some(Some(number32(word)?))
 }

@@ -3,11 +3,14 @@
 
 mod address;
 mod bytes;
+mod content;
 mod fields;
+mod flows;
 mod line;
 mod reading;
 mod values;
 
+pub use content::Content;
 pub use fields::read_number;
 pub use line::{Candidates, Said, ScriptLine};
 pub use reading::read_line;

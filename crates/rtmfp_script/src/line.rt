@@ -1,6 +1,7 @@
 //! What a line of a script says.
 ghost use Rattle.std.specs.Prelude.{◌≡◌, ◌≤◌, ◌<◌, ◌++◌, ◌∷◌, [], length};
 
+use crate::content::Content;
 use identity::Certificate;
 use rtmfp_base::Message;
 use rtmfp_forms::Address;
@@ -116,6 +117,54 @@ pub enum ScriptLine {
         name: Name,
         /// The session's ID at this end.
         near: u32,
+    },
+    /// `flow NAME ID PRIORITY META` or `flow NAME ID PRIORITY META ANSWERS`: the end opens a flow.
+    Flow {
+        /// The end.
+        name: Name,
+        /// The session's ID at this end.
+        near: u32,
+        /// The flow's priority.
+        priority: u8,
+        /// The flow's metadata.
+        metadata: Message,
+        /// The ID of the flow that it answers.
+        answers: Option<u64>,
+    },
+    /// `queue NAME ID FLOW DEADLINE RESENDS BYTES`: the end queues a message in a flow.
+    Queue {
+        /// The end.
+        name: Name,
+        /// The session's ID at this end.
+        near: u32,
+        /// The flow's ID.
+        flow: u64,
+        /// The moment after which the message is abandoned.
+        deadline: Option<u64>,
+        /// How often a lost fragment of it is sent again at most.
+        resends: Option<u32>,
+        /// The message.
+        content: Content,
+    },
+    /// `abandon NAME ID FLOW SEQ`: the end gives a message up.
+    Abandon {
+        /// The end.
+        name: Name,
+        /// The session's ID at this end.
+        near: u32,
+        /// The flow's ID.
+        flow: u64,
+        /// The number of the message's first fragment.
+        seq: u64,
+    },
+    /// `finish NAME ID FLOW`: the end finishes a flow.
+    Finish {
+        /// The end.
+        name: Name,
+        /// The session's ID at this end.
+        near: u32,
+        /// The flow's ID.
+        flow: u64,
     },
     /// `tick NAME`: the end does what is due.
     Tick {

@@ -6,6 +6,7 @@ ghost use Rattle.rtmfp_script.specs.Lines.{end_of, introduce_of, redirect_of, ro
 use crate::address::{address, addresses};
 use crate::bytes::bytes;
 use crate::fields::{cert, name, number, number32, split};
+use crate::flows::{read_abandon, read_finish, read_flow, read_queue};
 use crate::line::{Candidates, MOST_OF_A_ROW, Said, ScriptLine};
 use rtmfp_base::Memory;
 use rtmfp_text::Name;
@@ -231,6 +232,18 @@ fn read_word(alloc: Global, word: &[u8], rest: &[u8]) -> Result<Option<ScriptLin
     if word == b"close".as_slice() {
         return Ok(read_close(rest));
     }
+    if word == b"flow".as_slice() {
+        return read_flow(alloc, rest);
+    }
+    if word == b"queue".as_slice() {
+        return read_queue(alloc, rest);
+    }
+    if word == b"abandon".as_slice() {
+        return Ok(read_abandon(rest));
+    }
+    if word == b"finish".as_slice() {
+        return Ok(read_finish(rest));
+    }
     if word == b"tick".as_slice() {
         return Ok(read_tick(rest));
     }
@@ -281,7 +294,8 @@ pub fn read_line(alloc: Global, line: &[u8]) -> Result<Said, Memory>
     // Nothing else can be said of it.
     ensures only { (other : Said) → Says line.now other → IfOk result (λ said. said ≡ other) }
 
-    // Memory can be wanting for the bytes of an `inject` or of a `forge` alone.
+    // Memory can be wanting for bytes in digits alone: those of an `inject`, of a `forge` and of a
+    // `queue`, and a flow's metadata.
     ensures memory { IfErr result (λ _. (said : ScriptLine) ×
         (IsLineOf line.now said × TakesMemory said)) }
 {
