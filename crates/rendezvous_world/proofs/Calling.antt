@@ -23,7 +23,7 @@ use Rattle.endpoint_laws.specs.History.{Happened, History, log_of, past_at, IsHo
 use Rattle.endpoint_laws.proofs.Opened.{opens_in_found}
 use Rattle.rendezvous_world.specs.declared.journal.JournalLine.{JournalLine}
 use Rattle.rendezvous_world.specs.declared.step.Step.{Step}
-use Rattle.rendezvous_world.specs.declared.step.Step.TheVariants.{End, At, Introduce, Redirect, Open, Cancel, Close, Deliver, Bent, Inject, Forge, Tick}
+use Rattle.rendezvous_world.specs.declared.step.Step.TheVariants.{End, At, Introduce, Redirect, Open, Cancel, Close, Flow, Queue, Abandon, Finish, Deliver, Bent, Inject, Forge, Tick}
 use Rattle.rendezvous_world.specs.declared.step.StepFault.{StepFault}
 use Rattle.rendezvous_world.specs.declared.step.StepFault.TheVariants.{NoEnd, NoDatagram, BadStep, Forged}
 use Rattle.rendezvous_world.specs.Seen.{EndSeen, Seen, setup_at}
@@ -87,6 +87,10 @@ has_peer w (At moment) e = tt
 has_peer w (Open end peer list) e = not_missing w peer (or_false (is_missing w end) (is_missing w peer) e).1
 has_peer w (Cancel end n) e = tt
 has_peer w (Close end near) e = tt
+has_peer w (Flow end near priority metadata answers) e = tt
+has_peer w (Queue end near flow options message) e = tt
+has_peer w (Abandon end near flow seq) e = tt
+has_peer w (Finish end near flow) e = tt
 has_peer w (Introduce end) e = tt
 has_peer w (Redirect end peer list) e = not_missing w peer (or_false (is_missing w end) (is_missing w peer) e).1
 has_peer w (Deliver number end from) e = tt
@@ -114,6 +118,10 @@ is_call ends number datagram (At moment) small bytes = tt
 is_call ends number datagram (Open end peer list) small bytes = (length-sha256 (setup_at ends peer).cert, length-two 0 number, small, length-two 2 number)
 is_call ends number datagram (Cancel end n) small bytes = tt
 is_call ends number datagram (Close end near) small bytes = tt
+is_call ends number datagram (Flow end near priority metadata answers) small bytes = tt
+is_call ends number datagram (Queue end near flow options message) small bytes = tt
+is_call ends number datagram (Abandon end near flow seq) small bytes = tt
+is_call ends number datagram (Finish end near flow) small bytes = tt
 is_call ends number datagram (Introduce end) small bytes = tt
 is_call ends number datagram (Redirect end peer list) small bytes = tt
 is_call ends number datagram (Deliver sent end from) small bytes = (bytes, length-two 0 number, small, length-two 1 number)
@@ -128,6 +136,10 @@ given_from ends number datagram last moment (End name max_peers max_sessions cer
 given_from ends number datagram last moment (At at) le = le
 given_from ends number datagram last moment (Open end peer list) le = le
 given_from ends number datagram last moment (Cancel end n) le = tt
+given_from ends number datagram last moment (Flow end near priority metadata answers) le = tt
+given_from ends number datagram last moment (Queue end near flow options message) le = tt
+given_from ends number datagram last moment (Abandon end near flow seq) le = tt
+given_from ends number datagram last moment (Finish end near flow) le = tt
 given_from ends number datagram last moment (Close end near) le = le
 given_from ends number datagram last moment (Introduce end) le = tt
 given_from ends number datagram last moment (Redirect end peer list) le = tt
@@ -144,6 +156,10 @@ draws_line ends number datagram (At moment) entries h = inl h
 draws_line ends number datagram (Open end peer list) entries h = h
 draws_line ends number datagram (Cancel end n) entries h = inl h
 draws_line ends number datagram (Close end near) entries h = inl h
+draws_line ends number datagram (Flow end near priority metadata answers) entries h = inl h
+draws_line ends number datagram (Queue end near flow options message) entries h = inl h
+draws_line ends number datagram (Abandon end near flow seq) entries h = inl h
+draws_line ends number datagram (Finish end near flow) entries h = inl h
 draws_line ends number datagram (Introduce end) entries h = inl h
 draws_line ends number datagram (Redirect end peer list) entries h = inl h
 draws_line ends number datagram (Deliver sent end from) entries h = h
@@ -183,6 +199,10 @@ module _ (w : Seen) (is : IsWorld w) where
   honest_step number end (Open who peer list) there unforged = tt
   honest_step number end (Cancel who n) there unforged = tt
   honest_step number end (Close who near) there unforged = tt
+  honest_step number end (Flow who near priority metadata answers) there unforged = tt
+  honest_step number end (Queue who near flow options message) there unforged = tt
+  honest_step number end (Abandon who near flow seq) there unforged = tt
+  honest_step number end (Finish who near flow) there unforged = tt
   honest_step number end (Introduce who) there unforged = tt
   honest_step number end (Redirect who peer list) there unforged = tt
   honest_step number end (Deliver sent who from) there unforged = honest_datagram who end (datagram_of (sent_in w.lines) (Deliver sent who from)) from (draws_of number) there unforged

@@ -11,26 +11,28 @@ use Rattle.endpoint_model.specs.declared.answers.OpenRefusal.TheVariants.{Memory
 use Rattle.endpoint_model.specs.declared.answers.CallRefusal.{CallRefusal}
 use Rattle.endpoint_model.specs.declared.answers.CallRefusal.TheVariants.{NoAttempt, NoSession, Memory as NoMemoryToCall}
 use Rattle.endpoint_model.specs.declared.answers.Stopped.{Stopped as Stop}
-use Rattle.endpoint_model.specs.Event.{Call, Open as OpenCall, Cancel as CancelCall, Close as CloseCall, AddRow, Introduce as IntroduceCall, Receive, Tick as TickCall, Answer, Began, Done, NotOpened, Refused as RefusedCall, NotAdded, Stopped, OutOfMemory, Event}
+use Rattle.endpoint_model.specs.Event.{Call, Open as OpenCall, Cancel as CancelCall, Close as CloseCall, AddRow, Introduce as IntroduceCall, OnFlows, Receive, Tick as TickCall, Answer, Began, Done, NotOpened, Refused as RefusedCall, NotAdded, Stopped, OutOfMemory, Event}
 use Rattle.endpoint_model.specs.State.{State, Did, Does, after_entries, at_moment, nothing, then_do}
 use Rattle.endpoint_model.specs.Admission.{admission}
 use Rattle.endpoint_model.specs.InSessions.{held_row, closing}
+use Rattle.endpoint_model.specs.FlowCall.{FlowCall}
+use Rattle.endpoint_model.specs.OnFlows.{flow_called}
 use Rattle.endpoint_model.specs.Effects.{cancelling, opening, received, tick_once, ticks, first_due, item_done}
 use Rattle.endpoint_model.specs.Introducing.{with_redirect, introducing}
 use Rattle.introducer.specs.declared.refusal.RowRefusal.{RowRefusal}
 use Rattle.introducer.specs.declared.refusal.RowRefusal.TheVariants.{Memory as NoMemoryForRow}
-use Rattle.endpoint_model.specs.Log.{Answers, Step as StepOf, not_opened, not_added}
+use Rattle.endpoint_model.specs.Log.{Answers, Step as StepOf, not_opened, not_added, not_called}
 use Rattle.rendezvous_world.specs.declared.journal.JournalLine.{JournalLine}
 use Rattle.rendezvous_world.specs.declared.journal.Refused.{Refused}
 use Rattle.rendezvous_world.specs.declared.journal.Refused.TheVariants.{Open as OpenRefused, Call as CallRefused, Row as RowRefused}
 use Rattle.rendezvous_world.specs.declared.step.Step.{Step}
-use Rattle.rendezvous_world.specs.declared.step.Step.TheVariants.{End, At, Introduce, Redirect, Open, Cancel, Close, Deliver, Bent, Inject, Forge, Tick}
+use Rattle.rendezvous_world.specs.declared.step.Step.TheVariants.{End, At, Introduce, Redirect, Open, Cancel, Close, Flow, Queue, Abandon, Finish, Deliver, Bent, Inject, Forge, Tick}
 use Rattle.rendezvous_world.specs.Seen.{EndSeen, Seen}
 use Rattle.rendezvous_world.specs.Same.{AreSameWorlds, without_room}
 use Rattle.rendezvous_world.specs.Sent.{Sent, sent_among, sent_in}
 use Rattle.rendezvous_world.specs.Datagrams.{datagram_of}
 use Rattle.rendezvous_world.specs.History.{answer_of, answer_to_call, call_of, event_of, moment_given}
-use Rattle.rendezvous_world.specs.Stepping.{Called, HasItsAnswer, Stepped, new_end, new_setup, with_end, with_moment, with_state}
+use Rattle.rendezvous_world.specs.Stepping.{Called, HasItsAnswer, IsDoneOrRefused, Stepped, new_end, new_setup, with_end, with_moment, with_state}
 
 -- ---- ticks
 
@@ -132,6 +134,18 @@ one_introduce s Done Done xs ys t r p q h k = same_did Done Done (nothing (intro
 one_introduce s Done other xs ys t r p q h k = absurd k
 one_introduce s answer other xs ys t r p q h k = absurd h
 
+-- a call on flows that isn't refused for want of memory
+one_flow : (s : State) (near : ℕ) (call : FlowCall) (a b : Answer) (xs ys : List Entry) (t r : State) → IsWhole a → IsWhole b →
+    Answers s (OnFlows near call) a xs t → Answers s (OnFlows near call) b ys r → SameAnswer a b xs ys t r
+one_flow s near call Done Done xs ys t r p q h k = same_did Done Done (flow_called s near call) (flow_called s near call) xs ys t r refl refl h.1 k.1
+one_flow s near call Done (RefusedCall refusal) xs ys t r p q h k = absurd (q (k.0 ∙ ap not_called h.0))
+one_flow s near call Done other xs ys t r p q h k = absurd k
+one_flow s near call (RefusedCall refusal) Done xs ys t r p q h k = absurd (p (h.0 ∙ ap not_called k.0))
+one_flow s near call (RefusedCall refusal) (RefusedCall other) xs ys t r p q h k =
+    same_did (RefusedCall refusal) (RefusedCall other) (nothing s) (nothing s) xs ys t r (ap RefusedCall (h.0 ∙ sym k.0)) refl h.1 k.1
+one_flow s near call (RefusedCall refusal) other xs ys t r p q h k = absurd k
+one_flow s near call answer other xs ys t r p q h k = absurd h
+
 one_receive : (s : State) (from : AddressParts) (datagram : List ℕ) (draws : Draws) (a b : Answer) (xs ys : List Entry) (t r : State) → IsWhole a → IsWhole b →
     Answers s (Receive from datagram draws) a xs t → Answers s (Receive from datagram draws) b ys r → SameAnswer a b xs ys t r
 one_receive s from datagram draws Done Done xs ys t r p q h k =
@@ -157,10 +171,18 @@ one_call s (CancelCall n) a b xs ys t r p q h k = one_cancel s n a b xs ys t r p
 one_call s (CloseCall near) a b xs ys t r p q h k = one_close s near a b xs ys t r p q h k
 one_call s (AddRow print addresses) a b xs ys t r p q h k = one_row s print addresses a b xs ys t r p q h k
 one_call s IntroduceCall a b xs ys t r p q h k = one_introduce s a b xs ys t r p q h k
+one_call s (OnFlows near call) a b xs ys t r p q h k = one_flow s near call a b xs ys t r p q h k
 one_call s (Receive from datagram draws) a b xs ys t r p q h k = one_receive s from datagram draws a b xs ys t r p q h k
 one_call s (TickCall draws) a b xs ys t r p q h k = one_tick s draws a b xs ys t r p q h k
 
 -- ---- what a line tells of its answer
+
+-- a call that isn't refused for want of memory
+called_whole : (refused : Option Refused) → IsDoneOrRefused refused → IsWhole (answer_to_call refused)
+called_whole None h = tt
+called_whole (Some (OpenRefused refusal)) h = λ e. h.opened (ap (λ (x : OpenRefusal). Some (OpenRefused x)) e)
+called_whole (Some (CallRefused refusal)) h = λ e. h.called (ap (λ (x : CallRefusal). Some (CallRefused x)) e)
+called_whole (Some (RowRefused refusal)) h = λ e. h.added (ap (λ (x : RowRefusal). Some (RowRefused x)) e)
 
 whole : (step : Step) (refused : Option Refused) (stopped : Option Stop) (entries : List Entry) → HasItsAnswer step refused stopped → is_some stopped ≡ false → IsWhole (answer_of step refused stopped entries)
 whole (End name max_peers max_sessions cert) refused stopped entries h none = absurd h
@@ -169,19 +191,14 @@ whole (Open end peer list) None stopped entries h none = tt
 whole (Open end peer list) (Some (OpenRefused refusal)) stopped entries h none = λ e. h.1.opened (ap (λ (x : OpenRefusal). Some (OpenRefused x)) e)
 whole (Open end peer list) (Some (CallRefused refusal)) stopped entries h none = λ e. h.1.called (ap (λ (x : CallRefusal). Some (CallRefused x)) e)
 whole (Open end peer list) (Some (RowRefused refusal)) stopped entries h none = λ e. h.1.added (ap (λ (x : RowRefusal). Some (RowRefused x)) e)
-whole (Cancel end n) None stopped entries h none = tt
-whole (Cancel end n) (Some (OpenRefused refusal)) stopped entries h none = λ e. h.1.opened (ap (λ (x : OpenRefusal). Some (OpenRefused x)) e)
-whole (Cancel end n) (Some (CallRefused refusal)) stopped entries h none = λ e. h.1.called (ap (λ (x : CallRefusal). Some (CallRefused x)) e)
-whole (Cancel end n) (Some (RowRefused refusal)) stopped entries h none = λ e. h.1.added (ap (λ (x : RowRefusal). Some (RowRefused x)) e)
-whole (Close end near) None stopped entries h none = tt
-whole (Close end near) (Some (OpenRefused refusal)) stopped entries h none = λ e. h.1.opened (ap (λ (x : OpenRefusal). Some (OpenRefused x)) e)
-whole (Close end near) (Some (CallRefused refusal)) stopped entries h none = λ e. h.1.called (ap (λ (x : CallRefusal). Some (CallRefused x)) e)
-whole (Close end near) (Some (RowRefused refusal)) stopped entries h none = λ e. h.1.added (ap (λ (x : RowRefusal). Some (RowRefused x)) e)
+whole (Cancel end n) refused stopped entries h none = called_whole refused h.1
+whole (Close end near) refused stopped entries h none = called_whole refused h.1
+whole (Flow end near priority metadata answers) refused stopped entries h none = called_whole refused h.1
+whole (Queue end near flow options message) refused stopped entries h none = called_whole refused h.1
+whole (Abandon end near flow seq) refused stopped entries h none = called_whole refused h.1
+whole (Finish end near flow) refused stopped entries h none = called_whole refused h.1
 whole (Introduce end) refused stopped entries h none = tt
-whole (Redirect end peer list) None stopped entries h none = tt
-whole (Redirect end peer list) (Some (OpenRefused refusal)) stopped entries h none = λ e. h.1.opened (ap (λ (x : OpenRefusal). Some (OpenRefused x)) e)
-whole (Redirect end peer list) (Some (CallRefused refusal)) stopped entries h none = λ e. h.1.called (ap (λ (x : CallRefusal). Some (CallRefused x)) e)
-whole (Redirect end peer list) (Some (RowRefused refusal)) stopped entries h none = λ e. h.1.added (ap (λ (x : RowRefusal). Some (RowRefused x)) e)
+whole (Redirect end peer list) refused stopped entries h none = called_whole refused h.1
 whole (Deliver number end from) refused None entries h none = tt
 whole (Deliver number end from) refused (Some stop) entries h none = absurd (cc)
 whole (Bent number place end from) refused None entries h none = tt
@@ -233,6 +250,10 @@ one_refusal (Open end peer list) (Some (CallRefused r)) (Some (OpenRefused s)) p
 one_refusal (Open end peer list) (Some (CallRefused r)) (Some (CallRefused s)) p q xs ys h k e = let same : r ≡ s = cc in ap (λ (x : CallRefusal). Some (CallRefused x)) same
 one_refusal (Cancel end n) a b p q xs ys h k e = same_refusal a b e
 one_refusal (Close end near) a b p q xs ys h k e = same_refusal a b e
+one_refusal (Flow end near priority metadata answers) a b p q xs ys h k e = same_refusal a b e
+one_refusal (Queue end near flow options message) a b p q xs ys h k e = same_refusal a b e
+one_refusal (Abandon end near flow seq) a b p q xs ys h k e = same_refusal a b e
+one_refusal (Finish end near flow) a b p q xs ys h k e = same_refusal a b e
 one_refusal (Introduce end) a b p q xs ys h k e = h.0 ∙ sym k.0
 one_refusal (Redirect end peer list) a b p q xs ys h k e = same_refusal a b e
 one_refusal (Deliver number end from) a b p q xs ys h k e = h ∙ sym k
@@ -373,6 +394,10 @@ same_step w v n (At moment) t s before h k = same_by (with_moment w moment) (wit
 same_step w v n (Open end peer list) t s before h k = same_called w v n (Open end peer list) t s before h k
 same_step w v n (Cancel end number) t s before h k = same_called w v n (Cancel end number) t s before h k
 same_step w v n (Close end near) t s before h k = same_called w v n (Close end near) t s before h k
+same_step w v n (Flow end near priority metadata answers) t s before h k = same_called w v n (Flow end near priority metadata answers) t s before h k
+same_step w v n (Queue end near flow options message) t s before h k = same_called w v n (Queue end near flow options message) t s before h k
+same_step w v n (Abandon end near flow seq) t s before h k = same_called w v n (Abandon end near flow seq) t s before h k
+same_step w v n (Finish end near flow) t s before h k = same_called w v n (Finish end near flow) t s before h k
 same_step w v n (Introduce end) t s before h k = same_called w v n (Introduce end) t s before h k
 same_step w v n (Redirect end peer list) t s before h k = same_called w v n (Redirect end peer list) t s before h k
 same_step w v n (Deliver sent end from) t s before h k = same_called w v n (Deliver sent end from) t s before h k

@@ -8,7 +8,7 @@ use Rattle.crypto_profile.specs.declared.keys.Context.TheVariants.{Startup}
 use Rattle.crypto_profile.specs.Keys.{same_context}
 use Rattle.crypto_profile.proofs.Contexts.{same_itself}
 use Rattle.endpoint_model.specs.declared.entry.Entry.{Entry}
-use Rattle.endpoint_model.specs.declared.entry.Entry.TheVariants.{Fact, Closed, Moved, Discard, Out}
+use Rattle.endpoint_model.specs.declared.entry.Entry.TheVariants.{Fact, Closed, Moved, FlowOpened, Queued, Finished, Abandoned, Handed, Discard, Out}
 use Rattle.endpoint_model.specs.declared.config.Draws.{Draws}
 use Rattle.rtmfp_forms.specs.Address.{AddressParts}
 use Rattle.endpoint_model.specs.Event.{Setup, Receive}
@@ -53,6 +53,16 @@ module _ (bytes : List ℕ) (context : Context) where
   in_entries by (Closed near ∷ entries) rest (inr h) = in_entries by entries rest h
   in_entries by (Moved near to ∷ entries) rest (inl h) = absurd h
   in_entries by (Moved near to ∷ entries) rest (inr h) = in_entries by entries rest h
+  in_entries by (FlowOpened near flow ∷ entries) rest (inl h) = absurd h
+  in_entries by (FlowOpened near flow ∷ entries) rest (inr h) = in_entries by entries rest h
+  in_entries by (Queued near flow seq message ∷ entries) rest (inl h) = absurd h
+  in_entries by (Queued near flow seq message ∷ entries) rest (inr h) = in_entries by entries rest h
+  in_entries by (Finished near flow seq ∷ entries) rest (inl h) = absurd h
+  in_entries by (Finished near flow seq ∷ entries) rest (inr h) = in_entries by entries rest h
+  in_entries by (Abandoned near flow seq ∷ entries) rest (inl h) = absurd h
+  in_entries by (Abandoned near flow seq ∷ entries) rest (inr h) = in_entries by entries rest h
+  in_entries by (Handed near flow seq message ∷ entries) rest (inl h) = absurd h
+  in_entries by (Handed near flow seq message ∷ entries) rest (inr h) = in_entries by entries rest h
   in_entries by (Discard place cause ∷ entries) rest (inl h) = absurd h
   in_entries by (Discard place cause ∷ entries) rest (inr h) = in_entries by entries rest h
   in_entries by (Out to datagram sealed_for ∷ entries) rest (inl h) =
@@ -65,6 +75,11 @@ module _ (bytes : List ℕ) (context : Context) where
   past_entries by (Fact fact ∷ entries) rest e = past_entries by entries rest e
   past_entries by (Closed near ∷ entries) rest e = past_entries by entries rest e
   past_entries by (Moved near to ∷ entries) rest e = past_entries by entries rest e
+  past_entries by (FlowOpened near flow ∷ entries) rest e = past_entries by entries rest e
+  past_entries by (Queued near flow seq message ∷ entries) rest e = past_entries by entries rest e
+  past_entries by (Finished near flow seq ∷ entries) rest e = past_entries by entries rest e
+  past_entries by (Abandoned near flow seq ∷ entries) rest e = past_entries by entries rest e
+  past_entries by (Handed near flow seq message ∷ entries) rest e = past_entries by entries rest e
   past_entries by (Discard place cause ∷ entries) rest e = past_entries by entries rest e
   past_entries by (Out to datagram sealed_for ∷ entries) rest e =
       or_second (is_sent bytes context (record { by = by; to = to; datagram = datagram; context = sealed_for })) (list_any (is_sent bytes context) (sent_among by entries ++ rest)) (past_entries by entries rest e)

@@ -15,7 +15,7 @@ use Rattle.rendezvous_world.specs.declared.journal.JournalLine.{JournalLine}
 use Rattle.rendezvous_world.specs.declared.journal.Refused.{Refused}
 use Rattle.rendezvous_world.specs.declared.step.StepFault.TheVariants.{Memory}
 use Rattle.rendezvous_world.specs.declared.step.Step.{Step}
-use Rattle.rendezvous_world.specs.declared.step.Step.TheVariants.{End, At, Introduce, Redirect, Open, Cancel, Close, Deliver, Bent, Inject, Forge, Tick}
+use Rattle.rendezvous_world.specs.declared.step.Step.TheVariants.{End, At, Introduce, Redirect, Open, Cancel, Close, Flow, Queue, Abandon, Finish, Deliver, Bent, Inject, Forge, Tick}
 use Rattle.rendezvous_world.specs.Seen.{EndSeen, Seen, print_at}
 use Rattle.rendezvous_world.specs.Line.{IsOne}
 use Rattle.rendezvous_world.specs.Sent.{Sent, sent_among, sent_in}
@@ -79,6 +79,10 @@ call_same ends print line bytes datagram (At moment) p b = refl
 call_same ends print line bytes datagram (Open end peer list) p b = ap (λ (x : List ℕ). call_by x line bytes (Open end peer list)) p
 call_same ends print line bytes datagram (Cancel end n) p b = refl
 call_same ends print line bytes datagram (Close end near) p b = refl
+call_same ends print line bytes datagram (Flow end near priority metadata answers) p b = refl
+call_same ends print line bytes datagram (Queue end near flow options message) p b = refl
+call_same ends print line bytes datagram (Abandon end near flow seq) p b = refl
+call_same ends print line bytes datagram (Finish end near flow) p b = refl
 call_same ends print line bytes datagram (Introduce end) p b = refl
 call_same ends print line bytes datagram (Redirect end peer list) p b = ap (λ (x : List ℕ). call_by x line bytes (Redirect end peer list)) p
 call_same ends print line bytes datagram (Deliver number end from) p b = ap (λ (x : List ℕ). call_by print line x (Deliver number end from)) b
@@ -94,6 +98,10 @@ undone_is ends print moment (End name max_peers max_sessions cert) old new p h =
 undone_is ends print moment (At at) old new p h = absurd h
 undone_is ends print moment (Open end peer list) old new p h = inr (subst (λ (x : List ℕ). open_refusal old x list ≡ None) p h.0, h.1)
 undone_is ends print moment (Cancel end n) old new p h = inl h
+undone_is ends print moment (Flow end near priority metadata answers) old new p h = inl h
+undone_is ends print moment (Queue end near flow options message) old new p h = inl h
+undone_is ends print moment (Abandon end near flow seq) old new p h = inl h
+undone_is ends print moment (Finish end near flow) old new p h = inl h
 undone_is ends print moment (Close end near) old new p h = inr h
 undone_is ends print moment (Introduce end) old new p h = absurd h
 undone_is ends print moment (Redirect end peer list) old new p h = inl h
@@ -118,6 +126,10 @@ answered_one (At moment) refused stopped h = absurd h
 answered_one (Open end peer list) refused stopped h = only_refused refused stopped h.0
 answered_one (Cancel end n) refused stopped h = only_refused refused stopped h.0
 answered_one (Close end near) refused stopped h = only_refused refused stopped h.0
+answered_one (Flow end near priority metadata answers) refused stopped h = only_refused refused stopped h.0
+answered_one (Queue end near flow options message) refused stopped h = only_refused refused stopped h.0
+answered_one (Abandon end near flow seq) refused stopped h = only_refused refused stopped h.0
+answered_one (Finish end near flow) refused stopped h = only_refused refused stopped h.0
 answered_one (Introduce end) refused stopped h = only_refused refused stopped h.1
 answered_one (Redirect end peer list) refused stopped h = only_refused refused stopped h.0
 answered_one (Deliver number end from) refused stopped h = only_stopped refused stopped h

@@ -6,7 +6,7 @@ use Rattle.std.proofs.lemmas.Bool.Decides.{nat_tests}
 use Rattle.std.proofs.lemmas.Bool.{ltb-true, ltb-false, lt-ltb}
 use Rattle.std.proofs.lemmas.List.{get_or_default}
 use Rattle.endpoint_model.specs.declared.entry.Entry.{Entry}
-use Rattle.endpoint_model.specs.declared.entry.Entry.TheVariants.{Fact, Closed, Moved, Discard, Out}
+use Rattle.endpoint_model.specs.declared.entry.Entry.TheVariants.{Fact, Closed, Moved, FlowOpened, Queued, Finished, Abandoned, Handed, Discard, Out}
 use Rattle.endpoint_model.specs.Added.{AreShort}
 use Rattle.rendezvous_world.specs.declared.journal.JournalLine.{JournalLine}
 use Rattle.rendezvous_world.specs.declared.sent.Letter.{Letter}
@@ -148,6 +148,11 @@ nth_short by [] n sent h e = absurd (cc)
 nth_short by (Fact fact ∷ rest) n sent h e = nth_short by rest n sent (others_short (Fact fact) rest h) e
 nth_short by (Closed near ∷ rest) n sent h e = nth_short by rest n sent (others_short (Closed near) rest h) e
 nth_short by (Moved near to ∷ rest) n sent h e = nth_short by rest n sent (others_short (Moved near to) rest h) e
+nth_short by (FlowOpened near flow ∷ rest) n sent h e = nth_short by rest n sent (others_short (FlowOpened near flow) rest h) e
+nth_short by (Queued near flow seq message ∷ rest) n sent h e = nth_short by rest n sent (others_short (Queued near flow seq message) rest h) e
+nth_short by (Finished near flow seq ∷ rest) n sent h e = nth_short by rest n sent (others_short (Finished near flow seq) rest h) e
+nth_short by (Abandoned near flow seq ∷ rest) n sent h e = nth_short by rest n sent (others_short (Abandoned near flow seq) rest h) e
+nth_short by (Handed near flow seq message ∷ rest) n sent h e = nth_short by rest n sent (others_short (Handed near flow seq message) rest h) e
 nth_short by (Discard place cause ∷ rest) n sent h e = nth_short by rest n sent (others_short (Discard place cause) rest h) e
 nth_short by (Out to datagram context ∷ rest) n sent h e =
     short_step (n == 0) (n == 1) (record { by = by; to = to; datagram = datagram; context = context }) sent (nth (sent_among by rest) (n - 1)) e (h 0 (Out to datagram context) (omega arith))

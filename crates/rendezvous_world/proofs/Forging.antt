@@ -8,7 +8,7 @@ use Rattle.crypto_profile.specs.declared.keys.Context.{Context}
 use Rattle.crypto_profile.specs.Keys.{same_context}
 use Rattle.crypto_profile.proofs.Contexts.{same_context_is}
 use Rattle.endpoint_model.specs.declared.entry.Entry.{Entry}
-use Rattle.endpoint_model.specs.declared.entry.Entry.TheVariants.{Fact, Closed, Moved, Discard, Out}
+use Rattle.endpoint_model.specs.declared.entry.Entry.TheVariants.{Fact, Closed, Moved, FlowOpened, Queued, Finished, Abandoned, Handed, Discard, Out}
 use Rattle.endpoint_laws.specs.History.{History, HasOut, WasSent}
 use Rattle.endpoint_laws.specs.OpensIn.{opens_in}
 use Rattle.rendezvous_world.specs.declared.journal.JournalLine.{JournalLine}
@@ -44,6 +44,11 @@ module _ (bytes : List ℕ) (context : Context) where
   among_entries by (Fact fact ∷ entries) rest e = elim (among_entries by entries rest e) [ inl h ↦ inl (inr h) | inr h ↦ inr h ]
   among_entries by (Closed near ∷ entries) rest e = elim (among_entries by entries rest e) [ inl h ↦ inl (inr h) | inr h ↦ inr h ]
   among_entries by (Moved near to ∷ entries) rest e = elim (among_entries by entries rest e) [ inl h ↦ inl (inr h) | inr h ↦ inr h ]
+  among_entries by (FlowOpened near flow ∷ entries) rest e = elim (among_entries by entries rest e) [ inl h ↦ inl (inr h) | inr h ↦ inr h ]
+  among_entries by (Queued near flow seq message ∷ entries) rest e = elim (among_entries by entries rest e) [ inl h ↦ inl (inr h) | inr h ↦ inr h ]
+  among_entries by (Finished near flow seq ∷ entries) rest e = elim (among_entries by entries rest e) [ inl h ↦ inl (inr h) | inr h ↦ inr h ]
+  among_entries by (Abandoned near flow seq ∷ entries) rest e = elim (among_entries by entries rest e) [ inl h ↦ inl (inr h) | inr h ↦ inr h ]
+  among_entries by (Handed near flow seq message ∷ entries) rest e = elim (among_entries by entries rest e) [ inl h ↦ inl (inr h) | inr h ↦ inr h ]
   among_entries by (Discard place cause ∷ entries) rest e = elim (among_entries by entries rest e) [ inl h ↦ inl (inr h) | inr h ↦ inr h ]
   among_entries by (Out to datagram sealed_for ∷ entries) rest e =
       elim (or_either (is_sent bytes context (record { by = by; to = to; datagram = datagram; context = sealed_for })) (list_any (is_sent bytes context) (sent_among by entries ++ rest)) e) [

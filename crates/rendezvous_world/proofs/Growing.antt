@@ -4,7 +4,7 @@ use Rattle.std.proofs.lemmas.Bool.Decides.{nat_tests}
 use Rattle.endpoint_laws.specs.Laws.{AreBytes}
 use Rattle.rendezvous_world.specs.declared.journal.JournalLine.{JournalLine}
 use Rattle.rendezvous_world.specs.declared.step.Step.{Step}
-use Rattle.rendezvous_world.specs.declared.step.Step.TheVariants.{End, At, Introduce, Redirect, Open, Cancel, Close, Deliver, Bent, Inject, Forge, Tick}
+use Rattle.rendezvous_world.specs.declared.step.Step.TheVariants.{End, At, Introduce, Redirect, Open, Cancel, Close, Flow, Queue, Abandon, Finish, Deliver, Bent, Inject, Forge, Tick}
 use Rattle.rendezvous_world.specs.Seen.{Seen}
 use Rattle.rendezvous_world.specs.Sent.{sent_in}
 use Rattle.rendezvous_world.specs.Datagrams.{datagram_of}
@@ -36,6 +36,10 @@ module _ (w : Seen) (number : ℕ) (t : Seen) (is : IsWorld w) (below : AreBelow
   done (Open end peer list) sized none h = by_line (Open end peer list) h.0 none sized h.2
   done (Cancel end n) sized none h = by_line (Cancel end n) h.0 none sized h.2
   done (Close end near) sized none h = by_line (Close end near) h.0 none sized h.2
+  done (Flow end near priority metadata answers) sized none h = by_line (Flow end near priority metadata answers) h.0 none sized h.2
+  done (Queue end near flow options message) sized none h = by_line (Queue end near flow options message) h.0 none sized h.2
+  done (Abandon end near flow seq) sized none h = by_line (Abandon end near flow seq) h.0 none sized h.2
+  done (Finish end near flow) sized none h = by_line (Finish end near flow) h.0 none sized h.2
   done (Introduce end) sized none h = by_line (Introduce end) h.0 none sized h.2
   done (Redirect end peer list) sized none h = by_line (Redirect end peer list) h.0 none sized h.2
   done (Deliver sent end from) sized none h = by_line (Deliver sent end from) h.0 none sized h.2
@@ -51,6 +55,10 @@ module _ (w : Seen) (number : ℕ) (t : Seen) (is : IsWorld w) (below : AreBelow
   halted (Open end peer list) sized none h = by_line (Open end peer list) h.line none sized h.called
   halted (Cancel end n) sized none h = by_line (Cancel end n) h.line none sized h.called
   halted (Close end near) sized none h = by_line (Close end near) h.line none sized h.called
+  halted (Flow end near priority metadata answers) sized none h = by_line (Flow end near priority metadata answers) h.line none sized h.called
+  halted (Queue end near flow options message) sized none h = by_line (Queue end near flow options message) h.line none sized h.called
+  halted (Abandon end near flow seq) sized none h = by_line (Abandon end near flow seq) h.line none sized h.called
+  halted (Finish end near flow) sized none h = by_line (Finish end near flow) h.line none sized h.called
   halted (Introduce end) sized none h = by_line (Introduce end) h.line none sized h.called
   halted (Redirect end peer list) sized none h = by_line (Redirect end peer list) h.line none sized h.called
   halted (Deliver sent end from) sized none h = by_line (Deliver sent end from) h.line none sized h.called
@@ -84,6 +92,10 @@ done_below w number (At moment) t more below lt h = subst (λ (x : Seen). AreBel
 done_below w number (Open end peer list) t more below lt h = called_below w number (Open end peer list) h.0 t more below lt h.2
 done_below w number (Cancel end n) t more below lt h = called_below w number (Cancel end n) h.0 t more below lt h.2
 done_below w number (Close end near) t more below lt h = called_below w number (Close end near) h.0 t more below lt h.2
+done_below w number (Flow end near priority metadata answers) t more below lt h = called_below w number (Flow end near priority metadata answers) h.0 t more below lt h.2
+done_below w number (Queue end near flow options message) t more below lt h = called_below w number (Queue end near flow options message) h.0 t more below lt h.2
+done_below w number (Abandon end near flow seq) t more below lt h = called_below w number (Abandon end near flow seq) h.0 t more below lt h.2
+done_below w number (Finish end near flow) t more below lt h = called_below w number (Finish end near flow) h.0 t more below lt h.2
 done_below w number (Introduce end) t more below lt h = called_below w number (Introduce end) h.0 t more below lt h.2
 done_below w number (Redirect end peer list) t more below lt h = called_below w number (Redirect end peer list) h.0 t more below lt h.2
 done_below w number (Deliver sent end from) t more below lt h = called_below w number (Deliver sent end from) h.0 t more below lt h.2

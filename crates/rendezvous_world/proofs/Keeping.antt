@@ -15,7 +15,7 @@ use Rattle.endpoint_laws.specs.Laws.{AreCalls}
 use Rattle.endpoint_laws.specs.History.{History, log_of, IsHonest, TakesPart, nonces_in}
 use Rattle.rendezvous_world.specs.declared.journal.JournalLine.{JournalLine}
 use Rattle.rendezvous_world.specs.declared.step.Step.{Step}
-use Rattle.rendezvous_world.specs.declared.step.Step.TheVariants.{End, At, Introduce, Redirect, Open, Cancel, Close, Deliver, Bent, Inject, Forge, Tick}
+use Rattle.rendezvous_world.specs.declared.step.Step.TheVariants.{End, At, Introduce, Redirect, Open, Cancel, Close, Flow, Queue, Abandon, Finish, Deliver, Bent, Inject, Forge, Tick}
 use Rattle.rendezvous_world.specs.Seen.{EndSeen, Seen, setup_at}
 use Rattle.rendezvous_world.specs.History.{history_of}
 use Rattle.rendezvous_world.specs.Sound.{StandsUpTo}
@@ -97,6 +97,10 @@ has_peer_more few many (At moment) le has = tt
 has_peer_more few many (Open end peer list) le has = omega arith
 has_peer_more few many (Cancel end n) le has = tt
 has_peer_more few many (Close end near) le has = tt
+has_peer_more few many (Flow end near priority metadata answers) le has = tt
+has_peer_more few many (Queue end near flow options message) le has = tt
+has_peer_more few many (Abandon end near flow seq) le has = tt
+has_peer_more few many (Finish end near flow) le has = tt
 has_peer_more few many (Introduce end) le has = tt
 has_peer_more few many (Redirect end peer list) le has = omega arith
 has_peer_more few many (Deliver number end from) le has = tt

@@ -1,12 +1,16 @@
 -- A moment that an end has noted, of which its log tells nothing.
-use Rattle.std.proofs.Common.{◌≡◌, ℕ, ◌≤◌, max, List, [], ◌∷◌, ◌++◌, length, slice_get, Option, Some, inl, inr, refl, sym, ap, subst, ◌∙◌, arith}
+use Rattle.std.proofs.Common.{◌≡◌, ℕ, ◌≤◌, max, List, [], ◌∷◌, ◌++◌, length, slice_get, Option, None, Some, inl, inr, refl, sym, ap, subst, ◌∙◌, arith}
 use Rattle.std.specs.List.{AllByRecursion}
 use Rattle.glare_core.specs.Steps.{Among}
 use Rattle.glare_core.specs.Told.{AllDifferent}
 use Rattle.startup.specs.Attempts.{after_cancel}
 use Rattle.endpoint_model.specs.declared.entry.Entry.{Entry}
-use Rattle.endpoint_model.specs.Event.{Setup, own_of, Call, Open, Cancel, Close, AddRow, Introduce, Receive, Tick, Answer, Began, Done, NotOpened, Refused, NotAdded, Stopped, OutOfMemory, Event}
-use Rattle.endpoint_model.specs.State.{State, at_moment, with_startup}
+use Rattle.endpoint_model.specs.Event.{Setup, own_of, Call, Open, Cancel, Close, AddRow, Introduce, OnFlows, Receive, Tick, Answer, Began, Done, NotOpened, Refused, NotAdded, Stopped, OutOfMemory, Event}
+use Rattle.endpoint_model.specs.declared.row.Row.{Row}
+use Rattle.endpoint_model.specs.State.{State, Did, at_moment, with_startup}
+use Rattle.endpoint_model.specs.InSessions.{held_row}
+use Rattle.endpoint_model.specs.FlowCall.{FlowCall}
+use Rattle.endpoint_model.specs.OnFlows.{flow_called, flow_called_by}
 use Rattle.endpoint_model.specs.Introducing.{with_redirect, introducing}
 use Rattle.rtmfp_forms.specs.Address.{AddressParts}
 use Rattle.endpoint_laws.specs.OpensIn.{opens_in}
@@ -64,6 +68,15 @@ stands_noted last setup log s h = record {
   state = ap (λ (x : State). at_moment x last) h.state ∙ noted_before h.told h.noted last h.passed;
 }
 
+-- the same done, and a moment noted
+abbrev noted_did : Did → ℕ → Did
+noted_did did noted = record { state = at_moment did.state noted; entries = did.entries }
+
+-- what a call on flows does stays, whatever moment was noted
+flow_noted : (s : State) (noted near : ℕ) (call : FlowCall) (row : Option Row) → flow_called_by (at_moment s noted) near call row ≡ noted_did (flow_called_by s near call row) noted
+flow_noted s noted near call None = refl
+flow_noted s noted near call (Some row) = refl
+
 -- The call is given a moment that isn't before this one, or none.
 abbrev pub IsGivenFrom : ℕ → ℕ → Call → Type 0
 IsGivenFrom last moment (Open peer candidates draws) = last ≤ moment
@@ -71,6 +84,7 @@ IsGivenFrom last moment (Cancel n) = Unit {0}
 IsGivenFrom last moment (Close near) = last ≤ moment
 IsGivenFrom last moment (AddRow print addresses) = Unit {0}
 IsGivenFrom last moment Introduce = Unit {0}
+IsGivenFrom last moment (OnFlows near call) = Unit {0}
 IsGivenFrom last moment (Receive from datagram draws) = last ≤ moment
 IsGivenFrom last moment (Tick draws) = last ≤ moment
 
@@ -126,6 +140,26 @@ module _ (last : ℕ) (setup : Setup) (log : List Event) (s t : State) (moment :
       record { told = after; stands = extends h.told after (event_with Introduce Done) told setup log h.stands; noted = h.noted; passed = h.passed; state = step.state }
   untimed_introduce answer step = absurd step
 
+  -- nor are the calls on flows
+  untimed_flow : (near : ℕ) (call : FlowCall) (answer : Answer) → Answers (at_moment (at_moment h.told moment) h.noted) (OnFlows near call) answer entries t →
+      StandsUpTo last setup (log ++ event_with (OnFlows near call) answer ∷ []) t
+  untimed_flow near call Done step =
+      let did : Did = flow_called (at_moment h.told moment) near call in
+      let same : flow_called (at_moment (at_moment h.told moment) h.noted) near call ≡ noted_did did h.noted = flow_noted (at_moment h.told moment) h.noted near call (held_row h.told near) in
+      let told : StepOf h.told (event_with (OnFlows near call) Done) did.state = (step.0, record { state = refl; entries = step.1.entries ∙ ap (λ (d : Did). d.entries) same }) in
+      record {
+        told = did.state;
+        stands = extends h.told did.state (event_with (OnFlows near call) Done) told setup log h.stands;
+        noted = h.noted;
+        passed = h.passed;
+        state = step.1.state ∙ ap (λ (d : Did). d.state) same;
+      }
+  untimed_flow near call (Refused refusal) step =
+      let after : State = at_moment h.told moment in
+      let told : StepOf h.told (event_with (OnFlows near call) (Refused refusal)) after = (step.0, record { state = refl; entries = step.1.entries }) in
+      record { told = after; stands = extends h.told after (event_with (OnFlows near call) (Refused refusal)) told setup log h.stands; noted = h.noted; passed = h.passed; state = step.1.state }
+  untimed_flow near call answer step = absurd step
+
   stands_by : (call : Call) (answer : Answer) → IsGivenFrom last moment call → Answers (at_moment s moment) call answer entries t → StandsUpTo last setup (log ++ event_with call answer ∷ []) t
   stands_by (Open peer candidates draws) answer from step = timed (Open peer candidates draws) answer from step
   stands_by (Cancel n) answer from step =
@@ -135,6 +169,8 @@ module _ (last : ℕ) (setup : Setup) (log : List Event) (s t : State) (moment :
       untimed_row print addresses answer (subst (λ (x : State). Answers x (AddRow print addresses) answer entries t) (noted_both h.told h.noted moment) (from_told (AddRow print addresses) answer step))
   stands_by Introduce answer from step =
       untimed_introduce answer (subst (λ (x : State). Answers x Introduce answer entries t) (noted_both h.told h.noted moment) (from_told Introduce answer step))
+  stands_by (OnFlows near call) answer from step =
+      untimed_flow near call answer (subst (λ (x : State). Answers x (OnFlows near call) answer entries t) (noted_both h.told h.noted moment) (from_told (OnFlows near call) answer step))
   stands_by (Receive address datagram draws) answer from step = timed (Receive address datagram draws) answer from step
   stands_by (Tick draws) answer from step = timed (Tick draws) answer from step
 

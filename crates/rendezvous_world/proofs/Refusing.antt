@@ -7,7 +7,7 @@ use Rattle.glare_core.specs.Calls.{first_that_stands, where_true}
 use Rattle.endpoint_laws.specs.Laws.{AreBytes}
 use Rattle.rtmfp_forms.specs.Address.{AddressParts}
 use Rattle.rendezvous_world.specs.declared.step.Step.{Step}
-use Rattle.rendezvous_world.specs.declared.step.Step.TheVariants.{End, At, Introduce, Redirect, Open, Cancel, Close, Deliver, Bent, Inject, Forge, Tick}
+use Rattle.rendezvous_world.specs.declared.step.Step.TheVariants.{End, At, Introduce, Redirect, Open, Cancel, Close, Flow, Queue, Abandon, Finish, Deliver, Bent, Inject, Forge, Tick}
 use Rattle.rendezvous_world.specs.declared.step.StepFault.{StepFault}
 use Rattle.rendezvous_world.specs.declared.step.StepFault.TheVariants.{NoEnd, NoDatagram, BadStep, Forged, Memory}
 use Rattle.rendezvous_world.specs.Seen.{EndSeen, Seen}
@@ -18,7 +18,7 @@ use Rattle.rendezvous_world.specs.Stepping.{Stepped, called_by}
 use Rattle.rendezvous_world.specs.Sound.{AreBelow}
 use Rattle.rendezvous_world.specs.Inside.{named_of}
 use Rattle.rtmfp_text.specs.Names.{is_like as is_like_named}
-use Rattle.rendezvous_world.specs.Entering.{CallsAnEnd, peer_of, IsEntering, IsEntered, IsBringing, IsDone}
+use Rattle.rendezvous_world.specs.Entering.{CallsAnEnd, IsOnFlows, peer_of, IsEntering, IsEntered, IsBringing, IsDone}
 
 -- ---- the first reason
 
@@ -84,6 +84,10 @@ stepped w number (At moment) r t calls h = absurd calls
 stepped w number (Open end peer list) r t calls h = h.ok
 stepped w number (Cancel end n) r t calls h = h.ok
 stepped w number (Close end near) r t calls h = h.ok
+stepped w number (Flow end near priority metadata answers) r t calls h = h.ok
+stepped w number (Queue end near flow options message) r t calls h = h.ok
+stepped w number (Abandon end near flow seq) r t calls h = h.ok
+stepped w number (Finish end near flow) r t calls h = h.ok
 stepped w number (Introduce end) r t calls h = h.ok
 stepped w number (Redirect end peer list) r t calls h = h.ok
 stepped w number (Deliver sent end from) r t calls h = h.ok
@@ -150,6 +154,21 @@ module _ (w : Seen) (number end : ℕ) (above : AreBelow w.lines number) (fits :
 
   pub entering_tick : IsEntering w number end (Tick end) None []
   entering_tick = entering_alone w number end (Tick end) above fits (there_is w end there) (there_is w end there) tt refl refl (fault_left w number (Tick end) there refl refl)
+
+-- a call on flows
+pub flows_end : (w : Seen) (step : Step) → IsOnFlows step → lacks_end w step ≡ is_missing w (called_by step)
+flows_end w (Flow end near priority metadata answers) is = refl
+flows_end w (Queue end near flow options message) is = refl
+flows_end w (Abandon end near flow seq) is = refl
+flows_end w (Finish end near flow) is = refl
+flows_end w step is = absurd is
+
+pub entering_flows : (w : Seen) (number : ℕ) (step : Step) → AreBelow w.lines number → number < 2 ^ 32 → IsOnFlows step → is_missing w (called_by step) ≡ false → IsEntering w number (called_by step) step None []
+entering_flows w number (Flow end near priority metadata answers) above fits is there = entering_alone w number end (Flow end near priority metadata answers) above fits (there_is w end there) (there_is w end there) tt refl refl (fault_left w number (Flow end near priority metadata answers) there refl refl)
+entering_flows w number (Queue end near flow options message) above fits is there = entering_alone w number end (Queue end near flow options message) above fits (there_is w end there) (there_is w end there) tt refl refl (fault_left w number (Queue end near flow options message) there refl refl)
+entering_flows w number (Abandon end near flow seq) above fits is there = entering_alone w number end (Abandon end near flow seq) above fits (there_is w end there) (there_is w end there) tt refl refl (fault_left w number (Abandon end near flow seq) there refl refl)
+entering_flows w number (Finish end near flow) above fits is there = entering_alone w number end (Finish end near flow) above fits (there_is w end there) (there_is w end there) tt refl refl (fault_left w number (Finish end near flow) there refl refl)
+entering_flows w number step above fits is there = absurd is
 
 -- ---- a step that brings a datagram
 

@@ -6,7 +6,7 @@ use Rattle.endpoint_laws.specs.Laws.{IsCall, AreCalls}
 use Rattle.endpoint_laws.specs.History.{Happened, History, log_of, past_at, IsHonestCall, IsHonest, TakesPart}
 use Rattle.rendezvous_world.specs.declared.journal.JournalLine.{JournalLine}
 use Rattle.rendezvous_world.specs.declared.step.Step.{Step}
-use Rattle.rendezvous_world.specs.declared.step.Step.TheVariants.{End, At, Introduce, Redirect, Open, Cancel, Close, Deliver, Bent, Inject, Forge, Tick}
+use Rattle.rendezvous_world.specs.declared.step.Step.TheVariants.{End, At, Introduce, Redirect, Open, Cancel, Close, Flow, Queue, Abandon, Finish, Deliver, Bent, Inject, Forge, Tick}
 use Rattle.rendezvous_world.specs.Draws.{two_numbers, draws_of}
 use Rattle.rendezvous_world.specs.Seen.{EndSeen, setup_at}
 use Rattle.rendezvous_world.specs.History.{call_of, happened, after_lines, moment_given, answer_of}
@@ -26,6 +26,10 @@ module _ (count : ℕ) (ends later : List EndSeen) (same : SameSetups count ends
   same_call number datagram (Open end peer list) has = ap (λ (setup : Setup). OpenCall (own_of setup) list (draws_of number)) (same peer has)
   same_call number datagram (Cancel end n) has = refl
   same_call number datagram (Close end near) has = refl
+  same_call number datagram (Flow end near priority metadata answers) has = refl
+  same_call number datagram (Queue end near flow options message) has = refl
+  same_call number datagram (Abandon end near flow seq) has = refl
+  same_call number datagram (Finish end near flow) has = refl
   same_call number datagram (Introduce end) has = refl
   same_call number datagram (Redirect end peer list) has = ap (λ (setup : Setup). AddRow (own_of setup) list) (same peer has)
   same_call number datagram (Deliver sent end from) has = refl

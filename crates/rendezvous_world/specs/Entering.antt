@@ -6,13 +6,14 @@ use Rattle.endpoint_laws.specs.Laws.{AreBytes}
 use Rattle.endpoint_model.specs.State.{State, at_moment}
 use Rattle.endpoint_model.specs.InSessions.{held_row}
 use Rattle.endpoint_model.specs.Effects.{open_refusal}
-use Rattle.endpoint_model.specs.Event.{Call, Open as OpenCall, Cancel as CancelCall, Close as CloseCall, AddRow, Introduce as IntroduceCall, Receive, Tick as TickCall, Event}
+use Rattle.endpoint_model.specs.Event.{Call, Open as OpenCall, Cancel as CancelCall, Close as CloseCall, AddRow, Introduce as IntroduceCall, OnFlows, Receive, Tick as TickCall, Event}
+use Rattle.endpoint_model.specs.FlowCall.{OpenFlow, Queue as QueueCall, Abandon as AbandonCall, Finish as FinishCall}
 use Rattle.rendezvous_world.specs.declared.bringing.Fetched.{Fetched}
 use Rattle.rendezvous_world.specs.declared.bringing.Fetched.TheVariants.{Missing, Forged as IsForged, Sent as IsSent}
 use Rattle.rendezvous_world.specs.declared.journal.JournalLine.{JournalLine}
 use Rattle.rendezvous_world.specs.declared.journal.Refused.{Refused}
 use Rattle.rendezvous_world.specs.declared.step.Step.{Step}
-use Rattle.rendezvous_world.specs.declared.step.Step.TheVariants.{End, At, Introduce, Redirect, Open, Cancel, Close, Deliver, Bent, Inject, Forge, Tick}
+use Rattle.rendezvous_world.specs.declared.step.Step.TheVariants.{End, At, Introduce, Redirect, Open, Cancel, Close, Flow, Queue, Abandon, Finish, Deliver, Bent, Inject, Forge, Tick}
 use Rattle.rendezvous_world.specs.declared.step.StepFault.{StepFault}
 use Rattle.rendezvous_world.specs.declared.step.StepFault.TheVariants.{Forged, Memory}
 use Rattle.rendezvous_world.specs.Draws.{draws_of}
@@ -33,6 +34,14 @@ CallsAnEnd (End name max_peers max_sessions cert) = ⊥
 CallsAnEnd (At moment) = ⊥
 CallsAnEnd step = Unit {0}
 
+-- The step makes a call on the flows of a session.
+abbrev pub IsOnFlows : Step → Type 0
+IsOnFlows (Flow end near priority metadata answers) = Unit {0}
+IsOnFlows (Queue end near flow options message) = Unit {0}
+IsOnFlows (Abandon end near flow seq) = Unit {0}
+IsOnFlows (Finish end near flow) = Unit {0}
+IsOnFlows step = ⊥
+
 -- the end whose fingerprint the call is given; for a call that is given none, the end that is
 -- called
 abbrev pub peer_of : Step → ℕ
@@ -41,6 +50,10 @@ peer_of (End name max_peers max_sessions cert) = 0
 peer_of (At moment) = 0
 peer_of (Cancel end n) = end
 peer_of (Close end near) = end
+peer_of (Flow end near priority metadata answers) = end
+peer_of (Queue end near flow options message) = end
+peer_of (Abandon end near flow seq) = end
+peer_of (Finish end near flow) = end
 peer_of (Introduce end) = end
 peer_of (Redirect end peer list) = peer
 peer_of (Deliver number end from) = end
@@ -54,6 +67,12 @@ abbrev pub call_by : List ℕ → ℕ → List ℕ → Step → Call
 call_by print line bytes (Open end peer list) = OpenCall print list (draws_of line)
 call_by print line bytes (Cancel end n) = CancelCall n
 call_by print line bytes (Close end near) = CloseCall near
+call_by print line bytes (Flow end near priority metadata answers) =
+    OnFlows near (OpenFlow priority metadata answers)
+call_by print line bytes (Queue end near flow options message) =
+    OnFlows near (QueueCall flow message options)
+call_by print line bytes (Abandon end near flow seq) = OnFlows near (AbandonCall flow seq)
+call_by print line bytes (Finish end near flow) = OnFlows near (FinishCall flow)
 call_by print line bytes (Introduce end) = IntroduceCall
 call_by print line bytes (Redirect end peer list) = AddRow print list
 call_by print line bytes (Deliver number end from) = Receive from bytes (draws_of line)
@@ -71,13 +90,17 @@ event_by print line moment step bytes refused stopped entries = record {
   entries = entries;
 }
 
--- What an open, a cancel, a close or a row leaves that found no memory, at the end in this state:
--- an open and a close, which nothing else refused, have noted the moment, and a cancel and a row
--- have left all as before.
+-- What an open, a cancel, a close, a row or a call on flows leaves that found no memory, at the end
+-- in this state: an open and a close, which nothing else refused, have noted the moment, and the
+-- others have left all as before.
 abbrev pub IsUndone : List ℕ → ℕ → Step → State → State → Type 0
 IsUndone print moment (Open end peer list) old new = (open_refusal old print list ≡ None) ×
     (new ≡ at_moment old moment)
 IsUndone print moment (Cancel end n) old new = new ≡ old
+IsUndone print moment (Flow end near priority metadata answers) old new = new ≡ old
+IsUndone print moment (Queue end near flow options message) old new = new ≡ old
+IsUndone print moment (Abandon end near flow seq) old new = new ≡ old
+IsUndone print moment (Finish end near flow) old new = new ≡ old
 IsUndone print moment (Redirect end peer list) old new = new ≡ old
 IsUndone print moment (Close end near) old new = IsSome (held_row old near) ×
     (new ≡ at_moment old moment)

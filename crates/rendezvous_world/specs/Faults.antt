@@ -9,7 +9,7 @@ use Rattle.glare_core.specs.Calls.{first_that_stands, where_true}
 use Rattle.endpoint_model.specs.Event.{own_of}
 use Rattle.endpoint_laws.specs.OpensIn.{opens_in}
 use Rattle.rendezvous_world.specs.declared.step.Step.{Step}
-use Rattle.rendezvous_world.specs.declared.step.Step.TheVariants.{End, At, Introduce, Redirect, Open, Cancel, Close, Deliver, Bent, Inject, Forge, Tick}
+use Rattle.rendezvous_world.specs.declared.step.Step.TheVariants.{End, At, Introduce, Redirect, Open, Cancel, Close, Flow, Queue, Abandon, Finish, Deliver, Bent, Inject, Forge, Tick}
 use Rattle.rendezvous_world.specs.declared.step.StepFault.{StepFault}
 use Rattle.rendezvous_world.specs.declared.step.StepFault.TheVariants.{NoEnd, NoDatagram, BadStep, Forged}
 use Rattle.rendezvous_world.specs.Seen.{EndSeen, Seen}
@@ -28,6 +28,10 @@ lacks_end w (At moment) = false
 lacks_end w (Open end peer list) = is_missing w end || is_missing w peer
 lacks_end w (Cancel end n) = is_missing w end
 lacks_end w (Close end near) = is_missing w end
+lacks_end w (Flow end near priority metadata answers) = is_missing w end
+lacks_end w (Queue end near flow options message) = is_missing w end
+lacks_end w (Abandon end near flow seq) = is_missing w end
+lacks_end w (Finish end near flow) = is_missing w end
 lacks_end w (Introduce end) = is_missing w end
 lacks_end w (Redirect end peer list) = is_missing w end || is_missing w peer
 lacks_end w (Deliver number end from) = is_missing w end

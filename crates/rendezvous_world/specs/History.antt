@@ -4,13 +4,14 @@ use Rattle.glare_core.specs.declared.facts.Fact.TheVariants.{Started}
 use Rattle.endpoint_model.specs.declared.entry.Entry.{Entry}
 use Rattle.endpoint_model.specs.declared.entry.Entry.TheVariants.{Fact}
 use Rattle.endpoint_model.specs.declared.answers.Stopped.{Stopped as Stop}
-use Rattle.endpoint_model.specs.Event.{Call, Open as OpenCall, Cancel as CancelCall, Close as CloseCall, AddRow, Introduce as IntroduceCall, Receive, Tick as TickCall, Answer, Began, Done, NotOpened, Refused as RefusedCall, NotAdded, Stopped, OutOfMemory, Event}
+use Rattle.endpoint_model.specs.Event.{Call, Open as OpenCall, Cancel as CancelCall, Close as CloseCall, AddRow, Introduce as IntroduceCall, OnFlows, Receive, Tick as TickCall, Answer, Began, Done, NotOpened, Refused as RefusedCall, NotAdded, Stopped, OutOfMemory, Event}
+use Rattle.endpoint_model.specs.FlowCall.{OpenFlow, Queue as QueueCall, Abandon as AbandonCall, Finish as FinishCall}
 use Rattle.endpoint_laws.specs.History.{Happened, History}
 use Rattle.rendezvous_world.specs.declared.journal.JournalLine.{JournalLine}
 use Rattle.rendezvous_world.specs.declared.journal.Refused.{Refused}
 use Rattle.rendezvous_world.specs.declared.journal.Refused.TheVariants.{Open as OpenRefused, Call as CallRefused, Row as RowRefused}
 use Rattle.rendezvous_world.specs.declared.step.Step.{Step}
-use Rattle.rendezvous_world.specs.declared.step.Step.TheVariants.{Introduce, Redirect, Open, Cancel, Close, Deliver, Bent, Inject, Forge}
+use Rattle.rendezvous_world.specs.declared.step.Step.TheVariants.{Introduce, Redirect, Open, Cancel, Close, Flow, Queue, Abandon, Finish, Deliver, Bent, Inject, Forge}
 use Rattle.rendezvous_world.specs.Draws.{draws_of}
 use Rattle.rendezvous_world.specs.Seen.{EndSeen, Seen, print_at}
 
@@ -24,6 +25,12 @@ abbrev pub call_of : List EndSeen → ℕ → Option (List ℕ) → Step → Cal
 call_of ends line datagram (Open end peer list) = OpenCall (print_at ends peer) list (draws_of line)
 call_of ends line datagram (Cancel end n) = CancelCall n
 call_of ends line datagram (Close end near) = CloseCall near
+call_of ends line datagram (Flow end near priority metadata answers) =
+    OnFlows near (OpenFlow priority metadata answers)
+call_of ends line datagram (Queue end near flow options message) =
+    OnFlows near (QueueCall flow message options)
+call_of ends line datagram (Abandon end near flow seq) = OnFlows near (AbandonCall flow seq)
+call_of ends line datagram (Finish end near flow) = OnFlows near (FinishCall flow)
 call_of ends line datagram (Introduce end) = IntroduceCall
 call_of ends line datagram (Redirect end peer list) = AddRow (print_at ends peer) list
 call_of ends line datagram (Deliver number end from) =
@@ -36,9 +43,14 @@ call_of ends line datagram (Forge end from plain) =
     Receive from (bytes_or_none datagram) (draws_of line)
 call_of ends line datagram step = TickCall (draws_of line)
 
--- the moment that the call is given; a cancel is given none, nor are the calls of an introducer
+-- the moment that the call is given; a cancel is given none, nor are the calls on flows and those
+-- of an introducer
 abbrev pub moment_given : ℕ → Step → ℕ
 moment_given moment (Cancel end n) = 0
+moment_given moment (Flow end near priority metadata answers) = 0
+moment_given moment (Queue end near flow options message) = 0
+moment_given moment (Abandon end near flow seq) = 0
+moment_given moment (Finish end near flow) = 0
 moment_given moment (Introduce end) = 0
 moment_given moment (Redirect end peer list) = 0
 moment_given moment step = moment
@@ -55,7 +67,7 @@ answer_to_open (Some (OpenRefused refusal)) entries = NotOpened refusal
 answer_to_open (Some (CallRefused refusal)) entries = RefusedCall refusal
 answer_to_open (Some (RowRefused refusal)) entries = NotAdded refusal
 
--- a cancel, a close, and a row of an introducer
+-- a cancel, a close, a call on flows, and a row of an introducer
 abbrev pub answer_to_call : Option Refused → Answer
 answer_to_call None = Done
 answer_to_call (Some (OpenRefused refusal)) = NotOpened refusal
@@ -75,6 +87,11 @@ abbrev pub answer_of : Step → Option Refused → Option Stop → List Entry �
 answer_of (Open end peer list) refused stopped entries = answer_to_open refused entries
 answer_of (Cancel end n) refused stopped entries = answer_to_call refused
 answer_of (Close end near) refused stopped entries = answer_to_call refused
+answer_of (Flow end near priority metadata answers) refused stopped entries =
+    answer_to_call refused
+answer_of (Queue end near flow options message) refused stopped entries = answer_to_call refused
+answer_of (Abandon end near flow seq) refused stopped entries = answer_to_call refused
+answer_of (Finish end near flow) refused stopped entries = answer_to_call refused
 answer_of (Introduce end) refused stopped entries = Done
 answer_of (Redirect end peer list) refused stopped entries = answer_to_call refused
 answer_of (Deliver number end from) refused stopped entries = answer_to_datagram stopped

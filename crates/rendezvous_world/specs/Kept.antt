@@ -8,7 +8,7 @@ use Rattle.endpoint_laws.specs.Laws.{IsSetup, AreCalls}
 use Rattle.endpoint_laws.specs.History.{log_of, IsHonest, nonces_in}
 use Rattle.rendezvous_world.specs.declared.journal.JournalLine.{JournalLine}
 use Rattle.rendezvous_world.specs.declared.step.Step.{Step}
-use Rattle.rendezvous_world.specs.declared.step.Step.TheVariants.{End, At, Introduce, Redirect, Open, Cancel, Close, Deliver, Bent, Inject, Forge, Tick}
+use Rattle.rendezvous_world.specs.declared.step.Step.TheVariants.{End, At, Introduce, Redirect, Open, Cancel, Close, Flow, Queue, Abandon, Finish, Deliver, Bent, Inject, Forge, Tick}
 use Rattle.rendezvous_world.specs.Draws.{two_numbers}
 use Rattle.rendezvous_world.specs.Seen.{EndSeen, Seen, group_secret, setup_at}
 use Rattle.rendezvous_world.specs.History.{history_of}
@@ -38,6 +38,10 @@ HasPeer count (At moment) = Unit {0}
 HasPeer count (Open end peer list) = peer < count
 HasPeer count (Cancel end n) = Unit {0}
 HasPeer count (Close end near) = Unit {0}
+HasPeer count (Flow end near priority metadata answers) = Unit {0}
+HasPeer count (Queue end near flow options message) = Unit {0}
+HasPeer count (Abandon end near flow seq) = Unit {0}
+HasPeer count (Finish end near flow) = Unit {0}
 HasPeer count (Introduce end) = Unit {0}
 HasPeer count (Redirect end peer list) = peer < count
 HasPeer count (Deliver number end from) = Unit {0}

@@ -3,18 +3,22 @@ use Rattle.std.specs.Prelude.{ℕ, ◌≡◌, List, Option, Some, None}
 use Rattle.glare_core.specs.declared.answers.StartRefusal.TheVariants.{Opening as HasAttempt, Open as HasSession, PeersFull as FullOfPeers, AttemptsSpent as HasSpent, OwnPrint as IsItself, Memory as NoMemoryToStart}
 use Rattle.endpoint_model.specs.Added.{Added}
 use Rattle.endpoint_model.specs.declared.answers.OpenRefusal.{OpenRefusal}
+use Rattle.endpoint_model.specs.declared.answers.CallRefusal.{CallRefusal}
 use Rattle.endpoint_model.specs.declared.answers.OpenRefusal.TheVariants.{Candidates as BadCandidates, Start, SessionsFull as FullOfSessions, Memory as OpenMemory}
-use Rattle.endpoint_model.specs.declared.answers.CallRefusal.TheVariants.{NoAttempt as LacksAttempt, NoSession as LacksSession, Memory as CallMemory}
+use Rattle.endpoint_model.specs.declared.answers.CallRefusal.TheVariants as call
+use Rattle.flow_send.specs.declared.outcome.QueueRefusal.TheVariants as queue
 use Rattle.endpoint_model.specs.declared.answers.Stopped.{Stopped as Stop}
 use Rattle.introducer.specs.declared.refusal.RowRefusal.TheVariants.{Candidates as WrongCount, RowsFull as FullOfRows, Memory as RowMemory}
 use Rattle.rendezvous_world.specs.declared.journal.Refused.{Refused}
 use Rattle.rendezvous_world.specs.declared.journal.Refused.TheVariants.{Open as OpenRefused, Call as CallRefused, Row as RowRefused}
 use Rattle.rendezvous_world.specs.declared.kept.KeptAnswer.{KeptAnswer}
-use Rattle.rendezvous_world.specs.declared.kept.KeptAnswer.TheVariants.{Done, Stopped, Candidates, Opening, Open as IsOpen, PeersFull, AttemptsSpent, OwnPrint, NoRow, SessionsFull, NoMemoryToOpen, NoAttempt, NoSession, NoMemoryToCall, BadRow, RowsFull, NoMemoryForRow}
+use Rattle.rendezvous_world.specs.declared.kept.KeptAnswer.TheVariants.{Done, Stopped, Candidates, Opening, Open as IsOpen, PeersFull, AttemptsSpent, OwnPrint, NoRow, SessionsFull, NoMemoryToOpen, NoAttempt, NoSession, NoMemoryToCall, BadRow, RowsFull, NoMemoryForRow, NoFlow, FlowsFull, WideMetadata, TooLong, Backlog, QueuedNoMore, SequenceSpent, NoMemoryToQueue, NotQueued, Finished}
+use Rattle.rendezvous_world.specs.declared.kept.FlowKept.{FlowKept}
+use Rattle.rendezvous_world.specs.declared.kept.QueueKept.{QueueKept}
 use Rattle.rendezvous_world.specs.declared.kept.KeptStep.{KeptStep}
-use Rattle.rendezvous_world.specs.declared.kept.KeptStep.TheVariants.{Open as KeptOpen, Cancel as KeptCancel, Close as KeptClose, Introduce as KeptIntroduce, Redirect as KeptRedirect, Deliver as KeptDeliver, Bent as KeptBent, Inject as KeptInject, Forge as KeptForge, Tick as KeptTick}
+use Rattle.rendezvous_world.specs.declared.kept.KeptStep.TheVariants.{Open as KeptOpen, Cancel as KeptCancel, Close as KeptClose, Flow as KeptFlow, Queue as KeptQueue, Abandon as KeptAbandon, Finish as KeptFinish, Introduce as KeptIntroduce, Redirect as KeptRedirect, Deliver as KeptDeliver, Bent as KeptBent, Inject as KeptInject, Forge as KeptForge, Tick as KeptTick}
 use Rattle.rendezvous_world.specs.declared.step.Step.{Step}
-use Rattle.rendezvous_world.specs.declared.step.Step.TheVariants.{Introduce, Redirect, Open, Cancel, Close, Deliver, Bent, Inject, Forge, Tick}
+use Rattle.rendezvous_world.specs.declared.step.Step.TheVariants.{Introduce, Redirect, Open, Cancel, Close, Flow, Queue, Abandon, Finish, Deliver, Bent, Inject, Forge, Tick}
 
 -- A step that called an end.
 pub record LineSeen : Type 0 where
@@ -37,11 +41,21 @@ pub record LineSeen : Type 0 where
 
 -- ---- as it is kept
 
+abbrev pub flow_kept : ℕ → FlowKept → Step
+flow_kept end kept = Flow end kept.near kept.priority kept.metadata kept.answers
+
+abbrev pub queue_kept : ℕ → QueueKept → Step
+queue_kept end kept = Queue end kept.near kept.flow kept.options kept.message
+
 -- the step that called this end
 abbrev pub step_kept : ℕ → KeptStep → Step
 step_kept end (KeptOpen peer list) = Open end peer list
 step_kept end (KeptCancel n) = Cancel end n
 step_kept end (KeptClose near) = Close end near
+step_kept end (KeptFlow kept) = flow_kept end kept.value
+step_kept end (KeptQueue kept) = queue_kept end kept.value
+step_kept end (KeptAbandon near flow seq) = Abandon end near flow seq
+step_kept end (KeptFinish near flow) = Finish end near flow
 step_kept end KeptIntroduce = Introduce end
 step_kept end (KeptRedirect peer list) = Redirect end peer list
 step_kept end (KeptDeliver from number) = Deliver number end from
@@ -52,6 +66,9 @@ step_kept end KeptTick = Tick end
 
 abbrev pub refused_to_open : OpenRefusal → Option Refused
 refused_to_open refusal = Some (OpenRefused refusal)
+
+abbrev pub refused_call : CallRefusal → Option Refused
+refused_call refusal = Some (CallRefused refusal)
 
 abbrev pub refused_kept : KeptAnswer → Option Refused
 refused_kept Done = None
@@ -65,9 +82,19 @@ refused_kept OwnPrint = refused_to_open (Start IsItself)
 refused_kept NoRow = refused_to_open (Start NoMemoryToStart)
 refused_kept (SessionsFull count) = refused_to_open (FullOfSessions count)
 refused_kept NoMemoryToOpen = refused_to_open OpenMemory
-refused_kept NoAttempt = Some (CallRefused LacksAttempt)
-refused_kept NoSession = Some (CallRefused LacksSession)
-refused_kept NoMemoryToCall = Some (CallRefused CallMemory)
+refused_kept NoAttempt = refused_call call.NoAttempt
+refused_kept NoSession = refused_call call.NoSession
+refused_kept NoFlow = refused_call call.NoFlow
+refused_kept (FlowsFull count) = refused_call (call.FlowsFull count)
+refused_kept (WideMetadata size) = refused_call (call.WideMetadata size)
+refused_kept (TooLong most) = refused_call (call.Queue (queue.TooLong most))
+refused_kept (Backlog held) = refused_call (call.Queue (queue.Backlog held))
+refused_kept QueuedNoMore = refused_call (call.Queue queue.Finished)
+refused_kept SequenceSpent = refused_call (call.Queue queue.SequenceSpent)
+refused_kept NoMemoryToQueue = refused_call (call.Queue queue.Memory)
+refused_kept NotQueued = refused_call call.NotQueued
+refused_kept Finished = refused_call call.Finished
+refused_kept NoMemoryToCall = refused_call call.Memory
 refused_kept (BadRow count) = Some (RowRefused (WrongCount count))
 refused_kept (RowsFull count) = Some (RowRefused (FullOfRows count))
 refused_kept NoMemoryForRow = Some (RowRefused RowMemory)

@@ -3,7 +3,7 @@ use Rattle.std.specs.Prelude.{ℕ, List, [], ◌∷◌, ◌++◌}
 use Rattle.crypto_profile.specs.declared.keys.Context.{Context}
 use Rattle.rtmfp_forms.specs.Address.{AddressParts}
 use Rattle.endpoint_model.specs.declared.entry.Entry.{Entry}
-use Rattle.endpoint_model.specs.declared.entry.Entry.TheVariants.{Fact, Closed, Moved, Discard, Out}
+use Rattle.endpoint_model.specs.declared.entry.Entry.TheVariants.{Fact, Closed, Moved, FlowOpened, Queued, Finished, Abandoned, Handed, Discard, Out}
 use Rattle.rendezvous_world.specs.declared.journal.JournalLine.{JournalLine}
 
 -- a datagram that an end sent
@@ -22,6 +22,11 @@ sent_among by [] = []
 sent_among by (Fact fact ∷ rest) = sent_among by rest
 sent_among by (Closed near ∷ rest) = sent_among by rest
 sent_among by (Moved near to ∷ rest) = sent_among by rest
+sent_among by (FlowOpened near flow ∷ rest) = sent_among by rest
+sent_among by (Queued near flow seq message ∷ rest) = sent_among by rest
+sent_among by (Finished near flow seq ∷ rest) = sent_among by rest
+sent_among by (Abandoned near flow seq ∷ rest) = sent_among by rest
+sent_among by (Handed near flow seq message ∷ rest) = sent_among by rest
 sent_among by (Discard place cause ∷ rest) = sent_among by rest
 sent_among by (Out to datagram context ∷ rest) =
     record { by = by; to = to; datagram = datagram; context = context } ∷ sent_among by rest

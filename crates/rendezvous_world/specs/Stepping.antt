@@ -14,7 +14,7 @@ use Rattle.endpoint_model.specs.declared.answers.CallRefusal.TheVariants.{Memory
 use Rattle.introducer.specs.declared.refusal.RowRefusal.TheVariants.{Memory as NoMemoryForRow}
 use Rattle.endpoint_model.specs.declared.answers.Stopped.{Stopped as Stop}
 use Rattle.rendezvous_world.specs.declared.step.Step.{Step}
-use Rattle.rendezvous_world.specs.declared.step.Step.TheVariants.{End, At, Introduce, Redirect, Open, Cancel, Close, Deliver, Bent, Inject, Forge, Tick}
+use Rattle.rendezvous_world.specs.declared.step.Step.TheVariants.{End, At, Introduce, Redirect, Open, Cancel, Close, Flow, Queue, Abandon, Finish, Deliver, Bent, Inject, Forge, Tick}
 use Rattle.rendezvous_world.specs.Seen.{EndSeen, Seen, group_secret, print_at}
 use Rattle.rendezvous_world.specs.Sent.{sent_in}
 use Rattle.rendezvous_world.specs.Datagrams.{datagram_of}
@@ -54,6 +54,10 @@ called_by (At moment) = 0
 called_by (Open end peer list) = end
 called_by (Cancel end n) = end
 called_by (Close end near) = end
+called_by (Flow end near priority metadata answers) = end
+called_by (Queue end near flow options message) = end
+called_by (Abandon end near flow seq) = end
+called_by (Finish end near flow) = end
 called_by (Introduce end) = end
 called_by (Redirect end peer list) = end
 called_by (Deliver number end from) = end
@@ -68,15 +72,23 @@ pub record IsDoneOrRefused (refused : Option Refused) : Type 0 where
   pub called : refused ≢ Some (CallRefused NoMemoryToCall)
   pub added : refused ≢ Some (RowRefused NoMemoryForRow)
 
--- What the line of a step can tell of its answer: an open, a cancel, a close and a row are done or
--- refused, that an end introduces is done, and the others are done or stopped. A call that is
--- refused for want of memory has no line, and a new end and a new moment call no end and have none.
+-- What the line of a step can tell of its answer: an open, a cancel, a close, a call on flows and a
+-- row are done or refused, that an end introduces is done, and the others are done or stopped. A
+-- call that is refused for want of memory has no line, and a new end and a new moment call no end
+-- and have none.
 abbrev pub HasItsAnswer : Step → Option Refused → Option Stop → Type 0
 HasItsAnswer (End name max_peers max_sessions cert) refused stopped = ⊥
 HasItsAnswer (At moment) refused stopped = ⊥
 HasItsAnswer (Open end peer list) refused stopped = (stopped ≡ None) × IsDoneOrRefused refused
 HasItsAnswer (Cancel end n) refused stopped = (stopped ≡ None) × IsDoneOrRefused refused
 HasItsAnswer (Close end near) refused stopped = (stopped ≡ None) × IsDoneOrRefused refused
+HasItsAnswer (Flow end near priority metadata answers) refused stopped = (stopped ≡ None) ×
+    IsDoneOrRefused refused
+HasItsAnswer (Queue end near flow options message) refused stopped = (stopped ≡ None) ×
+    IsDoneOrRefused refused
+HasItsAnswer (Abandon end near flow seq) refused stopped = (stopped ≡ None) ×
+    IsDoneOrRefused refused
+HasItsAnswer (Finish end near flow) refused stopped = (stopped ≡ None) × IsDoneOrRefused refused
 HasItsAnswer (Introduce end) refused stopped = (refused ≡ None) × (stopped ≡ None)
 HasItsAnswer (Redirect end peer list) refused stopped = (stopped ≡ None) × IsDoneOrRefused refused
 HasItsAnswer (Deliver number end from) refused stopped = refused ≡ None

@@ -2,7 +2,8 @@
 
 ghost use Rattle.std.specs.Prelude.{◌≡◌, ◌≢◌, ◌<◌, ◌≤◌, ◌^◌, [], false, length, Err, IfSome, IsSome, None, true};
 ghost use Rattle.endpoint_model.specs.Effects.{open_refusal};
-ghost use Rattle.endpoint_model.specs.Event.{AddRow, Cancel as CancelCall, Close as CloseCall, Done, Introduce, Open as OpenCall, Receive, Tick as TickCall};
+ghost use Rattle.endpoint_model.specs.Event.{AddRow, Cancel as CancelCall, Close as CloseCall, Done, Introduce, OnFlows, Open as OpenCall, Receive, Tick as TickCall};
+ghost use Rattle.endpoint_model.specs.FlowCall.{Abandon as AbandonCall, Finish as FinishCall, OpenFlow, Queue as QueueCall};
 ghost use Rattle.endpoint_model.specs.InSessions.{held_row};
 ghost use Rattle.endpoint_model.specs.Log.{Step as StepOf, answer_of_call, not_taken};
 ghost use Rattle.endpoint_model.specs.State.{at_moment};
@@ -13,8 +14,11 @@ ghost use Rattle.rendezvous_world.specs.Stepping.{HasItsAnswer, IsDoneOrRefused}
 use crate::draws::draws_of;
 use crate::journal::Refused;
 use crate::step::{Addresses, Step};
-use endpoint::{CallRefusal, Draws, Endpoint, OpenRefusal, Outbox, RowRefusal, Stopped};
+use endpoint::{
+    CallRefusal, Draws, Endpoint, MessageOptions, OpenRefusal, Outbox, RowRefusal, Stopped,
+};
 use identity::Epd;
+use rtmfp_base::Message;
 use rtmfp_forms::Address;
 
 /// What a call answered.
@@ -57,6 +61,27 @@ pub(crate) fn call_end(
         Step::Open { list, .. } => open(endpoint, print, list, moment, &draws, out),
         Step::Cancel { n, .. } => cancel(endpoint, *n, out),
         Step::Close { near, .. } => close(endpoint, *near, moment, out),
+        Step::Flow {
+            near,
+            priority,
+            metadata,
+            answers,
+            ..
+        } => open_flow(endpoint, *near, *priority, metadata, *answers, out),
+        Step::Queue {
+            near,
+            flow,
+            options,
+            message,
+            ..
+        } => queue(endpoint, *near, *flow, *options, message, out),
+        Step::Abandon {
+            near,
+            flow,
+            seq,
+            ..
+        } => abandon(endpoint, *near, *flow, *seq, out),
+        Step::Finish { near, flow, .. } => finish(endpoint, *near, *flow, out),
         Step::Introduce { .. } => introduce(endpoint, out),
         Step::Redirect { list, .. } => add_row(endpoint, print, list, out),
         Step::Deliver { from, .. } => receive(endpoint, from, moment, bytes, &draws, out),
@@ -133,7 +158,7 @@ fn cancel(endpoint: &mut Endpoint, n: u64, out: &mut Outbox) -> Outcome
     told(endpoint.cancel(n, out))
 }
 
-/// What a cancel or a close answered.
+/// What a call answered that gives nothing.
 fn told(answer: Result<(), CallRefusal>) -> Outcome
     ensures answer { answer_to_call result.refused ≡ answer_of_call answer }
     ensures stopped { result.stopped ≡ None }
@@ -154,7 +179,28 @@ fn told(answer: Result<(), CallRefusal>) -> Outcome
     }
 }
 
-/// Whether a cancel or a close was refused for want of memory.
+/// What a call answered that gives a number, which its entry has as well.
+fn told_number(answer: Result<u64, CallRefusal>) -> Outcome
+    ensures answer { answer_to_call result.refused ≡ answer_of_call answer }
+    ensures stopped { result.stopped ≡ None }
+    ensures done { result.undone ≡ false → IsDoneOrRefused result.refused }
+    ensures undone { result.undone ≡ true → answer ≡ Err CallRefusal.Memory }
+{
+    match answer {
+        Ok(_) => Outcome {
+            refused: None,
+            stopped: None,
+            undone: false,
+        },
+        Err(refusal) => Outcome {
+            refused: Some(Refused::Call(refusal)),
+            stopped: None,
+            undone: found_none_to_call(refusal),
+        },
+    }
+}
+
+/// Whether a call was refused for want of memory.
 fn found_none_to_call(refusal: CallRefusal) -> bool
     ensures yes { result ≡ true → refusal ≡ CallRefusal.Memory }
     ensures no { result ≡ false → refusal ≢ CallRefusal.Memory }
@@ -162,6 +208,12 @@ fn found_none_to_call(refusal: CallRefusal) -> bool
     match refusal {
         CallRefusal::NoAttempt => false,
         CallRefusal::NoSession => false,
+        CallRefusal::NoFlow => false,
+        CallRefusal::FlowsFull(_) => false,
+        CallRefusal::WideMetadata(_) => false,
+        CallRefusal::Queue(_) => false,
+        CallRefusal::NotQueued => false,
+        CallRefusal::Finished => false,
         CallRefusal::Memory => true,
     }
 }
@@ -181,6 +233,84 @@ fn close(endpoint: &mut Endpoint, near: u32, moment: u64, out: &mut Outbox) -> O
     ensures noted { result.undone ≡ true → endpoint.new ≡ at_moment endpoint.old moment }
 {
     told(endpoint.close(near, moment, out))
+}
+
+/// Opens a flow in a session.
+fn open_flow(
+    endpoint: &mut Endpoint,
+    near: u32,
+    priority: u8,
+    metadata: &Message,
+    answers: Option<u64>,
+    out: &mut Outbox,
+) -> Outcome
+    requires { out.old.entries ≡ [] }
+    ensures event { StepOf endpoint.old (record {
+      moment = 0;
+      call = OnFlows near (OpenFlow priority metadata.now answers);
+      answer = answer_to_call result.refused;
+      entries = out.new.entries;
+    }) endpoint.new }
+    ensures stopped { result.stopped ≡ None }
+    ensures answer { result.undone ≡ false → IsDoneOrRefused result.refused }
+    ensures undone { result.undone ≡ true → endpoint.new ≡ endpoint.old }
+{
+    told_number(endpoint.open_flow(near, priority, metadata.bytes(), answers, out))
+}
+
+/// Queues a message in a flow.
+fn queue(
+    endpoint: &mut Endpoint,
+    near: u32,
+    flow: u64,
+    options: MessageOptions,
+    message: &Message,
+    out: &mut Outbox,
+) -> Outcome
+    requires { out.old.entries ≡ [] }
+    ensures event { StepOf endpoint.old (record {
+      moment = 0;
+      call = OnFlows near (QueueCall flow message.now options);
+      answer = answer_to_call result.refused;
+      entries = out.new.entries;
+    }) endpoint.new }
+    ensures stopped { result.stopped ≡ None }
+    ensures answer { result.undone ≡ false → IsDoneOrRefused result.refused }
+    ensures undone { result.undone ≡ true → endpoint.new ≡ endpoint.old }
+{
+    told_number(endpoint.queue(near, flow, message.bytes(), options, out))
+}
+
+/// Abandons a message of a flow.
+fn abandon(endpoint: &mut Endpoint, near: u32, flow: u64, seq: u64, out: &mut Outbox) -> Outcome
+    requires { out.old.entries ≡ [] }
+    ensures event { StepOf endpoint.old (record {
+      moment = 0;
+      call = OnFlows near (AbandonCall flow seq);
+      answer = answer_to_call result.refused;
+      entries = out.new.entries;
+    }) endpoint.new }
+    ensures stopped { result.stopped ≡ None }
+    ensures answer { result.undone ≡ false → IsDoneOrRefused result.refused }
+    ensures undone { result.undone ≡ true → endpoint.new ≡ endpoint.old }
+{
+    told(endpoint.abandon(near, flow, seq, out))
+}
+
+/// Finishes a flow.
+fn finish(endpoint: &mut Endpoint, near: u32, flow: u64, out: &mut Outbox) -> Outcome
+    requires { out.old.entries ≡ [] }
+    ensures event { StepOf endpoint.old (record {
+      moment = 0;
+      call = OnFlows near (FinishCall flow);
+      answer = answer_to_call result.refused;
+      entries = out.new.entries;
+    }) endpoint.new }
+    ensures stopped { result.stopped ≡ None }
+    ensures answer { result.undone ≡ false → IsDoneOrRefused result.refused }
+    ensures undone { result.undone ≡ true → endpoint.new ≡ endpoint.old }
+{
+    told(endpoint.finish(near, flow, out))
 }
 
 /// The end introduces others from now on.

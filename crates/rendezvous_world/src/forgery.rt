@@ -39,6 +39,11 @@ fn is_sent_among(by: usize, entries: &[Entry], bytes: &[u8], context: &Context) 
             Entry::Fact(_) => continue,
             Entry::Closed { .. } => continue,
             Entry::Moved { .. } => continue,
+            Entry::FlowOpened { .. } => continue,
+            Entry::Queued { .. } => continue,
+            Entry::Finished { .. } => continue,
+            Entry::Abandoned { .. } => continue,
+            Entry::Handed { .. } => continue,
             Entry::Discard { .. } => continue,
             Entry::Out {
                 datagram,

@@ -1,17 +1,35 @@
 //! Steps and answers as the journal keeps them, in few bytes, since there may be a million lines.
 
-ghost use Rattle.std.specs.Prelude.{◌≡◌, IfOk, None, Some};
+ghost use Rattle.std.specs.Prelude.{◌≡◌, ℕ, IfOk, None, Some};
 ghost use Rattle.rendezvous_world.specs.Entering.{CallsAnEnd};
-ghost use Rattle.rendezvous_world.specs.Line.{IsOne, refused_kept, step_kept, stopped_kept};
+ghost use Rattle.rendezvous_world.specs.Line.{IsOne, flow_kept, queue_kept, refused_kept, step_kept, stopped_kept};
 ghost use Rattle.rendezvous_world.specs.Stepping.{called_by};
 
 use crate::journal::Refused;
 use crate::step::{Addresses, Step};
-use endpoint::{CallRefusal, OpenRefusal, RowRefusal, Stopped};
+use endpoint::{CallRefusal, MessageOptions, OpenRefusal, QueueRefusal, RowRefusal, Stopped};
 use glare_core::StartRefusal;
 use rtmfp_base::{Memory, Message};
 use rtmfp_forms::Address;
 use std::alloc::Global;
+
+/// What opened a flow, without the number of the end.
+#[derive(Drop)]
+pub(crate) struct FlowKept {
+    near: u32,
+    priority: u8,
+    answers: Option<u64>,
+    metadata: Message,
+}
+
+/// What queued a message, without the number of the end.
+#[derive(Drop)]
+pub(crate) struct QueueKept {
+    near: u32,
+    flow: u64,
+    options: MessageOptions,
+    message: Message,
+}
 
 /// A step that called an end, without the number of that end.
 #[derive(Drop)]
@@ -25,6 +43,17 @@ pub(crate) enum KeptStep {
     },
     Close {
         near: u32,
+    },
+    Flow(Box<FlowKept>),
+    Queue(Box<QueueKept>),
+    Abandon {
+        near: u32,
+        flow: u64,
+        seq: u64,
+    },
+    Finish {
+        near: u32,
+        flow: u64,
     },
     Introduce,
     Redirect {
@@ -97,6 +126,34 @@ impl KeptStep {
             },
             Step::Cancel { n, .. } => KeptStep::Cancel { n: *n },
             Step::Close { near, .. } => KeptStep::Close { near: *near },
+            Step::Flow {
+                near,
+                priority,
+                metadata,
+                answers,
+                ..
+            } => KeptStep::of_flow(alloc, *near, *priority, metadata, *answers)?,
+            Step::Queue {
+                near,
+                flow,
+                options,
+                message,
+                ..
+            } => KeptStep::of_queue(alloc, *near, *flow, *options, message)?,
+            Step::Abandon {
+                near,
+                flow,
+                seq,
+                ..
+            } => KeptStep::Abandon {
+                near: *near,
+                flow: *flow,
+                seq: *seq,
+            },
+            Step::Finish { near, flow, .. } => KeptStep::Finish {
+                near: *near,
+                flow: *flow,
+            },
             Step::Introduce { .. } => KeptStep::Introduce,
             Step::Redirect { peer, list, .. } => KeptStep::Redirect {
                 peer: in_32_bits(*peer)?,
@@ -128,6 +185,52 @@ impl KeptStep {
         })
     }
 
+    /// A flow that is opened.
+    fn of_flow(
+        alloc: Global,
+        near: u32,
+        priority: u8,
+        metadata: &Message,
+        answers: Option<u64>,
+    ) -> Result<KeptStep, Memory>
+        ensures { IfOk result (λ kept. (end : ℕ) →
+            step_kept end kept ≡ Step.Flow end near priority metadata.now answers) }
+    {
+        let kept = FlowKept {
+            near,
+            priority,
+            answers,
+            metadata: Message::copy_of(alloc, metadata.bytes())?,
+        };
+        match Box::new(alloc, kept) {
+            Ok(kept) => Ok(KeptStep::Flow(kept)),
+            Err(_) => Err(Memory),
+        }
+    }
+
+    /// A message that is queued.
+    fn of_queue(
+        alloc: Global,
+        near: u32,
+        flow: u64,
+        options: MessageOptions,
+        message: &Message,
+    ) -> Result<KeptStep, Memory>
+        ensures { IfOk result (λ kept. (end : ℕ) →
+            step_kept end kept ≡ Step.Queue end near flow options message.now) }
+    {
+        let kept = QueueKept {
+            near,
+            flow,
+            options,
+            message: Message::copy_of(alloc, message.bytes())?,
+        };
+        match Box::new(alloc, kept) {
+            Ok(kept) => Ok(KeptStep::Queue(kept)),
+            Err(_) => Err(Memory),
+        }
+    }
+
     /// The step, which called this end.
     pub(crate) fn step(&self, alloc: Global, end: usize) -> Result<Step, Memory>
         ensures { IfOk result (λ step. step ≡ step_kept end self.now) }
@@ -140,6 +243,19 @@ impl KeptStep {
             },
             KeptStep::Cancel { n } => Step::Cancel { end, n: *n },
             KeptStep::Close { near } => Step::Close { end, near: *near },
+            KeptStep::Flow(kept) => kept.step(alloc, end)?,
+            KeptStep::Queue(kept) => kept.step(alloc, end)?,
+            KeptStep::Abandon { near, flow, seq } => Step::Abandon {
+                end,
+                near: *near,
+                flow: *flow,
+                seq: *seq,
+            },
+            KeptStep::Finish { near, flow } => Step::Finish {
+                end,
+                near: *near,
+                flow: *flow,
+            },
             KeptStep::Introduce => Step::Introduce { end },
             KeptStep::Redirect { peer, list } => Step::Redirect {
                 end,
@@ -176,6 +292,36 @@ impl KeptStep {
     }
 }
 
+impl FlowKept {
+    /// The step, which called this end.
+    fn step(&self, alloc: Global, end: usize) -> Result<Step, Memory>
+        ensures { IfOk result (λ step. step ≡ flow_kept end self.now) }
+    {
+        Ok(Step::Flow {
+            end,
+            near: self.near,
+            priority: self.priority,
+            metadata: Message::copy_of(alloc, self.metadata.bytes())?,
+            answers: self.answers,
+        })
+    }
+}
+
+impl QueueKept {
+    /// The step, which called this end.
+    fn step(&self, alloc: Global, end: usize) -> Result<Step, Memory>
+        ensures { IfOk result (λ step. step ≡ queue_kept end self.now) }
+    {
+        Ok(Step::Queue {
+            end,
+            near: self.near,
+            flow: self.flow,
+            options: self.options,
+            message: Message::copy_of(alloc, self.message.bytes())?,
+        })
+    }
+}
+
 /// What a call answered: it was done or stopped, or it was refused for one of the other causes.
 #[derive(Clone, Copy)]
 pub(crate) enum KeptAnswer {
@@ -196,6 +342,17 @@ pub(crate) enum KeptAnswer {
     BadRow(u64),
     RowsFull(u64),
     NoMemoryForRow,
+    NoFlow,
+    FlowsFull(u64),
+    WideMetadata(u64),
+    TooLong(u64),
+    Backlog(u64),
+    /// A message for a flow that was finished.
+    QueuedNoMore,
+    SequenceSpent,
+    NoMemoryToQueue,
+    NotQueued,
+    Finished,
 }
 
 impl KeptAnswer {
@@ -216,9 +373,7 @@ impl KeptAnswer {
                 KeptAnswer::SessionsFull(count)
             }
             Some(Refused::Open(OpenRefusal::Memory)) => KeptAnswer::NoMemoryToOpen,
-            Some(Refused::Call(CallRefusal::NoAttempt)) => KeptAnswer::NoAttempt,
-            Some(Refused::Call(CallRefusal::NoSession)) => KeptAnswer::NoSession,
-            Some(Refused::Call(CallRefusal::Memory)) => KeptAnswer::NoMemoryToCall,
+            Some(Refused::Call(refusal)) => KeptAnswer::of_call(refusal),
             Some(Refused::Row(RowRefusal::Candidates(count))) => KeptAnswer::BadRow(count),
             Some(Refused::Row(RowRefusal::RowsFull(count))) => KeptAnswer::RowsFull(count),
             Some(Refused::Row(RowRefusal::Memory)) => KeptAnswer::NoMemoryForRow,
@@ -240,6 +395,38 @@ impl KeptAnswer {
         }
     }
 
+    /// That a call other than an open or a row was refused.
+    fn of_call(refusal: CallRefusal) -> KeptAnswer
+        ensures refused { refused_kept result ≡ Some (Refused.Call refusal) }
+        ensures stopped { stopped_kept result ≡ None }
+    {
+        match refusal {
+            CallRefusal::NoAttempt => KeptAnswer::NoAttempt,
+            CallRefusal::NoSession => KeptAnswer::NoSession,
+            CallRefusal::NoFlow => KeptAnswer::NoFlow,
+            CallRefusal::FlowsFull(count) => KeptAnswer::FlowsFull(count),
+            CallRefusal::WideMetadata(size) => KeptAnswer::WideMetadata(size),
+            CallRefusal::Queue(refusal) => KeptAnswer::of_queue(refusal),
+            CallRefusal::NotQueued => KeptAnswer::NotQueued,
+            CallRefusal::Finished => KeptAnswer::Finished,
+            CallRefusal::Memory => KeptAnswer::NoMemoryToCall,
+        }
+    }
+
+    /// That a message wasn't queued.
+    fn of_queue(refusal: QueueRefusal) -> KeptAnswer
+        ensures refused { refused_kept result ≡ Some (Refused.Call (CallRefusal.Queue refusal)) }
+        ensures stopped { stopped_kept result ≡ None }
+    {
+        match refusal {
+            QueueRefusal::TooLong(most) => KeptAnswer::TooLong(most),
+            QueueRefusal::Backlog(held) => KeptAnswer::Backlog(held),
+            QueueRefusal::Finished => KeptAnswer::QueuedNoMore,
+            QueueRefusal::SequenceSpent => KeptAnswer::SequenceSpent,
+            QueueRefusal::Memory => KeptAnswer::NoMemoryToQueue,
+        }
+    }
+
     /// Why the call was refused, if it was.
     pub(crate) fn refused(&self) -> Option<Refused>
         ensures { result ≡ refused_kept self.now }
@@ -256,9 +443,19 @@ impl KeptAnswer {
             KeptAnswer::NoRow => refused_start(StartRefusal::Memory),
             KeptAnswer::SessionsFull(count) => refused_open(OpenRefusal::SessionsFull(*count)),
             KeptAnswer::NoMemoryToOpen => refused_open(OpenRefusal::Memory),
-            KeptAnswer::NoAttempt => Some(Refused::Call(CallRefusal::NoAttempt)),
-            KeptAnswer::NoSession => Some(Refused::Call(CallRefusal::NoSession)),
-            KeptAnswer::NoMemoryToCall => Some(Refused::Call(CallRefusal::Memory)),
+            KeptAnswer::NoAttempt => refused_call(CallRefusal::NoAttempt),
+            KeptAnswer::NoSession => refused_call(CallRefusal::NoSession),
+            KeptAnswer::NoMemoryToCall => refused_call(CallRefusal::Memory),
+            KeptAnswer::NoFlow => refused_call(CallRefusal::NoFlow),
+            KeptAnswer::FlowsFull(count) => refused_call(CallRefusal::FlowsFull(*count)),
+            KeptAnswer::WideMetadata(size) => refused_call(CallRefusal::WideMetadata(*size)),
+            KeptAnswer::TooLong(most) => refused_queue(QueueRefusal::TooLong(*most)),
+            KeptAnswer::Backlog(held) => refused_queue(QueueRefusal::Backlog(*held)),
+            KeptAnswer::QueuedNoMore => refused_queue(QueueRefusal::Finished),
+            KeptAnswer::SequenceSpent => refused_queue(QueueRefusal::SequenceSpent),
+            KeptAnswer::NoMemoryToQueue => refused_queue(QueueRefusal::Memory),
+            KeptAnswer::NotQueued => refused_call(CallRefusal::NotQueued),
+            KeptAnswer::Finished => refused_call(CallRefusal::Finished),
             KeptAnswer::BadRow(count) => Some(Refused::Row(RowRefusal::Candidates(*count))),
             KeptAnswer::RowsFull(count) => Some(Refused::Row(RowRefusal::RowsFull(*count))),
             KeptAnswer::NoMemoryForRow => Some(Refused::Row(RowRefusal::Memory)),
@@ -286,4 +483,16 @@ fn refused_start(refusal: StartRefusal) -> Option<Refused>
     ensures { result ≡ Some (Refused.Open (OpenRefusal.Start refusal)) }
 {
     refused_open(OpenRefusal::Start(refusal))
+}
+
+fn refused_call(refusal: CallRefusal) -> Option<Refused>
+    ensures { result ≡ Some (Refused.Call refusal) }
+{
+    Some(Refused::Call(refusal))
+}
+
+fn refused_queue(refusal: QueueRefusal) -> Option<Refused>
+    ensures { result ≡ Some (Refused.Call (CallRefusal.Queue refusal)) }
+{
+    refused_call(CallRefusal::Queue(refusal))
 }

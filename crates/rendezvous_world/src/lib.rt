@@ -20,6 +20,7 @@ mod step;
 mod taking;
 mod world;
 
+pub use endpoint::MessageOptions;
 pub use journal::{Journal, JournalLine, Refused};
 pub use step::{Addresses, Step, StepFault};
 pub use world::World;

@@ -36,6 +36,11 @@ pub(crate) fn count_among(by: usize, entries: &[Entry]) -> usize
             Entry::Fact(_) => continue,
             Entry::Closed { .. } => continue,
             Entry::Moved { .. } => continue,
+            Entry::FlowOpened { .. } => continue,
+            Entry::Queued { .. } => continue,
+            Entry::Finished { .. } => continue,
+            Entry::Abandoned { .. } => continue,
+            Entry::Handed { .. } => continue,
             Entry::Discard { .. } => continue,
             Entry::Out { .. } => count += 1,
         }
@@ -55,6 +60,11 @@ fn find_among(by: usize, entries: &[Entry], number: u128) -> Option<Letter<'_>>
             Entry::Fact(_) => continue,
             Entry::Closed { .. } => continue,
             Entry::Moved { .. } => continue,
+            Entry::FlowOpened { .. } => continue,
+            Entry::Queued { .. } => continue,
+            Entry::Finished { .. } => continue,
+            Entry::Abandoned { .. } => continue,
+            Entry::Handed { .. } => continue,
             Entry::Discard { .. } => continue,
             Entry::Out {
                 to,

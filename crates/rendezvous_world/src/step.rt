@@ -3,6 +3,7 @@
 ghost use Rattle.std.specs.Prelude.{◌≡◌, IfOk};
 ghost use Rattle.rendezvous_world.specs.Entering.{peer_of};
 
+use endpoint::MessageOptions;
 use identity::Certificate;
 use rtmfp_base::{Memory, Message};
 use rtmfp_forms::Address;
@@ -83,6 +84,36 @@ pub enum Step {
         end: usize,
         near: u32,
     },
+    /// An end opens a flow in the session with this session ID at it.
+    Flow {
+        end: usize,
+        near: u32,
+        priority: u8,
+        metadata: Message,
+        /// The flow of the other end that it answers.
+        answers: Option<u64>,
+    },
+    /// An end queues a message in a flow.
+    Queue {
+        end: usize,
+        near: u32,
+        flow: u64,
+        options: MessageOptions,
+        message: Message,
+    },
+    /// An end abandons a message of a flow, whose first fragment has this number.
+    Abandon {
+        end: usize,
+        near: u32,
+        flow: u64,
+        seq: u64,
+    },
+    /// An end finishes a flow.
+    Finish {
+        end: usize,
+        near: u32,
+        flow: u64,
+    },
     /// An end introduces others to each other from now on.
     Introduce {
         end: usize,
@@ -137,6 +168,10 @@ impl Step {
             Step::Open { peer, .. } => *peer,
             Step::Cancel { end, .. } => *end,
             Step::Close { end, .. } => *end,
+            Step::Flow { end, .. } => *end,
+            Step::Queue { end, .. } => *end,
+            Step::Abandon { end, .. } => *end,
+            Step::Finish { end, .. } => *end,
             Step::Introduce { end } => *end,
             Step::Redirect { peer, .. } => *peer,
             Step::Deliver { end, .. } => *end,

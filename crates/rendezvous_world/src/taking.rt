@@ -4,10 +4,11 @@ ghost use Rattle.std.specs.Prelude.{◌≡◌, ◌<◌, ◌^◌, ◌||◌, lengt
 ghost use Rattle.std.specs.List.{list_any};
 ghost use Rattle.identity.specs.Certificates.{IsCertificate};
 ghost use Rattle.sha2.specs.Sha256.{sha256};
-ghost use Rattle.rendezvous_world.specs.Entering.{IsDone};
+ghost use Rattle.rendezvous_world.specs.Entering.{IsDone, IsOnFlows};
 ghost use Rattle.rendezvous_world.specs.Faults.{is_missing, is_outside};
 ghost use Rattle.rendezvous_world.specs.Inside.{named_of};
 ghost use Rattle.rendezvous_world.specs.Sound.{AreBelow};
+ghost use Rattle.rendezvous_world.specs.Stepping.{called_by};
 ghost use Rattle.rtmfp_text.specs.Names.{is_like as is_like_named};
 
 use crate::end::End;
@@ -161,6 +162,20 @@ impl World {
             return Err(StepFault::NoEnd);
         }
         self.enter(line, end, &Step::Close { end, near }, None, &mut [])
+    }
+
+    /// Lets an end make a call on the flows of one of its sessions.
+    pub(crate) fn call_flows(&mut self, line: u64, step: &Step, end: usize) -> Result<(), StepFault>
+        requires above { AreBelow self.old.lines line }
+        requires fits { line < 2 ^ 32 }
+        requires flows { IsOnFlows step.now }
+        requires called { called_by step.now ≡ end }
+        ensures { IsDone self.old line step.now result self.new }
+    {
+        if self.lacks(end) {
+            return Err(StepFault::NoEnd);
+        }
+        self.enter(line, end, step, None, &mut [])
     }
 
     /// Lets an end introduce others from now on.
