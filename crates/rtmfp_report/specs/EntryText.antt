@@ -1,11 +1,11 @@
 -- The lines of what ends did.
-use Rattle.std.specs.Prelude.{ℕ, ◌+◌, List, [], ◌∷◌, ◌++◌, codes}
+use Rattle.std.specs.Prelude.{ℕ, ◌+◌, List, [], ◌∷◌, ◌++◌, codes, length}
 use Rattle.startup.specs.declared.cause.Cause.{Cause}
 use Rattle.endpoint_model.specs.declared.entry.Entry.{Entry}
-use Rattle.endpoint_model.specs.declared.entry.Entry.TheVariants.{Fact as FactEntry, Closed, Moved, Discard, Out}
+use Rattle.endpoint_model.specs.declared.entry.Entry.TheVariants.{Fact as FactEntry, Closed, Moved, FlowOpened, Queued, Finished, Abandoned, Handed, Discard, Out}
 use Rattle.rtmfp_forms.specs.Address.{AddressParts}
 use Rattle.rtmfp_text.specs.AddressText.{address_text}
-use Rattle.rtmfp_text.specs.Words.{number_field_text, text_of}
+use Rattle.rtmfp_text.specs.Words.{field_text, number_field_text, text_of}
 use Rattle.rtmfp_text.specs.declared.names.Named.{Named}
 use Rattle.rtmfp_report.specs.CauseText.{cause_text}
 use Rattle.rtmfp_report.specs.FactText.{fact_text}
@@ -21,6 +21,27 @@ unfoldable pub moved_text : ℕ → AddressParts → List ℕ
 moved_text near to =
     text_of (number_field_text (codes "moved near=") near ∷ codes " " ∷ address_text to ∷ [])
 
+-- a flow that was opened
+unfoldable pub flow_opened_text : ℕ → ℕ → List ℕ
+flow_opened_text near flow =
+    text_of (number_field_text (codes "flow near=") near ∷
+    number_field_text (codes " id=") flow ∷ [])
+
+-- something of a flow that has a number
+unfoldable pub numbered_text : List ℕ → ℕ → ℕ → ℕ → List ℕ
+numbered_text what near flow seq = text_of (what ∷ number_field_text (codes " near=") near ∷
+    number_field_text (codes " flow=") flow ∷ number_field_text (codes " seq=") seq ∷ [])
+
+-- a message that was queued, of so many bytes
+unfoldable pub queued_text : ℕ → ℕ → ℕ → ℕ → List ℕ
+queued_text near flow seq size = text_of (numbered_text (codes "queued") near flow seq ∷
+    number_field_text (codes " length=") size ∷ [])
+
+-- a message that is handed over, and its bytes
+unfoldable pub handed_text : ℕ → ℕ → ℕ → List ℕ → List ℕ
+handed_text near flow seq message = text_of (numbered_text (codes "handed") near flow seq ∷
+    field_text (codes " ") message ∷ [])
+
 -- a discard: its place, and its cause
 unfoldable pub drop_text : ℕ → Cause → List ℕ
 drop_text place cause =
@@ -31,6 +52,11 @@ abbrev pub counted_after : ℕ → Entry → ℕ
 counted_after sent (FactEntry fact) = sent
 counted_after sent (Closed near) = sent
 counted_after sent (Moved near to) = sent
+counted_after sent (FlowOpened near flow) = sent
+counted_after sent (Queued near flow seq message) = sent
+counted_after sent (Finished near flow seq) = sent
+counted_after sent (Abandoned near flow seq) = sent
+counted_after sent (Handed near flow seq message) = sent
 counted_after sent (Discard place cause) = sent
 counted_after sent (Out to datagram context) = sent + 1
 
@@ -39,6 +65,14 @@ abbrev pub told_text : List ℕ → List Named → ℕ → Entry → List ℕ
 told_text secret ends number (FactEntry fact) = fact_text ends fact
 told_text secret ends number (Closed near) = closed_text near
 told_text secret ends number (Moved near to) = moved_text near to
+told_text secret ends number (FlowOpened near flow) = flow_opened_text near flow
+told_text secret ends number (Queued near flow seq message) =
+    queued_text near flow seq (length message)
+told_text secret ends number (Finished near flow seq) =
+    numbered_text (codes "finished") near flow seq
+told_text secret ends number (Abandoned near flow seq) =
+    numbered_text (codes "abandoned") near flow seq
+told_text secret ends number (Handed near flow seq message) = handed_text near flow seq message
 told_text secret ends number (Discard place cause) = drop_text place cause
 told_text secret ends number (Out to datagram context) = sent_text secret number to datagram context
 

@@ -5,7 +5,9 @@ use Rattle.glare_core.specs.declared.answers.StartRefusal.TheVariants.{Opening, 
 use Rattle.endpoint_model.specs.declared.answers.OpenRefusal.{OpenRefusal}
 use Rattle.endpoint_model.specs.declared.answers.OpenRefusal.TheVariants.{Candidates, Start, SessionsFull, Memory as OpenMemory}
 use Rattle.endpoint_model.specs.declared.answers.CallRefusal.{CallRefusal}
-use Rattle.endpoint_model.specs.declared.answers.CallRefusal.TheVariants.{NoAttempt, NoSession, Memory as CallMemory}
+use Rattle.endpoint_model.specs.declared.answers.CallRefusal.TheVariants.{NoAttempt, NoSession, NoFlow, FlowsFull, WideMetadata, Queue, NotQueued, Finished, Memory as CallMemory}
+use Rattle.flow_send.specs.declared.outcome.QueueRefusal.{QueueRefusal}
+use Rattle.flow_send.specs.declared.outcome.QueueRefusal.TheVariants.{TooLong, Backlog, Finished as QueuedNoMore, SequenceSpent, Memory as QueueMemory}
 use Rattle.introducer.specs.declared.refusal.RowRefusal.{RowRefusal}
 use Rattle.introducer.specs.declared.refusal.RowRefusal.TheVariants.{Candidates as BadRow, RowsFull, Memory as RowMemory}
 use Rattle.rtmfp_text.specs.Words.{number_field_text, text_of}
@@ -27,10 +29,24 @@ open_refusal_text (Start refusal) = start_refusal_text refusal
 open_refusal_text (SessionsFull limit) = number_field_text (codes "sessions-full ") limit
 open_refusal_text OpenMemory = []
 
+-- why a message isn't queued; no text for want of memory
+unfoldable pub queue_refusal_text : QueueRefusal → List ℕ
+queue_refusal_text (TooLong most) = number_field_text (codes "too-long ") most
+queue_refusal_text (Backlog held) = number_field_text (codes "backlog ") held
+queue_refusal_text QueuedNoMore = codes "finished"
+queue_refusal_text SequenceSpent = codes "sequence-spent"
+queue_refusal_text QueueMemory = []
+
 -- why another call is refused; no text for want of memory
 unfoldable pub call_refusal_text : CallRefusal → List ℕ
 call_refusal_text NoAttempt = codes "no-attempt"
 call_refusal_text NoSession = codes "no-session"
+call_refusal_text NoFlow = codes "no-flow"
+call_refusal_text (FlowsFull limit) = number_field_text (codes "flows-full ") limit
+call_refusal_text (WideMetadata size) = number_field_text (codes "wide-metadata ") size
+call_refusal_text (Queue refusal) = queue_refusal_text refusal
+call_refusal_text NotQueued = codes "not-queued"
+call_refusal_text Finished = codes "finished"
 call_refusal_text CallMemory = []
 
 -- why a row of addresses isn't added; no text for want of memory

@@ -3,7 +3,7 @@ use Rattle.std.specs.Prelude.{ℕ, ◌+◌, List, [], ◌∷◌, codes}
 use Rattle.glare_core.specs.declared.facts.Fact.{Fact}
 use Rattle.glare_core.specs.declared.facts.Fact.TheVariants.{Started, Born, Opened, Confirmed, Ended}
 use Rattle.endpoint_model.specs.declared.entry.Entry.{Entry}
-use Rattle.endpoint_model.specs.declared.entry.Entry.TheVariants.{Fact as FactEntry, Closed, Moved, Discard, Out}
+use Rattle.endpoint_model.specs.declared.entry.Entry.TheVariants.{Fact as FactEntry, Closed, Moved, FlowOpened, Queued, Finished, Abandoned, Handed, Discard, Out}
 use Rattle.rtmfp_text.specs.Words.{number_field_text, text_of}
 use Rattle.rtmfp_report.specs.declared.tally.Tally.{Tally}
 
@@ -31,6 +31,11 @@ abbrev pub with_entry : Tally → Entry → Tally
 with_entry t (FactEntry fact) = with_fact t fact
 with_entry t (Closed near) = t
 with_entry t (Moved near to) = t
+with_entry t (FlowOpened near flow) = t
+with_entry t (Queued near flow seq message) = t
+with_entry t (Finished near flow seq) = t
+with_entry t (Abandoned near flow seq) = t
+with_entry t (Handed near flow seq message) = t
 with_entry t (Discard place cause) = record t { dropped = t.dropped + 1 }
 with_entry t (Out to datagram context) = record t { sent = t.sent + 1 }
 

@@ -1,6 +1,6 @@
 //! The lines of what ends did.
 ghost use Rattle.std.specs.Prelude.{◌≡◌, ◌++◌, IfOk, OnOk};
-ghost use Rattle.rtmfp_report.specs.EntryText.{closed_text, counted_after, drop_text, entries_text, entry_text, moved_text, sent_after, told_text};
+ghost use Rattle.rtmfp_report.specs.EntryText.{closed_text, counted_after, drop_text, entries_text, entry_text, flow_opened_text, handed_text, moved_text, numbered_text, queued_text, sent_after, told_text};
 
 use crate::causes::push_cause;
 use crate::facts::push_fact;
@@ -54,6 +54,11 @@ fn count_after(sent: u64, entry: &Entry) -> Result<u64, AllocError>
         Entry::Fact(_) => Ok(sent),
         Entry::Closed { .. } => Ok(sent),
         Entry::Moved { .. } => Ok(sent),
+        Entry::FlowOpened { .. } => Ok(sent),
+        Entry::Queued { .. } => Ok(sent),
+        Entry::Finished { .. } => Ok(sent),
+        Entry::Abandoned { .. } => Ok(sent),
+        Entry::Handed { .. } => Ok(sent),
         Entry::Discard { .. } => Ok(sent),
         Entry::Out { .. } => sent.checked_add(1).ok_or(AllocError),
     }
@@ -94,6 +99,25 @@ fn push_told(
         Entry::Fact(fact) => push_fact(ends, fact, text),
         Entry::Closed { near } => push_closed(u64::from(*near), text),
         Entry::Moved { near, to } => push_moved(u64::from(*near), to, text),
+        Entry::FlowOpened { near, flow } => push_flow_opened(u64::from(*near), *flow, text),
+        Entry::Queued {
+            near,
+            flow,
+            seq,
+            message,
+        } => push_queued(u64::from(*near), *flow, *seq, message.len() as u64, text),
+        Entry::Finished { near, flow, seq } => {
+            push_numbered("finished", u64::from(*near), *flow, *seq, text)
+        }
+        Entry::Abandoned { near, flow, seq } => {
+            push_numbered("abandoned", u64::from(*near), *flow, *seq, text)
+        }
+        Entry::Handed {
+            near,
+            flow,
+            seq,
+            message,
+        } => push_handed(u64::from(*near), *flow, *seq, message.bytes(), text),
         Entry::Discard { place, cause } => push_drop(u64::from(*place), cause, text),
         Entry::Out {
             to,
@@ -118,6 +142,56 @@ fn push_moved(near: u64, to: &Address, text: &mut Text) -> Result<(), AllocError
     text.push_number_field("moved near=", near)?;
     text.push(" ")?;
     push_address(to, text)?;
+    Ok(())
+}
+
+/// Adds that a flow was opened: the session ID, and its own ID.
+fn push_flow_opened(near: u64, flow: u64, text: &mut Text) -> Result<(), AllocError>
+    ensures { OnOk result (text.new ≡ text.old ++ flow_opened_text near flow) }
+{
+    text.push_number_field("flow near=", near)?;
+    text.push_number_field(" id=", flow)?;
+    Ok(())
+}
+
+/// Adds what was done in a flow, and the session ID, the flow and the number that it was done with.
+fn push_numbered(
+    what: &str,
+    near: u64,
+    flow: u64,
+    seq: u64,
+    text: &mut Text,
+) -> Result<(), AllocError>
+    ensures { OnOk result (text.new ≡ text.old ++ numbered_text what.now near flow seq) }
+{
+    text.push(what)?;
+    text.push_number_field(" near=", near)?;
+    text.push_number_field(" flow=", flow)?;
+    text.push_number_field(" seq=", seq)?;
+    Ok(())
+}
+
+/// Adds that a message was queued, and how many bytes it has.
+fn push_queued(near: u64, flow: u64, seq: u64, size: u64, text: &mut Text) -> Result<(), AllocError>
+    ensures { OnOk result (text.new ≡ text.old ++ queued_text near flow seq size) }
+{
+    push_numbered("queued", near, flow, seq, text)?;
+    text.push_number_field(" length=", size)?;
+    Ok(())
+}
+
+/// Adds that a message is handed over, and its bytes.
+fn push_handed(
+    near: u64,
+    flow: u64,
+    seq: u64,
+    message: &[u8],
+    text: &mut Text,
+) -> Result<(), AllocError>
+    ensures { OnOk result (text.new ≡ text.old ++ handed_text near flow seq message.now) }
+{
+    push_numbered("handed", near, flow, seq, text)?;
+    text.push_field(" ", message)?;
     Ok(())
 }
 

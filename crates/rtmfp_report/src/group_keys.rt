@@ -74,6 +74,11 @@ impl GroupKeys {
                 Entry::Fact(_) => continue,
                 Entry::Closed { .. } => continue,
                 Entry::Moved { .. } => continue,
+                Entry::FlowOpened { .. } => continue,
+                Entry::Queued { .. } => continue,
+                Entry::Finished { .. } => continue,
+                Entry::Abandoned { .. } => continue,
+                Entry::Handed { .. } => continue,
                 Entry::Discard { .. } => continue,
                 Entry::Out { context, .. } => self.keep(context),
             }

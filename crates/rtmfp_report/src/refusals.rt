@@ -1,9 +1,9 @@
 //! The lines of calls that were refused.
 ghost use Rattle.std.specs.Prelude.{◌≡◌, ◌++◌, OnOk};
-ghost use Rattle.rtmfp_report.specs.RefusalText.{call_refusal_text, open_refusal_text, refused_line, row_refusal_text, start_refusal_text};
+ghost use Rattle.rtmfp_report.specs.RefusalText.{call_refusal_text, open_refusal_text, queue_refusal_text, refused_line, row_refusal_text, start_refusal_text};
 
 use crate::lines::push_head;
-use endpoint::{CallRefusal, OpenRefusal, RowRefusal};
+use endpoint::{CallRefusal, OpenRefusal, QueueRefusal, RowRefusal};
 use glare_core::StartRefusal;
 use rtmfp_text::{Name, Text};
 use std::alloc::AllocError;
@@ -39,13 +39,13 @@ pub fn push_call_refusal(
 {
     push_head(line, name, text)?;
     text.push("refused ")?;
-    text.push(call_name(refusal))?;
+    push_call_name(refusal, text)?;
     text.push("\n")?;
     Ok(())
 }
 
-/// Adds the line of a row of addresses that the end with this name didn't add. Want of memory has no
-/// name; it isn't reported.
+/// Adds the line of a row of addresses that the end with this name didn't add. Want of memory has
+/// no name; it isn't reported.
 pub fn push_row_refusal(
     line: u64,
     name: &Name,
@@ -102,14 +102,34 @@ fn push_start_name(refusal: &StartRefusal, text: &mut Text) -> Result<(), AllocE
     }
 }
 
-/// Why another call is refused.
+/// Adds why another call is refused.
 #[tactic(auto, unfolding(crate::specs::RefusalText::call_refusal_text))]
-fn call_name(refusal: &CallRefusal) -> &'static str
-    ensures { result.now ≡ call_refusal_text refusal.now }
+fn push_call_name(refusal: &CallRefusal, text: &mut Text) -> Result<(), AllocError>
+    ensures { OnOk result (text.new ≡ text.old ++ call_refusal_text refusal.now) }
 {
     match refusal {
-        CallRefusal::NoAttempt => "no-attempt",
-        CallRefusal::NoSession => "no-session",
-        CallRefusal::Memory => "",
+        CallRefusal::NoAttempt => text.push("no-attempt"),
+        CallRefusal::NoSession => text.push("no-session"),
+        CallRefusal::NoFlow => text.push("no-flow"),
+        CallRefusal::FlowsFull(limit) => text.push_number_field("flows-full ", *limit),
+        CallRefusal::WideMetadata(size) => text.push_number_field("wide-metadata ", *size),
+        CallRefusal::Queue(refusal) => push_queue_name(refusal, text),
+        CallRefusal::NotQueued => text.push("not-queued"),
+        CallRefusal::Finished => text.push("finished"),
+        CallRefusal::Memory => text.push(""),
+    }
+}
+
+/// Adds why a message isn't queued.
+#[tactic(auto, unfolding(crate::specs::RefusalText::queue_refusal_text))]
+fn push_queue_name(refusal: &QueueRefusal, text: &mut Text) -> Result<(), AllocError>
+    ensures { OnOk result (text.new ≡ text.old ++ queue_refusal_text refusal.now) }
+{
+    match refusal {
+        QueueRefusal::TooLong(most) => text.push_number_field("too-long ", *most),
+        QueueRefusal::Backlog(held) => text.push_number_field("backlog ", *held),
+        QueueRefusal::Finished => text.push("finished"),
+        QueueRefusal::SequenceSpent => text.push("sequence-spent"),
+        QueueRefusal::Memory => text.push(""),
     }
 }
