@@ -6,7 +6,7 @@ use Rattle.rtmfp_text.specs.declared.names.Named.{Named}
 use Rattle.endpoint_model.specs.State.{State}
 use Rattle.rendezvous_world.specs.declared.journal.JournalLine.{JournalLine}
 use Rattle.rendezvous_world.specs.declared.step.Step.{Step}
-use Rattle.rendezvous_world.specs.declared.step.Step.TheVariants.{End, At, Introduce, Redirect, Open, Cancel, Close, Deliver, Bent, Inject, Forge, Tick}
+use Rattle.rendezvous_world.specs.declared.step.Step.TheVariants.{End, At, Introduce, Redirect, Open, Cancel, Close, Flow, Queue, Abandon, Finish, Deliver, Bent, Inject, Forge, Tick}
 use Rattle.rendezvous_world.specs.Inside.{named_of}
 use Rattle.rendezvous_world.specs.Seen.{EndSeen, Seen}
 use Rattle.rendezvous_world.specs.Sent.{sent_in}
@@ -68,6 +68,10 @@ stepped_adds w n (At moment) t text h is = record {
 stepped_adds w n (Open end peer list) t text h is = called_adds w n (Open end peer list) h.0 t text h.2 is
 stepped_adds w n (Cancel end number) t text h is = called_adds w n (Cancel end number) h.0 t text h.2 is
 stepped_adds w n (Close end near) t text h is = called_adds w n (Close end near) h.0 t text h.2 is
+stepped_adds w n (Flow end near priority metadata answers) t text h is = called_adds w n (Flow end near priority metadata answers) h.0 t text h.2 is
+stepped_adds w n (Queue end near flow options message) t text h is = called_adds w n (Queue end near flow options message) h.0 t text h.2 is
+stepped_adds w n (Abandon end near flow seq) t text h is = called_adds w n (Abandon end near flow seq) h.0 t text h.2 is
+stepped_adds w n (Finish end near flow) t text h is = called_adds w n (Finish end near flow) h.0 t text h.2 is
 stepped_adds w n (Introduce end) t text h is = called_adds w n (Introduce end) h.0 t text h.2 is
 stepped_adds w n (Redirect end peer list) t text h is = called_adds w n (Redirect end peer list) h.0 t text h.2 is
 stepped_adds w n (Deliver sent end from) t text h is = called_adds w n (Deliver sent end from) h.0 t text h.2 is

@@ -4,7 +4,7 @@ use Rattle.std.specs.Str.{bytes_eq}
 use Rattle.rtmfp_text.specs.declared.names.Named.{Named}
 use Rattle.rtmfp_script.specs.declared.line.ScriptLine.{ScriptLine}
 use Rattle.rtmfp_script.specs.declared.line.ScriptLine.TheVariants as line
-use Rattle.rtmfp_script.specs.Grammar.{IsLineOf, IsSkipped, line_limit}
+use Rattle.rtmfp_script.specs.Grammar.{IsLineOf, IsSkipped, content_bytes, line_limit}
 use Rattle.rendezvous_world.specs.declared.step.Step.{Step}
 use Rattle.rendezvous_world.specs.declared.step.Step.TheVariants as step
 use Rattle.rendezvous_world.specs.declared.step.StepFault.{StepFault}
@@ -48,6 +48,15 @@ step_said ends (line.Open name peer addresses) =
 step_said ends (line.Cancel name number) = step_by (number_of ends name)
     (λ end. step.Cancel end number)
 step_said ends (line.Close name near) = step_by (number_of ends name) (λ end. step.Close end near)
+step_said ends (line.Flow name near priority metadata answers) = step_by (number_of ends name)
+    (λ end. step.Flow end near priority metadata answers)
+step_said ends (line.Queue name near flow deadline resends content) =
+    step_by (number_of ends name) (λ end. step.Queue end near flow
+    (record { deadline = deadline; resends = resends }) (content_bytes content))
+step_said ends (line.Abandon name near flow seq) = step_by (number_of ends name)
+    (λ end. step.Abandon end near flow seq)
+step_said ends (line.Finish name near flow) = step_by (number_of ends name)
+    (λ end. step.Finish end near flow)
 step_said ends (line.Introduce name) = step_by (number_of ends name) (λ end. step.Introduce end)
 step_said ends (line.Redirect name peer addresses) =
     step_by_both (number_of ends name) (number_of ends peer)

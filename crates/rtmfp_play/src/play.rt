@@ -2,19 +2,20 @@
 ghost use Rattle.std.specs.Prelude.{◌≡◌, ◌++◌, ◌+◌, ◌<◌, ◌≤◌, ◌^◌, [], IfOk, OnOk, length, slice_get};
 ghost use Rattle.rendezvous_world.specs.Seen.{group_secret};
 ghost use Rattle.rtmfp_report.specs.EntryText.{entries_text};
+ghost use Rattle.rtmfp_script.specs.Grammar.{content_bytes};
 ghost use Rattle.rendezvous_world.specs.Sent.{sent_in};
 ghost use Rattle.rendezvous_world.specs.Sound.{AreBelow};
 ghost use Rattle.rtmfp_play.specs.Play.{name_at, number_of, step_by, step_by_both, step_said, told_next, told_of};
 ghost use Rattle.rtmfp_play.specs.Playing.{PlayedAs, StaysAs, SteppedAs};
 
 use crate::said::Said;
-use rendezvous_world::{Addresses, JournalLine, Refused, Step, StepFault, World};
+use rendezvous_world::{Addresses, JournalLine, MessageOptions, Refused, Step, StepFault, World};
 use rtmfp_base::Message;
 use rtmfp_forms::Address;
 use rtmfp_report::{
     GroupKeys, push_call_refusal, push_entries, push_open_refusal, push_row_refusal,
 };
-use rtmfp_script::{Said as LineSaid, ScriptLine, read_line};
+use rtmfp_script::{Content, Said as LineSaid, ScriptLine, read_line};
 use rtmfp_text::{Directory, Name, Named, Text};
 use std::alloc::{AllocError, Global};
 
@@ -132,6 +133,31 @@ fn step_said(alloc: Global, ends: &Directory, said: ScriptLine) -> Result<Option
         } => open_said(alloc, ends, &name, &peer, candidates.as_slice()),
         ScriptLine::Cancel { name, number } => Ok(cancel_said(ends, &name, number)),
         ScriptLine::Close { name, near } => Ok(close_said(ends, &name, near)),
+        ScriptLine::Flow {
+            name,
+            near,
+            priority,
+            metadata,
+            answers,
+        } => Ok(flow_said(ends, &name, near, priority, metadata, answers)),
+        ScriptLine::Queue {
+            name,
+            near,
+            flow,
+            deadline,
+            resends,
+            content,
+        } => {
+            let options = MessageOptions { deadline, resends };
+            queue_said(alloc, ends, &name, near, flow, options, content)
+        }
+        ScriptLine::Abandon {
+            name,
+            near,
+            flow,
+            seq,
+        } => Ok(abandon_said(ends, &name, near, flow, seq)),
+        ScriptLine::Finish { name, near, flow } => Ok(finish_said(ends, &name, near, flow)),
         ScriptLine::Introduce { name } => Ok(introduce_said(ends, &name)),
         ScriptLine::Redirect {
             name,
@@ -183,6 +209,74 @@ fn close_said(ends: &Directory, name: &Name, near: u32) -> Option<Step>
 {
     let end = ends.number_of(name)?;
     Some(Step::Close { end, near })
+}
+
+fn flow_said(
+    ends: &Directory,
+    name: &Name,
+    near: u32,
+    priority: u8,
+    metadata: Message,
+    answers: Option<u64>,
+) -> Option<Step>
+    ensures { result ≡ step_by (number_of ends.now name.now)
+        (λ end. Step.Flow end near priority metadata answers) }
+{
+    let end = ends.number_of(name)?;
+    Some(Step::Flow {
+        end,
+        near,
+        priority,
+        metadata,
+        answers,
+    })
+}
+
+fn queue_said(
+    alloc: Global,
+    ends: &Directory,
+    name: &Name,
+    near: u32,
+    flow: u64,
+    options: MessageOptions,
+    content: Content,
+) -> Result<Option<Step>, AllocError>
+    ensures { IfOk result (λ step. step ≡ step_by (number_of ends.now name.now)
+        (λ end. Step.Queue end near flow options (content_bytes content))) }
+{
+    let Some(end) = ends.number_of(name) else {
+        return Ok(None);
+    };
+    match content.into_message(alloc) {
+        Ok(message) => Ok(Some(Step::Queue {
+            end,
+            near,
+            flow,
+            options,
+            message,
+        })),
+        Err(_) => Err(AllocError),
+    }
+}
+
+fn abandon_said(ends: &Directory, name: &Name, near: u32, flow: u64, seq: u64) -> Option<Step>
+    ensures { result ≡ step_by (number_of ends.now name.now)
+        (λ end. Step.Abandon end near flow seq) }
+{
+    let end = ends.number_of(name)?;
+    Some(Step::Abandon {
+        end,
+        near,
+        flow,
+        seq,
+    })
+}
+
+fn finish_said(ends: &Directory, name: &Name, near: u32, flow: u64) -> Option<Step>
+    ensures { result ≡ step_by (number_of ends.now name.now) (λ end. Step.Finish end near flow) }
+{
+    let end = ends.number_of(name)?;
+    Some(Step::Finish { end, near, flow })
 }
 
 fn introduce_said(ends: &Directory, name: &Name) -> Option<Step>

@@ -1,7 +1,7 @@
 //! Lines that are outside the grammar of a script, and the limits of its fields. What lines say is
-//! shown by the script of the program `rtmfp_refused`.
+//! shown by the script of the program `rtmfp_refused`; what bytes count, here.
 
-use rtmfp_script::{Said, read_line};
+use rtmfp_script::{Said, ScriptLine, read_line};
 use rtmfp_text::Text;
 use std::alloc::Global;
 use std::test::Fail;
@@ -29,6 +29,68 @@ close a 01
 close a 4294967296
 close  1
 hang a 1
+flow a 1
+flow a 1 4
+flow a 1 4 
+flow a 1  -
+flow a 1 256 -
+flow a 1 04 -
+flow a 4294967296 4 -
+flow a 1 4 6
+flow a 1 4 6D
+flow a 1 4 *1
+flow a 1 4 - 
+flow a 1 4 - -
+flow a 1 4 - 18446744073709551616
+flow a 1 4 - 1 2
+queue a 1 0 - -
+queue a 1 0 - - 
+queue a 1 0 - -  61
+queue a 4294967296 0 - - 61
+queue a 1 18446744073709551616 - - 61
+queue a 1 0 18446744073709551616 - 61
+queue a 1 0 - 4294967296 61
+queue a 1 0 -- - 61
+queue a 1 0 - 01 61
+queue a 1 0 - - 4f4
+queue a 1 0 - - 4F
+queue a 1 0 - - *
+queue a 1 0 - - *-
+queue a 1 0 - - *-1
+queue a 1 0 - - *01
+queue a 1 0 - - *2000001
+queue a 1 0 - - *4294967296
+queue a 1 0 - - 1*
+queue a 1 0 - - 61 61
+queue a 1 0 - - *1 
+abandon a 1 0
+abandon a 4294967296 0 1
+abandon a 1 18446744073709551616 1
+abandon a 1 0 18446744073709551616
+abandon a 1 0 -
+abandon a 1 0 1 1
+finish a 1
+finish a 4294967296 0
+finish a 1 18446744073709551616
+finish a 1 0 0
+";
+
+/// Lines in the grammar, at the limits of their fields.
+const INSIDE: &str = "flow a 0 0 -
+flow a 4294967295 255 6d
+flow a 1 4 - 0
+flow a 1 4 00ff 18446744073709551615
+queue a 0 0 - - -
+queue a 1 0 - - 4f4b
+queue a 1 0 - - *0
+queue a 1 0 - - *2000000
+queue a 4294967295 18446744073709551615 18446744073709551615 4294967295 00
+queue a 1 0 0 - 61
+queue a 1 0 - 0 61
+abandon a 0 0 0
+abandon a 4294967295 18446744073709551615 18446744073709551615
+finish a 0 0
+finish a 4294967295 18446744073709551615
 ";
 
 /// Whether a line, which has a part again and again behind its head, is a step.
@@ -54,6 +116,41 @@ fn first_step(alloc: Global) -> Result<Option<&'static str>, Fail> {
     Ok(None)
 }
 
+/// The first line in the grammar that is no step.
+fn first_other(alloc: Global) -> Result<Option<&'static str>, Fail> {
+    for line in INSIDE.lines() {
+        if !is_step(alloc, line, "", 0)? {
+            return Ok(Some(line));
+        }
+    }
+    Ok(None)
+}
+
+/// The message that a line queues.
+fn message_of(alloc: Global, line: &str) -> Result<Vec<u8>, Fail> {
+    match read_line(alloc, line.as_bytes())? {
+        Said::Step(ScriptLine::Queue { content, .. }) => {
+            Ok(content.into_message(alloc)?.into_bytes())
+        }
+        Said::Step(_) => Ok(Vec::new(alloc)),
+        Said::Nothing => Ok(Vec::new(alloc)),
+        Said::Outside => Ok(Vec::new(alloc)),
+    }
+}
+
+/// Bytes count from 0 to 250, and then from 0 again.
+fn bytes_count(alloc: Global) -> Result<bool, Fail> {
+    let bytes = message_of(alloc, "queue a 1 0 - - *253")?;
+    Ok(
+        bytes.len() == 253
+            && bytes.starts_with(&[0, 1, 2])
+            && bytes.ends_with(&[249, 250, 0, 1])
+            && message_of(alloc, "queue a 1 0 - - *0")?.is_empty()
+            && message_of(alloc, "queue a 1 0 - - *2000000")?.len() == 2_000_000
+            && message_of(alloc, "queue a 1 0 - - 00ff")?.as_slice() == [0u8, 255].as_slice(),
+    )
+}
+
 /// Whether a part has these least and most counts behind a head.
 fn is_limited(alloc: Global, head: &str, part: &str, least: u32, most: u32) -> Result<bool, Fail> {
     Ok(
@@ -70,13 +167,17 @@ fn fields_are_limited(alloc: Global) -> Result<bool, Fail> {
             && is_limited(alloc, "end a 0 0 ", "c", 17, 80)?
             && is_limited(alloc, "open a b", " 1.2.3.4:5", 0, 32)?
             && is_limited(alloc, "inject a 1.2.3.4:5 ", "00", 1, 2048)?
-            && is_limited(alloc, "forge a 1.2.3.4:5 ", "00", 1, 1164)?,
+            && is_limited(alloc, "forge a 1.2.3.4:5 ", "00", 1, 1164)?
+            && is_limited(alloc, "queue a 1 0 - - ", "00", 1, 1_048_824)?
+            && is_limited(alloc, "flow a 1 4 ", "00", 1, 1_048_826)?,
     )
 }
 
 #[test]
 fn lines_and_fields_have_their_limits(rt: HostRuntime) -> Result<(), Fail> {
     assert_eq!(rt; first_step(rt.alloc())?, None);
+    assert_eq!(rt; first_other(rt.alloc())?, None);
     assert!(rt; fields_are_limited(rt.alloc())?);
+    assert!(rt; bytes_count(rt.alloc())?);
     Ok(())
 }

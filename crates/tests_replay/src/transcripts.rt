@@ -3,6 +3,7 @@
 use crate::cli::says_status;
 use rtmfp_cli::run;
 use rtmfp_host::{MemorySink, MemorySource};
+use rtmfp_text::Text;
 use std::alloc::{AllocError, Global};
 use std::test::Fail;
 
@@ -197,6 +198,123 @@ const ROWS: &str = "@ handshake = done
 4 a sent 1 10.0.0.9:1935 ihello
 > open a b 10.0.0.2:1935
 5 a refused sessions-full 1
+@ a-flow = done
++ 8 handshake
+> flow a 3 4 6d
+9 a flow near=3 id=0
+> queue a 3 0 - - -
+10 a queued near=3 flow=0 seq=1 length=0
+> queue a 3 0 - - *1000
+11 a queued near=3 flow=0 seq=2 length=1000
+> queue a 3 0 - - *1001
+12 a queued near=3 flow=0 seq=3 length=1001
+> queue a 3 0 5 1 4f4b
+13 a queued near=3 flow=0 seq=5 length=2
+> abandon a 3 0 2
+14 a abandoned near=3 flow=0 seq=2
+> abandon a 3 0 2
+15 a refused not-queued
+> abandon a 3 0 4
+16 a refused not-queued
+> abandon a 3 0 6
+17 a refused not-queued
+> abandon a 3 0 5
+18 a abandoned near=3 flow=0 seq=5
+> flow a 3 7 - 18446744073709551615
+19 a flow near=3 id=1
+> flow b 6 0 -
+20 b flow near=6 id=0
+> finish a 3 1
+21 a finished near=3 flow=1 seq=1
+> finish a 3 0
+22 a finished near=3 flow=0 seq=6
+> abandon a 3 0 6
+23 a refused not-queued
+> abandon a 3 0 3
+24 a abandoned near=3 flow=0 seq=3
+@ a-flow-that-is-finished = done
++ 8 handshake
+> flow a 3 4 6d
+9 a flow near=3 id=0
+> finish a 3 0
+10 a finished near=3 flow=0 seq=1
+> queue a 3 0 - - 61
+11 a refused finished
+> queue a 3 0 - - *1048577
+12 a refused finished
+> finish a 3 0
+13 a refused finished
+> abandon a 3 0 1
+14 a refused not-queued
+@ no-session-has-the-flow = done
++ 6 handshake
+> flow a 3 4 6d
+7 a refused no-session
+> flow b 6 4 6d
+8 b flow near=6 id=0
+> flow b 3 4 6d
+9 b refused no-session
+> queue b 3 0 - - 61
+10 b refused no-session
+> abandon b 3 0 1
+11 b refused no-session
+> finish b 3 0
+12 b refused no-session
+> close b 6
+13 b ended near=6 near
+13 b sent 5 10.0.0.1:1935 close
+> queue b 6 0 - - 61
+14 b refused no-session
+> flow b 6 8 6d
+15 b refused no-session
+@ no-such-flow = done
++ 8 handshake
+> queue a 3 0 - - 61
+9 a refused no-flow
+> flow a 3 4 6d
+10 a flow near=3 id=0
+> queue a 3 1 - - *1048577
+11 a refused no-flow
+> abandon a 3 1 1
+12 a refused no-flow
+> finish a 3 1
+13 a refused no-flow
+> queue b 6 0 - - 61
+14 b refused no-flow
+@ wide-metadata = done
++ 8 handshake
+> flow a 3 7 00000000000000000000000000000000000000000000000000000000000000000000000000000000000000000000000000000000000000000000000000000000
+9 a flow near=3 id=0
+> flow a 3 7 0000000000000000000000000000000000000000000000000000000000000000000000000000000000000000000000000000000000000000000000000000000000
+10 a refused wide-metadata 65
+> flow a 3 8 6d
+11 a refused wide-metadata 1
+> flow a 3 255 -
+12 a refused wide-metadata 0
+@ a-backlog = done
++ 8 handshake
+> flow a 3 4 6d
+9 a flow near=3 id=0
+> queue a 3 0 - - *1048577
+10 a refused too-long 1048576
+> queue a 3 0 - - *1048576
+11 a queued near=3 flow=0 seq=1 length=1048576
+> queue a 3 0 - - *1048575
+12 a queued near=3 flow=0 seq=1050 length=1048575
+> queue a 3 0 - - *2
+13 a refused backlog 2097151
+> queue a 3 0 - - 61
+14 a queued near=3 flow=0 seq=2099 length=1
+> queue a 3 0 - - 61
+15 a refused backlog 2097152
+> queue a 3 0 - - *2000000
+16 a refused too-long 1048576
+> queue a 3 0 - - -
+17 a queued near=3 flow=0 seq=2100 length=0
+> abandon a 3 0 1
+18 a abandoned near=3 flow=0 seq=1
+> queue a 3 0 - - *1048576
+19 a queued near=3 flow=0 seq=2101 length=1048576
 ";
 
 /// The lines of the row of this name.
@@ -296,6 +414,28 @@ pub(crate) fn first_wrong(
         }
     }
     Ok(None)
+}
+
+/// A session has 256 flows, and no more; that there is no room counts before what is wide.
+fn flows_end(alloc: Global) -> Result<bool, AllocError> {
+    let mut whole = Transcript::of(alloc, ROWS, "+ 8 handshake\n")?;
+    let mut text = Text::new(alloc);
+    for id in 0..256 {
+        push_line("flow a 3 4 6d", &mut whole.script)?;
+        text.push_number(id + 9)?;
+        text.push_number_field(" a flow near=3 id=", id)?;
+        text.push("\n")?;
+    }
+    whole.report.extend_from_slice(text.bytes())?;
+    push_line("flow a 3 8 6d", &mut whole.script)?;
+    push_line("265 a refused flows-full 256", &mut whole.report)?;
+    gives(alloc, whole.script, "done", whole.report.as_slice())
+}
+
+#[test]
+fn a_session_has_256_flows(rt: HostRuntime) -> Result<(), Fail> {
+    assert!(rt; flows_end(rt.alloc())?);
+    Ok(())
 }
 
 #[test]
