@@ -14,8 +14,8 @@
 //! tell a number each. `abandons COUNT` has one abandon its messages from the middle on, and in
 //! `deadlines COUNT` they become overdue one after another, the last one first. `full COUNT` has a
 //! receiver with a full buffer refuse as many chunks as there are beginnings of messages that each
-//! of them would pass. The answer is the word, how many chunks there were, and how many messages were handed
-//! over, sent again, told, abandoned or refused.
+//! of them would pass. The answer is the word, how many chunks there were, and how many messages
+//! were handed over, sent again, told, abandoned or refused.
 #![tactic(auto)]
 
 ghost use Rattle.std.specs.Prelude.{◌≡◌, ◌+◌, ◌<◌, ◌≤◌, false, true, length};

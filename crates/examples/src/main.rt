@@ -1,6 +1,6 @@
-//! Plays the examples, which are the files of this crate's `data`, and tells of each whether what is
-//! written is the report beside it. Its words are the names of the examples. All are scripts, but
-//! for `packets`, whose lines are packets.
+//! Plays the examples, which are the files of this crate's `data`, and tells of each whether what
+//! is written is the report beside it. Its words are the names of the examples. All are scripts,
+//! but for `packets`, whose lines are packets.
 #![tactic(auto)]
 
 use rtmfp_cli::run;

@@ -14,9 +14,10 @@ use std::alloc::{AllocError, Global};
 use std::collections::VecDeque;
 use std::marker::Model;
 
-/// The sendings, each by its ordinal, its number and its moment, from the oldest one of a number in flight on.
-/// One of a number that was sent again, or isn't in flight any more, is passed over. Where there is
-/// no room for one, ordinals stand still or a moment goes back, the rows themselves are gone through.
+/// The sendings, each by its ordinal, its number and its moment, from the oldest one of a number in
+/// flight on. One of a number that was sent again, or isn't in flight any more, is passed over.
+/// Where there is no room for one, ordinals stand still or a moment goes back, the rows themselves
+/// are gone through.
 #[derive(Drop)]
 pub struct Sendings {
     whole: bool,
