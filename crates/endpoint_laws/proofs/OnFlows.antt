@@ -87,9 +87,6 @@ module _ (s : State) (near : â„•) (old new : Row) (there : get s.sessions near â
     sent = sent_session_changed setup (onto s.moment entries past) s near old new (sent_unseen setup call s entries past are sent) there like.alike.joined like.alike.own like.alike.role like.sealed;
   }
 
-  pub few_unseen : Few s changed
-  few_unseen = few_same s changed refl
-
   pub heard_unseen : KeepsHeard s changed
   heard_unseen = heard_follows s changed (follows_row s s near old new entries there like.descends (none_begin entries are) refl refl)
 
