@@ -265,10 +265,9 @@ module _ (own : List ℕ) (max_peers started : ℕ) (before after : PeerRows) (o
       (subst (λ e. Gave l (heard_facts (Birth e born)) (heard_noted l (Birth e born))) (sym way) (gave_if_heard l keying near nr free None other none)))
 
 -- There is room for the row of a peer that has none.
-room_of : (index : Option ℕ) (count max_peers n : ℕ) (known : Bool) → is_some index ≡ known → (not known && nat_eq count max_peers) ≡ false → count ≡ n → n ≤ max_peers → IsRoom index n max_peers
-room_of (Some i) count max_peers n known e full c within = tt
-room_of None count max_peers n true e full c within = absurd (cc)
-room_of None count max_peers n false e full c within = grind (arith, nat_tests)
+room_of : (known : Bool) (count max_peers : ℕ) → (not known && nat_eq count max_peers) ≡ false → count ≤ max_peers → IsRoom known count max_peers
+room_of true count max_peers full within = tt
+room_of false count max_peers full within = grind (arith, nat_tests)
 
 start_full : (l : Ledger) (peer : List ℕ) → start_refusal l peer ≡ None → peers_full l peer ≡ false
 start_full l peer none =
@@ -287,13 +286,13 @@ birth_full l keying free none =
     let glare = first_none (glare_of l.own keying.peer (held_with l keying.peer)) full stale.1 in
     test_fails (peers_full l keying.peer) (NoRow (row_count l)) (first_none (where_true (peers_full l keying.peer) (NoRow (row_count l))) sessions glare.1).0
 
-module _ (own : List ℕ) (max_peers started : ℕ) (rows : PeerRows) (old : Ledger) (is : record { own = own; max_peers = max_peers; started = started; rows = rows } ≡ old) (index : Option ℕ) (n : ℕ) (count : len rows ≡ n) (within : n ≤ max_peers) where
-  pub start_room : (peer : List ℕ) → is_some index ≡ contains_key rows peer → start_refusal old peer ≡ None → IsRoom index n max_peers
-  start_room peer known =
-      subst (λ o. start_refusal o peer ≡ None → IsRoom index n max_peers) is (λ none.
-      room_of index (len rows) max_peers n (contains_key rows peer) known (start_full (record { own = own; max_peers = max_peers; started = started; rows = rows }) peer none) count within)
+module _ (own : List ℕ) (max_peers started : ℕ) (rows : PeerRows) (old : Ledger) (is : record { own = own; max_peers = max_peers; started = started; rows = rows } ≡ old) (within : len rows ≤ max_peers) where
+  pub start_room : (peer : List ℕ) → start_refusal old peer ≡ None → IsRoom (contains_key rows peer) (len rows) max_peers
+  start_room peer =
+      subst (λ o. start_refusal o peer ≡ None → IsRoom (contains_key rows peer) (len rows) max_peers) is (λ none.
+      room_of (contains_key rows peer) (len rows) max_peers (start_full (record { own = own; max_peers = max_peers; started = started; rows = rows }) peer none) within)
 
-  pub birth_room : (keying : Keying) (free : Bool) → is_some index ≡ contains_key rows keying.peer → birth_refusal old keying free ≡ None → IsRoom index n max_peers
-  birth_room keying free known =
-      subst (λ o. birth_refusal o keying free ≡ None → IsRoom index n max_peers) is (λ none.
-      room_of index (len rows) max_peers n (contains_key rows keying.peer) known (birth_full (record { own = own; max_peers = max_peers; started = started; rows = rows }) keying free none) count within)
+  pub birth_room : (keying : Keying) (free : Bool) → birth_refusal old keying free ≡ None → IsRoom (contains_key rows keying.peer) (len rows) max_peers
+  birth_room keying free =
+      subst (λ o. birth_refusal o keying free ≡ None → IsRoom (contains_key rows keying.peer) (len rows) max_peers) is (λ none.
+      room_of (contains_key rows keying.peer) (len rows) max_peers (birth_full (record { own = own; max_peers = max_peers; started = started; rows = rows }) keying free none) within)

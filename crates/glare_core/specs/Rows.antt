@@ -1,26 +1,15 @@
--- The list of rows in which a ledger is kept.
-use Rattle.std.specs.Prelude.{ℕ, List, ◌≡◌, ◌≤◌, ◌<◌, Option, Some, None, Bool, map, length}
-use Rattle.std.specs.Str.{bytes_eq}
-use Rattle.std.specs.FinMap.{from_entries, len}
-use Rattle.glare_core.specs.declared.rows.Row.{Row}
-use Rattle.glare_core.specs.Ledger.{PeerRow, PeerRows}
+-- The rows in which a ledger is kept.
+use Rattle.std.specs.Prelude.{ℕ, ◌<◌, Bool, true, false}
+use Rattle.std.specs.FinMap.{code}
+use Rattle.std.specs.Coded.{Coded, coded_ℕ, coded_list}
+use Rattle.glare_core.specs.declared.facts.Held.{Held}
+use Rattle.glare_core.specs.Ledger.{PeerRows, row_code}
 
-abbrev pub is_of : List ℕ → Row → Bool
-is_of peer row = bytes_eq row.peer peer
+-- rows are stored as the list of their entries
+abbrev pub rows_code : Coded Held → Coded PeerRows
+rows_code held = code (coded_list coded_ℕ) (row_code held)
 
-abbrev pub entry_of : Row → List ℕ × PeerRow
-entry_of row = (row.peer, record { held = row.held; floor = row.floor })
-
--- the rows by their peers
-abbrev pub table_of : List Row → PeerRows
-table_of rows = from_entries (map entry_of rows)
-
--- No two rows are of one peer, and there are no more than may be.
-pub record IsTable (rows : List Row) (max_peers : ℕ) : Type 0 where
-  pub distinct : len (table_of rows) ≡ length rows
-  pub within : length rows ≤ max_peers
-
--- There is room for what has none yet.
-abbrev pub IsRoom : Option ℕ → ℕ → ℕ → Type 0
-IsRoom None rows max_peers = rows < max_peers
-IsRoom (Some index) rows max_peers = Unit {0}
+-- There is room for the row of a peer, where it has none yet.
+abbrev pub IsRoom : Bool → ℕ → ℕ → Type 0
+IsRoom true rows max_peers = Unit {0}
+IsRoom false rows max_peers = rows < max_peers

@@ -9,6 +9,7 @@ mod facts;
 mod given;
 pub mod laws;
 mod peers;
+mod print;
 mod rows;
 
 pub use answers::{HearRefusal, Heard, Keying, StartRefusal};

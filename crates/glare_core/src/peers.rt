@@ -13,11 +13,12 @@ ghost use Rattle.glare_core.specs.Account.{StandsFor, Gave};
 use crate::answers::{HearRefusal, Heard, Keying, StartRefusal};
 use crate::facts::{Fact, Held, Joined, Why};
 use crate::given::{again, confirmed_fact, ended_fact, glare, near_of, opened_fact, way_made};
-use crate::rows::{Row, Seat, index_of, note_after, note_if, seat_of};
+use crate::rows::{Rows, Seat};
 use std::alloc::Global;
 use std::marker::Model;
 
-/// What an end holds with its peers: at most one attempt or session with each.
+/// What an end holds with its peers: at most one attempt or session with each. A call takes constant
+/// time on average, however many peers there are.
 ///
 /// Contracts see it as a ledger: the own fingerprint, the limit on rows, the count of attempts, and
 /// a finite map from peers to what is held and to the greatest number seen. A ledger stands for the
@@ -28,7 +29,7 @@ pub struct Peers {
     own: [u8; 32],
     max_peers: u32,
     started: u64,
-    rows: Vec<Row>,
+    rows: Rows,
 }
 
 impl Model for Peers {
@@ -39,16 +40,17 @@ impl Model for Peers {
 
     ghost coded = { ledger_code held_type.the_row.coded };
 
-    ghost use Rattle.glare_core.specs.Rows.{table_of, IsTable};
+    ghost use Rattle.std.specs.Prelude.{◌≤◌};
+    ghost use Rattle.std.specs.FinMap.{len};
 
     ghost view = { λ p. record {
       own = p.own;
       max_peers = p.max_peers;
       started = p.started;
-      rows = table_of p.rows.items;
+      rows = p.rows;
     } };
 
-    ghost invariant = { λ p. IsTable p.rows.items p.max_peers };
+    ghost invariant = { λ p. len p.rows ≤ p.max_peers };
 }
 
 impl Peers {
@@ -62,16 +64,16 @@ impl Peers {
             own,
             max_peers,
             started,
-            rows: Vec::new(alloc),
+            rows: Rows::new(alloc),
         }
     }
 
     /// The number of rows, where the peer has none and there are as many as may be.
     fn full_for(&self, seat: &Seat) -> Option<u64>
-        ensures { result ≡ where_true (not (is_some seat.now.index)
+        ensures { result ≡ where_true (not seat.now.known
             && (row_count self.now == self.now.max_peers)) (row_count self.now) }
     {
-        if seat.index.is_none() && self.rows.len() == self.max_peers as usize {
+        if !seat.known && self.rows.len() == self.max_peers as usize {
             Some(self.rows.len() as u64)
         } else {
             None
@@ -81,7 +83,7 @@ impl Peers {
     /// Why no attempt towards the peer starts, but for want of memory.
     fn refusal_at(&self, peer: &[u8; 32], seat: &Seat) -> Option<StartRefusal>
         requires held { seat.now.held ≡ held_with self.now peer.now }
-        requires known { is_some seat.now.index ≡ knows self.now peer.now }
+        requires known { seat.now.known ≡ knows self.now peer.now }
         ensures { result ≡ start_refusal self.now peer.now }
     {
         if *peer == self.own {
@@ -106,7 +108,7 @@ impl Peers {
     pub fn start_refusal(&self, peer: &[u8; 32]) -> Option<StartRefusal>
         ensures { result ≡ start_refusal self.now peer.now }
     {
-        self.refusal_at(peer, &seat_of(&self.rows, peer))
+        self.refusal_at(peer, &self.rows.seat(peer))
     }
 
     /// Starts an attempt towards the peer, whose near id and nonce are given; it gives Started,
@@ -126,7 +128,7 @@ impl Peers {
         ensures own { self.new.own ≡ self.old.own }
         ensures gave { IfOk result (λ fact. Gave self.old (fact ∷ []) self.new) }
     {
-        let seat = seat_of(&self.rows, peer);
+        let seat = self.rows.seat(peer);
         match self.refusal_at(peer, &seat) {
             Some(refusal) => return Err(refusal),
             None => {}
@@ -137,7 +139,7 @@ impl Peers {
             near,
             ni,
         };
-        match note_after(&mut self.rows, seat.index, &None, &fact) {
+        match self.rows.note_after(seat.known, &None, &fact) {
             Ok(()) => {
                 self.started += 1;
                 Ok(fact)
@@ -150,7 +152,7 @@ impl Peers {
     fn birth_refusal(&self, keying: &Keying, seat: &Seat, free: bool) -> Option<HearRefusal>
         requires held { seat.now.held ≡ held_with self.now keying.now.peer }
         requires floor { seat.now.floor ≡ floor_of self.now keying.now.peer }
-        requires known { is_some seat.now.index ≡ knows self.now keying.now.peer }
+        requires known { seat.now.known ≡ knows self.now keying.now.peer }
         ensures { result ≡ birth_refusal self.now keying.now free }
     {
         if keying.n <= seat.floor {
@@ -174,7 +176,7 @@ impl Peers {
     pub fn hear_refusal(&self, keying: &Keying, free: bool) -> Option<HearRefusal>
         ensures { result ≡ hear_refusal self.now keying.now free }
     {
-        let seat = seat_of(&self.rows, &keying.peer);
+        let seat = self.rows.seat(&keying.peer);
         if again(&seat.held, keying).is_some() {
             return None;
         }
@@ -207,7 +209,7 @@ impl Peers {
         ensures own { self.new.own ≡ self.old.own }
         ensures gave { IfOk result (λ answer. Gave self.old (heard_facts answer) self.new) }
     {
-        let seat = seat_of(&self.rows, &keying.peer);
+        let seat = self.rows.seat(&keying.peer);
         if let Some(id) = again(&seat.held, keying) {
             return Ok(Heard::Again(id));
         }
@@ -225,7 +227,7 @@ impl Peers {
             k: self.started,
         });
         let ended = way_made(&keying.peer, &seat.held);
-        match note_after(&mut self.rows, seat.index, &ended, &born) {
+        match self.rows.note_after(seat.known, &ended, &born) {
             Ok(()) => Ok(Heard::Birth { ended, born }),
             Err(_) => Err(HearRefusal::Memory),
         }
@@ -239,9 +241,9 @@ impl Peers {
         ensures own { self.new.own ≡ self.old.own }
         ensures gave { Gave self.old (option_to_list result) self.new }
     {
-        let seat = seat_of(&self.rows, peer);
+        let seat = self.rows.seat(peer);
         let fact = opened_fact(&seat.held, peer, nr, far, k);
-        note_if(&mut self.rows, seat.index, &fact);
+        self.rows.note_if(&fact);
         fact
     }
 
@@ -253,9 +255,9 @@ impl Peers {
         ensures own { self.new.own ≡ self.old.own }
         ensures gave { Gave self.old (option_to_list result) self.new }
     {
-        let seat = seat_of(&self.rows, peer);
+        let seat = self.rows.seat(peer);
         let fact = confirmed_fact(&seat.held, peer);
-        note_if(&mut self.rows, seat.index, &fact);
+        self.rows.note_if(&fact);
         fact
     }
 
@@ -271,9 +273,9 @@ impl Peers {
         ensures gave { IfSome (held_with self.old peer.now) (MayEnd why) →
             Gave self.old (option_to_list result) self.new }
     {
-        let seat = seat_of(&self.rows, peer);
+        let seat = self.rows.seat(peer);
         let fact = ended_fact(&seat.held, peer, why);
-        note_if(&mut self.rows, seat.index, &fact);
+        self.rows.note_if(&fact);
         fact
     }
 
@@ -283,10 +285,7 @@ impl Peers {
         ensures facts { (from : ℕ) (facts : List Fact) → StandsFor from self.now facts →
             option_copied result ≡ held peer.now facts }
     {
-        match index_of(&self.rows, peer) {
-            Some(index) => self.rows[index].held.as_ref(),
-            None => None,
-        }
+        self.rows.held(peer)
     }
 
     /// The greatest n of a Born of the peer and k of an Opened with it, 0 at first.
@@ -295,7 +294,7 @@ impl Peers {
         ensures facts { (from : ℕ) (facts : List Fact) → StandsFor from self.now facts →
             result ≡ seen peer.now facts }
     {
-        seat_of(&self.rows, peer).floor
+        self.rows.seat(peer).floor
     }
 
     /// How many attempts were started, with the number that `new` was given.
@@ -313,7 +312,7 @@ impl Peers {
         ensures facts { (from : ℕ) (facts : List Fact) → StandsFor from self.now facts →
             result ≡ list_any (bytes_eq peer.now) (peers_in facts) }
     {
-        seat_of(&self.rows, peer).index.is_some()
+        self.rows.seat(peer).known
     }
 
     /// The number of rows. Rows are kept for good.

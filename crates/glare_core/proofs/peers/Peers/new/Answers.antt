@@ -6,4 +6,4 @@ use Rattle.glare_core.specs.Ledger.{PeerRow}
 use Rattle.glare_core.proofs.peers.Peers.new.Goals as goal
 
 pub invariant_of-result : goal.invariant_of-result
-invariant_of-result c = rw c.new.ensures.items (record { distinct = len-empty (slice_cmp nat_cmp) PeerRow; within = omega arith })
+invariant_of-result c = rw (c.new.ensures, len-empty (slice_cmp nat_cmp) PeerRow) (omega arith)
