@@ -10,7 +10,7 @@ use Rattle.rtmfp_script.specs.declared.line.ScriptLine.TheVariants.{End, Introdu
 use Rattle.rtmfp_script.specs.declared.content.Content.{Content}
 use Rattle.rtmfp_script.specs.Grammar.{IsName, IsCert, IsPlainAddress, IsBytesUpTo, EachIsPlainAddress, AreBytes, IsBelow, IsContent, IsWithin, IsLineOf, content_text, word_for, line_text, words_text, line_limit}
 use Rattle.rtmfp_script.specs.Fields.{split_of, number_of, number_below, ◌>>=◌}
-use Rattle.rtmfp_script.specs.Lines.{end_of, introduce_of, redirect_of, at_of, open_of, open_to, cancel_of, close_of, flow_in, flow_of, queue_in, queue_of, abandon_of, finish_of, tick_of, deliver_of, bent_of, inject_of, forge_of, word_of, step_of}
+use Rattle.rtmfp_script.specs.Lines.{end_of, introduce_of, redirect_of, at_of, open_of, open_to, cancel_of, close_of, session_at, flow_in, flow_of, queue_in, queue_of, abandon_of, finish_of, tick_of, deliver_of, bent_of, bytes_at, inject_of, forge_of, word_of, step_of}
 use Rattle.rtmfp_script.proofs.Splits.{split_text, split_nothing}
 use Rattle.rtmfp_script.proofs.Numbers.{number_of-decimal, number_below-decimal}
 use Rattle.rtmfp_script.proofs.Digits.{bytes_of-text, hexadecimal_of-text}
@@ -64,6 +64,16 @@ close_read : (name : List ℕ) (near : ℕ) → IsName name → near < 2 ^ 32 �
 unfolding close_of
 close_read name near n m = rw (split_text 32 name (decimal near) (lacks_name name n), name_of-name name n, number_below-decimal (2 ^ 32) near (omega arith) m) refl
 
+session_at_read : (name : List ℕ) (near : ℕ) (behind : List ℕ) → IsName name → near < 2 ^ 32 → session_at (name ++ 32 ∷ (decimal near ++ 32 ∷ behind)) ≡ Some (name, near, behind)
+unfolding session_at
+session_at_read name near behind n i =
+    rw (
+      split_text 32 name (decimal near ++ 32 ∷ behind) (lacks_name name n),
+      split_text 32 (decimal near) behind (lacks_low 32 near (omega arith) (omega arith)),
+      name_of-name name n,
+      number_below-decimal (2 ^ 32) near (omega arith) i,
+    ) refl
+
 flow_in_read : (name : List ℕ) (near priority : ℕ) (metadata : List ℕ) (answers : Option ℕ) → priority < 256 → AreBytes metadata → IsBelow (2 ^ 64) answers →
     flow_in name near (decimal priority ++ 32 ∷ words_text (bytes_text metadata ∷ word_for answers)) ≡ Some (Flow name near priority metadata answers)
 unfolding flow_in
@@ -79,12 +89,7 @@ flow_read : (name : List ℕ) (near priority : ℕ) (metadata : List ℕ) (answe
     flow_of (name ++ 32 ∷ (decimal near ++ 32 ∷ (decimal priority ++ 32 ∷ words_text (bytes_text metadata ∷ word_for answers)))) ≡ Some (Flow name near priority metadata answers)
 unfolding flow_of
 flow_read name near priority metadata answers n i p m a =
-    rw (
-      split_text 32 name (decimal near ++ 32 ∷ (decimal priority ++ 32 ∷ words_text (bytes_text metadata ∷ word_for answers))) (lacks_name name n),
-      split_text 32 (decimal near) (decimal priority ++ 32 ∷ words_text (bytes_text metadata ∷ word_for answers)) (lacks_low 32 near (omega arith) (omega arith)),
-      name_of-name name n,
-      number_below-decimal (2 ^ 32) near (omega arith) i,
-    ) (flow_in_read name near priority metadata answers p m a)
+    rw (session_at_read name near (decimal priority ++ 32 ∷ words_text (bytes_text metadata ∷ word_for answers)) n i) (flow_in_read name near priority metadata answers p m a)
 
 queue_in_read : (name : List ℕ) (near flow : ℕ) (deadline resends : Option ℕ) (content : Content) → flow < 2 ^ 64 → IsBelow (2 ^ 64) deadline → IsBelow (2 ^ 32) resends → IsContent content →
     queue_in name near (decimal flow ++ 32 ∷ (number_text deadline ++ 32 ∷ (number_text resends ++ 32 ∷ content_text content))) ≡ Some (Queue name near flow deadline resends content)
@@ -104,12 +109,7 @@ queue_read : (name : List ℕ) (near flow : ℕ) (deadline resends : Option ℕ)
     queue_of (name ++ 32 ∷ (decimal near ++ 32 ∷ (decimal flow ++ 32 ∷ (number_text deadline ++ 32 ∷ (number_text resends ++ 32 ∷ content_text content))))) ≡ Some (Queue name near flow deadline resends content)
 unfolding queue_of
 queue_read name near flow deadline resends content n i f d r c =
-    rw (
-      split_text 32 name (decimal near ++ 32 ∷ (decimal flow ++ 32 ∷ (number_text deadline ++ 32 ∷ (number_text resends ++ 32 ∷ content_text content)))) (lacks_name name n),
-      split_text 32 (decimal near) (decimal flow ++ 32 ∷ (number_text deadline ++ 32 ∷ (number_text resends ++ 32 ∷ content_text content))) (lacks_low 32 near (omega arith) (omega arith)),
-      name_of-name name n,
-      number_below-decimal (2 ^ 32) near (omega arith) i,
-    ) (queue_in_read name near flow deadline resends content f d r c)
+    rw (session_at_read name near (decimal flow ++ 32 ∷ (number_text deadline ++ 32 ∷ (number_text resends ++ 32 ∷ content_text content))) n i) (queue_in_read name near flow deadline resends content f d r c)
 
 abandon_read : (name : List ℕ) (near flow seq : ℕ) → IsName name → near < 2 ^ 32 → flow < 2 ^ 64 → seq < 2 ^ 64 →
     abandon_of (name ++ 32 ∷ (decimal near ++ 32 ∷ (decimal flow ++ 32 ∷ decimal seq))) ≡ Some (Abandon name near flow seq)
@@ -167,29 +167,27 @@ bent_read number place name from m p n f =
       address_of-text from f,
     ) refl
 
-inject_read : (name : List ℕ) (from : AddressParts) (bytes : List ℕ) → IsName name → IsPlainAddress from → IsBytesUpTo 2048 bytes →
-    inject_of (name ++ 32 ∷ (address_text from ++ 32 ∷ bytes_text bytes)) ≡ Some (Inject name from bytes)
-unfolding inject_of
-inject_read name from bytes n f b =
+bytes_at_read : (most : ℕ) (name : List ℕ) (from : AddressParts) (bytes : List ℕ) → IsName name → IsPlainAddress from → IsBytesUpTo most bytes →
+    bytes_at most (name ++ 32 ∷ (address_text from ++ 32 ∷ bytes_text bytes)) ≡ Some (name, from, bytes)
+unfolding bytes_at
+bytes_at_read most name from bytes n f b =
     rw (
       split_text 32 name (address_text from ++ 32 ∷ bytes_text bytes) (lacks_name name n),
       split_text 32 (address_text from) (bytes_text bytes) (lacks_address from f),
       name_of-name name n,
       address_of-text from f,
-      bytes_of-text 2048 bytes b,
+      bytes_of-text most bytes b,
     ) refl
+
+inject_read : (name : List ℕ) (from : AddressParts) (bytes : List ℕ) → IsName name → IsPlainAddress from → IsBytesUpTo 2048 bytes →
+    inject_of (name ++ 32 ∷ (address_text from ++ 32 ∷ bytes_text bytes)) ≡ Some (Inject name from bytes)
+unfolding inject_of
+inject_read name from bytes n f b = rw (bytes_at_read 2048 name from bytes n f b) refl
 
 forge_read : (name : List ℕ) (from : AddressParts) (bytes : List ℕ) → IsName name → IsPlainAddress from → IsBytesUpTo 1164 bytes →
     forge_of (name ++ 32 ∷ (address_text from ++ 32 ∷ bytes_text bytes)) ≡ Some (Forge name from bytes)
 unfolding forge_of
-forge_read name from bytes n f b =
-    rw (
-      split_text 32 name (address_text from ++ 32 ∷ bytes_text bytes) (lacks_name name n),
-      split_text 32 (address_text from) (bytes_text bytes) (lacks_address from f),
-      name_of-name name n,
-      address_of-text from f,
-      bytes_of-text 1164 bytes b,
-    ) refl
+forge_read name from bytes n f b = rw (bytes_at_read 1164 name from bytes n f b) refl
 
 open_alone : (name peer : List ℕ) → IsName name → IsName peer → open_of (name ++ 32 ∷ peer) ≡ Some (Open name peer [])
 unfolding open_of open_to

@@ -10,9 +10,9 @@ use Rattle.rtmfp_text.specs.Words.{bytes_text, number_text}
 use Rattle.rtmfp_script.specs.declared.line.ScriptLine.{ScriptLine}
 use Rattle.rtmfp_script.specs.declared.line.ScriptLine.TheVariants.{Redirect, Open, Flow, Queue, Abandon, Finish}
 use Rattle.rtmfp_script.specs.declared.content.Content.{Content}
-use Rattle.rtmfp_script.specs.Grammar.{IsName, EachIsPlainAddress, AreBytes, IsBelow, IsContent, IsWithin, IsLineOf, content_text, word_for, line_text, words_text, line_limit}
+use Rattle.rtmfp_script.specs.Grammar.{IsName, IsPlainAddress, IsBytesUpTo, EachIsPlainAddress, AreBytes, IsBelow, IsContent, IsWithin, IsLineOf, content_text, word_for, line_text, words_text, line_limit}
 use Rattle.rtmfp_script.specs.Fields.{split_of, name_of, cert_of, number_of, number_below, bytes_of, hexadecimal_of, limit_by, content_of, address_of, addresses_of, either, ◌>>=◌}
-use Rattle.rtmfp_script.specs.Lines.{end_of, introduce_of, row_said, redirect_of, at_of, open_of, open_to, cancel_of, close_of, answers_of, flow_in, flow_of, queue_in, queue_of, abandon_of, finish_of, tick_of, deliver_of, bent_of, inject_of, forge_of, word_of, step_of}
+use Rattle.rtmfp_script.specs.Lines.{end_of, introduce_of, row_said, redirect_of, at_of, open_of, open_to, cancel_of, close_of, answers_of, session_at, flow_in, flow_of, queue_in, queue_of, abandon_of, finish_of, tick_of, deliver_of, bent_of, bytes_at, inject_of, forge_of, word_of, step_of}
 use Rattle.rtmfp_script.proofs.Splits.{some_some, bind_some, split_joined}
 use Rattle.rtmfp_script.proofs.Numbers.{number_of-some, number_below-some}
 use Rattle.rtmfp_script.proofs.Digits.{bytes_of-some, hexadecimal_of-some}
@@ -139,41 +139,46 @@ bent_sound rest said h =
       within = (m.1, p.1, n.1, f.1);
     })
 
+-- an end, an address and bytes
+record AreBytesAt (most : ℕ) (rest name : List ℕ) (from : AddressParts) (bytes : List ℕ) : Type 0 where
+  text : rest ≡ name ++ 32 ∷ (address_text from ++ 32 ∷ bytes_text bytes)
+  name_is : IsName name
+  from_is : IsPlainAddress from
+  bytes_are : IsBytesUpTo most bytes
+
+bytes_at_sound : (most : ℕ) (rest : List ℕ) (d : List ℕ × AddressParts × List ℕ) → bytes_at most rest ≡ Some d → AreBytesAt most rest d.0 d.1 d.2
+unfolding bytes_at
+bytes_at_sound most rest d h =
+    let a = bind_some (split_of 32 rest) _ d h in
+    let b = bind_some (split_of 32 a.0.1) _ d a.2 in
+    let name = bind_some (name_of a.0.0) _ d b.2 in
+    let from = bind_some (address_of b.0.0) _ d name.2 in
+    let bytes = bind_some (bytes_of most b.0.1) _ d from.2 in
+    let n = name_of-some a.0.0 name.0 name.1 in
+    let f = address_of-some b.0.0 from.0 from.1 in
+    let x = bytes_of-some most b.0.1 bytes.0 bytes.1 in
+    subst (λ (p : List ℕ × AddressParts × List ℕ). AreBytesAt most rest p.0 p.1 p.2) (some_some _ _ bytes.2) (record {
+      text =
+          rejoin 32 rest a.0.0 a.0.1 _ _ (split_joined 32 rest a.0 a.1) n.0
+          (rejoin 32 a.0.1 b.0.0 b.0.1 _ _ (split_joined 32 a.0.1 b.0 b.1) f.0 x.0);
+      name_is = n.1;
+      from_is = f.1;
+      bytes_are = x.1;
+    })
+
 inject_sound : (rest : List ℕ) (said : ScriptLine) → inject_of rest ≡ Some said → IsSaid (codes "inject") rest said
 unfolding inject_of
 inject_sound rest said h =
-    let a = bind_some (split_of 32 rest) _ said h in
-    let b = bind_some (split_of 32 a.0.1) _ said a.2 in
-    let name = bind_some (name_of a.0.0) _ said b.2 in
-    let from = bind_some (address_of b.0.0) _ said name.2 in
-    let bytes = bind_some (bytes_of 2048 b.0.1) _ said from.2 in
-    let n = name_of-some a.0.0 name.0 name.1 in
-    let f = address_of-some b.0.0 from.0 from.1 in
-    let x = bytes_of-some 2048 b.0.1 bytes.0 bytes.1 in
-    subst (IsSaid (codes "inject") rest) (some_some _ _ bytes.2) (record {
-      text = after (codes "inject") rest _
-          (rejoin 32 rest a.0.0 a.0.1 _ _ (split_joined 32 rest a.0 a.1) n.0
-          (rejoin 32 a.0.1 b.0.0 b.0.1 _ _ (split_joined 32 a.0.1 b.0 b.1) f.0 x.0));
-      within = (n.1, f.1, x.1);
-    })
+    let d = bind_some (bytes_at 2048 rest) _ said h in
+    let i = bytes_at_sound 2048 rest d.0 d.1 in
+    subst (IsSaid (codes "inject") rest) (some_some _ _ d.2) (record { text = after (codes "inject") rest _ i.text; within = (i.name_is, i.from_is, i.bytes_are) })
 
 forge_sound : (rest : List ℕ) (said : ScriptLine) → forge_of rest ≡ Some said → IsSaid (codes "forge") rest said
 unfolding forge_of
 forge_sound rest said h =
-    let a = bind_some (split_of 32 rest) _ said h in
-    let b = bind_some (split_of 32 a.0.1) _ said a.2 in
-    let name = bind_some (name_of a.0.0) _ said b.2 in
-    let from = bind_some (address_of b.0.0) _ said name.2 in
-    let bytes = bind_some (bytes_of 1164 b.0.1) _ said from.2 in
-    let n = name_of-some a.0.0 name.0 name.1 in
-    let f = address_of-some b.0.0 from.0 from.1 in
-    let x = bytes_of-some 1164 b.0.1 bytes.0 bytes.1 in
-    subst (IsSaid (codes "forge") rest) (some_some _ _ bytes.2) (record {
-      text = after (codes "forge") rest _
-          (rejoin 32 rest a.0.0 a.0.1 _ _ (split_joined 32 rest a.0 a.1) n.0
-          (rejoin 32 a.0.1 b.0.0 b.0.1 _ _ (split_joined 32 a.0.1 b.0 b.1) f.0 x.0));
-      within = (n.1, f.1, x.1);
-    })
+    let d = bind_some (bytes_at 1164 rest) _ said h in
+    let i = bytes_at_sound 1164 rest d.0 d.1 in
+    subst (IsSaid (codes "forge") rest) (some_some _ _ d.2) (record { text = after (codes "forge") rest _ i.text; within = (i.name_is, i.from_is, i.bytes_are) })
 
 -- ---- open
 
@@ -259,6 +264,29 @@ redirect_sound rest said h =
 
 -- ---- flows
 
+-- an end, a session ID, and what stands behind them
+record IsSession (rest name : List ℕ) (near : ℕ) (behind : List ℕ) : Type 0 where
+  text : (said : List ℕ) → behind ≡ said → rest ≡ name ++ 32 ∷ (decimal near ++ 32 ∷ said)
+  name_is : IsName name
+  near_fits : near < 2 ^ 32
+
+session_at_sound : (rest : List ℕ) (s : List ℕ × ℕ × List ℕ) → session_at rest ≡ Some s → IsSession rest s.0 s.1 s.2
+unfolding session_at
+session_at_sound rest s h =
+    let a = bind_some (split_of 32 rest) _ s h in
+    let b = bind_some (split_of 32 a.0.1) _ s a.2 in
+    let name = bind_some (name_of a.0.0) _ s b.2 in
+    let near = bind_some (number_below (2 ^ 32) b.0.0) _ s name.2 in
+    let n = name_of-some a.0.0 name.0 name.1 in
+    let i = number_below-some (2 ^ 32) b.0.0 near.0 near.1 in
+    subst (λ (p : List ℕ × ℕ × List ℕ). IsSession rest p.0 p.1 p.2) (some_some _ _ near.2) (record {
+      text = λ said is.
+          rejoin 32 rest a.0.0 a.0.1 _ _ (split_joined 32 rest a.0 a.1) n.0
+          (rejoin 32 a.0.1 b.0.0 b.0.1 _ _ (split_joined 32 a.0.1 b.0 b.1) i.0 is);
+      name_is = n.1;
+      near_fits = i.1;
+    })
+
 -- what opens a flow
 record IsFlow (name : List ℕ) (near : ℕ) (rest : List ℕ) (said : ScriptLine) : Type 0 where
   priority : ℕ
@@ -294,18 +322,12 @@ flow_in_sound name near rest said h =
 flow_sound : (rest : List ℕ) (said : ScriptLine) → flow_of rest ≡ Some said → IsSaid (codes "flow") rest said
 unfolding flow_of
 flow_sound rest said h =
-    let a = bind_some (split_of 32 rest) _ said h in
-    let b = bind_some (split_of 32 a.0.1) _ said a.2 in
-    let name = bind_some (name_of a.0.0) _ said b.2 in
-    let near = bind_some (number_below (2 ^ 32) b.0.0) _ said name.2 in
-    let n = name_of-some a.0.0 name.0 name.1 in
-    let i = number_below-some (2 ^ 32) b.0.0 near.0 near.1 in
-    let f = flow_in_sound name.0 near.0 b.0.1 said near.2 in
-    subst (IsSaid (codes "flow") rest) {x = Flow name.0 near.0 f.priority f.metadata f.answers} f.is (record {
-      text = after (codes "flow") rest _
-          (rejoin 32 rest a.0.0 a.0.1 _ _ (split_joined 32 rest a.0 a.1) n.0
-          (rejoin 32 a.0.1 b.0.0 b.0.1 _ _ (split_joined 32 a.0.1 b.0 b.1) i.0 f.text));
-      within = (n.1, i.1, f.small, f.bytes, f.below);
+    let s = bind_some (session_at rest) _ said h in
+    let i = session_at_sound rest s.0 s.1 in
+    let f = flow_in_sound s.0.0 s.0.1 s.0.2 said s.2 in
+    subst (IsSaid (codes "flow") rest) {x = Flow s.0.0 s.0.1 f.priority f.metadata f.answers} f.is (record {
+      text = after (codes "flow") rest _ (i.text _ f.text);
+      within = (i.name_is, i.near_fits, f.small, f.bytes, f.below);
     })
 
 -- what stands behind the session of a message
@@ -358,18 +380,12 @@ queue_in_sound name near rest said h =
 queue_sound : (rest : List ℕ) (said : ScriptLine) → queue_of rest ≡ Some said → IsSaid (codes "queue") rest said
 unfolding queue_of
 queue_sound rest said h =
-    let a = bind_some (split_of 32 rest) _ said h in
-    let b = bind_some (split_of 32 a.0.1) _ said a.2 in
-    let name = bind_some (name_of a.0.0) _ said b.2 in
-    let near = bind_some (number_below (2 ^ 32) b.0.0) _ said name.2 in
-    let n = name_of-some a.0.0 name.0 name.1 in
-    let i = number_below-some (2 ^ 32) b.0.0 near.0 near.1 in
-    let q = queue_in_sound name.0 near.0 b.0.1 said near.2 in
-    subst (IsSaid (codes "queue") rest) {x = Queue name.0 near.0 q.flow q.deadline q.resends q.content} q.is (record {
-      text = after (codes "queue") rest (name.0 ++ 32 ∷ (decimal near.0 ++ 32 ∷ queue_rest q.flow q.deadline q.resends q.content))
-          (rejoin 32 rest a.0.0 a.0.1 _ (decimal near.0 ++ 32 ∷ queue_rest q.flow q.deadline q.resends q.content) (split_joined 32 rest a.0 a.1) n.0
-          (rejoin 32 a.0.1 b.0.0 b.0.1 _ (queue_rest q.flow q.deadline q.resends q.content) (split_joined 32 a.0.1 b.0 b.1) i.0 q.text));
-      within = (n.1, i.1, q.flow_fits, q.deadline_fits, q.resends_fit, q.content_is);
+    let s = bind_some (session_at rest) _ said h in
+    let i = session_at_sound rest s.0 s.1 in
+    let q = queue_in_sound s.0.0 s.0.1 s.0.2 said s.2 in
+    subst (IsSaid (codes "queue") rest) {x = Queue s.0.0 s.0.1 q.flow q.deadline q.resends q.content} q.is (record {
+      text = after (codes "queue") rest _ (i.text (queue_rest q.flow q.deadline q.resends q.content) q.text);
+      within = (i.name_is, i.near_fits, q.flow_fits, q.deadline_fits, q.resends_fit, q.content_is);
     })
 
 abandon_sound : (rest : List ℕ) (said : ScriptLine) → abandon_of rest ≡ Some said → IsSaid (codes "abandon") rest said

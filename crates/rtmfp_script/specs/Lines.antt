@@ -71,6 +71,15 @@ answers_of rest = either (Some (rest, None))
     (λ parts. number_of parts.1 >>= λ number. Some (parts.0, Some number))
     (split_of 32 rest)
 
+-- an end, a session ID, and what stands behind them
+unfoldable pub session_at : List ℕ → Option (List ℕ × ℕ × List ℕ)
+session_at rest =
+    split_of 32 rest >>= λ a.
+    split_of 32 a.1 >>= λ b.
+    name_of a.0 >>= λ name.
+    number_below (2 ^ 32) b.0 >>= λ near.
+    Some (name, near, b.1)
+
 -- the flow that an end opens in a session
 unfoldable pub flow_in : List ℕ → ℕ → List ℕ → Option ScriptLine
 flow_in name near rest =
@@ -81,12 +90,7 @@ flow_in name near rest =
     Some (Flow name near priority metadata b.1)
 
 unfoldable pub flow_of : List ℕ → Option ScriptLine
-flow_of rest =
-    split_of 32 rest >>= λ a.
-    split_of 32 a.1 >>= λ b.
-    name_of a.0 >>= λ name.
-    number_below (2 ^ 32) b.0 >>= λ near.
-    flow_in name near b.1
+flow_of rest = session_at rest >>= λ s. flow_in s.0 s.1 s.2
 
 -- the message that an end queues in a session
 unfoldable pub queue_in : List ℕ → ℕ → List ℕ → Option ScriptLine
@@ -101,12 +105,7 @@ queue_in name near rest =
     Some (Queue name near flow deadline resends content)
 
 unfoldable pub queue_of : List ℕ → Option ScriptLine
-queue_of rest =
-    split_of 32 rest >>= λ a.
-    split_of 32 a.1 >>= λ b.
-    name_of a.0 >>= λ name.
-    number_below (2 ^ 32) b.0 >>= λ near.
-    queue_in name near b.1
+queue_of rest = session_at rest >>= λ s. queue_in s.0 s.1 s.2
 
 unfoldable pub abandon_of : List ℕ → Option ScriptLine
 abandon_of rest =
@@ -151,23 +150,21 @@ bent_of rest =
     address_of c.1 >>= λ from.
     Some (Bent number place name from)
 
-unfoldable pub inject_of : List ℕ → Option ScriptLine
-inject_of rest =
+-- an end, an address, and bytes, at most so many
+unfoldable pub bytes_at : ℕ → List ℕ → Option (List ℕ × AddressParts × List ℕ)
+bytes_at most rest =
     split_of 32 rest >>= λ a.
     split_of 32 a.1 >>= λ b.
     name_of a.0 >>= λ name.
     address_of b.0 >>= λ from.
-    bytes_of 2048 b.1 >>= λ bytes.
-    Some (Inject name from bytes)
+    bytes_of most b.1 >>= λ bytes.
+    Some (name, from, bytes)
+
+unfoldable pub inject_of : List ℕ → Option ScriptLine
+inject_of rest = bytes_at 2048 rest >>= λ d. Some (Inject d.0 d.1 d.2)
 
 unfoldable pub forge_of : List ℕ → Option ScriptLine
-forge_of rest =
-    split_of 32 rest >>= λ a.
-    split_of 32 a.1 >>= λ b.
-    name_of a.0 >>= λ name.
-    address_of b.0 >>= λ from.
-    bytes_of 1164 b.1 >>= λ bytes.
-    Some (Forge name from bytes)
+forge_of rest = bytes_at 1164 rest >>= λ d. Some (Forge d.0 d.1 d.2)
 
 -- by the first word, and what stands behind its space
 unfoldable pub word_of : List ℕ → List ℕ → Option ScriptLine

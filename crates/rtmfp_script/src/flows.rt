@@ -1,6 +1,6 @@
 //! Lines of flows that are read.
 ghost use Rattle.std.specs.Prelude.{◌≡◌, IfErr, IfOk, MatchOption, None, Some};
-ghost use Rattle.rtmfp_script.specs.Lines.{abandon_of, answers_of, finish_of, flow_in, flow_of, queue_in, queue_of, StepTakesMemory};
+ghost use Rattle.rtmfp_script.specs.Lines.{abandon_of, answers_of, finish_of, flow_in, flow_of, queue_in, queue_of, session_at, StepTakesMemory};
 
 use crate::bytes::hexadecimal;
 use crate::content::read_content;
@@ -10,21 +10,23 @@ use rtmfp_base::Memory;
 use rtmfp_text::Name;
 use std::alloc::Global;
 
+/// An end, a session ID, and what stands behind them.
+#[tactic(auto, unfolding(crate::specs::Lines::session_at))]
+fn session_at(rest: &[u8]) -> Option<(Name, u32, &[u8])>
+    ensures { MatchOption result (session_at rest.now ≡ None) (λ parts. session_at rest.now
+        ≡ Some (parts.0, parts.1, parts.2.now)) }
+{
+    let (first, rest) = split(b' ', rest)?;
+    let (second, rest) = split(b' ', rest)?;
+    Some((name(first)?, number32(second)?, rest))
+}
+
 #[tactic(auto, unfolding(crate::specs::Lines::flow_of))]
 pub(crate) fn read_flow(alloc: Global, rest: &[u8]) -> Result<Option<ScriptLine>, Memory>
     ensures value { IfOk result (λ said. said ≡ flow_of rest.now) }
     ensures memory { IfErr result (λ _. StepTakesMemory (flow_of rest.now)) }
 {
-    let Some((first, rest)) = split(b' ', rest) else {
-        return Ok(None);
-    };
-    let Some((second, rest)) = split(b' ', rest) else {
-        return Ok(None);
-    };
-    let Some(name) = name(first) else {
-        return Ok(None);
-    };
-    let Some(near) = number32(second) else {
+    let Some((name, near, rest)) = session_at(rest) else {
         return Ok(None);
     };
     flow_in(alloc, name, near, rest)
@@ -74,16 +76,7 @@ pub(crate) fn read_queue(alloc: Global, rest: &[u8]) -> Result<Option<ScriptLine
     ensures value { IfOk result (λ said. said ≡ queue_of rest.now) }
     ensures memory { IfErr result (λ _. StepTakesMemory (queue_of rest.now)) }
 {
-    let Some((first, rest)) = split(b' ', rest) else {
-        return Ok(None);
-    };
-    let Some((second, rest)) = split(b' ', rest) else {
-        return Ok(None);
-    };
-    let Some(name) = name(first) else {
-        return Ok(None);
-    };
-    let Some(near) = number32(second) else {
+    let Some((name, near, rest)) = session_at(rest) else {
         return Ok(None);
     };
     queue_in(alloc, name, near, rest)

@@ -1,14 +1,15 @@
 //! Lines that are read.
-ghost use Rattle.std.specs.Prelude.{◌≡◌, ◌↔◌, IsTrue, IfErr, IfOk};
+ghost use Rattle.std.specs.Prelude.{◌≡◌, ◌↔◌, ◌<◌, ◌^◌, IsSome, IsTrue, IfErr, IfOk};
 ghost use Rattle.rtmfp_script.specs.Grammar.{IsLineOf, IsSkipped, TakesMemory};
-ghost use Rattle.rtmfp_script.specs.Lines.{end_of, introduce_of, redirect_of, row_said, at_of, open_of, open_to, cancel_of, close_of, tick_of, deliver_of, bent_of, inject_of, forge_of, word_of, step_of, StepTakesMemory, Says};
+ghost use Rattle.rtmfp_script.specs.Lines.{end_of, introduce_of, redirect_of, row_said, at_of, open_of, open_to, cancel_of, close_of, tick_of, deliver_of, bent_of, bytes_at, inject_of, forge_of, word_of, step_of, StepTakesMemory, Says};
 
 use crate::address::{address, addresses};
 use crate::bytes::bytes;
 use crate::fields::{cert, name, number, number32, split};
 use crate::flows::{read_abandon, read_finish, read_flow, read_queue};
 use crate::line::{Candidates, MOST_OF_A_ROW, Said, ScriptLine};
-use rtmfp_base::Memory;
+use rtmfp_base::{Memory, Message};
+use rtmfp_forms::Address;
 use rtmfp_text::Name;
 use std::alloc::Global;
 
@@ -159,10 +160,16 @@ fn read_bent(rest: &[u8]) -> Option<ScriptLine>
     })
 }
 
-#[tactic(auto, unfolding(crate::specs::Lines::inject_of))]
-fn read_inject(alloc: Global, rest: &[u8]) -> Result<Option<ScriptLine>, Memory>
-    ensures value { IfOk result (λ said. said ≡ inject_of rest.now) }
-    ensures memory { IfErr result (λ _. StepTakesMemory (inject_of rest.now)) }
+/// An end, an address, and bytes, at most so many.
+#[tactic(auto, unfolding(crate::specs::Lines::bytes_at))]
+fn bytes_at(
+    alloc: Global,
+    rest: &[u8],
+    most: usize,
+) -> Result<Option<(Name, Address, Message)>, Memory>
+    requires { most < 2 ^ 32 }
+    ensures value { IfOk result (λ parts. parts ≡ bytes_at most rest.now) }
+    ensures memory { IfErr result (λ _. IsSome (bytes_at most rest.now)) }
 {
     let Some((first, rest)) = split(b' ', rest) else {
         return Ok(None);
@@ -176,7 +183,18 @@ fn read_inject(alloc: Global, rest: &[u8]) -> Result<Option<ScriptLine>, Memory>
     let Some(from) = address(second) else {
         return Ok(None);
     };
-    let Some(bytes) = bytes(alloc, rest, INJECTED)? else {
+    let Some(bytes) = bytes(alloc, rest, most)? else {
+        return Ok(None);
+    };
+    Ok(Some((name, from, bytes)))
+}
+
+#[tactic(auto, unfolding(crate::specs::Lines::inject_of))]
+fn read_inject(alloc: Global, rest: &[u8]) -> Result<Option<ScriptLine>, Memory>
+    ensures value { IfOk result (λ said. said ≡ inject_of rest.now) }
+    ensures memory { IfErr result (λ _. StepTakesMemory (inject_of rest.now)) }
+{
+    let Some((name, from, bytes)) = bytes_at(alloc, rest, INJECTED)? else {
         return Ok(None);
     };
     Ok(Some(ScriptLine::Inject { name, from, bytes }))
@@ -187,19 +205,7 @@ fn read_forge(alloc: Global, rest: &[u8]) -> Result<Option<ScriptLine>, Memory>
     ensures value { IfOk result (λ said. said ≡ forge_of rest.now) }
     ensures memory { IfErr result (λ _. StepTakesMemory (forge_of rest.now)) }
 {
-    let Some((first, rest)) = split(b' ', rest) else {
-        return Ok(None);
-    };
-    let Some((second, rest)) = split(b' ', rest) else {
-        return Ok(None);
-    };
-    let Some(name) = name(first) else {
-        return Ok(None);
-    };
-    let Some(from) = address(second) else {
-        return Ok(None);
-    };
-    let Some(bytes) = bytes(alloc, rest, FORGED)? else {
+    let Some((name, from, bytes)) = bytes_at(alloc, rest, FORGED)? else {
         return Ok(None);
     };
     Ok(Some(ScriptLine::Forge { name, from, bytes }))
