@@ -4,7 +4,7 @@ use Rattle.std.specs.Prelude.{IfSome}
 use Rattle.std.specs.Option.{IsSomeAnd}
 use Rattle.std.proofs.lemmas.Map.Steps.{set_value_same}
 use Rattle.std.specs.Ordering.{nat_cmp, is_eq, match_ordering}
-use Rattle.std.specs.declared.cmp.Ordering.TheVariants.{Less, Equal, Greater}
+use Rattle.std.specs.declared.cmp.Ordering.TheVariants.{Less}
 use Rattle.std.specs.List.{AllByRecursion}
 use Rattle.std.specs.List.Sorted.{IsStrictlySortedBy}
 use Rattle.std.specs.Map.{keys_of, values_of, lookup, remove_entry, set_value}
@@ -14,7 +14,7 @@ use Rattle.std.specs.Set.{remove_key}
 use Rattle.std.proofs.lemmas.Map.Keys.{sorted_head, sorted_tail}
 use Rattle.std.proofs.lemmas.Bool.{cases_Bool, cases_lt, ltb-true, ltb-false, lt-ltb, le-ltb, ne_eqb, eqb-true, eq-eqb}
 use Rattle.rtmfp_data_chunks.specs.Runs.{Run, is_whole, fits}
-use Rattle.rtmfp_data_chunks.proofs.Keys.{less_lt, lt_less, gt_greater, eq_equal, is_key, is_key_is}
+use Rattle.rtmfp_data_chunks.proofs.Keys.{less_lt, lt_less, gt_greater, is_key, is_key_is}
 use Rattle.flow_recv.specs.Receiver.{first_of, without_first}
 use Rattle.flow_recv.proofs.Bounds.{fits_parts}
 use Rattle.flow_recv.specs.Keyed.{run_at, without_run, with_run, changed_run, changed_entry, front_of, keyed, whole_firsts, IsKept}

@@ -25,3 +25,4 @@ pub mod Passing
 pub mod Wholes
 pub mod Summing
 pub mod Among
+pub mod Counting

@@ -2,6 +2,7 @@
 
 ghost use Rattle.std.specs.Prelude.{◌≡◌, ℕ, ◌<◌, ◌≤◌, ◌+◌, ◌∷◌, [], IfOk, IfSome, IsSome, OnOk};
 ghost use Rattle.std.specs.Prelude.{OnErr, IfErr, List, true, false, ◌==◌, if◌then◌else◌, ◌&&◌};
+ghost use Rattle.std.specs.Prelude.{◌^◌, length};
 ghost use Rattle.std.specs.Option.{option_copied, option_map, is_some, IsSomeAnd};
 ghost use Rattle.std.specs.Map.{remove_entry};
 ghost use Rattle.std.specs.Ordering.{nat_cmp};
@@ -48,6 +49,14 @@ impl HeldRuns {
             map: BTreeMap::new(alloc),
             whole: BTreeSet::new(alloc),
         }
+    }
+
+    /// How many there are.
+    pub fn len(&self) -> usize
+        ensures value { result ≡ length self.now }
+        ensures small { result < 2 ^ 63 }
+    {
+        self.map.len()
     }
 
     /// Whether each run is whole.

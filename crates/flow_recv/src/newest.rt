@@ -48,6 +48,18 @@ impl NewestRuns {
         }
     }
 
+    /// How many there are.
+    pub fn len(&self) -> usize
+        ensures value { result ≡ length self.now }
+        ensures small { result ≤ 2 ^ 63 }
+    {
+        let older = self.older.len();
+        match &self.newest {
+            Some(_) => 1 + older,
+            None => older,
+        }
+    }
+
     /// Whether each run is whole.
     pub fn are_whole(&self) -> bool
         ensures { result ≡ true → AllWhole self.now }

@@ -155,6 +155,14 @@ impl FlowReceiver {
         Ok(Some((number, Message::of(run.into_bytes()))))
     }
 
+    /// How many stretches of fragments it holds, each of which becomes one message at most.
+    pub fn runs(&self) -> usize
+        ensures value { result ≡ length self.now.runs }
+        ensures small { result ≤ 2 ^ 63 }
+    {
+        self.runs.len()
+    }
+
     /// Whether a message is ready to be handed over.
     pub fn is_ready(&self) -> bool
         ensures { result ≡ is_some (next_run self.now) }
@@ -171,6 +179,8 @@ impl FlowReceiver {
         ensures no_room { IsErr result ↔ (packet_limit
             < length out.old + 3 + length (ack_head flow self.now)) }
         ensures err { OnErr result (out.new ≡ out.old) }
+        // A type, a length and a head have at most 33 bytes.
+        ensures fits { length out.old + 33 ≤ packet_limit → IsOk result }
         // What is put reads back as the receiver's spans.
         ensures tells { TellsSpans flow (packet_limit - length out.old - 3) self.now }
     {
@@ -199,8 +209,9 @@ impl FlowReceiver {
         2_097_152u64.saturating_sub(self.held) / 1024
     }
 
-    /// The refusal of a chunk that isn't want of memory.
-    fn refusal(&self, chunk: &UserData<'_>) -> Option<FlowRefusal>
+    /// Why `take` would refuse a chunk, but for want of memory. It changes nothing and takes no
+    /// memory.
+    pub fn refusal(&self, chunk: &UserData<'_>) -> Option<FlowRefusal>
         ensures { result ≡ refusal self.now (chunk_of chunk.now) }
     {
         if let Some(number) = after_last(self.last, self.highest, chunk) {

@@ -46,6 +46,14 @@ impl SummedRuns {
         }
     }
 
+    /// How many there are.
+    pub fn len(&self) -> usize
+        ensures value { result ≡ length self.now }
+        ensures small { result < 2 ^ 63 }
+    {
+        self.runs.len()
+    }
+
     /// Whether each run is whole.
     pub fn are_whole(&self) -> bool
         ensures { result ≡ true → AllWhole self.now }
