@@ -367,7 +367,7 @@ impl Backlog {
     }
 
     /// The number of the first message whose deadline or limit of resends is passed.
-    fn look(&self, rows: &Rows, forward: u64, moment: u64) -> Option<u64>
+    pub fn look(&self, rows: &Rows, forward: u64, moment: u64) -> Option<u64>
         requires { Line 0 (forward + 1 + length rows.now.rows) self.now }
         ensures { result ≡ first_overdue moment (forward + 1) rows.now.rows self.now }
     {

@@ -316,6 +316,13 @@ impl FlowSender {
         self.waiting.any_overdue(&self.rows, self.forward, moment)
     }
 
+    /// The number of the first message whose deadline or limit of resends is passed.
+    pub fn first_overdue(&self, moment: u64) -> Option<u64>
+        ensures { result ≡ overdue moment self.now.sender }
+    {
+        self.waiting.look(&self.rows, self.forward, moment)
+    }
+
     /// Abandons the first message whose deadline or limit of resends is passed, and gives its
     /// number.
     pub fn overdue(&mut self, moment: u64) -> Option<u64>
