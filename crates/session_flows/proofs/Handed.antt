@@ -35,7 +35,7 @@ shorter_by : (test : Run → Bool) (x y : Run) (later : List Run) (b : Bool) →
 shorter_by test x y later true ih h = refl
 shorter_by test x y later false ih h = let k : length (without_first test later) + 1 ≡ length later = ih h in omega arith
 
-shorter : (test : Run → Bool) (x : Run) (runs : List Run) → first_of test runs ≡ Some x → length (without_first test runs) + 1 ≡ length runs
+pub shorter : (test : Run → Bool) (x : Run) (runs : List Run) → first_of test runs ≡ Some x → length (without_first test runs) + 1 ≡ length runs
 shorter test x [] e = absurd cc
 shorter test x (y ∷ later) e = let k : length (cond (test y) later (y ∷ without_first test later)) + 1 ≡ length later + 1 = shorter_by test x y later (test y) (shorter test x later) e in omega arith
 
@@ -61,17 +61,17 @@ found_changed f keeps id t (x ∷ later) e = found_by f id t x later (x.id == id
 abbrev AllHanded : FlowsState → ℕ → TakingFlow → ℕ → Type 0
 AllHanded s id t count = (hands count id s).stated ≡ handed_runs id (filter (may_hand t.receiver) t.receiver.runs)
 
-at_none : (s : FlowsState) (id : ℕ) (t : TakingFlow) → taking_at s id ≡ Some t → next_run t.receiver ≡ None → hands_once s id ≡ nothing s
+pub at_none : (s : FlowsState) (id : ℕ) (t : TakingFlow) → taking_at s id ≡ Some t → next_run t.receiver ≡ None → hands_once s id ≡ nothing s
 at_none s id t there none = ap (λ (o : Option TakingFlow). hands_by s id o) there ∙ ap (λ (o : Option Run). handed_run s id o) none
 
-at_some : (s : FlowsState) (id : ℕ) (t : TakingFlow) (y : Run) → taking_at s id ≡ Some t → next_run t.receiver ≡ Some y → hands_once s id ≡ handed_run s id (Some y)
+pub at_some : (s : FlowsState) (id : ℕ) (t : TakingFlow) (y : Run) → taking_at s id ≡ Some t → next_run t.receiver ≡ Some y → hands_once s id ≡ handed_run s id (Some y)
 at_some s id t y there some = ap (λ (o : Option TakingFlow). hands_by s id o) there ∙ ap (λ (o : Option Run). handed_run s id o) some
 
-quiet : (count : ℕ) (s : FlowsState) (id : ℕ) (t : TakingFlow) → taking_at s id ≡ Some t → next_run t.receiver ≡ None → hands count id s ≡ nothing s
+pub quiet : (count : ℕ) (s : FlowsState) (id : ℕ) (t : TakingFlow) → taking_at s id ≡ Some t → next_run t.receiver ≡ None → hands count id s ≡ nothing s
 quiet zero s id t there none = refl
 quiet (suc count) s id t there none = ap (λ (d : Did). then_do d (hands count id)) (at_none s id t there none) ∙ quiet count s id t there none
 
-still_there : (s : FlowsState) (id : ℕ) (t : TakingFlow) → taking_at s id ≡ Some t → taking_at (with_changed s id (with_receiver handed_next)) id ≡ Some (with_receiver handed_next t)
+pub still_there : (s : FlowsState) (id : ℕ) (t : TakingFlow) → taking_at s id ≡ Some t → taking_at (with_changed s id (with_receiver handed_next)) id ≡ Some (with_receiver handed_next t)
 still_there s id t there = found_changed (with_receiver handed_next) (λ x. refl) id t s.taking there
 
 hands_some : (count : ℕ) (s : FlowsState) (id : ℕ) (t : TakingFlow) (o : Option Run) → length t.receiver.runs ≤ suc count → taking_at s id ≡ Some t → next_run t.receiver ≡ o →

@@ -11,3 +11,6 @@ pub mod Takes
 pub mod Hearing
 pub mod Within
 pub mod Falling
+pub mod Enough
+pub mod Waits
+pub mod Fewer

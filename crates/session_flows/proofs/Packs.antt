@@ -167,6 +167,19 @@ none_at pace p q (Some r) e h = absurd (clash h.0)
 pub none_goes : (pace : Pace) (p q : Packing) → Goes (packed_once pace p) false p q → is_none (packed_once pace q) ≡ true
 none_goes pace p q h = none_at pace p q (packed_once pace p) refl h
 
+-- a walk of at most 1,165 chunks is over
+pub record IsOver (pace : Pace) (all last : Packing) : Type 0 where
+  pub whole : all ≡ last
+  pub full : is_none (packed_once pace all) ≡ true
+
+-- it is so after a turn in which none goes
+pub over_at : (pace : Pace) (turn : ℕ) (goes_on : Bool) (p q all : Packing) → turn < 1165 → goes_on ≡ false → Goes (packed_once pace p) goes_on p q → packs pace (1165 - turn) p ≡ all → IsOver pace all q
+over_at pace turn goes_on p q all below stops went is =
+    let none : Goes (packed_once pace p) false p q = subst (λ (b : Bool). Goes (packed_once pace p) b p q) stops went in
+    let left : 1165 - turn ≡ suc (1165 - (turn + 1)) = omega (arith, below) in
+    let whole : all ≡ q = sym is ∙ ap (λ (n : ℕ). packs pace n p) left ∙ packs_stop pace (1165 - (turn + 1)) p q none in
+    record { whole = whole; full = ap (λ (x : Packing). is_none (packed_once pace x)) whole ∙ none_goes pace p q none }
+
 -- where one goes, one fewer more go after it
 go_by : (pace : Pace) (n : ℕ) (p q : Packing) (o : Option Packing) → Goes o true p q → packs_on (packs pace n) p o ≡ packs pace n q
 go_by pace n p q None h = absurd (clash (sym h.0))

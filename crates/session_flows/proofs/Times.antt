@@ -1,15 +1,20 @@
 -- The first message that is to be abandoned at a tick.
 use Rattle.std.proofs.Common.{◌≡◌, ℕ, ◌+◌, ◌<◌, ◌≤◌, Bool, true, false, cond, ◌||◌, nat_lt, List, [], ◌∷◌, Option, Some, None, length, refl, sym, ap, ◌∙◌, subst, arith}
-use Rattle.std.specs.Prelude.{slice_get, is_some}
+use Rattle.std.specs.Prelude.{slice_get, is_some, ◌==◌}
 use Rattle.std.specs.List.{find, list_any, position, position_or_len}
 use Rattle.std.proofs.lemmas.List.Folds.{find_at}
 use Rattle.std.proofs.lemmas.Option.{slice_get_past}
 use Rattle.std.proofs.lemmas.Bool.{ltb-false, ltb-true}
-use Rattle.flow_send.specs.Sender.{overdue}
+use Rattle.std.proofs.lemmas.Bool.Decides.{nat_tests}
+use Rattle.flow_send.specs.declared.waiting.Waiting.{Waiting}
+use Rattle.flow_send.specs.Rows.{Row}
+use Rattle.flow_send.specs.Sender.{Sender, overdue, first_overdue as first_of_waiting, is_overdue, message_at, waits}
 use Rattle.flow_send.specs.Flow.{Flow}
 use Rattle.session_core.specs.Session.{SessionState}
 use Rattle.session_core.specs.Closing.{is_held}
 use Rattle.session_flows.specs.Keeping.{FlowsState}
+use Rattle.session_flows.specs.Calling.{abandon_refused, abandon_refused_by}
+use Rattle.session_flows.specs.declared.refusal.CallRefusal.TheVariants.{NotQueued}
 use Rattle.session_flows.specs.Laws.{AreNumbered}
 use Rattle.session_flows.specs.Timing.{has_overdue, numbered, overdue_of, first_overdue, overdue_in}
 use Rattle.session_flows.proofs.Sounds.{numbered_at}
@@ -70,3 +75,32 @@ one_overdue session s moment at f held ids h there =
     held_by (is_held session.stage) (first_overdue moment s) held
     ∙ ap (λ (o : Option Flow). overdue_of moment o) (found_at (has_overdue moment) s.sending at h ∙ there)
     ∙ ap (λ (n : ℕ). numbered n (overdue moment f.sender)) (omega arith)
+
+-- ---- it waits
+
+same_number : (a b : ℕ) → a ≡ b → (a == b) ≡ true
+same_number a b e = grind (arith, nat_tests)
+
+waits_by : (w : Waiting) (o : Option Waiting) (b : Bool) → is_some o ≡ true → is_some (cond b (Some w) o) ≡ true
+waits_by w o true some = refl
+waits_by w o false some = some
+
+some_number : (n seq : ℕ) → ◌≡◌ {A = Option ℕ} (Some n) (Some seq) → n ≡ seq
+some_number n seq e = cc
+
+first_waits : (moment n : ℕ) (rows : List Row) (w : Waiting) (later : List Waiting) (seq : ℕ) (b : Bool) → cond b (Some w.number) (first_of_waiting moment n rows later) ≡ Some seq →
+    (first_of_waiting moment n rows later ≡ Some seq → is_some (message_at seq later) ≡ true) → is_some (message_at seq (w ∷ later)) ≡ true
+first_waits moment n rows w later seq true e ih =
+    ap (λ (b : Bool). is_some (cond b (Some w) (message_at seq later))) (same_number w.number seq (some_number w.number seq e))
+first_waits moment n rows w later seq false e ih = waits_by w (message_at seq later) (w.number == seq) (ih e)
+
+all_waits : (moment n : ℕ) (rows : List Row) (ws : List Waiting) (seq : ℕ) → first_of_waiting moment n rows ws ≡ Some seq → is_some (message_at seq ws) ≡ true
+all_waits moment n rows [] seq e = absurd cc
+all_waits moment n rows (w ∷ later) seq e = first_waits moment n rows w later seq (is_overdue moment n rows w) e (all_waits moment n rows later seq)
+
+overdue_waits : (moment : ℕ) (s : Sender) (seq : ℕ) → overdue moment s ≡ Some seq → waits s seq ≡ true
+overdue_waits moment s seq e = all_waits moment (s.forward + 1) s.rows s.waiting seq e
+
+pub may_abandon : (s : FlowsState) (at moment seq : ℕ) (f : Flow) → slice_get s.sending at ≡ Some f → overdue moment f.sender ≡ Some seq → abandon_refused s at seq ≡ None
+may_abandon s at moment seq f there e =
+    ap (λ (o : Option Flow). abandon_refused_by o seq) there ∙ ap (λ (b : Bool). cond b None (Some NotQueued)) (overdue_waits moment f.sender seq e)

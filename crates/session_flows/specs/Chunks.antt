@@ -18,7 +18,7 @@ use Rattle.session_flows.specs.Keeping.{with_changed, added, new_taking, Stated,
 use Rattle.session_flows.specs.Keeping.{Finished}
 use Rattle.session_flows.specs.Keeping.{Did, nothing, then_do}
 use Rattle.session_flows.specs.Causes.{piece_of, metadata_of, order_of}
-use Rattle.session_flows.specs.Handing.{hands_all}
+use Rattle.session_flows.specs.Handing.{hands_all, most_by}
 
 -- ---- data and next
 
@@ -41,6 +41,10 @@ data_taken s user = with_changed (made s user) user.flow (taken_of user)
 -- and then it hands over what is ready
 abbrev pub data_done : FlowsState → UserParts → Did
 data_done s user = then_do (nothing (data_taken s user)) (λ t. hands_all t user.flow)
+
+-- That are so many at most: a fragment begins one message more.
+abbrev pub most_ready : FlowsState → ℕ → ℕ
+most_ready s id = most_by (taking_at s id) + 1
 
 -- ---- an ack
 

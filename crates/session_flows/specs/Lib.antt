@@ -10,3 +10,4 @@ pub mod Timing
 pub mod Packing
 pub mod Edges
 pub mod Laws
+pub mod Waiting

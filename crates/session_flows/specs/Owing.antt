@@ -2,7 +2,7 @@
 -- probe, by rising ID.
 use Rattle.std.specs.Prelude.{ℕ, ◌+◌, ◌-◌, nat_lt, false, if◌then◌else◌, map, Bool, List, [], ◌∷◌}
 use Rattle.std.specs.Prelude.{◌++◌, length}
-use Rattle.std.specs.List.{list_any}
+use Rattle.std.specs.List.{list_any, filter}
 use Rattle.rtmfp_forms.specs.Outgoing.{packet_limit}
 use Rattle.flow_recv.specs.Acking.{ack_head, ack_bytes}
 use Rattle.session_flows.specs.declared.taking.TakingFlow.{TakingFlow}
@@ -13,6 +13,13 @@ is_owed t = t.owed
 
 abbrev pub owes : FlowsState → Bool
 owes s = list_any is_owed s.taking
+
+-- how many are owed
+abbrev pub owed_in : List TakingFlow → ℕ
+owed_in taking = length (filter is_owed taking)
+
+abbrev pub owed_count : FlowsState → ℕ
+owed_count s = owed_in s.taking
 
 abbrev pub paid : TakingFlow → TakingFlow
 paid t = record t { owed = false }

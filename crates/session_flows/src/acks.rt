@@ -1,7 +1,9 @@
 //! The acks that a call owes.
 
-ghost use Rattle.std.specs.Prelude.{◌≡◌, map};
+ghost use Rattle.std.specs.Prelude.{◌≡◌, ◌<◌, ◌≤◌, length, map, true};
+ghost use Rattle.std.specs.List.{list_any};
 ghost use Rattle.session_flows.specs.Owing.{owes, acks_put, after_acks, owing_none, paid};
+ghost use Rattle.session_flows.specs.Owing.{is_owed, owed_count, owed_in};
 ghost use Rattle.session_flows.specs.Laws.{Rise};
 
 use crate::flows::Flows;
@@ -22,6 +24,9 @@ impl Flows {
     pub fn put_acks(&mut self, out: &mut Outgoing)
         ensures flows { self.new ≡ after_acks self.old out.old }
         ensures packet { out.new ≡ (acks_put self.old.taking out.old).packet }
+        // Where one is owed, one goes into a packet that has no more than its head.
+        ensures falls { owes self.old ≡ true → length out.old ≤ 51 →
+            owed_count self.new < owed_count self.old }
     {
         put_acks(&mut self.taking, out);
     }
@@ -38,6 +43,8 @@ impl Flows {
 fn put_acks(taking: &mut [TakingFlow], out: &mut Outgoing)
     ensures flows { taking.new ≡ (acks_put taking.old out.old).taking }
     ensures packet { out.new ≡ (acks_put taking.old out.old).packet }
+    ensures falls { list_any is_owed taking.old ≡ true → length out.old ≤ 51 →
+        owed_in taking.new < owed_in taking.old }
 {
     for flow in taking.iter_mut() {
         if flow.owed {

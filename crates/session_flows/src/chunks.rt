@@ -60,7 +60,12 @@ impl Flows {
     }
 
     /// The causes that come before those of the receiver.
-    fn early_cause(&self, session: &Session, chunk: &UserData<'_>, there: bool) -> Option<FlowCause>
+    pub(crate) fn early_cause(
+        &self,
+        session: &Session,
+        chunk: &UserData<'_>,
+        there: bool,
+    ) -> Option<FlowCause>
         requires { there ≡ is_there self.now (user_parts chunk.now) }
         ensures { result ≡ early_cause session.now self.now (user_parts chunk.now) }
     {

@@ -8,6 +8,7 @@
 #![tactic(auto)]
 
 mod acks;
+mod asking;
 mod cause;
 mod chunks;
 pub mod edges;

@@ -13,6 +13,7 @@ ghost use Rattle.session_flows.specs.Packing.{first_to_send, session_flight, fol
 ghost use Rattle.session_flows.specs.Packing.{numbers_in, marked, flow_packed, packed_once, packs};
 ghost use Rattle.session_flows.specs.Packing.{filled, goes, is_data_due, Goes, IsNextFrom};
 ghost use Rattle.session_flows.specs.Packing.{left_to_send};
+ghost use Rattle.session_flows.specs.Waiting.{waiting_in};
 ghost use Rattle.session_flows.specs.Laws.{AreNumbered};
 
 use crate::flows::Flows;
@@ -48,6 +49,8 @@ impl Flows {
         ensures falls { is_data_due session.now self.old moment ≡ true → length out.old ≤ 51 →
             left_to_send (pace_of session.now moment) self.new.sending
             < left_to_send (pace_of session.now moment) self.old.sending }
+        // The same messages wait.
+        ensures waits { waiting_in self.new.sending ≡ waiting_in self.old.sending }
         // None goes any more.
         ensures full { is_none (packed_once (pace_of session.now moment)
             (filled (pace_of session.now moment) self.old.sending out.old)) ≡ true }

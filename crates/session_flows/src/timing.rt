@@ -1,10 +1,11 @@
 //! What a tick makes lost, and which messages it abandons.
 
-ghost use Rattle.std.specs.Prelude.{◌≡◌, map, is_some};
+ghost use Rattle.std.specs.Prelude.{◌≡◌, map, is_some, IfSome, None};
 ghost use Rattle.std.specs.List.{list_any, position};
 ghost use Rattle.session_flows.specs.Timing.{after_late, session_late, overdue_in, overdue_done};
 ghost use Rattle.session_flows.specs.Timing.{has_late, losing, has_overdue};
 ghost use Rattle.session_flows.specs.Laws.{AreNumbered};
+ghost use Rattle.session_flows.specs.Calling.{abandon_refused};
 
 use crate::chunks::is_held;
 use crate::flows::Flows;
@@ -33,11 +34,28 @@ impl Flows {
         is_held(session.stage()) && any_overdue(&self.sending, moment)
     }
 
+    /// The first message that is to be abandoned at a tick: its flow and its number. It takes no
+    /// memory.
+    pub fn first_overdue(&self, session: &Session, moment: u64) -> Option<(u64, u64)>
+        ensures { result ≡ overdue_in session.now self.now moment }
+    {
+        if !is_held(session.stage()) {
+            return None;
+        }
+        let at = overdue_at(&self.sending, moment)?;
+        let sender = &self.sending[at];
+        let seq = sender.first_overdue(moment)?;
+        Some((at as u64, seq))
+    }
+
     /// Abandons the first message that is to be abandoned at a tick, and gives its flow and its
     /// number. It takes no memory.
     pub fn abandon_overdue(&mut self, session: &Session, moment: u64) -> Option<(u64, u64)>
         ensures found { result ≡ overdue_in session.now self.old moment }
         ensures flows { self.new ≡ (overdue_done self.old result).flows }
+        // Its flow is there, and it waits.
+        ensures waits { IfSome result
+            (λ found. abandon_refused self.old found.0 found.1 ≡ None) }
     {
         if !is_held(session.stage()) {
             return None;

@@ -1,9 +1,8 @@
 use Prim.Native.Nat.{suc}
-use Rattle.std.specs.Prelude.{is_none}
 use Rattle.std.proofs.Common.{◌≡◌, ℕ, length, ◌+◌, ◌-◌, ◌<◌, ◌≤◌, List, Bool, true, false, sym, ap, ◌∙◌, subst, rules, arith}
 use Rattle.flow_send.specs.Flow.{Flow}
 use Rattle.session_flows.specs.Packing.{Packing, packed_once, packing_with, packs, filled, Goes, goes, left_to_send}
-use Rattle.session_flows.proofs.Packs.{packs_stop, packs_go, none_goes, some_goes, goes_same, clash}
+use Rattle.session_flows.proofs.Packs.{over_at, packs_go, some_goes, goes_same, clash}
 use Rattle.session_flows.proofs.Falling.{takes_one, fell_by}
 use Rattle.session_flows.proofs.packing.fill.Goals as goal
 
@@ -12,33 +11,24 @@ returns-then-not-pack_once-clause-flows c =
     let before : Packing = packing_with c.loop.sending c.loop.out c.loop.marks in
     let after : Packing = packing_with c.pack_once.new.sending c.pack_once.new.out c.pack_once.new.marks in
     let stops : c.pack_once.result ≡ false = search rules in
-    let went : Goes (packed_once c.args.pace before) false before after = subst (λ (b : Bool). Goes (packed_once c.args.pace before) b before after) stops c.pack_once.ensures.goes in
-    let left : 1165 - c.loop.counter ≡ suc (1165 - (c.loop.counter + 1)) = omega arith in
-    let whole : filled c.args.pace c.args.sending.now c.args.out.now ≡ after =
-    sym c.loop.invariant.packed ∙ ap (λ (n : ℕ). packs c.args.pace n before) left ∙ packs_stop c.args.pace (1165 - (c.loop.counter + 1)) before after went in
-    ap (λ (p : Packing). p.sending) (sym whole)
+    let over = over_at c.args.pace c.loop.counter c.pack_once.result before after (filled c.args.pace c.args.sending.now c.args.out.now) (omega arith) stops c.pack_once.ensures.goes c.loop.invariant.packed in
+    ap (λ (p : Packing). p.sending) (sym over.whole)
 
 pub returns-then-not-pack_once-clause-packet : goal.returns-then-not-pack_once-clause-packet
 returns-then-not-pack_once-clause-packet c =
     let before : Packing = packing_with c.loop.sending c.loop.out c.loop.marks in
     let after : Packing = packing_with c.pack_once.new.sending c.pack_once.new.out c.pack_once.new.marks in
     let stops : c.pack_once.result ≡ false = search rules in
-    let went : Goes (packed_once c.args.pace before) false before after = subst (λ (b : Bool). Goes (packed_once c.args.pace before) b before after) stops c.pack_once.ensures.goes in
-    let left : 1165 - c.loop.counter ≡ suc (1165 - (c.loop.counter + 1)) = omega arith in
-    let whole : filled c.args.pace c.args.sending.now c.args.out.now ≡ after =
-    sym c.loop.invariant.packed ∙ ap (λ (n : ℕ). packs c.args.pace n before) left ∙ packs_stop c.args.pace (1165 - (c.loop.counter + 1)) before after went in
-    ap (λ (p : Packing). p.packet) (sym whole)
+    let over = over_at c.args.pace c.loop.counter c.pack_once.result before after (filled c.args.pace c.args.sending.now c.args.out.now) (omega arith) stops c.pack_once.ensures.goes c.loop.invariant.packed in
+    ap (λ (p : Packing). p.packet) (sym over.whole)
 
 pub returns-then-not-pack_once-clause-full : goal.returns-then-not-pack_once-clause-full
 returns-then-not-pack_once-clause-full c =
     let before : Packing = packing_with c.loop.sending c.loop.out c.loop.marks in
     let after : Packing = packing_with c.pack_once.new.sending c.pack_once.new.out c.pack_once.new.marks in
     let stops : c.pack_once.result ≡ false = search rules in
-    let went : Goes (packed_once c.args.pace before) false before after = subst (λ (b : Bool). Goes (packed_once c.args.pace before) b before after) stops c.pack_once.ensures.goes in
-    let left : 1165 - c.loop.counter ≡ suc (1165 - (c.loop.counter + 1)) = omega arith in
-    let whole : filled c.args.pace c.args.sending.now c.args.out.now ≡ after =
-    sym c.loop.invariant.packed ∙ ap (λ (n : ℕ). packs c.args.pace n before) left ∙ packs_stop c.args.pace (1165 - (c.loop.counter + 1)) before after went in
-    ap (λ (p : Packing). is_none (packed_once c.args.pace p)) whole ∙ none_goes c.args.pace before after went
+    let over = over_at c.args.pace c.loop.counter c.pack_once.result before after (filled c.args.pace c.args.sending.now c.args.out.now) (omega arith) stops c.pack_once.ensures.goes c.loop.invariant.packed in
+    over.full
 
 pub loop-preserved : goal.loop-preserved
 loop-preserved c =

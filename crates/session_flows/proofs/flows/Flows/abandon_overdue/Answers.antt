@@ -6,11 +6,11 @@ use Rattle.flow_send.specs.Sender.{overdue, abandoned, abandoned_if}
 use Rattle.flow_send.specs.Flow.{Flow, with_sender}
 use Rattle.session_core.specs.Closing.{is_held}
 use Rattle.session_flows.specs.Keeping.{FlowsState, Did}
-use Rattle.session_flows.specs.Calling.{abandoning}
+use Rattle.session_flows.specs.Calling.{abandoning, abandon_refused}
 use Rattle.session_flows.specs.Timing.{has_overdue, overdue_in, numbered}
 use Rattle.session_flows.proofs.Sounds.{sound_set}
 use Rattle.session_flows.proofs.Calls.{abandon_did}
-use Rattle.session_flows.proofs.Times.{none_overdue, one_overdue, pos_within}
+use Rattle.session_flows.proofs.Times.{none_overdue, one_overdue, pos_within, may_abandon}
 use Rattle.session_flows.proofs.flows.Flows.abandon_overdue.Goals as goal
 
 pub returns-in_err-at-clause-found : goal.returns-in_err-at-clause-found
@@ -74,3 +74,13 @@ returns-clause-flows c =
     c.overdue.ensures.after ∙ ap (λ (o : Option ℕ). with_sender c.index_mut-sender.result.now (abandoned_if o c.index_mut-sender.result.now.sender)) some in
     subst (λ (s : FlowsState). after ≡ (abandoning s c.in_ok-at.at c.in_ok-seq.seq).flows) c.self.view_is
     (sym (ap (λ (d : Did). d.flows) (abandon_did before c.in_ok-at.at c.in_ok-at.at c.in_ok-seq.seq c.index_mut-sender.result.now c.overdue.new.self refl at done)))
+
+pub returns-clause-waits : goal.returns-clause-waits
+returns-clause-waits c =
+    let before : FlowsState = record { sending = c.self.inside.sending.items; taking = c.self.inside.taking.items } in
+    let place : position (has_overdue c.args.moment) before.sending ≡ Some c.in_ok-at.at = search rules in
+    let within : c.in_ok-at.at < length before.sending = pos_within (has_overdue c.args.moment) before.sending c.in_ok-at.at place in
+    let at : slice_get before.sending c.in_ok-at.at ≡ Some c.index_mut-sender.result.now = slice_get_read before.sending (length before.sending) c.in_ok-at.at c.index_mut-sender.result.now refl within c.index_mut-sender.ensures.value in
+    let some : overdue c.args.moment c.index_mut-sender.result.now.sender ≡ Some c.in_ok-seq.seq = search rules in
+    subst (λ (s : FlowsState). abandon_refused s c.in_ok-at.at c.in_ok-seq.seq ≡ None) c.self.view_is
+    (may_abandon before c.in_ok-at.at c.args.moment c.in_ok-seq.seq c.index_mut-sender.result.now at some)
