@@ -1,5 +1,5 @@
 -- Admissible keyings bear, and responders' keyings that nothing discards open.
-use Rattle.std.proofs.Common.{◌≡◌, ◌≢◌, ℕ, ◌+◌, ◌^◌, ◌<◌, ◌≤◌, ◌==◌, max, List, [], ◌∷◌, ◌++◌, length, take, drop, length-drop, nat_lt, Bool, true, false, not, if◌then◌else◌, Option, Some, None, Result, Ok, Err, inl, inr, refl, sym, ap, subst, ◌∙◌, arith, append_assoc, length-append}
+use Rattle.std.proofs.Common.{◌≡◌, ◌≢◌, ℕ, ◌+◌, ◌^◌, ◌<◌, ◌≤◌, ◌==◌, max, List, [], ◌∷◌, ◌++◌, length, take, drop, length-drop, nat_lt, Bool, true, false, not, ◌||◌, if◌then◌else◌, Option, Some, None, Result, Ok, Err, inl, inr, refl, sym, ap, subst, ◌∙◌, arith, append_assoc, length-append}
 use Rattle.std.specs.Int.{w64, to_be_bytes}
 use Rattle.std.proofs.lemmas.Bool.Decides.{nat_tests}
 use Rattle.std.proofs.lemmas.List.{length-take-le, take-append-drop, append-nil}
@@ -17,6 +17,7 @@ use Rattle.rtmfp_packet.proofs.Readings.{packet_reading_same}
 use Rattle.rtmfp_chunks.specs.Chunk.{Ping, parts_of}
 use Rattle.rtmfp_chunks.proofs.WritingLaws.{parts_bytes-spell}
 use Rattle.rtmfp_chunks.specs.FieldReading.{chunk_reading}
+use Rattle.rtmfp_data_chunks.specs.Reader.{data_reading}
 use Rattle.crypto_profile.specs.declared.keys.Context.TheVariants.{Startup as StartupContext}
 use Rattle.crypto_profile.specs.Keys.{keys_of}
 use Rattle.crypto_profile.specs.Opening.{open_refusal, plain_of}
@@ -35,16 +36,17 @@ use Rattle.glare_core.specs.Ledger.{Ledger, held_with}
 use Rattle.glare_core.specs.Calls.{way_made, heard, heard_noted}
 use Rattle.glare_core.proofs.Accounts.{reads_started}
 use Rattle.startup.specs.declared.cause.Cause.{Cause}
-use Rattle.startup.specs.declared.cause.Cause.TheVariants.{Short, WrongPlace}
+use Rattle.startup.specs.declared.cause.Cause.TheVariants.{Short, WrongPlace, SecondKeying}
 use Rattle.startup.specs.declared.answer.Answer.{Answer}
 use Rattle.startup.specs.State.{StartupState}
 use Rattle.startup.specs.Packets.{rikeying_packet}
-use Rattle.startup.specs.Keyings.{InitiatorKeying, keying_of, fault_in, responder_keying_in, session_answer, born_session, again_or_birth, keyed_with, keyed_reading, after_again_or_birth, after_keyed_with, after_keyed_reading, opened, opened_reading, after_opening}
+use Rattle.startup.specs.Keyings.{InitiatorKeying, keying_of, fault_in, iikeying_cause, responder_keying_in, session_answer, born_session, again_or_birth, keyed_with, keyed_reading, after_again_or_birth, after_keyed_with, after_keyed_reading, opened, opened_reading, after_opening}
 use Rattle.session_core.specs.Session.{new_session, head_at}
 use Rattle.session_core.specs.Sealed.{number_bytes}
 use Rattle.glare_core.specs.Tells.{as_initiator}
 use Rattle.rtmfp_chunks.specs.Writing.{chunk_bytes}
-use Rattle.endpoint_laws.proofs.NoFacts.{NoFacts, facts_stay, none_in_both, none_read, NoneOver, none_over_both, ids_stay, over_read}
+use Rattle.endpoint_laws.proofs.Unseen.{AreUnseen, taken_unseen}
+use Rattle.endpoint_laws.proofs.NoFacts.{NoFactAnd, NoFacts, facts_stay, none_in_both, none_read, NoneOver, none_over_both, ids_stay, over_read}
 use Rattle.endpoint_laws.specs.Contexts.{session_context}
 use Rattle.session_core.specs.declared.stage.Role.TheVariants.{Initiator}
 use Rattle.endpoint_model.specs.declared.row.Row.{Row}
@@ -59,13 +61,14 @@ use Rattle.endpoint_laws.specs.Past.{Stamped, onto, facts_of, ids_in_use, past_o
 use Rattle.endpoint_model.specs.Keying.{IsFirst, chunks_of}
 use Rattle.endpoint_laws.specs.Admissible.{Admissible, Offer}
 use Rattle.endpoint_laws.specs.Lawful.{AnswersAttempt}
-use Rattle.endpoint_model.specs.State.{State, new_row, Did, nothing, after_entries, then_do, fact_entries, with_startup, free_from, fresh, at_moment}
+use Rattle.endpoint_model.specs.State.{State, full, new_row, Did, nothing, then_do, fact_entries, with_startup, free_from, fresh, at_moment}
 use Rattle.endpoint_model.specs.Sending.{last_count, startup_number, startup_datagram, session_packet, session_datagram, sent_by}
 use Rattle.endpoint_model.specs.Admission.{Admission, Rejected, Admitted, place_of, opened_by, placed, opened_found, opened_datagram, admission, admitted, admitted_packet, packet_in, has_mode, confirming}
-use Rattle.endpoint_model.specs.Causes.{form_cause, takes, last_cause, chunk_cause}
+use Rattle.endpoint_model.specs.Causes.{form_cause, takes, initiator_keying_cause, last_cause, chunk_cause}
 use Rattle.endpoint_model.specs.InSessions.{told_in_session, tested as tested_at}
+use Rattle.endpoint_model.specs.FlowChunks.{is_of_flows, flow_taken, acked, unowed}
 use Rattle.endpoint_laws.proofs.Hearing.{HeardWell, known_more}
-use Rattle.endpoint_model.specs.Effects.{with_born, keying_done, initiator_keyed, responder_keyed, with_opened, opening_done, read_done, effect, discarded_or, chunk_did, walked, chunks_did, received, part_received, outset, is_told_in_session, gone_through}
+use Rattle.endpoint_model.specs.Effects.{with_born, keying_done, initiator_keyed, responder_keyed, with_opened, opening_done, read_done, effect, discarded_or, chunk_did, walked, chunks_did, received, part_received, outset, is_told_in_session, gone_through, most_acks, gone_through_and_acked}
 use Rattle.endpoint_model.specs.Log.{Answers}
 use Rattle.endpoint_laws.specs.Laws.{IsSetup, IsCall}
 use Rattle.endpoint_laws.specs.Complete.{WentThrough, IsPing, outs_in, at_initiator, IsOfOffer, IsBornAndTold, AdmissibleKeyingsBear, OpensItsSession, KeyingsWithoutCauseOpen}
@@ -76,7 +79,7 @@ use Rattle.endpoint_model.proofs.Members.{tested}
 use Rattle.endpoint_laws.proofs.Tied.{Tied}
 use Rattle.endpoint_laws.proofs.Moving.{tied_alike}
 use Rattle.endpoint_laws.proofs.Going.{Goes}
-use Rattle.endpoint_model.proofs.Steps.{then_then, walk_through, then_nothing}
+use Rattle.endpoint_model.proofs.Steps.{walk_through, then_nothing}
 use Rattle.endpoint_laws.proofs.Admitting.{Came, AdmissionIs, admission_is}
 use Rattle.endpoint_laws.proofs.Answering.{OpensAttempt}
 use Rattle.endpoint_laws.proofs.Chunked.{causes, read_ok, opening_of, told_kinds, not_at_startup, not_false}
@@ -109,10 +112,12 @@ split c (x ∷ cs) kind (inr later) =
     let rest = split c cs kind later.1 in
     record { front = x ∷ rest.front; back = rest.back; whole = ap (λ (ys : List Placed). x ∷ ys) rest.whole; others = ((λ e. later.0 (e ∙ sym kind)), rest.others) }
 
-keyed_false : (c : Placed) → c.kind ≢ 0x38 → walked outset c ≡ outset
-keyed_false c other =
-    let to_walk : Bool → Walk = λ keyed. record { keyed = keyed } in
-    elim (tested c.kind 0x38) [ inl is ↦ absurd (other is.0) | inr is ↦ ap to_walk is.1 ]
+-- a walk over these meets no keying
+keyed_false : (front : List Placed) → AreOthers front → (walk : Walk) → walk.keyed ≡ false → (walk_through walk front).keyed ≡ false
+keyed_false [] others walk e = e
+keyed_false (c ∷ front) others walk e =
+    let other : (c.kind == 0x38) ≡ false = elim (tested c.kind 0x38) [ inl is ↦ absurd (others.0 is.0) | inr is ↦ is.1 ] in
+    keyed_false front others.1 (walked walk c) (ap (λ (b : Bool). b || (c.kind == 0x38)) e ∙ other)
 
 false_is : {A : Type 0} (b : Bool) (x y : A) → b ≡ false → (if b then x else y) ≡ y
 false_is true x y e = absurd (cc)
@@ -126,60 +131,75 @@ true_is false x y e = absurd (cc)
 abbrev Quiet : List Entry → Type 0
 Quiet entries = NoFacts entries × NoneOver entries
 
+quiet_unseen : (entries : List Entry) → AreUnseen entries → Quiet entries
+quiet_unseen [] are = (tt, tt)
+quiet_unseen (x ∷ xs) are =
+    let rest = quiet_unseen xs are.1 in
+    (subst (λ (o : Option Fact). NoFactAnd o (NoFacts xs)) (sym are.0.no_fact) rest.0, (are.0.no_closed, rest.1))
+
 module _ (from : AddressParts) (draws : Draws) where
+  -- what is neither a keying nor told in a session
+  abbrev least : State → Walk → Placed → Bool → Did
+  least s walk c flows = if flows then flow_taken s 0 (data_reading walk.cursor c.kind c.payload) else read_done s Startup from (chunk_reading c.kind c.payload)
+
+  abbrev not_keyed : State → Walk → Placed → Did
+  not_keyed s walk c = if is_told_in_session c.kind then told_in_session s 0 from c else least s walk c (is_of_flows c.kind)
+
+  none_least : (s : State) (walk : Walk) (c : Placed) (flows : Bool) → Quiet (least s walk c flows).entries
+  none_least s walk c true = let read = data_reading walk.cursor c.kind c.payload in quiet_unseen (flow_taken s 0 read).entries (taken_unseen s 0 read)
+  none_least s walk c false = (none_read s Startup from (chunk_reading c.kind c.payload), over_read s Startup from (chunk_reading c.kind c.payload))
+
   -- another chunk at the place of startup states nothing, and ends no closing
-  none_other : (s : State) (c : Placed) → c.kind ≢ 0x38 → Quiet (chunk_did Startup from draws outset s c).entries
-  none_other s c other = by (chunk_cause s Startup outset from c) refl
+  none_other : (s : State) (walk : Walk) (c : Placed) → c.kind ≢ 0x38 → Quiet (chunk_did Startup from draws walk s c).entries
+  none_other s walk c other = by (chunk_cause s Startup walk from c) refl
     where
       first : (c.kind == 0x38) ≡ false
       first = elim (tested c.kind 0x38) [ inl is ↦ absurd (other is.0) | inr is ↦ is.1 ]
 
-      last : (t : Bool) → is_told_in_session c.kind ≡ t → chunk_cause s Startup outset from c ≡ None →
-          Quiet (if t then told_in_session s 0 from c else read_done s Startup from (chunk_reading c.kind c.payload)).entries
+      last : (t : Bool) → is_told_in_session c.kind ≡ t → chunk_cause s Startup walk from c ≡ None →
+          Quiet (if t then told_in_session s 0 from c else least s walk c (is_of_flows c.kind)).entries
       last true is none =
-          let all = all_none (causes s Startup outset from c) none in
+          let all = all_none (causes s Startup walk from c) none in
           absurd (not_at_startup c.kind (told_kinds c.kind is) (not_false (takes Startup c.kind) (test_fails (not (takes Startup c.kind)) WrongPlace all.1.1.1.0)))
-      last false is none = (none_read s Startup from (chunk_reading c.kind c.payload), over_read s Startup from (chunk_reading c.kind c.payload))
+      last false is none = none_least s walk c (is_of_flows c.kind)
 
-      inner : (b : Bool) → (c.kind == 0x78) ≡ b → chunk_cause s Startup outset from c ≡ None →
-          Quiet (if b then responder_keyed s 0 from c.payload else if is_told_in_session c.kind then told_in_session s 0 from c else read_done s Startup from (chunk_reading c.kind c.payload)).entries
+      inner : (b : Bool) → (c.kind == 0x78) ≡ b → chunk_cause s Startup walk from c ≡ None →
+          Quiet (if b then responder_keyed s 0 from c.payload else not_keyed s walk c).entries
       inner true is none =
-          let all = all_none (causes s Startup outset from c) none in
+          let all = all_none (causes s Startup walk from c) none in
           let taken : not (takes Startup c.kind) ≡ false = test_fails (not (takes Startup c.kind)) WrongPlace all.1.1.1.0 in
           let kind : c.kind ≡ 0x78 = elim (tested c.kind 0x78) [ inl same ↦ same.0 | inr apart ↦ (let clash : true ≡ false = sym is ∙ apart.1 in absurd (cc)) ] in
           let clash : true ≡ false = ap (λ (k : ℕ). not (takes Startup k)) (sym kind) ∙ taken in
           absurd (cc)
       inner false is none = last (is_told_in_session c.kind) refl none
 
-      by : (o : Option Cause) → chunk_cause s Startup outset from c ≡ o → Quiet (discarded_or s c.at o (effect s Startup from draws c)).entries
+      by : (o : Option Cause) → chunk_cause s Startup walk from c ≡ o → Quiet (discarded_or s c.at o (effect s Startup walk from draws c)).entries
       by (Some cause) e = (tt, (refl, tt))
       by None e =
           subst (λ (d : Did). Quiet d.entries)
           (sym (false_is (c.kind == 0x38) (initiator_keyed s from draws c.payload)
-          (if c.kind == 0x78 then responder_keyed s 0 from c.payload else if is_told_in_session c.kind then told_in_session s 0 from c else read_done s Startup from (chunk_reading c.kind c.payload)) first))
+          (if c.kind == 0x78 then responder_keyed s 0 from c.payload else not_keyed s walk c) first))
           (inner (c.kind == 0x78) refl e)
 
-  none_front : (front : List Placed) → AreOthers front → (s : State) → Quiet (chunks_did Startup from draws outset s front).entries
-  none_front [] others s = (tt, tt)
-  none_front (c ∷ front) others s =
-      let d : Did = chunk_did Startup from draws outset s c in
-      let one = none_other s c others.0 in
-      let rest = subst (λ (k : Walk). Quiet (chunks_did Startup from draws k d.state front).entries) (sym (keyed_false c others.0)) (none_front front others.1 d.state) in
-      let next : List Entry = (chunks_did Startup from draws (walked outset c) d.state front).entries in
+  none_front : (front : List Placed) → AreOthers front → (walk : Walk) (s : State) → Quiet (chunks_did Startup from draws walk s front).entries
+  none_front [] others walk s = (tt, tt)
+  none_front (c ∷ front) others walk s =
+      let d : Did = chunk_did Startup from draws walk s c in
+      let one = none_other s walk c others.0 in
+      let rest = none_front front others.1 (walked walk c) d.state in
+      let next : List Entry = (chunks_did Startup from draws (walked walk c) d.state front).entries in
       (none_in_both d.entries next one.0 rest.0, none_over_both d.entries next one.1 rest.1)
 
-  -- the chunks after them go on from what they left
-  front_then : (front rest : List Placed) → AreOthers front → (s : State) →
-      chunks_did Startup from draws outset s (front ++ rest) ≡ then_do (chunks_did Startup from draws outset s front) (λ t. chunks_did Startup from draws outset t rest)
-  front_then [] rest others s = refl
-  front_then (c ∷ front) rest others s =
-      let d : Did = chunk_did Startup from draws outset s c in
-      let last : State → Did = λ t. chunks_did Startup from draws outset t rest in
-      let same = keyed_false c others.0 in
-      ap (λ (k : Walk). then_do d (λ t. chunks_did Startup from draws k t (front ++ rest))) same
-      ∙ ap (after_entries d.entries) (front_then front rest others.1 d.state)
-      ∙ sym (then_then d (λ t. chunks_did Startup from draws outset t front) last)
-      ∙ ap (λ (k : Walk). then_do (then_do d (λ t. chunks_did Startup from draws k t front)) last) (sym same)
+-- chunks one after another add what each of them adds
+gone_in_two : (place : Place) (from : AddressParts) (draws : Draws) (walk : Walk) (front : List Placed) (c : Placed) (back : List Placed) (s : State) →
+    (chunks_did place from draws walk s (front ++ c ∷ back)).entries ≡ (chunks_did place from draws walk s front).entries
+    ++ ((chunk_did place from draws (walk_through walk front) (chunks_did place from draws walk s front).state c).entries
+    ++ (chunks_did place from draws (walked (walk_through walk front) c) (chunk_did place from draws (walk_through walk front) (chunks_did place from draws walk s front).state c).state back).entries)
+gone_in_two place from draws walk [] c back s = refl
+gone_in_two place from draws walk (x ∷ front) c back s =
+    let one : Did = chunk_did place from draws walk s x in
+    ap (λ (es : List Entry). one.entries ++ es) (gone_in_two place from draws (walked walk x) front c back one.state)
+    ∙ sym (append_assoc one.entries (chunks_did place from draws (walked walk x) one.state front).entries _)
 
 -- ---- what the keying adds
 
@@ -326,10 +346,10 @@ module _ (setup : Setup) (past : List Stamped) (s : State) (tied : Tied setup pa
   told = onto s.moment first.entries past
 
   facts_same : facts_of told ≡ facts_of past
-  facts_same = facts_stay s.moment first.entries past (none_front from draws cut.front cut.others s).0
+  facts_same = facts_stay s.moment first.entries past (none_front from draws cut.front cut.others outset s).0
 
   ids_same : ids_in_use told ≡ ids_in_use past
-  ids_same = let quiet = none_front from draws cut.front cut.others s in ids_stay s.moment first.entries past quiet.0 quiet.1
+  ids_same = let quiet = none_front from draws cut.front cut.others outset s in ids_stay s.moment first.entries past quiet.0 quiet.1
 
   abbrev keying : InitiatorKeying
   keying = read_as offer.far a.cookie a.cert offer.ni offer.n (own_of setup) a.sign
@@ -343,23 +363,30 @@ module _ (setup : Setup) (past : List Stamped) (s : State) (tied : Tied setup pa
   this_is : a.chunk ≡ this
   this_is = let as_kind : ℕ → Placed = λ x. record { kind = x; at = a.chunk.at; payload = a.chunk.payload } in ap as_kind kind
 
-  no_cause : chunk_cause u Startup outset from this ≡ None
-  no_cause = none_all (causes u Startup outset from this) (refl, (ap fault_in bearing.reads, (refl, (refl, (bearing.cause, tt)))))
+  -- the walk before it
+  abbrev walk : Walk
+  walk = walk_through outset cut.front
 
-  chunk_so : chunk_did Startup from draws outset u a.chunk ≡ initiator_keyed u from draws a.chunk.payload
-  chunk_so = ap (chunk_did Startup from draws outset u) this_is ∙ ap (λ (o : Option Cause). discarded_or u a.chunk.at o (initiator_keyed u from draws a.chunk.payload)) no_cause
+  unkeyed_before : initiator_keying_cause u walk from a.chunk.payload ≡ None
+  unkeyed_before = ap (λ (b : Bool). if b then Some SecondKeying else iikeying_cause u.startup a.chunk.payload from u.moment (full u)) (keyed_false cut.front cut.others outset refl) ∙ bearing.cause
+
+  no_cause : chunk_cause u Startup walk from this ≡ None
+  no_cause = none_all (causes u Startup walk from this) (refl, (ap fault_in bearing.reads, (refl, (refl, (unkeyed_before, tt)))))
+
+  chunk_so : chunk_did Startup from draws walk u a.chunk ≡ initiator_keyed u from draws a.chunk.payload
+  chunk_so = ap (chunk_did Startup from draws walk u) this_is ∙ ap (λ (o : Option Cause). discarded_or u a.chunk.at o (initiator_keyed u from draws a.chunk.payload)) no_cause
 
   abbrev later : List Entry
-  later = (chunks_did Startup from draws (walked outset a.chunk) (chunk_did Startup from draws outset u a.chunk).state cut.back).entries
+  later = (chunks_did Startup from draws (walked walk a.chunk) (chunk_did Startup from draws walk u a.chunk).state cut.back).entries
 
-  in_two : (chunks_did Startup from draws outset s gone).entries ≡ first.entries ++ ((chunk_did Startup from draws outset u a.chunk).entries ++ later)
+  in_two : (chunks_did Startup from draws outset s gone).entries ≡ first.entries ++ ((chunk_did Startup from draws walk u a.chunk).entries ++ later)
   in_two =
       ap (λ (cs : List Placed). (chunks_did Startup from draws outset s cs).entries) cut.whole
-      ∙ ap (λ (d : Did). d.entries) (front_then from draws cut.front (a.chunk ∷ cut.back) cut.others s)
+      ∙ gone_in_two Startup from draws outset cut.front a.chunk cut.back s
 
   few_so : u.sealed ≤ s.sealed + outs_in (chunks_did Startup from draws outset s gone).entries
   few_so =
-      omega (arith, front_orderly.few, ap outs_in in_two, outs_append first.entries ((chunk_did Startup from draws outset u a.chunk).entries ++ later))
+      omega (arith, front_orderly.few, ap outs_in in_two, outs_append first.entries ((chunk_did Startup from draws walk u a.chunk).entries ++ later))
 
   bears : (u.sealed == last_count) ≡ false → count (facts_of past) < 2 ^ 64 → (x : Joined) × IsOfOffer offer draws.nonce (facts_of past) x × IsBornAndTold setup from x (chunks_did Startup from draws outset s gone).entries
   bears some counted =
@@ -387,25 +414,46 @@ module _ (setup : Setup) (past : List Stamped) (s : State) (tied : Tied setup pa
 
 -- ---- logs
 
--- what a call adds that has gone through these chunks of a packet
+-- Where no session is, a datagram adds what its chunks add, and nothing before or after them.
+record AddsItsChunks (u : State) (place : Place) (from : AddressParts) (draws : Draws) : Type 0 where
+  quiet : confirming u place ≡ nothing u
+  unacked : (d : Did) (count : ℕ) → then_do d (λ v. acked count v place) ≡ d
+  untested : (d : Did) → then_do d (λ v. tested_at v place from draws) ≡ d
+  nothing_left : (d : Did) → then_do d (λ v. nothing (unowed v place)) ≡ d
+
+gone_entries : (u : State) (place : Place) (from : AddressParts) (draws : Draws) (cs : List Placed) (count : ℕ) → AddsItsChunks u place from draws →
+    (gone_through_and_acked from draws u place cs count).entries ≡ (chunks_did place from draws outset u cs).entries
+gone_entries u place from draws cs count alone =
+    ap (λ (d : Did). d.entries) (alone.unacked (gone_through from draws u place cs) count)
+    ∙ ap (λ (d : Did). (then_do d (λ v. chunks_did place from draws outset v cs)).entries) alone.quiet
+
 went_entries : (noted t u : State) (place : Place) (from : AddressParts) (datagram : List ℕ) (draws : Draws) (answer : CallAnswer) (entries : List Entry) (packet : Whole) (gone : List Placed) →
-    Answers noted (Receive from datagram draws) answer entries t → admission noted datagram ≡ Admitted u place packet → confirming u place ≡ nothing u → ((d : Did) → then_do d (λ v. tested_at v place from draws) ≡ d) →
+    Answers noted (Receive from datagram draws) answer entries t → admission noted datagram ≡ Admitted u place packet → AddsItsChunks u place from draws →
     WentThrough answer (chunks_of packet) gone → entries ≡ (chunks_did place from draws outset u gone).entries
-went_entries noted t u place from datagram draws (Began n) entries packet gone step at quiet untested went = absurd went
-went_entries noted t u place from datagram draws Done entries packet gone step at quiet untested went =
-    step.entries ∙ ap (λ (x : Admission). (received from draws x).entries) at ∙ ap (λ (d : Did). d.entries) (untested (gone_through from draws u place (chunks_of packet)))
-    ∙ ap (λ (d : Did). (then_do d (λ v. chunks_did place from draws outset v (chunks_of packet))).entries) quiet
+went_entries noted t u place from datagram draws (Began n) entries packet gone step at alone went = absurd went
+went_entries noted t u place from datagram draws Done entries packet gone step at alone went =
+    step.entries ∙ ap (λ (x : Admission). (received from draws x).entries) at
+    ∙ ap (λ (d : Did). d.entries) (alone.untested (gone_through_and_acked from draws u place (chunks_of packet) most_acks))
+    ∙ gone_entries u place from draws (chunks_of packet) most_acks alone
     ∙ ap (λ (cs : List Placed). (chunks_did place from draws outset u cs).entries) (sym went)
-went_entries noted t u place from datagram draws (NotOpened refusal) entries packet gone step at quiet untested went = absurd went
-went_entries noted t u place from datagram draws (Refused refusal) entries packet gone step at quiet untested went = absurd went
-went_entries noted t u place from datagram draws (NotAdded refusal) entries packet gone step at quiet untested went = absurd went
-went_entries noted t u place from datagram draws (Stopped stop) entries packet gone step at quiet untested went =
-    step.1.entries
-    ∙ ap (λ (b : Bool). (if b then part_received from draws (admission noted datagram) stop.chunks else nothing noted).entries) went.0
-    ∙ ap (λ (x : Admission). (part_received from draws x stop.chunks).entries) at
-    ∙ ap (λ (d : Did). (then_do d (λ v. chunks_did place from draws outset v (take stop.chunks (chunks_of packet)))).entries) quiet
+went_entries noted t u place from datagram draws (NotOpened refusal) entries packet gone step at alone went = absurd went
+went_entries noted t u place from datagram draws (Refused refusal) entries packet gone step at alone went = absurd went
+went_entries noted t u place from datagram draws (NotAdded refusal) entries packet gone step at alone went = absurd went
+went_entries noted t u place from datagram draws (Stopped stop) entries packet gone step at alone went =
+    step.left.entries
+    ∙ ap (λ (b : Bool). (if b then part_received from draws (admission noted datagram) stop.chunks step.acks else nothing noted).entries) went.0
+    ∙ ap (λ (x : Admission). (part_received from draws x stop.chunks step.acks).entries) at
+    ∙ ap (λ (d : Did). d.entries) (alone.nothing_left (gone_through_and_acked from draws u place (take stop.chunks (chunks_of packet)) step.acks))
+    ∙ gone_entries u place from draws (take stop.chunks (chunks_of packet)) step.acks alone
     ∙ ap (λ (cs : List Placed). (chunks_did place from draws outset u cs).entries) (sym went.1)
-went_entries noted t u place from datagram draws OutOfMemory entries packet gone step at quiet untested went = absurd went
+went_entries noted t u place from datagram draws OutOfMemory entries packet gone step at alone went = absurd went
+
+-- at the places without a session
+its_chunks_at_startup : (u : State) (from : AddressParts) (draws : Draws) → AddsItsChunks u Startup from draws
+its_chunks_at_startup u from draws = record { quiet = refl; unacked = λ d count. then_nothing d; untested = then_nothing; nothing_left = then_nothing }
+
+its_chunks_at_attempt : (u : State) (near : ℕ) (from : AddressParts) (draws : Draws) → AddsItsChunks u (Attempt near) from draws
+its_chunks_at_attempt u _ from draws = record { quiet = refl; unacked = λ d count. then_nothing d; untested = then_nothing; nothing_left = then_nothing }
 
 -- these are the first of the packet's chunks
 went_first : (answer : CallAnswer) (chunks gone : List Placed) → WentThrough answer chunks gone → (rest : List Placed) × (chunks ≡ gone ++ rest)
@@ -430,7 +478,7 @@ admissible_keyings_bear setup log s t moment from datagram draws answer entries 
     let at : noted.moment ≡ now = ap (λ (m : ℕ). max m moment) last in
     let cut = went_first answer (chunks_of a.packet) gone went in
     let so = admission_so setup past noted tied sent_so well from datagram draws offer now a at is fits other gone cut.0 cut.1 firstly in
-    let entries_are : entries ≡ (chunks_did Startup from draws outset noted gone).entries = went_entries noted t noted Startup from datagram draws answer entries a.packet gone step so refl then_nothing went in
+    let entries_are : entries ≡ (chunks_did Startup from draws outset noted gone).entries = went_entries noted t noted Startup from datagram draws answer entries a.packet gone step so (its_chunks_at_startup noted from draws) went in
     let left : State = u setup past noted tied sent_so well from datagram draws offer now a at is fits other gone cut.0 cut.1 firstly in
     let sealed_few : left.sealed ≤ noted.sealed + outs_in (chunks_did Startup from draws outset noted gone).entries =
     few_so setup past noted tied sent_so well from datagram draws offer now a at is fits other gone cut.0 cut.1 firstly in
@@ -495,7 +543,7 @@ one_opens s near walk other from draws c kind none =
     let that : Placed = record { kind = 0x78; at = c.at; payload = c.payload } in
     let as_kind : ℕ → Placed = λ x. record { kind = x; at = c.at; payload = c.payload } in
     let is : c ≡ that = ap as_kind kind in
-    let formed : fault_in (responder_keying_in c.payload) ≡ None = ap (λ (x : ℕ). form_cause x c.payload) (sym kind) ∙ all.1.0 in
+    let formed : fault_in (responder_keying_in c.payload) ≡ None = ap (λ (x : ℕ). form_cause walk.cursor x c.payload) (sym kind) ∙ all.1.0 in
     let read = read_ok (responder_keying_in c.payload) formed in
     let last = ap (last_cause s (Attempt near) walk from) (sym is) ∙ all.1.1.1.1.0 in
     let opens : OpensAttempt s near c.payload = opening_of s near c.payload read.0 read.1 last in
@@ -504,24 +552,13 @@ one_opens s near walk other from draws c kind none =
     ap (chunk_did (Attempt near) from draws other s) is ∙ ap (λ (o : Option Cause). discarded_or s c.at o (responder_keyed s near from c.payload)) no_cause in
     (opens, did)
 
--- chunks one after another add what each of them adds
-gone_in_two : (place : Place) (from : AddressParts) (draws : Draws) (walk : Walk) (front : List Placed) (c : Placed) (back : List Placed) (s : State) →
-    (chunks_did place from draws walk s (front ++ c ∷ back)).entries ≡ (chunks_did place from draws walk s front).entries
-    ++ ((chunk_did place from draws (walk_through walk front) (chunks_did place from draws walk s front).state c).entries
-    ++ (chunks_did place from draws (walked (walk_through walk front) c) (chunk_did place from draws (walk_through walk front) (chunks_did place from draws walk s front).state c).state back).entries)
-gone_in_two place from draws walk [] c back s = refl
-gone_in_two place from draws walk (x ∷ front) c back s =
-    let one : Did = chunk_did place from draws walk s x in
-    ap (λ (es : List Entry). one.entries ++ es) (gone_in_two place from draws (walked walk x) front c back one.state)
-    ∙ sym (append_assoc one.entries (chunks_did place from draws (walked walk x) one.state front).entries _)
-
 pub keyings_without_cause_open : KeyingsWithoutCauseOpen
 keyings_without_cause_open s t u moment near from datagram draws answer entries packet front back c walk step at went kind none =
     let v : State = (chunks_did (Attempt near) from draws outset u front).state in
     let one = one_opens v near walk (walk_through outset front) from draws c kind none in
     let later : List Entry = (chunks_did (Attempt near) from draws (walked (walk_through outset front) c) (chunk_did (Attempt near) from draws (walk_through outset front) v c).state back).entries in
     let are : entries ≡ (chunks_did (Attempt near) from draws outset u front).entries ++ ((responder_keyed v near from c.payload).entries ++ later) =
-    went_entries (at_moment s moment) t u (Attempt near) from datagram draws answer entries packet (front ++ c ∷ back) step at refl then_nothing went
+    went_entries (at_moment s moment) t u (Attempt near) from datagram draws answer entries packet (front ++ c ∷ back) step at (its_chunks_at_attempt u near from draws) went
     ∙ gone_in_two (Attempt near) from draws outset front c back u
     ∙ ap (λ (d : Did). (chunks_did (Attempt near) from draws outset u front).entries ++ (d.entries ++ later)) one.1 in
     opens_its_session v near from draws c one.0 entries (chunks_did (Attempt near) from draws outset u front).entries later are

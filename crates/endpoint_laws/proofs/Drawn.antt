@@ -1,11 +1,12 @@
 -- The nonces that a call draws: none, or that of its draws, once.
-use Rattle.std.proofs.Common.{◌≡◌, ℕ, zero, suc, List, [], ◌∷◌, ◌++◌, take, map, Bool, true, false, not, if◌then◌else◌, Option, Some, None, Result, Ok, Err, inl, inr, ◌⊎◌, refl, sym, ap, ◌∙◌}
+use Rattle.std.proofs.Common.{◌≡◌, ℕ, zero, suc, List, [], ◌∷◌, ◌++◌, take, map, Bool, true, false, not, ◌||◌, if◌then◌else◌, Option, Some, None, Result, Ok, Err, inl, inr, ◌⊎◌, refl, sym, ap, ◌∙◌}
 use Rattle.std.specs.Prelude.{◌==◌}
 use Rattle.std.specs.FinMap.{get}
 use Rattle.rtmfp_forms.specs.Address.{AddressParts}
 use Rattle.rtmfp_packet.specs.Walk.{Placed}
 use Rattle.rtmfp_chunks.specs.Chunk.{Ping, Close as CloseChunk, CloseAck}
 use Rattle.rtmfp_chunks.specs.FieldReading.{chunk_reading}
+use Rattle.rtmfp_data_chunks.specs.Reader.{data_reading}
 use Rattle.cookies.specs.declared.CookieTest.{CookieTest}
 use Rattle.cookies.specs.declared.CookieTest.TheVariants.{Bad, Moved, Expired as Late, Current}
 use Rattle.cookies.specs.Cookie.{cookie_test}
@@ -27,18 +28,23 @@ use Rattle.startup.specs.declared.attempt.Stage.TheVariants.{Hello, Keying as Ke
 use Rattle.startup.specs.State.{AttemptState, StartupState, SpreadParts}
 use Rattle.startup.specs.Attempts.{begin_spread, after_begin, hello_spread, keying_signed, confirm_fact, after_confirm, end_of, lowest, has_number, ended_attempt, session_in}
 use Rattle.startup.specs.Due.{due_of, after_due, is_due, is_over, repeat_of, repeat_signed}
-use Rattle.startup.specs.Keyings.{InitiatorKeying, ResponderKeying, initiator_keying_in, responder_keying_in, keying_of, repeated_session, again_or_birth, keyed_with, keyed_reading, after_keying, change_answer, session_answer, born_session, opened_reading}
+use Rattle.startup.specs.Keyings.{InitiatorKeying, ResponderKeying, initiator_keying_in, responder_keying_in, iikeying_cause, keying_of, repeated_session, again_or_birth, keyed_with, keyed_reading, after_keying, change_answer, session_answer, born_session, opened_reading}
 use Rattle.session_core.specs.declared.stage.SessionDue.{SessionDue}
 use Rattle.session_core.specs.declared.stage.SessionDue.TheVariants.{Unconfirmed, Idle, Over, RepeatClose}
 use Rattle.session_core.specs.Session.{is_opening, confirmed}
 use Rattle.session_core.specs.Closing.{is_held, closed_near, asked_to_close, kept_alive, first_due as first_due_in, after_due as after_due_in}
+use Rattle.session_flows.specs.Owing.{after_acks}
+use Rattle.session_flows.specs.Keeping.{with_sending}
+use Rattle.session_flows.specs.Timing.{overdue_done}
 use Rattle.mobility.specs.declared.pending.Test.{Test}
 use Rattle.mobility.specs.Tests.{asks, after_seen, address_for, after_reply}
-use Rattle.endpoint_model.specs.InSessions.{sent_home_by, sent_home, ended_as, closed, held_row, closing_by, closing, lingering, close_taken_by, moved_where, moved_by, told_in_session, test_begun, tested_by, tested as tested_at, due_row, row_due_done}
+use Rattle.endpoint_model.specs.InSessions.{sent_home_by, sent_home, ended_as, closed, held_row, closing_by, closing, lingering, close_taken_by, moved_where, moved_by, told_in_session, test_begun, tested_by, tested as tested_at}
 use Rattle.endpoint_laws.proofs.Ending.{item_left, item_is}
 use Rattle.rtmfp_chunks.specs.Writing.{chunk_bytes}
 use Rattle.glare_core.specs.declared.facts.Fact.{Fact}
 use Rattle.endpoint_model.specs.declared.row.Row.{Row}
+use Rattle.endpoint_model.specs.declared.row_due.RowDue.{RowDue}
+use Rattle.endpoint_model.specs.declared.row_due.RowDue.TheVariants.{Session as SessionOf, Abandon, Data, Keepalive}
 use Rattle.endpoint_model.specs.Views.{fact_in}
 use Rattle.endpoint_model.specs.declared.walk.Walk.{Walk}
 use Rattle.endpoint_model.specs.declared.config.Draws.{Draws}
@@ -50,16 +56,18 @@ use Rattle.endpoint_model.specs.declared.answers.Stopped.{Stopped as Stop}
 use Rattle.endpoint_model.specs.Event.{Call, Open, Cancel, Close, AddRow, Introduce, OnFlows, Receive, Tick, Answer as CallAnswer, Began, Done, NotOpened, Refused, NotAdded, Stopped, OutOfMemory}
 use Rattle.endpoint_model.specs.Introducing.{with_redirect, introducing}
 use Rattle.endpoint_model.specs.FlowCall.{FlowCall, flow_did}
-use Rattle.endpoint_model.specs.OnFlows.{flow_entry, flow_called_by, flow_called}
+use Rattle.endpoint_model.specs.OnFlows.{flow_entry, flow_called_by, flow_called, with_flows}
+use Rattle.endpoint_model.specs.FlowChunks.{is_of_flows, flow_cause, flow_taken, acks_body, acked_by, owes_by, acked_if, acked_in, acked}
+use Rattle.endpoint_model.specs.FlowTimes.{all_late, row_due, due_row, data_packed, data_body, row_due_done}
 use Rattle.endpoint_laws.specs.Past.{Stamped, stamped, onto, facts_of, fact_and}
-use Rattle.endpoint_model.specs.State.{State, Did, Does, nothing, then_do, fact_entries, with_startup, with_row, with_session, free_from}
-use Rattle.endpoint_model.specs.Sending.{sent_answer, sent_each, sent_by, sent_in_session}
+use Rattle.endpoint_model.specs.State.{State, full, Did, Does, nothing, then_do, fact_entries, with_startup, with_row, with_session, free_from}
+use Rattle.endpoint_model.specs.Sending.{packet_head, sent_answer, sent_each, sent_by, sent_in_session}
 use Rattle.endpoint_model.specs.Admission.{Admission, Rejected, Admitted, admission, sid_at, confirming, confirming_by}
 use Rattle.endpoint_model.specs.Keying.{chunks_of}
-use Rattle.endpoint_model.specs.Effects.{opening, cancelling, due_done, tick_once, ticks, keying_done, initiator_keyed, opening_done, responder_keyed, with_born, read_done, effect, discarded_or, chunk_did, chunks_did, received, part_received, outset, attempt_item, first_due, session_item, is_told_in_session, gone_through}
+use Rattle.endpoint_model.specs.Effects.{opening, cancelling, due_done, tick_once, ticks, keying_done, initiator_keyed, opening_done, responder_keyed, with_born, read_done, effect, discarded_or, chunk_did, chunks_did, walked, received, part_received, outset, attempt_item, first_due, session_item, is_told_in_session, gone_through, most_acks, gone_through_and_acked, row_item}
 use Rattle.endpoint_model.specs.Causes.{initiator_keying_cause, responder_keying_cause, has_state_for, read_cause, last_cause, chunk_cause}
 use Rattle.endpoint_laws.specs.Lawful.{nonces_of}
-use Rattle.endpoint_laws.proofs.Unseen.{AreUnseen, flows_unseen}
+use Rattle.endpoint_laws.proofs.Unseen.{AreUnseen, flows_unseen, taken_unseen}
 use Rattle.endpoint_laws.proofs.Chunked.{last_none}
 use Rattle.endpoint_laws.proofs.NoFacts.{NoFactAnd, NoFacts, the_rest, none_answer, none_each, none_by, none_in_session, none_read}
 use Rattle.endpoint_model.specs.Log.{stopped, Answers}
@@ -216,16 +224,27 @@ none_tested s Startup from draws = refl
 none_tested s (Attempt near) from draws = refl
 none_tested s (Session near) from draws = none_tested_by s near from draws.token (held_row s near)
 
-none_row_due : (s : State) (near : ℕ) (row : Row) (o : Option SessionDue) → drawn (row_due_done s near row o).entries ≡ []
-none_row_due s near row None = none_and_home (nothing (with_session s near row (kept_alive s.moment row.session))) near (chunk_bytes (Ping [])) refl
-none_row_due s near row (Some Unconfirmed) = none_ended (session_in (held_with s.startup.ledger row.session.joined.peer)) row.session.joined.peer NotConfirmed
-none_row_due s near row (Some Idle) = none_ended (session_in (held_with s.startup.ledger row.session.joined.peer)) row.session.joined.peer WasIdle
-none_row_due s near row (Some Over) = refl
-none_row_due s near row (Some RepeatClose) = none_and_home (nothing (with_session s near row (after_due_in (Some RepeatClose) s.moment row.session))) near (chunk_bytes CloseChunk) refl
+-- entries that are unseen
+none_unseen : (entries : List Entry) → AreUnseen entries → drawn entries ≡ []
+none_unseen [] are = refl
+none_unseen (entry ∷ rest) are = ap (λ (o : Option Fact). drawn_and o (drawn rest)) are.0.no_fact ∙ none_unseen rest are.1
+
+none_row_due : (s : State) (near : ℕ) (row : Row) (due : RowDue) → drawn (row_due_done s near row due).entries ≡ []
+none_row_due s near row (SessionOf Unconfirmed) = none_ended (session_in (held_with s.startup.ledger row.session.joined.peer)) row.session.joined.peer NotConfirmed
+none_row_due s near row (SessionOf Idle) = none_ended (session_in (held_with s.startup.ledger row.session.joined.peer)) row.session.joined.peer WasIdle
+none_row_due s near row (SessionOf Over) = refl
+none_row_due s near row (SessionOf RepeatClose) = none_and_home (nothing (with_session s near row (after_due_in (Some RepeatClose) s.moment row.session))) near (chunk_bytes CloseChunk) refl
+none_row_due s near row (Abandon flow seq) = let d = overdue_done row.flows (Some (flow, seq)) in none_unseen (map (flow_entry near) d.stated) (flows_unseen near d.stated)
+none_row_due s near row Data = none_and_home (nothing (with_flows s near row (with_sending row.flows (data_packed row s.moment).sending))) near (data_body row s.moment) refl
+none_row_due s near row Keepalive = none_and_home (nothing (with_session s near row (kept_alive s.moment row.session))) near (chunk_bytes (Ping [])) refl
 
 none_row_item : (s : State) (left : StartupState) (o : Option (ℕ × Row)) → drawn (item_left s left (first_that_stands (session_item s.moment o ∷ []))).entries ≡ []
 none_row_item s left None = refl
-none_row_item s left (Some e) = none_row_due s e.0 e.1 (first_due_in e.1.session s.moment)
+none_row_item s left (Some e) = by (row_due s.moment e.1)
+  where
+    by : (o : Option RowDue) → drawn (item_left s left (first_that_stands (row_item e.0 e.1 o ∷ []))).entries ≡ []
+    by None = refl
+    by (Some due) = none_row_due s e.0 e.1 due
 
 none_due : (s : State) (left : StartupState) (o : Option (ℕ × AttemptState)) → drawn (item_left s left (first_that_stands (attempt_item (due_of s.startup s.moment o) ∷ session_item s.moment (due_row s) ∷ []))).entries ≡ []
 none_due s left None = none_row_item s left (due_row s)
@@ -284,117 +303,151 @@ none_opening s near from (Some a) (Ok keying) = none_said _ near from (chunk_byt
 none_responder : (s : State) (near : ℕ) (from : AddressParts) (payload : List ℕ) → drawn (responder_keyed s near from payload).entries ≡ []
 none_responder s near from payload = none_opening s near from (get s.startup.attempts near) (responder_keying_in payload)
 
+-- ---- acks
+
+none_acked_by : (s : State) (near : ℕ) (o : Option Row) → drawn (acked_by s near o).entries ≡ []
+none_acked_by s near None = refl
+none_acked_by s near (Some row) = none_and_home (nothing (with_flows s near row (after_acks row.flows (packet_head row.session s.moment)))) near (acks_body row s.moment) refl
+
+none_acked_if : (s : State) (near : ℕ) (b : Bool) (next : State → Did) → ((t : State) → drawn (next t).entries ≡ []) → drawn (acked_if s near b next).entries ≡ []
+none_acked_if s near false next none = refl
+none_acked_if s near true next none =
+    let d : Did = acked_by s near (get s.sessions near) in
+    none_after d.entries (next d.state).entries [] (none_acked_by s near (get s.sessions near)) (none d.state)
+
+none_acked_in : (count : ℕ) (s : State) (near : ℕ) → drawn (acked_in count s near).entries ≡ []
+none_acked_in zero s near = refl
+none_acked_in (suc count) s near = none_acked_if s near (owes_by (get s.sessions near)) (λ t. acked_in count t near) (λ t. none_acked_in count t near)
+
+none_acked : (count : ℕ) (s : State) (place : Place) → drawn (acked count s place).entries ≡ []
+none_acked count s Startup = refl
+none_acked count s (Attempt near) = refl
+none_acked count s (Session near) = none_acked_in count s near
+
 -- ---- a chunk
 
-none_last : (s : State) (place : Place) (from : AddressParts) (c : Placed) → drawn (if is_told_in_session c.kind then told_in_session s (sid_at place) from c else read_done s place from (chunk_reading c.kind c.payload)).entries ≡ []
-none_last s place from c =
-    none_either (is_told_in_session c.kind) (told_in_session s (sid_at place) from c) (read_done s place from (chunk_reading c.kind c.payload)) (none_told s (sid_at place) from c)
-    (none_stated (read_done s place from (chunk_reading c.kind c.payload)).entries (none_read s place from (chunk_reading c.kind c.payload)))
+abbrev last_did : State → Place → Walk → AddressParts → Placed → Did
+last_did s place walk from c = if is_told_in_session c.kind then told_in_session s (sid_at place) from c
+    else if is_of_flows c.kind then flow_taken s (sid_at place) (data_reading walk.cursor c.kind c.payload)
+    else read_done s place from (chunk_reading c.kind c.payload)
+
+none_last : (s : State) (place : Place) (walk : Walk) (from : AddressParts) (c : Placed) → drawn (last_did s place walk from c).entries ≡ []
+none_last s place walk from c =
+    let read = data_reading walk.cursor c.kind c.payload in
+    none_either (is_told_in_session c.kind) (told_in_session s (sid_at place) from c) _ (none_told s (sid_at place) from c)
+    (none_either (is_of_flows c.kind) (flow_taken s (sid_at place) read) (read_done s place from (chunk_reading c.kind c.payload))
+    (none_unseen (flow_taken s (sid_at place) read).entries (taken_unseen s (sid_at place) read))
+    (none_stated (read_done s place from (chunk_reading c.kind c.payload)).entries (none_read s place from (chunk_reading c.kind c.payload))))
 
 -- the effect by the type: that of an initiator's keying, that of a responder's, or another
-none_other : (s : State) (place : Place) (from : AddressParts) (draws : Draws) (c : Placed) (a b : Bool) → a ≡ false →
-    drawn (if a then initiator_keyed s from draws c.payload else if b then responder_keyed s (sid_at place) from c.payload else if is_told_in_session c.kind then told_in_session s (sid_at place) from c else read_done s place from (chunk_reading c.kind c.payload)).entries ≡ []
-none_other s place from draws c true b is = absurd (cc)
-none_other s place from draws c false true is = none_responder s (sid_at place) from c.payload
-none_other s place from draws c false false is = none_last s place from c
+none_other : (s : State) (place : Place) (walk : Walk) (from : AddressParts) (draws : Draws) (c : Placed) (a b : Bool) → a ≡ false →
+    drawn (if a then initiator_keyed s from draws c.payload else if b then responder_keyed s (sid_at place) from c.payload else last_did s place walk from c).entries ≡ []
+none_other s place walk from draws c true b is = absurd (cc)
+none_other s place walk from draws c false true is = none_responder s (sid_at place) from c.payload
+none_other s place walk from draws c false false is = none_last s place walk from c
 
-once_effect : (s : State) (place : Place) (from : AddressParts) (draws : Draws) (c : Placed) (a b : Bool) →
-    Once draws.nonce (if a then initiator_keyed s from draws c.payload else if b then responder_keyed s (sid_at place) from c.payload else if is_told_in_session c.kind then told_in_session s (sid_at place) from c else read_done s place from (chunk_reading c.kind c.payload)).entries
-once_effect s place from draws c true b = once_keyed s from draws c.payload
-once_effect s place from draws c false true = inl (none_responder s (sid_at place) from c.payload)
-once_effect s place from draws c false false = inl (none_last s place from c)
-
--- a keying came before
-abbrev second : Walk
-second = record { keyed = true }
+once_effect : (s : State) (place : Place) (walk : Walk) (from : AddressParts) (draws : Draws) (c : Placed) (a b : Bool) →
+    Once draws.nonce (if a then initiator_keyed s from draws c.payload else if b then responder_keyed s (sid_at place) from c.payload else last_did s place walk from c).entries
+once_effect s place walk from draws c true b = once_keyed s from draws c.payload
+once_effect s place walk from draws c false true = inl (none_responder s (sid_at place) from c.payload)
+once_effect s place walk from draws c false false = inl (none_last s place walk from c)
 
 -- a keying after another one isn't without a cause
-not_second : (s : State) (place : Place) (from : AddressParts) (c : Placed) → (c.kind == 0x38) ≡ true → chunk_cause s place second from c ≡ None → ⊥
-not_second s place from c is none =
-    let last : last_cause s place second from c ≡ None =
-    last_none s place second from c none in
+not_second : (s : State) (place : Place) (walk : Walk) (from : AddressParts) (c : Placed) → walk.keyed ≡ true → (c.kind == 0x38) ≡ true → chunk_cause s place walk from c ≡ None → ⊥
+not_second s place walk from c keyed is none =
+    let last : last_cause s place walk from c ≡ None =
+    last_none s place walk from c none in
     let clash : Some SecondKeying ≡ None =
-    sym (ap (λ (b : Bool). if b then initiator_keying_cause s second from c.payload
+    sym (ap (λ (b : Bool). if b then Some SecondKeying else iikeying_cause s.startup c.payload from s.moment (full s)) keyed)
+    ∙ sym (ap (λ (b : Bool). if b then initiator_keying_cause s walk from c.payload
     else if c.kind == 0x78 then responder_keying_cause s (sid_at place) c.payload
+    else if is_of_flows c.kind then flow_cause (get s.sessions (sid_at place)) (data_reading walk.cursor c.kind c.payload)
     else first_that_stands (where_true (not (has_state_for s place c.kind)) WrongState ∷ read_cause s place from (chunk_reading c.kind c.payload) ∷ [])) is) ∙ last in
     cc
+
+or_either : (a b : Bool) → (a ≡ true) ⊎ (b ≡ true) → (a || b) ≡ true
+or_either true b e = refl
+or_either false b (inl e) = absurd (cc)
+or_either false b (inr e) = e
 
 module _ (place : Place) (from : AddressParts) (draws : Draws) where
   none_chunk : (s : State) (walk : Walk) (c : Placed) → (c.kind == 0x38) ≡ false → drawn (chunk_did place from draws walk s c).entries ≡ []
   none_chunk s walk c is = by (chunk_cause s place walk from c)
     where
-      by : (o : Option Cause) → drawn (discarded_or s c.at o (effect s place from draws c)).entries ≡ []
-      by None = none_other s place from draws c (c.kind == 0x38) (c.kind == 0x78) is
+      by : (o : Option Cause) → drawn (discarded_or s c.at o (effect s place walk from draws c)).entries ≡ []
+      by None = none_other s place walk from draws c (c.kind == 0x38) (c.kind == 0x78) is
       by (Some cause) = refl
 
-  none_second : (s : State) (c : Placed) → (c.kind == 0x38) ≡ true → drawn (chunk_did place from draws second s c).entries ≡ []
-  none_second s c is = by (chunk_cause s place second from c) refl
+  none_second : (s : State) (walk : Walk) (c : Placed) → walk.keyed ≡ true → (c.kind == 0x38) ≡ true → drawn (chunk_did place from draws walk s c).entries ≡ []
+  none_second s walk c keyed is = by (chunk_cause s place walk from c) refl
     where
-      by : (o : Option Cause) → chunk_cause s place second from c ≡ o → drawn (discarded_or s c.at o (effect s place from draws c)).entries ≡ []
-      by None e = absurd (not_second s place from c is e)
+      by : (o : Option Cause) → chunk_cause s place walk from c ≡ o → drawn (discarded_or s c.at o (effect s place walk from draws c)).entries ≡ []
+      by None e = absurd (not_second s place walk from c keyed is e)
       by (Some cause) e = refl
 
-  none_later : (s : State) (c : Placed) → drawn (chunk_did place from draws second s c).entries ≡ []
-  none_later s c = by (c.kind == 0x38) refl
+  none_later : (s : State) (walk : Walk) (c : Placed) → walk.keyed ≡ true → drawn (chunk_did place from draws walk s c).entries ≡ []
+  none_later s walk c keyed = by (c.kind == 0x38) refl
     where
-      by : (b : Bool) → (c.kind == 0x38) ≡ b → drawn (chunk_did place from draws second s c).entries ≡ []
-      by true e = none_second s c e
-      by false e = none_chunk s second c e
+      by : (b : Bool) → (c.kind == 0x38) ≡ b → drawn (chunk_did place from draws walk s c).entries ≡ []
+      by true e = none_second s walk c keyed e
+      by false e = none_chunk s walk c e
 
   once_chunk : (s : State) (walk : Walk) (c : Placed) → Once draws.nonce (chunk_did place from draws walk s c).entries
   once_chunk s walk c = by (chunk_cause s place walk from c)
     where
-      by : (o : Option Cause) → Once draws.nonce (discarded_or s c.at o (effect s place from draws c)).entries
-      by None = once_effect s place from draws c (c.kind == 0x38) (c.kind == 0x78)
+      by : (o : Option Cause) → Once draws.nonce (discarded_or s c.at o (effect s place walk from draws c)).entries
+      by None = once_effect s place walk from draws c (c.kind == 0x38) (c.kind == 0x78)
       by (Some cause) = inl refl
 
   -- ---- the chunks of a datagram
 
-  none_chunks : (cs : List Placed) (s : State) → drawn (chunks_did place from draws second s cs).entries ≡ []
-  none_chunks [] s = refl
-  none_chunks (c ∷ cs) s =
-      let d : Did = chunk_did place from draws second s c in
-      none_after d.entries (chunks_did place from draws second d.state cs).entries [] (none_later s c) (none_chunks cs d.state)
+  none_chunks : (cs : List Placed) (walk : Walk) (s : State) → walk.keyed ≡ true → drawn (chunks_did place from draws walk s cs).entries ≡ []
+  none_chunks [] walk s keyed = refl
+  none_chunks (c ∷ cs) walk s keyed =
+      let d : Did = chunk_did place from draws walk s c in
+      none_after d.entries (chunks_did place from draws (walked walk c) d.state cs).entries [] (none_later s walk c keyed) (none_chunks cs (walked walk c) d.state (or_either walk.keyed (c.kind == 0x38) (inl keyed)))
 
-  once_chunks : (cs : List Placed) (s : State) → Once draws.nonce (chunks_did place from draws outset s cs).entries
-  once_chunks [] s = inl refl
-  once_chunks (c ∷ cs) s = by (c.kind == 0x38) refl (once_chunks cs (chunk_did place from draws outset s c).state)
+  once_chunks : (cs : List Placed) (walk : Walk) (s : State) → Once draws.nonce (chunks_did place from draws walk s cs).entries
+  once_chunks [] walk s = inl refl
+  once_chunks (c ∷ cs) walk s = by (c.kind == 0x38) refl (once_chunks cs (walked walk c) (chunk_did place from draws walk s c).state)
     where
-      by : (b : Bool) → (c.kind == 0x38) ≡ b → Once draws.nonce (chunks_did place from draws outset (chunk_did place from draws outset s c).state cs).entries →
-          Once draws.nonce ((chunk_did place from draws outset s c).entries ++ (chunks_did place from draws (record { keyed = b }) (chunk_did place from draws outset s c).state cs).entries)
+      by : (b : Bool) → (c.kind == 0x38) ≡ b → Once draws.nonce (chunks_did place from draws (walked walk c) (chunk_did place from draws walk s c).state cs).entries →
+          Once draws.nonce ((chunk_did place from draws walk s c).entries ++ (chunks_did place from draws (walked walk c) (chunk_did place from draws walk s c).state cs).entries)
       by true e rest =
-          let d : Did = chunk_did place from draws outset s c in
-          once_before draws.nonce d.entries (chunks_did place from draws second d.state cs).entries (once_chunk s outset c) (none_chunks cs d.state)
+          let d : Did = chunk_did place from draws walk s c in
+          once_before draws.nonce d.entries (chunks_did place from draws (walked walk c) d.state cs).entries (once_chunk s walk c) (none_chunks cs (walked walk c) d.state (or_either walk.keyed (c.kind == 0x38) (inr e)))
       by false e rest =
-          let d : Did = chunk_did place from draws outset s c in
-          once_after draws.nonce d.entries (chunks_did place from draws outset d.state cs).entries (none_chunk s outset c e) rest
+          let d : Did = chunk_did place from draws walk s c in
+          once_after draws.nonce d.entries (chunks_did place from draws (walked walk c) d.state cs).entries (none_chunk s walk c e) rest
 
 once_some : (from : AddressParts) (draws : Draws) (s : State) (place : Place) (cs : List Placed) → Once draws.nonce ((confirming s place).entries ++ (chunks_did place from draws outset (confirming s place).state cs).entries)
 once_some from draws s place cs =
-    once_after draws.nonce (confirming s place).entries (chunks_did place from draws outset (confirming s place).state cs).entries (none_confirming s place) (once_chunks place from draws cs (confirming s place).state)
+    once_after draws.nonce (confirming s place).entries (chunks_did place from draws outset (confirming s place).state cs).entries (none_confirming s place) (once_chunks place from draws cs outset (confirming s place).state)
+
+once_acked : (from : AddressParts) (draws : Draws) (s : State) (place : Place) (cs : List Placed) (count : ℕ) → Once draws.nonce (gone_through_and_acked from draws s place cs count).entries
+once_acked from draws s place cs count =
+    let d : Did = gone_through from draws s place cs in
+    once_before draws.nonce d.entries (acked count d.state place).entries (once_some from draws s place cs) (none_acked count d.state place)
 
 once_received : (from : AddressParts) (draws : Draws) (a : Admission) → Once draws.nonce (received from draws a).entries
 once_received from draws (Rejected s cause) = inl refl
 once_received from draws (Admitted s place packet) =
-    let d : Did = gone_through from draws s place (chunks_of packet) in
-    once_before draws.nonce d.entries (tested_at d.state place from draws).entries (once_some from draws s place (chunks_of packet)) (none_tested d.state place from draws)
+    let d : Did = gone_through_and_acked from draws s place (chunks_of packet) most_acks in
+    once_before draws.nonce d.entries (tested_at d.state place from draws).entries (once_acked from draws s place (chunks_of packet) most_acks) (none_tested d.state place from draws)
 
-once_part : (from : AddressParts) (draws : Draws) (a : Admission) (count : ℕ) → Once draws.nonce (part_received from draws a count).entries
-once_part from draws (Rejected s cause) count = inl refl
-once_part from draws (Admitted s place packet) count = once_some from draws s place (take count (chunks_of packet))
+once_part : (from : AddressParts) (draws : Draws) (a : Admission) (count acks : ℕ) → Once draws.nonce (part_received from draws a count acks).entries
+once_part from draws (Rejected s cause) count acks = inl refl
+once_part from draws (Admitted s place packet) count acks =
+    once_before draws.nonce (gone_through_and_acked from draws s place (take count (chunks_of packet)) acks).entries [] (once_acked from draws s place (take count (chunks_of packet)) acks) refl
 
-once_stopped : (s : State) (from : AddressParts) (draws : Draws) (a : Admission) (stop : Stop) → Once draws.nonce (stopped s from draws a stop).entries
-once_stopped s from draws a stop = by stop.taken
+once_stopped : (s : State) (from : AddressParts) (draws : Draws) (a : Admission) (stop : Stop) (acks : ℕ) → Once draws.nonce (stopped s from draws a stop acks).entries
+once_stopped s from draws a stop acks = by stop.taken
   where
-    by : (b : Bool) → Once draws.nonce (if b then part_received from draws a stop.chunks else nothing s).entries
-    by true = once_part from draws a stop.chunks
+    by : (b : Bool) → Once draws.nonce (if b then part_received from draws a stop.chunks acks else nothing s).entries
+    by true = once_part from draws a stop.chunks acks
     by false = inl refl
 
 -- ---- flows
-
-none_unseen : (entries : List Entry) → AreUnseen entries → drawn entries ≡ []
-none_unseen [] are = refl
-none_unseen (entry ∷ rest) are = ap (λ (o : Option Fact). drawn_and o (drawn rest)) are.0.no_fact ∙ none_unseen rest are.1
 
 none_flow_called : (s : State) (near : ℕ) (c : FlowCall) → drawn (flow_called s near c).entries ≡ []
 none_flow_called s near c = by (held_row s near)
@@ -439,9 +492,9 @@ answers_draw s t (OnFlows near call) Done entries h = none_of (flow_called s nea
 answers_draw s t (OnFlows near call) (Refused refusal) entries h = none_of (nothing s) t entries h.1 refl
 answers_draw s t (Receive from datagram draws) Done entries h = once_of draws.nonce (received from draws (admission s datagram)) t entries h (once_received from draws (admission s datagram))
 answers_draw s t (Receive from datagram draws) (Stopped stop) entries h =
-    once_of draws.nonce (stopped s from draws (admission s datagram) stop) t entries h.1 (once_stopped s from draws (admission s datagram) stop)
-answers_draw s t (Tick draws) Done entries h = none_of (ticks h.0.0 s) t entries h.0.1 (none_ticks h.0.0 s)
-answers_draw s t (Tick draws) OutOfMemory entries h = none_of (ticks h.0 s) t entries h.1 (none_ticks h.0 s)
+    once_of draws.nonce (stopped s from draws (admission s datagram) stop h.acks) t entries h.left (once_stopped s from draws (admission s datagram) stop h.acks)
+answers_draw s t (Tick draws) Done entries h = none_of (ticks h.0.0 (all_late s)) t entries h.0.1 (none_ticks h.0.0 (all_late s))
+answers_draw s t (Tick draws) OutOfMemory entries h = none_of (ticks h.0 (all_late s)) t entries h.1 (none_ticks h.0 (all_late s))
 answers_draw s t call answer entries h = absurd h
 
 -- ---- the nonces of the facts of an event

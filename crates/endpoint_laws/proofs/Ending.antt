@@ -33,7 +33,7 @@ use Rattle.endpoint_laws.specs.Past.{Stamped, stamped, is_close, facts_of, ids_i
 use Rattle.endpoint_laws.specs.Lawful.{IsTick}
 use Rattle.endpoint_model.specs.State.{State, Did, nothing, fact_entries, with_startup}
 use Rattle.endpoint_model.specs.Effects.{Item, OfAttempt, OfSession, cancelling, due_done, item_done, attempt_item, session_item}
-use Rattle.endpoint_model.specs.InSessions.{due_row, row_due_done}
+use Rattle.endpoint_model.specs.FlowTimes.{due_row, row_due_done}
 use Rattle.endpoint_model.proofs.Members.{has, without}
 use Rattle.endpoint_model.proofs.Ids.{has_keys, count_keys}
 use Rattle.endpoint_laws.proofs.Matching.{of_peer, Ids, ids_less}

@@ -1,11 +1,14 @@
 -- No thing that an end does seals more startup packets than datagrams go out.
-use Rattle.std.proofs.Common.{◌≡◌, ℕ, ◌+◌, ◌≤◌, List, [], ◌∷◌, ◌++◌, Bool, true, false, ◌==◌, if◌then◌else◌, Option, Some, None, Result, refl, ap, ◌∙◌, arith}
+use Rattle.std.proofs.Common.{◌≡◌, ℕ, ◌+◌, ◌≤◌, List, [], ◌∷◌, ◌++◌, Bool, true, false, ◌==◌, if◌then◌else◌, Option, Some, None, Result, Ok, Err, refl, ap, ◌∙◌, arith}
 use Rattle.std.specs.FinMap.{get}
 use Rattle.rtmfp_forms.specs.Address.{AddressParts}
 use Rattle.rtmfp_packet.specs.Walk.{Placed}
 use Rattle.rtmfp_chunks.specs.declared.reading.ChunkFault.{ChunkFault}
 use Rattle.rtmfp_chunks.specs.Chunk.{Chunk, Ping, Close as CloseChunk, CloseAck}
 use Rattle.rtmfp_chunks.specs.FieldReading.{chunk_reading}
+use Rattle.rtmfp_data_chunks.specs.declared.view.DataFault.{DataFault}
+use Rattle.rtmfp_data_chunks.specs.Chunk.{DataChunk}
+use Rattle.rtmfp_data_chunks.specs.Reader.{data_reading}
 use Rattle.glare_core.specs.declared.facts.Fact.{Fact}
 use Rattle.startup.specs.declared.cause.Cause.{Cause}
 use Rattle.startup.specs.declared.answer.Answer.{Answer}
@@ -17,12 +20,16 @@ use Rattle.startup.specs.State.{SpreadParts}
 use Rattle.startup.specs.Attempts.{begin_spread, after_begin, after_confirm, confirm_fact}
 use Rattle.startup.specs.Due.{after_due as after_due_in}
 use Rattle.glare_core.specs.declared.facts.Why.TheVariants.{Near as NearWhy, Far as FarWhy, Unconfirmed as NotConfirmed, Idle as WasIdle}
-use Rattle.session_core.specs.declared.stage.SessionDue.{SessionDue}
 use Rattle.session_core.specs.declared.stage.SessionDue.TheVariants.{Unconfirmed, Idle, Over, RepeatClose}
 use Rattle.session_core.specs.Closing.{is_held, closed_near, asked_to_close, after_due, kept_alive}
+use Rattle.session_flows.specs.Owing.{after_acks}
+use Rattle.session_flows.specs.Keeping.{with_sending}
+use Rattle.session_flows.specs.Timing.{overdue_done}
 use Rattle.mobility.specs.declared.pending.Test.{Test}
 use Rattle.mobility.specs.Tests.{asks, after_seen, address_for, after_reply}
-use Rattle.endpoint_model.specs.InSessions.{sent_home_by, sent_home, ended_as, dropped, closed, held_row, closing_by, closing, lingering, close_taken_by, moved_where, moved_by, told_in_session, test_begun, tested_by, tested, row_due_done}
+use Rattle.endpoint_model.specs.InSessions.{sent_home_by, sent_home, ended_as, dropped, closed, held_row, closing_by, closing, lingering, close_taken_by, moved_where, moved_by, told_in_session, test_begun, tested_by, tested}
+use Rattle.endpoint_model.specs.OnFlows.{flows_done, with_flows}
+use Rattle.endpoint_model.specs.FlowTimes.{data_packed, data_body, row_due_done}
 use Rattle.startup.specs.Keyings.{keyed, after_keying, opened, after_opening}
 use Rattle.glare_core.specs.Calls.{started_fact}
 use Rattle.crypto_profile.specs.declared.keys.Context.{Context}
@@ -31,6 +38,8 @@ use Rattle.session_core.specs.Session.{is_opening, confirmed, context_of}
 use Rattle.session_core.specs.Sealed.{after_seal}
 use Rattle.rtmfp_chunks.specs.Writing.{chunk_bytes}
 use Rattle.endpoint_model.specs.declared.row.Row.{Row}
+use Rattle.endpoint_model.specs.declared.row_due.RowDue.{RowDue}
+use Rattle.endpoint_model.specs.declared.row_due.RowDue.TheVariants.{Session as SessionOf, Abandon, Data, Keepalive}
 use Rattle.endpoint_model.specs.declared.walk.Walk.{Walk}
 use Rattle.endpoint_model.specs.declared.config.Draws.{Draws}
 use Rattle.endpoint_model.specs.declared.place.Place.{Place}
@@ -39,7 +48,9 @@ use Rattle.endpoint_model.specs.declared.entry.Entry.{Entry}
 use Rattle.endpoint_model.specs.declared.entry.Entry.TheVariants.{Fact as FactEntry, Out}
 use Rattle.endpoint_laws.specs.Past.{Stamped, stamped, onto}
 use Rattle.endpoint_model.specs.State.{State, Did, Does, nothing, after_entries, then_do, fact_entries, with_startup, with_row, with_session, with_sealed, free_from}
-use Rattle.endpoint_model.specs.Sending.{last_count, startup_datagram, session_datagram, sent_startup, sent_answer, sent_if, sent_each, sent_spread, sent_by, sent_in_session}
+use Rattle.endpoint_model.specs.OnFlows.{with_flows}
+use Rattle.endpoint_model.specs.FlowChunks.{is_of_flows, flow_taken_by, flow_taken, acks_body, acked_by, unowed_by}
+use Rattle.endpoint_model.specs.Sending.{last_count, packet_head, startup_datagram, session_datagram, sent_startup, sent_answer, sent_if, sent_each, sent_spread, sent_by, sent_in_session}
 use Rattle.endpoint_model.specs.Admission.{sid_at, confirming_by, confirming}
 use Rattle.endpoint_model.specs.Causes.{chunk_cause}
 use Rattle.endpoint_model.specs.Effects.{opening, due_done, tick_once, with_born, keying_done, initiator_keyed, with_opened, opening_done, responder_keyed, Reply, Silence, InStartup, Hellos, InSession, Introduction, forwarded, replied, read_left, read_reply, read_done, effect, discarded_or, chunk_did, item_done, Item, OfAttempt, OfSession, is_told_in_session, first_due}
@@ -204,30 +215,55 @@ few_tested s Startup from draws = few_nothing s
 few_tested s (Attempt near) from draws = few_nothing s
 few_tested s (Session near) from draws = few_tested_by s near from draws.token (held_row s near)
 
-few_row_due : (s : State) (near : ℕ) (row : Row) (o : Option SessionDue) → Few s (row_due_done s near row o)
-few_row_due s near row None = few_and_home s near (chunk_bytes (Ping [])) (nothing (with_session s near row (kept_alive s.moment row.session))) refl
-few_row_due s near row (Some Unconfirmed) = few_same s (dropped s near row NotConfirmed) refl
-few_row_due s near row (Some Idle) = few_same s (dropped s near row WasIdle) refl
-few_row_due s near row (Some Over) = few_same s (closed s near) refl
-few_row_due s near row (Some RepeatClose) = few_and_home s near (chunk_bytes CloseChunk) (nothing (with_session s near row (after_due (Some RepeatClose) s.moment row.session))) refl
+few_row_due : (s : State) (near : ℕ) (row : Row) (due : RowDue) → Few s (row_due_done s near row due)
+few_row_due s near row (SessionOf Unconfirmed) = few_same s (dropped s near row NotConfirmed) refl
+few_row_due s near row (SessionOf Idle) = few_same s (dropped s near row WasIdle) refl
+few_row_due s near row (SessionOf Over) = few_same s (closed s near) refl
+few_row_due s near row (SessionOf RepeatClose) = few_and_home s near (chunk_bytes CloseChunk) (nothing (with_session s near row (after_due (Some RepeatClose) s.moment row.session))) refl
+few_row_due s near row (Abandon flow seq) = few_same s (flows_done s near row (overdue_done row.flows (Some (flow, seq)))) refl
+few_row_due s near row Data = few_and_home s near (data_body row s.moment) (nothing (with_flows s near row (with_sending row.flows (data_packed row s.moment).sending))) refl
+few_row_due s near row Keepalive = few_and_home s near (chunk_bytes (Ping [])) (nothing (with_session s near row (kept_alive s.moment row.session))) refl
 
-few_effect : (s : State) (place : Place) (from : AddressParts) (draws : Draws) (c : Placed) → Few s (effect s place from draws c)
-few_effect s place from draws c =
-    let other : Did = if is_told_in_session c.kind then told_in_session s (sid_at place) from c else read_done s place from (chunk_reading c.kind c.payload) in
+-- ---- chunks of flows, and acks
+
+few_flow_by : (s : State) (near : ℕ) (chunk : DataChunk) (o : Option Row) → Few s (flow_taken_by s near chunk o)
+few_flow_by s near chunk None = few_nothing s
+few_flow_by s near chunk (Some row) = few_same s (flow_taken_by s near chunk (Some row)) refl
+
+few_flow_taken : (s : State) (near : ℕ) (read : Result DataChunk DataFault) → Few s (flow_taken s near read)
+few_flow_taken s near (Ok chunk) = few_flow_by s near chunk (get s.sessions near)
+few_flow_taken s near (Err fault) = few_nothing s
+
+pub few_acked_by : (s : State) (near : ℕ) (o : Option Row) → Few s (acked_by s near o)
+few_acked_by s near None = few_nothing s
+few_acked_by s near (Some row) = few_and_home s near (acks_body row s.moment) (nothing (with_flows s near row (after_acks row.flows (packet_head row.session s.moment)))) refl
+
+pub few_unowed_by : (s : State) (near : ℕ) (o : Option Row) → Few s (nothing (unowed_by s near o))
+few_unowed_by s near None = few_nothing s
+few_unowed_by s near (Some row) = few_same s (nothing (unowed_by s near (Some row))) refl
+
+-- ---- a chunk, by its type
+
+few_effect : (s : State) (place : Place) (walk : Walk) (from : AddressParts) (draws : Draws) (c : Placed) → Few s (effect s place walk from draws c)
+few_effect s place walk from draws c =
+    let read : Result DataChunk DataFault = data_reading walk.cursor c.kind c.payload in
+    let least : Did = if is_of_flows c.kind then flow_taken s (sid_at place) read else read_done s place from (chunk_reading c.kind c.payload) in
+    let other : Did = if is_told_in_session c.kind then told_in_session s (sid_at place) from c else least in
     let last : Did = if c.kind == 0x78 then responder_keyed s (sid_at place) from c.payload else other in
     let t : State = with_startup s (after_keying s.startup c.payload from s.moment (free_from s draws.word) draws.nonce) in
     either s (c.kind == 0x38) (initiator_keyed s from draws c.payload) last
     (few_keying t from (keyed s.startup c.payload from s.moment (free_from s draws.word) draws.nonce))
     (either s (c.kind == 0x78) (responder_keyed s (sid_at place) from c.payload) other
     (few_opening_done s (sid_at place) from (opened s.startup (sid_at place) c.payload))
-    (either s (is_told_in_session c.kind) (told_in_session s (sid_at place) from c) (read_done s place from (chunk_reading c.kind c.payload)) (few_told s (sid_at place) from c) (few_read s place from (chunk_reading c.kind c.payload))))
+    (either s (is_told_in_session c.kind) (told_in_session s (sid_at place) from c) least (few_told s (sid_at place) from c)
+    (either s (is_of_flows c.kind) (flow_taken s (sid_at place) read) (read_done s place from (chunk_reading c.kind c.payload)) (few_flow_taken s (sid_at place) read) (few_read s place from (chunk_reading c.kind c.payload)))))
 
 few_discarded_or : (s : State) (at : ℕ) (o : Option Cause) (d : Did) → Few s d → Few s (discarded_or s at o d)
 few_discarded_or s at None d p = p
 few_discarded_or s at (Some cause) d p = omega arith
 
 pub few_chunk : (place : Place) (from : AddressParts) (draws : Draws) (walk : Walk) (s : State) (c : Placed) → Few s (chunk_did place from draws walk s c)
-few_chunk place from draws walk s c = few_discarded_or s c.at (chunk_cause s place walk from c) (effect s place from draws c) (few_effect s place from draws c)
+few_chunk place from draws walk s c = few_discarded_or s c.at (chunk_cause s place walk from c) (effect s place walk from draws c) (few_effect s place walk from draws c)
 
 -- ---- datagrams that come in
 

@@ -1,5 +1,5 @@
 -- The things after which each session was there before: all but the birth and the opening of a session.
-use Rattle.std.proofs.Common.{◌≡◌, ℕ, ◌+◌, ◌==◌, List, [], ◌∷◌, Bool, true, false, if◌then◌else◌, ◌||◌, Option, Some, None, Result, Ok, Err, refl, subst, ◌∙◌}
+use Rattle.std.proofs.Common.{◌≡◌, ℕ, ◌+◌, ◌==◌, List, [], ◌∷◌, map, Bool, true, false, if◌then◌else◌, ◌||◌, Option, Some, None, Result, Ok, Err, refl, sym, subst, ◌∙◌}
 use Rattle.std.specs.FinMap.{get, insert}
 use Rattle.rtmfp_base.proofs.Lowest.{first_is_there}
 use Rattle.rtmfp_forms.specs.Address.{AddressParts}
@@ -30,18 +30,25 @@ use Rattle.session_core.specs.declared.stage.Stage.TheVariants.{Opening, Open, N
 use Rattle.session_core.specs.declared.stage.SessionDue.{SessionDue}
 use Rattle.session_core.specs.declared.stage.SessionDue.TheVariants.{Unconfirmed, Idle, Over, RepeatClose}
 use Rattle.session_core.specs.Session.{SessionState, is_opening, confirmed_stage, confirmed, moved_to}
-use Rattle.session_core.specs.Closing.{is_held, is_near_close, closed_near, asked_to_close, after_due as after_due_in, first_due as first_due_in, needs_keepalive, kept_alive}
+use Rattle.session_core.specs.Closing.{is_held, is_near_close, closed_near, asked_to_close, after_due as after_due_in, needs_keepalive, kept_alive}
+use Rattle.session_flows.specs.Keeping.{with_sending}
+use Rattle.session_flows.specs.Timing.{overdue_done}
 use Rattle.session_core.specs.Sealed.{after_seal, is_spent}
 use Rattle.endpoint_model.specs.declared.config.Draws.{Draws}
 use Rattle.endpoint_model.specs.declared.place.Place.{Place}
 use Rattle.endpoint_model.specs.declared.place.Place.TheVariants.{Startup, Attempt, Session}
 use Rattle.endpoint_model.specs.declared.row.Row.{Row}
+use Rattle.endpoint_model.specs.declared.row_due.RowDue.{RowDue}
+use Rattle.endpoint_model.specs.declared.row_due.RowDue.TheVariants.{Session as SessionOf, Abandon, Data, Keepalive}
 use Rattle.endpoint_model.specs.declared.entry.Entry.{Entry}
 use Rattle.endpoint_model.specs.State.{Sessions, State, Did, nothing, fact_entries, with_startup, with_row, with_session, free_from}
 use Rattle.endpoint_model.specs.Sending.{last_count, sent_startup, sent_answer, sent_if, sent_each, sent_spread, sent_by, sent_in_session}
-use Rattle.endpoint_model.specs.InSessions.{if_held, held_row, sent_home_by, sent_home, ended_as, dropped, closed, closing_by, closing, lingering, close_taken_by, moved_where, moved_by, told_in_session, tested_by, tested, is_row_due, due_row, session_due_done, kept_alive_by, row_due_done}
+use Rattle.endpoint_model.specs.InSessions.{if_held, held_row, sent_home_by, sent_home, ended_as, dropped, closed, closing_by, closing, lingering, close_taken_by, moved_where, moved_by, told_in_session, tested_by, tested, session_due_done, kept_alive_by}
+use Rattle.endpoint_model.specs.OnFlows.{flow_entry}
+use Rattle.endpoint_model.specs.FlowTimes.{row_due, is_row_due, due_row, data_packed, data_body, row_due_done}
 use Rattle.endpoint_model.specs.Admission.{confirming_by, confirming, sid_at}
-use Rattle.endpoint_model.specs.Effects.{opening, cancelling, attempt_item, session_item, due_done, item_done, tick_once, Reply, Silence, InStartup, Hellos, InSession, Introduction, forwarded, replied, read_left, read_reply, read_done, discarded}
+use Rattle.endpoint_model.specs.Effects.{opening, cancelling, attempt_item, row_item, session_item, due_done, item_done, tick_once, Reply, Silence, InStartup, Hellos, InSession, Introduction, forwarded, replied, read_left, read_reply, read_done, discarded}
+use Rattle.endpoint_laws.proofs.Unseen.{AreUnseen, flows_unseen}
 use Rattle.endpoint_laws.proofs.Hearing.{BeginsNone, NoneBegin, Descends, Had, descends_same, had_it, had_inserted, had_left, Follows, follows_nothing, follows_then, follows_if, KeepsHeard, heard_follows}
 
 -- ---- facts that begin no session
@@ -60,6 +67,11 @@ none_confirmed (Some (KeptAsInitiator j)) peer = tt
 none_end : (e : Option (ℕ × AttemptState)) (why : Why) → NoneBegin (fact_entries (end_of e why))
 none_end None why = tt
 none_end (Some e) why = ((λ near. refl), tt)
+
+-- entries that are unseen
+pub none_begin : (entries : List Entry) → AreUnseen entries → NoneBegin entries
+none_begin [] are = tt
+none_begin (entry ∷ rest) are = (subst BeginsNone (sym are.0.no_fact) (λ near. refl), none_begin rest are.1)
 
 -- ---- sessions that go on
 
@@ -320,13 +332,24 @@ follows_session_due s near row RepeatClose is =
     let d : Did = nothing (with_session s near row left) in
     follows_then s d (λ t. sent_home t near (chunk_bytes CloseChunk)) (follows_changed s near row left is (record { same = refl; opening = λ e. (e, refl) })) (follows_home d.state near (chunk_bytes CloseChunk))
 
-follows_row_due : (s : State) (near : ℕ) (row : Row) (d : Option SessionDue) → get s.sessions near ≡ Some row → Follows s (row_due_done s near row d)
-follows_row_due s near row None is = follows_kept_alive s near row is
-follows_row_due s near row (Some d) is = follows_session_due s near row d is
+follows_row_due : (s : State) (near : ℕ) (row : Row) (d : RowDue) → get s.sessions near ≡ Some row → Follows s (row_due_done s near row d)
+follows_row_due s near row (SessionOf d) is = follows_session_due s near row d is
+follows_row_due s near row (Abandon flow seq) is =
+    let d = overdue_done row.flows (Some (flow, seq)) in
+    follows_row s s near row (record row { flows = d.flows }) (map (flow_entry near) d.stated) is (descends_same row.session) (none_begin (map (flow_entry near) d.stated) (flows_unseen near d.stated)) refl refl
+follows_row_due s near row Data is =
+    let new : Row = record row { flows = with_sending row.flows (data_packed row s.moment).sending } in
+    let d : Did = nothing (with_row s near new) in
+    follows_then s d (λ t. sent_home t near (data_body row s.moment)) (follows_row s s near row new [] is (descends_same row.session) tt refl refl) (follows_home d.state near (data_body row s.moment))
+follows_row_due s near row Keepalive is = follows_kept_alive s near row is
+
+follows_row_item : (s : State) (near : ℕ) (row : Row) (o : Option RowDue) → get s.sessions near ≡ Some row → Follows s (item_done s (first_that_stands (row_item near row o ∷ [])))
+follows_row_item s near row None is = follows_nothing s
+follows_row_item s near row (Some d) is = follows_row_due s near row d is
 
 follows_session_item : (s : State) (o : Option (ℕ × Row)) → due_row s ≡ o → Follows s (item_done s (first_that_stands (session_item s.moment o ∷ [])))
 follows_session_item s None is = follows_nothing s
-follows_session_item s (Some e) is = follows_row_due s e.0 e.1 (first_due_in e.1.session s.moment) (first_is_there (is_row_due s.moment) s.sessions e is).0
+follows_session_item s (Some e) is = follows_row_item s e.0 e.1 (row_due s.moment e.1) (first_is_there (is_row_due s.moment) s.sessions e is).0
 
 follows_item : (s : State) (e : Option (ℕ × AttemptState)) → Follows s (item_done s (first_that_stands (attempt_item (due_of s.startup s.moment e) ∷ session_item s.moment (due_row s) ∷ [])))
 follows_item s None = follows_session_item s (due_row s) refl

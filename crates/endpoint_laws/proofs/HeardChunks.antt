@@ -7,6 +7,7 @@ use Rattle.rtmfp_forms.specs.Address.{AddressParts}
 use Rattle.rtmfp_packet.specs.Walk.{Placed}
 use Rattle.rtmfp_chunks.specs.Chunk.{Ping}
 use Rattle.rtmfp_chunks.specs.FieldReading.{chunk_reading}
+use Rattle.rtmfp_data_chunks.specs.Reader.{data_reading}
 use Rattle.rtmfp_chunks.specs.Writing.{chunk_bytes}
 use Rattle.crypto_profile.specs.Window.{window_of, window_answer}
 use Rattle.cookies.specs.declared.CookieTest.{CookieTest}
@@ -39,6 +40,7 @@ use Rattle.endpoint_model.specs.declared.entry.Entry.TheVariants.{Fact as FactEn
 use Rattle.endpoint_model.specs.State.{Sessions, State, Did, fact_entries, with_startup, new_row, free_from}
 use Rattle.endpoint_model.specs.Sending.{sent_answer, sent_in_session}
 use Rattle.endpoint_model.specs.Admission.{sid_at}
+use Rattle.endpoint_model.specs.FlowChunks.{is_of_flows}
 use Rattle.endpoint_model.specs.Causes.{is_known, form_cause, takes, last_cause, chunk_cause}
 use Rattle.endpoint_model.specs.Effects.{without_ended, with_born, keying_done, initiator_keyed, with_opened, opening_done, responder_keyed, is_told_in_session, effect, discarded_or, chunk_did}
 use Rattle.endpoint_laws.specs.Past.{Stamped, stamped, onto}
@@ -46,6 +48,7 @@ use Rattle.endpoint_laws.specs.Taken.{begins, taken_since}
 use Rattle.endpoint_laws.proofs.Facts.{all_none, test_fails}
 use Rattle.endpoint_laws.proofs.Numbers.{room_at_first}
 use Rattle.endpoint_laws.proofs.Hearing.{Counts, first_fact, lasting, IsKnown, AreKnown, since_entry, known_more, KeepsHeard, keeps_then, keeps_if, heard_from, onto_append, Follows, follows_if, heard_follows}
+use Rattle.endpoint_laws.proofs.FlowChunks.{follows_flow_taken}
 use Rattle.endpoint_laws.proofs.Following.{follows_discarded, follows_answer, follows_in_session, follows_told, follows_read}
 
 -- ---- a session begins
@@ -168,17 +171,18 @@ heard_responder_keyed s near from payload = heard_opening_done s near from (get 
 
 -- ---- a chunk
 
-pub heard_effect : (s : State) (place : Place) (from : AddressParts) (draws : Draws) (c : Placed) → KeepsHeard s (effect s place from draws c)
-heard_effect s place from draws c =
+pub heard_effect : (s : State) (place : Place) (walk : Walk) (from : AddressParts) (draws : Draws) (c : Placed) → KeepsHeard s (effect s place walk from draws c)
+heard_effect s place walk from draws c =
     keeps_if s (c.kind == 0x38) _ _ (heard_initiator_keyed s from draws c.payload)
     (keeps_if s (c.kind == 0x78) _ _ (heard_responder_keyed s (sid_at place) from c.payload)
-    (keeps_if s (is_told_in_session c.kind) _ _ (heard_follows s _ (follows_told s (sid_at place) from c)) (heard_follows s _ (follows_read s place from (chunk_reading c.kind c.payload)))))
+    (keeps_if s (is_told_in_session c.kind) _ _ (heard_follows s _ (follows_told s (sid_at place) from c))
+    (keeps_if s (is_of_flows c.kind) _ _ (heard_follows s _ (follows_flow_taken s (sid_at place) (data_reading walk.cursor c.kind c.payload))) (heard_follows s _ (follows_read s place from (chunk_reading c.kind c.payload))))))
 
 pub heard_chunk : (place : Place) (from : AddressParts) (draws : Draws) (walk : Walk) (s : State) (c : Placed) → KeepsHeard s (chunk_did place from draws walk s c)
 heard_chunk place from draws walk s c = by (chunk_cause s place walk from c)
   where
-    by : (o : Option Cause) → KeepsHeard s (discarded_or s c.at o (effect s place from draws c))
-    by None = heard_effect s place from draws c
+    by : (o : Option Cause) → KeepsHeard s (discarded_or s c.at o (effect s place walk from draws c))
+    by None = heard_effect s place walk from draws c
     by (Some cause) = heard_follows s _ (follows_discarded s c.at cause)
 
 -- ---- a chunk that came in a session begins none
@@ -198,7 +202,7 @@ takes_it : (s : State) (place : Place) (walk : Walk) (from : AddressParts) (c : 
 takes_it s place walk from c none =
     let all = all_none (
     where_true (not (is_known c.kind)) (UnknownChunk c.kind)
-    ∷ form_cause c.kind c.payload
+    ∷ form_cause walk.cursor c.kind c.payload
     ∷ where_true (c.kind == 0x7f) FragmentCause
     ∷ where_true (not (takes place c.kind)) WrongPlace
     ∷ last_cause s place walk from c
@@ -208,15 +212,16 @@ takes_it s place walk from c none =
 no_keying : (near kind n : ℕ) → takes (Session near) n ≡ false → takes (Session near) kind ≡ true → (kind == n) ≡ true → ⊥
 no_keying near kind n not_here here e = let clash : false ≡ true = sym not_here ∙ ap (takes (Session near)) (sym (is_kind kind n e)) ∙ here in cc
 
-follows_effect : (s : State) (near : ℕ) (from : AddressParts) (draws : Draws) (c : Placed) → takes (Session near) c.kind ≡ true → Follows s (effect s (Session near) from draws c)
-follows_effect s near from draws c here =
+follows_effect : (s : State) (near : ℕ) (walk : Walk) (from : AddressParts) (draws : Draws) (c : Placed) → takes (Session near) c.kind ≡ true → Follows s (effect s (Session near) walk from draws c)
+follows_effect s near walk from draws c here =
     follows_cases s (c.kind == 0x38) _ _ (λ e. absurd (no_keying near c.kind 0x38 refl here e))
     (λ e. follows_cases s (c.kind == 0x78) _ _ (λ f. absurd (no_keying near c.kind 0x78 refl here f))
-    (λ f. follows_if s (is_told_in_session c.kind) _ _ (follows_told s near from c) (follows_read s (Session near) from (chunk_reading c.kind c.payload))))
+    (λ f. follows_if s (is_told_in_session c.kind) _ _ (follows_told s near from c)
+    (follows_if s (is_of_flows c.kind) _ _ (follows_flow_taken s near (data_reading walk.cursor c.kind c.payload)) (follows_read s (Session near) from (chunk_reading c.kind c.payload)))))
 
 pub follows_chunk : (near : ℕ) (from : AddressParts) (draws : Draws) (walk : Walk) (s : State) (c : Placed) → Follows s (chunk_did (Session near) from draws walk s c)
 follows_chunk near from draws walk s c = by (chunk_cause s (Session near) walk from c) refl
   where
-    by : (o : Option Cause) → chunk_cause s (Session near) walk from c ≡ o → Follows s (discarded_or s c.at o (effect s (Session near) from draws c))
-    by None is = follows_effect s near from draws c (takes_it s (Session near) walk from c is)
+    by : (o : Option Cause) → chunk_cause s (Session near) walk from c ≡ o → Follows s (discarded_or s c.at o (effect s (Session near) walk from draws c))
+    by None is = follows_effect s near walk from draws c (takes_it s (Session near) walk from c is)
     by (Some cause) is = follows_discarded s c.at cause

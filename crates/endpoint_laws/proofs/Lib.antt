@@ -29,14 +29,16 @@ mod Bearing
 mod Keyed
 mod Numbers
 mod Hearing
-mod Following
 mod Unseen
+mod Following
 mod HeardChunks
 mod Passing
 mod SessionChunks
 mod Chunked
 mod OutSessions
+mod OutAcks
 mod Few
+mod FlowChunks
 mod OutChunks
 mod Counted
 mod Counts
@@ -44,6 +46,8 @@ mod Taking
 mod HeardEvents
 mod HeardAdmission
 mod OnFlows
+mod FlowData
+mod FlowTimes
 mod Orderly
 pub mod Logged
 pub mod Opened

@@ -16,6 +16,7 @@ use Rattle.endpoint_model.specs.Admission.{admission}
 use Rattle.endpoint_model.specs.Introducing.{with_redirect, introducing}
 use Rattle.endpoint_model.specs.InSessions.{closing}
 use Rattle.endpoint_model.specs.OnFlows.{flow_called}
+use Rattle.endpoint_model.specs.FlowTimes.{all_late}
 use Rattle.endpoint_model.specs.Effects.{opening, cancelling, ticks, received}
 use Rattle.endpoint_model.specs.Log.{Answers, Leads, StandsFor, stopped}
 use Rattle.introducer.specs.Directory.{AddressRows}
@@ -44,7 +45,7 @@ use Rattle.endpoint_laws.proofs.OutNumbers.{numbered_new, numbered_begun}
 use Rattle.endpoint_laws.proofs.OutSends.{AreFew, Sent}
 use Rattle.endpoint_laws.proofs.OutBirths.{small_free}
 use Rattle.endpoint_laws.proofs.OutItems.{meets_opening, meets_cancelling}
-use Rattle.endpoint_laws.proofs.Orderly.{Orderly, StopHeard, orderly_nothing, orderly_from, ticks_orderly, received_orderly, stopped_orderly}
+use Rattle.endpoint_laws.proofs.Orderly.{Orderly, StopHeard, orderly_nothing, orderly_from, tick_all_orderly, received_orderly, stopped_orderly}
 
 -- ---- rows of addresses
 
@@ -126,12 +127,12 @@ module _ (setup : Setup) (is : IsSetup setup) (past : List Stamped) (s t : State
     does = h;
   }
   answers_orderly (Receive from datagram draws) (Stopped stop) entries fits well h = record {
-    did = stopped s from draws (admission s datagram) stop;
-    orderly = stopped_orderly setup is from datagram draws fits past s stop (admission s datagram) tied sent (admission_is setup past s datagram tied sent (of_bytes datagram fits.0)) well;
-    does = h.1;
+    did = stopped s from draws (admission s datagram) stop h.acks;
+    orderly = stopped_orderly setup is from datagram draws fits past s stop h.acks (admission s datagram) tied sent (admission_is setup past s datagram tied sent (of_bytes datagram fits.0)) well;
+    does = h.left;
   }
-  answers_orderly (Tick draws) Done entries fits well h = record { did = ticks h.0.0 s; orderly = ticks_orderly setup (Tick draws) is tt h.0.0 past s tied sent well; does = h.0.1 }
-  answers_orderly (Tick draws) OutOfMemory entries fits well h = record { did = ticks h.0 s; orderly = ticks_orderly setup (Tick draws) is tt h.0 past s tied sent well; does = h.1 }
+  answers_orderly (Tick draws) Done entries fits well h = record { did = ticks h.0.0 (all_late s); orderly = tick_all_orderly setup (Tick draws) is tt h.0.0 past s tied sent well; does = h.0.1 }
+  answers_orderly (Tick draws) OutOfMemory entries fits well h = record { did = ticks h.0 (all_late s); orderly = tick_all_orderly setup (Tick draws) is tt h.0 past s tied sent well; does = h.1 }
   answers_orderly _ _ entries fits well h = absurd h
 
 -- ---- logs

@@ -1,17 +1,18 @@
 -- What an end does with the flows of a session: it states no fact and sends nothing, and the session in the row is changed to one like it.
-use Rattle.std.proofs.Common.{◌≡◌, ℕ, List, [], ◌∷◌, map, Bool, true, false, if◌then◌else◌, Option, Some, None, refl, sym, ap, subst, ◌∙◌, arith}
+use Rattle.std.proofs.Common.{◌≡◌, ℕ, List, [], ◌∷◌, map, Option, Some, None, refl, sym, ap, subst, arith}
 use Rattle.std.specs.FinMap.{get}
 use Rattle.glare_core.specs.declared.facts.Fact.{Fact}
 use Rattle.session_core.specs.Session.{SessionState}
+use Rattle.session_flows.specs.Keeping.{Did as FlowsDid}
 use Rattle.endpoint_model.specs.declared.row.Row.{Row}
 use Rattle.endpoint_model.specs.declared.entry.Entry.{Entry}
 use Rattle.endpoint_model.specs.Event.{Setup, Call}
 use Rattle.endpoint_model.specs.FlowCall.{FlowCall, flow_did}
-use Rattle.endpoint_model.specs.State.{State, Did, nothing, with_row}
+use Rattle.endpoint_model.specs.State.{State, Did, with_row}
 use Rattle.endpoint_model.specs.InSessions.{held_row}
-use Rattle.endpoint_model.specs.OnFlows.{flow_entry, flow_called_by, flow_called}
+use Rattle.endpoint_model.specs.OnFlows.{flow_entry, flows_done, flow_called_by, flow_called}
 use Rattle.endpoint_laws.specs.Past.{Stamped, stamped, onto, fact_and, facts_of}
-use Rattle.endpoint_laws.proofs.Unseen.{IsUnseen, AreUnseen, flows_unseen}
+use Rattle.endpoint_laws.proofs.Unseen.{AreUnseen, flows_unseen}
 use Rattle.endpoint_laws.proofs.Lines.{FactPart, FactMeets, OutPart, OutMeets, ClosedMeets, EntriesMeet}
 use Rattle.endpoint_laws.proofs.Tied.{Tied}
 use Rattle.endpoint_laws.proofs.Moving.{IsAlike, alike_itself, tied_session, tied_more}
@@ -21,8 +22,8 @@ use Rattle.endpoint_laws.proofs.OutHeld.{AreSized}
 use Rattle.endpoint_laws.proofs.OutSends.{Sent, Meets, meets_nothing}
 use Rattle.endpoint_laws.proofs.OutItems.{sent_session_changed}
 use Rattle.endpoint_laws.proofs.Few.{Few, few_nothing, few_same}
-use Rattle.endpoint_laws.proofs.Hearing.{BeginsNone, NoneBegin, Descends, descends_same, KeepsHeard, Follows, heard_follows}
-use Rattle.endpoint_laws.proofs.Following.{follows_row, heard_nothing}
+use Rattle.endpoint_laws.proofs.Hearing.{Descends, descends_same, Follows, KeepsHeard, heard_follows}
+use Rattle.endpoint_laws.proofs.Following.{none_begin, follows_row, heard_nothing}
 use Rattle.endpoint_laws.proofs.SessionChunks.{held_is_there}
 
 -- ---- entries that are unseen
@@ -56,10 +57,6 @@ module _ (setup : Setup) (call : Call) (s : State) where
     rows = sent.rows;
   })
 
-none_begin : (entries : List Entry) → AreUnseen entries → NoneBegin entries
-none_begin [] are = tt
-none_begin (entry ∷ rest) are = (subst BeginsNone (sym are.0.no_fact) (λ near. refl), none_begin rest are.1)
-
 -- ---- a row is changed, and nothing is seen of it
 
 pub record IsLike (moment : ℕ) (old new : SessionState) : Type 0 where
@@ -87,46 +84,55 @@ module _ (s : State) (near : ℕ) (old new : Row) (there : get s.sessions near �
     sent = sent_session_changed setup (onto s.moment entries past) s near old new (sent_unseen setup call s entries past are sent) there like.alike.joined like.alike.own like.alike.role like.sealed;
   }
 
+  pub follows_unseen : Follows s changed
+  follows_unseen = follows_row s s near old new entries there like.descends (none_begin entries are) refl refl
+
   pub heard_unseen : KeepsHeard s changed
-  heard_unseen = heard_follows s changed (follows_row s s near old new entries there like.descends (none_begin entries are) refl refl)
+  heard_unseen = heard_follows s changed follows_unseen
+
+-- ---- something that is done with the flows of a row
+
+module _ (s : State) (near : ℕ) (row : Row) (there : get s.sessions near ≡ Some row) (d : FlowsDid) where
+  abbrev did : Did
+  did = flows_done s near row d
+
+  pub goes_done : (setup : Setup) (call : Call) → Keeps setup call s did
+  goes_done = goes_unseen s near row (record row { flows = d.flows }) there (like_itself s.moment row.session) (map (flow_entry near) d.stated) (flows_unseen near d.stated)
+
+  pub meets_done : (setup : Setup) (call : Call) (past : List Stamped) → Sent setup past s → Meets setup s.moment call past did
+  meets_done = meets_unseen s near row (record row { flows = d.flows }) there (like_itself s.moment row.session) (map (flow_entry near) d.stated) (flows_unseen near d.stated)
+
+  pub heard_done : KeepsHeard s did
+  heard_done = heard_unseen s near row (record row { flows = d.flows }) there (like_itself s.moment row.session) (map (flow_entry near) d.stated) (flows_unseen near d.stated)
 
 -- ---- a call
 
 module _ (s : State) (near : ℕ) (c : FlowCall) where
-  abbrev did : Did
-  did = flow_called s near c
-
   module _ (setup : Setup) (call : Call) (past : List Stamped) where
     goes_by : (o : Option Row) → held_row s near ≡ o → Tied setup past s → Goes setup call past s (flow_called_by s near c o)
     goes_by None is tied = goes_nothing setup call s past tied
-    goes_by (Some row) is tied =
-        let d = flow_did row.flows c in
-        goes_unseen s near row (record row { flows = d.flows }) (held_is_there (get s.sessions near) row is).0 (like_itself s.moment row.session) (map (flow_entry near) d.stated) (flows_unseen near d.stated) setup call past tied
+    goes_by (Some row) is tied = goes_done s near row (held_is_there (get s.sessions near) row is).0 (flow_did row.flows c) setup call past tied
 
     meets_by : (o : Option Row) → held_row s near ≡ o → Sent setup past s → Meets setup s.moment call past (flow_called_by s near c o)
     meets_by None is sent = meets_nothing setup s.moment call past s sent
-    meets_by (Some row) is sent =
-        let d = flow_did row.flows c in
-        meets_unseen s near row (record row { flows = d.flows }) (held_is_there (get s.sessions near) row is).0 (like_itself s.moment row.session) (map (flow_entry near) d.stated) (flows_unseen near d.stated) setup call past sent
+    meets_by (Some row) is sent = meets_done s near row (held_is_there (get s.sessions near) row is).0 (flow_did row.flows c) setup call past sent
 
-    pub goes_flow_called : Tied setup past s → Goes setup call past s did
+    pub goes_flow_called : Tied setup past s → Goes setup call past s (flow_called s near c)
     goes_flow_called tied = goes_by (held_row s near) refl tied
 
-    pub meets_flow_called : Sent setup past s → Meets setup s.moment call past did
+    pub meets_flow_called : Sent setup past s → Meets setup s.moment call past (flow_called s near c)
     meets_flow_called sent = meets_by (held_row s near) refl sent
 
   few_by : (o : Option Row) → Few s (flow_called_by s near c o)
   few_by None = few_nothing s
   few_by (Some row) = few_same s (flow_called_by s near c (Some row)) refl
 
-  pub few_flow_called : Few s did
+  pub few_flow_called : Few s (flow_called s near c)
   few_flow_called = few_by (held_row s near)
 
   heard_by : (o : Option Row) → held_row s near ≡ o → KeepsHeard s (flow_called_by s near c o)
   heard_by None is = heard_nothing s
-  heard_by (Some row) is =
-      let d = flow_did row.flows c in
-      heard_unseen s near row (record row { flows = d.flows }) (held_is_there (get s.sessions near) row is).0 (like_itself s.moment row.session) (map (flow_entry near) d.stated) (flows_unseen near d.stated)
+  heard_by (Some row) is = heard_done s near row (held_is_there (get s.sessions near) row is).0 (flow_did row.flows c)
 
-  pub heard_flow_called : KeepsHeard s did
+  pub heard_flow_called : KeepsHeard s (flow_called s near c)
   heard_flow_called = heard_by (held_row s near) refl

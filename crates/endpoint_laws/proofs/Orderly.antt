@@ -1,6 +1,7 @@
 -- What every thing that an end does keeps and adds. A thing after an orderly one is orderly, so the chunks of a datagram and the things of a tick are gone through once, for all that is said of them.
 use Rattle.std.proofs.Common.{◌≡◌, ℕ, zero, suc, ◌==◌, List, [], ◌∷◌, ◌++◌, take, drop, Bool, true, false, ◌||◌, if◌then◌else◌, Option, Some, None, inl, inr, ◌⊎◌, refl, sym, ap, subst, ◌∙◌, append_assoc, arith}
 use Rattle.std.proofs.lemmas.List.{take-append-drop, append-nil}
+use Rattle.std.specs.FinMap.{get, keys}
 use Rattle.rtmfp_forms.specs.Address.{AddressParts}
 use Rattle.rtmfp_packet.specs.Walk.{Placed}
 use Rattle.rtmfp_packet.specs.Whole.{Whole}
@@ -9,19 +10,21 @@ use Rattle.endpoint_model.specs.declared.config.Draws.{Draws}
 use Rattle.endpoint_model.specs.declared.place.Place.{Place}
 use Rattle.endpoint_model.specs.declared.place.Place.TheVariants.{Startup, Attempt, Session}
 use Rattle.endpoint_model.specs.declared.row.Row.{Row}
+use Rattle.endpoint_model.specs.declared.row_due.RowDue.{RowDue}
 use Rattle.rtmfp_base.proofs.Lowest.{first_is_there}
 use Rattle.startup.specs.declared.cause.Cause.{Cause}
 use Rattle.startup.specs.State.{StartupState}
 use Rattle.startup.specs.Attempts.{lowest}
 use Rattle.startup.specs.Due.{is_due, after_due_of}
-use Rattle.session_core.specs.Closing.{first_due as first_due_in}
 use Rattle.endpoint_model.specs.declared.answers.Stopped.{Stopped as Stop}
 use Rattle.endpoint_model.specs.Event.{Setup, Call, Receive}
 use Rattle.endpoint_model.specs.Keying.{IsAmong, IsFirst, chunks_of}
 use Rattle.endpoint_model.specs.State.{State, Did, nothing, then_do}
 use Rattle.endpoint_model.specs.Admission.{Admission, Rejected, Admitted, confirming}
-use Rattle.endpoint_model.specs.Effects.{first_due, session_item, tick_once, ticks, discarded, chunk_did, walked, chunks_did, gone_through, received, part_received, outset}
-use Rattle.endpoint_model.specs.InSessions.{tested as tested_at, is_row_due, due_row}
+use Rattle.endpoint_model.specs.Effects.{first_due, session_item, tick_once, ticks, discarded, chunk_did, walked, chunks_did, gone_through, most_acks, gone_through_and_acked, received, part_received, outset, row_item}
+use Rattle.endpoint_model.specs.InSessions.{tested as tested_at}
+use Rattle.endpoint_model.specs.FlowChunks.{acked_by, owes_by, acked_if, acked_in, acked, unowed_by, unowed}
+use Rattle.endpoint_model.specs.FlowTimes.{late_marked, late_at, late_each, all_late, row_due, is_row_due, due_row}
 use Rattle.endpoint_model.specs.Log.{stopped}
 use Rattle.endpoint_model.proofs.Members.{tested}
 use Rattle.endpoint_laws.specs.Past.{Stamped, onto}
@@ -32,12 +35,15 @@ use Rattle.endpoint_laws.proofs.Tied.{Tied}
 use Rattle.endpoint_laws.proofs.Going.{Goes, goes_nothing, goes_then, goes_discarded}
 use Rattle.endpoint_laws.proofs.OutSends.{Sent, Meets, meets_nothing, meets_then}
 use Rattle.endpoint_laws.proofs.OutItems.{meets_item, meets_confirming, meets_discarded}
-use Rattle.endpoint_laws.proofs.OutSessions.{meets_tested, meets_row_due}
+use Rattle.endpoint_laws.proofs.OutSessions.{meets_tested}
 use Rattle.endpoint_laws.proofs.Replies.{SameCounts}
-use Rattle.endpoint_laws.proofs.Few.{Few, few_nothing, few_then, few_from, few_chunk, few_confirming, few_tested, few_tick_once}
+use Rattle.endpoint_laws.proofs.Few.{Few, few_nothing, few_then, few_from, few_chunk, few_acked_by, few_unowed_by, few_confirming, few_tested, few_tick_once, few_same}
 use Rattle.endpoint_laws.proofs.Ending.{item_left, item_is, tick_by}
-use Rattle.endpoint_laws.proofs.SessionChunks.{goes_tested, goes_row_due}
-use Rattle.endpoint_laws.proofs.Hearing.{HeardWell, Heard, heard_then, heard_from}
+use Rattle.endpoint_laws.proofs.SessionChunks.{goes_tested}
+use Rattle.endpoint_laws.proofs.Hearing.{HeardWell, Heard, heard_then, heard_from, heard_follows}
+use Rattle.endpoint_laws.proofs.FlowChunks.{goes_acked_by, meets_acked_by, follows_acked_by, goes_unowed_by, meets_unowed_by, follows_unowed_by}
+use Rattle.endpoint_laws.proofs.OnFlows.{goes_unseen, meets_unseen, heard_unseen}
+use Rattle.endpoint_laws.proofs.FlowTimes.{late_like, goes_row_due, meets_row_due}
 use Rattle.endpoint_laws.proofs.Following.{heard_nothing, heard_discarded, heard_confirming, heard_tested, heard_tick_once}
 use Rattle.endpoint_laws.proofs.HeardChunks.{heard_chunk}
 use Rattle.endpoint_laws.proofs.Passing.{PassedAt}
@@ -86,17 +92,25 @@ orderly_from setup call past s t d same orderly =
 
 module _ (setup : Setup) (call : Call) (is : IsSetup setup) (is_tick : IsTick call) (past : List Stamped) (s : State) (tied : Tied setup past s) (sent : Sent setup past s) (well : HeardWell past s) where
   -- what is due of a session
+  row_item_goes : (left : StartupState) (near : ℕ) (row : Row) → get s.sessions near ≡ Some row → (o : Option RowDue) → row_due s.moment row ≡ o → Goes setup call past s (item_left s left (row_item near row o))
+  row_item_goes left near row there None e = goes_nothing setup call s past tied
+  row_item_goes left near row there (Some due) e = goes_row_due setup call is_tick past s tied near row there (well near row there) due e
+
+  row_item_meets : (left : StartupState) (near : ℕ) (row : Row) → get s.sessions near ≡ Some row → (o : Option RowDue) → Meets setup s.moment call past (item_left s left (row_item near row o))
+  row_item_meets left near row there None = meets_nothing setup s.moment call past s sent
+  row_item_meets left near row there (Some due) = meets_row_due setup call is_tick past s tied near row there (well near row there) sent due
+
   row_goes : (left : StartupState) (o : Option (ℕ × Row)) → due_row s ≡ o → Goes setup call past s (item_left s left (session_item s.moment o))
   row_goes left None e = goes_nothing setup call s past tied
   row_goes left (Some x) e =
       let there = (first_is_there (is_row_due s.moment) s.sessions x e).0 in
-      goes_row_due setup call is_tick past s tied x.0 x.1 there (well x.0 x.1 there) (first_due_in x.1.session s.moment) refl
+      row_item_goes left x.0 x.1 there (row_due s.moment x.1) refl
 
   row_meets : (left : StartupState) (o : Option (ℕ × Row)) → due_row s ≡ o → Meets setup s.moment call past (item_left s left (session_item s.moment o))
   row_meets left None e = meets_nothing setup s.moment call past s sent
   row_meets left (Some x) e =
       let there = (first_is_there (is_row_due s.moment) s.sessions x e).0 in
-      meets_row_due setup call is_tick past s sent tied x.0 x.1 there (well x.0 x.1 there) (first_due_in x.1.session s.moment)
+      row_item_meets left x.0 x.1 there (row_due s.moment x.1)
 
   -- the first thing that is due
   tick_orderly : Orderly setup call past s (tick_once s)
@@ -110,12 +124,40 @@ module _ (setup : Setup) (call : Call) (is : IsSetup setup) (is_tick : IsTick ca
         heard = heard_tick_once s past well;
       }
 
-pub ticks_orderly : (setup : Setup) (call : Call) → IsSetup setup → IsTick call → (count : ℕ) (past : List Stamped) (s : State) → Tied setup past s → Sent setup past s → HeardWell past s → Orderly setup call past s (ticks count s)
+ticks_orderly : (setup : Setup) (call : Call) → IsSetup setup → IsTick call → (count : ℕ) (past : List Stamped) (s : State) → Tied setup past s → Sent setup past s → HeardWell past s → Orderly setup call past s (ticks count s)
 ticks_orderly setup call is is_tick zero past s tied sent well = orderly_nothing setup call past s tied sent well
 ticks_orderly setup call is is_tick (suc count) past s tied sent well =
     let d : Did = tick_once s in
     let one : Orderly setup call past s d = tick_orderly setup call is is_tick past s tied sent well in
     orderly_then setup call past s d (ticks count) one (ticks_orderly setup call is is_tick count (onto s.moment d.entries past) d.state one.goes.tied one.meets.sent one.heard.well)
+
+-- ---- numbers that are lost by time
+
+module _ (setup : Setup) (call : Call) where
+  late_orderly : (past : List Stamped) (s : State) → Tied setup past s → Sent setup past s → HeardWell past s → (near : ℕ) (o : Option Row) → get s.sessions near ≡ o → Orderly setup call past s (nothing (late_at s near o))
+  late_orderly past s tied sent well near None is = orderly_nothing setup call past s tied sent well
+  late_orderly past s tied sent well near (Some row) is =
+      let new : Row = late_marked s.moment row in
+      let like = late_like s.moment row in
+      record {
+        goes = goes_unseen s near row new is like [] tt setup call past tied;
+        meets = meets_unseen s near row new is like [] tt setup call past sent;
+        few = few_same s (nothing (late_at s near (Some row))) refl;
+        heard = heard_unseen s near row new is like [] tt past well;
+      }
+
+  each_orderly : (ids : List ℕ) (past : List Stamped) (s : State) → Tied setup past s → Sent setup past s → HeardWell past s → Orderly setup call past s (nothing (late_each ids s))
+  each_orderly [] past s tied sent well = orderly_nothing setup call past s tied sent well
+  each_orderly (near ∷ rest) past s tied sent well =
+      let d : Did = nothing (late_at s near (get s.sessions near)) in
+      let one : Orderly setup call past s d = late_orderly past s tied sent well near (get s.sessions near) refl in
+      orderly_then setup call past s d (λ t. nothing (late_each rest t)) one (each_orderly rest past d.state one.goes.tied one.meets.sent one.heard.well)
+
+-- they are marked, and then come the things of the tick
+pub tick_all_orderly : (setup : Setup) (call : Call) → IsSetup setup → IsTick call → (count : ℕ) (past : List Stamped) (s : State) → Tied setup past s → Sent setup past s → HeardWell past s → Orderly setup call past s (ticks count (all_late s))
+tick_all_orderly setup call is is_tick count past s tied sent well =
+    let one : Orderly setup call past s (nothing (all_late s)) = each_orderly setup call (keys s.sessions) past s tied sent well in
+    orderly_then setup call past s (nothing (all_late s)) (ticks count) one (ticks_orderly setup call is is_tick count past (all_late s) one.goes.tied one.meets.sent one.heard.well)
 
 -- ---- the chunks of a datagram
 
@@ -188,6 +230,49 @@ module _ (setup : Setup) (is : IsSetup setup) (from : AddressParts) (datagram : 
       (chunks_orderly place came (walked walk c) (before ++ c ∷ []) cs rest d.state (onto s.moment d.entries past) (one_next packet walk before c (cs ++ rest) next) one.goes.tied one.meets.sent one.heard.well
       (passed_on place from datagram draws packet walk past s c passed))
 
+-- ---- the acks after them
+
+module _ (setup : Setup) (call : Call) where
+  one_acked_orderly : (near : ℕ) (past : List Stamped) (s : State) → Tied setup past s → Sent setup past s → HeardWell past s → (o : Option Row) → get s.sessions near ≡ o → Orderly setup call past s (acked_by s near o)
+  one_acked_orderly near past s tied sent well o is = record {
+    goes = goes_acked_by s near setup call past tied o is;
+    meets = meets_acked_by s near setup call past tied sent o is;
+    few = few_acked_by s near o;
+    heard = heard_follows s (acked_by s near o) (follows_acked_by s near o is) past well;
+  }
+
+  if_acked_orderly : (near : ℕ) (past : List Stamped) (s : State) → Tied setup past s → Sent setup past s → HeardWell past s → (b : Bool) (next : State → Did) →
+      ((more : List Stamped) (t : State) → Tied setup more t → Sent setup more t → HeardWell more t → Orderly setup call more t (next t)) → Orderly setup call past s (acked_if s near b next)
+  if_acked_orderly near past s tied sent well false next later = orderly_nothing setup call past s tied sent well
+  if_acked_orderly near past s tied sent well true next later =
+      let d : Did = acked_by s near (get s.sessions near) in
+      let one : Orderly setup call past s d = one_acked_orderly near past s tied sent well (get s.sessions near) refl in
+      orderly_then setup call past s d next one (later (onto s.moment d.entries past) d.state one.goes.tied one.meets.sent one.heard.well)
+
+  acked_in_orderly : (near count : ℕ) (past : List Stamped) (s : State) → Tied setup past s → Sent setup past s → HeardWell past s → Orderly setup call past s (acked_in count s near)
+  acked_in_orderly near zero past s tied sent well = orderly_nothing setup call past s tied sent well
+  acked_in_orderly near (suc count) past s tied sent well =
+      if_acked_orderly near past s tied sent well (owes_by (get s.sessions near)) (λ t. acked_in count t near) (λ more t tied sent well. acked_in_orderly near count more t tied sent well)
+
+  acked_orderly : (count : ℕ) (place : Place) (past : List Stamped) (s : State) → Tied setup past s → Sent setup past s → HeardWell past s → Orderly setup call past s (acked count s place)
+  acked_orderly count Startup past s tied sent well = orderly_nothing setup call past s tied sent well
+  acked_orderly count (Attempt near) past s tied sent well = orderly_nothing setup call past s tied sent well
+  acked_orderly count (Session near) past s tied sent well = acked_in_orderly near count past s tied sent well
+
+  -- and those that aren't sent any more
+  unowed_by_orderly : (near : ℕ) (past : List Stamped) (s : State) → Tied setup past s → Sent setup past s → HeardWell past s → (o : Option Row) → get s.sessions near ≡ o → Orderly setup call past s (nothing (unowed_by s near o))
+  unowed_by_orderly near past s tied sent well o is = record {
+    goes = goes_unowed_by s near setup call past tied o is;
+    meets = meets_unowed_by s near setup call past tied sent o is;
+    few = few_unowed_by s near o;
+    heard = heard_follows s (nothing (unowed_by s near o)) (follows_unowed_by s near o is) past well;
+  }
+
+  unowed_orderly : (place : Place) (past : List Stamped) (s : State) → Tied setup past s → Sent setup past s → HeardWell past s → Orderly setup call past s (nothing (unowed s place))
+  unowed_orderly Startup past s tied sent well = orderly_nothing setup call past s tied sent well
+  unowed_orderly (Attempt near) past s tied sent well = orderly_nothing setup call past s tied sent well
+  unowed_orderly (Session near) past s tied sent well = unowed_by_orderly near past s tied sent well (get s.sessions near) refl
+
 -- ---- a datagram
 
 -- What is known before a datagram that was stopped: where it was taken, after its admission.
@@ -214,12 +299,20 @@ module _ (setup : Setup) (is : IsSetup setup) (from : AddressParts) (datagram : 
       (chunks_orderly setup is from datagram draws fits packet place taken.came outset [] cs rest d.state (onto t.moment d.entries past) (record { whole = whole; keyed = λ e c none kind. none }) one.goes.tied one.meets.sent one.heard.well
       (passed_in place datagram packet past t passed))
 
+  -- and then so many packets of acks
+  acked_after_orderly : (t : State) (place : Place) (packet : Whole) (cs rest : List Placed) (count : ℕ) → chunks_of packet ≡ cs ++ rest → IsTaken setup past s datagram t place packet → HeardWell past t → PassedAt past place datagram packet t →
+      Orderly setup this past t (gone_through_and_acked from draws t place cs count)
+  acked_after_orderly t place packet cs rest count whole taken well passed =
+      let d : Did = gone_through from draws t place cs in
+      let one : Orderly setup this past t d = first_orderly t place packet cs rest whole taken well passed in
+      orderly_then setup this past t d (λ u. acked count u place) one (acked_orderly setup this count place (onto t.moment d.entries past) d.state one.goes.tied one.meets.sent one.heard.well)
+
   -- and then the test of its address
   whole_orderly : (t : State) (place : Place) (packet : Whole) → IsTaken setup past s datagram t place packet → HeardWell past t → PassedAt past place datagram packet t →
       Orderly setup this past t (received from draws (Admitted t place packet))
   whole_orderly t place packet taken well passed =
-      let d : Did = gone_through from draws t place (chunks_of packet) in
-      let one : Orderly setup this past t d = first_orderly t place packet (chunks_of packet) [] (sym (append-nil (chunks_of packet))) taken well passed in
+      let d : Did = gone_through_and_acked from draws t place (chunks_of packet) most_acks in
+      let one : Orderly setup this past t d = acked_after_orderly t place packet (chunks_of packet) [] most_acks (sym (append-nil (chunks_of packet))) taken well passed in
       let middle : List Stamped = onto t.moment d.entries past in
       orderly_then setup this past t d (λ u. tested_at u place from draws) one (record {
         goes = goes_tested setup this d.state from draws place middle one.goes.tied;
@@ -228,6 +321,14 @@ module _ (setup : Setup) (is : IsSetup setup) (from : AddressParts) (datagram : 
         heard = heard_tested d.state place from draws middle one.heard.well;
       })
 
+  -- or the acks that are owed yet are given up
+  given_up_orderly : (t : State) (place : Place) (packet : Whole) (cs rest : List Placed) (count : ℕ) → chunks_of packet ≡ cs ++ rest → IsTaken setup past s datagram t place packet → HeardWell past t → PassedAt past place datagram packet t →
+      Orderly setup this past t (then_do (gone_through_and_acked from draws t place cs count) (λ u. nothing (unowed u place)))
+  given_up_orderly t place packet cs rest count whole taken well passed =
+      let d : Did = gone_through_and_acked from draws t place cs count in
+      let one : Orderly setup this past t d = acked_after_orderly t place packet cs rest count whole taken well passed in
+      orderly_then setup this past t d (λ u. nothing (unowed u place)) one (unowed_orderly setup this place (onto t.moment d.entries past) d.state one.goes.tied one.meets.sent one.heard.well)
+
   rejected_orderly : (t : State) (cause : Cause) → IsRejected setup past s t → HeardWell past t → Orderly setup this past t (discarded t 0 cause)
   rejected_orderly t cause so well = record { goes = goes_discarded setup this t 0 cause past so.tied; meets = meets_discarded setup t.moment this past t 0 cause so.sent; few = omega arith; heard = heard_discarded t 0 cause past well }
 
@@ -235,15 +336,15 @@ module _ (setup : Setup) (is : IsSetup setup) (from : AddressParts) (datagram : 
   received_orderly (Rejected t cause) so heard = orderly_from setup this past s t (discarded t 0 cause) so.same (rejected_orderly t cause so heard.well)
   received_orderly (Admitted t place packet) so heard = orderly_from setup this past s t (received from draws (Admitted t place packet)) so.leaves.same (whole_orderly t place packet so heard.0.well heard.1)
 
-  part_orderly : (count : ℕ) (a : Admission) → AdmissionIs setup past s datagram a → AdmissionHeard past s.moment datagram a → Orderly setup this past s (part_received from draws a count)
-  part_orderly count (Rejected t cause) so heard = orderly_from setup this past s t (nothing t) so.same (orderly_nothing setup this past t so.tied so.sent heard.well)
-  part_orderly count (Admitted t place packet) so heard =
-      orderly_from setup this past s t (gone_through from draws t place (take count (chunks_of packet))) so.leaves.same
-      (first_orderly t place packet (take count (chunks_of packet)) (drop count (chunks_of packet)) (sym (take-append-drop count (chunks_of packet))) so heard.0.well heard.1)
+  part_orderly : (count acks : ℕ) (a : Admission) → AdmissionIs setup past s datagram a → AdmissionHeard past s.moment datagram a → Orderly setup this past s (part_received from draws a count acks)
+  part_orderly count acks (Rejected t cause) so heard = orderly_from setup this past s t (nothing t) so.same (orderly_nothing setup this past t so.tied so.sent heard.well)
+  part_orderly count acks (Admitted t place packet) so heard =
+      orderly_from setup this past s t (part_received from draws (Admitted t place packet) count acks) so.leaves.same
+      (given_up_orderly t place packet (take count (chunks_of packet)) (drop count (chunks_of packet)) acks (sym (take-append-drop count (chunks_of packet))) so heard.0.well heard.1)
 
-  pub stopped_orderly : (stop : Stop) (a : Admission) → Tied setup past s → Sent setup past s → AdmissionIs setup past s datagram a → StopHeard datagram past s stop.taken a → Orderly setup this past s (stopped s from draws a stop)
-  stopped_orderly stop a tied sent so heard = by stop.taken heard
+  pub stopped_orderly : (stop : Stop) (acks : ℕ) (a : Admission) → Tied setup past s → Sent setup past s → AdmissionIs setup past s datagram a → StopHeard datagram past s stop.taken a → Orderly setup this past s (stopped s from draws a stop acks)
+  stopped_orderly stop acks a tied sent so heard = by stop.taken heard
     where
-      by : (b : Bool) → StopHeard datagram past s b a → Orderly setup this past s (if b then part_received from draws a stop.chunks else nothing s)
-      by true known = part_orderly stop.chunks a so known
+      by : (b : Bool) → StopHeard datagram past s b a → Orderly setup this past s (if b then part_received from draws a stop.chunks acks else nothing s)
+      by true known = part_orderly stop.chunks acks a so known
       by false known = orderly_nothing setup this past s tied sent known

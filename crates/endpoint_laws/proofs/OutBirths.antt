@@ -55,6 +55,7 @@ use Rattle.endpoint_laws.proofs.Tied.{Tied}
 use Rattle.endpoint_laws.proofs.Facts.{test_fails}
 use Rattle.endpoint_laws.proofs.OutNumbers.{Numbered, numbered_removed, numbered_born, numbered_opened}
 use Rattle.endpoint_laws.proofs.OutHeld.{held_sized, may_send_held}
+use Rattle.endpoint_laws.proofs.OutPackets.{one_is_modest}
 use Rattle.endpoint_laws.proofs.OutSends.{AreShort, Sent, Meets, MayGo, meets_nothing, meets_after, meets_session}
 use Rattle.endpoint_laws.proofs.OutKeyings.{cookiechange_may, rikeying_may, length-cookie_of}
 use Rattle.endpoint_laws.proofs.OutItems.{IsLight, sent_facts, sent_startup_changed, short_left, meets_answer, attempt_held}
@@ -279,7 +280,7 @@ module _ (setup : Setup) (now : ℕ) (call : Call) (past : List Stamped) (s : St
       } in
       let there : get state.sessions j.near ≡ Some new = get_inserted s.sessions j.near new in
       let ping : Meets setup now call after (sent_by state j.near from (chunk_bytes (Ping [])) (Some new)) =
-      meets_session setup now call after state kept j.near new there (may_send_held setup after new.session tied.secret tied.own (held_opened j (facts_of past) was)) from (Ping []) (omega arith) (omega arith) (omega arith) in
+      meets_session setup now call after state kept j.near new there (may_send_held setup after new.session tied.secret tied.own (held_opened j (facts_of past) was)) from (chunk_bytes (Ping [])) (one_is_modest (Ping []) (omega arith) (omega arith) (omega arith)) in
       meets_after setup now call past (FactEntry (Opened j) ∷ []) (sent_in_session state j.near from (chunk_bytes (Ping []))) (tt, tt)
       (subst (λ (o : Option Row). Meets setup now call after (sent_by state j.near from (chunk_bytes (Ping [])) o)) (sym there) ping)
 

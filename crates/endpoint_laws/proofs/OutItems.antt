@@ -35,7 +35,7 @@ use Rattle.endpoint_model.specs.State.{State, Did, nothing, fact_entries, with_s
 use Rattle.endpoint_model.specs.Sending.{last_count, sent_startup, sent_answer, sent_each}
 use Rattle.endpoint_model.specs.Admission.{confirming, confirming_by}
 use Rattle.endpoint_model.specs.Effects.{Item, opening, cancelling, due_done, discarded, attempt_item, session_item}
-use Rattle.endpoint_model.specs.InSessions.{due_row}
+use Rattle.endpoint_model.specs.FlowTimes.{due_row}
 use Rattle.endpoint_laws.proofs.Lines.{EntriesMeet, OutPart}
 use Rattle.endpoint_laws.proofs.Ending.{item_left, one_stands}
 use Rattle.endpoint_laws.proofs.Tied.{Tied}

@@ -1,5 +1,5 @@
 -- One datagram meets its line, and leaves the numbers counted.
-use Rattle.std.proofs.Common.{◌≡◌, ◌≢◌, ◌==◌, ℕ, ◌+◌, ◌^◌, ◌<◌, ◌≤◌, List, [], ◌∷◌, ◌++◌, length, take, drop, Some, Ok, refl, sym, ap, subst, ◌∙◌, Bool, true, false, if◌then◌else◌, arith, length-append}
+use Rattle.std.proofs.Common.{◌≡◌, ◌≢◌, ◌==◌, ℕ, ◌+◌, ◌≤◌, List, [], ◌∷◌, ◌++◌, length, take, drop, Some, Ok, refl, sym, ap, subst, ◌∙◌, Bool, true, false, if◌then◌else◌, arith, length-append}
 use Rattle.std.specs.Int.{w64, to_be_bytes}
 use Rattle.std.specs.FinMap.{get}
 use Rattle.std.proofs.lemmas.List.{length-take-le}
@@ -9,8 +9,6 @@ use Rattle.sha2.proofs.Facts256.{length-sha256}
 use Rattle.rtmfp_forms.specs.Address.{AddressParts}
 use Rattle.rtmfp_packet.specs.Whole.{Whole}
 use Rattle.rtmfp_packet.specs.Reading.{PacketReading}
-use Rattle.rtmfp_chunks.specs.Chunk.{Chunk, kind_of}
-use Rattle.rtmfp_chunks.specs.Writing.{payload_bytes, chunk_bytes}
 use Rattle.crypto_profile.specs.declared.keys.Context.TheVariants.{Startup}
 use Rattle.crypto_profile.specs.Keys.{keys_of}
 use Rattle.crypto_profile.specs.Sealing.{number_of, sealed_in}
@@ -35,7 +33,7 @@ use Rattle.endpoint_laws.proofs.Lines.{EntriesMeet, OutPart}
 use Rattle.endpoint_laws.proofs.Tied.{sealed_once}
 use Rattle.endpoint_laws.proofs.Going.{onto_append}
 use Rattle.endpoint_laws.proofs.OutNumbers.{Numbered, numbered_startup, once_startup, once_session, numbered_session}
-use Rattle.endpoint_laws.proofs.OutPackets.{session_alone, no_keyings}
+use Rattle.endpoint_laws.proofs.OutPackets.{IsModest, body_plain, no_keyings_among}
 use Rattle.endpoint_laws.proofs.OutHeld.{AreSized, MaySend}
 
 -- a cookie that an attempt keeps has 128 bytes or fewer
@@ -141,32 +139,25 @@ module _ (setup : Setup) (now : ℕ) (call : Call) (past : List Stamped) (s : St
 -- ---- a packet in a session
 
 module _ (setup : Setup) (now : ℕ) (call : Call) (past : List Stamped) (s : State) (sent : Sent setup past s) (near : ℕ) (row : Row) (there : get s.sessions near ≡ Some row) (may : MaySend setup past row.session) where
-  pub meets_session : (to : AddressParts) (chunk : Chunk) → length (payload_bytes chunk) < 2 ^ 16 → kind_of chunk ≢ 0x38 → kind_of chunk ≢ 0x78 →
-      Meets setup now call past (sent_by s near to (chunk_bytes chunk) (Some row))
-  meets_session to chunk short other other' = by_test (row.session.sealed == last_count) refl
+  pub meets_session : (to : AddressParts) (body : List ℕ) → IsModest body → Meets setup now call past (sent_by s near to body (Some row))
+  meets_session to body modest = by_test (row.session.sealed == last_count) refl
     where
-      plain : List ℕ
-      plain = session_packet row.session s.moment (chunk_bytes chunk)
+      is : session_datagram row.session s.moment body ≡
+          datagram row.session.joined.far (sealed_in setup.secret (context_of row.session true) row.session.joined.far (number_bytes (row.session.sealed + 1)) (session_packet row.session s.moment body))
+      is = ap (λ (k : List ℕ). datagram row.session.joined.far (sealed_in k (context_of row.session true) row.session.joined.far (number_bytes (row.session.sealed + 1)) (session_packet row.session s.moment body))) may.secret
 
-      sized : (count : ℕ) → length (number_bytes count) ≡ 16
-      sized count = refl
+      carries : number_of (drop 4 (session_datagram row.session s.moment body)) ≡ number_bytes (row.session.sealed + 1)
+      carries = (sealed_carries (keys_of row.session.secret (context_of row.session true)) row.session.joined.far (number_bytes (row.session.sealed + 1)) (session_packet row.session s.moment body) refl).0
 
-      is : session_datagram row.session s.moment (chunk_bytes chunk) ≡
-          datagram row.session.joined.far (sealed_in setup.secret (context_of row.session true) row.session.joined.far (number_bytes (row.session.sealed + 1)) (session_packet row.session s.moment (chunk_bytes chunk)))
-      is = ap (λ (k : List ℕ). datagram row.session.joined.far (sealed_in k (context_of row.session true) row.session.joined.far (number_bytes (row.session.sealed + 1)) (session_packet row.session s.moment (chunk_bytes chunk)))) may.secret
-
-      carries : number_of (drop 4 (session_datagram row.session s.moment (chunk_bytes chunk))) ≡ number_bytes (row.session.sealed + 1)
-      carries = (sealed_carries (keys_of row.session.secret (context_of row.session true)) row.session.joined.far (number_bytes (row.session.sealed + 1)) (session_packet row.session s.moment (chunk_bytes chunk)) refl).0
-
-      line : row.session.sealed ≢ last_count → OutLine setup past (session_datagram row.session s.moment (chunk_bytes chunk)) (context_of row.session true)
+      line : row.session.sealed ≢ last_count → OutLine setup past (session_datagram row.session s.moment body) (context_of row.session true)
       line some = record {
         sid = row.session.joined.far;
         number = number_bytes (row.session.sealed + 1);
-        plain = session_packet row.session s.moment (chunk_bytes chunk);
+        plain = session_packet row.session s.moment body;
         numbered = refl;
         is = is;
         once = λ far was. once_session (own_of setup) past s.sealed s.sessions sent.numbered near row there some far was;
-        keyings = λ packet reads. no_keyings _ _ packet (kind_of chunk) (payload_bytes chunk) (session_alone row.session s.moment chunk packet short reads) other other';
+        keyings = λ packet reads. no_keyings_among _ _ packet (body_plain row.session s.moment body packet modest reads);
         session = may.stands;
       }
 
@@ -174,12 +165,12 @@ module _ (setup : Setup) (now : ℕ) (call : Call) (past : List Stamped) (s : St
       sealed_more b e = ap (λ (t : Bool). if t then row.session else sealed_once row.session) e
 
       by_test : (b : Bool) → (row.session.sealed == last_count) ≡ b →
-          Meets setup now call past (if b then nothing s else record { state = with_session s near row (after_seal row.session); entries = Out to (session_datagram row.session s.moment (chunk_bytes chunk)) (context_of row.session true) ∷ [] })
+          Meets setup now call past (if b then nothing s else record { state = with_session s near row (after_seal row.session); entries = Out to (session_datagram row.session s.moment body) (context_of row.session true) ∷ [] })
       by_test true e = meets_nothing setup now call past s sent
       by_test false e = record {
         lines = (line (unequal row.session.sealed last_count e), tt);
         sent = record {
-          numbered = numbered_session (own_of setup) past s.sealed s.sessions sent.numbered near row there (unequal row.session.sealed last_count e) now to (session_datagram row.session s.moment (chunk_bytes chunk))
+          numbered = numbered_session (own_of setup) past s.sealed s.sessions sent.numbered near row there (unequal row.session.sealed last_count e) now to (session_datagram row.session s.moment body)
               (record row { session = after_seal row.session }) (sealed_more (row.session.sealed == last_count) e) carries may.known;
           sized = sent.sized;
           short = sent.short;

@@ -30,7 +30,7 @@ use Rattle.endpoint_model.specs.Event.{Setup, Call, Close, Receive}
 use Rattle.endpoint_model.specs.State.{State, Did, nothing, then_do, fact_entries, with_row, with_session}
 use Rattle.endpoint_model.specs.Keying.{IsAmong, chunks_of}
 use Rattle.endpoint_model.specs.Sending.{sent_in_session}
-use Rattle.endpoint_model.specs.InSessions.{held_row, sent_home, ended_as, dropped, closed, closing_by, closing, lingering, close_taken_by, moved_where, moved_by, told_in_session, test_begun, tested_by, tested, row_due_done}
+use Rattle.endpoint_model.specs.InSessions.{held_row, sent_home, ended_as, dropped, closed, closing_by, closing, lingering, close_taken_by, moved_where, moved_by, told_in_session, test_begun, tested_by, tested, session_due_done, kept_alive_by}
 use Rattle.endpoint_model.proofs.Members.{tested as tested_number}
 use Rattle.endpoint_laws.specs.Past.{Stamped, stamped, onto}
 use Rattle.endpoint_laws.specs.Lawful.{IsTick}
@@ -38,7 +38,8 @@ use Rattle.endpoint_laws.proofs.Tied.{Tied}
 use Rattle.endpoint_laws.proofs.OutNumbers.{numbered_quiet, numbered_removed}
 use Rattle.endpoint_laws.proofs.OutSends.{Sent, Meets, meets_nothing, meets_then}
 use Rattle.endpoint_laws.proofs.OutItems.{IsLight, sent_facts, lines_facts, sent_session_changed}
-use Rattle.endpoint_laws.proofs.Replies.{IsModest, says, home_by}
+use Rattle.endpoint_laws.proofs.OutPackets.{IsModest, one_is_modest}
+use Rattle.endpoint_laws.proofs.Replies.{says, home_by}
 use Rattle.endpoint_laws.proofs.Going.{Goes}
 use Rattle.endpoint_laws.proofs.Hearing.{IsKnown}
 use Rattle.endpoint_laws.proofs.Passing.{PassedIn}
@@ -49,13 +50,13 @@ ended_light None peer why = tt
 ended_light (Some thing) peer why = tt
 
 close_is_modest : IsModest (chunk_bytes CloseChunk)
-close_is_modest = record { chunk = CloseChunk; is = refl; short = omega arith; no_initiator = omega arith; no_responder = omega arith }
+close_is_modest = one_is_modest CloseChunk (omega arith) (omega arith) (omega arith)
 
 ack_is_modest : IsModest (chunk_bytes CloseAck)
-ack_is_modest = record { chunk = CloseAck; is = refl; short = omega arith; no_initiator = omega arith; no_responder = omega arith }
+ack_is_modest = one_is_modest CloseAck (omega arith) (omega arith) (omega arith)
 
 ping_is_modest : (bytes : List ℕ) → length bytes ≤ 1024 → IsModest (chunk_bytes (Ping bytes))
-ping_is_modest bytes short = record { chunk = Ping bytes; is = refl; short = omega arith; no_initiator = omega arith; no_responder = omega arith }
+ping_is_modest bytes short = one_is_modest (Ping bytes) (omega arith) (omega arith) (omega arith)
 
 -- ---- what is kept when a session changes, ends, or is over
 
@@ -104,7 +105,7 @@ meets_closed setup call past s sent near = record {
 
 -- something, and then that
 module _ (setup : Setup) (call : Call) (past : List Stamped) (s : State) (near : ℕ) (d : Did) (goes : Goes setup call past s d) (meets : Meets setup s.moment call past d) where
-  and_home : (body : List ℕ) → IsModest body → Meets setup s.moment call past (then_do d (λ t. sent_home t near body))
+  pub and_home : (body : List ℕ) → IsModest body → Meets setup s.moment call past (then_do d (λ t. sent_home t near body))
   and_home body modest = meets_then setup s.moment call past d (λ t. sent_home t near body) meets
       (home_by setup s.moment call (onto s.moment d.entries past) d.state meets.sent goes.tied near body modest (get d.state.sessions near) refl)
 
@@ -225,14 +226,16 @@ module _ (setup : Setup) (call : Call) (past : List Stamped) (s : State) (sent :
 
 module _ (setup : Setup) (call : Call) (is_tick : IsTick call) (past : List Stamped) (s : State) (sent : Sent setup past s) (tied : Tied setup past s) (near : ℕ) (row : Row) (there : get s.sessions near ≡ Some row)
     (known : IsKnown past s.moment near row.session) where
-  pub meets_row_due : (o : Option SessionDue) → Meets setup s.moment call past (row_due_done s near row o)
-  meets_row_due None =
+  pub meets_kept_alive : Meets setup s.moment call past (kept_alive_by s near row)
+  meets_kept_alive =
       and_home setup call past s near (nothing (with_session s near row (kept_alive s.moment row.session))) (goes_alive setup call is_tick past s tied near row there known)
       (changed_if setup call past s sent near row there (needs_keepalive row.session s.moment) (record row.session { keepalive = Some s.moment }) refl refl refl refl) (chunk_bytes (Ping [])) (ping_is_modest [] (omega arith))
-  meets_row_due (Some Unconfirmed) = meets_dropped setup call past s sent near row there NotConfirmed
-  meets_row_due (Some Idle) = meets_dropped setup call past s sent near row there WasIdle
-  meets_row_due (Some Over) = meets_closed setup call past s sent near
-  meets_row_due (Some RepeatClose) =
+
+  pub meets_session_due : (due : SessionDue) → Meets setup s.moment call past (session_due_done s near row due)
+  meets_session_due Unconfirmed = meets_dropped setup call past s sent near row there NotConfirmed
+  meets_session_due Idle = meets_dropped setup call past s sent near row there WasIdle
+  meets_session_due Over = meets_closed setup call past s sent near
+  meets_session_due RepeatClose =
       let again : SessionState = record row.session { close_sent = Some s.moment } in
       and_home setup call past s near (nothing (with_session s near row again)) (goes_again setup call is_tick past s tied near row there known)
       (meets_changed setup call past s sent near row there (record row { session = again }) refl refl refl refl) (chunk_bytes CloseChunk) close_is_modest

@@ -1,5 +1,5 @@
 -- Chunks that state nothing, as hellos, changes of cookies and pings: what each of them leaves, and how it is answered, is in order. A further one has its case here, and in no other proof of the laws.
-use Rattle.std.proofs.Common.{◌≡◌, ◌≢◌, ℕ, ◌^◌, ◌<◌, ◌≤◌, List, [], ◌∷◌, length, Bool, true, false, if◌then◌else◌, ◌&&◌, Option, Some, None, Result, Ok, refl, sym, ap, subst, ◌∙◌, nat_lt, arith}
+use Rattle.std.proofs.Common.{◌≡◌, ℕ, ◌≤◌, List, [], ◌∷◌, length, Bool, true, false, if◌then◌else◌, ◌&&◌, Option, Some, None, Result, Ok, refl, sym, ap, subst, ◌∙◌, nat_lt, arith}
 use Rattle.std.specs.Prelude.{◌==◌, not}
 use Rattle.std.specs.FinMap.{get}
 use Rattle.std.proofs.lemmas.Bool.{ltb-false, eqb-true}
@@ -7,8 +7,8 @@ use Rattle.sha2.specs.Sha256.{sha256}
 use Rattle.rtmfp_base.proofs.Lowest.{first_is_there}
 use Rattle.rtmfp_forms.specs.Address.{AddressParts}
 use Rattle.rtmfp_chunks.specs.declared.reading.ChunkFault.{ChunkFault}
-use Rattle.rtmfp_chunks.specs.Chunk.{Chunk, kind_of, IHello, FIHello, RHello, Redirect, CookieChange, Ping, PingReply}
-use Rattle.rtmfp_chunks.specs.Writing.{payload_bytes, chunk_bytes}
+use Rattle.rtmfp_chunks.specs.Chunk.{Chunk, IHello, FIHello, RHello, Redirect, CookieChange, Ping, PingReply}
+use Rattle.rtmfp_chunks.specs.Writing.{chunk_bytes}
 use Rattle.cookies.specs.Cookie.{cookie_of, observed}
 use Rattle.identity.specs.declared.discriminator.Epd.{Epd}
 use Rattle.identity.specs.Discriminators.{discriminator_of}
@@ -43,6 +43,7 @@ use Rattle.endpoint_laws.proofs.Facts.{test_fails}
 use Rattle.endpoint_laws.proofs.Moving.{tied_attempt}
 use Rattle.endpoint_laws.proofs.Going.{Keeps, goes_nothing, goes_then, goes_if, goes_spread, goes_in_session}
 use Rattle.endpoint_laws.proofs.InSessions.{goes_home}
+use Rattle.endpoint_laws.proofs.OutPackets.{IsModest, one_is_modest}
 use Rattle.endpoint_laws.proofs.OutHeld.{may_send}
 use Rattle.endpoint_laws.proofs.OutSends.{IsNarrow, Sent, Meets, MayGo, meets_nothing, meets_then, meets_session}
 use Rattle.endpoint_laws.proofs.OutKeyings.{rhello_may, redirect_may, length-cookie_of}
@@ -129,14 +130,6 @@ module _ (setup : Setup) (past : List Stamped) (s : State) (tied : Tied setup pa
 
 -- ---- how it is answered
 
--- The body is one chunk, which is no keying.
-pub record IsModest (body : List ℕ) : Type 0 where
-  pub chunk : Chunk
-  pub is : body ≡ chunk_bytes chunk
-  pub short : length (payload_bytes chunk) < 2 ^ 16
-  pub no_initiator : kind_of chunk ≢ 0x38
-  pub no_responder : kind_of chunk ≢ 0x78
-
 -- a startup packet that is no keying may go out at any time
 abbrev MayAlways : Setup → Option Answer → Type 0
 MayAlways setup None = Unit {0}
@@ -153,13 +146,8 @@ MayReply setup past (Introduction to body redirect) = IsModest body × MayAlways
 
 -- a forwarded hello
 forwarded_is_modest : (epd tag : List ℕ) (from : AddressParts) → length epd ≡ 33 → length tag ≤ 128 → IsModest (chunk_bytes (FIHello epd (observed from) tag))
-forwarded_is_modest epd tag from selected short = record {
-  chunk = FIHello epd (observed from) tag;
-  is = refl;
-  short = omega (arith, fihello_length epd (observed from) tag (omega (arith, selected)) short);
-  no_initiator = omega arith;
-  no_responder = omega arith;
-}
+forwarded_is_modest epd tag from selected short =
+    one_is_modest (FIHello epd (observed from) tag) (omega (arith, fihello_length epd (observed from) tag (omega (arith, selected)) short)) (omega arith) (omega arith)
 
 -- a discriminator that selects has 33 bytes
 pub discriminator_length : (epd : List ℕ) (selected : Epd) → discriminator_of epd ≡ Some selected → length epd ≡ 33
@@ -274,7 +262,7 @@ module _ (setup : Setup) (past : List Stamped) (s : State) (sent : Sent setup pa
       changed_fits (sid_at place) old new (changed s.startup.attempts (sid_at place) old) refl (narrow 128 new causes.1)
   read_fits place from (Ok (Ping bytes)) none =
       let short : length bytes ≤ 1024 = narrow 1024 bytes none in
-      record { sent = sent; may = record { chunk = PingReply bytes; is = refl; short = omega arith; no_initiator = omega arith; no_responder = omega arith } }
+      record { sent = sent; may = one_is_modest (PingReply bytes) (omega arith) (omega arith) (omega arith) }
   read_fits place from _ none = record { sent = sent; may = tt }
 
 -- ---- whatever the chunk is
@@ -308,8 +296,7 @@ module _ (setup : Setup) (now : ℕ) (call : Call) (past : List Stamped) where
   pub says : (s : State) → Sent setup past s → Tied setup past s → (near : ℕ) (from : AddressParts) (body : List ℕ) → IsModest body → (o : Option Row) → get s.sessions near ≡ o → Meets setup now call past (sent_by s near from body o)
   says s sent tied near from body modest None is = meets_nothing setup now call past s sent
   says s sent tied near from body modest (Some row) is =
-      subst (λ (b : List ℕ). Meets setup now call past (sent_by s near from b (Some row))) (sym modest.is)
-      (meets_session setup now call past s sent near row is (may_send setup past s near row tied is) from modest.chunk modest.short modest.no_initiator modest.no_responder)
+      meets_session setup now call past s sent near row is (may_send setup past s near row tied is) from body modest
 
   pub home_by : (s : State) → Sent setup past s → Tied setup past s → (near : ℕ) (body : List ℕ) → IsModest body → (o : Option Row) → get s.sessions near ≡ o → Meets setup now call past (sent_home_by s near body o)
   home_by s sent tied near body modest None is = meets_nothing setup now call past s sent

@@ -37,7 +37,7 @@ use Rattle.endpoint_model.specs.State.{State, nothing, with_row, with_session, w
 use Rattle.endpoint_model.specs.Admission.{peers_mode}
 use Rattle.endpoint_model.specs.Keying.{IsAmong, chunks_of}
 use Rattle.endpoint_model.specs.Causes.{row_takes}
-use Rattle.endpoint_model.specs.InSessions.{ended_as, closed as closed_entry, if_held, held_row, closing_by, closing, lingering, close_taken_by, moved_where, moved_by, told_in_session, test_begun, tested_by, tested, session_due_done, row_due_done}
+use Rattle.endpoint_model.specs.InSessions.{ended_as, closed as closed_entry, if_held, held_row, closing_by, closing, lingering, close_taken_by, moved_where, moved_by, told_in_session, test_begun, tested_by, tested, session_due_done, kept_alive_by}
 use Rattle.endpoint_model.specs.Sending.{sent_in_session}
 use Rattle.endpoint_model.proofs.Members.{tested as tested_number}
 use Rattle.endpoint_laws.specs.Past.{Stamped}
@@ -432,8 +432,10 @@ module _ (setup : Setup) (call : Call) (is_tick : IsTick call) (past : List Stam
   pub goes_alive : Goes setup call past s (nothing (with_session s near row (kept_alive s.moment session)))
   goes_alive = goes_changed setup call s near row (record row { session = kept_alive s.moment session }) there (alive_alike (needs_keepalive session s.moment)) past tied
 
-  pub goes_row_due : (o : Option SessionDue) → first_due session s.moment ≡ o → Goes setup call past s (row_due_done s near row o)
-  goes_row_due None is = goes_and_home setup call s near (chunk_bytes (Ping [])) past _ goes_alive
-  goes_row_due (Some due) is =
+  pub goes_kept_alive : Goes setup call past s (kept_alive_by s near row)
+  goes_kept_alive = goes_and_home setup call s near (chunk_bytes (Ping [])) past _ goes_alive
+
+  pub goes_session_due : (due : SessionDue) → first_due session s.moment ≡ Some due → Goes setup call past s (session_due_done s near row due)
+  goes_session_due due is =
       by_due due (test_of (is_opening session.stage && is_past 20000 session.since s.moment) (is_open session.stage && is_past 120000 session.taken s.moment) (is_over session s.moment)
       (is_near_close session.stage && is_past_last 5000 session.close_sent s.moment) due is)

@@ -1,5 +1,6 @@
 pub mod Parts
 pub mod Steps
+pub mod FlowChunks
 pub mod Members
 pub mod Ids
 pub mod Reading

@@ -7,6 +7,8 @@ use Rattle.rtmfp_chunks.specs.declared.reading.ChunkFault.{ChunkFault}
 use Rattle.rtmfp_chunks.specs.declared.reading.ChunkFault.TheVariants.{Unknown, Malformed as BadField}
 use Rattle.rtmfp_chunks.specs.Chunk.{Chunk, IHello, FIHello, RHello, Redirect, CookieChange, Ping}
 use Rattle.rtmfp_chunks.specs.FieldReading.{chunk_reading}
+use Rattle.rtmfp_data_chunks.specs.declared.user_data.Numbers.{Numbers}
+use Rattle.rtmfp_data_chunks.specs.Reader.{data_reading}
 use Rattle.rtmfp_packet.specs.Walk.{Placed}
 use Rattle.identity.specs.Certificates.{certificate_fault}
 use Rattle.glare_core.specs.Calls.{where_true, first_that_stands}
@@ -22,6 +24,7 @@ use Rattle.endpoint_model.specs.declared.walk.Walk.{Walk}
 use Rattle.endpoint_model.specs.declared.place.Place.TheVariants.{Startup, Attempt, Session}
 use Rattle.endpoint_model.specs.State.{State, full}
 use Rattle.endpoint_model.specs.Introducing.{hello_cause}
+use Rattle.endpoint_model.specs.FlowChunks.{is_of_flows, data_fault, flow_cause}
 use Rattle.endpoint_model.specs.Admission.{sid_at}
 
 abbrev pub is_hello : ℕ → Bool
@@ -32,7 +35,7 @@ abbrev pub is_known : ℕ → Bool
 is_known kind =
     is_hello kind || (kind == RHELLO) || (kind == REDIRECT) || (kind == COOKIE_CHANGE)
     || (kind == IIKEYING) || (kind == RIKEYING) || (kind == PING) || (kind == PING_REPLY)
-    || (kind == CLOSE) || (kind == CLOSE_ACK) || (kind == FRAGMENT)
+    || (kind == CLOSE) || (kind == CLOSE_ACK) || (kind == FRAGMENT) || is_of_flows kind
 
 -- The certificate of a responder's hello, which ends a payload of this length, isn't one.
 abbrev pub view_fault : ℕ → Chunk → Option Cause
@@ -46,10 +49,11 @@ read_fault len (Ok chunk) = view_fault len chunk
 read_fault len (Err (BadField at)) = Some (Malformed at)
 read_fault len (Err (Unknown kind)) = Some (UnknownChunk kind)
 
--- the fields and the forms of a chunk
-abbrev pub form_cause : ℕ → List ℕ → Option Cause
-form_cause kind payload =
+-- The fields and the forms of a chunk. A next chunk is read behind these numbers, if there are some.
+abbrev pub form_cause : Option Numbers → ℕ → List ℕ → Option Cause
+form_cause before kind payload =
     if (kind == IIKEYING) || (kind == RIKEYING) then keying_fault kind payload
+    else if is_of_flows kind then data_fault (data_reading before kind payload)
     else read_fault (length payload) (chunk_reading kind payload)
 
 -- which chunks a place takes
@@ -60,7 +64,7 @@ takes Startup kind =
 takes (Attempt near) kind = (kind == COOKIE_CHANGE) || (kind == RIKEYING)
 takes (Session near) kind =
     (kind == FIHELLO) || (kind == PING) || (kind == PING_REPLY) || (kind == CLOSE)
-    || (kind == CLOSE_ACK)
+    || (kind == CLOSE_ACK) || is_of_flows kind
 
 -- A session that is held takes all of them but the answer to a close. One that is closing takes a
 -- close, and where this end closes it the answer. One that is over takes none.
@@ -105,6 +109,8 @@ abbrev pub last_cause : State → Place → Walk → AddressParts → Placed →
 last_cause s place walk from c =
     if c.kind == IIKEYING then initiator_keying_cause s walk from c.payload
     else if c.kind == RIKEYING then responder_keying_cause s (sid_at place) c.payload
+    else if is_of_flows c.kind then flow_cause (get s.sessions (sid_at place))
+    (data_reading walk.cursor c.kind c.payload)
     else first_that_stands (where_true (not (has_state_for s place c.kind)) WrongState
     ∷ read_cause s place from (chunk_reading c.kind c.payload) ∷ [])
 
@@ -112,7 +118,7 @@ abbrev pub chunk_cause : State → Place → Walk → AddressParts → Placed �
 chunk_cause s place walk from c =
     first_that_stands (
     where_true (not (is_known c.kind)) (UnknownChunk c.kind)
-    ∷ form_cause c.kind c.payload
+    ∷ form_cause walk.cursor c.kind c.payload
     ∷ where_true (c.kind == FRAGMENT) FragmentCause
     ∷ where_true (not (takes place c.kind)) WrongPlace
     ∷ last_cause s place walk from c

@@ -7,6 +7,8 @@ use Rattle.rtmfp_chunks.specs.declared.reading.ChunkFault.{ChunkFault}
 use Rattle.rtmfp_chunks.specs.Chunk.{Chunk, IHello, FIHello, RHello, Redirect, CookieChange, Ping, PingReply}
 use Rattle.rtmfp_chunks.specs.FieldReading.{chunk_reading}
 use Rattle.rtmfp_chunks.specs.Writing.{chunk_bytes}
+use Rattle.rtmfp_data_chunks.specs.Spelling.{before_next}
+use Rattle.rtmfp_data_chunks.specs.Reader.{data_reading}
 use Rattle.rtmfp_packet.specs.Walk.{Placed}
 use Rattle.sha2.specs.Sha256.{sha256}
 use Rattle.cookies.specs.Cookie.{observed}
@@ -28,21 +30,22 @@ use Rattle.startup.specs.Redirects.{after_redirect, redirect_spread, sent_by_spr
 use Rattle.startup.specs.Due.{due, after_due}
 use Rattle.startup.specs.Keyings.{selects, initiator_hello_answer, keyed, after_keying, opened, after_opening}
 use Rattle.session_core.specs.declared.stage.Role.TheVariants.{Initiator, Responder}
-use Rattle.session_core.specs.declared.stage.SessionDue.{SessionDue}
 use Rattle.session_core.specs.Session.{new_session}
-use Rattle.session_core.specs.Closing.{first_due as first_due_in}
 use Rattle.endpoint_model.specs.declared.config.Draws.{Draws}
 use Rattle.endpoint_model.specs.declared.place.Place.{Place}
 use Rattle.endpoint_model.specs.declared.walk.Walk.{Walk}
 use Rattle.endpoint_model.specs.declared.row.Row.{Row}
+use Rattle.endpoint_model.specs.declared.row_due.RowDue.{RowDue}
 use Rattle.endpoint_model.specs.declared.entry.Entry.TheVariants.{Fact as FactEntry, Discard}
 use Rattle.endpoint_model.specs.declared.answers.OpenRefusal.{OpenRefusal}
 use Rattle.endpoint_model.specs.declared.answers.OpenRefusal.TheVariants.{Candidates, Start, SessionsFull}
 use Rattle.endpoint_model.specs.State.{State, Sessions, Did, nothing, after_entries, then_do, fact_entries, with_startup, with_sessions, new_row, free_from, full}
 use Rattle.endpoint_model.specs.Sending.{sent_answer, sent_if, sent_spread, sent_in_session}
 use Rattle.endpoint_model.specs.Introducing.{forwarded_to, redirected_to, redirect_of}
-use Rattle.endpoint_model.specs.InSessions.{sent_home, told_in_session, tested, asks_at, answers_by, due_row, row_due_done}
+use Rattle.endpoint_model.specs.InSessions.{sent_home, told_in_session, tested, asks_at, answers_by}
+use Rattle.endpoint_model.specs.FlowTimes.{row_due, due_row, row_due_done}
 use Rattle.endpoint_model.specs.Admission.{Admission, Rejected, Admitted, sid_at, confirming, confirms}
+use Rattle.endpoint_model.specs.FlowChunks.{is_of_flows, flow_taken, states_nothing, acked, owes_at, unowed}
 use Rattle.endpoint_model.specs.Causes.{chunk_cause}
 use Rattle.endpoint_model.specs.Keying.{chunks_of}
 
@@ -90,17 +93,20 @@ cancelling s n = record {
 pub data Item : Type 0 where
   -- the end of an attempt, or its hellos or its keying again
   OfAttempt : (due : Due) → Item
-  -- of a session its end, the end of its closing, or its close again; and else that it is kept
-  -- alive
-  OfSession : (near : ℕ) → (row : Row) → (due : Option SessionDue) → Item
+  -- the first thing of a session and of its flows
+  OfSession : (near : ℕ) → (row : Row) → (due : RowDue) → Item
 
 abbrev pub attempt_item : Option Due → Option Item
 attempt_item None = None
 attempt_item (Some due) = Some (OfAttempt due)
 
+abbrev pub row_item : ℕ → Row → Option RowDue → Option Item
+row_item near row None = None
+row_item near row (Some due) = Some (OfSession near row due)
+
 abbrev pub session_item : ℕ → Option (ℕ × Row) → Option Item
 session_item moment None = None
-session_item moment (Some e) = Some (OfSession e.0 e.1 (first_due_in e.1.session moment))
+session_item moment (Some e) = row_item e.0 e.1 (row_due moment e.1)
 
 -- The first thing that is due, over all kinds of things: those of attempts by rising session IDs,
 -- and then those of sessions.
@@ -273,11 +279,13 @@ read_done s place from read =
 abbrev pub is_told_in_session : ℕ → Bool
 is_told_in_session kind = (kind == CLOSE) || (kind == CLOSE_ACK) || (kind == PING_REPLY)
 
-abbrev pub effect : State → Place → AddressParts → Draws → Placed → Did
-effect s place from draws c =
+abbrev pub effect : State → Place → Walk → AddressParts → Draws → Placed → Did
+effect s place walk from draws c =
     if c.kind == IIKEYING then initiator_keyed s from draws c.payload
     else if c.kind == RIKEYING then responder_keyed s (sid_at place) from c.payload
     else if is_told_in_session c.kind then told_in_session s (sid_at place) from c
+    else if is_of_flows c.kind then flow_taken s (sid_at place)
+    (data_reading walk.cursor c.kind c.payload)
     else read_done s place from (chunk_reading c.kind c.payload)
 
 -- ---- the chunks of a datagram
@@ -292,15 +300,18 @@ discarded_or s at (Some cause) d = discarded s at cause
 
 abbrev pub chunk_did : Place → AddressParts → Draws → Walk → State → Placed → Did
 chunk_did place from draws walk s c =
-    discarded_or s c.at (chunk_cause s place walk from c) (effect s place from draws c)
+    discarded_or s c.at (chunk_cause s place walk from c) (effect s place walk from draws c)
 
 -- before the first chunk
 abbrev pub outset : Walk
-outset = record { keyed = false }
+outset = record { keyed = false; cursor = None }
 
 -- once this one was gone through
 abbrev pub walked : Walk → Placed → Walk
-walked walk c = record { keyed = walk.keyed || (c.kind == IIKEYING) }
+walked walk c = record {
+  keyed = walk.keyed || (c.kind == IIKEYING);
+  cursor = before_next (data_reading walk.cursor c.kind c.payload);
+}
 
 abbrev pub chunks_did : Place → AddressParts → Draws → Walk → State → List Placed → Did
 chunks_did place from draws walk s [] = nothing s
@@ -315,17 +326,28 @@ abbrev pub gone_through : AddressParts → Draws → State → Place → List Pl
 gone_through from draws s place cs =
     then_do (confirming s place) (λ t. chunks_did place from draws outset t cs)
 
--- and after them a test of the address that it came from
+-- More packets of acks than a session can owe: one for each flow of the other end.
+abbrev pub most_acks : ℕ
+most_acks = 256
+
+-- and after them the acks that they owe, and a test of the address that it came from
+abbrev pub gone_through_and_acked : AddressParts → Draws → State → Place → List Placed → ℕ → Did
+gone_through_and_acked from draws s place cs count =
+    then_do (gone_through from draws s place cs) (λ t. acked count t place)
+
 abbrev pub received : AddressParts → Draws → Admission → Did
 received from draws (Rejected s cause) = discarded s 0 cause
 received from draws (Admitted s place packet) =
-    then_do (gone_through from draws s place (chunks_of packet)) (λ t. tested t place from draws)
+    then_do (gone_through_and_acked from draws s place (chunks_of packet) most_acks)
+    (λ t. tested t place from draws)
 
--- what was done of a datagram of which so many chunks were gone through
-abbrev pub part_received : AddressParts → Draws → Admission → ℕ → Did
-part_received from draws (Rejected s cause) count = nothing s
-part_received from draws (Admitted s place packet) count =
-    gone_through from draws s place (take count (chunks_of packet))
+-- What was done of a datagram of which so many chunks were gone through, and then so many packets
+-- of acks sent. Those that are owed yet aren't sent any more.
+abbrev pub part_received : AddressParts → Draws → Admission → ℕ → ℕ → Did
+part_received from draws (Rejected s cause) count acks = nothing s
+part_received from draws (Admitted s place packet) count acks =
+    then_do (gone_through_and_acked from draws s place (take count (chunks_of packet)) acks)
+    (λ t. nothing (unowed t place))
 
 -- ---- datagrams that add nothing but discards
 
@@ -341,15 +363,22 @@ is_idle s place from c =
     else if c.kind == REDIRECT then adds_nothing s from (chunk_reading c.kind c.payload)
     else false
 
--- The chunk is discarded, or it does nothing.
+-- or a chunk of flows that states nothing and owes no ack
+abbrev pub is_idle_after : State → Place → Walk → AddressParts → Placed → Bool
+is_idle_after s place walk from c =
+    if is_of_flows c.kind then states_nothing (get s.sessions (sid_at place))
+    (data_reading walk.cursor c.kind c.payload)
+    else is_idle s place from c
+
+-- The chunk is discarded, or it adds nothing.
 abbrev pub IsQuiet : State → Place → Walk → AddressParts → Placed → Type 0
 IsQuiet s place walk from c =
-    IsSome (chunk_cause s place walk from c) ⊎ (is_idle s place from c ≡ true)
+    IsSome (chunk_cause s place walk from c) ⊎ (is_idle_after s place walk from c ≡ true)
 
-abbrev pub AreQuiet : State → Place → AddressParts → Walk → List Placed → Type 0
-AreQuiet s place from walk [] = Unit {0}
-AreQuiet s place from walk (c ∷ cs) = IsQuiet s place walk from c ×
-    AreQuiet s place from (walked walk c) cs
+abbrev pub AreQuiet : Place → AddressParts → Draws → Walk → State → List Placed → Type 0
+AreQuiet place from draws walk s [] = Unit {0}
+AreQuiet place from draws walk s (c ∷ cs) = IsQuiet s place walk from c ×
+    AreQuiet place from draws (walked walk c) (chunk_did place from draws walk s c).state cs
 
 -- one for a cause
 abbrev pub discards_for : Option Cause → ℕ
@@ -357,20 +386,26 @@ discards_for None = 0
 discards_for (Some cause) = 1
 
 -- how many of these chunks are discarded
-abbrev pub discards_among : State → Place → AddressParts → Walk → List Placed → ℕ
-discards_among s place from walk [] = 0
-discards_among s place from walk (c ∷ cs) =
+abbrev pub discards_among : Place → AddressParts → Draws → Walk → State → List Placed → ℕ
+discards_among place from draws walk s [] = 0
+discards_among place from draws walk s (c ∷ cs) =
     discards_for (chunk_cause s place walk from c)
-    + discards_among s place from (walked walk c) cs
+    + discards_among place from draws (walked walk c) (chunk_did place from draws walk s c).state cs
+
+-- No ack is owed after the chunks, and the address isn't tested.
+abbrev pub EndsQuietly : AddressParts → Place → State → Type 0
+EndsQuietly from place s = (owes_at s place ≡ false) × (asks_at s place from ≡ false)
 
 -- The datagram adds discards alone, or nothing: it is refused, or it confirms nothing, each of its
--- chunks is discarded or does nothing, and its address isn't tested.
-abbrev pub AddsDiscards : AddressParts → Admission → Type 0
-AddsDiscards from (Rejected s cause) = Unit {0}
-AddsDiscards from (Admitted s place packet) = (confirms s place ≡ false) ×
-    AreQuiet s place from outset (chunks_of packet) × (asks_at s place from ≡ false)
+-- chunks is discarded or adds nothing, no ack is owed then, and its address isn't tested.
+abbrev pub AddsDiscards : AddressParts → Draws → Admission → Type 0
+AddsDiscards from draws (Rejected s cause) = Unit {0}
+AddsDiscards from draws (Admitted s place packet) = (confirms s place ≡ false) ×
+    AreQuiet place from draws outset s (chunks_of packet) ×
+    EndsQuietly from place (chunks_did place from draws outset s (chunks_of packet)).state
 
 -- how many discards these are
-abbrev pub discards : AddressParts → Admission → ℕ
-discards from (Rejected s cause) = 1
-discards from (Admitted s place packet) = discards_among s place from outset (chunks_of packet)
+abbrev pub discards : AddressParts → Draws → Admission → ℕ
+discards from draws (Rejected s cause) = 1
+discards from draws (Admitted s place packet) =
+    discards_among place from draws outset s (chunks_of packet)

@@ -1,7 +1,6 @@
 -- What an end does of its sessions: how they end, close and move, and what is due of them.
-use Rattle.std.specs.Prelude.{ℕ, ◌||◌, ◌==◌, Bool, false, is_some, if◌then◌else◌, List, [], ◌∷◌, Option, Some, None}
-use Rattle.std.specs.List.{find}
-use Rattle.std.specs.FinMap.{get, entries}
+use Rattle.std.specs.Prelude.{ℕ, ◌==◌, Bool, false, if◌then◌else◌, List, [], ◌∷◌, Option, Some, None}
+use Rattle.std.specs.FinMap.{get}
 use Rattle.rtmfp_forms.specs.Address.{AddressParts}
 use Rattle.rtmfp_chunks.specs.declared.kinds.TheConstants.{CLOSE, CLOSE_ACK}
 use Rattle.rtmfp_chunks.specs.Chunk.{Ping, Close as CloseChunk, CloseAck}
@@ -13,7 +12,7 @@ use Rattle.startup.specs.Attempts.{end_fact, after_end}
 use Rattle.session_core.specs.declared.stage.SessionDue.{SessionDue}
 use Rattle.session_core.specs.declared.stage.SessionDue.TheVariants.{Unconfirmed, Idle, Over, RepeatClose}
 use Rattle.session_core.specs.Session.{SessionState, moved_to}
-use Rattle.session_core.specs.Closing.{is_held, closed_near, asked_to_close, first_due, after_due, needs_keepalive, kept_alive}
+use Rattle.session_core.specs.Closing.{is_held, closed_near, asked_to_close, after_due, kept_alive}
 use Rattle.mobility.specs.declared.pending.Test.{Test}
 use Rattle.mobility.specs.Tests.{asks, after_seen, is_answered, address_for, after_reply}
 use Rattle.endpoint_model.specs.declared.config.Draws.{Draws}
@@ -145,15 +144,6 @@ tested s (Session near) from draws = tested_by s near from draws.token (held_row
 
 -- ---- time
 
--- Something is due of the session.
-abbrev pub is_row_due : ℕ → Row → Bool
-is_row_due moment row = is_some (first_due row.session moment)
-    || needs_keepalive row.session moment
-
--- the first session, by rising session IDs, of which something is due
-abbrev pub due_row : State → Option (ℕ × Row)
-due_row s = find (λ e. is_row_due s.moment e.1) (entries s.sessions)
-
 -- what is done of it: its end, the end of its closing, or its close again
 abbrev pub session_due_done : State → ℕ → Row → SessionDue → Did
 session_due_done s near row Unconfirmed = dropped s near row NotConfirmed
@@ -163,12 +153,8 @@ session_due_done s near row RepeatClose = then_do
     (nothing (with_session s near row (after_due (Some RepeatClose) s.moment row.session)))
     (λ t. sent_home t near (chunk_bytes CloseChunk))
 
--- or else a ping without bytes
+-- a keepalive: a ping without bytes
 abbrev pub kept_alive_by : State → ℕ → Row → Did
 kept_alive_by s near row = then_do
     (nothing (with_session s near row (kept_alive s.moment row.session)))
     (λ t. sent_home t near (chunk_bytes (Ping [])))
-
-abbrev pub row_due_done : State → ℕ → Row → Option SessionDue → Did
-row_due_done s near row None = kept_alive_by s near row
-row_due_done s near row (Some due) = session_due_done s near row due

@@ -7,6 +7,8 @@ pub mod State
 pub mod Sending
 pub mod InSessions
 pub mod OnFlows
+pub mod FlowChunks
+pub mod FlowTimes
 pub mod Admission
 pub mod Causes
 pub mod Introducing

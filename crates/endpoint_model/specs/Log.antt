@@ -22,7 +22,10 @@ use Rattle.endpoint_model.specs.Introducing.{with_redirect, introducing}
 use Rattle.endpoint_model.specs.InSessions.{held_row, closing, asks_at}
 use Rattle.endpoint_model.specs.FlowCall.{FlowCall}
 use Rattle.endpoint_model.specs.OnFlows.{call_refusal, flow_called}
-use Rattle.endpoint_model.specs.Effects.{open_refusal, opening, cancelling, ticks, gone_through, received, part_received, AddsDiscards, discards, first_due}
+use Rattle.endpoint_model.specs.FlowChunks.{owes_at}
+use Rattle.endpoint_model.specs.declared.place.Place.{Place}
+use Rattle.endpoint_model.specs.Effects.{open_refusal, opening, cancelling, ticks, gone_through_and_acked, received, part_received, AddsDiscards, discards, first_due}
+use Rattle.endpoint_model.specs.FlowTimes.{all_late}
 
 -- ---- what a call may answer, add and leave, from a state in which its moment is noted
 
@@ -47,32 +50,39 @@ abbrev pub IsStopBefore : Admission → Type 0
 IsStopBefore (Rejected s cause) = Unit {0}
 IsStopBefore (Admitted s place packet) = confirms s place ≡ true
 
--- No memory was found at a chunk, which isn't gone through, or after the last one for the test of
--- the address.
-abbrev pub IsStopAt : AddressParts → Draws → Admission → ℕ → Type 0
-IsStopAt from draws (Rejected s cause) count = ⊥
-IsStopAt from draws (Admitted s place packet) count =
-    (count < length (chunks_of packet)) ⊎
-    ((count ≡ length (chunks_of packet)) ×
-    (asks_at (gone_through from draws s place (chunks_of packet)).state place from ≡ true))
+-- No memory was found at a chunk, which isn't gone through; or, after the last one and after so many
+-- packets of acks, for one more packet that is owed, or for the test of the address.
+abbrev pub WantsMore : AddressParts → Place → State → Type 0
+WantsMore from place s = (owes_at s place ≡ true) ⊎ (asks_at s place from ≡ true)
+
+abbrev pub IsStopAt : AddressParts → Draws → Admission → ℕ → ℕ → Type 0
+IsStopAt from draws (Rejected s cause) count acks = ⊥
+IsStopAt from draws (Admitted s place packet) count acks =
+    ((count < length (chunks_of packet)) × (acks ≡ 0)) ⊎
+    ((count ≡ length (chunks_of packet)) × WantsMore from place
+    (gone_through_and_acked from draws s place (chunks_of packet) acks).state)
 
 -- the answer where the datagram wasn't taken
 abbrev pub not_taken : Stop
 not_taken = record { taken = false; chunks = 0 }
 
--- where a datagram can be stopped
-pub record IsStop (from : AddressParts) (draws : Draws) (a : Admission) (stop : Stop) : Type 0 where
-  pub taken : stop.taken ≡ true → IsStopAt from draws a stop.chunks
-  pub not_taken : stop.taken ≡ false → IsStopBefore a × (stop.chunks ≡ 0)
-
--- what was done of a datagram that found no memory: nothing, or the chunks before what found none
-abbrev pub stopped : State → AddressParts → Draws → Admission → Stop → Did
-stopped s from draws a stop = if stop.taken then part_received from draws a stop.chunks
+-- what was done of a datagram that found no memory: nothing, or the chunks and then so many packets
+-- of acks before what found none
+abbrev pub stopped : State → AddressParts → Draws → Admission → Stop → ℕ → Did
+stopped s from draws a stop acks = if stop.taken then part_received from draws a stop.chunks acks
     else nothing s
 
--- Some things of a tick were done.
+-- where a datagram can be stopped, and that it was done so far
+pub record StopsSo (Left : Did → Type 0) (s : State) (from : AddressParts) (draws : Draws)
+    (a : Admission) (stop : Stop) : Type 0 where
+  pub acks : ℕ
+  pub taken : stop.taken ≡ true → IsStopAt from draws a stop.chunks acks
+  pub not_taken : stop.taken ≡ false → IsStopBefore a × (stop.chunks ≡ 0)
+  pub left : Left (stopped s from draws a stop acks)
+
+-- Numbers that are lost by time were marked, and then some things of a tick were done.
 abbrev pub SomeTicks : State → State → List Entry → Type 0
-SomeTicks s t entries = (count : ℕ) × Does (ticks count s) t [] entries
+SomeTicks s t entries = (count : ℕ) × Does (ticks count (all_late s)) t [] entries
 
 abbrev pub Answers : State → Call → Answer → List Entry → State → Type 0
 Answers s (Open peer candidates draws) (Began n) entries t =
@@ -104,8 +114,7 @@ Answers s (OnFlows near call) (Refused refusal) entries t =
 Answers s (Receive from datagram draws) Done entries t =
     Does (received from draws (admission s datagram)) t [] entries
 Answers s (Receive from datagram draws) (Stopped stop) entries t =
-    IsStop from draws (admission s datagram) stop ×
-    Does (stopped s from draws (admission s datagram) stop) t [] entries
+    StopsSo (λ d. Does d t [] entries) s from draws (admission s datagram) stop
 Answers s (Tick draws) Done entries t = SomeTicks s t entries × (first_due t ≡ None)
 Answers s (Tick draws) OutOfMemory entries t = SomeTicks s t entries
 Answers s call answer entries t = ⊥
@@ -204,6 +213,5 @@ tick_event moment draws result before after =
 pub record IsTaken (s : State) (from : AddressParts) (draws : Draws) (a : Admission)
     (result : Result (Unit {0}) Stop) (new : State) (before after : Added) : Type 0 where
   pub ok : OnOk result (DoneIn (received from draws a) new before after)
-  pub stop : IfErr result (λ stop. IsStop from draws a stop)
-  pub stopped : IfErr result (λ stop. DoneIn (stopped s from draws a stop) new before after)
-  pub enough : AddsDiscards from a → discards from a ≤ before.free → IsOk result
+  pub stop : IfErr result (StopsSo (λ d. DoneIn d new before after) s from draws a)
+  pub enough : AddsDiscards from draws a → discards from draws a ≤ before.free → IsOk result

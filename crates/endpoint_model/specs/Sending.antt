@@ -56,9 +56,13 @@ sent_spread s spread = sent_each s spread.plain spread.to
 
 -- ---- in a session
 
--- the packet of a body, which is the bytes of its chunks, that goes out in a session
+-- the head of a packet that goes out in a session
+abbrev pub packet_head : SessionState → ℕ → List ℕ
+packet_head session moment = head_bytes (head_at session moment)
+
+-- the packet of a body, which is the bytes of its chunks
 abbrev pub session_packet : SessionState → ℕ → List ℕ → List ℕ
-session_packet session moment body = head_bytes (head_at session moment) ++ body
+session_packet session moment body = packet_head session moment ++ body
 
 abbrev pub session_datagram : SessionState → ℕ → List ℕ → List ℕ
 session_datagram session moment body = datagram session.joined.far

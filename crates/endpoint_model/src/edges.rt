@@ -2,7 +2,7 @@
 //! nothing: the contract of each states what the definitions that the other contracts cite are
 //! there. All of it is own.
 
-ghost use Rattle.std.specs.Prelude.{◌≡◌, ◌∷◌, ◌++◌, ◌-◌, ◌^◌, ℕ, List, [], false, Option, Some, None, replicate};
+ghost use Rattle.std.specs.Prelude.{◌≡◌, ◌∷◌, ◌++◌, ◌-◌, ◌^◌, ℕ, List, [], false, true, Option, Some, None, replicate};
 ghost use Rattle.rtmfp_forms.specs.Address.{AddressParts};
 ghost use Rattle.rtmfp_chunks.specs.Chunk.{FIHello};
 ghost use Rattle.rtmfp_chunks.specs.Writing.{chunk_bytes};
@@ -12,11 +12,17 @@ ghost use Rattle.glare_core.specs.declared.facts.Held.TheVariants.{KeptAsRespond
 ghost use Rattle.glare_core.specs.declared.facts.Joined.{Joined};
 ghost use Rattle.glare_core.specs.Ledger.{held_with};
 ghost use Rattle.startup.specs.declared.answer.Answer.{Answer};
-ghost use Rattle.startup.specs.declared.cause.Cause.TheVariants.{NotSelected, Wide};
+ghost use Rattle.rtmfp_packet.specs.Walk.{Placed};
+ghost use Rattle.rtmfp_data_chunks.specs.Reader.{data_reading};
+ghost use Rattle.startup.specs.declared.cause.Cause.TheVariants.{NotSelected, Wide, WrongPlace};
 ghost use Rattle.startup.specs.Redirects.{redirect_answer};
 ghost use Rattle.session_core.specs.Session.{SessionState};
 ghost use Rattle.endpoint_model.specs.declared.answers.OpenRefusal.TheVariants.{Candidates};
 ghost use Rattle.endpoint_model.specs.declared.place.Place.{Place};
+ghost use Rattle.endpoint_model.specs.declared.place.Place.TheVariants.{Attempt, Startup};
+ghost use Rattle.endpoint_model.specs.declared.walk.Walk.{Walk};
+ghost use Rattle.endpoint_model.specs.Causes.{chunk_cause};
+ghost use Rattle.endpoint_model.specs.FlowChunks.{data_fault, is_of_flows};
 ghost use Rattle.endpoint_model.specs.Effects.{Introduction, candidates_refusal, introduction};
 ghost use Rattle.endpoint_model.specs.Effects.{replied};
 ghost use Rattle.endpoint_model.specs.InSessions.{sent_home};
@@ -92,4 +98,14 @@ pub fn a_hello_is_forwarded_and_then_answered()
     ensures both { (s : State) (place : Place) (from : AddressParts) (near : ℕ) (body : List ℕ)
         (answer : Answer) → replied s place from (Introduction (Some near) body (Some answer))
         ≡ then_do (sent_home s near body) (λ t. sent_answer t answer) }
+{}
+
+/// A chunk of flows that can be read is in the wrong place outside a session.
+pub fn flows_are_in_sessions_alone()
+    ensures attempt { (s : State) (walk : Walk) (from : AddressParts) (c : Placed) (near : ℕ) →
+        is_of_flows c.kind ≡ true → data_fault (data_reading walk.cursor c.kind c.payload) ≡ None →
+        chunk_cause s (Attempt near) walk from c ≡ Some WrongPlace }
+    ensures startup { (s : State) (walk : Walk) (from : AddressParts) (c : Placed) →
+        is_of_flows c.kind ≡ true → data_fault (data_reading walk.cursor c.kind c.payload) ≡ None →
+        chunk_cause s Startup walk from c ≡ Some WrongPlace }
 {}

@@ -8,6 +8,7 @@ pub mod edges;
 mod entry;
 mod place;
 mod row;
+mod row_due;
 mod walk;
 
 pub use answers::{CallRefusal, OpenRefusal, Stopped};
@@ -15,4 +16,5 @@ pub use config::{Config, Draws};
 pub use entry::Entry;
 pub use place::Place;
 pub use row::Row;
+pub use row_due::RowDue;
 pub use walk::Walk;

@@ -1,8 +1,12 @@
 //! How far the walk over a datagram's chunks came.
 
+use rtmfp_data_chunks::DataCursor;
+
 /// What the chunks of a datagram so far were, as far as those after them ask.
-#[derive(Clone, Copy, Debug, PartialEq, Eq)]
+#[derive(Drop)]
 pub struct Walk {
     /// Whether an initiator's keying was among them.
     pub keyed: bool,
+    /// The reader of chunks of flows, which knows what a next chunk would stand behind here.
+    pub cursor: DataCursor,
 }
