@@ -1,5 +1,5 @@
 -- A row whose flows were called on.
-use Rattle.std.proofs.Common.{ℕ, List, ◌≡◌, [], ◌∷◌, length, get_or, set, Option, Some, None, Result, Ok, Err, IfOk, OnOk, MatchOption, refl, sym, ap, subst, ◌∙◌}
+use Rattle.std.proofs.Common.{ℕ, List, ◌≡◌, length, get_or, set, Option, Some, None, Result, Ok, Err, IfOk, OnOk, MatchOption, refl, sym, ap, subst, ◌∙◌}
 use Rattle.std.specs.FinMap.{get, len}
 use Rattle.session_flows.specs.declared.refusal.CallRefusal.{CallRefusal}
 use Rattle.session_flows.specs.declared.refusal.CallRefusal.TheVariants.{NoFlow}
@@ -8,7 +8,7 @@ use Rattle.endpoint_model.specs.declared.row.Row.{Row}
 use Rattle.endpoint_model.specs.FlowCall.{FlowCall, flow_refusal, flow_did}
 use Rattle.session_table.specs.Table.{Table, table_of, in_row}
 use Rattle.session_table.specs.Calls.{called, stated_by, refused_by}
-use Rattle.session_table.proofs.Changing.{IsChanged, changed_at}
+use Rattle.session_table.proofs.Changing.{changed_at}
 use Rattle.session_table.proofs.Rows.{index_in, found_at, found_nowhere}
 
 -- ---- what is known where an answer is Ok

@@ -6,7 +6,7 @@ use Rattle.std.proofs.lemmas.List.{get_or_default}
 use Rattle.rtmfp_base.specs.Rows.{IsBest}
 use Rattle.rtmfp_base.proofs.Lowest.{best_is_entry, none_is_entry}
 use Rattle.endpoint_model.specs.declared.row.Row.{Row}
-use Rattle.endpoint_model.specs.InSessions.{is_row_due}
+use Rattle.endpoint_model.specs.FlowTimes.{is_row_due}
 use Rattle.session_table.specs.Table.{near_of, itself, table_of, IsDueAt}
 
 module _ (test : Row → Bool) (rows : List Row) (index : ℕ) (row : Row) (within : index < length rows) (is : row ≡ get_or rows index row) where

@@ -4,3 +4,6 @@ mod Changing
 mod SealedParts
 mod DueRows
 mod Called
+mod Taken
+mod Behind
+pub mod Late

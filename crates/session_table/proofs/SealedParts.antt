@@ -40,7 +40,7 @@ stamp_at_most : (stamp : Option ℕ) → length (stamp_bytes stamp) ≤ 2
 stamp_at_most None = omega arith
 stamp_at_most (Some stamp) = omega arith
 
-head_at_most : (head : PacketHead) → length (head_bytes head) ≤ 5
+pub head_at_most : (head : PacketHead) → length (head_bytes head) ≤ 5
 head_at_most head = omega (arith, stamp_at_most head.stamp, stamp_at_most head.echo, length-append (stamp_bytes head.stamp) (stamp_bytes head.echo))
 
 written_where_it_fits : {A E : Type 0} (result : Result A E) (size : ℕ) (xs ys : List ℕ) → size ≤ 1164 → (IsErr result → 1164 < size) → OnOk result (xs ≡ ys) → xs ≡ ys

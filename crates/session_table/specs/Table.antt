@@ -5,15 +5,15 @@ use Rattle.std.specs.List.{find}
 use Rattle.std.specs.Coded.{Coded, code_by, coded×, coded_ℕ}
 use Rattle.std.specs.FinMap.{from_entries, entries, get, insert, code}
 use Rattle.rtmfp_forms.specs.Address.{AddressParts}
-use Rattle.session_core.specs.declared.stage.SessionDue.{SessionDue}
+use Rattle.packet_scramble.specs.Datagram.{datagram}
 use Rattle.session_core.specs.Session.{SessionState, context_of, moved_to}
-use Rattle.session_core.specs.Sealed.{is_spent}
-use Rattle.session_core.specs.Closing.{first_due}
+use Rattle.session_core.specs.Sealed.{is_spent, sealed_part}
 use Rattle.mobility.specs.Tests.{after_seen, after_reply}
 use Rattle.endpoint_model.specs.declared.row.Row.{Row}
+use Rattle.endpoint_model.specs.declared.row_due.RowDue.{RowDue}
 use Rattle.endpoint_model.specs.State.{Sessions}
-use Rattle.endpoint_model.specs.Sending.{session_datagram}
-use Rattle.endpoint_model.specs.InSessions.{is_row_due}
+use Rattle.endpoint_model.specs.Sending.{session_packet}
+use Rattle.endpoint_model.specs.FlowTimes.{is_row_due, row_due}
 use Rattle.session_table.specs.declared.sealing.Sealed.{Sealed}
 
 -- the session ID of the session in a row
@@ -67,14 +67,18 @@ moved from bytes row = record row {
 
 -- ---- what a session seals
 
--- none where all counts are used
-abbrev pub sealed_of : ℕ → List ℕ → SessionState → Option Sealed
-sealed_of moment body session =
+-- a packet: none where all counts are used
+abbrev pub packet_sealed : List ℕ → SessionState → Option Sealed
+packet_sealed packet session =
     if is_spent session then None
     else Some (record {
-      datagram = session_datagram session moment body;
+      datagram = datagram session.joined.far (sealed_part session packet);
       context = context_of session true;
     })
+
+-- that of a body, behind the session's head
+abbrev pub sealed_of : ℕ → List ℕ → SessionState → Option Sealed
+sealed_of moment body session = packet_sealed (session_packet session moment body) session
 
 abbrev pub sealed_by : ℕ → List ℕ → Option Row → Option Sealed
 sealed_by moment body None = None
@@ -90,12 +94,16 @@ IsDueAt moment rows (Some index) = (index < length rows) ×
     ≡ Some (entry_of (slice_index_or rows index d)))
 
 -- a session ID, and what is due of its session
-abbrev pub due_of : ℕ → Option (ℕ × Row) → Option (ℕ × Option SessionDue)
+abbrev pub under : ℕ → Option RowDue → Option (ℕ × RowDue)
+under near None = None
+under near (Some due) = Some (near, due)
+
+abbrev pub due_of : ℕ → Option (ℕ × Row) → Option (ℕ × RowDue)
 due_of moment None = None
-due_of moment (Some e) = Some (e.0, first_due e.1.session moment)
+due_of moment (Some e) = under e.0 (row_due moment e.1)
 
 -- the first by rising session IDs
-abbrev pub due_in : ℕ → Sessions → Option (ℕ × Option SessionDue)
+abbrev pub due_in : ℕ → Sessions → Option (ℕ × RowDue)
 due_in moment rows = due_of moment (find (λ e. is_row_due moment e.1) (entries rows))
 
 -- ---- how a table is stored: as the pair of its fields

@@ -2,9 +2,12 @@
 //! is due of them. It knows no attempts, no entries and no other end.
 #![tactic(auto)]
 
+mod acks;
 mod calls;
 mod changes;
+mod chunks;
 mod due;
+mod flow_times;
 mod index;
 mod sealing;
 mod table;

@@ -6,8 +6,7 @@ ghost use Rattle.rtmfp_chunks.specs.Chunk.{chunk_of};
 ghost use Rattle.rtmfp_chunks.specs.Writing.{IsWritable, chunk_bytes};
 ghost use Rattle.packet_scramble.specs.Datagram.{datagram};
 ghost use Rattle.session_core.specs.Sealed.{after_seal, is_spent, sealed_part};
-ghost use Rattle.endpoint_model.specs.Sending.{session_datagram};
-ghost use Rattle.session_table.specs.Table.{in_session, sealed_by, sealed_of};
+ghost use Rattle.session_table.specs.Table.{in_session, packet_sealed, sealed_by, sealed_of};
 
 use crate::index::index_near;
 use crate::table::SessionTable;
@@ -57,7 +56,7 @@ impl SessionTable {
     }
 }
 
-/// Seals a packet of one chunk in a session.
+/// Seals a packet of one chunk in a session. Whatever the head, the chunk fits.
 fn seal_in(
     session: &mut Session,
     moment: u64,
@@ -71,34 +70,28 @@ fn seal_in(
     ensures limit { IfSome result (λ x. length x.datagram ≤ 1200) }
     ensures session { session.new ≡ after_seal session.old }
 {
+    let mut packet = begin_packet(&session.head(moment));
+    let _ = write_chunk(chunk, &mut packet);
+    seal_packet(session, blank, &packet)
+}
+
+/// Seals a packet in a session. Where all its counts are used, nothing is sealed.
+pub(crate) fn seal_packet(
+    session: &mut Session,
+    blank: Vec<u8>,
+    packet: &Outgoing,
+) -> Option<Sealed>
+    requires blank { length blank.items ≡ 1200 }
+    ensures answer { result ≡ packet_sealed packet.now session.old }
+    ensures limit { IfSome result (λ x. length x.datagram ≤ 1200) }
+    ensures session { session.new ≡ after_seal session.old }
+{
     if session.is_spent() {
         return None;
     }
     let context = session.context(true);
-    let datagram = session_datagram(blank, session, moment, chunk);
+    let datagram = sealed_in(blank, session, packet);
     Some(Sealed { datagram, context })
-}
-
-/// The datagram of one chunk in a session, for which memory was found and a count is left. Whatever
-/// the head, the chunk fits.
-fn session_datagram(
-    blank: Vec<u8>,
-    session: &mut Session,
-    moment: u64,
-    chunk: &ChunkView<'_>,
-) -> Message
-    requires blank { length blank.items ≡ 1200 }
-    requires spent { is_spent session.old ≡ false }
-    requires writable { IsWritable (chunk_of chunk.now) }
-    requires fits { length (chunk_bytes (chunk_of chunk.now)) ≤ 1159 }
-    ensures datagram { result ≡ session_datagram session.old moment (chunk_bytes (chunk_of
-        chunk.now)) }
-    ensures short { length result ≤ 1200 }
-    ensures session { session.new ≡ after_seal session.old }
-{
-    let mut packet = begin_packet(&session.head(moment));
-    let _ = write_chunk(chunk, &mut packet);
-    sealed_in(blank, session, &packet)
 }
 
 /// The datagram of a packet in a session, for which memory was found and a count is left.

@@ -1,5 +1,5 @@
 use Rattle.std.proofs.Common.{sym, ◌∙◌}
-use Rattle.endpoint_model.specs.InSessions.{is_row_due}
+use Rattle.endpoint_model.specs.FlowTimes.{is_row_due}
 use Rattle.session_table.proofs.DueRows.{skipped}
 use Rattle.session_table.proofs.due.better.Goals as goal
 

@@ -1,5 +1,5 @@
 use Rattle.rtmfp_base.specs.Rows.{IsBest}
-use Rattle.endpoint_model.specs.InSessions.{is_row_due}
+use Rattle.endpoint_model.specs.FlowTimes.{is_row_due}
 use Rattle.session_table.specs.Table.{itself, near_of}
 use Rattle.session_table.proofs.due.lowest_due.Given as goal
 

@@ -1,8 +1,8 @@
-use Rattle.std.proofs.Common.{◌≡◌, ◌∷◌, [], Err, IfErr, IsOk, Ok, refl}
+use Rattle.std.proofs.Common.{◌≡◌, ◌∷◌, [], Err, Ok, refl}
 use Rattle.session_flows.specs.Keeping.{Abandoned}
-use Rattle.session_flows.specs.declared.refusal.CallRefusal.TheVariants.{NoFlow, Memory}
+use Rattle.session_flows.specs.declared.refusal.CallRefusal.TheVariants.{NoFlow}
 use Rattle.endpoint_model.specs.FlowCall.{Abandon}
-use Rattle.session_table.proofs.Called.{ok_on, ok_if, stays_distinct, rows_are, stated_is, refused_is, refused_nowhere}
+use Rattle.session_table.proofs.Called.{ok_on, stays_distinct, rows_are, stated_is, refused_is, refused_nowhere}
 use Rattle.session_table.proofs.table.SessionTable.abandon.Goals as goal
 
 pub returns-in_default-clause-refused : goal.returns-in_default-clause-refused

@@ -1,6 +1,6 @@
-use Rattle.std.proofs.Common.{◌≡◌, ◌∷◌, [], Err, IfErr, IsOk, Ok, refl}
+use Rattle.std.proofs.Common.{◌≡◌, ◌∷◌, [], Err, IsOk, refl}
 use Rattle.session_flows.specs.Keeping.{Finished}
-use Rattle.session_flows.specs.declared.refusal.CallRefusal.TheVariants.{NoFlow, Memory}
+use Rattle.session_flows.specs.declared.refusal.CallRefusal.TheVariants.{NoFlow}
 use Rattle.endpoint_model.specs.FlowCall.{Finish}
 use Rattle.session_table.proofs.Called.{ok_on, ok_if, stays_distinct, rows_are, stated_is, refused_is, refused_nowhere}
 use Rattle.session_table.proofs.table.SessionTable.finish.Goals as goal

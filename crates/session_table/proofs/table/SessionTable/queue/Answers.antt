@@ -1,4 +1,4 @@
-use Rattle.std.proofs.Common.{◌≡◌, ◌∷◌, [], Err, IfErr, IsOk, Ok, refl}
+use Rattle.std.proofs.Common.{◌≡◌, ◌∷◌, [], Err, IfErr, refl}
 use Rattle.session_flows.specs.Keeping.{Queued}
 use Rattle.session_flows.specs.declared.refusal.CallRefusal.TheVariants.{NoFlow, Memory}
 use Rattle.endpoint_model.specs.FlowCall.{Queue}

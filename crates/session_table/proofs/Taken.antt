@@ -1,0 +1,97 @@
+-- A row in which a chunk of flows was taken, or whose acks were sealed.
+use Rattle.std.proofs.Common.{ℕ, List, ◌≡◌, ◌<◌, ◌+◌, length, get_or, set, Bool, true, false, Option, Some, None, Result, Ok, Err, OnOk, OnErr, MatchOption, refl, sym, ap, subst, ◌∙◌}
+use Rattle.std.specs.FinMap.{get, len}
+use Rattle.flow_send.specs.Flow.{Flow}
+use Rattle.flow_send.specs.Acks.{Told, makes_lost, new_bytes}
+use Rattle.session_core.specs.Session.{SessionState}
+use Rattle.session_core.specs.Closing.{with_acknowledged}
+use Rattle.session_flows.specs.declared.cause.FlowCause.{FlowCause}
+use Rattle.session_flows.specs.declared.cause.FlowCause.TheVariants.{WrongState}
+use Rattle.session_flows.specs.Keeping.{FlowsState, sending_at}
+use Rattle.session_flows.specs.Chunks.{lost_if, opened_by, session_heard}
+use Rattle.session_flows.specs.Owing.{owes, owed_count}
+use Rattle.endpoint_model.specs.declared.row.Row.{Row}
+use Rattle.endpoint_model.specs.State.{Sessions}
+use Rattle.endpoint_model.specs.FlowChunks.{owes_by}
+use Rattle.rtmfp_base.proofs.Maps.{get_inserted}
+use Rattle.session_table.specs.Table.{Table, near_of, table_of, in_row, with_changed}
+use Rattle.session_table.specs.Chunks.{of_flows, cause_in, owed_at}
+use Rattle.session_table.proofs.Changing.{changed_at, unchanged}
+use Rattle.session_table.proofs.Called.{there}
+use Rattle.session_table.proofs.Rows.{index_in, found_nowhere}
+
+-- ---- what is known where an answer is Ok
+
+pub on_ok : {A E P Q : Type 0} (r : Result A E) → OnOk r P → (P → Q) → OnOk r Q
+on_ok (Ok x) h f = f h
+on_ok (Err e) h f = tt
+
+pub both_ok : {A E P Q R : Type 0} (r : Result A E) → OnOk r P → OnOk r Q → (P → Q → R) → OnOk r R
+both_ok (Ok x) g h f = f g h
+both_ok (Err e) g h f = tt
+
+-- ---- an ack leaves the session under its ID
+
+lost_keeps : (b : Bool) (s : SessionState) → (lost_if b s).joined.near ≡ s.joined.near
+lost_keeps true s = refl
+lost_keeps false s = refl
+
+opened_keeps : (session : SessionState) (told : Told) (o : Option Flow) → (opened_by session told o).joined.near ≡ session.joined.near
+opened_keeps session told None = refl
+opened_keeps session told (Some f) = lost_keeps (makes_lost told f.sender) (with_acknowledged (new_bytes told (f.sender.forward + 1) f.sender.rows) session)
+
+pub hearing_keeps : {A E : Type 0} (P : Type 0) (r : Result A E) (old new : SessionState) (flows : FlowsState) (flow : ℕ) (told : Told) → OnOk r (new ≡ session_heard old flows flow told) → OnErr r (P × (new ≡ old)) →
+    new.joined.near ≡ old.joined.near
+hearing_keeps P (Ok x) old new flows flow told ok err = ap (λ (s : SessionState). s.joined.near) ok ∙ opened_keeps old told (sending_at flows flow)
+hearing_keeps P (Err e) old new flows flow told ok err = ap (λ (s : SessionState). s.joined.near) err.1
+
+-- ---- the row of the session
+
+module _ (seen : Table) (rows list : List Row) (free near index : ℕ) (old : Row) (view : record { rows = table_of rows; free = free } ≡ seen) (distinct : len (table_of rows) ≡ length rows)
+    (position : Some index ≡ index_in list near) (list_is : list ≡ rows) (is : old ≡ get_or rows index old) where
+  pub row_distinct : (new : Row) → near_of new ≡ near_of old → len (table_of (set rows index new)) ≡ length (set rows index new)
+  row_distinct new same = (changed_at (λ (r : Row). new) rows list near index old new distinct position list_is is refl same).distinct
+
+  pub row_changed : (change : Row → Row) (new : Row) → new ≡ change old → near_of new ≡ near_of old → table_of (set rows index new) ≡ in_row change seen.rows near
+  row_changed change new made same =
+      (changed_at change rows list near index old new distinct position list_is is made (sym (ap near_of made) ∙ same)).table ∙ ap (λ (t : Table). in_row change t.rows near) view
+
+  pub flows_changed : (change : FlowsState → FlowsState) (flows : FlowsState) → flows ≡ change old.flows → table_of (set rows index (record old { flows = flows })) ≡ in_row (of_flows change) seen.rows near
+  flows_changed change flows made = row_changed (of_flows change) (record old { flows = flows }) (ap (λ (f : FlowsState). record old { flows = f }) made) refl
+
+  -- what is told of it
+  pub told_is : {A : Type 0} (tell : Option Row → A) → tell (get seen.rows near) ≡ tell (Some old)
+  told_is tell = ap tell (there seen rows list free near index old view distinct position list_is is)
+
+  pub cause_is : (cause : SessionState → FlowsState → Option FlowCause) (P : Type 0) (Q : FlowCause → Type 0) → MatchOption (cause old.session old.flows) P Q → MatchOption (cause_in cause (get seen.rows near)) P Q
+  cause_is cause P Q h = subst (λ (o : Option FlowCause). MatchOption o P Q) (sym (told_is (cause_in cause))) h
+
+  -- what it is afterwards
+  pub now_there : (change : Row → Row) (after : Sessions) → after ≡ in_row change seen.rows near → get after near ≡ Some (change old)
+  now_there change after e =
+      ap (λ (rows : Sessions). get rows near) (e ∙ told_is (with_changed change seen.rows near)) ∙ get_inserted seen.rows near (change old)
+
+  -- fewer acks are owed then
+  pub fewer_owed : (change : Row → Row) (after : Sessions) → after ≡ in_row change seen.rows near → (owes old.flows ≡ true → owed_count (change old).flows < owed_count old.flows) →
+      owes_by (get seen.rows near) ≡ true → owed_at (get after near) < owed_at (get seen.rows near)
+  fewer_owed change after e less owed =
+      subst (λ (o : Option Row). owed_at o < owed_at (get seen.rows near)) (sym (now_there change after e))
+      (subst (λ (n : ℕ). owed_count (change old).flows < n) (sym (told_is owed_at)) (less (sym (told_is owes_by) ∙ owed)))
+
+-- where no row has the session ID
+
+none_owed : {P : Type 0} → false ≡ true → P
+none_owed e = absurd cc
+
+module _ (seen : Table) (rows list : List Row) (free near : ℕ) (view : record { rows = table_of rows; free = free } ≡ seen) (position : None ≡ index_in list near) (list_is : list ≡ rows) where
+  pub told_none : {A : Type 0} (tell : Option Row → A) → tell (get seen.rows near) ≡ tell None
+  told_none tell = ap tell (ap (λ (t : Table). get t.rows near) (sym view) ∙ found_nowhere rows near (sym (position ∙ ap (λ (r : List Row). index_in r near) list_is)))
+
+  pub same_rows : (change : Row → Row) → seen.rows ≡ in_row change seen.rows near
+  same_rows change = ap (λ (t : Table). t.rows) (sym view) ∙ unchanged change rows list near position list_is ∙ ap (λ (t : Table). in_row change t.rows near) view
+
+  pub cause_none : (cause : SessionState → FlowsState → Option FlowCause) (P : Type 0) (Q : FlowCause → Type 0) → Q WrongState → MatchOption (cause_in cause (get seen.rows near)) P Q
+  cause_none cause P Q q = subst (λ (o : Option FlowCause). MatchOption o P Q) (sym (told_none (cause_in cause))) q
+
+  pub owes_nowhere : (P : Type 0) → owes_by (get seen.rows near) ≡ true → P
+  owes_nowhere P owed = none_owed (sym (told_none owes_by) ∙ owed)

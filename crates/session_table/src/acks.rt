@@ -1,0 +1,57 @@
+//! The acks that a session owes.
+
+ghost use Rattle.std.specs.Prelude.{◌≡◌, ◌<◌, ◌≤◌, IfSome, length, true};
+ghost use Rattle.std.specs.FinMap.{get};
+ghost use Rattle.session_flows.specs.Owing.{owed_count, owes, owing_none};
+ghost use Rattle.endpoint_model.specs.FlowChunks.{acks_body, owes_by};
+ghost use Rattle.session_table.specs.Chunks.{acked, acks_sealed, of_flows, owed_at};
+ghost use Rattle.session_table.specs.Table.{in_row, sealed_of};
+
+use crate::index::index_near;
+use crate::sealing::{Sealed, seal_packet};
+use crate::table::SessionTable;
+use endpoint_model::Row;
+use rtmfp_packet::begin_packet;
+
+impl SessionTable {
+    /// Seals a packet of the acks that the session owes, as many as have room, in a buffer that is
+    /// lent for it: its head has the timestamp of this moment. Where all the session's counts are
+    /// used nothing is sealed, and they are owed no longer all the same.
+    pub fn seal_acks(&mut self, near: u32, moment: u64, blank: Vec<u8>) -> Option<Sealed>
+        requires { length blank.items ≡ 1200 }
+        ensures answer { result ≡ acks_sealed moment (get self.old.rows near) }
+        ensures limit { IfSome result (λ x. length x.datagram ≤ 1200) }
+        ensures rows { self.new.rows ≡ in_row (acked moment) self.old.rows near }
+        // Where some are owed, fewer are afterwards.
+        ensures falls { owes_by (get self.old.rows near) ≡ true →
+            owed_at (get self.new.rows near) < owed_at (get self.old.rows near) }
+    {
+        match index_near(&self.rows, near, self.likely) {
+            Some(index) => seal_acks_of(&mut self.rows[index], moment, blank),
+            None => None,
+        }
+    }
+
+    /// The session owes no acks any more: those that found no memory aren't sent.
+    pub fn forget_acks(&mut self, near: u32)
+        ensures { self.new.rows ≡ in_row (of_flows owing_none) self.old.rows near }
+    {
+        if let Some(index) = index_near(&self.rows, near, self.likely) {
+            self.rows[index].flows.forget_acks();
+        }
+    }
+}
+
+/// Seals a packet of the acks that a session owes.
+fn seal_acks_of(row: &mut Row, moment: u64, blank: Vec<u8>) -> Option<Sealed>
+    requires { length blank.items ≡ 1200 }
+    ensures answer { result ≡ sealed_of moment (acks_body row.old moment) row.old.session }
+    ensures limit { IfSome result (λ x. length x.datagram ≤ 1200) }
+    ensures row { row.new ≡ acked moment row.old }
+    ensures falls { owes row.old.flows ≡ true →
+        owed_count row.new.flows < owed_count row.old.flows }
+{
+    let mut packet = begin_packet(&row.session.head(moment));
+    row.flows.put_acks(&mut packet);
+    seal_packet(&mut row.session, blank, &packet)
+}

@@ -1,0 +1,91 @@
+//! What time makes due of the flows of the sessions, and what is done of it. None of it takes
+//! memory.
+
+ghost use Rattle.std.specs.Prelude.{◌≡◌, ◌≤◌, IfSome, length, map};
+ghost use Rattle.std.specs.FinMap.{get};
+ghost use Rattle.endpoint_model.specs.FlowTimes.{data_body, late_marked};
+ghost use Rattle.session_table.specs.FlowTimes.{AreLate, DataFalls, OverdueWaits, data_gone};
+ghost use Rattle.session_table.specs.FlowTimes.{data_sealed, overdue_gone};
+ghost use Rattle.session_table.specs.Table.{in_row, sealed_of};
+
+use crate::index::index_near;
+use crate::sealing::{Sealed, seal_packet};
+use crate::table::SessionTable;
+use endpoint_model::Row;
+use rtmfp_packet::begin_packet;
+
+impl SessionTable {
+    /// Marks as lost, in each session that is held, the numbers of its flows that are lost by time.
+    /// A session with such numbers has one loss by time.
+    pub fn lose_late(&mut self, moment: u64)
+        ensures { AreLate moment self.old.rows self.new.rows }
+    {
+        lose_late(&mut self.rows, moment);
+    }
+
+    /// Abandons the first message of the session's flows that is sent no longer, where there is
+    /// one.
+    pub fn abandon_overdue(&mut self, near: u32, moment: u64)
+        ensures rows { self.new.rows ≡ in_row (overdue_gone moment) self.old.rows near }
+        ensures waits { IfSome (get self.old.rows near) (λ row. OverdueWaits moment row) }
+    {
+        if let Some(index) = index_near(&self.rows, near, self.likely) {
+            abandon_in(&mut self.rows[index], moment);
+        }
+    }
+
+    /// Seals a packet of flow data in the session with this session ID, in a buffer that is lent
+    /// for it: as many chunks as go, behind a head that has the timestamp of this moment. The flows
+    /// keep that they went. Where there is no such session, or all its counts are used, nothing is
+    /// sealed.
+    pub fn seal_data(&mut self, near: u32, moment: u64, blank: Vec<u8>) -> Option<Sealed>
+        requires blank { length blank.items ≡ 1200 }
+        ensures answer { result ≡ data_sealed moment (get self.old.rows near) }
+        ensures limit { IfSome result (λ x. length x.datagram ≤ 1200) }
+        ensures rows { self.new.rows ≡ in_row (data_gone moment) self.old.rows near }
+        // Where flow data is due, less is left to send then, and the same messages wait.
+        ensures falls { IfSome (get self.old.rows near) (λ row. DataFalls moment row) }
+    {
+        match index_near(&self.rows, near, self.likely) {
+            Some(index) => seal_data_in(&mut self.rows[index], moment, blank),
+            None => None,
+        }
+    }
+}
+
+/// Marks the numbers that are lost by time in each row.
+fn lose_late(rows: &mut [Row], moment: u64)
+    ensures { rows.new ≡ map (late_marked moment) rows.old }
+{
+    for row in rows.iter_mut() {
+        lose_in(row, moment);
+    }
+}
+
+/// Marks the numbers of a session's flows that are lost by time.
+fn lose_in(row: &mut Row, moment: u64)
+    ensures { row.new ≡ late_marked moment row.old }
+{
+    row.flows.lose_late(&mut row.session, moment);
+}
+
+/// Abandons the first message of a session's flows that is sent no longer.
+fn abandon_in(row: &mut Row, moment: u64)
+    ensures row { row.new ≡ overdue_gone moment row.old }
+    ensures waits { OverdueWaits moment row.old }
+{
+    let _ = row.flows.abandon_overdue(&row.session, moment);
+}
+
+/// Seals a packet of flow data in a session.
+fn seal_data_in(row: &mut Row, moment: u64, blank: Vec<u8>) -> Option<Sealed>
+    requires blank { length blank.items ≡ 1200 }
+    ensures answer { result ≡ sealed_of moment (data_body row.old moment) row.old.session }
+    ensures limit { IfSome result (λ x. length x.datagram ≤ 1200) }
+    ensures row { row.new ≡ data_gone moment row.old }
+    ensures falls { DataFalls moment row.old }
+{
+    let mut packet = begin_packet(&row.session.head(moment));
+    row.flows.fill(&row.session, moment, &mut packet);
+    seal_packet(&mut row.session, blank, &packet)
+}
