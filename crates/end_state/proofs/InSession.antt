@@ -33,7 +33,7 @@ insert_found m k v there = same_tables _ _ (λ q. elim (same_or_not q k) [
 ])
 
 -- what the seal of a session leaves and adds, by what was sealed
-abbrev sealed_did : State → ℕ → AddressParts → Option Row → Option Sealed → Did
+abbrev pub sealed_did : State → ℕ → AddressParts → Option Row → Option Sealed → Did
 sealed_did s near to o x = record { state = with_sessions s (with_changed (of_session after_seal) s.sessions near o); entries = out_of to x }
 
 by_count : (s : State) (near : ℕ) (to : AddressParts) (body : List ℕ) (row : Row) (spent : Bool) → get s.sessions near ≡ Some row → is_spent row.session ≡ spent →
@@ -46,7 +46,7 @@ by_count s near to body row true found is =
     ap (λ (m : Sessions). record { state = with_sessions s m; entries = [] })
     (sym (ap (λ (x : SessionState). insert s.sessions near (record row { session = x })) same ∙ insert_found s.sessions near row found))
 
-sent_as : (s : State) (near : ℕ) (to : AddressParts) (body : List ℕ) (o : Option Row) → get s.sessions near ≡ o → sent_by s near to body o ≡ sealed_did s near to o (sealed_by s.moment body o)
+pub sent_as : (s : State) (near : ℕ) (to : AddressParts) (body : List ℕ) (o : Option Row) → get s.sessions near ≡ o → sent_by s near to body o ≡ sealed_did s near to o (sealed_by s.moment body o)
 sent_as s near to body None found = refl
 sent_as s near to body (Some row) found = by_count s near to body row (is_spent row.session) found refl
 

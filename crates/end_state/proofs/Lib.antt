@@ -1,4 +1,6 @@
 pub mod InSession
+pub mod AcksSent
 pub mod Changing
 pub mod Endings
 pub mod Confirms
+pub mod DataSent

@@ -5,7 +5,8 @@ use Rattle.startup.specs.Attempts.{end_fact, after_end}
 use Rattle.session_core.specs.Session.{SessionState}
 use Rattle.endpoint_model.specs.declared.row.Row.{Row}
 use Rattle.endpoint_model.specs.State.{State, Did, nothing, fact_entries, with_startup}
-use Rattle.endpoint_model.specs.State.{with_session}
+use Rattle.endpoint_model.specs.State.{with_session, with_row}
+use Rattle.endpoint_model.specs.FlowTimes.{data_sent}
 
 -- ---- steps of a session
 
@@ -13,6 +14,16 @@ use Rattle.endpoint_model.specs.State.{with_session}
 abbrev pub session_changed : (ℕ → SessionState → SessionState) → State → ℕ → Option Row → State
 session_changed change s near None = s
 session_changed change s near (Some row) = with_session s near row (change s.moment row.session)
+
+-- the row itself changes so
+abbrev pub row_changed : (ℕ → Row → Row) → State → ℕ → Option Row → State
+row_changed change s near None = s
+row_changed change s near (Some row) = with_row s near (change s.moment row)
+
+-- flow data goes out in it
+abbrev pub data_sent_by : State → ℕ → Option Row → Did
+data_sent_by s near None = nothing s
+data_sent_by s near (Some row) = data_sent s near row
 
 -- The end of a session is told, and what is held with its peer ends. Its row stays.
 abbrev pub end_told : State → Why → Option Row → Did

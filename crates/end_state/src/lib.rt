@@ -2,6 +2,7 @@
 //! go out, ends that are told.
 #![tactic(auto)]
 
+mod acks;
 mod contexts;
 mod end_state;
 mod introducing;

@@ -1,6 +1,6 @@
 //! The entries that calls added, in order.
 
-ghost use Rattle.std.specs.Prelude.{◌≡◌, ◌<◌, ◌≤◌, ◌+◌, ◌++◌, [], ◌∷◌, IfOk, IsOk, OnOk, length};
+ghost use Rattle.std.specs.Prelude.{◌≡◌, ◌<◌, ◌≤◌, ◌+◌, ◌^◌, ◌++◌, [], ◌∷◌, IfOk, IsOk, OnOk, length};
 ghost use Rattle.endpoint_model.specs.Added.{AreShort, IsShort};
 ghost use Rattle.endpoint_model.specs.State.{fact_entries};
 
@@ -75,6 +75,7 @@ impl Outbox {
     /// Finds room for so many further entries.
     pub fn make_room(&mut self, count: usize) -> Result<(), AllocError>
         ensures ok { OnOk result (count ≤ self.new.free) }
+        ensures small { OnOk result (count < 2 ^ 63) }
         ensures entries { self.new.entries ≡ self.old.entries }
         ensures free { self.old.free ≤ self.new.free }
         ensures enough { count ≤ self.old.free → IsOk result }

@@ -1,12 +1,14 @@
 //! The steps of which ends and closings of a session are made.
 
-ghost use Rattle.std.specs.Prelude.{◌≡◌, ◌<◌, ◌≤◌, ◌+◌, is_some, OnErr, OnOk};
+ghost use Rattle.std.specs.Prelude.{◌≡◌, ◌<◌, ◌≤◌, ◌+◌, is_some, IfSome, OnErr, OnOk};
 ghost use Rattle.std.specs.FinMap.{get};
 ghost use Rattle.session_core.specs.Closing.{after_due, asked_to_close, closed_near, first_due};
 ghost use Rattle.session_core.specs.Closing.{kept_alive};
 ghost use Rattle.endpoint_model.specs.InSessions.{held_row, closed};
 ghost use Rattle.endpoint_model.specs.State.{Done, without_row, nothing};
-ghost use Rattle.end_state.specs.Steps.{end_told, session_changed};
+ghost use Rattle.endpoint_model.specs.FlowTimes.{all_late};
+ghost use Rattle.session_table.specs.FlowTimes.{OverdueWaits, overdue_gone};
+ghost use Rattle.end_state.specs.Steps.{end_told, row_changed, session_changed};
 
 use crate::end_state::EndState;
 use crate::outbox::{Outbox, add_fact};
@@ -72,6 +74,24 @@ impl EndState {
             (get self.old.sessions near) }
     {
         self.sessions.note_keepalive(near, self.moment);
+    }
+
+    /// Marks as lost, in each session that is held, the numbers of its flows that are lost by time.
+    pub fn lose_late(&mut self)
+        ensures { self.new ≡ all_late self.old }
+    {
+        self.sessions.lose_late(self.moment);
+    }
+
+    /// Abandons the first message of the session's flows that is sent no longer, where there is
+    /// one. What is stated of it isn't told.
+    pub fn abandon_overdue(&mut self, near: u32)
+        ensures state { self.new ≡ row_changed overdue_gone self.old near
+            (get self.old.sessions near) }
+        ensures waits { IfSome (get self.old.sessions near)
+            (λ row. OverdueWaits self.old.moment row) }
+    {
+        self.sessions.abandon_overdue(near, self.moment);
     }
 
     /// Forgets the session with this session ID, whose ID is free then.
