@@ -3,5 +3,6 @@ mod Keyed
 mod Lingering
 mod Reasons
 mod Told
+mod FlowTaken
 pub mod Introduced
 pub mod Relocating

@@ -1,19 +1,21 @@
 //! One chunk of a datagram: it is discarded for its cause, or does what it does.
 
-ghost use Rattle.std.specs.Prelude.{◌≡◌, ◌<◌, ◌≤◌, ◌^◌, IsOk, None, OnErr, OnOk, length};
+ghost use Rattle.std.specs.Prelude.{◌≡◌, ◌==◌, ◌||◌, ◌<◌, ◌≤◌, ◌^◌, IsOk, None, OnErr, OnOk, length};
 ghost use Rattle.rtmfp_chunks.specs.Chunk.{chunk_of};
 ghost use Rattle.rtmfp_chunks.specs.Writing.{IsWritable, chunk_bytes};
 ghost use Rattle.rtmfp_packet.specs.Chunks.{shown};
 ghost use Rattle.startup.specs.Attempts.{after_cookie_change, after_rhello, cookie_change_cause};
 ghost use Rattle.startup.specs.Attempts.{cookie_change_keying, rhello_cause, rhello_keying, wide};
 ghost use Rattle.startup.specs.Keyings.{initiator_hello_answer};
-ghost use Rattle.endpoint_model.specs.Effects.{IsQuiet, chunk_did, discards_for};
+ghost use Rattle.rtmfp_chunks.specs.declared.kinds.TheConstants.{IIKEYING};
+ghost use Rattle.endpoint_model.specs.Effects.{IsQuiet, chunk_did, discards_for, walked};
 ghost use Rattle.endpoint_model.specs.Causes.{chunk_cause};
 ghost use Rattle.endpoint_model.specs.Sending.{sent_answer, sent_if, sent_in_session};
 ghost use Rattle.endpoint_model.specs.State.{Done, nothing, with_startup};
 ghost use Rattle.end_chunks.specs.Judging.{IsSo, verdict_did};
 
 use crate::closing::take_close;
+use crate::flows::{is_of_flows, take_read};
 use crate::introducing::{introduce_to, take_redirect};
 use crate::judging::{Verdict, judge, sid_at};
 use crate::keyings::{initiator_keyed, responder_keyed};
@@ -21,6 +23,7 @@ use crate::moving::take_ping_reply;
 use end_state::{EndState, Outbox, blank};
 use endpoint_model::{Draws, Place, Walk};
 use rtmfp_chunks::ChunkView;
+use rtmfp_chunks::kinds::IIKEYING;
 use rtmfp_forms::Address;
 use rtmfp_packet::RawChunk;
 use std::alloc::AllocError;
@@ -158,28 +161,44 @@ fn reply(
     Ok(())
 }
 
+/// The walk goes on behind a chunk of this type, which is none of flows.
+fn go_on(walk: &mut Walk, kind: u8)
+    ensures keyed { walk.new.keyed ≡ (walk.old.keyed || (kind == IIKEYING)) }
+    ensures cursor { walk.new.cursor ≡ None }
+{
+    walk.keyed = walk.keyed || kind == IIKEYING;
+    walk.cursor.other();
+}
+
 /// Takes one chunk, which came from an address: it is discarded for its cause, or does what it
-/// does.
+/// does, and the walk over the datagram's chunks goes on behind it.
 pub fn take_chunk(
     end: &mut EndState,
     place: Place,
     from: &Address,
     draws: &Draws,
-    walk: Walk,
+    walk: &mut Walk,
     chunk: &RawChunk<'_>,
     out: &mut Outbox,
 ) -> Result<(), AllocError>
     requires { chunk.now.at < 2 ^ 32 }
     ensures ok { OnOk result
-        (Done (chunk_did place from.now draws.now walk end.old (shown chunk.now))
+        (Done (chunk_did place from.now draws.now walk.old end.old (shown chunk.now))
         end.new out.old out.new) }
     ensures err { OnErr result (Done (nothing end.old) end.new out.old out.new) }
+    ensures walk { walk.new ≡ walked walk.old (shown chunk.now) }
     // A chunk that adds nothing but its discard asks for no memory where there is room.
-    ensures enough { IsQuiet end.old place walk from.now (shown chunk.now) →
-        discards_for (chunk_cause end.old place walk from.now (shown chunk.now))
+    ensures enough { IsQuiet end.old place walk.old from.now (shown chunk.now) →
+        discards_for (chunk_cause end.old place walk.old from.now (shown chunk.now))
         ≤ out.old.free → IsOk result }
 {
-    match judge(end, place, walk, from, chunk) {
+    if is_of_flows(chunk.kind) {
+        let read = walk.cursor.read(chunk.kind, chunk.payload);
+        return take_read(end, place, chunk.at, read, out);
+    }
+    let verdict = judge(end, place, walk, from, chunk);
+    go_on(walk, chunk.kind);
+    match verdict {
         Ok(verdict) => apply(end, &verdict, place, from, draws, out),
         Err(cause) => end.discard(chunk.at, cause, out),
     }

@@ -16,9 +16,11 @@ ghost use Rattle.endpoint_model.specs.InSessions.{answers_by, moved_by};
 ghost use Rattle.endpoint_model.specs.Causes.{chunk_cause, initiator_keying_cause, is_known};
 ghost use Rattle.endpoint_model.specs.Causes.{read_cause, read_fault, responder_keying_cause};
 ghost use Rattle.endpoint_model.specs.Causes.{has_state_for, row_takes, takes, view_fault};
+ghost use Rattle.endpoint_model.specs.FlowChunks.{is_of_flows};
 ghost use Rattle.end_chunks.specs.Judging.{does_nothing, known_cause, other_cause, other_done};
 ghost use Rattle.end_chunks.specs.Judging.{stage_takes, Stands, view_done};
 
+use crate::flows::is_of_flows;
 use crate::introducing::{judge_hello, judge_redirect};
 use crate::moving::is_answered;
 use end_state::EndState;
@@ -110,6 +112,7 @@ fn is_known(kind: u8) -> bool
         || kind == CLOSE
         || kind == CLOSE_ACK
         || kind == FRAGMENT
+        || is_of_flows(kind)
 }
 
 /// Whether a place takes chunks of this type.
@@ -131,6 +134,7 @@ fn takes(place: Place, kind: u8) -> bool
                 || kind == PING_REPLY
                 || kind == CLOSE
                 || kind == CLOSE_ACK
+                || is_of_flows(kind)
         }
     }
 }
@@ -293,7 +297,7 @@ fn judge_view<'a>(
 fn judge_initiator<'a>(
     end: &EndState,
     place: Place,
-    walk: Walk,
+    walk: &Walk,
     from: &Address,
     payload: &'a [u8],
 ) -> Result<Verdict<'a>, Cause>
@@ -301,10 +305,10 @@ fn judge_initiator<'a>(
         (λ draws. initiator_keyed end.now from.now draws payload.now)) }
     ensures none { IfOk result (λ _. known_cause place IIKEYING
         (keying_fault IIKEYING payload.now)
-        (initiator_keying_cause end.now walk from.now payload.now) ≡ None) }
+        (initiator_keying_cause end.now walk.now from.now payload.now) ≡ None) }
     ensures refused { IfErr result (λ cause. known_cause place IIKEYING
         (keying_fault IIKEYING payload.now)
-        (initiator_keying_cause end.now walk from.now payload.now) ≡ Some cause) }
+        (initiator_keying_cause end.now walk.now from.now payload.now) ≡ Some cause) }
 {
     let fields = match read_initiator_keying(payload) {
         Ok(fields) => fields,
@@ -394,20 +398,21 @@ fn judge_other<'a>(
     judge_view(end, place, from, view)
 }
 
-/// What a chunk does, which came from an address after the walk over those before it; or why it
-/// is discarded.
+/// What a chunk that is none of flows does, which came from an address after the walk over those
+/// before it; or why it is discarded.
 pub(crate) fn judge<'a>(
     end: &EndState,
     place: Place,
-    walk: Walk,
+    walk: &Walk,
     from: &Address,
     chunk: &RawChunk<'a>,
 ) -> Result<Verdict<'a>, Cause>
+    requires { is_of_flows chunk.now.kind ≡ false }
     ensures ok { IfOk result (Stands end.now place from.now
-        (λ draws. effect end.now place from.now draws (shown chunk.now))) }
-    ensures none { IfOk result (λ _. chunk_cause end.now place walk from.now
+        (λ draws. effect end.now place walk.now from.now draws (shown chunk.now))) }
+    ensures none { IfOk result (λ _. chunk_cause end.now place walk.now from.now
         (shown chunk.now) ≡ None) }
-    ensures refused { IfErr result (λ cause. chunk_cause end.now place walk from.now
+    ensures refused { IfErr result (λ cause. chunk_cause end.now place walk.now from.now
         (shown chunk.now) ≡ Some cause) }
     // An answer to a ping that moves nothing does nothing, and so a redirect that adds nothing.
     ensures quiet { is_idle end.now place from.now (shown chunk.now) ≡ true →

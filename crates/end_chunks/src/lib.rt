@@ -4,6 +4,7 @@
 
 mod chunks;
 mod closing;
+mod flows;
 mod introducing;
 mod judging;
 mod keyings;

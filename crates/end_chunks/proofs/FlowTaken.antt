@@ -1,0 +1,263 @@
+-- What a chunk of flows does in its session, by the single steps of which it is made.
+use Rattle.std.specs.Prelude.{slice_get, slice_set, IfSome, MatchOption, ◌==◌, ◌||◌}
+use Rattle.std.specs.Option.{option_map}
+use Rattle.rtmfp_forms.specs.Address.{AddressParts}
+use Rattle.rtmfp_packet.specs.Walk.{Placed}
+use Rattle.rtmfp_data_chunks.specs.declared.view.DataFault.{DataFault}
+use Rattle.rtmfp_data_chunks.specs.Reader.{data_reading}
+use Rattle.glare_core.specs.Calls.{first_that_stands}
+use Rattle.startup.specs.declared.cause.Cause.{Cause}
+use Rattle.session_flows.specs.declared.cause.FlowCause.{FlowCause}
+use Rattle.session_flows.specs.declared.cause.Untaken.{Untaken}
+use Rattle.session_flows.specs.declared.cause.Untaken.TheVariants.{Cause as Discarded, Memory as NoMemory}
+use Rattle.endpoint_model.specs.declared.config.Draws.{Draws}
+use Rattle.endpoint_model.specs.declared.place.Place.{Place}
+use Rattle.endpoint_model.specs.declared.place.Place.TheVariants.{Session}
+use Rattle.endpoint_model.specs.declared.walk.Walk.{Walk}
+use Rattle.endpoint_model.specs.Admission.{sid_at}
+use Rattle.endpoint_model.specs.Causes.{chunk_cause}
+use Rattle.endpoint_model.specs.Effects.{IsQuiet, discarded, discarded_or, discards_for, is_idle, is_idle_after, walked}
+use Rattle.endpoint_model.proofs.FlowChunks.{flows_cause, none_behind}
+use Rattle.std.proofs.Common.{ℕ, zero, suc, inl, inr, ◌≡◌, ◌≤◌, ◌+◌, ◌++◌, List, [], ◌∷◌, length, map, Option, Some, None, Result, Ok, Err, OnOk, IfErr, IsSome, Bool, true, false, if◌then◌else◌, ◌<◌, refl, sym, ap, ◌∙◌, subst, arith}
+use Rattle.std.proofs.lemmas.List.{append-nil}
+use Rattle.std.specs.FinMap.{get, insert}
+use Rattle.rtmfp_base.proofs.Maps.{get_inserted, insert_twice, same_tables, same_or_not, get_beside}
+use Rattle.rtmfp_data_chunks.specs.Chunk.{DataChunk, UserParts, Data, Next, AckBitmap, AckRanges, Probe, Exception}
+use Rattle.rtmfp_data_chunks.specs.Acked.{acked}
+use Rattle.flow_send.specs.declared.waiting.Waiting.{Waiting}
+use Rattle.flow_send.specs.Sender.{Sender, finish_by}
+use Rattle.flow_send.specs.Flow.{Flow, with_sender}
+use Rattle.flow_send.specs.Acks.{told}
+use Rattle.session_flows.specs.Keeping.{FlowsState, Stated, Abandoned, Did as FlowsDid, sending_at, with_flow, with_sending}
+use Rattle.session_flows.specs.Chunks.{data_taken, data_done, most_ready, rejecting, rejecting_by, all_abandoned, without_messages, numbers_of, finished_at, last_by}
+use Rattle.session_flows.specs.Handing.{hands, hands_once}
+use Rattle.session_flows.proofs.Enough.{done_enough, nothing_more}
+use Rattle.session_table.specs.Chunks.{handed_in}
+use Rattle.endpoint_model.specs.declared.row.Row.{Row}
+use Rattle.endpoint_model.specs.Added.{Added}
+use Rattle.endpoint_model.specs.State.{State, Did, Done, nothing, after_entries, then_do, with_sessions, Sessions}
+use Rattle.endpoint_model.specs.declared.entry.Entry.{Entry}
+use Rattle.endpoint_model.specs.OnFlows.{flow_entry, flows_done, with_flows}
+use Rattle.endpoint_model.specs.FlowChunks.{flow_cause, flow_taken, flow_taken_by, is_of_flows, states_nothing, told_cause}
+use Rattle.endpoint_model.proofs.Steps.{done_nothing, joined}
+use Rattle.end_chunks.specs.FlowChunks.{ack_heard, probe_heard, rejected, rejected_by, data_kept, handed_by, handed_once_by, cause_in, read_cause_at, read_did}
+
+-- ---- acks, buffer probes and exceptions
+
+module _ (s : State) (near : ℕ) where
+  pub bitmap_is : (flow blocks upto : ℕ) (bits : List ℕ) (o : Option Row) →
+      flow_taken_by s near (AckBitmap flow blocks upto bits) o ≡ nothing (ack_heard s near flow (told blocks upto (acked (AckBitmap flow blocks upto bits))) o)
+  bitmap_is flow blocks upto bits None = refl
+  bitmap_is flow blocks upto bits (Some row) = refl
+
+  pub ranges_is : (flow blocks upto : ℕ) (pairs : List ℕ) (o : Option Row) →
+      flow_taken_by s near (AckRanges flow blocks upto pairs) o ≡ nothing (ack_heard s near flow (told blocks upto (acked (AckRanges flow blocks upto pairs))) o)
+  ranges_is flow blocks upto pairs None = refl
+  ranges_is flow blocks upto pairs (Some row) = refl
+
+  pub probe_is : (flow : ℕ) (o : Option Row) → flow_taken_by s near (Probe flow) o ≡ nothing (probe_heard s near flow o)
+  probe_is flow None = refl
+  probe_is flow (Some row) = refl
+
+  pub exception_is : (flow code : ℕ) (o : Option Row) → flow_taken_by s near (Exception flow code) o ≡ rejected s near flow o
+  exception_is flow code None = refl
+  exception_is flow code (Some row) = refl
+
+  pub next_is : (user : UserParts) (o : Option Row) → flow_taken_by s near (Data user) o ≡ flow_taken_by s near (Next user) o
+  next_is user None = refl
+  next_is user (Some row) = refl
+
+-- a thing that leaves this state and adds nothing
+pub left_done : (d : Did) (t u : State) (out : Added) → d ≡ nothing u → t ≡ u → Done d t out out
+left_done d t u out is left = subst (λ (x : Did). Done x t out out) (sym is) (subst (λ (x : State). Done (nothing x) t out out) left (done_nothing t out))
+
+-- ---- data
+
+handed_as : (s : State) (near most : ℕ) (user : UserParts) (row : Row) → most_ready row.flows user.flow ≤ most →
+    handed_by (with_flows s near row (data_taken row.flows user)) near user.flow most (Some (record row { flows = data_taken row.flows user })) ≡ flow_taken_by s near (Data user) (Some row)
+handed_as s near most user row few =
+    let kept : Row = record row { flows = data_taken row.flows user } in
+    let last : FlowsDid → Did = λ d. record { state = with_sessions s (insert (insert s.sessions near kept) near (record row { flows = d.flows })); entries = map (flow_entry near) d.stated } in
+    ap last (done_enough most row.flows user few)
+    ∙ ap (λ (m : Sessions). record { state = with_sessions s m; entries = map (flow_entry near) (data_done row.flows user).stated }) (insert_twice s.sessions near kept (record row { flows = (data_done row.flows user).flows }))
+
+pub data_is : (s t u : State) (near most : ℕ) (user : UserParts) (row : Row) (before after : Added) → get s.sessions near ≡ Some row → most ≡ most_ready row.flows user.flow →
+    t ≡ data_kept s near user (get s.sessions near) → Done (handed_by t near user.flow most (get t.sessions near)) u before after → Done (flow_taken_by s near (Data user) (get s.sessions near)) u before after
+data_is s t u near most user row before after found most_is kept done =
+    let now : State = with_flows s near row (data_taken row.flows user) in
+    let at : t ≡ now = kept ∙ ap (data_kept s near user) found in
+    let got : get t.sessions near ≡ Some (record row { flows = data_taken row.flows user }) = ap (λ (x : State). get x.sessions near) at ∙ get_inserted s.sessions near (record row { flows = data_taken row.flows user }) in
+    let same : handed_by t near user.flow most (get t.sessions near) ≡ flow_taken_by s near (Data user) (get s.sessions near) =
+    (λ i. handed_by (at i) near user.flow most (got i)) ∙ handed_as s near most user row (omega (arith, most_is)) ∙ sym (ap (flow_taken_by s near (Data user)) found) in
+    subst (λ (d : Did). Done d u before after) same done
+
+-- ---- messages that are handed over, one after another
+
+map_more : {A B : Type 0} (f : A → B) (xs ys : List A) → map f (xs ++ ys) ≡ map f xs ++ map f ys
+map_more f [] ys = refl
+map_more f (x ∷ xs) ys = ap (λ zs. f x ∷ zs) (map_more f xs ys)
+
+module _ (near flow : ℕ) where
+  -- one, and then so many
+  one_and_more : (count : ℕ) (s : State) (o : Option Row) → get s.sessions near ≡ o →
+      handed_by s near flow (suc count) o ≡ then_do (handed_once_by s near flow o) (λ t. handed_by t near flow count (get t.sessions near))
+  one_and_more count s None found = sym (ap (λ (x : Option Row). after_entries [] (handed_by s near flow count x)) found)
+  one_and_more count s (Some row) found =
+      let first : FlowsDid = hands_once row.flows flow in
+      let others : FlowsDid = hands count flow first.flows in
+      let between : Row = record row { flows = first.flows } in
+      let last : Row = record row { flows = others.flows } in
+      let did : List Entry → Sessions → Did = λ entries m. record { state = with_sessions s m; entries = entries } in
+      ap (λ (es : List Entry). did es (insert s.sessions near last)) (map_more (flow_entry near) first.stated others.stated)
+      ∙ ap (did (map (flow_entry near) first.stated ++ map (flow_entry near) others.stated)) (sym (insert_twice s.sessions near between last))
+      ∙ ap (λ (x : Option Row). after_entries (map (flow_entry near) first.stated) (handed_by (with_flows s near row first.flows) near flow count x)) (sym (get_inserted s.sessions near between))
+
+  pub hand_more : (count : ℕ) (s t u : State) (before between after : Added) → Done (handed_once_by s near flow (get s.sessions near)) t before between →
+      Done (handed_by t near flow count (get t.sessions near)) u between after → Done (handed_by s near flow (suc count) (get s.sessions near)) u before after
+  hand_more count s t u before between after once more =
+      subst (λ (d : Did). Done d u before after) (sym (one_and_more count s (get s.sessions near) refl))
+      (joined (handed_once_by s near flow (get s.sessions near)) (λ x. handed_by x near flow count (get x.sessions near)) t u before between after once more)
+
+  -- where none is ready, none of so many is
+  hand_none : (count : ℕ) (s : State) (o : Option Row) → handed_in flow o ≡ [] → handed_once_by s near flow o ≡ handed_by s near flow count o
+  hand_none count s None none = refl
+  hand_none count s (Some row) none =
+      ap (flows_done s near row) (once_is (hands_once row.flows flow) ∙ nothing_more 1 flow row.flows none ∙ sym (nothing_more count flow row.flows none))
+    where
+      once_is : (d : FlowsDid) → d ≡ record { flows = d.flows; stated = d.stated ++ [] }
+      once_is d = ap (λ (xs : List Stated). record { flows = d.flows; stated = xs }) (sym (append-nil d.stated))
+
+  pub hand_no_more : (count : ℕ) (s t : State) (before after : Added) → handed_in flow (get s.sessions near) ≡ [] → Done (handed_once_by s near flow (get s.sessions near)) t before after →
+      Done (handed_by s near flow count (get s.sessions near)) t before after
+  hand_no_more count s t before after none once = subst (λ (d : Did). Done d t before after) (hand_none count s (get s.sessions near) none) once
+
+kept_map : (m : Sessions) (k : ℕ) (v : Row) → get m k ≡ Some v → insert m k v ≡ m
+kept_map m k v there = same_tables _ _ (λ q. elim (same_or_not q k) [
+  | inl is ↦ ap (get (insert m k v)) is.0 ∙ get_inserted m k v ∙ sym there ∙ ap (get m) (sym is.0)
+  | inr is ↦ get_beside m k v q is.0
+])
+
+-- and so many that are none
+pub hand_zero : (near flow count : ℕ) (s : State) (out : Added) → count ≡ 0 → Done (handed_by s near flow count (get s.sessions near)) s out out
+hand_zero near flow count s out none = subst (λ (n : ℕ). Done (handed_by s near flow n (get s.sessions near)) s out out) (sym none) (by (get s.sessions near) refl)
+  where
+    by : (o : Option Row) → get s.sessions near ≡ o → Done (handed_by s near flow 0 o) s out out
+    by None found = done_nothing s out
+    by (Some row) found = subst (λ (m : Sessions). Done (record { state = with_sessions s m; entries = [] }) s out out) (sym (kept_map s.sessions near row found)) (done_nothing s out)
+
+-- ---- an exception that states nothing
+
+set_same : (fs : List Flow) (i : ℕ) (f : Flow) → slice_get fs i ≡ Some f → slice_set fs i f ≡ fs
+set_same [] i f e = refl
+set_same (x ∷ xs) zero f e = let is : f ≡ x = cc in ap (λ (y : Flow). y ∷ xs) is
+set_same (x ∷ xs) (suc i) f e = ap (λ (ys : List Flow). x ∷ ys) (set_same xs i f e)
+
+-- an empty list of things in a row begins with an empty one
+front_empty : {A : Type 0} (xs ys : List A) → xs ++ ys ≡ [] → xs ≡ []
+front_empty [] ys e = refl
+front_empty (x ∷ xs) ys e = absurd (cc)
+
+module _ (s : FlowsState) (id : ℕ) where
+  none_waits : (waiting : List Waiting) (f : Flow) (finish : Option ℕ) (rest : List Stated) → map (Abandoned id) (numbers_of waiting) ++ rest ≡ [] → all_abandoned waiting f.sender ≡ f.sender
+  none_waits [] f finish rest e = refl
+  none_waits (w ∷ ws) f finish rest e = absurd (cc)
+
+  was_finished : (left t : Sender) (finish : Option ℕ) (front : List Stated) → front ++ finished_at id (last_by t finish) ≡ [] → finish_by left finish ≡ left
+  was_finished left t (Some n) front e = refl
+  was_finished left t None [] e = absurd (cc)
+  was_finished left t None (x ∷ xs) e = absurd (cc)
+
+  rejects_nothing : (o : Option Flow) → sending_at s id ≡ o → (rejecting_by s id o).stated ≡ [] → rejecting_by s id o ≡ record { flows = s; stated = [] }
+  rejects_nothing None found e = refl
+  rejects_nothing (Some f) found e =
+      let left : finish_by (without_messages f.sender) f.sender.finish ≡ f.sender =
+      was_finished (without_messages f.sender) (without_messages f.sender) f.sender.finish _ e ∙ none_waits f.sender.waiting f f.sender.finish _ e in
+      let as_is : with_flow s id (with_sender f (finish_by (without_messages f.sender) f.sender.finish)) ≡ s =
+      ap (λ (x : Sender). with_flow s id (with_sender f x)) left ∙ ap (with_sending s) (set_same s.sending id f found) in
+      (λ i. record { flows = as_is i; stated = e i })
+
+pub rejected_nothing : (s : State) (near flow : ℕ) (o : Option Row) → get s.sessions near ≡ o → rejected_by o flow ≡ [] → rejected s near flow o ≡ nothing s
+rejected_nothing s near flow None found none = refl
+rejected_nothing s near flow (Some row) found none =
+    ap (flows_done s near row) (rejects_nothing row.flows flow (sending_at row.flows flow) refl none)
+    ∙ ap (λ (m : Sessions). record { state = with_sessions s m; entries = [] }) (kept_map s.sessions near row found)
+
+-- ---- data, by what is kept under the session ID
+
+pub data_by : (s t u : State) (near most : ℕ) (user : UserParts) (before after : Added) → IfSome (get s.sessions near) (λ row. most ≡ most_ready row.flows user.flow) →
+    t ≡ data_kept s near user (get s.sessions near) → Done (handed_by t near user.flow most (get t.sessions near)) u before after → Done (flow_taken_by s near (Data user) (get s.sessions near)) u before after
+data_by s t u near most user before after found kept done = by (get s.sessions near) refl found
+  where
+    by : (o : Option Row) → get s.sessions near ≡ o → IfSome o (λ row. most ≡ most_ready row.flows user.flow) → Done (flow_taken_by s near (Data user) (get s.sessions near)) u before after
+    by None is few =
+        let at : t ≡ s = kept ∙ ap (data_kept s near user) is in
+        let none : get t.sessions near ≡ None = ap (λ (x : State). get x.sessions near) at ∙ is in
+        let same : handed_by t near user.flow most (get t.sessions near) ≡ flow_taken_by s near (Data user) (get s.sessions near) =
+        (λ i. handed_by (at i) near user.flow most (none i)) ∙ sym (ap (flow_taken_by s near (Data user)) is) in
+        subst (λ (d : Did). Done d u before after) same done
+    by (Some row) is few = data_is s t u near most user row before after is few kept done
+
+-- ---- a chunk of flows that adds nothing
+
+none_is : (o : Option Cause) → o ≡ None → IsSome o → ⊥
+none_is None e some = absurd (cc)
+none_is (Some cause) e some = absurd (cc)
+
+module _ (s : State) (place : Place) (walk : Walk) (from : AddressParts) (draws : Draws) (c : Placed) (read : Result DataChunk DataFault) (is : read ≡ data_reading walk.cursor c.kind c.payload) (kind : is_of_flows c.kind ≡ true) where
+  cause_as : chunk_cause s place walk from c ≡ read_cause_at s place read
+  cause_as = flows_cause s walk from draws c place kind ∙ sym (ap (read_cause_at s place) is)
+
+  pub enough_for : (P : Type 0) (free : ℕ) → IsQuiet s place walk from c → discards_for (chunk_cause s place walk from c) ≤ free → (IsSome (read_cause_at s place read) → 0 < free → P) →
+      (read_cause_at s place read ≡ None → states_nothing (get s.sessions (sid_at place)) read ≡ true → P) → P
+  enough_for P free quiet room refused idles = by (read_cause_at s place read) refl
+    where
+      idle : is_idle_after s place walk from c ≡ true → states_nothing (get s.sessions (sid_at place)) read ≡ true
+      idle e = ap (states_nothing (get s.sessions (sid_at place))) is
+          ∙ ap (λ (b : Bool). if b then states_nothing (get s.sessions (sid_at place)) (data_reading walk.cursor c.kind c.payload) else is_idle s place from c) (sym kind) ∙ e
+
+      none_told : read_cause_at s place read ≡ None → IsQuiet s place walk from c → P
+      none_told none (inl some) = absurd (none_is (chunk_cause s place walk from c) (cause_as ∙ none) some)
+      none_told none (inr e) = idles none (idle e)
+
+      by : (o : Option Cause) → read_cause_at s place read ≡ o → P
+      by None e = none_told e quiet
+      by (Some cause) e =
+          let one : discards_for (chunk_cause s place walk from c) ≡ 1 = ap discards_for (cause_as ∙ e) in
+          refused (subst IsSome (sym e) refl) (omega (arith, one, room))
+
+-- the walk behind a chunk that is none of flows
+pub gone_on : (walk new : Walk) (c : Placed) → is_of_flows c.kind ≡ false → new.keyed ≡ (walk.keyed || (c.kind == 0x38)) → new.cursor ≡ None → new ≡ walked walk c
+gone_on walk new c kind keyed cursor = λ i. record { keyed = keyed i; cursor = (cursor ∙ sym (none_behind walk.cursor c.kind c.payload kind)) i }
+
+-- the cause of a chunk that was read, in its session
+pub cause_is : (s : State) (near : ℕ) (chunk : DataChunk) (cause : FlowCause) → cause_in (get s.sessions near) chunk ≡ Some cause → read_cause_at s (Session near) (Ok chunk) ≡ Some (told_cause cause)
+cause_is s near chunk cause is = flow_is (get s.sessions near) is
+  where
+    flow_is : (o : Option Row) → cause_in o chunk ≡ Some cause → first_that_stands (flow_cause o (Ok chunk) ∷ []) ≡ Some (told_cause cause)
+    flow_is None e = ap (λ (x : Option FlowCause). first_that_stands (option_map told_cause x ∷ [])) e
+    flow_is (Some row) e = ap (λ (x : Option FlowCause). first_that_stands (option_map told_cause x ∷ [])) e
+
+no_length : {A : Type 0} (xs : List A) → length xs ≡ 0 → xs ≡ []
+no_length [] e = refl
+no_length (x ∷ xs) e = absurd (omega (arith, e))
+
+pub reject_done : (s : State) (near flow : ℕ) (out : Added) → length (rejected_by (get s.sessions near) flow) ≡ 0 → Done (rejected s near flow (get s.sessions near)) s out out
+reject_done s near flow out none =
+    subst (λ (d : Did). Done d s out out) (sym (rejected_nothing s near flow (get s.sessions near) refl (no_length (rejected_by (get s.sessions near) flow) none))) (done_nothing s out)
+
+which : (o : Option FlowCause) (r : Result (Unit {0}) Untaken) (cause : FlowCause) → r ≡ Err (Discarded cause) → MatchOption o (IfErr r (λ e. e ≡ NoMemory)) (λ x. r ≡ Err (Discarded x)) → o ≡ Some cause
+which None r cause is m = let clash : Discarded cause ≡ NoMemory = subst (λ (q : Result (Unit {0}) Untaken). IfErr q (λ e. e ≡ NoMemory)) is m in absurd (cc)
+which (Some x) r cause is m = let both : ◌≡◌ {A = Result (Unit {0}) Untaken} (Err (Discarded x)) (Err (Discarded cause)) = sym m ∙ is in cc
+
+-- a chunk is discarded once nothing was done
+pub discard_after : {A E : Type 0} (r : Result A E) (s t u : State) (at : ℕ) (cause : Cause) (d : Did) (before between after : Added) → d ≡ discarded s at cause → Done (nothing s) t before between →
+    OnOk r (Done (discarded t at cause) u between after) → OnOk r (Done d u before after)
+discard_after (Ok x) s t u at cause d before between after is still done = subst (λ (x : Did). Done x u before after) (sym is) (joined (nothing s) (λ x. discarded x at cause) t u before between after still done)
+discard_after (Err x) s t u at cause d before between after is still done = tt
+
+pub read_discarded : (s : State) (place : Place) (near at : ℕ) (read : Result DataChunk DataFault) (chunk : DataChunk) (cause : FlowCause) (told : Cause) (r : Result (Unit {0}) Untaken) → place ≡ Session near → read ≡ Ok chunk →
+    r ≡ Err (Discarded cause) → MatchOption (cause_in (get s.sessions near) chunk) (IfErr r (λ e. e ≡ NoMemory)) (λ x. r ≡ Err (Discarded x)) → told ≡ told_cause cause → read_did s place at read ≡ discarded s at told
+read_discarded s place near at read chunk cause told r place_is read_is result m told_is =
+    (λ i. read_did s (place_is i) at (read_is i))
+    ∙ ap (λ (o : Option Cause). discarded_or s at o (flow_taken s near (Ok chunk))) (cause_is s near chunk cause (which (cause_in (get s.sessions near) chunk) r cause result m))
+    ∙ ap (discarded s at) (sym told_is)

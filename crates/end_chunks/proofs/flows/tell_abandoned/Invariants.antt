@@ -1,0 +1,11 @@
+use Rattle.std.proofs.Common.{◌≡◌, ◌≤◌, ◌+◌, ◌++◌, map, take}
+use Rattle.session_flows.specs.Keeping.{Abandoned}
+use Rattle.endpoint_model.specs.OnFlows.{flow_entry}
+use Rattle.end_chunks.proofs.flows.tell_abandoned.Given as goal
+
+abbrev pub invariant-loop-index : goal.invariant-loop-index
+invariant-loop-index l = record {
+  entries : l.out.entries ≡ l.fn.out.entries ++ map (flow_entry l.near) (map (Abandoned l.flow) (take l.index l.numbers));
+  free : l.fn.out.free ≤ l.out.free + l.index;
+  room : l.out.room ≡ l.fn.out.room;
+}

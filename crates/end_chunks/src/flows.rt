@@ -1,0 +1,376 @@
+//! Chunks of flows that came in a session (RFC 7016 section 3.6): data is handed over as far as it
+//! is ready, acks open and close the window, and an exception ends a flow. The acks that are owed
+//! go out after all chunks of the datagram.
+
+ghost use Rattle.std.specs.Prelude.{◌≡◌, ◌<◌, ◌≤◌, ◌+◌, ◌^◌, ◌++◌, [], Err, IfErr, IfOk, IfSome};
+ghost use Rattle.std.specs.Prelude.{IsOk, IsSome, MatchOption, None, Ok, OnErr, OnOk, Some, false};
+ghost use Rattle.std.specs.Prelude.{length, map, true};
+ghost use Rattle.session_table.specs.Chunks.{handed_in, waiting_in};
+ghost use Rattle.std.specs.FinMap.{get};
+ghost use Rattle.rtmfp_data_chunks.specs.Chunk.{Data, Probe, data_chunk, user_parts};
+ghost use Rattle.rtmfp_data_chunks.specs.Spelling.{IsBehind, shown};
+ghost use Rattle.rtmfp_data_chunks.specs.Writing.{IsDataChunk};
+ghost use Rattle.flow_send.specs.Acks.{told};
+ghost use Rattle.session_flows.specs.Keeping.{Abandoned};
+ghost use Rattle.session_flows.specs.Chunks.{finished_at, most_ready};
+ghost use Rattle.endpoint_model.specs.OnFlows.{flow_entry};
+ghost use Rattle.endpoint_model.specs.FlowChunks.{data_fault, flow_taken_by, is_of_flows};
+ghost use Rattle.endpoint_model.specs.FlowChunks.{is_told_only, states_nothing, told_cause};
+ghost use Rattle.endpoint_model.specs.State.{Done, nothing};
+ghost use Rattle.endpoint_model.specs.Admission.{sid_at};
+ghost use Rattle.end_chunks.specs.FlowChunks.{ack_cause_in, ack_heard, cause_in};
+ghost use Rattle.end_chunks.specs.FlowChunks.{data_kept, exception_cause_in, handed_by};
+ghost use Rattle.end_chunks.specs.FlowChunks.{handed_once_by, probe_heard};
+ghost use Rattle.end_chunks.specs.FlowChunks.{read_cause_at, read_did, rejected, rejected_by};
+
+use end_state::{EndState, Outbox};
+use endpoint_model::{Entry, Place};
+use rtmfp_data_chunks::kinds::*;
+use rtmfp_data_chunks::{AckedSpans, DataFault, DataView, UserData};
+use session_flows::{FlowCause, Untaken};
+use startup::Cause;
+use std::alloc::AllocError;
+
+/// Whether a chunk of this type is one of flows.
+pub(crate) fn is_of_flows(kind: u8) -> bool
+    ensures { result ≡ is_of_flows kind }
+{
+    kind == DATA
+        || kind == NEXT
+        || kind == ACK_BITMAP
+        || kind == ACK_RANGES
+        || kind == PROBE
+        || kind == EXCEPTION
+}
+
+/// Why a field of a chunk of flows can't be read.
+fn data_fault(fault: DataFault) -> Cause
+    ensures { data_fault (Err fault) ≡ Some result }
+{
+    match fault {
+        DataFault::Unknown(kind) => Cause::UnknownChunk(kind),
+        DataFault::Malformed(at) => Cause::Malformed(at as u64),
+        DataFault::BadOffset(at) => Cause::Malformed(at as u64),
+    }
+}
+
+/// Why a session's flows discard a chunk, as the end tells it.
+fn told_cause(cause: FlowCause) -> Cause
+    ensures { result ≡ told_cause cause }
+{
+    match cause {
+        FlowCause::WrongState => Cause::WrongState,
+        FlowCause::UnknownFlow => Cause::UnknownFlow,
+        FlowCause::FlowsFull(count) => Cause::FlowsFull(count),
+        FlowCause::AfterFinal(number) => Cause::AfterFinal(number),
+        FlowCause::BeyondBuffer(held) => Cause::BeyondBuffer(held),
+        FlowCause::AckBeyond(number) => Cause::AckBeyond(number),
+    }
+}
+
+/// Takes a chunk of flows, as it was read: it is discarded for its cause, or does what it does.
+pub(crate) fn take_read(
+    end: &mut EndState,
+    place: Place,
+    at: usize,
+    read: Result<DataView<'_>, DataFault>,
+    out: &mut Outbox,
+) -> Result<(), AllocError>
+    requires at { at < 2 ^ 32 }
+    requires whole { IfOk read (λ view. IsDataChunk (data_chunk view)) }
+    ensures ok { OnOk result (Done (read_did end.old place at (shown read.entry)) end.new out.old
+        out.new) }
+    ensures err { OnErr result (Done (nothing end.old) end.new out.old out.new) }
+    ensures refused { IsSome (read_cause_at end.old place (shown read.entry)) →
+        0 < out.old.free → IsOk result }
+    ensures quiet { read_cause_at end.old place (shown read.entry) ≡ None →
+        states_nothing (get end.old.sessions (sid_at place)) (shown read.entry) ≡ true →
+        IsOk result }
+{
+    let view = match read {
+        Ok(view) => view,
+        Err(fault) => return end.discard(at, data_fault(fault), out),
+    };
+    let Place::Session(near) = place else {
+        return end.discard(at, Cause::WrongPlace, out);
+    };
+    match take_view(end, near, &view, out) {
+        Ok(()) => Ok(()),
+        Err(Untaken::Cause(cause)) => end.discard(at, told_cause(cause), out),
+        Err(Untaken::Memory) => Err(AllocError),
+    }
+}
+
+/// Takes a chunk of flows in the session with this session ID.
+fn take_view(
+    end: &mut EndState,
+    near: u32,
+    view: &DataView<'_>,
+    out: &mut Outbox,
+) -> Result<(), Untaken>
+    requires { IsDataChunk (data_chunk view.now) }
+    ensures ok { OnOk result (Done (flow_taken_by end.old near (data_chunk view.now)
+        (get end.old.sessions near)) end.new out.old out.new) }
+    ensures cause { MatchOption (cause_in (get end.old.sessions near) (data_chunk view.now))
+        (IfErr result (λ e. e ≡ Untaken.Memory)) (λ c. result ≡ Err (Untaken.Cause c)) }
+    ensures err { OnErr result (Done (nothing end.old) end.new out.old out.new) }
+    ensures quiet { is_told_only (get end.old.sessions near) (data_chunk view.now) ≡ true →
+        IfErr result (λ e. IsSome (cause_in (get end.old.sessions near) (data_chunk view.now))) }
+{
+    match view {
+        DataView::Data(user) => take_data(end, near, user, out),
+        DataView::Next(user) => take_data(end, near, user, out),
+        DataView::AckBitmap {
+            flow,
+            blocks,
+            upto,
+            ..
+        } => take_ack(end, near, *flow, *blocks, *upto, view.acked()),
+        DataView::AckRanges {
+            flow,
+            blocks,
+            upto,
+            ..
+        } => take_ack(end, near, *flow, *blocks, *upto, view.acked()),
+        DataView::Probe { flow } => take_probe(end, near, *flow),
+        DataView::Exception { flow, .. } => reject(end, near, *flow, out),
+    }
+}
+
+/// Why a data or next chunk is discarded; or how many messages are handed over at most, if it is
+/// taken.
+fn judge_data(end: &EndState, near: u32, user: &UserData<'_>) -> Result<usize, FlowCause>
+    ensures none { OnOk result (cause_in (get end.now.sessions near) (Data (user_parts user.now))
+        ≡ None) }
+    ensures most { IfOk result (λ most. IfSome (get end.now.sessions near)
+        (λ row. most ≡ most_ready row.flows user.now.flow)) }
+    ensures refused { IfErr result (λ cause. cause_in (get end.now.sessions near)
+        (Data (user_parts user.now)) ≡ Some cause) }
+{
+    let Some(row) = end.sessions.row(near) else {
+        return Err(FlowCause::WrongState);
+    };
+    match row.flows.data_cause(&row.session, user) {
+        Some(cause) => Err(cause),
+        None => Ok(row.flows.most_ready(user.flow)),
+    }
+}
+
+/// Takes a data or next chunk, and hands over the messages that are ready then. Room for them is
+/// found before, so that none is left.
+fn take_data(
+    end: &mut EndState,
+    near: u32,
+    user: &UserData<'_>,
+    out: &mut Outbox,
+) -> Result<(), Untaken>
+    requires { IsBehind user.now.forward user.now.seq user.now.abandon }
+    ensures ok { OnOk result (Done (flow_taken_by end.old near (Data (user_parts user.now))
+        (get end.old.sessions near)) end.new out.old out.new) }
+    ensures cause { MatchOption (cause_in (get end.old.sessions near) (Data (user_parts user.now)))
+        (IfErr result (λ e. e ≡ Untaken.Memory)) (λ c. result ≡ Err (Untaken.Cause c)) }
+    ensures err { OnErr result (Done (nothing end.old) end.new out.old out.new) }
+{
+    let most = match judge_data(end, near, user) {
+        Ok(most) => most,
+        Err(cause) => return Err(Untaken::Cause(cause)),
+    };
+    match out.make_room(most) {
+        Ok(()) => {}
+        Err(_) => return Err(Untaken::Memory),
+    }
+    match keep_data(end, near, user) {
+        Ok(()) => {}
+        Err(untaken) => return Err(untaken),
+    }
+    hand_over(end, near, user.flow, most, out);
+    Ok(())
+}
+
+/// Takes a data or next chunk, and hands nothing over yet.
+fn keep_data(end: &mut EndState, near: u32, user: &UserData<'_>) -> Result<(), Untaken>
+    requires low { user.now.forward ≤ user.now.seq }
+    requires below { user.now.abandon ≡ false → user.now.forward < user.now.seq }
+    ensures ok { OnOk result (end.new ≡ data_kept end.old near (user_parts user.now)
+        (get end.old.sessions near)) }
+    ensures cause { MatchOption (cause_in (get end.old.sessions near) (Data (user_parts user.now)))
+        (IfErr result (λ e. e ≡ Untaken.Memory)) (λ c. result ≡ Err (Untaken.Cause c)) }
+    ensures err { OnErr result (end.new ≡ end.old) }
+{
+    match end.sessions.take_data(near, user) {
+        Ok(()) => Ok(()),
+        Err(untaken) => Err(untaken),
+    }
+}
+
+/// Hands over the messages of a flow that are ready, so many at most, for which there is room.
+fn hand_over(end: &mut EndState, near: u32, flow: u64, most: usize, out: &mut Outbox)
+    requires { most ≤ out.old.free }
+    ensures { Done (handed_by end.old near flow most (get end.old.sessions near)) end.new out.old
+        out.new }
+{
+    for _ in 0..most {
+        if !hand_next(end, near, flow, out) {
+            return;
+        }
+    }
+}
+
+/// Hands over the next message of a flow, where one is ready; there is room for it.
+fn hand_next(end: &mut EndState, near: u32, flow: u64, out: &mut Outbox) -> bool
+    requires { 0 < out.old.free }
+    ensures done { Done (handed_once_by end.old near flow (get end.old.sessions near)) end.new
+        out.old out.new }
+    ensures none { result ≡ false → handed_in flow (get end.old.sessions near) ≡ [] }
+    ensures room { out.old.free ≤ out.new.free + 1 }
+{
+    match end.sessions.hand_next(near, flow) {
+        Some((seq, message)) => {
+            out.add(Entry::Handed {
+                near,
+                flow,
+                seq,
+                message,
+            });
+            true
+        }
+        None => false,
+    }
+}
+
+/// Takes an ack of a flow.
+fn take_ack(
+    end: &mut EndState,
+    near: u32,
+    flow: u64,
+    blocks: u64,
+    upto: u64,
+    spans: AckedSpans<'_>,
+) -> Result<(), Untaken>
+    ensures ok { OnOk result (end.new ≡ ack_heard end.old near flow (told blocks upto spans.entry)
+        (get end.old.sessions near)) }
+    ensures cause { MatchOption (ack_cause_in (get end.old.sessions near) flow
+        (told blocks upto spans.entry)) (result ≡ Ok tt) (λ c. result ≡ Err (Untaken.Cause c)) }
+    ensures err { OnErr result (end.new ≡ end.old) }
+{
+    match end.sessions.take_ack(near, flow, blocks, upto, spans) {
+        Ok(()) => Ok(()),
+        Err(cause) => Err(Untaken::Cause(cause)),
+    }
+}
+
+/// Owes an ack for a buffer probe.
+fn take_probe(end: &mut EndState, near: u32, flow: u64) -> Result<(), Untaken>
+    ensures ok { OnOk result (end.new ≡ probe_heard end.old near flow
+        (get end.old.sessions near)) }
+    ensures cause { MatchOption (cause_in (get end.old.sessions near) (Probe flow))
+        (result ≡ Ok tt) (λ c. result ≡ Err (Untaken.Cause c)) }
+    ensures err { OnErr result (end.new ≡ end.old) }
+{
+    match end.sessions.take_probe(near, flow) {
+        Ok(()) => Ok(()),
+        Err(cause) => Err(Untaken::Cause(cause)),
+    }
+}
+
+/// Why an exception is discarded; or how many entries it adds, if it is taken.
+fn judge_exception(end: &EndState, near: u32, flow: u64) -> Result<usize, FlowCause>
+    ensures taken { OnOk result (exception_cause_in (get end.now.sessions near) flow ≡ None) }
+    ensures count { IfOk result (λ count. count < 2 ^ 63 →
+        length (rejected_by (get end.now.sessions near) flow) ≡ count) }
+    ensures none { rejected_by (get end.now.sessions near) flow ≡ [] →
+        IfOk result (λ count. count ≡ 0) }
+    ensures refused { IfErr result (λ cause. exception_cause_in (get end.now.sessions near) flow
+        ≡ Some cause) }
+{
+    let Some(row) = end.sessions.row(near) else {
+        return Err(FlowCause::WrongState);
+    };
+    match row.flows.exception_cause(&row.session, flow) {
+        Some(cause) => Err(cause),
+        None => Ok(row.flows.most_rejected(flow)),
+    }
+}
+
+/// Takes an exception, by which the other end rejects a flow: its messages that wait are
+/// abandoned, and it is finished.
+fn reject(end: &mut EndState, near: u32, flow: u64, out: &mut Outbox) -> Result<(), Untaken>
+    ensures ok { OnOk result (Done (rejected end.old near flow (get end.old.sessions near)) end.new
+        out.old out.new) }
+    ensures cause { MatchOption (exception_cause_in (get end.old.sessions near) flow)
+        (IfErr result (λ e. e ≡ Untaken.Memory)) (λ c. result ≡ Err (Untaken.Cause c)) }
+    ensures err { OnErr result (Done (nothing end.old) end.new out.old out.new) }
+    ensures quiet { rejected_by (get end.old.sessions near) flow ≡ [] →
+        exception_cause_in (get end.old.sessions near) flow ≡ None → IsOk result }
+{
+    let count = match judge_exception(end, near, flow) {
+        Ok(count) => count,
+        Err(cause) => return Err(Untaken::Cause(cause)),
+    };
+    if count == 0 {
+        return Ok(());
+    }
+    match out.make_room(count) {
+        Ok(()) => {}
+        Err(_) => return Err(Untaken::Memory),
+    }
+    let mut numbers = Vec::new(end.alloc);
+    match take_exception(end, near, flow, &mut numbers) {
+        Ok(last) => tell_rejected(near, flow, &numbers, last, out),
+        Err(untaken) => return Err(untaken),
+    }
+    Ok(())
+}
+
+/// Takes an exception, and puts the numbers of the messages that it abandons at the end of a list.
+fn take_exception(
+    end: &mut EndState,
+    near: u32,
+    flow: u64,
+    numbers: &mut Vec<u64>,
+) -> Result<Option<u64>, Untaken>
+    ensures state { OnOk result (end.new ≡ (rejected end.old near flow
+        (get end.old.sessions near)).state) }
+    ensures numbers { OnOk result (numbers.new.items ≡ numbers.old.items
+        ++ waiting_in flow (get end.old.sessions near)) }
+    ensures stated { IfOk result (λ last. rejected_by (get end.old.sessions near) flow
+        ≡ map (Abandoned flow) (waiting_in flow (get end.old.sessions near))
+        ++ finished_at flow last) }
+    ensures cause { MatchOption (exception_cause_in (get end.old.sessions near) flow)
+        (IfErr result (λ e. e ≡ Untaken.Memory)) (λ c. result ≡ Err (Untaken.Cause c)) }
+    ensures err { OnErr result (end.new ≡ end.old) }
+{
+    end.sessions.take_exception(near, flow, numbers)
+}
+
+/// Tells that the messages of a flow with these numbers are abandoned, and that it is finished, if
+/// it wasn't; there is room for that.
+fn tell_rejected(near: u32, flow: u64, numbers: &[u64], last: Option<u64>, out: &mut Outbox)
+    requires { length numbers.now + length (finished_at flow last) ≤ out.old.free }
+    ensures entries { out.new.entries ≡ out.old.entries ++ map (flow_entry near)
+        (map (Abandoned flow) numbers.now ++ finished_at flow last) }
+    ensures free { out.old.free ≤ out.new.free + (length numbers.now
+        + length (finished_at flow last)) }
+    ensures room { out.new.room ≡ out.old.room }
+{
+    tell_abandoned(near, flow, numbers, out);
+    if let Some(seq) = last {
+        out.add(Entry::Finished { near, flow, seq });
+    }
+}
+
+fn tell_abandoned(near: u32, flow: u64, numbers: &[u64], out: &mut Outbox)
+    requires { length numbers.now ≤ out.old.free }
+    ensures entries { out.new.entries ≡ out.old.entries ++ map (flow_entry near)
+        (map (Abandoned flow) numbers.now) }
+    ensures free { out.old.free ≤ out.new.free + length numbers.now }
+    ensures room { out.new.room ≡ out.old.room }
+{
+    for index in 0..numbers.len() {
+        out.add(Entry::Abandoned {
+            near,
+            flow,
+            seq: numbers[index],
+        });
+    }
+}
