@@ -14,10 +14,10 @@ use Rattle.endpoint_model.specs.State.{State, Did, Done, with_session, with_star
 use Rattle.rtmfp_forms.specs.Address.{AddressParts}
 use Rattle.rtmfp_packet.specs.Whole.{Whole}
 use Rattle.endpoint_model.specs.Keying.{chunks_of}
-use Rattle.endpoint_model.specs.InSessions.{asks_at}
+use Rattle.rtmfp_packet.specs.Walk.{Placed}
 use Rattle.endpoint_model.specs.declared.config.Draws.{Draws}
-use Rattle.endpoint_model.specs.Effects.{AreQuiet, AddsDiscards, discards, discards_among, outset}
-use Rattle.endpoint_model.specs.Log.{IsStop, not_taken}
+use Rattle.endpoint_model.specs.Effects.{AreQuiet, EndsQuietly, AddsDiscards, chunks_did, discards, discards_among, outset}
+use Rattle.endpoint_model.specs.Log.{StopsSo, not_taken}
 use Rattle.endpoint_model.specs.Admission.{confirms, confirms_by, confirming, confirming_by, taken_packet, counted_at, counted_by, timed_at, timed_by}
 
 counted_still : (s : State) (near : ℕ) (part : List ℕ) (o : Option Row) → get s.sessions near ≡ o → confirms_by (get (counted_by s near part o).sessions near) ≡ confirms_by o
@@ -60,28 +60,33 @@ pub confirms_taken : (s : State) (place : Place) (part : List ℕ) (head : Packe
 confirms_taken s place part head = confirms_timed (counted_at s place part) place head ∙ confirms_counted s place part
 
 -- no memory was found before a datagram was taken that confirms a session
-pub stopped_before : (s : State) (place : Place) (part : List ℕ) (from : AddressParts) (draws : Draws) (packet : Whole) → confirms s place ≡ true → IsStop from draws (taken_packet s place part packet) not_taken
-stopped_before s place part from draws packet confirming = record {
+pub stopped_before : (Left : Did → Type 0) (s : State) (place : Place) (part : List ℕ) (from : AddressParts) (draws : Draws) (packet : Whole) → confirms s place ≡ true → Left (nothing s) →
+    StopsSo Left s from draws (taken_packet s place part packet) not_taken
+stopped_before Left s place part from draws packet confirming left = record {
+  acks = 0;
   taken = λ clash. absurd (cc);
   not_taken = λ is. (confirms_taken s place part packet.head ∙ confirming, refl);
+  left = left;
 }
 
-pub not_refused : (A : Type 0) (s : State) (place : Place) (part : List ℕ) (from : AddressParts) (packet : Whole) → confirms s place ≡ true → AddsDiscards from (taken_packet s place part packet) → A
-not_refused A s place part from packet confirming refused =
+pub not_refused : (A : Type 0) (s : State) (place : Place) (part : List ℕ) (from : AddressParts) (draws : Draws) (packet : Whole) → confirms s place ≡ true → AddsDiscards from draws (taken_packet s place part packet) → A
+not_refused A s place part from draws packet confirming refused =
     let both : false ≡ true = sym refused.0 ∙ confirms_taken s place part packet.head ∙ confirming in
     absurd (cc)
 
 -- what the chunks of a refused datagram meet, after it was taken
-pub refused_chunks : (s entered : State) (place : Place) (part : List ℕ) (from : AddressParts) (packet : Whole) (before after : Added) →
-    Done (confirming (timed_at (counted_at s place part) place packet.head) place) entered before after → AddsDiscards from (taken_packet s place part packet) →
-    discards from (taken_packet s place part packet) ≤ before.free → AreQuiet entered place from outset (chunks_of packet) × (asks_at entered place from ≡ false) × (discards_among entered place from outset (chunks_of packet) ≤ after.free)
-refused_chunks s entered place part from packet before after done refused room =
+pub record AreRefused (entered : State) (place : Place) (from : AddressParts) (draws : Draws) (cs : List Placed) (free : ℕ) : Type 0 where
+  pub quiet : AreQuiet place from draws outset entered cs
+  pub ends : EndsQuietly from place (chunks_did place from draws outset entered cs).state
+  pub room : discards_among place from draws outset entered cs ≤ free
+
+pub refused_chunks : (s entered : State) (place : Place) (part : List ℕ) (from : AddressParts) (draws : Draws) (packet : Whole) (before after : Added) →
+    Done (confirming (timed_at (counted_at s place part) place packet.head) place) entered before after → AddsDiscards from draws (taken_packet s place part packet) →
+    discards from draws (taken_packet s place part packet) ≤ before.free → AreRefused entered place from draws (chunks_of packet) after.free
+refused_chunks s entered place part from draws packet before after done refused room =
     let t = timed_at (counted_at s place part) place packet.head in
     let quiet : confirming t place ≡ nothing t = unconfirmed t place refused.0 in
     let same : entered ≡ t = done.state ∙ ap (λ (d : Did). d.state) quiet in
     let free : before.free ≤ after.free + length (confirming t place).entries = done.free in
     let none : length (confirming t place).entries ≡ 0 = ap (λ (d : Did). length d.entries) quiet in
-    let P : State → Type 0 = λ u. AreQuiet u place from outset (chunks_of packet) in
-    let Q : State → Type 0 = λ u. discards_among u place from outset (chunks_of packet) ≤ after.free in
-    let enough : discards_among t place from outset (chunks_of packet) ≤ after.free = omega (arith, free, none, room) in
-    (subst P (sym same) refused.1, ap (λ (u : State). asks_at u place from) same ∙ refused.2, subst Q (sym same) enough)
+    subst (λ (u : State). AreRefused u place from draws (chunks_of packet) after.free) (sym same) (record { quiet = refused.1; ends = refused.2; room = omega (arith, free, none, room) })

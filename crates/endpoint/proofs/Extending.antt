@@ -21,8 +21,9 @@ use Rattle.endpoint_model.specs.Admission.{admission}
 use Rattle.endpoint_model.specs.InSessions.{held_row, closing}
 use Rattle.endpoint_model.specs.FlowCall.{FlowCall}
 use Rattle.endpoint_model.specs.OnFlows.{call_refusal, flow_called}
+use Rattle.endpoint_model.specs.FlowTimes.{all_late}
 use Rattle.endpoint_model.specs.Effects.{open_refusal, opening, cancelling, ticks, received, first_due}
-use Rattle.endpoint_model.specs.Log.{Step, Answers, Leads, Extends, IsTaken, IsStop, stopped, not_opened, not_added, open_event, cancel_event, row_event, introduce_event, close_event, flow_event, not_called, receive_event, tick_event}
+use Rattle.endpoint_model.specs.Log.{Step, Answers, Leads, Extends, IsTaken, StopsSo, not_opened, not_added, open_event, cancel_event, row_event, introduce_event, close_event, flow_event, not_called, receive_event, tick_event}
 
 leads_more : (s t u : State) (es : List Event) (e : Event) → Leads s es t → Step t e u → Leads s (es ++ e ∷ []) u
 leads_more s t u [] e h step = (u, (let P : State → Type 0 = λ x. Step x e u in subst P (sym h) step), refl)
@@ -169,25 +170,30 @@ uncalled_extends A s t near call refusal before after is did =
     (subst (λ (x : State). Answers x (OnFlows near call) (Refused refusal) entries t) (sym (at_zero s)) (is, alone (nothing s) t before after did))
 
 tick_steps : (s t : State) (moment : ℕ) (draws : Draws) (r : Result (Unit {0}) Memory) (before after : Added) →
-    (count : ℕ) × Done (ticks count (at_moment s moment)) t before after → OnOk r (first_due t ≡ None) →
+    (count : ℕ) × Done (ticks count (all_late (at_moment s moment))) t before after → OnOk r (first_due t ≡ None) →
     Step s (tick_event moment draws r before.entries after.entries) t
-tick_steps s t moment draws (Ok done) before after some all = ((some.0, alone (ticks some.0 (at_moment s moment)) t before after some.1), all)
-tick_steps s t moment draws (Err memory) before after some all = (some.0, alone (ticks some.0 (at_moment s moment)) t before after some.1)
+tick_steps s t moment draws (Ok done) before after some all = ((some.0, alone (ticks some.0 (all_late (at_moment s moment))) t before after some.1), all)
+tick_steps s t moment draws (Err memory) before after some all = (some.0, alone (ticks some.0 (all_late (at_moment s moment))) t before after some.1)
 
 pub tick_extends : (s t : State) (moment : ℕ) (draws : Draws) (r : Result (Unit {0}) Memory) (before after : Added) →
-    (count : ℕ) × Done (ticks count (at_moment s moment)) t before after → OnOk r (first_due t ≡ None) →
+    (count : ℕ) × Done (ticks count (all_late (at_moment s moment))) t before after → OnOk r (first_due t ≡ None) →
     Extends s t (tick_event moment draws r before.entries after.entries)
 tick_extends s t moment draws r before after some all =
     extends s t (tick_event moment draws r before.entries after.entries) (tick_steps s t moment draws r before after some all)
 
 receive_steps : (s t : State) (moment : ℕ) (from : AddressParts) (datagram : List ℕ) (draws : Draws) (r : Result (Unit {0}) Stop) (before after : Added) →
-    OnOk r (Done (received from draws (admission (at_moment s moment) datagram)) t before after) → IfErr r (λ stop. IsStop from draws (admission (at_moment s moment) datagram) stop) →
-    IfErr r (λ stop. Done (stopped (at_moment s moment) from draws (admission (at_moment s moment) datagram) stop) t before after) →
+    OnOk r (Done (received from draws (admission (at_moment s moment) datagram)) t before after) →
+    IfErr r (StopsSo (λ d. Done d t before after) (at_moment s moment) from draws (admission (at_moment s moment) datagram)) →
     Step s (receive_event from moment datagram draws r before.entries after.entries) t
-receive_steps s t moment from datagram draws (Ok done) before after ok stop stopped = alone _ t before after ok
-receive_steps s t moment from datagram draws (Err halt) before after ok stop stopped = (stop, alone _ t before after stopped)
+receive_steps s t moment from datagram draws (Ok done) before after ok stop = alone _ t before after ok
+receive_steps s t moment from datagram draws (Err halt) before after ok stop = record {
+  acks = stop.acks;
+  taken = stop.taken;
+  not_taken = stop.not_taken;
+  left = alone _ t before after stop.left;
+}
 
 pub receive_extends : (s t : State) (moment : ℕ) (from : AddressParts) (datagram : List ℕ) (draws : Draws) (r : Result (Unit {0}) Stop) (before after : Added) →
     IsTaken (at_moment s moment) from draws (admission (at_moment s moment) datagram) r t before after → Extends s t (receive_event from moment datagram draws r before.entries after.entries)
 receive_extends s t moment from datagram draws r before after taken =
-    extends s t (receive_event from moment datagram draws r before.entries after.entries) (receive_steps s t moment from datagram draws r before after taken.ok taken.stop taken.stopped)
+    extends s t (receive_event from moment datagram draws r before.entries after.entries) (receive_steps s t moment from datagram draws r before after taken.ok taken.stop)

@@ -7,6 +7,8 @@ mod Taking
 mod Near
 mod NamedContexts
 mod DueItems
+mod Weights
 mod Falling
 mod Endings
 mod Walking
+mod Acking

@@ -23,7 +23,7 @@ use Rattle.endpoint_model.specs.Added.{Added}
 use Rattle.endpoint_model.specs.State.{State, Done, nothing, with_session}
 use Rattle.endpoint_model.specs.Admission.{Admission, Rejected, Admitted, admission, admitted, admitted_packet, opened_datagram, counted_at, counted_by, timed_at, taken_packet, mode_at, mode_by, has_mode, fault_number, packet_in}
 use Rattle.endpoint_model.specs.Effects.{discarded}
-use Rattle.endpoint_model.specs.Log.{IsTaken, IsStop, stopped, not_taken}
+use Rattle.endpoint_model.specs.Log.{IsTaken, StopsSo, not_taken}
 
 -- ---- one admission for another
 
@@ -42,14 +42,12 @@ taken_in s t from draws datagram r new before after is taken =
 pub refused_so : (s t : State) (from : AddressParts) (draws : Draws) (cause : Cause) (r : Result (Unit {0}) Stopped) (new : State) (before after : Added) →
     OnOk r (Done (discarded t 0 cause) new before after) → IfErr r (λ stop. (stop ≡ not_taken) × Done (nothing s) new before after) → (0 < before.free → IsOk r) →
     IsTaken s from draws (Rejected t cause) r new before after
-refused_so s t from draws cause (Ok done) new before after ok stop enough = record { ok = ok; stop = tt; stopped = tt; enough = λ refused room. enough (omega (arith, room)) }
+refused_so s t from draws cause (Ok done) new before after ok stop enough = record { ok = ok; stop = tt; enough = λ refused room. enough (omega (arith, room)) }
 refused_so s t from draws cause (Err halt) new before after ok stop enough =
-    let P : Stopped → Type 0 = λ x. IsStop from draws (Rejected t cause) x in
-    let Q : Stopped → Type 0 = λ x. Done (stopped s from draws (Rejected t cause) x) new before after in
+    let P : Stopped → Type 0 = λ x. StopsSo (λ d. Done d new before after) s from draws (Rejected t cause) x in
     record {
       ok = tt;
-      stop = subst P (sym stop.0) (record { taken = λ clash. absurd (cc); not_taken = λ is. (tt, refl) });
-      stopped = subst Q (sym stop.0) stop.1;
+      stop = subst P (sym stop.0) (record { acks = 0; taken = λ clash. absurd (cc); not_taken = λ is. (tt, refl); left = stop.1 });
       enough = λ refused room. enough (omega (arith, room));
     }
 

@@ -1,44 +1,73 @@
 -- The chunks of a datagram that was taken, and the test after them.
-use Rattle.std.proofs.Common.{ℕ, ◌≡◌, inr, List, [], ◌∷◌, length, take, true, false, Result, Ok, Err, OnOk, IfErr, refl, sym, ap, ◌∙◌, subst, arith}
-use Rattle.std.proofs.lemmas.List.{append-nil}
+use Rattle.std.proofs.Common.{ℕ, ◌≡◌, ◌<◌, ◌⊎◌, inl, inr, List, [], ◌∷◌, length, take, Bool, true, false, if◌then◌else◌, Result, Ok, Err, OnOk, IfErr, refl, sym, ap, ◌∙◌, subst, arith}
 use Rattle.rtmfp_forms.specs.Address.{AddressParts}
 use Rattle.rtmfp_packet.specs.Walk.{Placed}
 use Rattle.rtmfp_packet.specs.Whole.{Whole}
 use Rattle.endpoint_model.specs.declared.answers.Stopped.{Stopped}
 use Rattle.endpoint_model.specs.declared.config.Draws.{Draws}
 use Rattle.endpoint_model.specs.declared.place.Place.{Place}
+use Rattle.endpoint_model.specs.declared.place.Place.TheVariants.{Startup, Attempt, Session}
 use Rattle.endpoint_model.specs.Added.{Added}
-use Rattle.endpoint_model.specs.State.{State, Did, Done, nothing, then_do}
+use Rattle.endpoint_model.specs.State.{State, Did, Done, nothing, then_do, after_entries}
 use Rattle.endpoint_model.specs.Admission.{confirming, counted_at, timed_at, taken_packet}
 use Rattle.endpoint_model.specs.Keying.{chunks_of}
-use Rattle.endpoint_model.specs.InSessions.{asks_at, tested}
-use Rattle.endpoint_model.specs.Effects.{chunks_did, outset, received}
-use Rattle.endpoint_model.specs.Log.{IsStop}
-use Rattle.endpoint_model.proofs.Steps.{joined, then_then}
-use Rattle.endpoint.specs.Walks.{walked_and_tested, IsStopIn}
-
--- a thing after which nothing is done
-pub then_still : (d : Did) (t u : State) (before between after : Added) → Done d t before between → Done (nothing t) u between after → Done d u before after
-then_still d t u before between after done still = record {
-  state = still.state ∙ done.state;
-  entries = still.entries ∙ append-nil between.entries ∙ done.entries;
-  free = omega (arith, done.free, still.free);
-  room = still.room ∙ done.room;
-}
+use Rattle.endpoint_model.specs.InSessions.{tested}
+use Rattle.endpoint_model.specs.FlowChunks.{acked, unowed}
+use Rattle.endpoint_model.specs.Effects.{chunks_did, outset, most_acks, received, part_received}
+use Rattle.endpoint_model.specs.Log.{StopsSo, WantsMore}
+use Rattle.endpoint_model.proofs.Steps.{joined, done_nothing, then_nothing, then_then}
+use Rattle.endpoint.specs.Walks.{walked_and_tested, walked_and_acked, StopsAcking, StopsIn}
 
 take_all : {A : Type 0} (xs : List A) → take (length xs) xs ≡ xs
 take_all [] = refl
 take_all (x ∷ xs) = ap (λ ys. x ∷ ys) (take_all xs)
 
--- all chunks were gone through, and no memory was found for the test
-pub whole_stands : (place : Place) (from : AddressParts) (draws : Draws) (s t u : State) (cs : List Placed) (count : ℕ) (before between after : Added) → count ≡ length cs →
-    Done (chunks_did place from draws outset s cs) t before between → Done (nothing t) u between after → Done (chunks_did place from draws outset s (take count cs)) u before after
-whole_stands place from draws s t u cs count before between after is done still =
-    subst (λ (xs : List Placed). Done (chunks_did place from draws outset s xs) u before after) (sym (ap (λ (n : ℕ). take n cs) is ∙ take_all cs)) (then_still _ t u before between after done still)
+-- four things in a row, by the first and what comes after it
+in_a_row : (d : Did) (f g h : State → Did) → then_do (then_do (then_do d f) g) h ≡ then_do d (λ t. then_do (f t) (λ u. then_do (g u) h))
+in_a_row d f g h = then_then (then_do d f) g h ∙ then_then d f (λ u. then_do (g u) h)
 
-pub stops_for_test : (place : Place) (from : AddressParts) (draws : Draws) (s t : State) (cs : List Placed) (count : ℕ) (before between : Added) → count ≡ length cs →
-    Done (chunks_did place from draws outset s cs) t before between → asks_at t place from ≡ true → IsStopIn place from draws s cs count
-stops_for_test place from draws s t cs count before between is done asked = inr (is, ap (λ (x : State). asks_at x place from) (sym done.state) ∙ asked)
+-- no packet of acks is no thing
+no_acks : (t : State) (place : Place) → acked 0 t place ≡ nothing t
+no_acks t Startup = refl
+no_acks t (Attempt near) = refl
+no_acks t (Session near) = refl
+
+-- ---- where no memory was found
+
+module _ (place : Place) (from : AddressParts) (draws : Draws) (s : State) (cs : List Placed) where
+  -- at a chunk
+  pub stops_at_chunk : (t u : State) (before between after : Added) (stop : Stopped) → stop.taken ≡ true → stop.chunks < length cs → Done (chunks_did place from draws outset s (take stop.chunks cs)) t before between →
+      Done (nothing (unowed t place)) u between after → StopsIn place from draws s cs u before after stop
+  stops_at_chunk t u before between after stop taken early done still =
+      let first : Did = chunks_did place from draws outset s (take stop.chunks cs) in
+      record {
+        acks = 0;
+        taken = taken;
+        at = inl (early, refl);
+        left = joined (walked_and_acked place from draws s (take stop.chunks cs) 0) (λ x. nothing (unowed x place)) t u before between after
+            (subst (λ (d : Did). Done d t before between) (sym (then_none first)) done) still;
+      }
+    where
+      then_none : (d : Did) → then_do d (λ x. acked 0 x place) ≡ d
+      then_none d = ap (after_entries d.entries) (no_acks d.state place) ∙ then_nothing d
+
+  -- after all of them
+  pub stops_after : (t u v : State) (before between sent after : Added) (count : ℕ) → count ≡ length cs → Done (chunks_did place from draws outset s cs) t before between →
+      StopsAcking place from t u between sent → Done (nothing (unowed u place)) v sent after → StopsIn place from draws s cs v before after (record { taken = true; chunks = count })
+  stops_after t u v before between sent after count is done acking still =
+      let walked : Done (walked_and_acked place from draws s cs acking.acks) u before sent =
+      joined (chunks_did place from draws outset s cs) (λ x. acked acking.acks x place) t u before between sent done acking.done in
+      record {
+        acks = acking.acks;
+        taken = refl;
+        at = inr (is, subst (WantsMore from place) walked.state acking.wants);
+        left = subst (λ (xs : List Placed). Done (then_do (walked_and_acked place from draws s xs acking.acks) (λ x. nothing (unowed x place))) v before after) (sym (ap (λ (n : ℕ). take n cs) is ∙ take_all cs))
+            (joined (walked_and_acked place from draws s cs acking.acks) (λ x. nothing (unowed x place)) u v before sent after walked still);
+      }
+
+-- what is done after a thing to the state alone
+pub then_left : (t u : State) (out : Added) → u ≡ t → Done (nothing t) u out out
+then_left t u out same = subst (λ (x : State). Done (nothing t) x out out) (sym same) (done_nothing t out)
 
 -- ---- a packet that was taken
 
@@ -50,16 +79,26 @@ module _ (s : State) (place : Place) (part : List ℕ) (from : AddressParts) (dr
       Done (walked_and_tested place from draws t (chunks_of packet)) u between after → Done (received from draws (taken_packet s place part packet)) u before after
   received_so t u before between after enters goes =
       let chunks : State → Did = λ x. chunks_did place from draws outset x (chunks_of packet) in
-      let P : Did → Type 0 = λ d. Done d u before after in
-      subst P (sym (then_then (confirming entered place) chunks (λ x. tested x place from draws)))
-      (joined (confirming entered place) (λ x. then_do (chunks x) (λ y. tested y place from draws)) t u before between after enters goes)
+      subst (λ (d : Did). Done d u before after) (sym (in_a_row (confirming entered place) chunks (λ x. acked most_acks x place) (λ x. tested x place from draws)))
+      (joined (confirming entered place) (λ x. walked_and_tested place from draws x (chunks_of packet)) t u before between after enters goes)
 
-  pub stops_so : (t : State) (stop : Stopped) (before between : Added) → Done (confirming entered place) t before between → stop.taken ≡ true →
-      IsStopIn place from draws t (chunks_of packet) stop.chunks → IsStop from draws (taken_packet s place part packet) stop
-  stops_so t stop before between enters taken at = record {
-    taken = λ _. subst (λ (x : State). IsStopIn place from draws x (chunks_of packet) stop.chunks) enters.state at;
-    not_taken = λ clash. let both : true ≡ false = sym taken ∙ clash in absurd (cc);
-  }
+  pub stops_so : (t u : State) (stop : Stopped) (before between after : Added) → Done (confirming entered place) t before between → StopsIn place from draws t (chunks_of packet) u between after stop →
+      StopsSo (λ d. Done d u before after) s from draws (taken_packet s place part packet) stop
+  stops_so t u stop before between after enters stops =
+      let some : List Placed = take stop.chunks (chunks_of packet) in
+      let chunks : State → Did = λ x. chunks_did place from draws outset x some in
+      let acks : State → Did = λ x. acked stops.acks x place in
+      let none : State → Did = λ x. nothing (unowed x place) in
+      let left : Done (then_do (chunks t) (λ x. then_do (acks x) none)) u between after = subst (λ (d : Did). Done d u between after) (then_then (chunks t) acks none) stops.left in
+      record {
+        acks = stops.acks;
+        taken = λ _. subst (λ (x : State). ((stop.chunks < length (chunks_of packet)) × (stops.acks ≡ 0)) ⊎
+            ((stop.chunks ≡ length (chunks_of packet)) × WantsMore from place (walked_and_acked place from draws x (chunks_of packet) stops.acks).state)) enters.state stops.at;
+        not_taken = λ clash. let both : true ≡ false = sym stops.taken ∙ clash in absurd (cc);
+        left = subst (λ (b : Bool). Done (if b then part_received from draws (taken_packet s place part packet) stop.chunks stops.acks else nothing s) u before after) (sym stops.taken)
+            (subst (λ (d : Did). Done d u before after) (sym (in_a_row (confirming entered place) chunks acks none))
+            (joined (confirming entered place) (λ x. then_do (chunks x) (λ y. then_do (acks y) none)) t u before between after enters left));
+      }
 
   pub received_ok : (r : Result (Unit {0}) Stopped) (cs : List Placed) (t u : State) (before between after : Added) → cs ≡ chunks_of packet → Done (confirming entered place) t before between →
       OnOk r (Done (walked_and_tested place from draws t cs) u between after) → OnOk r (Done (received from draws (taken_packet s place part packet)) u before after)
@@ -67,8 +106,8 @@ module _ (s : State) (place : Place) (part : List ℕ) (from : AddressParts) (dr
       received_so t u before between after enters (subst (λ (xs : List Placed). Done (walked_and_tested place from draws t xs) u between after) are goes)
   received_ok (Err stop) cs t u before between after are enters goes = tt
 
-  pub stops_if : (r : Result (Unit {0}) Stopped) (cs : List Placed) (t : State) (before between : Added) → cs ≡ chunks_of packet → Done (confirming entered place) t before between →
-      IfErr r (λ (stop : Stopped). (stop.taken ≡ true) × IsStopIn place from draws t cs stop.chunks) → IfErr r (λ (stop : Stopped). IsStop from draws (taken_packet s place part packet) stop)
-  stops_if (Ok done) cs t before between are enters stops = tt
-  stops_if (Err stop) cs t before between are enters stops =
-      stops_so t stop before between enters stops.0 (subst (λ (xs : List Placed). IsStopIn place from draws t xs stop.chunks) are stops.1)
+  pub stops_if : (r : Result (Unit {0}) Stopped) (cs : List Placed) (t u : State) (before between after : Added) → cs ≡ chunks_of packet → Done (confirming entered place) t before between →
+      IfErr r (StopsIn place from draws t cs u between after) → IfErr r (StopsSo (λ d. Done d u before after) s from draws (taken_packet s place part packet))
+  stops_if (Ok done) cs t u before between after are enters stops = tt
+  stops_if (Err stop) cs t u before between after are enters stops =
+      stops_so t u stop before between after enters (subst (λ (xs : List Placed). StopsIn place from draws t xs u between after stop) are stops)

@@ -1,14 +1,22 @@
 -- The first thing that is due, as it is handed on, and what is done of it.
-use Rattle.std.specs.Prelude.{ℕ, Option, Some, None}
+use Rattle.std.specs.Prelude.{ℕ, Option, Some, None, IfSome}
+use Rattle.std.specs.FinMap.{get}
 use Rattle.glare_core.specs.declared.facts.Why.{Why}
 use Rattle.startup.specs.declared.answer.Due.{Due}
 use Rattle.startup.specs.Due.{due_sends, after_due}
 use Rattle.session_core.specs.declared.stage.SessionDue.{SessionDue}
-use Rattle.session_core.specs.Closing.{first_due as first_due_in}
+use Rattle.session_flows.specs.Timing.{overdue_done}
+use Rattle.session_table.specs.FlowTimes.{DataFalls, OverdueWaits}
 use Rattle.endpoint_model.specs.declared.row.Row.{Row}
+use Rattle.endpoint_model.specs.declared.row_due.RowDue.{RowDue}
+use Rattle.endpoint_model.specs.declared.row_due.RowDue.TheVariants.{Abandon, Data, Keepalive}
+use Rattle.endpoint_model.specs.declared.row_due.RowDue.TheVariants as row
 use Rattle.endpoint_model.specs.State.{State, Did, nothing, with_startup}
-use Rattle.endpoint_model.specs.InSessions.{due_row, row_due_done, dropped, kept_alive_by}
+use Rattle.endpoint_model.specs.InSessions.{session_due_done, dropped, kept_alive_by}
+use Rattle.endpoint_model.specs.OnFlows.{flows_done}
+use Rattle.endpoint_model.specs.FlowTimes.{due_row, row_due}
 use Rattle.endpoint_model.specs.Effects.{due_done}
+use Rattle.end_state.specs.Steps.{data_sent_by}
 use Rattle.endpoint.specs.declared.ticking.DueItem.{DueItem}
 use Rattle.endpoint.specs.declared.ticking.DueItem.TheVariants.{Attempt, Session}
 
@@ -21,21 +29,38 @@ abbrev pub kept_alive_in : State → ℕ → Option Row → Did
 kept_alive_in s near None = nothing s
 kept_alive_in s near (Some row) = kept_alive_by s near row
 
+-- its end, the end of its closing, or its close again
+abbrev pub end_due_by : State → ℕ → SessionDue → Option Row → Did
+end_due_by s near due None = nothing s
+end_due_by s near due (Some row) = session_due_done s near row due
+
+-- a message is sent no longer
+abbrev pub abandoned_by : State → ℕ → ℕ → ℕ → Option Row → Did
+abandoned_by s near flow seq None = nothing s
+abandoned_by s near flow seq (Some row) =
+    flows_done s near row (overdue_done row.flows (Some (flow, seq)))
+
 -- ---- what is due
 
 -- what is done of a session that is found due so
-abbrev pub row_due_by : State → ℕ → Option SessionDue → Option Row → Did
-row_due_by s near due None = nothing s
-row_due_by s near due (Some row) = row_due_done s near row due
+abbrev pub row_due_by : State → ℕ → RowDue → Option Row → Did
+row_due_by s near (row.Session due) o = end_due_by s near due o
+row_due_by s near (Abandon flow seq) o = abandoned_by s near flow seq o
+row_due_by s near Data o = data_sent_by s near o
+row_due_by s near Keepalive o = kept_alive_in s near o
 
 -- what is done of an attempt
 abbrev pub attempt_done : State → Option Due → Did
 attempt_done s None = nothing s
 attempt_done s (Some due) = due_done (with_startup s (after_due s.startup s.moment)) due
 
+abbrev pub item_under : ℕ → Option RowDue → Option DueItem
+item_under near None = None
+item_under near (Some due) = Some (Session near due)
+
 abbrev pub session_item : ℕ → Option (ℕ × Row) → Option DueItem
 session_item moment None = None
-session_item moment (Some e) = Some (Session e.0 (first_due_in e.1.session moment))
+session_item moment (Some e) = item_under e.0 (row_due moment e.1)
 
 abbrev pub attempt_or : Option ℕ → Option DueItem → Option DueItem
 attempt_or (Some sends) item = Some (Attempt sends)
@@ -44,3 +69,15 @@ attempt_or None item = item
 -- the first thing that is due
 abbrev pub due_item : State → Option DueItem
 due_item s = attempt_or (due_sends s.startup s.moment) (session_item s.moment (due_row s))
+
+-- ---- that less is left to do of a session's flows, which their rows don't tell by themselves
+
+abbrev pub RowFalls : RowDue → ℕ → Option Row → Type 0
+RowFalls (row.Session due) moment o = Unit {0}
+RowFalls (Abandon flow seq) moment o = IfSome o (λ r. OverdueWaits moment r)
+RowFalls Data moment o = IfSome o (λ r. DataFalls moment r)
+RowFalls Keepalive moment o = Unit {0}
+
+abbrev pub ItemFalls : DueItem → State → Type 0
+ItemFalls (Attempt sends) s = Unit {0}
+ItemFalls (Session near due) s = RowFalls due s.moment (get s.sessions near)

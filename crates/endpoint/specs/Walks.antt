@@ -1,19 +1,51 @@
--- The chunks of a datagram that was taken, and the test after them.
-use Rattle.std.specs.Prelude.{ℕ, ◌<◌, ◌≡◌, ◌⊎◌, true, List, length}
+-- The chunks of a datagram that was taken, the acks that they owe, and the test after them.
+use Rattle.std.specs.Prelude.{ℕ, ◌<◌, ◌≡◌, ◌⊎◌, true, List, length, take}
 use Rattle.rtmfp_forms.specs.Address.{AddressParts}
 use Rattle.rtmfp_packet.specs.Walk.{Placed}
 use Rattle.endpoint_model.specs.declared.config.Draws.{Draws}
 use Rattle.endpoint_model.specs.declared.place.Place.{Place}
-use Rattle.endpoint_model.specs.State.{State, Did, then_do}
-use Rattle.endpoint_model.specs.InSessions.{asks_at, tested}
-use Rattle.endpoint_model.specs.Effects.{chunks_did, outset}
+use Rattle.endpoint_model.specs.declared.answers.Stopped.{Stopped as Stop}
+use Rattle.endpoint_model.specs.Added.{Added}
+use Rattle.endpoint_model.specs.State.{State, Did, Done, nothing, then_do}
+use Rattle.endpoint_model.specs.InSessions.{tested}
+use Rattle.endpoint_model.specs.FlowChunks.{acked, owes_at, unowed}
+use Rattle.endpoint_model.specs.Effects.{chunks_did, outset, most_acks}
+use Rattle.endpoint_model.specs.Log.{WantsMore}
+
+abbrev pub acked_and_tested : Place → AddressParts → Draws → State → Did
+acked_and_tested place from draws s =
+    then_do (acked most_acks s place) (λ t. tested t place from draws)
 
 abbrev pub walked_and_tested : Place → AddressParts → Draws → State → List Placed → Did
 walked_and_tested place from draws s cs =
-    then_do (chunks_did place from draws outset s cs) (λ t. tested t place from draws)
+    then_do (chunks_did place from draws outset s cs) (acked_and_tested place from draws)
 
--- No memory was found at a chunk, or after all of them for the test.
-abbrev pub IsStopIn : Place → AddressParts → Draws → State → List Placed → ℕ → Type 0
-IsStopIn place from draws s cs count =
-    (count < length cs) ⊎ ((count ≡ length cs) ×
-    (asks_at (chunks_did place from draws outset s cs).state place from ≡ true))
+-- So many packets of acks were sent, and for the next one, which is owed, no memory was found.
+pub record StopsOwing (place : Place) (s new : State) (before after : Added) : Type 0 where
+  pub acks : ℕ
+  pub done : Done (acked acks s place) new before after
+  pub owes : owes_at new place ≡ true
+
+-- Or none was found for the test after them.
+pub record StopsAcking (place : Place) (from : AddressParts) (s new : State)
+    (before after : Added) : Type 0 where
+  pub acks : ℕ
+  pub done : Done (acked acks s place) new before after
+  pub wants : WantsMore from place new
+
+-- the chunks, and so many packets of the acks that they owe
+abbrev pub walked_and_acked : Place → AddressParts → Draws → State → List Placed → ℕ → Did
+walked_and_acked place from draws s cs acks =
+    then_do (chunks_did place from draws outset s cs) (λ t. acked acks t place)
+
+-- No memory was found at a chunk, or after all of them and so many packets of acks. Those that are
+-- owed yet aren't sent any more.
+pub record StopsIn (place : Place) (from : AddressParts) (draws : Draws) (s : State)
+    (cs : List Placed) (new : State) (before after : Added) (stop : Stop) : Type 0 where
+  pub acks : ℕ
+  pub taken : stop.taken ≡ true
+  pub at : ((stop.chunks < length cs) × (acks ≡ 0)) ⊎
+      ((stop.chunks ≡ length cs) ×
+      WantsMore from place (walked_and_acked place from draws s cs acks).state)
+  pub left : Done (then_do (walked_and_acked place from draws s (take stop.chunks cs) acks)
+      (λ t. nothing (unowed t place))) new before after

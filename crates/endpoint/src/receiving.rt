@@ -3,32 +3,36 @@
 ghost use Rattle.std.specs.Prelude.{◌≡◌, ◌+◌, ◌<◌, ◌≤◌, ◌^◌, IfErr, IfOk, IsOk, OnErr, OnOk, drop};
 ghost use Rattle.std.specs.Prelude.{false, length, take, true};
 ghost use Rattle.std.specs.List.{AllByRecursion};
-ghost use Rattle.rtmfp_packet.specs.Chunks.{left, shown};
+ghost use Rattle.rtmfp_packet.specs.Chunks.{left};
+ghost use Rattle.std.specs.FinMap.{get};
+ghost use Rattle.endpoint_model.specs.declared.place.Place.TheVariants as Place;
 ghost use Rattle.endpoint_model.specs.Admission.{admission, admitted_packet, confirming, confirms};
 ghost use Rattle.endpoint_model.specs.Admission.{counted_at, packet_in, taken_packet, timed_at};
-ghost use Rattle.endpoint_model.specs.Effects.{AddsDiscards, AreQuiet, chunks_did, discarded};
-ghost use Rattle.endpoint_model.specs.Effects.{discards, discards_among, outset, walked, received};
-ghost use Rattle.endpoint_model.specs.InSessions.{asks_at};
+ghost use Rattle.endpoint_model.specs.Effects.{AddsDiscards, AreQuiet, EndsQuietly, chunks_did};
+ghost use Rattle.endpoint_model.specs.Effects.{discarded, discards, discards_among, most_acks};
+ghost use Rattle.endpoint_model.specs.Effects.{outset, received};
+ghost use Rattle.endpoint_model.specs.FlowChunks.{acked, acked_by, acked_in, owes_at, owes_by};
+ghost use Rattle.endpoint_model.specs.FlowChunks.{unowed};
 ghost use Rattle.endpoint_model.specs.Keying.{AreNear};
-ghost use Rattle.endpoint_model.specs.Log.{Extends, IsStop, IsTaken, not_taken, receive_event};
-ghost use Rattle.endpoint_model.specs.Log.{stopped};
+ghost use Rattle.endpoint_model.specs.Log.{Extends, IsTaken, StopsSo, not_taken, receive_event};
 ghost use Rattle.endpoint_model.specs.State.{Done, at_moment, nothing};
-ghost use Rattle.endpoint.specs.Walks.{IsStopIn, walked_and_tested};
+ghost use Rattle.endpoint.specs.Walks.{StopsAcking, StopsIn, StopsOwing, acked_and_tested};
+ghost use Rattle.endpoint.specs.Walks.{walked_and_tested};
 
 use crate::admission::{fault_number, has_mode, mode_at, open_datagram};
 use crate::endpoint::Endpoint;
 use end_chunks::{take_chunk, test};
-use end_state::{EndState, Outbox, PLAIN_AT};
+use end_state::{EndState, Outbox, PLAIN_AT, blank};
 use endpoint_model::{Draws, Entry, Place, Stopped, Walk};
 use packet_scramble::SEALED_AT;
-use rtmfp_chunks::kinds::IIKEYING;
+use rtmfp_data_chunks::DataCursor;
 use rtmfp_forms::Address;
-use rtmfp_packet::{Chunks, Packet, PacketHead, RawChunk, read_packet};
+use rtmfp_packet::{Chunks, Packet, PacketHead, read_packet};
 use startup::Cause;
 use std::alloc::AllocError;
 
-/// Before the first chunk.
-const OUTSET: Walk = Walk { keyed: false };
+/// The most packets of acks that a datagram's chunks can owe, one for each flow (own).
+const MOST_ACKS: u32 = 256;
 
 /// No memory was found before the datagram was taken.
 const NOT_TAKEN: Stopped = Stopped {
@@ -172,14 +176,12 @@ fn take_packet(
     ensures ok { OnOk result
         (Done (received from.now draws.now (taken_packet end.old place part.now packet.now))
         end.new out.old out.new) }
-    ensures stop { IfErr result (λ stop. IsStop from.now draws.now
-        (taken_packet end.old place part.now packet.now) stop) }
-    ensures stopped { IfErr result
-        (λ stop. Done (stopped end.old from.now draws.now
-        (taken_packet end.old place part.now packet.now) stop) end.new out.old out.new) }
-    ensures enough { AddsDiscards from.now (taken_packet end.old place part.now packet.now) →
-        discards from.now (taken_packet end.old place part.now packet.now) ≤ out.old.free →
-        IsOk result }
+    ensures stop { IfErr result (StopsSo (λ d. Done d end.new out.old out.new) end.old from.now
+        draws.now (taken_packet end.old place part.now packet.now)) }
+    ensures enough { AddsDiscards from.now draws.now
+        (taken_packet end.old place part.now packet.now) →
+        discards from.now draws.now (taken_packet end.old place part.now packet.now)
+        ≤ out.old.free → IsOk result }
 {
     match enter(end, place, part, packet.head(), out) {
         Ok(()) => go_through(end, place, from, draws, packet.chunks(), out),
@@ -224,7 +226,8 @@ fn enter(
     Ok(())
 }
 
-/// Goes through the chunks of a datagram, and tests the address that it came from then.
+/// Goes through the chunks of a datagram, sends the acks that they owe, and tests the address that
+/// the datagram came from then.
 fn go_through(
     end: &mut EndState,
     place: Place,
@@ -238,26 +241,99 @@ fn go_through(
     ensures ok { OnOk result
         (Done (walked_and_tested place from.now draws.now end.old (left chunks.entry)) end.new
         out.old out.new) }
-    ensures stop { IfErr result (λ stop. (stop.taken ≡ true) × IsStopIn place from.now draws.now
-        end.old (left chunks.entry) stop.chunks) }
-    ensures stopped { IfErr result
-        (λ stop. Done (chunks_did place from.now draws.now outset end.old
-        (take stop.chunks (left chunks.entry))) end.new out.old out.new) }
-    ensures enough { AreQuiet end.old place from.now outset (left chunks.entry) →
-        asks_at end.old place from.now ≡ false →
-        discards_among end.old place from.now outset (left chunks.entry) ≤ out.old.free →
-        IsOk result }
+    ensures stop { IfErr result (StopsIn place from.now draws.now end.old (left chunks.entry)
+        end.new out.old out.new) }
+    ensures enough { AreQuiet place from.now draws.now outset end.old (left chunks.entry) →
+        EndsQuietly from.now place
+        (chunks_did place from.now draws.now outset end.old (left chunks.entry)).state →
+        discards_among place from.now draws.now outset end.old (left chunks.entry)
+        ≤ out.old.free → IsOk result }
 {
     let count = match walk(end, place, from, draws, chunks, out) {
         Ok(count) => count,
-        Err(stop) => return Err(stop),
+        Err(stop) => {
+            forget_acks(end, place);
+            return Err(stop);
+        }
     };
-    match test(end, place, from, draws, out) {
+    match send_acks_and_test(end, place, from, draws, out) {
         Ok(()) => Ok(()),
-        Err(_) => Err(Stopped {
-            taken: true,
-            chunks: count,
-        }),
+        Err(_) => {
+            forget_acks(end, place);
+            Err(Stopped {
+                taken: true,
+                chunks: count,
+            })
+        }
+    }
+}
+
+/// Sends the acks that the chunks of a datagram at a place owe, and tests the address that it came
+/// from then.
+fn send_acks_and_test(
+    end: &mut EndState,
+    place: Place,
+    from: &Address,
+    draws: &Draws,
+    out: &mut Outbox,
+) -> Result<(), AllocError>
+    ensures ok { OnOk result (Done (acked_and_tested place from.now draws.now end.old) end.new
+        out.old out.new) }
+    ensures err { OnErr result (StopsAcking place from.now end.old end.new out.old out.new) }
+    ensures enough { EndsQuietly from.now place end.old → IsOk result }
+{
+    send_acks(end, place, out)?;
+    test(end, place, from, draws, out)
+}
+
+/// Sends the acks that the chunks of a datagram at a place owe.
+fn send_acks(end: &mut EndState, place: Place, out: &mut Outbox) -> Result<(), AllocError>
+    ensures ok { OnOk result (Done (acked most_acks end.old place) end.new out.old out.new) }
+    ensures err { OnErr result (StopsOwing place end.old end.new out.old out.new) }
+    ensures enough { owes_at end.old place ≡ false → IsOk result }
+{
+    match place {
+        Place::Startup => Ok(()),
+        Place::Attempt(_) => Ok(()),
+        Place::Session(near) => send_acks_in(end, near, out),
+    }
+}
+
+/// Sends the acks that a session owes, packet after packet.
+fn send_acks_in(end: &mut EndState, near: u32, out: &mut Outbox) -> Result<(), AllocError>
+    ensures ok { OnOk result (Done (acked_in most_acks end.old near) end.new out.old out.new) }
+    ensures err { OnErr result (StopsOwing (Place.Session near) end.old end.new out.old out.new) }
+    ensures enough { owes_by (get end.old.sessions near) ≡ false → IsOk result }
+{
+    for _ in 0..MOST_ACKS {
+        if !end.owes_acks(near) {
+            return Ok(());
+        }
+        send_acks_once(end, near, out)?;
+    }
+    Ok(())
+}
+
+/// Sends one packet of the acks that a session owes.
+fn send_acks_once(end: &mut EndState, near: u32, out: &mut Outbox) -> Result<(), AllocError>
+    ensures ok { OnOk result (Done (acked_by end.old near (get end.old.sessions near)) end.new
+        out.old out.new) }
+    ensures err { OnErr result (Done (nothing end.old) end.new out.old out.new) }
+{
+    let blank = blank(end.alloc)?;
+    out.make_room(1)?;
+    end.send_acks(blank, near, out);
+    Ok(())
+}
+
+/// The acks that are owed at a place aren't sent any more.
+fn forget_acks(end: &mut EndState, place: Place)
+    ensures { end.new ≡ unowed end.old place }
+{
+    match place {
+        Place::Startup => {}
+        Place::Attempt(_) => {}
+        Place::Session(near) => end.forget_acks(near),
     }
 }
 
@@ -281,17 +357,17 @@ fn walk(
     ensures stopped { IfErr result
         (λ stop. Done (chunks_did place from.now draws.now outset end.old
         (take stop.chunks (left chunks.entry))) end.new out.old out.new) }
-    ensures enough { AreQuiet end.old place from.now outset (left chunks.entry) →
-        discards_among end.old place from.now outset (left chunks.entry) ≤ out.old.free →
-        IsOk result }
-    ensures quiet { AreQuiet end.old place from.now outset (left chunks.entry) →
-        discards_among end.old place from.now outset (left chunks.entry) ≤ out.old.free →
-        OnOk result (end.new ≡ end.old) }
+    ensures enough { AreQuiet place from.now draws.now outset end.old (left chunks.entry) →
+        discards_among place from.now draws.now outset end.old (left chunks.entry)
+        ≤ out.old.free → IsOk result }
 {
     let mut gone = 0u32;
-    let mut walk = OUTSET;
+    let mut walk = Walk {
+        keyed: false,
+        cursor: DataCursor::new(),
+    };
     while let Some(chunk) = chunks.next() {
-        match take_chunk(end, place, from, draws, walk, &chunk, out) {
+        match take_chunk(end, place, from, draws, &mut walk, &chunk, out) {
             Ok(()) => {}
             Err(_) => {
                 return Err(Stopped {
@@ -300,7 +376,6 @@ fn walk(
                 });
             }
         }
-        walk = walked(walk, &chunk);
         gone += 1;
     }
     Ok(gone)
@@ -314,13 +389,4 @@ fn behind(bytes: &[u8], at: usize) -> &[u8]
 {
     let (_, rest) = bytes.split_at(at);
     rest
-}
-
-/// What the chunks so far were, once this one was gone through.
-fn walked(walk: Walk, chunk: &RawChunk<'_>) -> Walk
-    ensures { result ≡ walked walk (shown chunk.now) }
-{
-    Walk {
-        keyed: walk.keyed || chunk.kind == IIKEYING,
-    }
 }

@@ -3,16 +3,16 @@
 ghost use Rattle.std.specs.Prelude.{◌≡◌, ℕ, IsSome, None, OnErr, OnOk, Some};
 ghost use Rattle.startup.specs.Due.{due, due_sends};
 ghost use Rattle.endpoint_model.specs.Effects.{first_due, tick_once, ticks};
+ghost use Rattle.endpoint_model.specs.FlowTimes.{all_late};
 ghost use Rattle.endpoint_model.specs.Log.{Extends, tick_event};
 ghost use Rattle.endpoint_model.specs.State.{Done, at_moment, nothing};
-ghost use Rattle.endpoint.specs.DueItems.{attempt_done, due_item};
+ghost use Rattle.endpoint.specs.DueItems.{ItemFalls, attempt_done, due_item};
 
 use crate::endpoint::Endpoint;
 use crate::session_ticking::{due_session, session_due};
 use end_state::{EndState, Outbox, blanks};
-use endpoint_model::{Draws, Entry};
+use endpoint_model::{Draws, Entry, RowDue};
 use rtmfp_base::Memory;
-use session_core::SessionDue;
 use startup::Due;
 use std::alloc::AllocError;
 
@@ -21,21 +21,23 @@ use std::alloc::AllocError;
 pub(crate) enum DueItem {
     /// Something of an attempt, which sends so many datagrams.
     Attempt { sends: usize },
-    /// Something of the session with this session ID, or else that it is kept alive.
-    Session { near: u32, due: Option<SessionDue> },
+    /// Something of the session with this session ID, or of its flows.
+    Session { near: u32, due: RowDue },
 }
 
 impl Endpoint {
-    /// Does all that is due: attempts that weren't answered in time end, and hellos and keyings go
-    /// out again, by rising session IDs; then sessions end that weren't confirmed in time or took
-    /// nothing for long, closings are over or send their close again, and keepalives go out, by
-    /// rising session IDs too (RFC 7016 section 3.5.5; the times are own).
+    /// Does all that is due. First, in each held session, the numbers of its flows are lost whose
+    /// resend time has passed. Then attempts that weren't answered in time end, and hellos and
+    /// keyings go out again, by rising session IDs. Then, by rising session IDs too, sessions end
+    /// that weren't confirmed in time or took nothing for long, closings are over or send their
+    /// close again, messages are abandoned, flow data goes out, and keepalives do (RFC 7016
+    /// sections 3.5.5 and 3.6.2; the times are own).
     ///
     /// For want of memory it does a part of it: what it did stands, and the first thing that found
-    /// none, and what comes after it, is still due.
+    /// none, and what comes after it, is still due. To mark lost numbers takes none.
     pub fn tick(&mut self, moment: u64, draws: &Draws, out: &mut Outbox) -> Result<(), Memory>
         ensures some { (count : ℕ) ×
-            Done (ticks count (at_moment self.old moment)) self.new out.old out.new }
+            Done (ticks count (all_late (at_moment self.old moment))) self.new out.old out.new }
         ensures all { OnOk result (first_due self.new ≡ None) }
         ensures left { OnErr result (IsSome (first_due self.new)) }
 
@@ -44,6 +46,7 @@ impl Endpoint {
             (tick_event moment draws.now result out.old.entries out.new.entries) }
     {
         self.end.advance(moment);
+        self.end.lose_late();
         do_due(&mut self.end, out)
     }
 }
@@ -54,7 +57,8 @@ fn do_due(end: &mut EndState, out: &mut Outbox) -> Result<(), Memory>
     ensures all { OnOk result (first_due end.new ≡ None) }
     ensures left { OnErr result (IsSome (first_due end.new)) }
 {
-    // Each attempt and each session is due once at a moment, so this ends.
+    // Each attempt is due once at a moment, and of a session there is less to do each time, so this
+    // ends.
     while let Some(item) = first_due(end) {
         match do_item(end, item, out) {
             Ok(()) => {}
@@ -79,6 +83,7 @@ fn do_item(end: &mut EndState, item: DueItem, out: &mut Outbox) -> Result<(), Al
     requires { due_item end.old ≡ Some item }
     ensures ok { OnOk result (Done (tick_once end.old) end.new out.old out.new) }
     ensures err { OnErr result (Done (nothing end.old) end.new out.old out.new) }
+    ensures falls { OnOk result (ItemFalls item end.old) }
 {
     match item {
         DueItem::Attempt { sends } => attempt_due(end, sends, out),

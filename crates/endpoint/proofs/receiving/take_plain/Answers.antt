@@ -16,7 +16,7 @@ returns-then-has_mode c =
     let mode : has_mode c.in-Ok.packet.head (mode_at c.args.end.now c.args.place) ≡ true =
     ap (λ (h : PacketHead). has_mode h (mode_at c.args.end.now c.args.place)) (sym c.head.ensures) ∙ ap (has_mode c.head.result.now) (sym c.mode_at.ensures) ∙ sym c.if-has_mode.ensures in
     taken_as c.args.end.now c.args.from.now c.args.draws.now _ _ _ _ _ _ (taken_is c.args.end.now c.args.place c.args.part.now c.in-Ok.packet _ read mode)
-    (record { ok = c.take_packet.ensures.ok; stop = c.take_packet.ensures.stop; stopped = c.take_packet.ensures.stopped; enough = c.take_packet.ensures.enough })
+    (record { ok = c.take_packet.ensures.ok; stop = c.take_packet.ensures.stop; enough = c.take_packet.ensures.enough })
 
 pub returns-else-has_mode : goal.returns-else-has_mode
 returns-else-has_mode c =

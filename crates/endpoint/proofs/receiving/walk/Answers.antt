@@ -16,15 +16,12 @@ loop-chunk-preserved c =
     subst (λ (cs : List Placed). IsGone c.args.place c.args.from.now c.args.draws.now c.args.end.now all c.args.out.now c.loop-chunk.gone c.loop-chunk.walk cs c.loop-chunk.end c.loop-chunk.out) c.in-Some.ensures.steps c.loop-chunk.invariant.so_far in
     record {
       so_far =
-          subst (λ (k : Walk). IsGone c.args.place c.args.from.now c.args.draws.now c.args.end.now all c.args.out.now (c.loop-chunk.gone + 1) k rest c.take_chunk.new.end c.take_chunk.new.out) (sym c.walked-walk.ensures)
+          subst (λ (k : Walk). IsGone c.args.place c.args.from.now c.args.draws.now c.args.end.now all c.args.out.now (c.loop-chunk.gone + 1) k rest c.take_chunk.new.end c.take_chunk.new.out) (sym c.take_chunk.ensures.walk)
           (one_gone c.args.place c.args.from.now c.args.draws.now c.args.end.now c.loop-chunk.end c.take_chunk.new.end all c.args.out.now c.loop-chunk.out c.take_chunk.new.out c.loop-chunk.gone c.loop-chunk.walk one rest so_far c.in-Ok.ensures.ok);
       near = (subst (λ (cs : List Placed). AllByRecursion (λ (d : Placed). d.at < 2 ^ 32) cs) c.in-Some.ensures.steps c.loop-chunk.invariant.near).1;
       fits = omega (arith, c.loop-chunk.invariant.fits, ap length c.in-Some.ensures.steps);
       roomy = λ refused room.
-          subst (λ (k : Walk). IsRoomy c.args.end.now c.take_chunk.new.end c.args.place c.args.from.now k rest c.take_chunk.new.out.free) (sym c.walked-walk.ensures)
-          (one_refused c.args.place c.args.from.now c.args.draws.now c.loop-chunk.walk c.args.end.now c.loop-chunk.end c.take_chunk.new.end one rest c.loop-chunk.out c.take_chunk.new.out
-          (subst (λ (cs : List Placed). IsRoomy c.args.end.now c.loop-chunk.end c.args.place c.args.from.now c.loop-chunk.walk cs c.loop-chunk.out.free) c.in-Some.ensures.steps (c.loop-chunk.invariant.roomy refused room)) c.in-Ok.ensures.ok);
+          subst (λ (k : Walk). IsRoomy c.args.place c.args.from.now c.args.draws.now k c.take_chunk.new.end rest c.take_chunk.new.out.free) (sym c.take_chunk.ensures.walk)
+          (one_refused c.args.place c.args.from.now c.args.draws.now c.loop-chunk.walk c.loop-chunk.end c.take_chunk.new.end one rest c.loop-chunk.out c.take_chunk.new.out
+          (subst (λ (cs : List Placed). IsRoomy c.args.place c.args.from.now c.args.draws.now c.loop-chunk.walk c.loop-chunk.end cs c.loop-chunk.out.free) c.in-Some.ensures.steps (c.loop-chunk.invariant.roomy refused room)) c.in-Ok.ensures.ok);
     }
-
-pub returns-clause-quiet : goal.returns-clause-quiet
-returns-clause-quiet c quiet room = (c.loop-chunk.invariant.roomy quiet room).still

@@ -11,7 +11,7 @@ invariant-loop-chunk l = record {
   so_far : IsGone l.place l.from l.draws l.fn.end (left l.fn.chunks) l.fn.out l.gone l.walk (left l.chunks) l.end l.out;
   near : AllByRecursion (λ c. c.at < 2 ^ 32) (left l.chunks);
   fits : l.gone + length (left l.chunks) ≡ length (left l.fn.chunks);
-  roomy : AreQuiet l.fn.end l.place l.from outset (left l.fn.chunks) → discards_among l.fn.end l.place l.from outset (left l.fn.chunks) ≤ l.fn.out.free → IsRoomy l.fn.end l.end l.place l.from l.walk (left l.chunks) l.out.free;
+  roomy : AreQuiet l.place l.from l.draws outset l.fn.end (left l.fn.chunks) → discards_among l.place l.from l.draws outset l.fn.end (left l.fn.chunks) ≤ l.fn.out.free → IsRoomy l.place l.from l.draws l.walk l.end (left l.chunks) l.out.free;
 }
 
 abbrev pub decreases-loop-chunk : goal.decreases-loop-chunk

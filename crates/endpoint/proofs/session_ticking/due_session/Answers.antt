@@ -3,7 +3,7 @@ use Rattle.std.specs.List.{find}
 use Rattle.std.specs.FinMap.{entries}
 use Rattle.endpoint_model.specs.declared.row.Row.{Row}
 use Rattle.endpoint_model.specs.State.{State}
-use Rattle.endpoint_model.specs.InSessions.{due_row, is_row_due}
+use Rattle.endpoint_model.specs.FlowTimes.{due_row, is_row_due}
 use Rattle.endpoint.specs.DueItems.{session_item}
 use Rattle.endpoint.proofs.DueItems.{handed_on, handed_is}
 use Rattle.endpoint.proofs.session_ticking.due_session.Goals as goal

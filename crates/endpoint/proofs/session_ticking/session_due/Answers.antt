@@ -1,20 +1,21 @@
-use Rattle.std.proofs.Common.{rules, ◌≡◌, Some, OnOk, sym, ap, ◌∙◌, subst}
+use Rattle.std.proofs.Common.{◌≡◌, Some, IfSome, subst, rules}
 use Rattle.std.specs.FinMap.{get}
-use Rattle.session_core.specs.declared.stage.SessionDue.{SessionDue}
-use Rattle.session_core.specs.declared.stage.SessionDue.TheVariants.{Over}
-use Rattle.std.proofs.Common.{Option}
-use Rattle.endpoint_model.specs.State.{Did, Done}
-use Rattle.endpoint.specs.DueItems.{row_due_by}
-use Rattle.endpoint.proofs.DueItems.{over_there}
+use Rattle.endpoint_model.specs.declared.row.Row.{Row}
+use Rattle.endpoint_model.specs.declared.row_due.RowDue.{RowDue}
+use Rattle.endpoint_model.specs.FlowTimes.{row_due}
+use Rattle.endpoint.proofs.DueItems.{if_end, if_abandon}
 use Rattle.endpoint.proofs.session_ticking.session_due.Goals as goal
 
-pub returns-in-Some-Over-clause-ok : goal.returns-in-Some-Over-clause-ok
-returns-in-Some-Over-clause-ok c =
-    let is : c.args.due ≡ Some Over = search rules in
-    subst (λ (d : Did). OnOk c.finish_closing.result (Done d c.finish_closing.new.self c.args.out.now c.finish_closing.new.out))
-    (sym (over_there c.args.end.now c.args.near (get c.args.end.now.sessions c.args.near) c.requires.there)
-    ∙ ap (λ (d : Option SessionDue). row_due_by c.args.end.now c.args.near d (get c.args.end.now.sessions c.args.near)) (sym is)) c.finish_closing.ensures.ok
+pub end_due-requires-clause-due : goal.end_due-requires-clause-due
+end_due-requires-clause-due c =
+    if_end c.args.end.now.moment (get c.args.end.now.sessions c.args.near) c.in-Session.due
+    (subst (λ (d : RowDue). IfSome (get c.args.end.now.sessions c.args.near) (λ (r : Row). row_due c.args.end.now.moment r ≡ Some d)) c.in-Session.is c.requires.due)
+
+pub abandon-requires-clause-due : goal.abandon-requires-clause-due
+abandon-requires-clause-due c =
+    if_abandon c.args.end.now.moment (get c.args.end.now.sessions c.args.near) c.in-Abandon.flow c.in-Abandon.seq
+    (subst (λ (d : RowDue). IfSome (get c.args.end.now.sessions c.args.near) (λ (r : Row). row_due c.args.end.now.moment r ≡ Some d)) c.in-Abandon.is c.requires.due)
 
 -- so that a wrong body is refused fast
-pub returns-in-Some-RepeatClose-clause-ok : goal.returns-in-Some-RepeatClose-clause-ok
-returns-in-Some-RepeatClose-clause-ok c = search rules
+pub returns-in-Keepalive-clause-ok : goal.returns-in-Keepalive-clause-ok
+returns-in-Keepalive-clause-ok c = search rules

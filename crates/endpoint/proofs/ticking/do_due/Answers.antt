@@ -8,7 +8,7 @@ pub do_item-requires : goal.do_item-requires
 do_item-requires c = sym c.in-Some.ensures
 
 pub loop-item-smaller : goal.loop-item-smaller
-loop-item-smaller c = tick_falls c.loop-item.end c.do_item.new.end c.in-Some.item (sym c.in-Some.ensures) c.in-Ok.ensures.ok.state
+loop-item-smaller c = tick_falls c.loop-item.end c.do_item.new.end c.in-Some.item (sym c.in-Some.ensures) c.in-Ok.ensures.falls c.in-Ok.ensures.ok.state
 
 pub loop-item-preserved : goal.loop-item-preserved
 loop-item-preserved c =

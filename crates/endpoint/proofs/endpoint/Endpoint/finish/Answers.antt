@@ -1,4 +1,4 @@
-use Rattle.std.proofs.Common.{◌≡◌, ℕ, None, sym, ap, ◌∙◌, subst}
+use Rattle.std.proofs.Common.{sym, ap, ◌∙◌, subst}
 use Rattle.endpoint_model.specs.declared.answers.CallRefusal.TheVariants.{Memory as NoMemory}
 use Rattle.endpoint_model.specs.FlowCall.{Finish}
 use Rattle.endpoint_model.specs.OnFlows.{call_refusal, flow_called}

@@ -1,16 +1,17 @@
 use Rattle.std.proofs.Common.{rules, ap, ◌∙◌, subst}
 use Rattle.endpoint_model.specs.State.{State, at_moment}
+use Rattle.endpoint_model.specs.FlowTimes.{all_late}
 use Rattle.endpoint.proofs.Begun.{SomeDone}
 use Rattle.endpoint.proofs.Extending.{tick_extends}
 use Rattle.endpoint.proofs.endpoint.Endpoint.tick.Goals as goal
 
 pub returns-clause-some : goal.returns-clause-some
-returns-clause-some c = subst (λ (s : State). SomeDone s c.do_due.new.end c.args.out.now c.do_due.new.out) (c.advance.ensures ∙ ap (λ (s : State). at_moment s c.args.moment) c.self.view_is) c.do_due.ensures.some
+returns-clause-some c = subst (λ (s : State). SomeDone s c.do_due.new.end c.args.out.now c.do_due.new.out) (c.lose_late.ensures ∙ ap (λ (s : State). all_late s) (c.advance.ensures ∙ ap (λ (s : State). at_moment s c.args.moment) c.self.view_is)) c.do_due.ensures.some
 
 pub returns-clause-stands : goal.returns-clause-stands
 returns-clause-stands c =
     tick_extends c.args.self.now c.do_due.new.end c.args.moment c.args.draws.now c.do_due.result c.args.out.now c.do_due.new.out
-    (subst (λ (s : State). SomeDone s c.do_due.new.end c.args.out.now c.do_due.new.out) (c.advance.ensures ∙ ap (λ (s : State). at_moment s c.args.moment) c.self.view_is) c.do_due.ensures.some) c.do_due.ensures.all
+    (subst (λ (s : State). SomeDone s c.do_due.new.end c.args.out.now c.do_due.new.out) (c.lose_late.ensures ∙ ap (λ (s : State). all_late s) (c.advance.ensures ∙ ap (λ (s : State). at_moment s c.args.moment) c.self.view_is)) c.do_due.ensures.some) c.do_due.ensures.all
 
 -- so that a wrong body is refused fast
 pub returns-clause-left : goal.returns-clause-left
