@@ -17,6 +17,7 @@ use Rattle.endpoint_model.specs.Admission.{admission}
 use Rattle.endpoint_model.specs.InSessions.{held_row, closing}
 use Rattle.endpoint_model.specs.FlowCall.{FlowCall}
 use Rattle.endpoint_model.specs.OnFlows.{flow_called}
+use Rattle.endpoint_model.specs.FlowTimes.{all_late}
 use Rattle.endpoint_model.specs.Effects.{cancelling, opening, received, tick_once, ticks, first_due, item_done}
 use Rattle.endpoint_model.specs.Introducing.{with_redirect, introducing}
 use Rattle.introducer.specs.declared.refusal.RowRefusal.{RowRefusal}
@@ -157,9 +158,10 @@ one_receive s from datagram draws answer other xs ys t r p q h k = absurd h
 
 one_tick : (s : State) (draws : Draws) (a b : Answer) (xs ys : List Entry) (t r : State) → IsWhole a → IsWhole b → Answers s (TickCall draws) a xs t → Answers s (TickCall draws) b ys r → SameAnswer a b xs ys t r
 one_tick s draws Done Done xs ys t r p q h k =
-    let e : first_due (ticks h.0.0 s).state ≡ None = subst (λ (x : State). first_due x ≡ None) h.0.1.state h.1 in
-    let f : first_due (ticks k.0.0 s).state ≡ None = subst (λ (x : State). first_due x ≡ None) k.0.1.state k.1 in
-    same_did Done Done (ticks h.0.0 s) (ticks k.0.0 s) xs ys t r refl (ticks_same h.0.0 k.0.0 s e f) h.0.1 k.0.1
+    let u : State = all_late s in
+    let e : first_due (ticks h.0.0 u).state ≡ None = subst (λ (x : State). first_due x ≡ None) h.0.1.state h.1 in
+    let f : first_due (ticks k.0.0 u).state ≡ None = subst (λ (x : State). first_due x ≡ None) k.0.1.state k.1 in
+    same_did Done Done (ticks h.0.0 u) (ticks k.0.0 u) xs ys t r refl (ticks_same h.0.0 k.0.0 u e f) h.0.1 k.0.1
 one_tick s draws Done OutOfMemory xs ys t r p q h k = absurd q
 one_tick s draws Done other xs ys t r p q h k = absurd k
 one_tick s draws OutOfMemory other xs ys t r p q h k = absurd p
