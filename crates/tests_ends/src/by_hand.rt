@@ -1,7 +1,7 @@
 //! Two ends by hand: a caller `a` and an answerer `b`, and what is done with them, as the words of
 //! a row say.
 
-use crypto_profile::{Context, Keys, seal_in_place};
+use crypto_profile::{Context, Keys, open_in_place, seal_in_place};
 use endpoint::{CallRefusal, Config, Draws, Endpoint, Entry, MessageOptions, Outbox};
 use glare_core::Fact;
 use identity::{CertFault, Certificate, Epd};
@@ -63,37 +63,52 @@ fn fact_text(alloc: Global, fact: &Fact) -> Result<String, AllocError> {
     }
 }
 
+/// A message in words, by its number and its length.
+fn message_text(
+    alloc: Global,
+    what: &str,
+    near: u32,
+    flow: u64,
+    seq: u64,
+    size: usize,
+) -> Result<String, AllocError> {
+    format!(in alloc; "{what} {near} {flow} {seq} {size}; ")
+}
+
+/// An entry in words.
+fn entry_text(alloc: Global, entry: &Entry) -> Result<String, AllocError> {
+    match entry {
+        Entry::Fact(fact) => fact_text(alloc, fact),
+        Entry::Closed { near } => format!(in alloc; "closed {near}; "),
+        Entry::Moved { near, to } => format!(in alloc; "moved {near} {}; ", to.host[3]),
+        Entry::FlowOpened { near, flow } => format!(in alloc; "flow {near} {flow}; "),
+        Entry::Queued {
+            near,
+            flow,
+            seq,
+            message,
+        } => message_text(alloc, "queued", *near, *flow, *seq, message.len()),
+        Entry::Finished { near, flow, seq } => format!(in alloc; "finished {near} {flow} {seq}; "),
+        Entry::Abandoned { near, flow, seq } => {
+            format!(in alloc; "abandoned {near} {flow} {seq}; ")
+        }
+        Entry::Handed {
+            near,
+            flow,
+            seq,
+            message,
+        } => message_text(alloc, "handed", *near, *flow, *seq, message.len()),
+        Entry::Discard { place, cause } => format!(in alloc; "drop {place} {cause:?}; "),
+        Entry::Out { datagram, .. } => format!(in alloc; "out {}; ", datagram.len()),
+    }
+}
+
 /// The entries of an outbox in one line.
 fn text_of(alloc: Global, out: &Outbox) -> Result<String, AllocError> {
     let mut text = String::new(alloc);
     for entry in out.entries() {
-        let word = match entry {
-            Entry::Fact(fact) => fact_text(alloc, fact)?,
-            Entry::Closed { near } => format!(in alloc; "closed {near}; ")?,
-            Entry::Moved { near, to } => format!(in alloc; "moved {near} {}; ", to.host[3])?,
-            Entry::FlowOpened { near, flow } => format!(in alloc; "flow {near} {flow}; ")?,
-            Entry::Queued {
-                near,
-                flow,
-                seq,
-                message,
-            } => format!(in alloc; "queued {near} {flow} {seq} {}; ", message.len())?,
-            Entry::Finished { near, flow, seq } => {
-                format!(in alloc; "finished {near} {flow} {seq}; ")?
-            }
-            Entry::Abandoned { near, flow, seq } => {
-                format!(in alloc; "abandoned {near} {flow} {seq}; ")?
-            }
-            Entry::Handed {
-                near,
-                flow,
-                seq,
-                message,
-            } => format!(in alloc; "handed {near} {flow} {seq} {}; ", message.len())?,
-            Entry::Discard { place, cause } => format!(in alloc; "drop {place} {cause:?}; ")?,
-            Entry::Out { datagram, .. } => format!(in alloc; "out {}; ", datagram.len())?,
-        };
-        text.push_str(&word)?;
+        let words = entry_text(alloc, entry)?;
+        text.push_str(words.as_str())?;
     }
     Ok(text)
 }
@@ -120,6 +135,20 @@ fn places_of(alloc: Global, out: &Outbox) -> Result<String, AllocError> {
     Ok(text)
 }
 
+/// A plain packet behind the 32 bytes that its seal takes.
+fn unsealed(alloc: Global, plain: &[u8]) -> Result<Vec<u8>, AllocError> {
+    let mut part = Vec::from_slice(alloc, &[0; 32])?;
+    part.extend_from_slice(plain)?;
+    Ok(part)
+}
+
+/// The datagram of a sealed part.
+fn datagram_of(alloc: Global, sid: u32, part: &[u8]) -> Result<Vec<u8>, AllocError> {
+    let mut datagram = Vec::from_slice(alloc, &scramble(sid, part).to_be_bytes())?;
+    datagram.extend_from_slice(part)?;
+    Ok(datagram)
+}
+
 /// A datagram of this plain packet, sealed in a context under a session ID and a count.
 fn sealed(
     alloc: Global,
@@ -128,9 +157,7 @@ fn sealed(
     count: u64,
     plain: &[u8],
 ) -> Result<Vec<u8>, Fail> {
-    let mut part = Vec::new(alloc);
-    part.resize(32, 0)?;
-    part.extend_from_slice(plain)?;
+    let mut part = unsealed(alloc, plain)?;
     let mut number = [0; 16];
     let (_, back) = number.split_at_mut(8);
     back.copy_from_slice(&count.to_be_bytes());
@@ -138,14 +165,20 @@ fn sealed(
     if sealed.len() >= 32 {
         seal_in_place(&Keys::of(&GROUP, context), sid, number, sealed);
     }
-    let head = scramble(sid, part.as_slice()).to_be_bytes();
-    let mut datagram = Vec::from_slice(alloc, &head)?;
-    datagram.extend_from_slice(part.as_slice())?;
-    Ok(datagram)
+    Ok(datagram_of(alloc, sid, part.as_slice())?)
 }
 
 /// The context of packets to the responder, in the session of the handshake.
 fn to_responder(alloc: Global) -> Result<Context, Fail> {
+    in_session(alloc, true)
+}
+
+/// The context of packets to the initiator.
+fn to_initiator(alloc: Global) -> Result<Context, Fail> {
+    in_session(alloc, false)
+}
+
+fn in_session(alloc: Global, to_responder: bool) -> Result<Context, Fail> {
     Ok(Context::Session {
         ni: draws(3).nonce,
         nr: draws(6).nonce,
@@ -153,8 +186,17 @@ fn to_responder(alloc: Global) -> Result<Context, Fail> {
         fp_r: epd_of(alloc, "answerer")?.print,
         sid_i: 3,
         sid_r: 6,
-        to_responder: true,
+        to_responder,
     })
+}
+
+/// The plain packet of a datagram to the initiator, in the session of the handshake.
+fn opened(alloc: Global, datagram: &[u8]) -> Result<String, Fail> {
+    let mut part = Vec::from_slice(alloc, datagram.get(4..).unwrap_or(&[]))?;
+    let context = to_initiator(alloc)?;
+    let range = open_in_place(&Keys::of(&GROUP, &context), 3, part.as_mut_slice());
+    let plain = range.ok().and_then(|range| part.as_slice().get(range));
+    Ok(hex::encode(alloc, plain.unwrap_or(&[]))?)
 }
 
 /// A word of a row.
@@ -194,12 +236,12 @@ fn all_of(alloc: Global, out: &Outbox) -> Result<Added, Fail> {
 }
 
 /// What a call tells that adds nothing.
-fn says(alloc: Global, text: String) -> Added {
-    Added {
-        text,
+fn says(alloc: Global, text: Result<String, AllocError>) -> Result<Added, Fail> {
+    Ok(Added {
+        text: text?,
         last: Vec::new(alloc),
         places: String::new(alloc),
-    }
+    })
 }
 
 fn outbox(alloc: Global) -> Result<Outbox, Fail> {
@@ -236,7 +278,7 @@ fn opens(alloc: Global, end: &mut Endpoint, row: &str) -> Result<Added, Fail> {
     let moment = u64::from(number(row, 5));
     match end.open(&peer, candidates, moment, &draws(number(row, 4)), &mut out) {
         Ok(_) => all_of(alloc, &out),
-        Err(refusal) => Ok(says(alloc, format!(in alloc; "{refusal:?}")?)),
+        Err(refusal) => says(alloc, format!(in alloc; "{refusal:?}")),
     }
 }
 
@@ -252,7 +294,7 @@ fn cancels(alloc: Global, end: &mut Endpoint, n: u64) -> Result<Added, Fail> {
     let mut out = outbox(alloc)?;
     match end.cancel(n, &mut out) {
         Ok(()) => all_of(alloc, &out),
-        Err(_) => Ok(says(alloc, String::from_str(alloc, "refused")?)),
+        Err(_) => says(alloc, String::from_str(alloc, "refused")),
     }
 }
 
@@ -260,21 +302,36 @@ fn closes(alloc: Global, end: &mut Endpoint, near: u32, moment: u64) -> Result<A
     let mut out = outbox(alloc)?;
     match end.close(near, moment, &mut out) {
         Ok(()) => all_of(alloc, &out),
-        Err(refusal) => Ok(says(alloc, format!(in alloc; "{refusal:?}")?)),
+        Err(refusal) => says(alloc, format!(in alloc; "{refusal:?}")),
     }
 }
 
-/// Adds a row for an end, of so many addresses, 17 at most, which are one place where it says so.
-fn adds_row(alloc: Global, end: &mut Endpoint, row: &str) -> Result<Added, Fail> {
-    let peer = epd_of(alloc, word(row, 2))?;
+/// So many addresses, 17 at most, which are one place where a row says so.
+fn addresses(alloc: Global, row: &str) -> Result<Vec<Address>, AllocError> {
     let mut addresses = Vec::new(alloc);
     for index in 0..number(row, 3).min(17) {
         let last = if word(row, 4) == "same" { 0 } else { index };
         addresses.push(address((last % 256) as u8))?;
     }
+    Ok(addresses)
+}
+
+/// Adds a row of addresses for an end.
+fn adds_row(alloc: Global, end: &mut Endpoint, row: &str) -> Result<Added, Fail> {
+    let peer = epd_of(alloc, word(row, 2))?;
+    let addresses = addresses(alloc, row)?;
     match end.add_row(peer.print, addresses.as_slice()) {
-        Ok(()) => Ok(says(alloc, String::new(alloc))),
-        Err(refusal) => Ok(says(alloc, format!(in alloc; "{refusal:?}")?)),
+        Ok(()) => says(alloc, Ok(String::new(alloc))),
+        Err(refusal) => says(alloc, format!(in alloc; "{refusal:?}")),
+    }
+}
+
+/// Adds a row of one address for the end of a name, or says why not.
+fn adds_one(alloc: Global, end: &mut Endpoint, name: &str) -> Result<Option<String>, Fail> {
+    let peer = epd_of(alloc, name)?;
+    match end.add_row(peer.print, &[address(0)]) {
+        Ok(()) => Ok(None),
+        Err(refusal) => Ok(Some(format!(in alloc; "{name} {refusal:?}")?)),
     }
 }
 
@@ -282,17 +339,16 @@ fn adds_row(alloc: Global, end: &mut Endpoint, row: &str) -> Result<Added, Fail>
 fn adds_rows(alloc: Global, end: &mut Endpoint, count: u32) -> Result<Added, Fail> {
     for index in 0..count {
         let name = format!(in alloc; "peer{index}")?;
-        let peer = epd_of(alloc, name.as_str())?;
-        if let Err(refusal) = end.add_row(peer.print, &[address(0)]) {
-            return Ok(says(alloc, format!(in alloc; "{name} {refusal:?}")?));
+        if let Some(refusal) = adds_one(alloc, end, name.as_str())? {
+            return says(alloc, Ok(refusal));
         }
     }
-    Ok(says(alloc, String::new(alloc)))
+    says(alloc, Ok(String::new(alloc)))
 }
 
 fn introduces(alloc: Global, end: &mut Endpoint) -> Result<Added, Fail> {
     end.introduce();
-    Ok(says(alloc, String::new(alloc)))
+    says(alloc, Ok(String::new(alloc)))
 }
 
 /// What was added, or why nothing was.
@@ -303,7 +359,7 @@ fn called<T: Drop>(
 ) -> Result<Added, Fail> {
     match answer {
         Ok(_) => all_of(alloc, out),
-        Err(refusal) => Ok(says(alloc, format!(in alloc; "{refusal:?}")?)),
+        Err(refusal) => says(alloc, format!(in alloc; "{refusal:?}")),
     }
 }
 
@@ -349,21 +405,28 @@ fn finishes(alloc: Global, end: &mut Endpoint, row: &str) -> Result<Added, Fail>
     called(alloc, &out, result)
 }
 
+/// What an end does with a flow, as a row says.
+fn calls(alloc: Global, end: &mut Endpoint, row: &str) -> Result<Added, Fail> {
+    match word(row, 0) {
+        "flow" => opens_flow(alloc, end, row),
+        "queue" => queues(alloc, end, row),
+        "abandon" => abandons(alloc, end, row),
+        _ => finishes(alloc, end, row),
+    }
+}
+
 /// What an end does by itself, as a row says.
 fn acts(alloc: Global, end: &mut Endpoint, row: &str) -> Result<Added, Fail> {
     let value = number(row, 2);
     match word(row, 0) {
         "open" => opens(alloc, end, row),
         "tick" => ticks(alloc, end, u64::from(value)),
+        "cancel" => cancels(alloc, end, u64::from(value)),
         "close" => closes(alloc, end, value, u64::from(number(row, 3))),
         "introduce" => introduces(alloc, end),
         "row" => adds_row(alloc, end, row),
         "rows" => adds_rows(alloc, end, value),
-        "flow" => opens_flow(alloc, end, row),
-        "queue" => queues(alloc, end, row),
-        "abandon" => abandons(alloc, end, row),
-        "finish" => finishes(alloc, end, row),
-        _ => cancels(alloc, end, u64::from(value)),
+        _ => calls(alloc, end, row),
     }
 }
 
@@ -395,8 +458,8 @@ fn made(alloc: Global, row: &str, index: usize) -> Result<Vec<u8>, Fail> {
 /// last call went.
 #[derive(Drop)]
 pub(crate) struct Ends {
-    a: Endpoint,
-    b: Endpoint,
+    pub(crate) a: Endpoint,
+    pub(crate) b: Endpoint,
     last: Vec<u8>,
     kept: Vec<u8>,
     places: String,
@@ -417,6 +480,15 @@ impl Ends {
         self.last.as_slice()
     }
 
+    /// The end of a name: the caller is `a`.
+    fn end_of(&mut self, name: &str) -> &mut Endpoint {
+        if name == "a" {
+            &mut self.a
+        } else {
+            &mut self.b
+        }
+    }
+
     /// Keeps what an end added, and tells it.
     fn notes(&mut self, added: Added) -> String {
         self.last = added.last;
@@ -434,11 +506,14 @@ impl Ends {
         datagram: &[u8],
     ) -> Result<String, Fail> {
         let moment = u64::from(number(row, 4));
-        let added = if word(row, 1) == "a" {
-            receives(alloc, &mut self.a, from, moment, drawn, datagram)?
-        } else {
-            receives(alloc, &mut self.b, from, moment, drawn, datagram)?
-        };
+        let added = receives(
+            alloc,
+            self.end_of(word(row, 1)),
+            from,
+            moment,
+            drawn,
+            datagram,
+        )?;
         Ok(self.notes(added))
     }
 
@@ -456,27 +531,20 @@ impl Ends {
 
     /// A new end in the place of one.
     fn renews(&mut self, alloc: Global, row: &str) -> Result<String, Fail> {
-        let (peers, sessions) = (number(row, 2), number(row, 3));
-        if word(row, 1) == "a" {
-            self.a = end(alloc, CALLER, peers, sessions)?;
-        } else {
-            self.b = end(alloc, ANSWERER, peers, sessions)?;
-        }
+        let name = word(row, 1);
+        let cert = if name == "a" { CALLER } else { ANSWERER };
+        *self.end_of(name) = end(alloc, cert, number(row, 2), number(row, 3))?;
         Ok(String::new(alloc))
     }
 
     /// What one of them does by itself.
     fn acts(&mut self, alloc: Global, row: &str) -> Result<String, Fail> {
-        let added = if word(row, 1) == "a" {
-            acts(alloc, &mut self.a, row)?
-        } else {
-            acts(alloc, &mut self.b, row)?
-        };
+        let added = acts(alloc, self.end_of(word(row, 1)), row)?;
         Ok(self.notes(added))
     }
 
-    /// Gives an end a datagram that a member of the group makes, from where the row says. The call of
-    /// one of the session draws by its count.
+    /// Gives an end a datagram that a member of the group makes, from where the row says. The call
+    /// of one of the session draws by its count.
     fn makes(&mut self, alloc: Global, row: &str) -> Result<String, Fail> {
         let datagram = made(alloc, row, 0)?;
         let from = (number(row, 5).max(1) % 256) as u8;
@@ -488,6 +556,12 @@ impl Ends {
         self.gives(alloc, row, from, drawn, datagram.as_slice())
     }
 
+    /// Gives an end the bytes of a row.
+    fn hands(&mut self, alloc: Global, row: &str) -> Result<String, Fail> {
+        let datagram = bytes(alloc, row, 2)?;
+        self.gives(alloc, row, 1, 4, datagram.as_slice())
+    }
+
     /// Gives an end the last datagram, or the one that is kept, as a row says.
     fn passes(&mut self, alloc: Global, row: &str) -> Result<String, Fail> {
         let kept = word(row, 0) == "kept";
@@ -497,36 +571,31 @@ impl Ends {
         self.gives(alloc, row, from, number(row, 3), datagram.as_slice())
     }
 
+    /// Keeps the last datagram.
+    fn keeps(&mut self, alloc: Global) -> Result<String, Fail> {
+        self.kept = Vec::from_slice(alloc, self.last.as_slice())?;
+        Ok(String::new(alloc))
+    }
+
     /// In which context the datagram of a row opens.
-    fn tells(&self, alloc: Global, row: &str) -> Result<String, Fail> {
+    fn tells(&mut self, alloc: Global, row: &str) -> Result<String, Fail> {
         let datagram = made(alloc, row, 1)?;
-        let end = if word(row, 2) == "a" {
-            &self.a
-        } else {
-            &self.b
-        };
-        Ok(String::from_str(alloc, context_name(end, datagram.as_slice()))?)
+        let name = context_name(self.end_of(word(row, 2)), datagram.as_slice());
+        Ok(String::from_str(alloc, name)?)
     }
 
     /// What comes of what a row says.
     pub(crate) fn told(&mut self, alloc: Global, row: &str) -> Result<String, Fail> {
         match word(row, 0) {
             "new" => self.renews(alloc, row),
-            "open" | "tick" | "cancel" | "close" => self.acts(alloc, row),
-            "introduce" | "row" | "rows" => self.acts(alloc, row),
+            "plain" => opened(alloc, self.last.as_slice()),
             "places" => Ok(String::from_str(alloc, self.places.as_str())?),
-            "flow" | "queue" | "abandon" | "finish" => self.acts(alloc, row),
+            "keep" => self.keeps(alloc),
             "last" | "kept" => self.passes(alloc, row),
-            "keep" => {
-                self.kept = Vec::from_slice(alloc, self.last.as_slice())?;
-                Ok(String::new(alloc))
-            }
             "opens" => self.tells(alloc, row),
-            "raw" => {
-                let datagram = bytes(alloc, row, 2)?;
-                self.gives(alloc, row, 1, 4, datagram.as_slice())
-            }
-            _ => self.makes(alloc, row),
+            "raw" => self.hands(alloc, row),
+            "startup" | "session" => self.makes(alloc, row),
+            _ => self.acts(alloc, row),
         }
     }
 }

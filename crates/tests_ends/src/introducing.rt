@@ -1,8 +1,7 @@
 //! Rows of redirects and of introducers, each with its edge and what stands beside it, after
 //! docs/PROTOCOL.md. They are as those of rows.rt.
 
-use crate::by_hand::Ends;
-use crate::rows::{OPENING, first_wrong};
+use crate::rows::{OPENING, wrong_in};
 use std::test::Fail;
 
 /// Redirects of one attempt: which addresses are new, at which moment its hellos go out again, how
@@ -88,10 +87,7 @@ row b peer1024 1 = RowsFull(1024)
 
 #[test]
 fn ends_introduce_so(rt: HostRuntime) -> Result<(), Fail> {
-    for (before, table) in [("", REDIRECTS), (OPENING, INTRODUCING), ("", FULL)] {
-        let mut ends = Ends::new(rt.alloc())?;
-        assert_eq!(rt; first_wrong(rt.alloc(), &mut ends, before)?, None);
-        assert_eq!(rt; first_wrong(rt.alloc(), &mut ends, table)?, None);
-    }
+    assert_eq!(rt; wrong_in(rt.alloc(), "", &[REDIRECTS, FULL])?, None);
+    assert_eq!(rt; wrong_in(rt.alloc(), OPENING, &[INTRODUCING])?, None);
     Ok(())
 }

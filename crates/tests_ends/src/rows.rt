@@ -301,48 +301,96 @@ pub(crate) fn first_wrong(
     Ok(None)
 }
 
+/// The first row of a table that isn't so of these ends, after the rows before it.
+fn wrong_after(
+    alloc: Global,
+    ends: &mut Ends,
+    before: &'static str,
+    table: &'static str,
+) -> Result<Option<&'static str>, Fail> {
+    match first_wrong(alloc, ends, before)? {
+        Some(row) => Ok(Some(row)),
+        None => first_wrong(alloc, ends, table),
+    }
+}
+
+/// The first row of a table that isn't so of two ends of its own.
+fn wrong_of(
+    alloc: Global,
+    before: &'static str,
+    table: &'static str,
+) -> Result<Option<&'static str>, Fail> {
+    let mut ends = Ends::new(alloc)?;
+    wrong_after(alloc, &mut ends, before, table)
+}
+
+/// The first row of some tables that isn't so, each of two ends of its own.
+pub(crate) fn wrong_in(
+    alloc: Global,
+    before: &'static str,
+    tables: &[&'static str],
+) -> Result<Option<&'static str>, Fail> {
+    for table in tables {
+        if let Some(row) = wrong_of(alloc, before, table)? {
+            return Ok(Some(row));
+        }
+    }
+    Ok(None)
+}
+
+/// Tables of new ends.
+const OF_NEW_ENDS: [&str; 5] = [OPENS, PACKETS, KEYINGS, ANSWERS, TIMES];
+
+/// Tables of ends after the opening.
+const OF_OPENED: [&str; 13] = [
+    HANDSHAKE,
+    SPENT,
+    CONTEXTS,
+    LINGERING,
+    CLOSING,
+    CLOSED_AT_ONCE,
+    SOUGHT,
+    CLOSES,
+    UNCONFIRMED,
+    KEPT_ALIVE,
+    MOVES,
+    FLOWS,
+    BACKLOG,
+];
+
 #[test]
 fn rows_are_so(rt: HostRuntime) -> Result<(), Fail> {
-    let tables = [
-        ("", OPENS),
-        ("", PACKETS),
-        ("", KEYINGS),
-        ("", ANSWERS),
-        ("", TIMES),
-        (OPENING, HANDSHAKE),
-        (OPENING, SPENT),
-        (OPENING, CONTEXTS),
-        (OPENING, LINGERING),
-        (OPENING, CLOSING),
-        (OPENING, CLOSED_AT_ONCE),
-        (OPENING, SOUGHT),
-        (OPENING, CLOSES),
-        (OPENING, UNCONFIRMED),
-        (OPENING, KEPT_ALIVE),
-        (OPENING, MOVES),
-        (OPENING, FLOWS),
-        (OPENING, BACKLOG),
-    ];
-    for (before, table) in tables {
-        let mut ends = Ends::new(rt.alloc())?;
-        assert_eq!(rt; first_wrong(rt.alloc(), &mut ends, before)?, None);
-        assert_eq!(rt; first_wrong(rt.alloc(), &mut ends, table)?, None);
-    }
+    assert_eq!(rt; wrong_in(rt.alloc(), "", &OF_NEW_ENDS)?, None);
+    assert_eq!(rt; wrong_in(rt.alloc(), OPENING, &OF_OPENED)?, None);
     Ok(())
 }
 
-/// A session opens 256 flows, and no more.
-fn flows_are_limited(alloc: Global) -> Result<bool, Fail> {
-    let mut ends = Ends::new(alloc)?;
-    let _ = first_wrong(alloc, &mut ends, OPENING)?;
+/// Whether a row tells of these ends what it is to tell.
+fn tells(alloc: Global, ends: &mut Ends, row: &str, want: &str) -> Result<bool, Fail> {
+    let told = ends.told(alloc, row)?;
+    Ok(told.as_str() == want)
+}
+
+/// Whether the answerer's next flow has this ID.
+fn opens_next(alloc: Global, ends: &mut Ends, id: u32) -> Result<bool, Fail> {
+    let want = format!(in alloc; "flow 6 {id}; ")?;
+    tells(alloc, ends, "flow b 6 0 -", want.as_str())
+}
+
+/// Whether a session of these ends opens 256 flows, and no more.
+fn opens_256(alloc: Global, ends: &mut Ends) -> Result<bool, Fail> {
+    let _ = first_wrong(alloc, ends, OPENING)?;
     for id in 0..256_u32 {
-        let opened = ends.told(alloc, "flow b 6 0 -")?;
-        if opened.as_str() != format!(in alloc; "flow 6 {id}; ")?.as_str() {
+        if !opens_next(alloc, ends, id)? {
             return Ok(false);
         }
     }
-    let refused = ends.told(alloc, "flow b 6 8 -")?;
-    Ok(refused.as_str() == "FlowsFull(256)")
+    tells(alloc, ends, "flow b 6 8 -", "FlowsFull(256)")
+}
+
+fn flows_are_limited(alloc: Global) -> Result<bool, Fail> {
+    let mut ends = Ends::new(alloc)?;
+    opens_256(alloc, &mut ends)
 }
 
 #[test]
@@ -351,18 +399,25 @@ fn a_session_opens_256_flows_at_most(rt: HostRuntime) -> Result<(), Fail> {
     Ok(())
 }
 
+/// What the answerer tells of a ping of so many bytes, in a packet with a count.
+fn pinged(alloc: Global, ends: &mut Ends, count: u64, size: u16) -> Result<String, Fail> {
+    let [high, low] = size.to_be_bytes();
+    let mut packet = Vec::from_slice(alloc, &[0x01, 0x01, high, low])?;
+    packet.resize(4 + usize::from(size), 0)?;
+    ends.hears(alloc, count, packet.as_slice())
+}
+
 /// A ping of 1,024 bytes is answered, and one of a byte more is wide.
+fn pings_end(alloc: Global, ends: &mut Ends) -> Result<bool, Fail> {
+    let _ = first_wrong(alloc, ends, OPENING)?;
+    let whole = pinged(alloc, ends, 7, 1024)?;
+    let wide = pinged(alloc, ends, 8, 1025)?;
+    Ok(whole.as_str() == "confirmed 6; out 1066; " && wide.as_str() == "drop 1 Wide(1025); ")
+}
+
 fn pings_are_limited(alloc: Global) -> Result<bool, Fail> {
     let mut ends = Ends::new(alloc)?;
-    let _ = first_wrong(alloc, &mut ends, OPENING)?;
-    let mut ping = [0; 1029];
-    ping[0] = 0x01;
-    ping[1] = 0x01;
-    ping[2] = 0x04;
-    let whole = ends.hears(alloc, 7, &ping[..1028])?;
-    ping[3] = 0x01;
-    let wide = ends.hears(alloc, 8, &ping)?;
-    Ok(whole.as_str() == "confirmed 6; out 1066; " && wide.as_str() == "drop 1 Wide(1025); ")
+    pings_end(alloc, &mut ends)
 }
 
 #[test]

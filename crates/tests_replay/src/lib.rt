@@ -7,6 +7,8 @@
 #[cfg(test)]
 mod cli;
 #[cfg(test)]
+mod flows;
+#[cfg(test)]
 mod host;
 #[cfg(test)]
 mod introductions;

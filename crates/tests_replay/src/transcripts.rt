@@ -9,7 +9,7 @@ use std::test::Fail;
 
 /// Rows: a name and how the run ends, and then the lines of a script, each behind `> ` and before
 /// what is reported of it. `+ 8 NAME` stands for the first eight lines of another row, with what is
-/// reported of these.
+/// reported of these; that row may begin so, too.
 const ROWS: &str = "@ handshake = done
 > end a 65536 4096 The quick brown fox jumps over the lazy dog
 > end b 65536 4096 The quick brown fox jumps over the lazy dog.
@@ -315,6 +315,94 @@ const ROWS: &str = "@ handshake = done
 18 a abandoned near=3 flow=0 seq=1
 > queue a 3 0 - - *1048576
 19 a queued near=3 flow=0 seq=2101 length=1048576
+@ an-ordered-flow = done
++ 8 handshake
+> flow a 3 4 6d
+9 a flow near=3 id=0
+> queue a 3 0 - - -
+10 a queued near=3 flow=0 seq=1 length=0
+> queue a 3 0 - - *1000
+11 a queued near=3 flow=0 seq=2 length=1000
+> queue a 3 0 - - *1001
+12 a queued near=3 flow=0 seq=3 length=1001
+> queue a 3 0 - - 4f4b
+13 a queued near=3 flow=0 seq=5 length=2
+> tick a
+14 a sent 7 10.0.0.2:1935 data+next
+14 a sent 8 10.0.0.2:1935 data+next+next
+> deliver 8 b 10.0.0.1:1935
+15 b sent 9 10.0.0.1:1935 ackranges
+> abandon a 3 0 2
+16 a abandoned near=3 flow=0 seq=2
+> deliver 9 a 10.0.0.2:1935
+> at 1000
+> tick a
+19 a sent 10 10.0.0.2:1935 data
+> deliver 10 b 10.0.0.1:1935
+20 b handed near=6 flow=0 seq=1 -
+20 b sent 11 10.0.0.1:1935 ackranges
+> deliver 11 a 10.0.0.2:1935
+> tick a
+22 a sent 12 10.0.0.2:1935 data
+> deliver 12 b 10.0.0.1:1935
+23 b handed near=6 flow=0 seq=3 *1001
+23 b handed near=6 flow=0 seq=5 4f4b
+23 b sent 13 10.0.0.1:1935 ackranges
+> deliver 8 b 10.0.0.1:1935
+24 b drop 0 repeated
+@ an-ordered-flow-goes-on = done
++ 8 handshake
+> flow a 3 4 6d
+9 a flow near=3 id=0
+> queue a 3 0 - - -
+10 a queued near=3 flow=0 seq=1 length=0
+> queue a 3 0 - - *1000
+11 a queued near=3 flow=0 seq=2 length=1000
+> queue a 3 0 - - *1001
+12 a queued near=3 flow=0 seq=3 length=1001
+> queue a 3 0 - - 4f4b
+13 a queued near=3 flow=0 seq=5 length=2
+> tick a
+14 a sent 7 10.0.0.2:1935 data+next
+14 a sent 8 10.0.0.2:1935 data+next+next
+> deliver 8 b 10.0.0.1:1935
+15 b sent 9 10.0.0.1:1935 ackranges
+> deliver 9 a 10.0.0.2:1935
+> at 1000
+> tick a
+18 a sent 10 10.0.0.2:1935 data+next
+> deliver 10 b 10.0.0.1:1935
+19 b handed near=6 flow=0 seq=1 -
+19 b handed near=6 flow=0 seq=2 *1000
+19 b handed near=6 flow=0 seq=3 *1001
+19 b handed near=6 flow=0 seq=5 4f4b
+19 b sent 11 10.0.0.1:1935 ackranges
+@ priorities = done
++ 8 handshake
+> flow a 3 1 6d
+9 a flow near=3 id=0
+> flow a 3 7 6d
+10 a flow near=3 id=1
+> queue a 3 0 - - *1000
+11 a queued near=3 flow=0 seq=1 length=1000
+> queue a 3 1 - - *1001
+12 a queued near=3 flow=1 seq=1 length=1001
+> tick a
+13 a sent 7 10.0.0.2:1935 data+next
+13 a sent 8 10.0.0.2:1935 data
+> deliver 7 b 10.0.0.1:1935
+14 b handed near=6 flow=1 seq=1 *1001
+14 b sent 9 10.0.0.1:1935 ackranges
+@ a-deadline = done
++ 8 handshake
+> flow a 3 4 6d
+9 a flow near=3 id=0
+> queue a 3 0 5 - 61
+10 a queued near=3 flow=0 seq=1 length=1
+> at 6
+> tick a
+12 a abandoned near=3 flow=0 seq=1
+12 a sent 7 10.0.0.2:1935 data
 ";
 
 /// The lines of the row of this name.
@@ -328,7 +416,7 @@ fn row_named(rows: &'static str, name: &str) -> &'static str {
     ""
 }
 
-fn push_line(line: &str, text: &mut Vec<u8>) -> Result<(), AllocError> {
+pub(crate) fn push_line(line: &str, text: &mut Vec<u8>) -> Result<(), AllocError> {
     for byte in line.as_bytes() {
         text.push(*byte)?;
     }
@@ -336,11 +424,44 @@ fn push_line(line: &str, text: &mut Vec<u8>) -> Result<(), AllocError> {
     Ok(())
 }
 
+/// Adds a line of a report. A last word as `*1000` stands for a message of so many bytes, as in a
+/// script.
+pub(crate) fn push_report(line: &str, text: &mut Vec<u8>) -> Result<(), AllocError> {
+    let Some((front, count)) = line.split_once(" *") else {
+        return push_line(line, text);
+    };
+    for byte in front.as_bytes() {
+        text.push(*byte)?;
+    }
+    text.push(b' ')?;
+    push_bytes(count.parse::<u32>().unwrap_or(0), text)?;
+    text.push(b'\n')?;
+    Ok(())
+}
+
+/// Adds the digits of a message of so many bytes.
+fn push_bytes(count: u32, text: &mut Vec<u8>) -> Result<(), AllocError> {
+    for i in 0..count {
+        let byte = (i % 251) as u8;
+        text.push(digit(byte / 16))?;
+        text.push(digit(byte % 16))?;
+    }
+    Ok(())
+}
+
+fn digit(value: u8) -> u8 {
+    if value < 10 {
+        b'0'.wrapping_add(value)
+    } else {
+        b'a'.wrapping_add(value.wrapping_sub(10))
+    }
+}
+
 /// A script and its report.
 #[derive(Drop)]
-struct Transcript {
-    script: Vec<u8>,
-    report: Vec<u8>,
+pub(crate) struct Transcript {
+    pub(crate) script: Vec<u8>,
+    pub(crate) report: Vec<u8>,
 }
 
 impl Transcript {
@@ -356,14 +477,31 @@ impl Transcript {
                     left -= 1;
                     push_line(step, &mut self.script)?;
                 }
-                None => push_line(line, &mut self.report)?,
+                None => push_report(line, &mut self.report)?,
             }
         }
         Ok(())
     }
 
+    /// Adds the first lines of a row, so many at most, which may begin with those of a row that
+    /// stands for itself.
+    fn push_front(&mut self, rows: &'static str, lines: &str, most: u32) -> Result<(), AllocError> {
+        let Some(front) = lines.strip_prefix("+ ") else {
+            return self.push(lines, most);
+        };
+        let (count, rest) = front.split_once(' ').unwrap_or(("", ""));
+        let (name, lines) = rest.split_once('\n').unwrap_or(("", ""));
+        let count = count.parse::<u32>().unwrap_or(0).min(most);
+        self.push(row_named(rows, name), count)?;
+        self.push(lines, most - count)
+    }
+
     /// What the lines of one of these rows stand for.
-    fn of(alloc: Global, rows: &'static str, lines: &str) -> Result<Transcript, AllocError> {
+    pub(crate) fn of(
+        alloc: Global,
+        rows: &'static str,
+        lines: &str,
+    ) -> Result<Transcript, AllocError> {
         let mut whole = Transcript {
             script: Vec::new(alloc),
             report: Vec::new(alloc),
@@ -374,7 +512,8 @@ impl Transcript {
         };
         let (count, rest) = front.split_once(' ').unwrap_or(("", ""));
         let (name, lines) = rest.split_once('\n').unwrap_or(("", ""));
-        whole.push(row_named(rows, name), count.parse::<u32>().unwrap_or(0))?;
+        let count = count.parse::<u32>().unwrap_or(0);
+        whole.push_front(rows, row_named(rows, name), count)?;
         whole.push(lines, u32::MAX)?;
         Ok(whole)
     }
