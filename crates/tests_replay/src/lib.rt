@@ -7,8 +7,6 @@
 #[cfg(test)]
 mod cli;
 #[cfg(test)]
-mod flows;
-#[cfg(test)]
 mod host;
 #[cfg(test)]
 mod introductions;
