@@ -1,7 +1,7 @@
 //! Two ends by hand: a caller `a` and an answerer `b`, and what is done with them, as the words of
 //! a row say.
 
-use crypto_profile::{Context, Keys, open_in_place, seal_in_place};
+use crypto_profile::{Context, Keys, seal_in_place};
 use endpoint::{CallRefusal, Config, Draws, Endpoint, Entry, MessageOptions, Outbox};
 use glare_core::Fact;
 use identity::{CertFault, Certificate, Epd};
@@ -170,15 +170,6 @@ fn sealed(
 
 /// The context of packets to the responder, in the session of the handshake.
 fn to_responder(alloc: Global) -> Result<Context, Fail> {
-    in_session(alloc, true)
-}
-
-/// The context of packets to the initiator.
-fn to_initiator(alloc: Global) -> Result<Context, Fail> {
-    in_session(alloc, false)
-}
-
-fn in_session(alloc: Global, to_responder: bool) -> Result<Context, Fail> {
     Ok(Context::Session {
         ni: draws(3).nonce,
         nr: draws(6).nonce,
@@ -186,17 +177,8 @@ fn in_session(alloc: Global, to_responder: bool) -> Result<Context, Fail> {
         fp_r: epd_of(alloc, "answerer")?.print,
         sid_i: 3,
         sid_r: 6,
-        to_responder,
+        to_responder: true,
     })
-}
-
-/// The plain packet of a datagram to the initiator, in the session of the handshake.
-fn opened(alloc: Global, datagram: &[u8]) -> Result<String, Fail> {
-    let mut part = Vec::from_slice(alloc, datagram.get(4..).unwrap_or(&[]))?;
-    let context = to_initiator(alloc)?;
-    let range = open_in_place(&Keys::of(&GROUP, &context), 3, part.as_mut_slice());
-    let plain = range.ok().and_then(|range| part.as_slice().get(range));
-    Ok(hex::encode(alloc, plain.unwrap_or(&[]))?)
 }
 
 /// A word of a row.
@@ -458,8 +440,8 @@ fn made(alloc: Global, row: &str, index: usize) -> Result<Vec<u8>, Fail> {
 /// last call went.
 #[derive(Drop)]
 pub(crate) struct Ends {
-    pub(crate) a: Endpoint,
-    pub(crate) b: Endpoint,
+    a: Endpoint,
+    b: Endpoint,
     last: Vec<u8>,
     kept: Vec<u8>,
     places: String,
@@ -588,7 +570,6 @@ impl Ends {
     pub(crate) fn told(&mut self, alloc: Global, row: &str) -> Result<String, Fail> {
         match word(row, 0) {
             "new" => self.renews(alloc, row),
-            "plain" => opened(alloc, self.last.as_slice()),
             "places" => Ok(String::from_str(alloc, self.places.as_str())?),
             "keep" => self.keeps(alloc),
             "last" | "kept" => self.passes(alloc, row),

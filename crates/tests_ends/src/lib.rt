@@ -5,10 +5,6 @@
 #[cfg(test)]
 mod by_hand;
 #[cfg(test)]
-mod carrying;
-#[cfg(test)]
-mod flows;
-#[cfg(test)]
 mod handshake;
 #[cfg(test)]
 mod introducing;
