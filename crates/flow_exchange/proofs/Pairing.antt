@@ -57,7 +57,7 @@ get_in (y ∷ xs) zero x e = let f : y ≡ x = cc in inl (sym f)
 get_in (y ∷ xs) (suc k) x e = inr (get_in xs k x e)
 
 -- the sender's events
-queues_linked : (arriving : Bool) (p : Pair) (bytes : List ℕ) (options : MessageOptions) (o : Option ℕ) → p.sender.finish ≡ o → Linked arriving p → Linked arriving (with_sender p (queues (sender_of p) bytes options o))
+pub queues_linked : (arriving : Bool) (p : Pair) (bytes : List ℕ) (options : MessageOptions) (o : Option ℕ) → p.sender.finish ≡ o → Linked arriving p → Linked arriving (with_sender p (queues (sender_of p) bytes options o))
 queues_linked arriving p bytes options (Some n) e l = l
 queues_linked arriving p bytes options None e l =
     let m : Message = record { number = next_of p.sender; bytes = bytes } in
@@ -71,7 +71,7 @@ queues_linked arriving p bytes options None e l =
       owed = owed_step arriving p.world (Queued m) l.owed (none, l.speaks.awaits none);
     }
 
-finishes_linked : (arriving : Bool) (p : Pair) (o : Option ℕ) → p.sender.finish ≡ o → Linked arriving p → Linked arriving (with_sender p (finishes (sender_of p) o))
+pub finishes_linked : (arriving : Bool) (p : Pair) (o : Option ℕ) → p.sender.finish ≡ o → Linked arriving p → Linked arriving (with_sender p (finishes (sender_of p) o))
 finishes_linked arriving p (Some n) e l = l
 finishes_linked arriving p None e l =
     let none = sym l.speaks.finish ∙ e in
@@ -95,11 +95,11 @@ abandons_linked arriving p n true l = record {
   owed = owed_step arriving p.world (Abandoned n) l.owed tt;
 }
 
-abandons_one_linked : (arriving : Bool) (p : Pair) (o : Option ℕ) → Linked arriving p → Linked arriving (with_sender p (abandons_one (sender_of p) o))
+pub abandons_one_linked : (arriving : Bool) (p : Pair) (o : Option ℕ) → Linked arriving p → Linked arriving (with_sender p (abandons_one (sender_of p) o))
 abandons_one_linked arriving p None l = l
 abandons_one_linked arriving p (Some n) l = abandons_linked arriving p n (waits p.sender n) l
 
-sends_linked : (arriving : Bool) (p : Pair) (moment resend : ℕ) (o : Option Chunk) → chunk_for p.sender (choice moment resend p.sender) ≡ o → Linked arriving p
+pub sends_linked : (arriving : Bool) (p : Pair) (moment resend : ℕ) (o : Option Chunk) → chunk_for p.sender (choice moment resend p.sender) ≡ o → Linked arriving p
     → Linked arriving (with_sender p (sends (sender_of p) moment (choice moment resend p.sender) o))
 sends_linked arriving p moment resend None e l = l
 sends_linked arriving p moment resend (Some c) e l =
@@ -113,7 +113,7 @@ sends_linked arriving p moment resend (Some c) e l =
       owed = owed_step arriving p.world (Sent c) l.owed may;
     }
 
-loses_linked : (arriving : Bool) (p : Pair) (moment resend : ℕ) → Linked arriving p → Linked arriving (happens p (Loses moment resend))
+pub loses_linked : (arriving : Bool) (p : Pair) (moment resend : ℕ) → Linked arriving p → Linked arriving (happens p (Loses moment resend))
 loses_linked arriving p moment resend l = record {
   order = l.order;
   speaks = lost_speaks p.sender p.world moment resend l.speaks;
@@ -135,7 +135,7 @@ other_side s w v k a b c d e = record {
 }
 
 -- a chunk comes
-takes_if : (arriving : Bool) (p : Pair) (c : Chunk) (t : Bool) → IsIn c p.world.sent → Linked arriving p → Linked arriving (cond t p (record { sender = p.sender; receiver = taken p.receiver c; world = after p.world (Taken c) }))
+pub takes_if : (arriving : Bool) (p : Pair) (c : Chunk) (t : Bool) → IsIn c p.world.sent → Linked arriving p → Linked arriving (cond t p (record { sender = p.sender; receiver = taken p.receiver c; world = after p.world (Taken c) }))
 takes_if arriving p c true i l = l
 takes_if arriving p c false i l =
     let v = after p.world (Taken c) in
@@ -199,7 +199,7 @@ next_allowed true p y e l =
       kept_not (Rattle.rtmfp_data_chunks.specs.Runs.is_dead (missing_of p.world.taken) y) (has_number y.first p.world.handed) kept,
     )
 
-hands_linked : (arriving : Bool) (p : Pair) (o : Option Run) → next_run p.receiver ≡ o → Linked arriving p → Linked arriving (hands_next p o)
+pub hands_linked : (arriving : Bool) (p : Pair) (o : Option Run) → next_run p.receiver ≡ o → Linked arriving p → Linked arriving (hands_next p o)
 hands_linked arriving p None e l = l
 hands_linked arriving p (Some y) e l =
     let v = after p.world (Handed (message_of y)) in
@@ -237,7 +237,7 @@ known_told [] k n z h = absurd z
 known_told (s ∷ later) k n z (inl le) = known_first s later n z le
 known_told (s ∷ later) k n z (inr h) = or_true (covers n s) (knows later n) (known_range later k n h)
 
-acks_linked : (arriving : Bool) (p : Pair) (pairs : ℕ) → Linked arriving p → Linked arriving (happens p (Acks pairs))
+pub acks_linked : (arriving : Bool) (p : Pair) (pairs : ℕ) → Linked arriving p → Linked arriving (happens p (Acks pairs))
 acks_linked arriving p pairs l =
     let a = ack_by p.receiver pairs in
     let v = after p.world (Ack_sent a) in
@@ -254,7 +254,7 @@ acks_linked arriving p pairs l =
       owed = owed_step arriving p.world (Ack_sent a) l.owed may;
     }
 
-hears_if : (arriving : Bool) (p : Pair) (blocks : ℕ) (a : Ack) (t : Bool) → IsIn a p.world.told → Linked arriving p
+pub hears_if : (arriving : Bool) (p : Pair) (blocks : ℕ) (a : Ack) (t : Bool) → IsIn a p.world.told → Linked arriving p
     → Linked arriving (cond t p (record { sender = told_by (record { blocks = blocks; upto = a.upto; spans = a.spans }) p.sender; receiver = p.receiver; world = after p.world (Heard a) }))
 hears_if arriving p blocks a true i l = l
 hears_if arriving p blocks a false i l = record {
@@ -291,7 +291,7 @@ owed_start : (arriving : Bool) (first : ℕ) → 1 ≤ first → Owed arriving (
 owed_start false first one = in_order_start first one
 owed_start true first one = arriving_start first one
 
-linked_start : (arriving : Bool) (first : ℕ) → 1 ≤ first → Linked arriving (pair first arriving)
+pub linked_start : (arriving : Bool) (first : ℕ) → 1 ≤ first → Linked arriving (pair first arriving)
 linked_start arriving first one = record {
   order = refl;
   speaks = begun_speaks first one;
