@@ -1,0 +1,14 @@
+pub mod Acting
+pub mod Keeps
+pub mod Tied
+pub mod Hands
+pub mod Names
+pub mod Projected
+pub mod Entries
+pub mod Lively
+pub mod Keeping
+pub mod Told
+pub mod Events
+pub mod Broken
+pub mod Orders
+pub mod Rows

@@ -1,0 +1,13 @@
+pub mod Flow
+pub mod Said
+pub mod Run
+pub mod Deeds
+pub mod Lawful
+pub mod Log
+pub mod Laws
+pub mod Lively
+pub mod Keeping
+pub mod Told
+pub mod Events
+pub mod Broken
+pub mod Edges
