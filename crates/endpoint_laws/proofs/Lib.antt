@@ -12,7 +12,7 @@ mod Confirming
 mod Bytes
 mod Spelled
 mod Says
-mod OutFacts
+pub mod OutFacts
 mod OutNumbers
 mod OutPackets
 mod OutHeld
