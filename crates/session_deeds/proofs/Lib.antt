@@ -1,0 +1,14 @@
+pub mod Chains
+pub mod Lists
+pub mod Changing
+pub mod Options
+pub mod Calls
+pub mod Taking
+pub mod Hearing
+pub mod Chunks
+pub mod Timing
+pub mod Reading
+pub mod Fitting
+pub mod Acking
+pub mod Packing
+pub mod Rows
