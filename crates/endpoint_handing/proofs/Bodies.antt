@@ -1,0 +1,140 @@
+-- What a datagram of a session has of flows is what the chunks of its body have.
+use Rattle.std.proofs.Common.{◌≡◌, ◌≢◌, ℕ, ◌+◌, ◌-◌, ◌==◌, ◌^◌, ◌<◌, List, [], ◌∷◌, ◌++◌, length, drop}
+use Rattle.std.proofs.Common.{cond, not, Bool, true, false, Option, Some, None, Result, Ok, Err}
+use Rattle.std.proofs.Common.{refl, sym, ap, subst, ◌∙◌, arith, append-nil, if◌then◌else◌}
+use Rattle.std.proofs.lemmas.List.{drop_at}
+use Rattle.std.proofs.lemmas.Bool.Decides.{nat_tests}
+use Rattle.std.specs.Int.{w32, to_be_bytes}
+use Rattle.std.specs.List.{flat_map}
+use Rattle.crypto_profile.specs.declared.keys.Context.{Context as Sealing}
+use Rattle.crypto_profile.specs.Keys.{keys_of}
+use Rattle.crypto_profile.specs.Opening.{plain_of}
+use Rattle.crypto_profile.specs.Sealing.{sealed_in}
+use Rattle.crypto_profile.proofs.Opened.{sealed_opens}
+use Rattle.packet_scramble.specs.Datagram.{datagram, scrambled}
+use Rattle.rtmfp_packet.specs.declared.head.PacketHead.{PacketHead}
+use Rattle.rtmfp_packet.specs.declared.head.PacketFault.{PacketFault}
+use Rattle.rtmfp_packet.specs.Head.{head_bytes}
+use Rattle.rtmfp_packet.specs.Spelling.{Chunk as Written, IsChunk, chunk_bytes as written_bytes}
+use Rattle.rtmfp_packet.specs.Walk.{Placed, Body, body_of, is_ignored, all_placed_from, visible}
+use Rattle.rtmfp_packet.specs.Whole.{Whole}
+use Rattle.rtmfp_packet.proofs.Bodies.{body_of-spelled}
+use Rattle.rtmfp_data_chunks.specs.declared.user_data.Numbers.{Numbers}
+use Rattle.rtmfp_data_chunks.specs.Spelling.{before_next}
+use Rattle.rtmfp_data_chunks.specs.Reader.{data_reading}
+use Rattle.session_core.specs.declared.stage.Role.{Role}
+use Rattle.session_core.specs.declared.stage.Role.TheVariants.{Initiator, Responder}
+use Rattle.session_core.specs.Session.{SessionState, mode_of, context_of, head_at}
+use Rattle.session_core.specs.Stamps.{tick_of, echo_of}
+use Rattle.session_core.specs.Sealed.{number_bytes}
+use Rattle.endpoint_model.specs.Admission.{packet_in, whole_from}
+use Rattle.endpoint_model.specs.Keying.{chunks_of}
+use Rattle.endpoint_model.specs.Sending.{packet_head, session_packet, session_datagram}
+use Rattle.flow_history.specs.Deeds.{Context, Piece}
+use Rattle.endpoint_handing.specs.Told.{sends_in}
+use Rattle.endpoint_handing.proofs.Pieces.{piece_read, pieces_after, pieces_of, pieces_read, sealed_for, pieces_in}
+use Rattle.endpoint_handing.proofs.Kept.{away, session_of}
+
+-- ---- contexts
+
+pub sealed_away : (session : SessionState) → sealed_for (away session) ≡ context_of session true
+sealed_away session = by session.role
+  where
+    by : (r : Role) → sealed_for (sends_in r session.own session.joined) ≡ context_of (record session { role = r }) true
+    by Initiator = refl
+    by Responder = refl
+
+pub session_away : (session : SessionState) → session_of (context_of session true) ≡ Some (away session)
+session_away session = by session.role
+  where
+    by : (r : Role) → session_of (context_of (record session { role = r }) true) ≡ Some (sends_in r session.own session.joined)
+    by Initiator = refl
+    by Responder = refl
+
+-- ---- where a chunk stands tells nothing
+
+one_placed : (before : Option Numbers) (c : Written) (at other : ℕ) (xs ys : List Placed) → ((b : Option Numbers) → pieces_after b xs ≡ pieces_after b ys) → (shown : Bool) →
+    pieces_after before (cond shown (record { kind = c.kind; at = at; payload = c.payload } ∷ xs) xs) ≡ pieces_after before (cond shown (record { kind = c.kind; at = other; payload = c.payload } ∷ ys) ys)
+one_placed before c at other xs ys same true = ap (λ (p : List Piece). piece_read (data_reading before c.kind c.payload) ++ p) (same (before_next (data_reading before c.kind c.payload)))
+one_placed before c at other xs ys same false = same before
+
+placed_pieces : (before : Option Numbers) (at other : ℕ) (chunks : List Written) → pieces_after before (visible (all_placed_from at chunks)) ≡ pieces_after before (visible (all_placed_from other chunks))
+placed_pieces before at other [] = refl
+placed_pieces before at other (c ∷ cs) =
+    let next : ℕ = at + (3 + length c.payload) in
+    let beside : ℕ = other + (3 + length c.payload) in
+    one_placed before c at other (visible (all_placed_from next cs)) (visible (all_placed_from beside cs)) (λ b. placed_pieces b next beside cs) (not (is_ignored c.kind))
+
+-- the pieces of a body, which is the bytes of chunks
+abbrev pub body_pieces : List ℕ → List Piece
+body_pieces body = pieces_of (visible (all_placed_from 0 (body_of body).chunks))
+
+-- ---- a packet of a session
+
+-- a packet with some head, whose chunks are those of this body
+abbrev HasBody : List ℕ → Result Whole PacketFault → Type 0
+HasBody body read = (head : PacketHead) × (start : ℕ) × (read ≡ Ok (record { head = head; start = start; chunks = (body_of body).chunks; padding = (body_of body).padding }))
+
+head_read : (role : Role) (tick : ℕ) (echo : Option ℕ) (body : List ℕ) →
+    HasBody body (packet_in (head_bytes (record { critical = false; reverse = false; stamp = Some tick; echo = echo; mode = mode_of role }) ++ body))
+unfolding packet_in
+head_read Initiator tick None body = (_, _, refl)
+head_read Initiator tick (Some echo) body = (_, _, refl)
+head_read Responder tick None body = (_, _, refl)
+head_read Responder tick (Some echo) body = (_, _, refl)
+
+packet_pieces : (session : SessionState) (moment : ℕ) (body : List ℕ) → pieces_read (packet_in (session_packet session moment body)) ≡ body_pieces body
+packet_pieces session moment body =
+    let found = head_read session.role (tick_of moment) (echo_of session.stamp moment) body in
+    ap pieces_read found.2 ∙ placed_pieces None found.1 0 (body_of body).chunks
+
+-- ---- its datagram
+
+behind : (sid : ℕ) (part : List ℕ) → drop 4 (datagram sid part) ≡ part
+behind sid part = drop_at (to_be_bytes w32 (scrambled sid part)) part 4 refl
+
+pub datagram_pieces : (session : SessionState) (moment : ℕ) (body : List ℕ) → pieces_in session.secret (away session) (session_datagram session moment body) ≡ body_pieces body
+datagram_pieces session moment body =
+    let plain : List ℕ = session_packet session moment body in
+    let sealing : Sealing = context_of session true in
+    let part : List ℕ = sealed_in session.secret sealing session.joined.far (number_bytes (session.sealed + 1)) plain in
+    ap (λ (c : Sealing). pieces_read (packet_in (plain_of (keys_of session.secret c) (drop 4 (datagram session.joined.far part))))) (sealed_away session)
+    ∙ ap (λ (b : List ℕ). pieces_read (packet_in (plain_of (keys_of session.secret sealing) b))) (behind session.joined.far part)
+    ∙ ap (λ (b : List ℕ). pieces_read (packet_in b)) (sealed_opens (keys_of session.secret sealing) session.joined.far (number_bytes (session.sealed + 1)) plain refl).1
+    ∙ packet_pieces session moment body
+
+-- ---- a body of one chunk that isn't of flows
+
+-- no chunk of flows has the type
+pub record IsBeside (kind : ℕ) : Type 0 where
+  pub data_kind : (kind == 0x10) ≡ false
+  pub next_kind : (kind == 0x11) ≡ false
+  pub bitmap : (kind == 0x50) ≡ false
+  pub ranges : (kind == 0x51) ≡ false
+  pub probe : (kind == 0x18) ≡ false
+  pub exception : (kind == 0x5e) ≡ false
+
+beside_read : (a b c d f g : Bool) (x y z w u v r : _) → a ≡ false → b ≡ false → c ≡ false → d ≡ false → f ≡ false → g ≡ false →
+    piece_read (if a then x else if b then y else if c then z else if d then w else if f then u else if g then v else Err r) ≡ []
+beside_read false false false false false false x y z w u v r p q s t o n = refl
+beside_read true b c d f g x y z w u v r p q s t o n = absurd cc
+beside_read false true c d f g x y z w u v r p q s t o n = absurd cc
+beside_read false false true d f g x y z w u v r p q s t o n = absurd cc
+beside_read false false false true f g x y z w u v r p q s t o n = absurd cc
+beside_read false false false false true g x y z w u v r p q s t o n = absurd cc
+beside_read false false false false false true x y z w u v r p q s t o n = absurd cc
+
+pub beside_pieces : (before : Option Numbers) (kind : ℕ) (payload : List ℕ) → IsBeside kind → piece_read (data_reading before kind payload) ≡ []
+unfolding data_reading
+beside_pieces before kind payload is = beside_read (kind == 0x10) (kind == 0x11) (kind == 0x50) (kind == 0x51) (kind == 0x18) (kind == 0x5e) _ _ _ _ _ _ _ is.data_kind is.next_kind is.bitmap is.ranges is.probe is.exception
+
+one_piece : (b : Bool) (c : Placed) → IsBeside c.kind → pieces_of (cond b (c ∷ []) []) ≡ []
+one_piece true c is = append-nil (piece_read (data_reading None c.kind c.payload)) ∙ beside_pieces None c.kind c.payload is
+one_piece false c is = refl
+
+pub one_beside : (chunk : Written) → IsChunk chunk → IsBeside chunk.kind → body_pieces (written_bytes chunk) ≡ []
+one_beside chunk is beside =
+    let spelled : body_of (written_bytes chunk) ≡ record { chunks = chunk ∷ []; padding = [] } =
+    ap body_of (sym (append-nil (written_bytes chunk)) ∙ sym (append-nil (written_bytes chunk ++ []))) ∙ body_of-spelled (chunk ∷ []) [] (is, tt) tt in
+    ap (λ (b : Body). pieces_of (visible (all_placed_from 0 b.chunks))) spelled
+    ∙ one_piece (not (is_ignored chunk.kind)) (record { kind = chunk.kind; at = 0; payload = chunk.payload }) beside

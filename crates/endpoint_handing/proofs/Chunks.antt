@@ -1,0 +1,321 @@
+-- What the chunks of a datagram do.
+use Rattle.std.proofs.Common.{◌≡◌, ℕ, ◌==◌, List, [], ◌∷◌, ◌++◌, Bool, true, false, ◌||◌, not, if◌then◌else◌}
+use Rattle.std.proofs.Common.{Option, Some, None, Result, Ok, Err, inl, inr, ◌⊎◌, refl, sym, ap, subst, ◌∙◌, arith}
+use Rattle.std.proofs.lemmas.Bool.Decides.{nat_tests}
+use Rattle.std.specs.FinMap.{get, insert}
+use Rattle.rtmfp_forms.specs.Address.{AddressParts}
+use Rattle.rtmfp_packet.specs.Walk.{Placed}
+use Rattle.rtmfp_chunks.specs.Chunk.{Ping}
+use Rattle.rtmfp_chunks.specs.FieldReading.{chunk_reading}
+use Rattle.rtmfp_chunks.specs.Writing.{chunk_bytes}
+use Rattle.rtmfp_data_chunks.specs.HandsOver.{IsIn}
+use Rattle.rtmfp_data_chunks.specs.declared.user_data.Numbers.{Numbers}
+use Rattle.rtmfp_data_chunks.specs.declared.view.DataFault.{DataFault}
+use Rattle.rtmfp_data_chunks.specs.Chunk.{DataChunk}
+use Rattle.rtmfp_data_chunks.specs.Spelling.{before_next}
+use Rattle.rtmfp_data_chunks.specs.Reader.{data_reading}
+use Rattle.cookies.specs.declared.CookieTest.{CookieTest}
+use Rattle.cookies.specs.declared.CookieTest.TheVariants.{Bad, Moved, Expired, Current}
+use Rattle.cookies.specs.Cookie.{cookie_test}
+use Rattle.sha2.specs.Sha256.{sha256}
+use Rattle.glare_core.specs.declared.facts.Why.TheVariants.{Glare, Override}
+use Rattle.glare_core.specs.declared.facts.Fact.{Fact}
+use Rattle.glare_core.specs.declared.facts.Fact.TheVariants.{Born}
+use Rattle.glare_core.specs.declared.facts.Held.{Held}
+use Rattle.glare_core.specs.declared.facts.Held.TheVariants.{Opening, HalfOpen, KeptAsResponder, KeptAsInitiator}
+use Rattle.glare_core.specs.declared.facts.Joined.{Joined}
+use Rattle.glare_core.specs.Ledger.{held_with}
+use Rattle.glare_core.specs.Calls.{where_true, first_that_stands, way_made}
+use Rattle.startup.specs.declared.cause.Cause.{Cause}
+use Rattle.startup.specs.declared.cause.Cause.TheVariants.{UnknownChunk, WrongPlace, WrongState, Fragment as FragmentCause}
+use Rattle.startup.specs.State.{StartupState, AttemptState}
+use Rattle.startup.specs.Keyings.{InitiatorKeying, ResponderKeying, keying_of, initiator_keying_in}
+use Rattle.startup.specs.Keyings.{responder_keying_in, repeated_session, again_or_birth, keyed_with}
+use Rattle.startup.specs.Keyings.{keyed_reading, after_keying, session_answer, change_answer, born_session}
+use Rattle.startup.specs.Keyings.{opened_with, opened_reading, after_opening}
+use Rattle.session_core.specs.declared.stage.Role.TheVariants.{Initiator, Responder}
+use Rattle.endpoint_model.specs.declared.config.Draws.{Draws}
+use Rattle.endpoint_model.specs.declared.place.Place.{Place}
+use Rattle.endpoint_model.specs.declared.place.Place.TheVariants.{Startup, Attempt, Session}
+use Rattle.endpoint_model.specs.declared.walk.Walk.{Walk}
+use Rattle.endpoint_model.specs.declared.row.Row.{Row}
+use Rattle.endpoint_model.specs.declared.entry.Entry.{Entry}
+use Rattle.endpoint_model.specs.declared.entry.Entry.TheVariants.{Fact as FactEntry}
+use Rattle.endpoint_model.specs.State.{Sessions, State, Did, nothing, fact_entries, then_do, with_startup, with_sessions, free_from}
+use Rattle.endpoint_model.specs.Sending.{sent_answer, sent_in_session}
+use Rattle.endpoint_model.specs.Admission.{sid_at}
+use Rattle.endpoint_model.specs.FlowChunks.{is_of_flows, data_fault, taking_cause, flow_cause, flow_taken_by, flow_taken}
+use Rattle.endpoint_model.specs.Causes.{is_known, form_cause, takes, has_state_for, read_cause, initiator_keying_cause}
+use Rattle.endpoint_model.specs.Causes.{responder_keying_cause, last_cause, chunk_cause}
+use Rattle.endpoint_model.specs.Effects.{without_ended, with_born, keying_done, initiator_keyed, with_opened}
+use Rattle.endpoint_model.specs.Effects.{opening_done, responder_keyed, is_told_in_session, effect, discarded}
+use Rattle.endpoint_model.specs.Effects.{discarded_or, chunk_did, walked, chunks_did, read_done}
+use Rattle.endpoint_model.specs.InSessions.{told_in_session}
+use Rattle.flow_history.specs.Deeds.{Context, back, Piece, History}
+use Rattle.flow_history.specs.Lawful.{CameIn}
+use Rattle.endpoint_handing.specs.Told.{sending_context, facts_onto}
+use Rattle.endpoint_handing.proofs.Pieces.{piece_read, pieces_after}
+use Rattle.endpoint_handing.proofs.Kept.{End, away, Stands, AreNew, new_split, IsStill, Hands, Does}
+use Rattle.endpoint_handing.proofs.Kept.{hands_after, does_after, does_then, does_if, does_nothing}
+use Rattle.endpoint_handing.proofs.Silent.{AreSilent, AllHad, had_it, had_left, does_silent, does_from}
+use Rattle.endpoint_handing.proofs.Begun.{does_begin}
+use Rattle.endpoint_handing.proofs.Kin.{IsKin, kin_keying}
+use Rattle.endpoint_handing.proofs.Plain.{ping_none}
+use Rattle.endpoint_handing.proofs.Sent.{does_answer, does_in_session}
+use Rattle.endpoint_handing.proofs.Items.{ended_silent, does_discarded, does_told, does_read}
+use Rattle.endpoint_handing.proofs.Owed.{FlowsHand}
+
+-- ---- a session is born
+
+way_silent : (peer : List ℕ) (o : Option Held) → AreSilent (fact_entries (way_made peer o))
+way_silent peer None = tt
+way_silent peer (Some (Opening n near ni)) = (ended_silent peer near Glare, tt)
+way_silent peer (Some (HalfOpen j)) = (ended_silent peer j.near Override, tt)
+way_silent peer (Some (KeptAsResponder j)) = (ended_silent peer j.near Override, tt)
+way_silent peer (Some (KeptAsInitiator j)) = (ended_silent peer j.near Override, tt)
+
+way_had : (m : Sessions) (peer : List ℕ) (o : Option Held) → AllHad m (without_ended m (way_made peer o))
+way_had m peer None = had_it m
+way_had m peer (Some (Opening n near ni)) = had_left m near
+way_had m peer (Some (HalfOpen j)) = had_left m j.near
+way_had m peer (Some (KeptAsResponder j)) = had_left m j.near
+way_had m peer (Some (KeptAsInitiator j)) = had_left m j.near
+
+abbrev birth : State → Option Fact → Joined → AddressParts → Did
+birth s ended j from = record { state = with_born s ended (Born j) from; entries = fact_entries ended ++ FactEntry (Born j) ∷ [] }
+
+module _ (e : End) (may : e.begins) (facts : List Fact) where
+  does_birth : (s : State) (peer : List ℕ) (o : Option Held) (j : Joined) (from : AddressParts) → Does e facts s (birth s (way_made peer o) j from)
+  does_birth s peer o j from =
+      let ended : Option Fact = way_made peer o in
+      let rest : Sessions = without_ended s.sessions ended in
+      let middle : State = with_sessions s rest in
+      let born : State = with_born s ended (Born j) from in
+      does_after e facts s middle (fact_entries ended) (record { state = born; entries = FactEntry (Born j) ∷ [] })
+      (does_silent e facts s middle (fact_entries ended) (way_silent peer o) (record { own = refl; secret = refl; rows = way_had s.sessions peer o }))
+      (does_begin e (facts_onto (fact_entries ended) facts) middle born Responder j from s.moment rest may refl refl (had_it rest) refl)
+
+  does_keyed_with : (s : State) (startup : StartupState) (from : AddressParts) (now near : ℕ) (nr : List ℕ) (keying : InitiatorKeying) (t : CookieTest) → Does e facts s (keying_done s from (Some (keyed_with startup from now near nr keying t)))
+  does_keyed_with s startup from now near nr keying Current = by (repeated_session (held_with startup.ledger (sha256 keying.cert)) (keying_of keying))
+    where
+      by : (o : Option Joined) → Does e facts s (keying_done s from (Some (again_or_birth startup (keying_of keying) from near nr o)))
+      by (Some j) = does_answer e facts s (session_answer startup j from)
+      by None =
+          let j : Joined = born_session startup.ledger (keying_of keying) near nr in
+          let o : Option Held = held_with startup.ledger (sha256 keying.cert) in
+          does_then e facts s (birth s (way_made (sha256 keying.cert) o) j from) (λ t. sent_answer t (session_answer startup j from)) (does_birth s (sha256 keying.cert) o j from)
+          (does_answer e _ _ (session_answer startup j from))
+  does_keyed_with s startup from now near nr keying Bad = does_answer e facts s (change_answer startup keying from now)
+  does_keyed_with s startup from now near nr keying Moved = does_answer e facts s (change_answer startup keying from now)
+  does_keyed_with s startup from now near nr keying Expired = does_answer e facts s (change_answer startup keying from now)
+
+  does_keyed : (s : State) (startup : StartupState) (from : AddressParts) (now near : ℕ) (nr : List ℕ) (r : Result InitiatorKeying Cause) → Does e facts s (keying_done s from (keyed_reading startup from now near nr r))
+  does_keyed s startup from now near nr (Ok keying) = does_keyed_with s startup from now near nr keying (cookie_test startup.cookie_secret keying.cookie from now)
+  does_keyed s startup from now near nr (Err cause) = does_nothing e facts s
+
+  does_initiator_keyed : (s : State) (from : AddressParts) (draws : Draws) (payload : List ℕ) → Does e facts s (initiator_keyed s from draws payload)
+  does_initiator_keyed s from draws payload =
+      let left : StartupState = after_keying s.startup payload from s.moment (free_from s draws.word) draws.nonce in
+      let kin : IsKin s.startup left = kin_keying s.startup payload from s.moment (free_from s draws.word) draws.nonce in
+      does_from e facts s (with_startup s left) (initiator_keyed s from draws payload) (record { own = kin.own; secret = kin.secret; rows = had_it s.sessions })
+      (does_keyed (with_startup s left) s.startup from s.moment (free_from s draws.word) draws.nonce (initiator_keying_in payload))
+
+  -- ---- a session is opened
+
+  does_opened : (s : State) (near at : ℕ) (from : AddressParts) (a : AttemptState) (keying : ResponderKeying) → Does e facts s (opening_done s near from (Some (opened_with at keying a)))
+  does_opened s near at from a keying =
+      let fact : Fact = opened_with at keying a in
+      let j : Joined = record { peer = a.peer; n = a.n; near = at; far = keying.near; ni = a.ni; nr = keying.part.nr; k = keying.part.k } in
+      let opened : State = with_opened (with_startup s (after_opening s.startup near fact)) fact from in
+      let d : Did = record { state = opened; entries = FactEntry fact ∷ [] } in
+      does_then e facts s d (λ u. sent_in_session u near from (chunk_bytes (Ping [])))
+      (does_begin e facts s opened Initiator j from s.moment s.sessions may refl refl (had_it s.sessions) refl)
+      (does_in_session e _ opened near from (chunk_bytes (Ping [])) (ping_none [] (omega arith)))
+
+  does_opening_done : (s : State) (near : ℕ) (from : AddressParts) (o : Option AttemptState) (r : Result ResponderKeying Cause) → Does e facts s (opening_done s near from (opened_reading near o r))
+  does_opening_done s near from (Some a) (Ok keying) = does_opened s near near from a keying
+  does_opening_done s near from (Some a) (Err cause) = does_nothing e facts s
+  does_opening_done s near from None r = does_nothing e facts s
+
+  does_responder_keyed : (s : State) (near : ℕ) (from : AddressParts) (payload : List ℕ) → Does e facts s (responder_keyed s near from payload)
+  does_responder_keyed s near from payload = does_opening_done s near from (get s.startup.attempts near) (responder_keying_in payload)
+
+-- ---- what there being no cause says
+
+second_none : (b : Option Cause) → first_that_stands (b ∷ []) ≡ None → b ≡ None
+second_none None is = refl
+second_none (Some x) is = absurd cc
+
+first_none : (a b : Option Cause) → first_that_stands (a ∷ b ∷ []) ≡ None → b ≡ None
+first_none None b is = second_none b is
+first_none (Some x) b is = absurd cc
+
+pub record Uncaused (s : State) (place : Place) (walk : Walk) (from : AddressParts) (c : Placed) : Type 0 where
+  pub form : form_cause walk.cursor c.kind c.payload ≡ None
+  pub here : takes place c.kind ≡ true
+  pub last : last_cause s place walk from c ≡ None
+
+taken_true : (b : Bool) (cause : Cause) → where_true (not b) cause ≡ None → b ≡ true
+taken_true true cause is = refl
+taken_true false cause is = absurd cc
+
+five_none : (a b c d f : Option Cause) → first_that_stands (a ∷ b ∷ c ∷ d ∷ f ∷ []) ≡ None → (b ≡ None) × (d ≡ None) × (f ≡ None)
+five_none None None None None None is = (refl, refl, refl)
+five_none (Some x) b c d f is = absurd cc
+five_none None (Some x) c d f is = absurd cc
+five_none None None (Some x) d f is = absurd cc
+five_none None None None (Some x) f is = absurd cc
+five_none None None None None (Some x) is = absurd cc
+
+uncaused : (s : State) (place : Place) (walk : Walk) (from : AddressParts) (c : Placed) → chunk_cause s place walk from c ≡ None → Uncaused s place walk from c
+uncaused s place walk from c is =
+    let all = five_none (where_true (not (is_known c.kind)) (UnknownChunk c.kind)) (form_cause walk.cursor c.kind c.payload) (where_true (c.kind == 0x7f) FragmentCause)
+    (where_true (not (takes place c.kind)) WrongPlace) (last_cause s place walk from c) is in
+    record { form = all.0; here = taken_true (takes place c.kind) WrongPlace all.1; last = all.2 }
+
+-- ---- which place takes which chunk
+
+is_kind : (kind n : ℕ) → (kind == n) ≡ true → kind ≡ n
+is_kind kind n e = grind (arith, nat_tests)
+
+not_taken : (place : Place) (kind n : ℕ) → takes place n ≡ false → takes place kind ≡ true → (kind == n) ≡ true → ⊥
+not_taken place kind n outside here e = let clash : false ≡ true = sym outside ∙ ap (takes place) (sym (is_kind kind n e)) ∙ here in cc
+
+none_of : (a b c d f g : Bool) → (a ≡ true → ⊥) → (b ≡ true → ⊥) → (c ≡ true → ⊥) → (d ≡ true → ⊥) → (f ≡ true → ⊥) → (g ≡ true → ⊥) → (a || b || c || d || f || g) ≡ true → ⊥
+none_of true b c d f g p q r s t u is = p refl
+none_of false true c d f g p q r s t u is = q refl
+none_of false false true d f g p q r s t u is = r refl
+none_of false false false true f g p q r s t u is = s refl
+none_of false false false false true g p q r s t u is = t refl
+none_of false false false false false true p q r s t u is = u refl
+none_of false false false false false false p q r s t u is = absurd cc
+
+-- chunks of flows come in sessions alone
+no_flows_at_startup : (kind : ℕ) → takes Startup kind ≡ true → is_of_flows kind ≡ true → ⊥
+no_flows_at_startup kind here is = none_of (kind == 0x10) (kind == 0x11) (kind == 0x50) (kind == 0x51) (kind == 0x18) (kind == 0x5e)
+    (not_taken Startup kind 0x10 refl here) (not_taken Startup kind 0x11 refl here) (not_taken Startup kind 0x50 refl here) (not_taken Startup kind 0x51 refl here)
+    (not_taken Startup kind 0x18 refl here) (not_taken Startup kind 0x5e refl here) is
+
+no_flows_at_attempt : (near kind : ℕ) → takes (Attempt near) kind ≡ true → is_of_flows kind ≡ true → ⊥
+no_flows_at_attempt near kind here is = none_of (kind == 0x10) (kind == 0x11) (kind == 0x50) (kind == 0x51) (kind == 0x18) (kind == 0x5e)
+    (not_taken (Attempt near) kind 0x10 refl here) (not_taken (Attempt near) kind 0x11 refl here) (not_taken (Attempt near) kind 0x50 refl here) (not_taken (Attempt near) kind 0x51 refl here)
+    (not_taken (Attempt near) kind 0x18 refl here) (not_taken (Attempt near) kind 0x5e refl here) is
+
+-- ---- what a chunk is given
+
+-- Sessions begin outside of sessions alone.
+abbrev pub BeginsAt : End → Place → Type 0
+BeginsAt e Startup = e.begins
+BeginsAt e (Attempt near) = e.begins
+BeginsAt e (Session near) = e.begins → ⊥
+
+may_begin : (e : End) (place : Place) (kind n : ℕ) → ((near : ℕ) → takes (Session near) n ≡ false) → BeginsAt e place → takes place kind ≡ true → (kind == n) ≡ true → e.begins
+may_begin e Startup kind n outside at here is = at
+may_begin e (Attempt near) kind n outside at here is = at
+may_begin e (Session near) kind n outside at here is = absurd (not_taken (Session near) kind n (outside near) here is)
+
+-- In a session, what the chunk has of flows came towards it.
+abbrev CameTo : End → Place → State → List Piece → History → Type 0
+CameTo e Startup s pieces h = Unit {0}
+CameTo e (Attempt near) s pieces h = Unit {0}
+CameTo e (Session near) s pieces h = (row : Row) → get s.sessions near ≡ Some row → (x : Piece) → IsIn x pieces → CameIn e.who (back (away row.session)) x h
+
+module _ (e : End) (owed : FlowsHand e) (facts : List Fact) (s : State) (h : History) (stands : Stands e facts s h) where
+  taken_by_row : (near : ℕ) (chunk : DataChunk) (o : Option Row) → get s.sessions near ≡ o → taking_cause o chunk ≡ None → CameTo e (Session near) s (piece_read (Ok chunk)) h → Hands e facts (flow_taken_by s near chunk o) h
+  taken_by_row near chunk None is none came = absurd cc
+  taken_by_row near chunk (Some row) is none came = owed.taken facts s near row is chunk none h stands (came row is)
+
+  taken_read : (near : ℕ) (read : Result DataChunk DataFault) → flow_cause (get s.sessions near) read ≡ None → CameTo e (Session near) s (piece_read read) h → Hands e facts (flow_taken s near read) h
+  taken_read near (Ok chunk) none came = taken_by_row near chunk (get s.sessions near) refl none came
+  taken_read near (Err fault) none came = does_nothing e facts s h stands tt
+
+  taken_at : (place : Place) (kind : ℕ) (read : Result DataChunk DataFault) → takes place kind ≡ true → is_of_flows kind ≡ true → flow_cause (get s.sessions (sid_at place)) read ≡ None → CameTo e place s (piece_read read) h →
+      Hands e facts (flow_taken s (sid_at place) read) h
+  taken_at Startup kind read here is none came = absurd (no_flows_at_startup kind here is)
+  taken_at (Attempt near) kind read here is none came = absurd (no_flows_at_attempt near kind here is)
+  taken_at (Session near) kind read here is none came = taken_read near read none came
+
+  module _ (place : Place) (walk : Walk) (from : AddressParts) (draws : Draws) (c : Placed) (at : BeginsAt e place) (came : CameTo e place s (piece_read (data_reading walk.cursor c.kind c.payload)) h) where
+    hands_effect : Uncaused s place walk from c → AreNew e facts (effect s place walk from draws c).entries → Hands e facts (effect s place walk from draws c) h
+    hands_effect u new = by (c.kind == 0x38) (c.kind == 0x78) (is_told_in_session c.kind) (is_of_flows c.kind) refl refl refl u.last new
+      where
+        near : ℕ
+        near = sid_at place
+
+        by : (i r t f : Bool) → (c.kind == 0x38) ≡ i → (c.kind == 0x78) ≡ r → is_of_flows c.kind ≡ f →
+            (if i then initiator_keying_cause s walk from c.payload else if r then responder_keying_cause s near c.payload else if f then flow_cause (get s.sessions near) (data_reading walk.cursor c.kind c.payload)
+            else first_that_stands (where_true (not (has_state_for s place c.kind)) WrongState ∷ read_cause s place from (chunk_reading c.kind c.payload) ∷ [])) ≡ None →
+            AreNew e facts (if i then initiator_keyed s from draws c.payload else if r then responder_keyed s near from c.payload else if t then told_in_session s near from c
+            else if f then flow_taken s near (data_reading walk.cursor c.kind c.payload) else read_done s place from (chunk_reading c.kind c.payload)).entries →
+            Hands e facts (if i then initiator_keyed s from draws c.payload else if r then responder_keyed s near from c.payload else if t then told_in_session s near from c
+            else if f then flow_taken s near (data_reading walk.cursor c.kind c.payload) else read_done s place from (chunk_reading c.kind c.payload)) h
+        by true r t f is_i is_r is_f none new = does_initiator_keyed e (may_begin e place c.kind 0x38 (λ q. refl) at u.here is_i) facts s from draws c.payload h stands new
+        by false true t f is_i is_r is_f none new = does_responder_keyed e (may_begin e place c.kind 0x78 (λ q. refl) at u.here is_r) facts s near from c.payload h stands new
+        by false false true f is_i is_r is_f none new = does_told e facts s near from c h stands new
+        by false false false true is_i is_r is_f none new = taken_at place c.kind (data_reading walk.cursor c.kind c.payload) u.here is_f none came
+        by false false false false is_i is_r is_f none new = does_read e facts s place from (chunk_reading c.kind c.payload) (first_none _ _ none) h stands new
+
+    pub hands_chunk : AreNew e facts (chunk_did place from draws walk s c).entries → Hands e facts (chunk_did place from draws walk s c) h
+    hands_chunk new = by (chunk_cause s place walk from c) refl new
+      where
+        by : (o : Option Cause) → chunk_cause s place walk from c ≡ o → AreNew e facts (discarded_or s c.at o (effect s place walk from draws c)).entries → Hands e facts (discarded_or s c.at o (effect s place walk from draws c)) h
+        by None is new = hands_effect (uncaused s place walk from c is) new
+        by (Some cause) is new = does_discarded e facts s c.at cause h stands new
+
+-- ---- one chunk after another
+
+in_first : (x : Piece) (xs ys : List Piece) → IsIn x xs → IsIn x (xs ++ ys)
+in_first x [] ys among = absurd among
+in_first x (y ∷ xs) ys (inl is) = inl is
+in_first x (y ∷ xs) ys (inr among) = inr (in_first x xs ys among)
+
+in_second : (x : Piece) (xs ys : List Piece) → IsIn x ys → IsIn x (xs ++ ys)
+in_second x [] ys among = among
+in_second x (y ∷ xs) ys among = inr (in_second x xs ys among)
+
+-- The session has this context, and what these chunks have of flows came towards it.
+pub record AllCame (e : End) (near : ℕ) (facts : List Fact) (before : Option Numbers) (cs : List Placed) (h : History) : Type 0 where
+  pub context : Context
+  pub named : sending_context e.own near facts ≡ Some context
+  pub came : (x : Piece) → IsIn x (pieces_after before cs) → CameIn e.who (back context) x h
+
+abbrev pub AllCameAt : End → Place → List Fact → Option Numbers → List Placed → History → Type 0
+AllCameAt e Startup facts before cs h = Unit {0}
+AllCameAt e (Attempt near) facts before cs h = Unit {0}
+AllCameAt e (Session near) facts before cs h = AllCame e near facts before cs h
+
+first_came : (e : End) (place : Place) (facts : List Fact) (s : State) (before : Option Numbers) (c : Placed) (cs : List Placed) (h : History) → Stands e facts s h → AllCameAt e place facts before (c ∷ cs) h →
+    CameTo e place s (piece_read (data_reading before c.kind c.payload)) h
+first_came e Startup facts s before c cs h stands all = tt
+first_came e (Attempt near) facts s before c cs h stands all = tt
+first_came e (Session near) facts s before c cs h stands all = λ row there x among.
+    let both : Some all.context ≡ Some (away row.session) = sym all.named ∙ (stands.state.rows near row there).named in
+    let is : all.context ≡ away row.session = cc in
+    let one : List Piece = piece_read (data_reading before c.kind c.payload) in
+    subst (λ (d : Context). CameIn e.who (back d) x h) is (all.came x (in_first x one (pieces_after (before_next (data_reading before c.kind c.payload)) cs) among))
+
+pub stays : (e : End) (near : ℕ) (facts more : List Fact) → (e.begins → ⊥) → e.begins ⊎ IsStill e.own near facts more → IsStill e.own near facts more
+stays e near facts more never (inl may) = absurd (never may)
+stays e near facts more never (inr still) = still
+
+rest_came : (e : End) (place : Place) (facts : List Fact) (before : Option Numbers) (c : Placed) (cs : List Placed) (h : History) (d : Did) → BeginsAt e place → (one : Hands e facts d h) → AllCameAt e place facts before (c ∷ cs) h →
+    AllCameAt e place (facts_onto d.entries facts) (before_next (data_reading before c.kind c.payload)) cs one.after
+rest_came e Startup facts before c cs h d at one all = tt
+rest_came e (Attempt near) facts before c cs h d at one all = tt
+rest_came e (Session near) facts before c cs h d at one all = record {
+  context = all.context;
+  named = stays e near facts (facts_onto d.entries facts) at (one.still near) ∙ all.named;
+  came = λ x among. one.grows.came e.who (back all.context) x (all.came x (in_second x (piece_read (data_reading before c.kind c.payload)) (pieces_after (before_next (data_reading before c.kind c.payload)) cs) among));
+}
+
+module _ (e : End) (owed : FlowsHand e) (place : Place) (from : AddressParts) (draws : Draws) (at : BeginsAt e place) where
+  pub hands_chunks : (cs : List Placed) (facts : List Fact) (walk : Walk) (s : State) (h : History) → Stands e facts s h → AllCameAt e place facts walk.cursor cs h → AreNew e facts (chunks_did place from draws walk s cs).entries →
+      Hands e facts (chunks_did place from draws walk s cs) h
+  hands_chunks [] facts walk s h stands all new = does_nothing e facts s h stands tt
+  hands_chunks (c ∷ cs) facts walk s h stands all new =
+      let d : Did = chunk_did place from draws walk s c in
+      let later : Did = chunks_did place from draws (walked walk c) d.state cs in
+      let parts = new_split e d.entries later.entries facts new in
+      let one : Hands e facts d h = hands_chunk e owed facts s h stands place walk from draws c at (first_came e place facts s walk.cursor c cs h stands all) parts.0 in
+      hands_after e facts d.state d.entries later h one
+      (hands_chunks cs (facts_onto d.entries facts) (walked walk c) d.state one.after one.stands (rest_came e place facts walk.cursor c cs h d at one all) parts.1)

@@ -1,0 +1,408 @@
+-- What an end does of a datagram.
+use Rattle.std.proofs.Common.{◌≡◌, ℕ, zero, suc, ◌==◌, ◌^◌, ◌<◌, List, [], ◌∷◌, ◌++◌, length, drop, take, Bool, true, false}
+use Rattle.std.proofs.Common.{not, nat_lt, if◌then◌else◌, Option, Some, None, Result, Ok, Err, inl, inr, ◌⊎◌}
+use Rattle.std.proofs.Common.{refl, sym, ap, subst, ◌∙◌, append-nil}
+use Rattle.std.proofs.lemmas.List.{take-append-drop}
+use Rattle.std.specs.FinMap.{get}
+use Rattle.rtmfp_forms.specs.Address.{AddressParts}
+use Rattle.crypto_profile.specs.declared.keys.Context.{Context as Sealing}
+use Rattle.crypto_profile.specs.Keys.{keys_of}
+use Rattle.crypto_profile.specs.Opening.{plain_of}
+use Rattle.packet_scramble.specs.Datagram.{sid_of}
+use Rattle.rtmfp_packet.specs.declared.head.PacketHead.{PacketHead}
+use Rattle.rtmfp_packet.specs.declared.head.PacketFault.{PacketFault}
+use Rattle.rtmfp_packet.specs.Walk.{Placed}
+use Rattle.rtmfp_packet.specs.Whole.{Whole}
+use Rattle.rtmfp_data_chunks.specs.HandsOver.{IsIn}
+use Rattle.rtmfp_data_chunks.specs.declared.user_data.Numbers.{Numbers}
+use Rattle.rtmfp_data_chunks.specs.Spelling.{before_next}
+use Rattle.rtmfp_data_chunks.specs.Reader.{data_reading}
+use Rattle.glare_core.specs.declared.facts.Fact.{Fact}
+use Rattle.session_core.specs.declared.stage.Role.{Role}
+use Rattle.session_core.specs.declared.stage.Role.TheVariants.{Initiator, Responder}
+use Rattle.session_core.specs.declared.hearing.Unheard.{Unheard}
+use Rattle.session_core.specs.declared.hearing.Unheard.TheVariants.{Short as ShortPart, BadTag as WrongTag, Repeated as OldNumber}
+use Rattle.session_core.specs.Session.{SessionState, context_of, with_stamps}
+use Rattle.session_core.specs.Hearing.{opens_in as opens_in_session, is_new, count_of, unheard_by, unheard, inward_keys, counted}
+use Rattle.crypto_profile.specs.Window.{window_answer}
+use Rattle.session_flows.specs.Owing.{owes}
+use Rattle.startup.specs.declared.cause.Cause.{Cause}
+use Rattle.startup.specs.declared.cause.Cause.TheVariants.{WrongPlace, Short as ShortDatagram}
+use Rattle.endpoint_model.specs.declared.config.Draws.{Draws}
+use Rattle.endpoint_model.specs.declared.answers.Stopped.{Stopped as Stop}
+use Rattle.endpoint_model.specs.declared.place.Place.{Place}
+use Rattle.endpoint_model.specs.declared.place.Place.TheVariants.{Startup, Attempt, Session}
+use Rattle.endpoint_model.specs.declared.row.Row.{Row}
+use Rattle.endpoint_model.specs.declared.entry.Entry.{Entry}
+use Rattle.endpoint_model.specs.Views.{fact_in}
+use Rattle.endpoint_model.specs.Keying.{chunks_of}
+use Rattle.endpoint_model.specs.State.{State, Did, nothing, then_do}
+use Rattle.endpoint_model.specs.Admission.{packet_in, place_of, opened_in_startup, heard_by, heard_in, opened_at, placed, opened_found}
+use Rattle.endpoint_model.specs.Admission.{opened_datagram, counted_by, counted_at, timed_by, timed_at, confirming}
+use Rattle.endpoint_model.specs.Admission.{mode_at, has_mode, Admission, Rejected, Admitted, admitted_packet, admitted, admission}
+use Rattle.endpoint_model.specs.InSessions.{tested}
+use Rattle.endpoint_model.specs.FlowChunks.{acked_by, owes_by, acked_if, acked_in, acked, unowed_by, unowed}
+use Rattle.endpoint_model.specs.Effects.{discarded, outset, chunks_did, gone_through, most_acks, gone_through_and_acked}
+use Rattle.endpoint_model.specs.Effects.{received, part_received}
+use Rattle.endpoint_model.specs.Log.{stopped}
+use Rattle.endpoint_laws.specs.Past.{fact_and}
+use Rattle.endpoint_laws.specs.OpensIn.{context_in_session, context_found, opens_in}
+use Rattle.flow_history.specs.Deeds.{Context, back, Piece, In, done, History}
+use Rattle.flow_history.specs.Lawful.{HasBegun, CameIn, WasSent}
+use Rattle.endpoint_handing.specs.Told.{sends_in, facts_onto}
+use Rattle.endpoint_handing.proofs.Pieces.{piece_read, pieces_after, pieces_of, pieces_read, sealed_for, pieces_in}
+use Rattle.endpoint_handing.proofs.Kept.{End, away, RowKept, StateKept, HasStarted, Stands, IsNew, AreNew, new_split}
+use Rattle.endpoint_handing.proofs.Kept.{grows_then, Hands, Does, hands_after, does_then, does_if, does_nothing}
+use Rattle.endpoint_handing.proofs.Deeding.{grows_by, kept_by}
+use Rattle.endpoint_handing.proofs.Silent.{stands_silent, IsSame, same_then, AllHad, had_it, had_row, IsAlike, does_from}
+use Rattle.endpoint_handing.proofs.Items.{does_discarded, does_confirming, does_tested}
+use Rattle.endpoint_handing.proofs.Owed.{FlowsHand}
+use Rattle.endpoint_handing.proofs.Chunks.{BeginsAt, AllCame, AllCameAt, stays, hands_chunks}
+
+-- ---- before the chunks
+
+alike_itself : (s : State) → IsAlike s s
+alike_itself s = record { own = refl; secret = refl; rows = had_it s.sessions }
+
+alike_then : (a b c : State) → IsAlike a b → IsAlike b c → IsAlike a c
+alike_then a b c p q = record {
+  own = q.own ∙ p.own;
+  secret = q.secret ∙ p.secret;
+  rows = λ near row there.
+      (let two = q.rows near row there in
+      let one = p.rows near two.old two.there in
+      record { old = one.old; there = one.there; same = same_then one.old two.old row one.same two.same });
+}
+
+counted_alike : (s : State) (near : ℕ) (part : List ℕ) (o : Option Row) → get s.sessions near ≡ o → IsAlike s (counted_by s near part o)
+counted_alike s near part None is = alike_itself s
+counted_alike s near part (Some row) is = record { own = refl; secret = refl; rows = had_row s.sessions near row (record row { session = counted row.session part }) is (record { joined = refl; own = refl; role = refl; secret = refl; flows = refl }) }
+
+alike_counted : (s : State) (place : Place) (part : List ℕ) → IsAlike s (counted_at s place part)
+alike_counted s Startup part = alike_itself s
+alike_counted s (Attempt near) part = alike_itself s
+alike_counted s (Session near) part = counted_alike s near part (get s.sessions near) refl
+
+timed_alike : (s : State) (near : ℕ) (head : PacketHead) (o : Option Row) → get s.sessions near ≡ o → IsAlike s (timed_by s near head o)
+timed_alike s near head None is = alike_itself s
+timed_alike s near head (Some row) is = record { own = refl; secret = refl; rows = had_row s.sessions near row (record row { session = with_stamps head s.moment row.session }) is (record { joined = refl; own = refl; role = refl; secret = refl; flows = refl }) }
+
+alike_timed : (s : State) (place : Place) (head : PacketHead) → IsAlike s (timed_at s place head)
+alike_timed s Startup head = alike_itself s
+alike_timed s (Attempt near) head = alike_itself s
+alike_timed s (Session near) head = timed_alike s near head (get s.sessions near) refl
+
+-- The datagram opens in the context of this session towards this end, and its packet is this one.
+pub record OpensHere (s : State) (datagram : List ℕ) (near : ℕ) (packet : Whole) : Type 0 where
+  pub row : Row
+  pub there : get s.sessions near ≡ Some row
+  pub reads : packet_in (plain_of (inward_keys row.session) (drop 4 datagram)) ≡ Ok packet
+  pub opens : opens_in s datagram ≡ Some (context_of row.session false)
+
+abbrev pub OpensAt : State → List ℕ → Place → Whole → Type 0
+OpensAt s datagram Startup packet = Unit {0}
+OpensAt s datagram (Attempt near) packet = Unit {0}
+OpensAt s datagram (Session near) packet = OpensHere s datagram near packet
+
+abbrev pub AdmissionIs : State → List ℕ → Admission → Type 0
+AdmissionIs s datagram (Rejected t cause) = IsAlike s t
+AdmissionIs s datagram (Admitted t place packet) = IsAlike s t × OpensAt s datagram place packet
+
+module _ (s : State) (datagram : List ℕ) where
+  abbrev part : List ℕ
+  part = drop 4 datagram
+
+  -- a packet that is read at a place
+  packet_is : (place : Place) (read : Result Whole PacketFault) → ((packet : Whole) → read ≡ Ok packet → OpensAt s datagram place packet) → AdmissionIs s datagram (admitted_packet (counted_at s place part) place read)
+  packet_is place (Err fault) opens = alike_counted s place part
+  packet_is place (Ok packet) opens = by (has_mode packet.head (mode_at (counted_at s place part) place))
+    where
+      counted_state : State
+      counted_state = counted_at s place part
+
+      by : (b : Bool) → AdmissionIs s datagram (if b then Admitted (timed_at counted_state place packet.head) place packet else Rejected counted_state WrongPlace)
+      by true = (alike_then s counted_state (timed_at counted_state place packet.head) (alike_counted s place part) (alike_timed counted_state place packet.head), opens packet refl)
+      by false = alike_counted s place part
+
+  startup_is : (place : Place) → ((packet : Whole) → OpensAt s datagram place packet) → (r : Result (List ℕ) Cause) → AdmissionIs s datagram (admitted s datagram (placed place r))
+  startup_is place any (Ok plain) = packet_is place (packet_in plain) (λ packet is. any packet)
+  startup_is place any (Err cause) = alike_itself s
+
+  heard_opens : (session : SessionState) → unheard session part ≡ None → opens_in_session session part ≡ true
+  heard_opens session none = by (nat_lt (length part) 32) (opens_in_session session part) (is_new (window_answer session.window (count_of part))) none
+    where
+      by : (short opens new : Bool) → ◌≡◌ {A = Option Unheard} (if short then Some ShortPart else if not opens then Some WrongTag else if not new then Some OldNumber else None) None → opens ≡ true
+      by true opens new is = absurd cc
+      by false true new is = refl
+      by false false new is = absurd cc
+
+  module _ (long : nat_lt (length datagram) 36 ≡ false) (near : ℕ) (place : place_of s (sid_of datagram) ≡ Some (Session near)) (row : Row) (there : get s.sessions near ≡ Some row) where
+    context_found_here : opens_in_session row.session part ≡ true → opens_in s datagram ≡ Some (context_of row.session false)
+    context_found_here opens =
+        ap (λ (b : Bool). if b then None else context_found s (place_of s (sid_of datagram)) part) long
+        ∙ ap (λ (p : Option Place). context_found s p part) place
+        ∙ ap (λ (o : Option Row). context_in_session o part) there
+        ∙ ap (λ (b : Bool). if b then Some (context_of row.session false) else None) opens
+
+    heard_is : (u : Option Unheard) → unheard row.session part ≡ u → AdmissionIs s datagram (admitted s datagram (placed (Session near) (heard_by row.session part u)))
+    heard_is None is = packet_is (Session near) (packet_in (plain_of (inward_keys row.session) part)) (λ packet read. record { row = row; there = there; reads = read; opens = context_found_here (heard_opens row.session is) })
+    heard_is (Some ShortPart) is = alike_itself s
+    heard_is (Some WrongTag) is = alike_itself s
+    heard_is (Some OldNumber) is = alike_itself s
+
+  session_is : nat_lt (length datagram) 36 ≡ false → (near : ℕ) → place_of s (sid_of datagram) ≡ Some (Session near) → (o : Option Row) → get s.sessions near ≡ o →
+      AdmissionIs s datagram (admitted s datagram (placed (Session near) (heard_in o part)))
+  session_is long near place None is = alike_itself s
+  session_is long near place (Some row) is = heard_is long near place row is (unheard row.session part) refl
+
+  place_is : nat_lt (length datagram) 36 ≡ false → (o : Option Place) → place_of s (sid_of datagram) ≡ o → AdmissionIs s datagram (admitted s datagram (opened_found s o part))
+  place_is long None is = alike_itself s
+  place_is long (Some Startup) is = startup_is Startup (λ packet. tt) (opened_in_startup s 0 part)
+  place_is long (Some (Attempt near)) is = startup_is (Attempt near) (λ packet. tt) (opened_in_startup s near part)
+  place_is long (Some (Session near)) is = session_is long near is (get s.sessions near) refl
+
+  pub admission_is : AdmissionIs s datagram (admission s datagram)
+  admission_is = by (nat_lt (length datagram) 36) refl
+    where
+      by : (b : Bool) → nat_lt (length datagram) 36 ≡ b → AdmissionIs s datagram (admitted s datagram (if b then Err ShortDatagram else opened_found s (place_of s (sid_of datagram)) part))
+      by true is = alike_itself s
+      by false is = place_is is (place_of s (sid_of datagram)) refl
+
+-- ---- whether sessions may begin
+
+abbrev pub with_begins : End → Type 0 → End
+with_begins e A = record e { begins = A }
+
+module _ (e : End) (A B : Type 0) where
+  stands_as : (facts : List Fact) (s : State) (h : History) → Stands (with_begins e A) facts s h → Stands (with_begins e B) facts s h
+  stands_as facts s h k = record {
+    lawful = k.lawful;
+    honest = k.honest;
+    begun = k.begun;
+    state = record {
+      own = k.state.own;
+      secret = k.state.secret;
+      rows = λ near row there. (let r = k.state.rows near row there in record { id = r.id; own = r.own; secret = r.secret; named = r.named; flows = r.flows });
+    };
+  }
+
+  new_as : (entries : List Entry) (facts : List Fact) → AreNew (with_begins e A) facts entries → AreNew (with_begins e B) facts entries
+  new_as [] facts new = tt
+  new_as (x ∷ rest) facts new = (one (fact_in x) new.0, new_as rest (fact_and (fact_in x) facts) new.1)
+    where
+      one : (o : Option Fact) → IsNew (with_begins e A) facts o → IsNew (with_begins e B) facts o
+      one None new = tt
+      one (Some fact) new = new
+
+-- what held where none may begin
+hands_as : (e : End) (A : Type 0) (facts : List Fact) (d : Did) (h : History) → Hands (with_begins e A) facts d h → Hands (with_begins e (Unit {0})) facts d h
+hands_as e A facts d h k = record {
+  after = k.after;
+  grows = k.grows;
+  stands = stands_as e A (Unit {0}) (facts_onto d.entries facts) d.state k.after k.stands;
+  log = k.log;
+  outs = k.outs;
+  still = λ near. inl tt;
+  order = k.order;
+}
+
+-- ---- acks
+
+module _ (e : End) (owed : FlowsHand e) where
+  acked_row : (facts : List Fact) (s : State) (near : ℕ) (o : Option Row) → get s.sessions near ≡ o → owes_by o ≡ true → Does e facts s (acked_by s near o)
+  acked_row facts s near None is some = does_nothing e facts s
+  acked_row facts s near (Some row) is some = owed.acks facts s near row is some
+
+  acked_where : (facts : List Fact) (s : State) (near : ℕ) (next : State → Did) → ((more : List Fact) (t : State) → Does e more t (next t)) → (b : Bool) → owes_by (get s.sessions near) ≡ b → Does e facts s (acked_if s near b next)
+  acked_where facts s near next does false is = does_nothing e facts s
+  acked_where facts s near next does true is = does_then e facts s (acked_by s near (get s.sessions near)) next (acked_row facts s near (get s.sessions near) refl is) (does _ _)
+
+  does_acked_in : (count : ℕ) (facts : List Fact) (s : State) (near : ℕ) → Does e facts s (acked_in count s near)
+  does_acked_in zero facts s near = does_nothing e facts s
+  does_acked_in (suc count) facts s near = acked_where facts s near (λ t. acked_in count t near) (λ more t. does_acked_in count more t near) (owes_by (get s.sessions near)) refl
+
+  pub does_acked : (count : ℕ) (facts : List Fact) (s : State) (place : Place) → Does e facts s (acked count s place)
+  does_acked count facts s Startup = does_nothing e facts s
+  does_acked count facts s (Attempt near) = does_nothing e facts s
+  does_acked count facts s (Session near) = does_acked_in count facts s near
+
+  unowed_row : (facts : List Fact) (s : State) (near : ℕ) (o : Option Row) → get s.sessions near ≡ o → Does e facts s (nothing (unowed_by s near o))
+  unowed_row facts s near None is = does_nothing e facts s
+  unowed_row facts s near (Some row) is = owed.unowed facts s near row is
+
+  pub does_unowed : (facts : List Fact) (s : State) (place : Place) → Does e facts s (nothing (unowed s place))
+  does_unowed facts s Startup = does_nothing e facts s
+  does_unowed facts s (Attempt near) = does_nothing e facts s
+  does_unowed facts s (Session near) = unowed_row facts s near (get s.sessions near) refl
+
+-- ---- what was admitted
+
+came_after : (e : End) (place : Place) (facts : List Fact) (before : Option Numbers) (cs : List Placed) (h : History) (d : Did) → BeginsAt e place → (one : Hands e facts d h) → AllCameAt e place facts before cs h →
+    AllCameAt e place (facts_onto d.entries facts) before cs one.after
+came_after e Startup facts before cs h d at one all = tt
+came_after e (Attempt near) facts before cs h d at one all = tt
+came_after e (Session near) facts before cs h d at one all = record {
+  context = all.context;
+  named = stays e near facts (facts_onto d.entries facts) at (one.still near) ∙ all.named;
+  came = λ x among. one.grows.came e.who (back all.context) x (all.came x among);
+}
+
+module _ (e : End) (owed : FlowsHand e) (place : Place) (from : AddressParts) (draws : Draws) (at : BeginsAt e place) (facts : List Fact) (s : State) (h : History) (stands : Stands e facts s h) where
+  hands_gone : (cs : List Placed) → AllCameAt e place facts None cs h → AreNew e facts (gone_through from draws s place cs).entries → Hands e facts (gone_through from draws s place cs) h
+  hands_gone cs all new =
+      let d : Did = confirming s place in
+      let later : Did = chunks_did place from draws outset d.state cs in
+      let parts = new_split e d.entries later.entries facts new in
+      let one : Hands e facts d h = does_confirming e facts s place h stands parts.0 in
+      hands_after e facts d.state d.entries later h one
+      (hands_chunks e owed place from draws at cs (facts_onto d.entries facts) outset d.state one.after one.stands (came_after e place facts None cs h d at one all) parts.1)
+
+  -- after the chunks come things that need nothing of them
+  hands_gone_and : (cs : List Placed) (next : State → Did) → AllCameAt e place facts None cs h → ((more : List Fact) (t : State) → Does e more t (next t)) → AreNew e facts (then_do (gone_through from draws s place cs) next).entries →
+      Hands e facts (then_do (gone_through from draws s place cs) next) h
+  hands_gone_and cs next all does new =
+      let d : Did = gone_through from draws s place cs in
+      let parts = new_split e d.entries (next d.state).entries facts new in
+      let one : Hands e facts d h = hands_gone cs all parts.0 in
+      hands_after e facts d.state d.entries (next d.state) h one (does (facts_onto d.entries facts) d.state one.after one.stands parts.1)
+
+  hands_acked_and : (cs : List Placed) (count : ℕ) (next : State → Did) → AllCameAt e place facts None cs h → ((more : List Fact) (t : State) → Does e more t (next t)) →
+      AreNew e facts (then_do (gone_through_and_acked from draws s place cs count) next).entries → Hands e facts (then_do (gone_through_and_acked from draws s place cs count) next) h
+  hands_acked_and cs count next all does new =
+      let d : Did = gone_through_and_acked from draws s place cs count in
+      let parts = new_split e d.entries (next d.state).entries facts new in
+      let one : Hands e facts d h = hands_gone_and cs (λ t. acked count t place) all (λ more t. does_acked e owed count more t place) parts.0 in
+      hands_after e facts d.state d.entries (next d.state) h one (does (facts_onto d.entries facts) d.state one.after one.stands parts.1)
+
+-- ---- the datagram came
+
+pub sealed_back : (session : SessionState) → sealed_for (back (away session)) ≡ context_of session false
+sealed_back session = by session.role
+  where
+    by : (r : Role) → sealed_for (back (sends_in r session.own session.joined)) ≡ context_of (record session { role = r }) false
+    by Initiator = refl
+    by Responder = refl
+
+came_pieces : (secret : List ℕ) (session : SessionState) (datagram : List ℕ) (packet : Whole) → session.secret ≡ secret → packet_in (plain_of (inward_keys session) (drop 4 datagram)) ≡ Ok packet →
+    pieces_in secret (back (away session)) datagram ≡ pieces_of (chunks_of packet)
+came_pieces secret session datagram packet same reads =
+    ap (λ (c : Sealing). pieces_read (packet_in (plain_of (keys_of secret c) (drop 4 datagram)))) (sealed_back session)
+    ∙ ap (λ (k : List ℕ). pieces_read (packet_in (plain_of (keys_of k (context_of session false)) (drop 4 datagram)))) (sym same)
+    ∙ ap pieces_read reads
+
+-- What opens in a session's context was sent in it.
+abbrev pub Arrives : End → State → List ℕ → History → Type 0
+Arrives e s datagram h = (near : ℕ) (row : Row) → get s.sessions near ≡ Some row → opens_in s datagram ≡ Some (context_of row.session false) →
+    WasSent (back (away row.session)) (pieces_in e.secret (back (away row.session)) datagram) h
+
+module _ (e : End) (facts : List Fact) (c : Context) (pieces : List Piece) (h : History) where
+  abbrev taken : History
+  taken = done e.who (In c pieces) ∷ h
+
+  stands_in : (s : State) → WasSent c pieces h → Stands e facts s h → Stands e facts s taken
+  stands_in s sent k = record {
+    lawful = (tt, k.lawful);
+    honest = (sent, k.honest);
+    begun = λ d was. earlier d was;
+    state = record {
+      own = k.state.own;
+      secret = k.state.secret;
+      rows = λ near row there.
+          (let r = k.state.rows near row there in
+          record { id = r.id; own = r.own; secret = r.secret; named = r.named; flows = kept_by e.who (away row.session) row.flows (In c pieces) h (record { sends = λ f k. refl; takes = λ f k. refl }) r.flows });
+    };
+  }
+    where
+      earlier : (d : Context) → HasBegun d taken → HasStarted e facts d
+      earlier d (inl none) = absurd none
+      earlier d (inr before) = k.begun d before
+
+  hands_in : (d : Did) → Hands e facts d taken → Hands e facts d h
+  hands_in d k = record {
+    after = k.after;
+    grows = grows_then e.who h taken k.after (grows_by e.who (In c pieces) h) k.grows;
+    stands = k.stands;
+    log = k.log;
+    outs = k.outs;
+    still = k.still;
+    order = λ b n asked was. k.order b n asked (tt, was);
+  }
+
+-- what some of the chunks have, all have
+in_more : (x : Piece) (first less more : List Piece) → (IsIn x less → IsIn x more) → IsIn x (first ++ less) → IsIn x (first ++ more)
+in_more x [] less more f among = f among
+in_more x (p ∷ ps) less more f (inl is) = inl is
+in_more x (p ∷ ps) less more f (inr among) = inr (in_more x ps less more f among)
+
+in_some : (x : Piece) (before : Option Numbers) (xs ys : List Placed) → IsIn x (pieces_after before xs) → IsIn x (pieces_after before (xs ++ ys))
+in_some x before [] ys among = absurd among
+in_some x before (c ∷ xs) ys among =
+    let next : Option Numbers = before_next (data_reading before c.kind c.payload) in
+    in_more x (piece_read (data_reading before c.kind c.payload)) (pieces_after next xs) (pieces_after next (xs ++ ys)) (in_some x next xs ys) among
+
+-- ---- all of it
+
+module _ (e : End) (owed : (A : Type 0) → FlowsHand (with_begins e A)) (from : AddressParts) (draws : Draws) (facts : List Fact) (s : State) (datagram : List ℕ) (h : History) where
+  abbrev open_end : End
+  open_end = with_begins e (Unit {0})
+
+  abbrev shut_end : End
+  shut_end = with_begins e ⊥
+
+  -- the chunks of a packet that was admitted, or some of them, so many packets of acks, and what comes then
+  module _ (t : State) (packet : Whole) (cs : List Placed) (rest : List Placed) (whole : chunks_of packet ≡ cs ++ rest) (count : ℕ) (next : State → Did) (does : (A : Type 0) (more : List Fact) (u : State) → Does (with_begins e A) more u (next u)) where
+    abbrev did : Place → Did
+    did place = then_do (gone_through_and_acked from draws t place cs count) next
+
+    -- outside of sessions
+    hands_outside : (place : Place) → BeginsAt open_end place → AllCameAt open_end place facts None cs h → Stands open_end facts t h → AreNew open_end facts (did place).entries → Hands open_end facts (did place) h
+    hands_outside place at all stands new = hands_acked_and open_end (owed (Unit {0})) place from draws at facts t h stands cs count next all (does (Unit {0})) new
+
+    hands_inside : (near : ℕ) → OpensHere s datagram near packet → IsAlike s t → Arrives open_end s datagram h → Stands open_end facts s h → Stands open_end facts t h → AreNew open_end facts (did (Session near)).entries → Hands open_end facts (did (Session near)) h
+    hands_inside near opens alike arrives before stands new =
+        let row : Row = opens.row in
+        let c : Context = back (away row.session) in
+        let pieces : List Piece = pieces_in e.secret c datagram in
+        let kept = before.state.rows near row opens.there in
+        let sent : WasSent c pieces h = arrives near row opens.there opens.opens in
+        let are : pieces ≡ pieces_of (chunks_of packet) = came_pieces e.secret row.session datagram packet kept.secret opens.reads in
+        let now : History = taken shut_end facts c pieces h in
+        let all : AllCame shut_end near facts None cs now = record {
+          context = away row.session;
+          named = kept.named;
+          came = λ x among. inl (refl, (refl, subst (λ (ps : List Piece). IsIn x ps) (sym are) (subst (λ (l : List Placed). IsIn x (pieces_of l)) (sym whole) (in_some x None cs rest among))));
+        } in
+        let stands_now : Stands shut_end facts t now = stands_in shut_end facts c pieces h t sent (stands_as e (Unit {0}) ⊥ facts t h stands) in
+        hands_as e ⊥ facts (did (Session near)) h
+        (hands_in shut_end facts c pieces h (did (Session near))
+        (hands_acked_and shut_end (owed ⊥) (Session near) from draws (λ never. never) facts t now stands_now cs count next all (does ⊥) (new_as e (Unit {0}) ⊥ (did (Session near)).entries facts new)))
+
+    -- at whatever place
+    hands_admitted : (place : Place) → IsAlike s t → OpensAt s datagram place packet → Arrives open_end s datagram h → Stands open_end facts s h → AreNew open_end facts (did place).entries → Hands open_end facts (did place) h
+    hands_admitted Startup alike opens arrives stands new = hands_outside Startup tt tt (stands_silent open_end facts s t [] tt alike h stands) new
+    hands_admitted (Attempt near) alike opens arrives stands new = hands_outside (Attempt near) tt tt (stands_silent open_end facts s t [] tt alike h stands) new
+    hands_admitted (Session near) alike opens arrives stands new = hands_inside near opens alike arrives stands (stands_silent open_end facts s t [] tt alike h stands) new
+
+  module _ (short : length draws.token < 2 ^ 16) (arrives : Arrives open_end s datagram h) (stands : Stands open_end facts s h) where
+    received_by : (a : Admission) → AdmissionIs s datagram a → AreNew open_end facts (received from draws a).entries → Hands open_end facts (received from draws a) h
+    received_by (Rejected t cause) alike new = does_discarded open_end facts t 0 cause h (stands_silent open_end facts s t [] tt alike h stands) new
+    received_by (Admitted t place packet) so new =
+        hands_admitted t packet (chunks_of packet) [] (sym (append-nil (chunks_of packet))) most_acks (λ u. tested u place from draws) (λ A more u. does_tested (with_begins e A) more u place from draws short)
+        place so.0 so.1 arrives stands new
+
+    part_by : (count acks : ℕ) (a : Admission) → AdmissionIs s datagram a → AreNew open_end facts (part_received from draws a count acks).entries → Hands open_end facts (part_received from draws a count acks) h
+    part_by count acks (Rejected t cause) alike new = does_nothing open_end facts t h (stands_silent open_end facts s t [] tt alike h stands) tt
+    part_by count acks (Admitted t place packet) so new =
+        hands_admitted t packet (take count (chunks_of packet)) (drop count (chunks_of packet)) (sym (take-append-drop count (chunks_of packet))) acks (λ u. nothing (unowed u place)) (λ A more u. does_unowed (with_begins e A) (owed A) more u place)
+        place so.0 so.1 arrives stands new
+
+    pub hands_received : AreNew open_end facts (received from draws (admission s datagram)).entries → Hands open_end facts (received from draws (admission s datagram)) h
+    hands_received new = received_by (admission s datagram) (admission_is s datagram) new
+
+    pub hands_stopped : (stop : Stop) (acks : ℕ) → AreNew open_end facts (stopped s from draws (admission s datagram) stop acks).entries → Hands open_end facts (stopped s from draws (admission s datagram) stop acks) h
+    hands_stopped stop acks new = by stop.taken new
+      where
+        by : (b : Bool) → AreNew open_end facts (if b then part_received from draws (admission s datagram) stop.chunks acks else nothing s).entries →
+            Hands open_end facts (if b then part_received from draws (admission s datagram) stop.chunks acks else nothing s) h
+        by true new = part_by stop.chunks acks (admission s datagram) (admission_is s datagram) new
+        by false new = does_nothing open_end facts s h stands tt

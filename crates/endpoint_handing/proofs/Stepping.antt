@@ -1,0 +1,72 @@
+-- What a call of an end adds to a history of flows.
+use Rattle.std.proofs.Common.{◌≡◌, ℕ, ◌<◌, ◌^◌, List, [], ◌∷◌, ◌++◌, length, Bool, true, false}
+use Rattle.std.proofs.Common.{Option, Some, None, refl, sym, ap, subst, ◌∙◌}
+use Rattle.rtmfp_forms.specs.Address.{AddressParts}
+use Rattle.glare_core.specs.declared.facts.Fact.{Fact}
+use Rattle.endpoint_model.specs.declared.entry.Entry.{Entry}
+use Rattle.endpoint_model.specs.declared.config.Draws.{Draws}
+use Rattle.endpoint_model.specs.Event.{Call, Open, Cancel, Close, AddRow, Introduce, OnFlows, Receive, Tick}
+use Rattle.endpoint_model.specs.Event.{Answer, Began, Done, NotOpened, Refused, NotAdded, Stopped, OutOfMemory}
+use Rattle.endpoint_model.specs.FlowCall.{FlowCall}
+use Rattle.endpoint_model.specs.State.{State, Did, Does as DoesSo, nothing, at_moment}
+use Rattle.endpoint_model.specs.Admission.{admission}
+use Rattle.endpoint_model.specs.Introducing.{with_redirect, introducing}
+use Rattle.endpoint_model.specs.InSessions.{closing}
+use Rattle.endpoint_model.specs.OnFlows.{call_refusal, flow_called}
+use Rattle.endpoint_model.specs.FlowTimes.{all_late}
+use Rattle.endpoint_model.specs.Effects.{opening, cancelling, ticks, received}
+use Rattle.endpoint_model.specs.Log.{Answers, stopped}
+use Rattle.flow_history.specs.Deeds.{History}
+use Rattle.endpoint_handing.proofs.Kept.{End, Stands, AreNew, Hands, Does, does_nothing}
+use Rattle.endpoint_handing.proofs.Silent.{had_it, IsAlike, does_from}
+use Rattle.endpoint_handing.proofs.Items.{does_opening, does_cancelling, does_closing}
+use Rattle.endpoint_handing.proofs.Owed.{FlowsHand, OpensAsAsked}
+use Rattle.endpoint_handing.proofs.Receiving.{with_begins, Arrives, hands_received, hands_stopped}
+use Rattle.endpoint_handing.proofs.Ticks.{does_tick}
+
+abbrev same_did : (d : Did) (t : State) (entries : List Entry) → DoesSo d t [] entries → d ≡ record { state = t; entries = entries }
+same_did d t entries is = λ i. record { state = sym is.state i; entries = sym is.entries i }
+
+module _ (e : End) (owed : (A : Type 0) → FlowsHand (with_begins e A)) (facts : List Fact) (s t : State) (entries : List Entry) (h : History) where
+  abbrev it : End
+  it = with_begins e (Unit {0})
+
+  -- what is given with a call
+  abbrev pub GivenWith : Call → Type 0
+  GivenWith (Receive from datagram draws) = Arrives it s datagram h × (length draws.token < 2 ^ 16)
+  GivenWith (OnFlows near call) = call_refusal s near call ≡ None → entries ≡ (flow_called s near call).entries → OpensAsAsked it s near call
+  GivenWith call = Unit {0}
+
+  abbrev Result : Type 0
+  Result = Hands it facts (record { state = t; entries = entries }) h
+
+  by_did : (d : Did) → DoesSo d t [] entries → AreNew it facts entries → (AreNew it facts d.entries → Hands it facts d h) → Result
+  by_did d is new hands = subst (λ (x : Did). Hands it facts x h) (same_did d t entries is) (hands (subst (λ (es : List Entry). AreNew it facts es) is.entries new))
+
+  module _ (stands : Stands it facts s h) (new : AreNew it facts entries) where
+    none : DoesSo (nothing s) t [] entries → Result
+    none is = by_did (nothing s) is new (does_nothing it facts s h stands)
+
+    -- a change that nothing is seen of
+    changed : (u : State) → IsAlike s u → DoesSo (nothing u) t [] entries → Result
+    changed u alike is = by_did (nothing u) is new (does_from it facts s u (nothing u) alike (does_nothing it facts u) h stands)
+
+    pub answers_hand : (call : Call) (answer : Answer) → GivenWith call → Answers s call answer entries t → Result
+    answers_hand (Open peer candidates draws) (Began n) given is = by_did (opening s peer candidates draws) is.2 new (does_opening it facts s peer candidates draws h stands)
+    answers_hand (Open peer candidates draws) (NotOpened refusal) given is = none is.1
+    answers_hand (Cancel n) Done given is = by_did (cancelling s n) is.1 new (does_cancelling it facts s n h stands)
+    answers_hand (Cancel n) (Refused refusal) given is = none is.2
+    answers_hand (Close near) Done given is = by_did (closing s near) is.1 new (does_closing it facts s near h stands)
+    answers_hand (Close near) (Refused refusal) given is = none is.2
+    answers_hand (AddRow print addresses) Done given is = changed (with_redirect s print addresses) (record { own = refl; secret = refl; rows = had_it s.sessions }) is.1
+    answers_hand (AddRow print addresses) (NotAdded refusal) given is = none is.1
+    answers_hand Introduce Done given is = changed (introducing s) (record { own = refl; secret = refl; rows = had_it s.sessions }) is
+    answers_hand (OnFlows near call) Done given is =
+        by_did (flow_called s near call) is.1 new ((owed (Unit {0})).called facts s near call is.0 (given is.0 is.1.entries) h stands)
+    answers_hand (OnFlows near call) (Refused refusal) given is = none is.1
+    answers_hand (Receive from datagram draws) Done given is = by_did (received from draws (admission s datagram)) is new (hands_received e owed from draws facts s datagram h given.1 given.0 stands)
+    answers_hand (Receive from datagram draws) (Stopped stop) given is =
+        by_did (stopped s from draws (admission s datagram) stop is.acks) is.left new (hands_stopped e owed from draws facts s datagram h given.1 given.0 stands stop is.acks)
+    answers_hand (Tick draws) Done given is = by_did (ticks is.0.0 (all_late s)) is.0.1 new (does_tick it (owed (Unit {0})) is.0.0 facts s h stands)
+    answers_hand (Tick draws) OutOfMemory given is = by_did (ticks is.0 (all_late s)) is.1 new (does_tick it (owed (Unit {0})) is.0 facts s h stands)
+    answers_hand _ _ given is = absurd is
