@@ -20,7 +20,8 @@ use Rattle.flow_history.specs.Lawful.{HasBegun}
 use Rattle.endpoint_handing.specs.Once.{SendsIn}
 use Rattle.endpoint_handing.specs.Told.{sends_in, sending_context}
 use Rattle.endpoint_handing.proofs.Pieces.{sealed_for}
-use Rattle.endpoint_handing.proofs.Shown.{none_kept, none_shown}
+use Rattle.session_deeds.specs.Deeds.{none_yet}
+use Rattle.session_deeds.proofs.Chunks.{none_at_first}
 use Rattle.session_flows.specs.Keeping.{no_flows}
 use Rattle.endpoint_handing.proofs.Kept.{End, away, FlowsKept, RowKept, HasStarted, Stands, Hands, Does}
 use Rattle.endpoint_handing.proofs.Deeding.{grows_by, kept_by, begins_leaves_be, begun_now}
@@ -95,8 +96,8 @@ module _ (e : End) (facts : List Fact) (s t : State) (role : Role) (j : Joined) 
       secret = secret ∙ stands.state.secret;
       named = named_now e.own role j facts ∙ ap (λ (x : Context). Some x) (sym context);
       flows = subst (λ (x : Context). FlowsKept e.who x no_flows after) (sym context) (record {
-        kept = none_kept;
-        shows = none_shown;
+        kept = none_yet;
+        shows = none_at_first;
         sends = λ f. (begun_now e.who c h f).0;
         takes = λ f. (begun_now e.who c h f).1;
       });

@@ -32,7 +32,8 @@ use Rattle.endpoint_model.specs.Keying.{chunks_of}
 use Rattle.endpoint_model.specs.Sending.{packet_head, session_packet, session_datagram}
 use Rattle.flow_history.specs.Deeds.{Context, Piece}
 use Rattle.endpoint_handing.specs.Told.{sends_in}
-use Rattle.endpoint_handing.proofs.Pieces.{piece_read, pieces_after, pieces_of, pieces_read, sealed_for, pieces_in}
+use Rattle.session_deeds.specs.Pieces.{pieces_read, pieces_behind, pieces_of}
+use Rattle.endpoint_handing.proofs.Pieces.{pieces_whole, sealed_for, pieces_in}
 use Rattle.endpoint_handing.proofs.Kept.{away, session_of}
 
 -- ---- contexts
@@ -53,12 +54,12 @@ session_away session = by session.role
 
 -- ---- where a chunk stands tells nothing
 
-one_placed : (before : Option Numbers) (c : Written) (at other : ℕ) (xs ys : List Placed) → ((b : Option Numbers) → pieces_after b xs ≡ pieces_after b ys) → (shown : Bool) →
-    pieces_after before (cond shown (record { kind = c.kind; at = at; payload = c.payload } ∷ xs) xs) ≡ pieces_after before (cond shown (record { kind = c.kind; at = other; payload = c.payload } ∷ ys) ys)
-one_placed before c at other xs ys same true = ap (λ (p : List Piece). piece_read (data_reading before c.kind c.payload) ++ p) (same (before_next (data_reading before c.kind c.payload)))
+one_placed : (before : Option Numbers) (c : Written) (at other : ℕ) (xs ys : List Placed) → ((b : Option Numbers) → pieces_behind b xs ≡ pieces_behind b ys) → (shown : Bool) →
+    pieces_behind before (cond shown (record { kind = c.kind; at = at; payload = c.payload } ∷ xs) xs) ≡ pieces_behind before (cond shown (record { kind = c.kind; at = other; payload = c.payload } ∷ ys) ys)
+one_placed before c at other xs ys same true = ap (λ (p : List Piece). pieces_read (data_reading before c.kind c.payload) ++ p) (same (before_next (data_reading before c.kind c.payload)))
 one_placed before c at other xs ys same false = same before
 
-placed_pieces : (before : Option Numbers) (at other : ℕ) (chunks : List Written) → pieces_after before (visible (all_placed_from at chunks)) ≡ pieces_after before (visible (all_placed_from other chunks))
+placed_pieces : (before : Option Numbers) (at other : ℕ) (chunks : List Written) → pieces_behind before (visible (all_placed_from at chunks)) ≡ pieces_behind before (visible (all_placed_from other chunks))
 placed_pieces before at other [] = refl
 placed_pieces before at other (c ∷ cs) =
     let next : ℕ = at + (3 + length c.payload) in
@@ -83,10 +84,10 @@ head_read Initiator tick (Some echo) body = (_, _, refl)
 head_read Responder tick None body = (_, _, refl)
 head_read Responder tick (Some echo) body = (_, _, refl)
 
-packet_pieces : (session : SessionState) (moment : ℕ) (body : List ℕ) → pieces_read (packet_in (session_packet session moment body)) ≡ body_pieces body
+packet_pieces : (session : SessionState) (moment : ℕ) (body : List ℕ) → pieces_whole (packet_in (session_packet session moment body)) ≡ body_pieces body
 packet_pieces session moment body =
     let found = head_read session.role (tick_of moment) (echo_of session.stamp moment) body in
-    ap pieces_read found.2 ∙ placed_pieces None found.1 0 (body_of body).chunks
+    ap pieces_whole found.2 ∙ placed_pieces None found.1 0 (body_of body).chunks
 
 -- ---- its datagram
 
@@ -98,9 +99,9 @@ datagram_pieces session moment body =
     let plain : List ℕ = session_packet session moment body in
     let sealing : Sealing = context_of session true in
     let part : List ℕ = sealed_in session.secret sealing session.joined.far (number_bytes (session.sealed + 1)) plain in
-    ap (λ (c : Sealing). pieces_read (packet_in (plain_of (keys_of session.secret c) (drop 4 (datagram session.joined.far part))))) (sealed_away session)
-    ∙ ap (λ (b : List ℕ). pieces_read (packet_in (plain_of (keys_of session.secret sealing) b))) (behind session.joined.far part)
-    ∙ ap (λ (b : List ℕ). pieces_read (packet_in b)) (sealed_opens (keys_of session.secret sealing) session.joined.far (number_bytes (session.sealed + 1)) plain refl).1
+    ap (λ (c : Sealing). pieces_whole (packet_in (plain_of (keys_of session.secret c) (drop 4 (datagram session.joined.far part))))) (sealed_away session)
+    ∙ ap (λ (b : List ℕ). pieces_whole (packet_in (plain_of (keys_of session.secret sealing) b))) (behind session.joined.far part)
+    ∙ ap (λ (b : List ℕ). pieces_whole (packet_in b)) (sealed_opens (keys_of session.secret sealing) session.joined.far (number_bytes (session.sealed + 1)) plain refl).1
     ∙ packet_pieces session moment body
 
 -- ---- a body of one chunk that isn't of flows
@@ -115,7 +116,7 @@ pub record IsBeside (kind : ℕ) : Type 0 where
   pub exception : (kind == 0x5e) ≡ false
 
 beside_read : (a b c d f g : Bool) (x y z w u v r : _) → a ≡ false → b ≡ false → c ≡ false → d ≡ false → f ≡ false → g ≡ false →
-    piece_read (if a then x else if b then y else if c then z else if d then w else if f then u else if g then v else Err r) ≡ []
+    pieces_read (if a then x else if b then y else if c then z else if d then w else if f then u else if g then v else Err r) ≡ []
 beside_read false false false false false false x y z w u v r p q s t o n = refl
 beside_read true b c d f g x y z w u v r p q s t o n = absurd cc
 beside_read false true c d f g x y z w u v r p q s t o n = absurd cc
@@ -124,12 +125,12 @@ beside_read false false false true f g x y z w u v r p q s t o n = absurd cc
 beside_read false false false false true g x y z w u v r p q s t o n = absurd cc
 beside_read false false false false false true x y z w u v r p q s t o n = absurd cc
 
-pub beside_pieces : (before : Option Numbers) (kind : ℕ) (payload : List ℕ) → IsBeside kind → piece_read (data_reading before kind payload) ≡ []
+pub beside_pieces : (before : Option Numbers) (kind : ℕ) (payload : List ℕ) → IsBeside kind → pieces_read (data_reading before kind payload) ≡ []
 unfolding data_reading
 beside_pieces before kind payload is = beside_read (kind == 0x10) (kind == 0x11) (kind == 0x50) (kind == 0x51) (kind == 0x18) (kind == 0x5e) _ _ _ _ _ _ _ is.data_kind is.next_kind is.bitmap is.ranges is.probe is.exception
 
 one_piece : (b : Bool) (c : Placed) → IsBeside c.kind → pieces_of (cond b (c ∷ []) []) ≡ []
-one_piece true c is = append-nil (piece_read (data_reading None c.kind c.payload)) ∙ beside_pieces None c.kind c.payload is
+one_piece true c is = append-nil (pieces_read (data_reading None c.kind c.payload)) ∙ beside_pieces None c.kind c.payload is
 one_piece false c is = refl
 
 pub one_beside : (chunk : Written) → IsChunk chunk → IsBeside chunk.kind → body_pieces (written_bytes chunk) ≡ []

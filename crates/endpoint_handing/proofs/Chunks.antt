@@ -54,7 +54,8 @@ use Rattle.endpoint_model.specs.InSessions.{told_in_session}
 use Rattle.flow_history.specs.Deeds.{Context, back, Piece, History}
 use Rattle.flow_history.specs.Lawful.{CameIn}
 use Rattle.endpoint_handing.specs.Told.{sending_context, facts_onto}
-use Rattle.endpoint_handing.proofs.Pieces.{piece_read, pieces_after}
+use Rattle.session_deeds.proofs.Fitting.{what_is_read_fits}
+use Rattle.session_deeds.specs.Pieces.{FitsIn, AreSmall, pieces_read, pieces_behind}
 use Rattle.endpoint_handing.proofs.Kept.{End, away, Stands, AreNew, new_split, IsStill, Hands, Does}
 use Rattle.endpoint_handing.proofs.Kept.{hands_after, does_after, does_then, does_if, does_nothing}
 use Rattle.endpoint_handing.proofs.Silent.{AreSilent, AllHad, had_it, had_left, does_silent, does_from}
@@ -221,21 +222,21 @@ CameTo e (Attempt near) s pieces h = Unit {0}
 CameTo e (Session near) s pieces h = (row : Row) → get s.sessions near ≡ Some row → (x : Piece) → IsIn x pieces → CameIn e.who (back (away row.session)) x h
 
 module _ (e : End) (owed : FlowsHand e) (facts : List Fact) (s : State) (h : History) (stands : Stands e facts s h) where
-  taken_by_row : (near : ℕ) (chunk : DataChunk) (o : Option Row) → get s.sessions near ≡ o → taking_cause o chunk ≡ None → CameTo e (Session near) s (piece_read (Ok chunk)) h → Hands e facts (flow_taken_by s near chunk o) h
-  taken_by_row near chunk None is none came = absurd cc
-  taken_by_row near chunk (Some row) is none came = owed.taken facts s near row is chunk none h stands (came row is)
+  taken_by_row : (near : ℕ) (chunk : DataChunk) (o : Option Row) → get s.sessions near ≡ o → taking_cause o chunk ≡ None → FitsIn chunk → CameTo e (Session near) s (pieces_read (Ok chunk)) h → Hands e facts (flow_taken_by s near chunk o) h
+  taken_by_row near chunk None is none fits came = absurd cc
+  taken_by_row near chunk (Some row) is none fits came = owed.taken facts s near row is chunk none fits h stands (came row is)
 
-  taken_read : (near : ℕ) (read : Result DataChunk DataFault) → flow_cause (get s.sessions near) read ≡ None → CameTo e (Session near) s (piece_read read) h → Hands e facts (flow_taken s near read) h
-  taken_read near (Ok chunk) none came = taken_by_row near chunk (get s.sessions near) refl none came
-  taken_read near (Err fault) none came = does_nothing e facts s h stands tt
+  taken_read : (near : ℕ) (read : Result DataChunk DataFault) → ((chunk : DataChunk) → read ≡ Ok chunk → FitsIn chunk) → flow_cause (get s.sessions near) read ≡ None → CameTo e (Session near) s (pieces_read read) h → Hands e facts (flow_taken s near read) h
+  taken_read near (Ok chunk) fits none came = taken_by_row near chunk (get s.sessions near) refl none (fits chunk refl) came
+  taken_read near (Err fault) fits none came = does_nothing e facts s h stands tt
 
-  taken_at : (place : Place) (kind : ℕ) (read : Result DataChunk DataFault) → takes place kind ≡ true → is_of_flows kind ≡ true → flow_cause (get s.sessions (sid_at place)) read ≡ None → CameTo e place s (piece_read read) h →
+  taken_at : (place : Place) (kind : ℕ) (read : Result DataChunk DataFault) → ((chunk : DataChunk) → read ≡ Ok chunk → FitsIn chunk) → takes place kind ≡ true → is_of_flows kind ≡ true → flow_cause (get s.sessions (sid_at place)) read ≡ None → CameTo e place s (pieces_read read) h →
       Hands e facts (flow_taken s (sid_at place) read) h
-  taken_at Startup kind read here is none came = absurd (no_flows_at_startup kind here is)
-  taken_at (Attempt near) kind read here is none came = absurd (no_flows_at_attempt near kind here is)
-  taken_at (Session near) kind read here is none came = taken_read near read none came
+  taken_at Startup kind read fits here is none came = absurd (no_flows_at_startup kind here is)
+  taken_at (Attempt near) kind read fits here is none came = absurd (no_flows_at_attempt near kind here is)
+  taken_at (Session near) kind read fits here is none came = taken_read near read fits none came
 
-  module _ (place : Place) (walk : Walk) (from : AddressParts) (draws : Draws) (c : Placed) (at : BeginsAt e place) (came : CameTo e place s (piece_read (data_reading walk.cursor c.kind c.payload)) h) where
+  module _ (place : Place) (walk : Walk) (from : AddressParts) (draws : Draws) (c : Placed) (at : BeginsAt e place) (small : AreSmall walk.cursor) (came : CameTo e place s (pieces_read (data_reading walk.cursor c.kind c.payload)) h) where
     hands_effect : Uncaused s place walk from c → AreNew e facts (effect s place walk from draws c).entries → Hands e facts (effect s place walk from draws c) h
     hands_effect u new = by (c.kind == 0x38) (c.kind == 0x78) (is_told_in_session c.kind) (is_of_flows c.kind) refl refl refl u.last new
       where
@@ -252,7 +253,7 @@ module _ (e : End) (owed : FlowsHand e) (facts : List Fact) (s : State) (h : His
         by true r t f is_i is_r is_f none new = does_initiator_keyed e (may_begin e place c.kind 0x38 (λ q. refl) at u.here is_i) facts s from draws c.payload h stands new
         by false true t f is_i is_r is_f none new = does_responder_keyed e (may_begin e place c.kind 0x78 (λ q. refl) at u.here is_r) facts s near from c.payload h stands new
         by false false true f is_i is_r is_f none new = does_told e facts s near from c h stands new
-        by false false false true is_i is_r is_f none new = taken_at place c.kind (data_reading walk.cursor c.kind c.payload) u.here is_f none came
+        by false false false true is_i is_r is_f none new = taken_at place c.kind (data_reading walk.cursor c.kind c.payload) (λ chunk read. (what_is_read_fits walk.cursor c.kind c.payload chunk small read).0) u.here is_f none came
         by false false false false is_i is_r is_f none new = does_read e facts s place from (chunk_reading c.kind c.payload) (first_none _ _ none) h stands new
 
     pub hands_chunk : AreNew e facts (chunk_did place from draws walk s c).entries → Hands e facts (chunk_did place from draws walk s c) h
@@ -277,7 +278,7 @@ in_second x (y ∷ xs) ys among = inr (in_second x xs ys among)
 pub record AllCame (e : End) (near : ℕ) (facts : List Fact) (before : Option Numbers) (cs : List Placed) (h : History) : Type 0 where
   pub context : Context
   pub named : sending_context e.own near facts ≡ Some context
-  pub came : (x : Piece) → IsIn x (pieces_after before cs) → CameIn e.who (back context) x h
+  pub came : (x : Piece) → IsIn x (pieces_behind before cs) → CameIn e.who (back context) x h
 
 abbrev pub AllCameAt : End → Place → List Fact → Option Numbers → List Placed → History → Type 0
 AllCameAt e Startup facts before cs h = Unit {0}
@@ -285,14 +286,14 @@ AllCameAt e (Attempt near) facts before cs h = Unit {0}
 AllCameAt e (Session near) facts before cs h = AllCame e near facts before cs h
 
 first_came : (e : End) (place : Place) (facts : List Fact) (s : State) (before : Option Numbers) (c : Placed) (cs : List Placed) (h : History) → Stands e facts s h → AllCameAt e place facts before (c ∷ cs) h →
-    CameTo e place s (piece_read (data_reading before c.kind c.payload)) h
+    CameTo e place s (pieces_read (data_reading before c.kind c.payload)) h
 first_came e Startup facts s before c cs h stands all = tt
 first_came e (Attempt near) facts s before c cs h stands all = tt
 first_came e (Session near) facts s before c cs h stands all = λ row there x among.
     let both : Some all.context ≡ Some (away row.session) = sym all.named ∙ (stands.state.rows near row there).named in
     let is : all.context ≡ away row.session = cc in
-    let one : List Piece = piece_read (data_reading before c.kind c.payload) in
-    subst (λ (d : Context). CameIn e.who (back d) x h) is (all.came x (in_first x one (pieces_after (before_next (data_reading before c.kind c.payload)) cs) among))
+    let one : List Piece = pieces_read (data_reading before c.kind c.payload) in
+    subst (λ (d : Context). CameIn e.who (back d) x h) is (all.came x (in_first x one (pieces_behind (before_next (data_reading before c.kind c.payload)) cs) among))
 
 pub stays : (e : End) (near : ℕ) (facts more : List Fact) → (e.begins → ⊥) → e.begins ⊎ IsStill e.own near facts more → IsStill e.own near facts more
 stays e near facts more never (inl may) = absurd (never may)
@@ -305,17 +306,25 @@ rest_came e (Attempt near) facts before c cs h d at one all = tt
 rest_came e (Session near) facts before c cs h d at one all = record {
   context = all.context;
   named = stays e near facts (facts_onto d.entries facts) at (one.still near) ∙ all.named;
-  came = λ x among. one.grows.came e.who (back all.context) x (all.came x (in_second x (piece_read (data_reading before c.kind c.payload)) (pieces_after (before_next (data_reading before c.kind c.payload)) cs) among));
+  came = λ x among. one.grows.came e.who (back all.context) x (all.came x (in_second x (pieces_read (data_reading before c.kind c.payload)) (pieces_behind (before_next (data_reading before c.kind c.payload)) cs) among));
 }
 
+-- the numbers that the next chunk stands behind are of 64 bits
+small_next : (before : Option Numbers) (kind : ℕ) (payload : List ℕ) → AreSmall before → AreSmall (before_next (data_reading before kind payload))
+small_next before kind payload small = by (data_reading before kind payload) refl
+  where
+    by : (r : Result DataChunk DataFault) → data_reading before kind payload ≡ r → AreSmall (before_next r)
+    by (Ok chunk) is = (what_is_read_fits before kind payload chunk small is).1
+    by (Err fault) is = tt
+
 module _ (e : End) (owed : FlowsHand e) (place : Place) (from : AddressParts) (draws : Draws) (at : BeginsAt e place) where
-  pub hands_chunks : (cs : List Placed) (facts : List Fact) (walk : Walk) (s : State) (h : History) → Stands e facts s h → AllCameAt e place facts walk.cursor cs h → AreNew e facts (chunks_did place from draws walk s cs).entries →
+  pub hands_chunks : (cs : List Placed) (facts : List Fact) (walk : Walk) (s : State) (h : History) → Stands e facts s h → AreSmall walk.cursor → AllCameAt e place facts walk.cursor cs h → AreNew e facts (chunks_did place from draws walk s cs).entries →
       Hands e facts (chunks_did place from draws walk s cs) h
-  hands_chunks [] facts walk s h stands all new = does_nothing e facts s h stands tt
-  hands_chunks (c ∷ cs) facts walk s h stands all new =
+  hands_chunks [] facts walk s h stands small all new = does_nothing e facts s h stands tt
+  hands_chunks (c ∷ cs) facts walk s h stands small all new =
       let d : Did = chunk_did place from draws walk s c in
       let later : Did = chunks_did place from draws (walked walk c) d.state cs in
       let parts = new_split e d.entries later.entries facts new in
-      let one : Hands e facts d h = hands_chunk e owed facts s h stands place walk from draws c at (first_came e place facts s walk.cursor c cs h stands all) parts.0 in
+      let one : Hands e facts d h = hands_chunk e owed facts s h stands place walk from draws c at small (first_came e place facts s walk.cursor c cs h stands all) parts.0 in
       hands_after e facts d.state d.entries later h one
-      (hands_chunks cs (facts_onto d.entries facts) (walked walk c) d.state one.after one.stands (rest_came e place facts walk.cursor c cs h d at one all) parts.1)
+      (hands_chunks cs (facts_onto d.entries facts) (walked walk c) d.state one.after one.stands (small_next walk.cursor c.kind c.payload small) (rest_came e place facts walk.cursor c cs h d at one all) parts.1)

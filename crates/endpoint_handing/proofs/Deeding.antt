@@ -106,7 +106,7 @@ not_same c d ne = by (same c d) refl
     by true e = absurd (ne (same_is c d e))
     by false e = refl
 
-backs_apart : (c d : Context) → (c ≡ d → ⊥) → back c ≡ back d → ⊥
+pub backs_apart : (c d : Context) → (c ≡ d → ⊥) → back c ≡ back d → ⊥
 backs_apart c d ne e = ne (sym (back_back c) ∙ ap back e ∙ back_back d)
 
 begins_sends : (a b : Bool) (k : Option (Option Opened)) → a ≡ false → sending_after k (going a b (BySender SendingBegins) (ByReceiver TakingBegins)) ≡ k

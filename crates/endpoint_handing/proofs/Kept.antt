@@ -23,7 +23,7 @@ use Rattle.flow_send.specs.Acks.{Told}
 use Rattle.endpoint_handing.specs.Once.{SendsIn, HasBegun as HasStated}
 use Rattle.endpoint_handing.specs.Told.{sends_in, sending_context, told_at, facts_onto, told_onto}
 use Rattle.endpoint_handing.proofs.Pieces.{sealed_for, pieces_in}
-use Rattle.endpoint_handing.proofs.Shown.{Shows}
+use Rattle.session_deeds.specs.Shows.{Shows}
 
 -- ---- what is kept
 

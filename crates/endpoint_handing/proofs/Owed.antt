@@ -1,5 +1,5 @@
 -- What is to be shown of all that an end does with flows, thing by thing.
-use Rattle.std.proofs.Common.{◌≡◌, ℕ, List, length, Bool, true, Option, Some, None, Ok}
+use Rattle.std.proofs.Common.{◌≡◌, ℕ, List, length, Bool, true, Option, Some, None}
 use Rattle.std.specs.FinMap.{get}
 use Rattle.rtmfp_data_chunks.specs.HandsOver.{IsIn}
 use Rattle.rtmfp_data_chunks.specs.Chunk.{DataChunk}
@@ -16,7 +16,7 @@ use Rattle.endpoint_model.specs.FlowChunks.{taking_cause, flow_taken_by, acked_b
 use Rattle.endpoint_model.specs.FlowTimes.{late_at, data_sent}
 use Rattle.flow_history.specs.Deeds.{back, name, Piece, History}
 use Rattle.flow_history.specs.Lawful.{CameIn}
-use Rattle.endpoint_handing.proofs.Pieces.{piece_read}
+use Rattle.session_deeds.specs.Pieces.{pieces_in, FitsIn}
 use Rattle.endpoint_handing.proofs.Kept.{End, away, Stands, Hands, Does}
 
 -- A flow that is opened has the order that is asked of it.
@@ -28,7 +28,7 @@ OpensAsAsked e s near call = Unit {0}
 
 -- The pieces of a chunk came in the context towards this session.
 abbrev pub HasCome : End → Row → DataChunk → History → Type 0
-HasCome e row chunk h = (x : Piece) → IsIn x (piece_read (Ok chunk)) →
+HasCome e row chunk h = (x : Piece) → IsIn x (pieces_in chunk) →
     CameIn e.who (back (away row.session)) x h
 
 pub record FlowsHand (e : End) : Type 0 where
@@ -37,7 +37,7 @@ pub record FlowsHand (e : End) : Type 0 where
       Does e facts s (flow_called s near call)
   pub taken : (facts : List Fact) (s : State) (near : ℕ) (row : Row) →
       get s.sessions near ≡ Some row → (chunk : DataChunk) → taking_cause (Some row) chunk ≡ None →
-      (h : History) → Stands e facts s h → HasCome e row chunk h →
+      FitsIn chunk → (h : History) → Stands e facts s h → HasCome e row chunk h →
       Hands e facts (flow_taken_by s near chunk (Some row)) h
   pub acks : (facts : List Fact) (s : State) (near : ℕ) (row : Row) →
       get s.sessions near ≡ Some row → owes row.flows ≡ true →

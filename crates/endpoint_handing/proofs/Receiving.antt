@@ -50,7 +50,8 @@ use Rattle.endpoint_laws.specs.OpensIn.{context_in_session, context_found, opens
 use Rattle.flow_history.specs.Deeds.{Context, back, Piece, In, done, History}
 use Rattle.flow_history.specs.Lawful.{HasBegun, CameIn, WasSent}
 use Rattle.endpoint_handing.specs.Told.{sends_in, facts_onto}
-use Rattle.endpoint_handing.proofs.Pieces.{piece_read, pieces_after, pieces_of, pieces_read, sealed_for, pieces_in}
+use Rattle.session_deeds.specs.Pieces.{pieces_read, pieces_behind, pieces_of}
+use Rattle.endpoint_handing.proofs.Pieces.{pieces_whole, sealed_for, pieces_in}
 use Rattle.endpoint_handing.proofs.Kept.{End, away, RowKept, StateKept, HasStarted, Stands, IsNew, AreNew, new_split}
 use Rattle.endpoint_handing.proofs.Kept.{grows_then, Hands, Does, hands_after, does_then, does_if, does_nothing}
 use Rattle.endpoint_handing.proofs.Deeding.{grows_by, kept_by}
@@ -255,7 +256,7 @@ module _ (e : End) (owed : FlowsHand e) (place : Place) (from : AddressParts) (d
       let parts = new_split e d.entries later.entries facts new in
       let one : Hands e facts d h = does_confirming e facts s place h stands parts.0 in
       hands_after e facts d.state d.entries later h one
-      (hands_chunks e owed place from draws at cs (facts_onto d.entries facts) outset d.state one.after one.stands (came_after e place facts None cs h d at one all) parts.1)
+      (hands_chunks e owed place from draws at cs (facts_onto d.entries facts) outset d.state one.after one.stands tt (came_after e place facts None cs h d at one all) parts.1)
 
   -- after the chunks come things that need nothing of them
   hands_gone_and : (cs : List Placed) (next : State → Did) → AllCameAt e place facts None cs h → ((more : List Fact) (t : State) → Does e more t (next t)) → AreNew e facts (then_do (gone_through from draws s place cs) next).entries →
@@ -286,9 +287,9 @@ sealed_back session = by session.role
 came_pieces : (secret : List ℕ) (session : SessionState) (datagram : List ℕ) (packet : Whole) → session.secret ≡ secret → packet_in (plain_of (inward_keys session) (drop 4 datagram)) ≡ Ok packet →
     pieces_in secret (back (away session)) datagram ≡ pieces_of (chunks_of packet)
 came_pieces secret session datagram packet same reads =
-    ap (λ (c : Sealing). pieces_read (packet_in (plain_of (keys_of secret c) (drop 4 datagram)))) (sealed_back session)
-    ∙ ap (λ (k : List ℕ). pieces_read (packet_in (plain_of (keys_of k (context_of session false)) (drop 4 datagram)))) (sym same)
-    ∙ ap pieces_read reads
+    ap (λ (c : Sealing). pieces_whole (packet_in (plain_of (keys_of secret c) (drop 4 datagram)))) (sealed_back session)
+    ∙ ap (λ (k : List ℕ). pieces_whole (packet_in (plain_of (keys_of k (context_of session false)) (drop 4 datagram)))) (sym same)
+    ∙ ap pieces_whole reads
 
 -- What opens in a session's context was sent in it.
 abbrev pub Arrives : End → State → List ℕ → History → Type 0
@@ -334,11 +335,11 @@ in_more x [] less more f among = f among
 in_more x (p ∷ ps) less more f (inl is) = inl is
 in_more x (p ∷ ps) less more f (inr among) = inr (in_more x ps less more f among)
 
-in_some : (x : Piece) (before : Option Numbers) (xs ys : List Placed) → IsIn x (pieces_after before xs) → IsIn x (pieces_after before (xs ++ ys))
+in_some : (x : Piece) (before : Option Numbers) (xs ys : List Placed) → IsIn x (pieces_behind before xs) → IsIn x (pieces_behind before (xs ++ ys))
 in_some x before [] ys among = absurd among
 in_some x before (c ∷ xs) ys among =
     let next : Option Numbers = before_next (data_reading before c.kind c.payload) in
-    in_more x (piece_read (data_reading before c.kind c.payload)) (pieces_after next xs) (pieces_after next (xs ++ ys)) (in_some x next xs ys) among
+    in_more x (pieces_read (data_reading before c.kind c.payload)) (pieces_behind next xs) (pieces_behind next (xs ++ ys)) (in_some x next xs ys) among
 
 -- ---- all of it
 
