@@ -3,6 +3,7 @@
 ghost use Rattle.endpoint_handing.specs.Once.{EachBeginsOnce, EachContextNamesItsSender};
 ghost use Rattle.endpoint_handing.specs.Once.{EachContextNamesItsTaker, WhatIsHeldHasBegun};
 ghost use Rattle.endpoint_handing.specs.Once.{WhatIsHeldTakes, EachContextIsNew};
+ghost use Rattle.endpoint_handing.specs.Laws.{EveryHistoryHandsOver, EveryHistoryHandsOnce};
 
 /// In each context of a session at most one session ever sends, at one end, and one takes. What is
 /// held has begun.
@@ -13,4 +14,14 @@ pub fn contexts_begin_once()
     ensures held { WhatIsHeldHasBegun }
     ensures held_taking { WhatIsHeldTakes }
     ensures new { EachContextIsNew }
+{}
+
+/// Whatever ends of one group do with each other, each flow hands over what was queued on it: whole,
+/// once, in queueing order and skipping only abandoned messages, or, in arrival order, whole and
+/// once. It holds at each moment of every history in which each end stands for its log, what opens
+/// was sent, and no nonce was drawn twice; whatever datagrams are lost, repeated or late, and
+/// whatever calls find no memory.
+pub fn hands_over()
+    ensures in_order { EveryHistoryHandsOver }
+    ensures arriving { EveryHistoryHandsOnce }
 {}

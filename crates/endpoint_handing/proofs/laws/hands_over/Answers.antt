@@ -1,0 +1,9 @@
+use Rattle.endpoint_handing.proofs.AllFlows.{all_flows_hand}
+use Rattle.endpoint_handing.proofs.HandsOver.{every_history_hands_over, every_history_hands_once}
+use Rattle.endpoint_handing.proofs.laws.hands_over.Goals as goal
+
+pub returns-clause-in_order : goal.returns-clause-in_order
+returns-clause-in_order c = every_history_hands_over all_flows_hand
+
+pub returns-clause-arriving : goal.returns-clause-arriving
+returns-clause-arriving c = every_history_hands_once all_flows_hand
