@@ -29,10 +29,9 @@ use Rattle.startup.specs.State.{AttemptState, StartupState, SpreadParts}
 use Rattle.startup.specs.Attempts.{begin_spread, after_begin, hello_spread, keying_signed, confirm_fact, after_confirm, end_of, lowest, has_number, ended_attempt, session_in}
 use Rattle.startup.specs.Due.{due_of, after_due, is_due, is_over, repeat_of, repeat_signed}
 use Rattle.startup.specs.Keyings.{InitiatorKeying, ResponderKeying, initiator_keying_in, responder_keying_in, iikeying_cause, keying_of, repeated_session, again_or_birth, keyed_with, keyed_reading, after_keying, change_answer, session_answer, born_session, opened_reading}
-use Rattle.session_core.specs.declared.stage.SessionDue.{SessionDue}
 use Rattle.session_core.specs.declared.stage.SessionDue.TheVariants.{Unconfirmed, Idle, Over, RepeatClose}
 use Rattle.session_core.specs.Session.{is_opening, confirmed}
-use Rattle.session_core.specs.Closing.{is_held, closed_near, asked_to_close, kept_alive, first_due as first_due_in, after_due as after_due_in}
+use Rattle.session_core.specs.Closing.{is_held, closed_near, asked_to_close, kept_alive, after_due as after_due_in}
 use Rattle.session_flows.specs.Owing.{after_acks}
 use Rattle.session_flows.specs.Keeping.{with_sending}
 use Rattle.session_flows.specs.Timing.{overdue_done}

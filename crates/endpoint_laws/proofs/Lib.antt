@@ -58,7 +58,9 @@ mod AgreedLogs
 pub mod AnswerCarried
 mod Carried
 mod Complete
+mod AllHanded
 mod Components
+pub mod EachRow
 mod EventTold
 mod FactsAlone
 mod Fresh

@@ -9,3 +9,4 @@ pub mod OfTheLog
 pub mod Agreed
 pub mod OpensIn
 pub mod Complete
+pub mod Handed

@@ -3,6 +3,7 @@
 
 ghost use Rattle.endpoint_laws.specs.Agreed.{EveryLawfulHistoryIsAgreed, EachEndStatesItsLog, EachPrefixIsAMoment, LogsKeepTheSame};
 ghost use Rattle.endpoint_laws.specs.Complete.{AdmissibleKeyingsBear, KeyingsWithoutCauseOpen};
+ghost use Rattle.endpoint_laws.specs.Handed.{EveryMessageIsHandedOver};
 ghost use Rattle.endpoint_laws.specs.Laws.{EveryLogIsLawful, TheLedgerIsOfTheLog, UsesAreWithin};
 ghost use Rattle.endpoint_laws.specs.OfTheLog.{TheStateIsOfTheLog};
 
@@ -53,4 +54,10 @@ pub fn admissible_keyings_bear()
 /// bytes goes out in it directly after the Opened.
 pub fn keyings_without_cause_open()
     ensures { KeyingsWithoutCauseOpen }
+{}
+
+/// A message is handed over in the call that makes it ready. Whatever the calls of a log were and
+/// whatever they answered, no session is left with a message that could be handed over.
+pub fn every_message_is_handed_over()
+    ensures { EveryMessageIsHandedOver }
 {}

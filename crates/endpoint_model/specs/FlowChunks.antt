@@ -1,7 +1,7 @@
 -- Chunks of flows that came in a session: why each is discarded, what it does, and the acks that go
 -- out after them.
 use Prim.Native.Nat.{zero, suc}
-use Rattle.std.specs.Prelude.{ℕ, ◌==◌, ◌||◌, Bool, true, false, if◌then◌else◌, List, [], map, length, drop, Option, Some, None, Result, Ok, Err}
+use Rattle.std.specs.Prelude.{ℕ, ◌==◌, ◌||◌, Bool, true, false, List, map, length, drop, Option, Some, None, Result, Ok, Err}
 use Rattle.std.specs.Option.{option_map}
 use Rattle.std.specs.FinMap.{get}
 use Rattle.rtmfp_data_chunks.specs.declared.kinds.TheConstants.{DATA, NEXT, ACK_BITMAP, ACK_RANGES, PROBE, EXCEPTION}
@@ -12,7 +12,6 @@ use Rattle.startup.specs.declared.cause.Cause.{Cause}
 use Rattle.startup.specs.declared.cause.Cause.TheVariants as cause
 use Rattle.session_flows.specs.declared.cause.FlowCause.{FlowCause}
 use Rattle.session_flows.specs.declared.cause.FlowCause.TheVariants as flow
-use Rattle.session_flows.specs.Keeping.{Did as FlowsDid}
 use Rattle.session_flows.specs.Causes.{chunk_cause}
 use Rattle.session_flows.specs.Chunks.{chunk_done, session_after, rejecting}
 use Rattle.session_flows.specs.Owing.{owes, acks_put, after_acks, owing_none}

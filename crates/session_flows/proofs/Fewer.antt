@@ -59,14 +59,6 @@ fewer_kept count now before new old d within owed (Same same out none) =
 
 -- ---- no more are owed than there are flows
 
-few_by : (t : TakingFlow) (later : List TakingFlow) (b : Bool) → owed_in later ≤ length later → length (cond b (t ∷ filter is_owed later) (filter is_owed later)) ≤ length (t ∷ later)
-few_by t later true le = omega (arith, le)
-few_by t later false le = omega (arith, le)
-
-pub owed_few : (ts : List TakingFlow) → owed_in ts ≤ length ts
-owed_few [] = omega arith
-owed_few (t ∷ later) = few_by t later t.owed (owed_few later)
-
 none_if : (t : TakingFlow) (later : List TakingFlow) (b : Bool) → (owed_in later ≤ 0 → list_any is_owed later ≡ false) → length (cond b (t ∷ filter is_owed later) (filter is_owed later)) ≤ 0 → (b || list_any is_owed later) ≡ false
 none_if t later true ih few = absurd (omega (arith, few))
 none_if t later false ih few = ih few

@@ -1,4 +1,4 @@
-use Rattle.std.proofs.Common.{◌≡◌, ◌∷◌, [], Option, Some, None, ap, ◌∙◌}
+use Rattle.std.proofs.Common.{◌∷◌, [], Option, Some, ap, ◌∙◌}
 use Rattle.std.specs.FinMap.{get}
 use Rattle.rtmfp_data_chunks.specs.Reader.{data_reading}
 use Rattle.glare_core.specs.Calls.{first_that_stands}
