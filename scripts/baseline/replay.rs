@@ -1,11 +1,18 @@
 //! A plain Rust program that prints what `rtmfp replay --generate N --steps K` prints: the bar for its speed.
-//! With `--script` it prints the script of that run, and with `--report` the report of it. Without a seed it reads a
-//! script from its input, and prints the report of each line; with `--datagrams` alone it prints the bytes of each
-//! datagram that was sent instead, one a line, in hexadecimal.
+//! With `--flows` it makes another run instead, of two ends that call on flows, and with `--transfer` one of K megabytes
+//! that go over, of whose datagrams each N-th is lost. With `--script` it prints the script of the run, and with
+//! `--report` the report of it. Without a seed it reads a script from its input, and prints the report of each line;
+//! with `--datagrams` alone it prints the bytes of each datagram that was sent instead, one a line, in hexadecimal.
 #[path = "replay/crypto.rs"]
 mod crypto;
 #[path = "replay/end.rs"]
 mod end;
+#[path = "replay/flow.rs"]
+mod flow;
+#[path = "replay/flows.rs"]
+mod flows;
+#[path = "replay/random.rs"]
+mod random;
 #[path = "replay/report.rs"]
 mod report;
 #[path = "replay/script.rs"]
@@ -15,6 +22,7 @@ mod wire;
 
 use crypto::{Context, Print};
 use end::{Draws, End, Entry, Fact, Group, Refusal};
+use flow::Options;
 use std::collections::{HashMap, HashSet};
 use std::io::{self, BufRead, BufWriter, Write};
 use std::process::ExitCode;
@@ -31,6 +39,10 @@ pub enum Step {
     Close { end: usize, near: u32 },
     Deliver { number: usize, end: usize, from: Address },
     Tick { end: usize },
+    Flow { end: usize, near: u32, priority: u8, metadata: Vec<u8>, answers: Option<u64> },
+    Queue { end: usize, near: u32, flow: u64, options: Options, message: Vec<u8> },
+    Abandon { end: usize, near: u32, flow: u64, seq: u64 },
+    Finish { end: usize, near: u32, flow: u64 },
 }
 
 pub struct JournalLine {
@@ -132,6 +144,22 @@ impl World {
                 self.ends[*end].tick(self.moment, &mut entries);
                 Some(*end)
             }
+            Step::Flow { end, near, priority, metadata, answers } => {
+                refused = self.ends[*end].open_flow(*near, *priority, metadata, *answers, &mut entries).err();
+                Some(*end)
+            }
+            Step::Queue { end, near, flow, options, message } => {
+                refused = self.ends[*end].queue(*near, *flow, message, *options, &mut entries).err();
+                Some(*end)
+            }
+            Step::Abandon { end, near, flow, seq } => {
+                refused = self.ends[*end].abandon(*near, *flow, *seq, &mut entries).err();
+                Some(*end)
+            }
+            Step::Finish { end, near, flow } => {
+                refused = self.ends[*end].finish(*near, *flow, &mut entries).err();
+                Some(*end)
+            }
             Step::Deliver { number, end, from } => {
                 let bytes = self.sent[*number - 1].datagram.clone();
                 let unsealed = self.ends[*end].unseal(&bytes);
@@ -184,6 +212,8 @@ impl World {
         for entry in self.journal.iter().flat_map(|line| &line.entries) {
             *match entry {
                 Entry::Closed { .. } | Entry::Moved { .. } => continue,
+                Entry::FlowOpened { .. } | Entry::Queued { .. } | Entry::Finished { .. } => continue,
+                Entry::Abandoned { .. } | Entry::Handed { .. } => continue,
                 Entry::Out(_) => &mut sent,
                 Entry::Discard { .. } => &mut dropped,
                 Entry::Fact(Fact::Started { .. }) => &mut started,
@@ -225,6 +255,18 @@ fn run(seed: u64, steps: u64) -> Result<World, (StepFault, u64)> {
         world.step(line, step).map_err(|fault| (fault, line))?;
     }
     Ok(world)
+}
+
+/// The run of a seed; with `--flows` one that calls on flows; with `--transfer` so many megabytes that go over, of whose
+/// datagrams each so many-th is lost, as the seed says.
+fn generated(seed: u64, steps: u64, flags: &HashSet<String>) -> Result<World, (StepFault, u64)> {
+    if flags.contains("--flows") {
+        return random::run(seed, steps);
+    }
+    if flags.contains("--transfer") {
+        return random::transfer(seed, steps);
+    }
+    run(seed, steps)
 }
 
 /// Prints the bytes of each datagram that was sent.
@@ -284,7 +326,7 @@ fn task() -> Option<Task> {
         match word.as_str() {
             "--generate" => seed = Some(words.next()?.parse().ok()?),
             "--steps" => steps = Some(words.next()?.parse().ok().filter(|n| *n <= 100_000)?),
-            "--script" | "--report" => _ = flags.insert(word),
+            "--script" | "--report" | "--flows" | "--transfer" => _ = flags.insert(word),
             "--datagrams" if seed.is_none() && steps.is_none() => return words.next().is_none().then_some(Task::Datagrams),
             _ => return None,
         }
@@ -300,7 +342,7 @@ fn main() -> ExitCode {
         }
         Some(Task::Datagrams) => run_script(true).expect("a script is read, and what was sent is written"),
         Some(Task::Script) => run_script(false).expect("a script is read, and its report written"),
-        Some(Task::Generate { seed, steps, flags }) => run(seed, steps).map(|world| {
+        Some(Task::Generate { seed, steps, flags }) => generated(seed, steps, &flags).map(|world| {
             if flags.contains("--script") {
                 report::print_script(&world);
             } else if flags.contains("--report") {

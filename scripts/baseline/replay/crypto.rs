@@ -134,6 +134,22 @@ impl Hmac {
     }
 }
 
+/// The types of a packet's chunks, of which most have one.
+pub enum Kinds {
+    One(u8),
+    Many(Vec<u8>),
+}
+
+impl Kinds {
+    pub fn push(kinds: &mut Option<Kinds>, kind: u8) {
+        match kinds {
+            None => *kinds = Some(Kinds::One(kind)),
+            Some(Kinds::One(first)) => *kinds = Some(Kinds::Many(vec![*first, kind])),
+            Some(Kinds::Many(all)) => all.push(kind),
+        }
+    }
+}
+
 /// What a datagram is sealed for.
 #[derive(Clone, PartialEq, Eq, Debug)]
 pub enum Context {

@@ -1,5 +1,7 @@
 //! One end: its attempts, its sessions, and what a call or a datagram does.
-use crate::crypto::{session_id, sha256, Context, Hmac, Keys, Nonce, Print, Window};
+use crate::crypto::{session_id, sha256, Context, Hmac, Keys, Kinds, Nonce, Print, Window};
+use crate::flow::{Options, QueueRefusal, Refusal as FlowRefusal};
+use crate::flows::Flows;
 use crate::wire::{self, packet, put_counted, Address, Chunk, ChunkFault, IIKeying, Packet, RIKeying, Reader, STARTUP_MODE};
 use std::collections::{BTreeMap, HashMap};
 use std::rc::Rc;
@@ -74,7 +76,6 @@ pub enum Fact {
     Ended { near: u32, why: Why },
 }
 
-#[derive(Clone, Copy, Debug, PartialEq)]
 pub enum Cause {
     Short,
     UnknownSession,
@@ -99,6 +100,10 @@ pub enum Cause {
     SecondKeying,
     Fragment,
     Wide(usize),
+    UnknownFlow,
+    FlowsFull(usize),
+    Flow(FlowRefusal),
+    AckBeyond(u64),
 }
 
 #[derive(Clone, Copy, Debug)]
@@ -112,19 +117,30 @@ pub enum Refusal {
     SessionsFull(usize),
     NoAttempt,
     NoSession,
+    NoFlow,
+    FlowsFull(usize),
+    WideMetadata(usize),
+    Queue(QueueRefusal),
+    Finished,
+    NotQueued,
 }
 
 pub struct Out {
     pub to: Address,
     pub datagram: Rc<[u8]>,
     pub context: Rc<Context>,
-    pub kind: u8,
+    pub kinds: Kinds,
 }
 
 pub enum Entry {
     Fact(Fact),
     Closed { near: u32 },
     Moved { near: u32, to: Address },
+    FlowOpened { near: u32, flow: u64 },
+    Queued { near: u32, flow: u64, seq: u64, length: usize },
+    Finished { near: u32, flow: u64, seq: u64 },
+    Abandoned { near: u32, flow: u64, seq: u64 },
+    Handed { near: u32, flow: u64, seq: u64, message: Vec<u8> },
     Discard { place: usize, cause: Cause },
     Out(Out),
 }
@@ -172,6 +188,7 @@ struct Session {
     sealed: u64,
     stamp: Option<(u16, u64)>,
     trip: Option<(u64, u64)>,
+    flows: Flows,
     /// The keying of a responder, which is sent again for a repeat.
     rikeying: Vec<u8>,
 }
@@ -230,6 +247,7 @@ impl Session {
             sealed: 0,
             stamp: None,
             trip: None,
+            flows: Flows::new(),
             rikeying: Vec::new(),
         }
     }
@@ -254,15 +272,38 @@ impl Session {
         }
     }
 
-    fn seal(&mut self, kind: u8, payload: &[u8], moment: u64) -> Vec<u8> {
+    fn resend_after(&self) -> u64 {
+        self.trip.map_or(1_000, |(trip, var)| (trip + 4 * var + 200).clamp(250, 10_000))
+    }
+
+    /// The stamp and the echo of a packet.
+    fn stamps(&self, moment: u64) -> (Option<u16>, Option<u16>) {
         let fresh = self.stamp.filter(|(_, taken)| moment - taken < ECHO_TIME);
         let echo = fresh.map(|(stamp, taken)| stamp.wrapping_add(((moment - taken) / 4) as u16));
-        let plain = packet(self.mode, Some((moment / 4) as u16), echo, kind, payload);
+        (Some((moment / 4) as u16), echo)
+    }
+
+    /// A plain packet without chunks, and with room for as many as may be.
+    fn head(&self, moment: u64) -> Vec<u8> {
+        let (stamp, echo) = self.stamps(moment);
+        wire::head(self.mode, stamp, echo, wire::PACKET)
+    }
+
+    fn seal(&mut self, plain: &[u8]) -> Vec<u8> {
         self.sealed += 1;
         let mut number = [0; 16];
         number[8..].copy_from_slice(&self.sealed.to_be_bytes());
-        self.outward.1.seal(self.joined.far, number, &plain)
+        self.outward.1.seal(self.joined.far, number, plain)
     }
+}
+
+/// What stood in a datagram before a chunk: a keying, a data or next chunk directly before it, and the flows that are
+/// owed an ack, which rise.
+#[derive(Default)]
+struct Walk {
+    keyed: bool,
+    before: wire::Before,
+    owed: Vec<u64>,
 }
 
 enum Test {
@@ -364,8 +405,47 @@ impl End {
         Ok(())
     }
 
-    /// Attempts that are too old end; hellos and keyings that weren't answered go out again.
+    pub fn open_flow(
+        &mut self, near: u32, priority: u8, metadata: &[u8], answers: Option<u64>, out: &mut Vec<Entry>,
+    ) -> Result<(), Refusal> {
+        let flow = self.flows(near)?.open(priority, metadata, answers)?;
+        out.push(Entry::FlowOpened { near, flow });
+        Ok(())
+    }
+
+    pub fn queue(
+        &mut self, near: u32, flow: u64, message: &[u8], options: Options, out: &mut Vec<Entry>,
+    ) -> Result<(), Refusal> {
+        let seq = self.flows(near)?.queue(flow, message, options)?;
+        out.push(Entry::Queued { near, flow, seq, length: message.len() });
+        Ok(())
+    }
+
+    pub fn abandon(&mut self, near: u32, flow: u64, seq: u64, out: &mut Vec<Entry>) -> Result<(), Refusal> {
+        self.flows(near)?.abandon(flow, seq)?;
+        out.push(Entry::Abandoned { near, flow, seq });
+        Ok(())
+    }
+
+    pub fn finish(&mut self, near: u32, flow: u64, out: &mut Vec<Entry>) -> Result<(), Refusal> {
+        let seq = self.flows(near)?.finish(flow)?;
+        out.push(Entry::Finished { near, flow, seq });
+        Ok(())
+    }
+
+    /// The flows of a session that is held.
+    fn flows(&mut self, near: u32) -> Result<&mut Flows, Refusal> {
+        let session = self.sessions.get_mut(&near).filter(|s| s.is_held());
+        session.map(|session| &mut session.flows).ok_or(Refusal::NoSession)
+    }
+
+    /// Numbers that were sent too long ago are lost. Attempts that are too old end; hellos and keyings that weren't
+    /// answered go out again. Then each session does what is due.
     pub fn tick(&mut self, moment: u64, out: &mut Vec<Entry>) {
+        for session in self.sessions.values_mut().filter(|s| s.is_held()) {
+            let resend_after = session.resend_after();
+            session.flows.find_lost(moment, resend_after);
+        }
         let nears: Vec<u32> = self.attempts.keys().copied().collect();
         for near in nears {
             let attempt = self.attempts.get_mut(&near).unwrap();
@@ -391,12 +471,21 @@ impl End {
                 self.end_session(near, Why::Unconfirmed, out);
                 self.sessions.remove(&near);
             }
-            State::HalfOpen { .. } => {}
+            State::HalfOpen { .. } => session.flows.abandon_overdue(near, moment, out),
             State::Open if moment >= session.taken + IDLE_TIME => {
                 self.end_session(near, Why::Idle, out);
                 self.sessions.remove(&near);
             }
             State::Open => {
+                session.flows.abandon_overdue(near, moment, out);
+                let resend_after = session.resend_after();
+                let mut plain = session.head(moment);
+                let head = plain.len();
+                while let Some(kinds) = session.flows.fill(&mut plain, moment, resend_after) {
+                    let datagram = session.seal(&plain).into();
+                    out.push(Entry::Out(Out { to: session.address, datagram, context: session.outward.0.clone(), kinds }));
+                    plain.truncate(head);
+                }
                 let quiet = moment >= session.taken + KEEPALIVE_TIME;
                 if quiet && session.kept_alive.is_none_or(|last| moment >= last + KEEPALIVE_TIME) {
                     session.kept_alive = Some(moment);
@@ -466,14 +555,15 @@ impl End {
                 out.push(Entry::Fact(Fact::Confirmed { near }));
             }
         }
-        let mut keyed = false;
+        let mut walk = Walk::default();
         for chunk in &packet.chunks {
-            if let Err(cause) = self.take_chunk(place, chunk, keyed, from, moment, draws, out) {
+            if let Err(cause) = self.take_chunk(place, chunk, &mut walk, from, moment, draws, out) {
                 out.push(Entry::Discard { place: chunk.at, cause });
             }
-            keyed |= chunk.kind == wire::IIKEYING;
+            walk.keyed |= chunk.kind == wire::IIKEYING;
         }
         if let Place::Session(near) = place {
+            self.send_acks(near, walk.owed, moment, out);
             self.test_address(near, from, moment, draws.token, out);
         }
         Ok(())
@@ -512,18 +602,24 @@ impl End {
 
     #[allow(clippy::too_many_arguments)]
     fn take_chunk(
-        &mut self, place: Place, raw: &wire::RawChunk, keyed: bool, from: Address, moment: u64, draws: &Draws, out: &mut Vec<Entry>,
+        &mut self, place: Place, raw: &wire::RawChunk, walk: &mut Walk, from: Address, moment: u64, draws: &Draws,
+        out: &mut Vec<Entry>,
     ) -> Result<(), Cause> {
-        let chunk = Chunk::read(raw.kind, raw.payload).map_err(|fault| match fault {
+        let chunk = Chunk::read(raw.kind, raw.payload, walk.before.take()).map_err(|fault| match fault {
             ChunkFault::Unknown => Cause::UnknownChunk(raw.kind),
             ChunkFault::Malformed(at) => Cause::Malformed(at),
         })?;
+        if let Chunk::Data(data) = &chunk {
+            walk.before = Some((data.flow, data.chunk.seq, data.chunk.forward));
+        }
         if let Place::Session(near) = place {
             let session = self.sessions.get(&near);
             let is_late = match chunk {
                 Chunk::Close => session.is_none(),
                 Chunk::CloseAck => !session.is_some_and(|s| matches!(s.state, State::NearClosing { .. })),
-                Chunk::FIHello { .. } | Chunk::Ping(_) | Chunk::PingReply(_) => !session.is_some_and(Session::is_held),
+                Chunk::FIHello { .. } | Chunk::Ping(_) | Chunk::PingReply(_) | Chunk::Data(_) | Chunk::Ack { .. } => {
+                    !session.is_some_and(Session::is_held)
+                }
                 _ => false,
             };
             if is_late {
@@ -537,7 +633,7 @@ impl End {
             (Place::Startup, Chunk::RHello { tag, cookie, cert }) => self.take_rhello(tag, cookie, cert, from, moment, out),
             (Place::Startup, Chunk::CookieChange { old, new }) => self.take_cookie_change(None, old, new, moment, out),
             (Place::Attempt(near), Chunk::CookieChange { old, new }) => self.take_cookie_change(Some(near), old, new, moment, out),
-            (Place::Startup, Chunk::IIKeying(_)) if keyed => Err(Cause::SecondKeying),
+            (Place::Startup, Chunk::IIKeying(_)) if walk.keyed => Err(Cause::SecondKeying),
             (Place::Startup, Chunk::IIKeying(keying)) => self.take_iikeying(&keying, from, moment, draws, out),
             (Place::Attempt(near), Chunk::RIKeying(keying)) => self.take_rikeying(near, &keying, from, moment, out),
             (Place::Session(near), Chunk::Ping(bytes)) => {
@@ -558,6 +654,18 @@ impl End {
             (Place::Session(near), Chunk::CloseAck) => {
                 self.forget(near, out);
                 Ok(())
+            }
+            (Place::Session(near), Chunk::Data(data)) => {
+                let session = self.sessions.get_mut(&near).ok_or(Cause::WrongState)?;
+                session.flows.take_data(near, &data, out)?;
+                if let Err(place) = walk.owed.binary_search(&data.flow) {
+                    walk.owed.insert(place, data.flow);
+                }
+                Ok(())
+            }
+            (Place::Session(near), Chunk::Ack { flow, ack }) => {
+                let session = self.sessions.get_mut(&near).ok_or(Cause::WrongState)?;
+                session.flows.take_ack(flow, &ack)
             }
             _ => Err(Cause::WrongPlace),
         }
@@ -799,13 +907,27 @@ impl End {
         number[8..].copy_from_slice(&self.sealed.to_be_bytes());
         let (context, keys) = &self.group.startup;
         let datagram = keys.seal(sid, number, &packet(STARTUP_MODE, None, None, kind, payload)).into();
-        out.push(Entry::Out(Out { to, datagram, context: context.clone(), kind }));
+        out.push(Entry::Out(Out { to, datagram, context: context.clone(), kinds: Kinds::One(kind) }));
     }
 
     fn send_in_session(&mut self, near: u32, to: Address, kind: u8, payload: &[u8], moment: u64, out: &mut Vec<Entry>) {
         let Some(session) = self.sessions.get_mut(&near) else { return };
-        let datagram = session.seal(kind, payload, moment).into();
-        out.push(Entry::Out(Out { to, datagram, context: session.outward.0.clone(), kind }));
+        let (stamp, echo) = session.stamps(moment);
+        let datagram = session.seal(&packet(session.mode, stamp, echo, kind, payload)).into();
+        out.push(Entry::Out(Out { to, datagram, context: session.outward.0.clone(), kinds: Kinds::One(kind) }));
+    }
+
+    /// Sends the acks that a datagram's chunks owe, to the session's address.
+    fn send_acks(&mut self, near: u32, owed: Vec<u64>, moment: u64, out: &mut Vec<Entry>) {
+        let Some(session) = self.sessions.get_mut(&near) else { return };
+        let mut left = owed.as_slice();
+        while !left.is_empty() {
+            let (mut plain, mut kinds) = (session.head(moment), None);
+            left = session.flows.put_acks(left, &mut plain, &mut kinds);
+            let Some(kinds) = kinds else { return };
+            let datagram = session.seal(&plain).into();
+            out.push(Entry::Out(Out { to: session.address, datagram, context: session.outward.0.clone(), kinds }));
+        }
     }
 
     /// A chunk without bytes, to the session's address.

@@ -1,5 +1,7 @@
 //! The texts of a run: its script and its report, as `rtmfp replay` reads and writes them.
+use crate::crypto::Kinds;
 use crate::end::{Cause, Entry, Fact, Joined, Refusal, Why};
+use crate::flow::{QueueRefusal, Refusal as FlowRefusal};
 use crate::wire::{Address, Host};
 use crate::{JournalLine, Step, World};
 use std::io::{self, BufWriter, Write};
@@ -30,6 +32,18 @@ pub fn print_script(world: &World) {
             Step::Close { end, near } => writeln!(out, "close {} {near}", name(end)),
             Step::Deliver { number, end, from } => writeln!(out, "deliver {number} {} {}", name(end), At(*from)),
             Step::Tick { end } => writeln!(out, "tick {}", name(end)),
+            Step::Flow { end, near, priority, metadata, answers } => {
+                let answers = answers.map_or(String::new(), |flow| format!(" {flow}"));
+                write!(out, "flow {} {near} {priority} ", name(end))
+                    .and_then(|()| write_hex(&mut out, metadata))
+                    .and_then(|()| writeln!(out, "{answers}"))
+            }
+            Step::Queue { end, near, flow, options, message } => {
+                let limits = (limit(options.deadline), limit(options.resends));
+                writeln!(out, "queue {} {near} {flow} {} {} *{}", name(end), limits.0, limits.1, message.len())
+            }
+            Step::Abandon { end, near, flow, seq } => writeln!(out, "abandon {} {near} {flow} {seq}", name(end)),
+            Step::Finish { end, near, flow } => writeln!(out, "finish {} {near} {flow}", name(end)),
         };
         written.expect("a script is written");
     }
@@ -57,13 +71,58 @@ pub fn write_line(out: &mut impl Write, world: &World, line: &JournalLine, sent:
             Entry::Closed { near } => writeln!(out, "closed near={near}")?,
             Entry::Moved { near, to } => writeln!(out, "moved near={near} {}", At(*to))?,
             Entry::Discard { place, cause } => writeln!(out, "drop {place} {}", cause_text(cause))?,
+            Entry::FlowOpened { near, flow } => writeln!(out, "flow near={near} id={flow}")?,
+            Entry::Queued { near, flow, seq, length } => {
+                writeln!(out, "queued near={near} flow={flow} seq={seq} length={length}")?
+            }
+            Entry::Finished { near, flow, seq } => writeln!(out, "finished near={near} flow={flow} seq={seq}")?,
+            Entry::Abandoned { near, flow, seq } => writeln!(out, "abandoned near={near} flow={flow} seq={seq}")?,
+            Entry::Handed { near, flow, seq, message } => {
+                write!(out, "handed near={near} flow={flow} seq={seq} ")?;
+                write_hex(out, message)?;
+                writeln!(out)?;
+            }
             Entry::Out(o) => {
                 *sent += 1;
-                writeln!(out, "sent {sent} {} {}", At(o.to), kind_name(o.kind))?;
+                write!(out, "sent {sent} {} ", At(o.to))?;
+                write_kinds(out, &o.kinds)?;
             }
         }
     }
     Ok(())
+}
+
+fn limit(value: Option<impl std::fmt::Display>) -> String {
+    value.map_or("-".into(), |value| value.to_string())
+}
+
+/// The digits of some bytes, or a hyphen for none.
+fn write_hex(out: &mut impl Write, bytes: &[u8]) -> io::Result<()> {
+    const DIGITS: &[u8; 16] = b"0123456789abcdef";
+    if bytes.is_empty() {
+        return write!(out, "-");
+    }
+    for piece in bytes.chunks(512) {
+        let mut digits = [0; 1024];
+        for (pair, byte) in digits.chunks_exact_mut(2).zip(piece) {
+            pair[0] = DIGITS[usize::from(byte >> 4)];
+            pair[1] = DIGITS[usize::from(byte & 15)];
+        }
+        out.write_all(&digits[..2 * piece.len()])?;
+    }
+    Ok(())
+}
+
+fn write_kinds(out: &mut impl Write, kinds: &Kinds) -> io::Result<()> {
+    match kinds {
+        Kinds::One(kind) => writeln!(out, "{}", kind_name(*kind)),
+        Kinds::Many(kinds) => {
+            for (index, kind) in kinds.iter().enumerate() {
+                write!(out, "{}{}", if index > 0 { "+" } else { "" }, kind_name(*kind))?;
+            }
+            writeln!(out)
+        }
+    }
 }
 
 fn number(bytes: &[u8; 16]) -> u128 {
@@ -109,6 +168,9 @@ fn kind_name(kind: u8) -> &'static str {
         0x01 => "ping",
         0x41 => "pingreply",
         0x0c => "close",
+        0x10 => "data",
+        0x11 => "next",
+        0x51 => "ackranges",
         _ => "closeack",
     }
 }
@@ -124,6 +186,14 @@ fn refusal(refusal: &Refusal) -> String {
         Refusal::SessionsFull(n) => format!("sessions-full {n}"),
         Refusal::NoAttempt => "no-attempt".into(),
         Refusal::NoSession => "no-session".into(),
+        Refusal::NoFlow => "no-flow".into(),
+        Refusal::FlowsFull(n) => format!("flows-full {n}"),
+        Refusal::WideMetadata(n) => format!("wide-metadata {n}"),
+        Refusal::Queue(QueueRefusal::TooLong) => "too-long 1048576".into(),
+        Refusal::Queue(QueueRefusal::Backlog(n)) => format!("backlog {n}"),
+        Refusal::Queue(QueueRefusal::SequenceSpent) => "sequence-spent".into(),
+        Refusal::Queue(QueueRefusal::Finished) | Refusal::Finished => "finished".into(),
+        Refusal::NotQueued => "not-queued".into(),
     }
 }
 
@@ -152,5 +222,10 @@ fn cause_text(cause: &Cause) -> String {
         Cause::SecondKeying => "second-keying".into(),
         Cause::Fragment => "fragment".into(),
         Cause::Wide(n) => format!("wide {n}"),
+        Cause::UnknownFlow => "unknown-flow".into(),
+        Cause::FlowsFull(n) => format!("flows-full {n}"),
+        Cause::Flow(FlowRefusal::AfterFinal(n)) => format!("after-final {n}"),
+        Cause::Flow(FlowRefusal::BeyondBuffer(n)) => format!("beyond-buffer {n}"),
+        Cause::AckBeyond(n) => format!("ack-beyond {n}"),
     }
 }

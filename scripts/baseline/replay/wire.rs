@@ -1,4 +1,6 @@
 //! The forms of packets, chunks, addresses and certificates.
+use crate::flow::{self, put_vlu, Ack};
+use crate::flows::Data;
 
 #[derive(Clone, Copy, PartialEq, Eq, Debug)]
 pub enum Host {
@@ -87,16 +89,6 @@ impl<'a> Reader<'a> {
     }
 }
 
-pub fn put_vlu(mut n: u64, out: &mut Vec<u8>) {
-    let mut groups = vec![n as u8 & 0x7f];
-    n >>= 7;
-    while n > 0 {
-        groups.push(0x80 | n as u8 & 0x7f);
-        n >>= 7;
-    }
-    out.extend(groups.iter().rev());
-}
-
 pub fn put_counted(bytes: &[u8], out: &mut Vec<u8>) {
     put_vlu(bytes.len() as u64, out);
     out.extend_from_slice(bytes);
@@ -145,13 +137,22 @@ impl<'a> Packet<'a> {
     }
 }
 
-/// A plain packet with one chunk.
-pub fn packet(mode: u8, stamp: Option<u16>, echo: Option<u16>, kind: u8, payload: &[u8]) -> Vec<u8> {
-    let mut out = Vec::with_capacity(8 + payload.len());
+/// The most bytes of a plain packet.
+pub const PACKET: usize = 1_164;
+
+/// A plain packet without chunks, and room for so many bytes more.
+pub fn head(mode: u8, stamp: Option<u16>, echo: Option<u16>, room: usize) -> Vec<u8> {
+    let mut out = Vec::with_capacity(5 + room);
     out.push(mode | if stamp.is_some() { 0x08 } else { 0 } | if echo.is_some() { 0x04 } else { 0 });
     for x in stamp.iter().chain(&echo) {
         out.extend_from_slice(&x.to_be_bytes());
     }
+    out
+}
+
+/// A plain packet with one chunk.
+pub fn packet(mode: u8, stamp: Option<u16>, echo: Option<u16>, kind: u8, payload: &[u8]) -> Vec<u8> {
+    let mut out = head(mode, stamp, echo, 3 + payload.len());
     out.push(kind);
     out.extend_from_slice(&(payload.len() as u16).to_be_bytes());
     out.extend_from_slice(payload);
@@ -169,8 +170,11 @@ pub const PINGREPLY: u8 = 0x41;
 pub const CLOSE: u8 = 0x0c;
 pub const CLOSEACK: u8 = 0x4c;
 pub const FRAGMENT: u8 = 0x7f;
+pub const DATA: u8 = 0x10;
+pub const NEXT: u8 = 0x11;
+pub const ACKRANGES: u8 = 0x51;
 
-/// The chunks that an end takes.
+/// The chunks that an end takes, of those of flows the three that ends of scripts send.
 pub enum Chunk<'a> {
     IHello { epd: &'a [u8], tag: &'a [u8] },
     FIHello { epd: &'a [u8], reply: Address, tag: &'a [u8] },
@@ -183,7 +187,12 @@ pub enum Chunk<'a> {
     Close,
     CloseAck,
     Fragment,
+    Data(Data<'a>),
+    Ack { flow: u64, ack: Ack<'a> },
 }
+
+/// Of the data or next chunk directly before a chunk its flow, number and forward number.
+pub type Before = Option<(u64, u64, u64)>;
 
 pub struct IIKeying<'a> {
     pub near: u32,
@@ -222,9 +231,16 @@ pub fn is_certificate(bytes: &[u8]) -> bool {
 }
 
 impl<'a> Chunk<'a> {
-    pub fn read(kind: u8, payload: &'a [u8]) -> Result<Self, ChunkFault> {
+    pub fn read(kind: u8, payload: &'a [u8], before: Before) -> Result<Self, ChunkFault> {
         let mut r = Reader::new(payload);
         Ok(match kind {
+            DATA | NEXT => Chunk::Data(Data::read(kind, &mut r, before)?),
+            ACKRANGES => {
+                let (flow, blocks, upto) = (r.vlu()?, r.vlu()?, r.vlu()?);
+                let pairs = r.rest();
+                Reader::new(pairs).pairs(upto).map_err(|at| at + payload.len() - pairs.len())?;
+                Chunk::Ack { flow, ack: Ack { blocks, upto, pairs } }
+            }
             IHELLO => Chunk::IHello { epd: r.counted()?, tag: r.rest() },
             FIHELLO => Chunk::FIHello { epd: r.counted()?, reply: r.address()?, tag: r.rest() },
             RHELLO => {
@@ -251,6 +267,60 @@ impl<'a> Chunk<'a> {
             }
             _ => return Err(ChunkFault::Unknown),
         })
+    }
+}
+
+impl Reader<'_> {
+    /// Goes through the pairs of an ack, none of which may speak of a number that is too large.
+    fn pairs(&mut self, mut last: u64) -> Result<(), usize> {
+        while self.at < self.bytes.len() {
+            let at = self.at;
+            let (holes, received) = (self.vlu()?, self.vlu()?);
+            last = last.checked_add(holes).and_then(|n| n.checked_add(received)?.checked_add(2)).ok_or(at)?;
+        }
+        Ok(())
+    }
+
+    /// Goes through an option list and its marker.
+    fn options(&mut self) -> Result<(), usize> {
+        let at = self.at;
+        loop {
+            let option = self.counted().map_err(|_| at)?;
+            if option.is_empty() {
+                return Ok(());
+            }
+            Reader::new(option).vlu().map_err(|_| at)?;
+        }
+    }
+}
+
+impl<'a> Data<'a> {
+    fn read(kind: u8, r: &mut Reader<'a>, before: Before) -> Result<Self, usize> {
+        let next = before.and_then(|(flow, seq, forward)| Some((flow, seq.checked_add(1)?, forward)));
+        if kind == NEXT && next.is_none() {
+            return Err(0);
+        }
+        let flags = r.take(1)?[0];
+        let (flow, seq, forward) = match next.filter(|_| kind == NEXT) {
+            Some(next) => next,
+            None => {
+                let (flow, seq, at) = (r.vlu()?, r.vlu()?, r.at);
+                let forward = seq.checked_sub(r.vlu()?).ok_or(at)?;
+                if forward == seq && flags & 0x02 == 0 {
+                    return Err(at);
+                }
+                (flow, seq, forward)
+            }
+        };
+        let start = r.at;
+        if flags & 0x80 != 0 {
+            r.options()?;
+        }
+        let options = &r.bytes[start..r.at];
+        let (begins, ends) = (flags & 0x20 == 0, matches!(flags & 0x30, 0x00 | 0x20));
+        let (abandon, last) = (flags & 0x02 != 0, flags & 0x01 != 0);
+        let chunk = flow::Chunk { begins, ends, abandon, last, seq, forward, bytes: r.rest() };
+        Ok(Data { flow, options, chunk })
     }
 }
 
