@@ -18,10 +18,11 @@ use Rattle.endpoint_model.specs.Admission.{sid_at}
 use Rattle.endpoint_model.specs.Causes.{chunk_cause}
 use Rattle.endpoint_model.specs.Effects.{IsQuiet, discarded, discarded_or, discards_for, is_idle, is_idle_after, walked}
 use Rattle.endpoint_model.proofs.FlowChunks.{flows_cause, none_behind}
-use Rattle.std.proofs.Common.{ℕ, zero, suc, inl, inr, ◌≡◌, ◌≤◌, ◌+◌, ◌++◌, List, [], ◌∷◌, length, map, Option, Some, None, Result, Ok, Err, OnOk, IfErr, IsSome, Bool, true, false, if◌then◌else◌, ◌<◌, refl, sym, ap, ◌∙◌, subst, arith}
+use Rattle.std.proofs.Common.{ℕ, zero, suc, inl, inr, ◌≡◌, ◌≤◌, ◌++◌, List, [], ◌∷◌, length, map, Option, Some, None, Result, Ok, Err, OnOk, IfErr, IsSome, Bool, true, false, if◌then◌else◌, ◌<◌, refl, sym, ap, ◌∙◌, subst, arith}
 use Rattle.std.proofs.lemmas.List.{append-nil}
 use Rattle.std.specs.FinMap.{get, insert}
-use Rattle.rtmfp_base.proofs.Maps.{get_inserted, insert_twice, same_tables, same_or_not, get_beside}
+use Rattle.rtmfp_base.proofs.Maps.{get_inserted, insert_twice}
+use Rattle.end_state.proofs.InSession.{insert_found}
 use Rattle.rtmfp_data_chunks.specs.Chunk.{DataChunk, UserParts, Data, Next, AckBitmap, AckRanges, Probe, Exception}
 use Rattle.rtmfp_data_chunks.specs.Acked.{acked}
 use Rattle.flow_send.specs.declared.waiting.Waiting.{Waiting}
@@ -29,7 +30,7 @@ use Rattle.flow_send.specs.Sender.{Sender, finish_by}
 use Rattle.flow_send.specs.Flow.{Flow, with_sender}
 use Rattle.flow_send.specs.Acks.{told}
 use Rattle.session_flows.specs.Keeping.{FlowsState, Stated, Abandoned, Did as FlowsDid, sending_at, with_flow, with_sending}
-use Rattle.session_flows.specs.Chunks.{data_taken, data_done, most_ready, rejecting, rejecting_by, all_abandoned, without_messages, numbers_of, finished_at, last_by}
+use Rattle.session_flows.specs.Chunks.{data_taken, data_done, most_ready, rejecting_by, all_abandoned, without_messages, numbers_of, finished_at, last_by}
 use Rattle.session_flows.specs.Handing.{hands, hands_once}
 use Rattle.session_flows.proofs.Enough.{done_enough, nothing_more}
 use Rattle.session_table.specs.Chunks.{handed_in}
@@ -66,10 +67,6 @@ module _ (s : State) (near : ℕ) where
   pub next_is : (user : UserParts) (o : Option Row) → flow_taken_by s near (Data user) o ≡ flow_taken_by s near (Next user) o
   next_is user None = refl
   next_is user (Some row) = refl
-
--- a thing that leaves this state and adds nothing
-pub left_done : (d : Did) (t u : State) (out : Added) → d ≡ nothing u → t ≡ u → Done d t out out
-left_done d t u out is left = subst (λ (x : Did). Done x t out out) (sym is) (subst (λ (x : State). Done (nothing x) t out out) left (done_nothing t out))
 
 -- ---- data
 
@@ -131,19 +128,13 @@ module _ (near flow : ℕ) where
       Done (handed_by s near flow count (get s.sessions near)) t before after
   hand_no_more count s t before after none once = subst (λ (d : Did). Done d t before after) (hand_none count s (get s.sessions near) none) once
 
-kept_map : (m : Sessions) (k : ℕ) (v : Row) → get m k ≡ Some v → insert m k v ≡ m
-kept_map m k v there = same_tables _ _ (λ q. elim (same_or_not q k) [
-  | inl is ↦ ap (get (insert m k v)) is.0 ∙ get_inserted m k v ∙ sym there ∙ ap (get m) (sym is.0)
-  | inr is ↦ get_beside m k v q is.0
-])
-
 -- and so many that are none
 pub hand_zero : (near flow count : ℕ) (s : State) (out : Added) → count ≡ 0 → Done (handed_by s near flow count (get s.sessions near)) s out out
 hand_zero near flow count s out none = subst (λ (n : ℕ). Done (handed_by s near flow n (get s.sessions near)) s out out) (sym none) (by (get s.sessions near) refl)
   where
     by : (o : Option Row) → get s.sessions near ≡ o → Done (handed_by s near flow 0 o) s out out
     by None found = done_nothing s out
-    by (Some row) found = subst (λ (m : Sessions). Done (record { state = with_sessions s m; entries = [] }) s out out) (sym (kept_map s.sessions near row found)) (done_nothing s out)
+    by (Some row) found = subst (λ (m : Sessions). Done (record { state = with_sessions s m; entries = [] }) s out out) (sym (insert_found s.sessions near row found)) (done_nothing s out)
 
 -- ---- an exception that states nothing
 
@@ -151,11 +142,6 @@ set_same : (fs : List Flow) (i : ℕ) (f : Flow) → slice_get fs i ≡ Some f �
 set_same [] i f e = refl
 set_same (x ∷ xs) zero f e = let is : f ≡ x = cc in ap (λ (y : Flow). y ∷ xs) is
 set_same (x ∷ xs) (suc i) f e = ap (λ (ys : List Flow). x ∷ ys) (set_same xs i f e)
-
--- an empty list of things in a row begins with an empty one
-front_empty : {A : Type 0} (xs ys : List A) → xs ++ ys ≡ [] → xs ≡ []
-front_empty [] ys e = refl
-front_empty (x ∷ xs) ys e = absurd (cc)
 
 module _ (s : FlowsState) (id : ℕ) where
   none_waits : (waiting : List Waiting) (f : Flow) (finish : Option ℕ) (rest : List Stated) → map (Abandoned id) (numbers_of waiting) ++ rest ≡ [] → all_abandoned waiting f.sender ≡ f.sender
@@ -180,7 +166,7 @@ pub rejected_nothing : (s : State) (near flow : ℕ) (o : Option Row) → get s.
 rejected_nothing s near flow None found none = refl
 rejected_nothing s near flow (Some row) found none =
     ap (flows_done s near row) (rejects_nothing row.flows flow (sending_at row.flows flow) refl none)
-    ∙ ap (λ (m : Sessions). record { state = with_sessions s m; entries = [] }) (kept_map s.sessions near row found)
+    ∙ ap (λ (m : Sessions). record { state = with_sessions s m; entries = [] }) (insert_found s.sessions near row found)
 
 -- ---- data, by what is kept under the session ID
 

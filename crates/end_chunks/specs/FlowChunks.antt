@@ -10,7 +10,7 @@ use Rattle.startup.specs.declared.cause.Cause.TheVariants.{WrongPlace}
 use Rattle.session_flows.specs.declared.cause.FlowCause.{FlowCause}
 use Rattle.session_flows.specs.declared.cause.FlowCause.TheVariants.{WrongState}
 use Rattle.flow_send.specs.Acks.{Told}
-use Rattle.session_flows.specs.Keeping.{FlowsState, Stated}
+use Rattle.session_flows.specs.Keeping.{Stated}
 use Rattle.session_flows.specs.Causes.{chunk_cause, ack_cause, exception_cause}
 use Rattle.session_flows.specs.Chunks.{data_taken, heard, session_heard, probed, rejecting}
 use Rattle.session_flows.specs.Handing.{hands, hands_once}

@@ -26,7 +26,8 @@ abbrev pub out_of : AddressParts → Option Sealed → List Entry
 out_of to None = []
 out_of to (Some x) = Out to x.datagram x.context ∷ []
 
-insert_found : (m : Sessions) (k : ℕ) (v : Row) → get m k ≡ Some v → insert m k v ≡ m
+-- a value that is put where it stands changes nothing
+pub insert_found : (m : Sessions) (k : ℕ) (v : Row) → get m k ≡ Some v → insert m k v ≡ m
 insert_found m k v there = same_tables _ _ (λ q. elim (same_or_not q k) [
   | inl is ↦ ap (get (insert m k v)) is.0 ∙ get_inserted m k v ∙ sym there ∙ ap (get m) (sym is.0)
   | inr is ↦ get_beside m k v q is.0

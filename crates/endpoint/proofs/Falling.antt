@@ -36,7 +36,7 @@ use Rattle.endpoint_model.specs.Effects.{due_done, tick_once}
 use Rattle.endpoint.specs.declared.ticking.DueItem.{DueItem}
 use Rattle.endpoint.specs.declared.ticking.DueItem.TheVariants.{Attempt, Session}
 use Rattle.endpoint.specs.DueItems.{ItemFalls, RowFalls, attempt_done, due_item, row_due_by}
-use Rattle.endpoint.proofs.Weights.{sum_where, sum_removed, sum_changed}
+use Rattle.rtmfp_base.proofs.Weights.{sum_where, sum_removed, sum_changed}
 use Rattle.endpoint.proofs.DueItems.{some_due, attempt_sends, attempt_is_next, session_is_next, next_done, done_of_it, end_is_due, abandon_is_due, data_are_due, keepalive_is_due}
 
 -- ---- attempts
@@ -167,10 +167,6 @@ both_and : (a b c : Bool) → c ≡ false → (a && b && c) ≡ false
 both_and true true c e = e
 both_and true false c e = refl
 both_and false b c e = refl
-
-first_and : (a b : Bool) → (a && b) ≡ true → a ≡ true
-first_and true b e = refl
-first_and false b e = e
 
 pub record IsRepeat (a b c d : Bool) : Type 0 where
   pub born : a ≡ false

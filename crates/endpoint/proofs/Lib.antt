@@ -7,7 +7,6 @@ mod Taking
 mod Near
 mod NamedContexts
 mod DueItems
-mod Weights
 mod Falling
 mod Endings
 mod Walking

@@ -1,73 +1,25 @@
 -- The chunks of a datagram that was taken, and the test after them.
-use Rattle.std.proofs.Common.{ℕ, ◌≡◌, ◌<◌, ◌⊎◌, inl, inr, List, [], ◌∷◌, length, take, Bool, true, false, if◌then◌else◌, Result, Ok, Err, OnOk, IfErr, refl, sym, ap, ◌∙◌, subst, arith}
+use Rattle.std.proofs.Common.{ℕ, ◌≡◌, ◌<◌, ◌⊎◌, List, length, take, Bool, true, false, if◌then◌else◌, Result, Ok, Err, OnOk, IfErr, sym, ◌∙◌, subst}
 use Rattle.rtmfp_forms.specs.Address.{AddressParts}
 use Rattle.rtmfp_packet.specs.Walk.{Placed}
 use Rattle.rtmfp_packet.specs.Whole.{Whole}
 use Rattle.endpoint_model.specs.declared.answers.Stopped.{Stopped}
 use Rattle.endpoint_model.specs.declared.config.Draws.{Draws}
 use Rattle.endpoint_model.specs.declared.place.Place.{Place}
-use Rattle.endpoint_model.specs.declared.place.Place.TheVariants.{Startup, Attempt, Session}
 use Rattle.endpoint_model.specs.Added.{Added}
-use Rattle.endpoint_model.specs.State.{State, Did, Done, nothing, then_do, after_entries}
+use Rattle.endpoint_model.specs.State.{State, Did, Done, nothing, then_do}
 use Rattle.endpoint_model.specs.Admission.{confirming, counted_at, timed_at, taken_packet}
 use Rattle.endpoint_model.specs.Keying.{chunks_of}
 use Rattle.endpoint_model.specs.InSessions.{tested}
 use Rattle.endpoint_model.specs.FlowChunks.{acked, unowed}
 use Rattle.endpoint_model.specs.Effects.{chunks_did, outset, most_acks, received, part_received}
 use Rattle.endpoint_model.specs.Log.{StopsSo, WantsMore}
-use Rattle.endpoint_model.proofs.Steps.{joined, done_nothing, then_nothing, then_then}
-use Rattle.endpoint.specs.Walks.{walked_and_tested, walked_and_acked, StopsAcking, StopsIn}
-
-take_all : {A : Type 0} (xs : List A) → take (length xs) xs ≡ xs
-take_all [] = refl
-take_all (x ∷ xs) = ap (λ ys. x ∷ ys) (take_all xs)
+use Rattle.endpoint_model.proofs.Steps.{joined, then_then}
+use Rattle.endpoint.specs.Walks.{walked_and_tested, walked_and_acked, StopsIn}
 
 -- four things in a row, by the first and what comes after it
 in_a_row : (d : Did) (f g h : State → Did) → then_do (then_do (then_do d f) g) h ≡ then_do d (λ t. then_do (f t) (λ u. then_do (g u) h))
 in_a_row d f g h = then_then (then_do d f) g h ∙ then_then d f (λ u. then_do (g u) h)
-
--- no packet of acks is no thing
-no_acks : (t : State) (place : Place) → acked 0 t place ≡ nothing t
-no_acks t Startup = refl
-no_acks t (Attempt near) = refl
-no_acks t (Session near) = refl
-
--- ---- where no memory was found
-
-module _ (place : Place) (from : AddressParts) (draws : Draws) (s : State) (cs : List Placed) where
-  -- at a chunk
-  pub stops_at_chunk : (t u : State) (before between after : Added) (stop : Stopped) → stop.taken ≡ true → stop.chunks < length cs → Done (chunks_did place from draws outset s (take stop.chunks cs)) t before between →
-      Done (nothing (unowed t place)) u between after → StopsIn place from draws s cs u before after stop
-  stops_at_chunk t u before between after stop taken early done still =
-      let first : Did = chunks_did place from draws outset s (take stop.chunks cs) in
-      record {
-        acks = 0;
-        taken = taken;
-        at = inl (early, refl);
-        left = joined (walked_and_acked place from draws s (take stop.chunks cs) 0) (λ x. nothing (unowed x place)) t u before between after
-            (subst (λ (d : Did). Done d t before between) (sym (then_none first)) done) still;
-      }
-    where
-      then_none : (d : Did) → then_do d (λ x. acked 0 x place) ≡ d
-      then_none d = ap (after_entries d.entries) (no_acks d.state place) ∙ then_nothing d
-
-  -- after all of them
-  pub stops_after : (t u v : State) (before between sent after : Added) (count : ℕ) → count ≡ length cs → Done (chunks_did place from draws outset s cs) t before between →
-      StopsAcking place from t u between sent → Done (nothing (unowed u place)) v sent after → StopsIn place from draws s cs v before after (record { taken = true; chunks = count })
-  stops_after t u v before between sent after count is done acking still =
-      let walked : Done (walked_and_acked place from draws s cs acking.acks) u before sent =
-      joined (chunks_did place from draws outset s cs) (λ x. acked acking.acks x place) t u before between sent done acking.done in
-      record {
-        acks = acking.acks;
-        taken = refl;
-        at = inr (is, subst (WantsMore from place) walked.state acking.wants);
-        left = subst (λ (xs : List Placed). Done (then_do (walked_and_acked place from draws s xs acking.acks) (λ x. nothing (unowed x place))) v before after) (sym (ap (λ (n : ℕ). take n cs) is ∙ take_all cs))
-            (joined (walked_and_acked place from draws s cs acking.acks) (λ x. nothing (unowed x place)) u v before sent after walked still);
-      }
-
--- what is done after a thing to the state alone
-pub then_left : (t u : State) (out : Added) → u ≡ t → Done (nothing t) u out out
-then_left t u out same = subst (λ (x : State). Done (nothing t) x out out) (sym same) (done_nothing t out)
 
 -- ---- a packet that was taken
 

@@ -1,5 +1,5 @@
 -- The rows without the one that has a key, in a list in which no two rows have one key.
-use Rattle.std.proofs.Common.{ℕ, List, ◌≡◌, ◌==◌, get_or, Option, Some, None, position, sym, ap, ◌∙◌, inl, inr}
+use Rattle.std.proofs.Common.{ℕ, List, ◌≡◌, ◌==◌, get_or, Some, None, position, sym, ap, ◌∙◌, inl, inr}
 use Rattle.std.specs.Ordering.{nat_cmp}
 use Rattle.std.specs.List.{swap_remove}
 use Rattle.std.specs.FinMap.{FinMap, get, remove}

@@ -1,4 +1,4 @@
-use Rattle.std.proofs.Common.{List, ◌≤◌, subst, sym}
+use Rattle.std.proofs.Common.{List, subst, sym}
 use Rattle.rtmfp_packet.specs.Walk.{Placed}
 use Rattle.rtmfp_packet.specs.declared.head.PacketHead.{PacketHead}
 use Rattle.endpoint_model.specs.State.{Did, Done}
