@@ -142,6 +142,7 @@ module _ (e : End) (facts : List Fact) (s t : State) (role : Role) (j : Joined) 
           state = record { own = own ∙ stands.state.own; secret = secret ∙ stands.state.secret; rows = rows_kept own secret had is h stands };
         };
         log = refl;
+        named = (tt, tt);
         outs = (tt, tt);
         still = λ near. inl may;
         order = λ b n asked was. (begins_orders b n context_of_it, was);

@@ -33,6 +33,7 @@ grows_by who deed h = record {
   came = λ other c piece w. inr w;
   given = λ n x w. inr w;
   told = λ n a w. inr w;
+  ordered = λ b n o. o.1;
 }
 
 -- ---- its own

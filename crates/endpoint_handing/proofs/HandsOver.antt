@@ -11,9 +11,10 @@ use Rattle.flow_history.specs.Deeds.{Name}
 use Rattle.flow_history.specs.Log.{Entry as Tell, queued_of, abandoned_of, handed_of}
 use Rattle.flow_history.proofs.Entries.{history_hands_over, history_hands_once}
 use Rattle.flow_history.proofs.Keeps.{tested}
+use Rattle.flow_history.proofs.Orders.{has_an_order}
 use Rattle.endpoint_handing.specs.Told.{told}
 use Rattle.endpoint_handing.specs.Orders.{HasOrder}
-use Rattle.endpoint_handing.specs.Laws.{IsOfEnds, EveryHistoryHandsOver, EveryHistoryHandsOnce}
+use Rattle.endpoint_handing.specs.Laws.{IsOfEnds, EveryHistoryHandsOver, EveryHistoryHandsOnce, EveryFlowHasAnOrder, EveryMessageIsTold}
 use Rattle.endpoint_handing.proofs.Kept.{End}
 use Rattle.endpoint_handing.proofs.Owed.{FlowsHand}
 use Rattle.endpoint_handing.proofs.Logs.{log_mine, log_beside, leads_before, takes_part}
@@ -81,6 +82,14 @@ module _ (owed : (e : End) → FlowsHand e) where
   every_history_hands_over ends later early of_ends n order =
       let c = early_carried ends later early of_ends in
       subst (λ (l : List Tell). HandsOver (queued_of n l) (abandoned_of n l) (handed_of n l)) c.log (history_hands_over [] c.flows c.lawful c.honest n (c.order false n order))
+
+  pub every_flow_has_an_order : EveryFlowHasAnOrder
+  every_flow_has_an_order ends later early of_ends n =
+      let c = early_carried ends later early of_ends in
+      elim (has_an_order c.flows c.lawful c.honest n) [ inl order ↦ inl (c.back false n order) | inr order ↦ inr (c.back true n order) ]
+
+  pub every_message_is_told : EveryMessageIsTold
+  every_message_is_told ends later early of_ends = (early_carried ends later early of_ends).named
 
   pub every_history_hands_once : EveryHistoryHandsOnce
   every_history_hands_once ends later early of_ends n order =

@@ -21,7 +21,7 @@ use Rattle.endpoint_model.specs.FlowCall.{FlowCall, OpenFlow, Queue, Abandon, Fi
 use Rattle.endpoint_model.specs.State.{State, fresh, at_moment}
 use Rattle.endpoint_model.specs.InSessions.{if_held, held_row}
 use Rattle.endpoint_model.specs.OnFlows.{call_refusal, flow_called_by, flow_called}
-use Rattle.endpoint_model.specs.Log.{Step, Leads, StandsFor}
+use Rattle.endpoint_model.specs.Log.{Step, Answers, Leads, StandsFor}
 use Rattle.endpoint_laws.specs.Past.{fact_and, past_of, facts_of}
 use Rattle.endpoint_laws.specs.Laws.{IsSetup, IsCall, AreCalls}
 use Rattle.endpoint_laws.specs.Lawful.{nonces_of}
@@ -36,7 +36,8 @@ use Rattle.flow_history.specs.Log.{HasOrder, log_of as told_of}
 use Rattle.flow_history.proofs.Keeps.{tested}
 use Rattle.flow_history.proofs.Names.{number_self}
 use Rattle.endpoint_handing.specs.Once.{SendsIn, HasBegun as HasStated}
-use Rattle.endpoint_handing.specs.Told.{sending_context, facts_onto, told_onto, told}
+use Rattle.endpoint_handing.specs.Told.{sending_context, facts_onto, told_onto, told, AllTold}
+use Rattle.endpoint_handing.proofs.Opening.{opened_in_order}
 use Rattle.endpoint_handing.specs.Orders.{OpensIt, HasOrder as IsOrdered}
 use Rattle.endpoint_handing.proofs.Once.{begins_once, names_sender}
 use Rattle.endpoint_handing.proofs.Pieces.{sealed_for, pieces_in}
@@ -105,6 +106,8 @@ pub record Carried (ends : ℕ → Setup) (secret : List ℕ) (history : History
   pub log : told_of flows ≡ told ends history
   pub outs : (c : Context) (datagram : List ℕ) → WasOut datagram (sealed_for c) history → WasSent c (pieces_in secret c datagram) flows
   pub order : (b : Bool) (n : Name) → IsOrdered b n ends history → HasOrder b n flows
+  pub back : (b : Bool) (n : Name) → HasOrder b n flows → IsOrdered b n ends history
+  pub named : AllTold ends history
 
 -- ---- of another end, or as another one
 
@@ -304,6 +307,12 @@ module _ (ends : ℕ → Setup) (secret : List ℕ) (owed : (e : End) → FlowsH
       ]
       by (inr ours) = record { who = who; stated = subst (λ (l : List Fact). HasStated (SendsIn own (sealed_for c)) l) (sym (facts_mine x earlier)) ours }
 
+  opened_back : (b : Bool) (n : Name) → HasOrder b n hands.after → (metadata : List ℕ) → OpensIt n own facts x.event metadata → begins_with_a metadata ≡ b
+  opened_back b n order metadata opens =
+      opened_in_order it facts noted t hands.after opens.near opens.priority metadata opens.answers
+      (subst (λ (es : List Entry). StateKept it (facts_onto es facts) t hands.after) opens.opened hands.stands.state) x.event.answer n b entries
+      (subst (λ (call : Call). Answers noted call x.event.answer entries t) opens.call step) opens.opened opens.context order
+
   outs_now : (c : Context) (datagram : List ℕ) → WasOut datagram (sealed_for c) (x ∷ earlier) → WasSent c (pieces_in secret c datagram) hands.after
   outs_now c datagram (inl now) = outs_went secret datagram c entries hands.after now hands.outs
   outs_now c datagram (inr before) = hands.grows.sent c (pieces_in secret c datagram) (carried.outs c datagram before)
@@ -337,6 +346,8 @@ module _ (ends : ℕ → Setup) (secret : List ℕ) (owed : (e : End) → FlowsH
       log = hands.log ∙ ap (told_onto own facts entries) carried.log;
       outs = outs_now;
       order = λ b n asked. hands.order b n asked.0 (carried.order b n asked.1);
+      back = λ b n order. (opened_back b n order, carried.back b n (hands.grows.ordered b n order));
+      named = (hands.named, carried.named);
     }
 
 -- ---- all events
@@ -362,6 +373,8 @@ carried ends secret owed [] given states stand = record {
   log = refl;
   outs = λ c datagram none. absurd none;
   order = λ b n asked. tt;
+  back = λ b n order. tt;
+  named = tt;
 }
 carried ends secret owed (x ∷ earlier) given states stand =
     let ours : StandsFor (ends x.who) (log_of x.who earlier ++ x.event ∷ []) (states x.who) = subst (λ (l : List Event). StandsFor (ends x.who) l (states x.who)) (log_mine x earlier) (stand x.who) in

@@ -77,10 +77,10 @@ use Rattle.endpoint_handing.proofs.Sent.{does_answer, does_answered, does_spread
 
 -- neither a Born nor an Opened
 pub started_silent : (peer : List ℕ) (n near : ℕ) (ni : List ℕ) → IsSilent (FactEntry (Started peer n near ni))
-started_silent peer n near ni = record { told = λ own facts. refl; context = λ own id facts. refl; out = λ secret h. tt }
+started_silent peer n near ni = record { told = λ own facts. refl; context = λ own id facts. refl; out = λ secret h. tt; no_message = refl }
 
 pub ended_silent : (peer : List ℕ) (near : ℕ) (why : Why) → IsSilent (FactEntry (Ended peer near why))
-ended_silent peer near why = record { told = λ own facts. refl; context = λ own id facts. refl; out = λ secret h. tt }
+ended_silent peer near why = record { told = λ own facts. refl; context = λ own id facts. refl; out = λ secret h. tt; no_message = refl }
 
 silent_ended : (o : Option Held) (peer : List ℕ) (why : Why) → AreSilent (fact_entries (ended_fact o peer why))
 silent_ended None peer why = tt
@@ -89,7 +89,7 @@ silent_ended (Some thing) peer why = (ended_silent peer _ why, tt)
 silent_confirmed : (o : Option Held) (peer : List ℕ) → AreSilent (fact_entries (confirmed_fact o peer))
 silent_confirmed None peer = tt
 silent_confirmed (Some (OpeningHeld n near ni)) peer = tt
-silent_confirmed (Some (HalfOpen j)) peer = (record { told = λ own facts. refl; context = λ own id facts. refl; out = λ secret h. tt }, tt)
+silent_confirmed (Some (HalfOpen j)) peer = (record { told = λ own facts. refl; context = λ own id facts. refl; out = λ secret h. tt; no_message = refl }, tt)
 silent_confirmed (Some (KeptAsResponder j)) peer = tt
 silent_confirmed (Some (KeptAsInitiator j)) peer = tt
 
@@ -98,7 +98,7 @@ silent_end None why = tt
 silent_end (Some a) why = (ended_silent a.1.peer a.0 why, tt)
 
 pub discard_silent : (at : ℕ) (cause : Cause) → IsSilent (Discard at cause)
-discard_silent at cause = record { told = λ own facts. refl; context = λ own id facts. refl; out = λ secret h. tt }
+discard_silent at cause = record { told = λ own facts. refl; context = λ own id facts. refl; out = λ secret h. tt; no_message = refl }
 
 -- ---- states that are alike
 
@@ -167,7 +167,7 @@ module _ (e : End) (facts : List Fact) where
 
   does_closed : (s : State) (near : ℕ) → Does e facts s (closed s near)
   does_closed s near =
-      does_silent e facts s _ (Closed near ∷ []) (record { told = λ own facts. refl; context = λ own id facts. refl; out = λ secret h. tt }, tt) (record { own = refl; secret = refl; rows = had_left s.sessions near })
+      does_silent e facts s _ (Closed near ∷ []) (record { told = λ own facts. refl; context = λ own id facts. refl; out = λ secret h. tt; no_message = refl }, tt) (record { own = refl; secret = refl; rows = had_left s.sessions near })
 
   pub does_closing : (s : State) (near : ℕ) → Does e facts s (closing s near)
   does_closing s near = by (held_row s near) refl
@@ -200,7 +200,7 @@ module _ (e : End) (facts : List Fact) where
       to_where : (row : Row) (moves : Option Test) → get s.sessions near ≡ Some row → (o : Option AddressParts) → Does e facts s (moved_where s near row moves o)
       to_where row moves is None = does_nothing e facts s
       to_where row moves is (Some to) =
-          does_silent e facts s _ (Moved near to ∷ []) (record { told = λ own facts. refl; context = λ own id facts. refl; out = λ secret h. tt }, tt)
+          does_silent e facts s _ (Moved near to ∷ []) (record { told = λ own facts. refl; context = λ own id facts. refl; out = λ secret h. tt; no_message = refl }, tt)
           (alike_row s near row (record row { session = moved_to to row.session; moves = moves }) is (record { joined = refl; own = refl; role = refl; secret = refl; flows = refl }))
 
       by : (o : Option Row) → get s.sessions near ≡ o → Does e facts s (moved_by s near from bytes o)

@@ -21,7 +21,7 @@ use Rattle.flow_history.specs.Log.{Entry as Tell, HasOrder, log_of}
 use Rattle.flow_history.specs.Keeping.{Flows}
 use Rattle.flow_send.specs.Acks.{Told}
 use Rattle.endpoint_handing.specs.Once.{SendsIn, HasBegun as HasStated}
-use Rattle.endpoint_handing.specs.Told.{sends_in, sending_context, told_at, facts_onto, told_onto}
+use Rattle.endpoint_handing.specs.Told.{AllHaveContext, sends_in, sending_context, told_at, facts_onto, told_onto}
 use Rattle.endpoint_handing.proofs.Pieces.{sealed_for, pieces_in}
 use Rattle.session_deeds.specs.Shows.{Shows}
 
@@ -86,6 +86,7 @@ pub record Grows (who : ℕ) (h after : History) : Type 0 where
       CameIn other c piece after
   pub given : (n : Name) (x : Carried) → WasGiven (steps_of n h) x → WasGiven (steps_of n after) x
   pub told : (n : Name) (a : Told) → WasTold (steps_of n h) a → WasTold (steps_of n after) a
+  pub ordered : (b : Bool) (n : Name) → HasOrder b n after → HasOrder b n h
 
 pub grows_not : (who : ℕ) (h : History) → Grows who h h
 grows_not who h = record {
@@ -95,6 +96,7 @@ grows_not who h = record {
   came = λ other c piece w. w;
   given = λ n x w. w;
   told = λ n a w. w;
+  ordered = λ b n o. o;
 }
 
 pub grows_then : (who : ℕ) (a b c : History) → Grows who a b → Grows who b c → Grows who a c
@@ -105,6 +107,7 @@ grows_then who a b c p q = record {
   came = λ other d piece w. q.came other d piece (p.came other d piece w);
   given = λ n x w. q.given n x (p.given n x w);
   told = λ n x w. q.told n x (p.told n x w);
+  ordered = λ b n o. p.ordered b n (q.ordered b n o);
 }
 
 -- ---- what a thing is given
@@ -139,6 +142,13 @@ pub told_append : (own : List ℕ) (xs ys : List Entry) (facts : List Fact) (bef
 told_append own [] ys facts before = refl
 told_append own (x ∷ xs) ys facts before =
     told_append own xs ys (fact_and (fact_in x) facts) (told_at own facts x ++ before)
+
+named_append : (own : List ℕ) (xs ys : List Entry) (facts : List Fact) →
+    AllHaveContext own facts xs → AllHaveContext own (facts_onto xs facts) ys →
+    AllHaveContext own facts (xs ++ ys)
+named_append own [] ys facts p q = q
+named_append own (x ∷ xs) ys facts p q =
+    (p.0, named_append own xs ys (fact_and (fact_in x) facts) p.1 q)
 
 -- the context of a session that a datagram was sealed for
 abbrev pub session_of : Sealing → Option Context
@@ -212,6 +222,7 @@ pub record Hands (e : End) (facts : List Fact) (d : Did) (h : History) : Type 0 
   pub grows : Grows e.who h after
   pub stands : Stands e (facts_onto d.entries facts) d.state after
   pub log : log_of after ≡ told_onto e.own facts d.entries (log_of h)
+  pub named : AllHaveContext e.own facts d.entries
   pub outs : OutsWent e.secret d.entries after
   pub still : (near : ℕ) → e.begins ⊎ IsStill e.own near facts (facts_onto d.entries facts)
   pub order : (b : Bool) (n : Name) → e.orders b n → HasOrder b n h → HasOrder b n after
@@ -232,6 +243,7 @@ module _ (e : End) (facts : List Fact) where
         (sym (facts_append entries d.entries facts)) later.stands;
     log = later.log ∙ ap (told_onto e.own (facts_onto entries facts) d.entries) first.log
         ∙ sym (told_append e.own entries d.entries facts (log_of h));
+    named = named_append e.own entries d.entries facts first.named later.named;
     outs = outs_append e.secret entries d.entries later.after
         (all_later e.who e.secret entries first.after later.after later.grows first.outs) later.outs;
     still = λ near. subst (λ f. e.begins ⊎ IsStill e.own near facts f)
@@ -264,6 +276,7 @@ module _ (e : End) (facts : List Fact) where
     grows = grows_not e.who h;
     stands = stands;
     log = refl;
+    named = tt;
     outs = tt;
     still = λ near. inr refl;
     order = λ b n asked was. was;

@@ -40,7 +40,7 @@ use Rattle.session_deeds.specs.Deeds.{Deed, did_all}
 use Rattle.session_deeds.specs.Goes.{IsDoneBy, Goes, IsSaid, AllSaid}
 use Rattle.session_deeds.specs.Pieces.{pieces_of, IsPutBehind}
 use Rattle.session_deeds.specs.Laws.{Puts}
-use Rattle.endpoint_handing.specs.Told.{sending_context, told_in, told_at, facts_onto, told_onto}
+use Rattle.endpoint_handing.specs.Told.{AllHaveContext, sending_context, told_in, told_at, facts_onto, told_onto}
 use Rattle.endpoint_handing.proofs.Kept.{End, away, FlowsKept, RowKept, StateKept, Stands, OutsWent, Hands, Does, hands_after}
 use Rattle.endpoint_handing.proofs.Silent.{away_same}
 use Rattle.endpoint_handing.proofs.Begun.{contexts_apart}
@@ -83,6 +83,14 @@ module _ (own : List ℕ) (near : ℕ) (facts : List Fact) (c : Context) (named 
       ap (λ (o : Option Fact). told_onto own (fact_and o facts) (map (flow_entry near) rest) (told_at own facts (flow_entry near x) ++ before)) (flow_fact near x)
       ∙ ap (λ (l : List Tell). told_onto own facts (map (flow_entry near) rest) (l ++ before)) (one_told x)
       ∙ flows_told rest _
+
+  pub flows_named : (stated : List Stated) → AllHaveContext own facts (map (flow_entry near) stated)
+  flows_named [] = tt
+  flows_named (OpenedOf flow ∷ rest) = (tt, flows_named rest)
+  flows_named (QueuedOf flow seq message ∷ rest) = ((c, named), flows_named rest)
+  flows_named (AbandonedOf flow seq ∷ rest) = ((c, named), flows_named rest)
+  flows_named (FinishedOf flow seq ∷ rest) = (tt, flows_named rest)
+  flows_named (HandedOf flow seq message ∷ rest) = ((c, named), flows_named rest)
 
 -- ---- which flows are opened
 
@@ -191,6 +199,7 @@ module _ (e : End) (facts : List Fact) (s : State) (near : ℕ) (row : Row) (the
           stands = subst (λ (f : List Fact). Stands e f after_it run.after) (sym (flows_facts near d.stated facts)) stands_after;
           log = run.log ∙ ap (λ (l : List Stated). told_on context l (log_of h)) done.states ∙ messages_told context d.stated (log_of h)
               ∙ sym (flows_told e.own near facts context row_kept.named d.stated (log_of h));
+          named = flows_named e.own near facts context row_kept.named d.stated;
           outs = flows_outs e.secret near d.stated run.after;
           still = λ q. inr (ap (sending_context e.own q) (flows_facts near d.stated facts));
           order = λ b n o was. run.order b n (asked b n o) was;

@@ -202,6 +202,7 @@ hands_as e A facts d h k = record {
   grows = k.grows;
   stands = stands_as e A (Unit {0}) (facts_onto d.entries facts) d.state k.after k.stands;
   log = k.log;
+  named = k.named;
   outs = k.outs;
   still = λ near. inl tt;
   order = k.order;
@@ -324,6 +325,7 @@ module _ (e : End) (facts : List Fact) (c : Context) (pieces : List Piece) (h : 
     grows = grows_then e.who h taken k.after (grows_by e.who (In c pieces) h) k.grows;
     stands = k.stands;
     log = k.log;
+    named = k.named;
     outs = k.outs;
     still = k.still;
     order = λ b n asked was. k.order b n asked (tt, was);

@@ -30,7 +30,7 @@ use Rattle.endpoint_handing.proofs.Bodies.{body_pieces, datagram_pieces, session
 -- ---- in the startup context
 
 startup_silent : (to : AddressParts) (datagram : List ℕ) → IsSilent (OutEntry to datagram Startup)
-startup_silent to datagram = record { told = λ own facts. refl; context = λ own near facts. refl; out = λ secret h. tt }
+startup_silent to datagram = record { told = λ own facts. refl; context = λ own near facts. refl; out = λ secret h. tt; no_message = refl }
 
 module _ (e : End) (facts : List Fact) where
   pub does_startup : (s : State) (to : AddressParts) (sid : ℕ) (plain : List ℕ) → Does e facts s (sent_startup s to sid plain)
@@ -127,6 +127,7 @@ module _ (e : End) (facts : List Fact) (s : State) (near : ℕ) (to : AddressPar
           stands = stands_out e facts context (body_pieces body) h s (with_session s near row (after_seal row.session))
               (record { own = refl; secret = refl; rows = had_row s.sessions near row (record row { session = after_seal row.session }) there (sealed_same (is_spent row.session) row) }) may stands;
           log = refl;
+          named = (tt, tt);
           outs = (subst (λ (o : Option Context). WentIn e.secret sent o later) (sym (session_away row.session)) went, tt);
           still = λ q. inr refl;
           order = λ b n asked was. (out_orders b n context (body_pieces body), was);

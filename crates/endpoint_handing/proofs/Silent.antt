@@ -18,6 +18,7 @@ use Rattle.endpoint_laws.specs.Past.{fact_and}
 use Rattle.flow_history.specs.Deeds.{Context, History}
 use Rattle.flow_history.specs.Log.{Entry as Tell, log_of}
 use Rattle.endpoint_handing.specs.Once.{SendsIn, HasBegun as HasStated}
+use Rattle.endpoint_handing.specs.Told.{message_in, HasContext, AllHaveContext}
 use Rattle.endpoint_handing.specs.Told.{sends_in, sending_context, told_at, facts_onto, told_onto}
 use Rattle.endpoint_handing.proofs.Kept.{End, away, FlowsKept, RowKept, StateKept, HasStarted, Stands}
 use Rattle.endpoint_handing.proofs.Kept.{grows_not, OutWent, OutsWent, Hands, Does, AreNew}
@@ -29,6 +30,7 @@ pub record IsSilent (entry : Entry) : Type 0 where
   pub context : (own : List ℕ) (near : ℕ) (facts : List Fact) →
       sending_context own near (fact_and (fact_in entry) facts) ≡ sending_context own near facts
   pub out : (secret : List ℕ) (h : History) → OutWent secret (out_in entry) h
+  pub no_message : message_in entry ≡ None
 
 abbrev pub AreSilent : List Entry → Type 0
 AreSilent [] = Unit {0}
@@ -57,6 +59,14 @@ outs_silent : (secret : List ℕ) (entries : List Entry) (h : History) → AreSi
     OutsWent secret entries h
 outs_silent secret [] h are = tt
 outs_silent secret (x ∷ xs) h are = (are.0.out secret h, outs_silent secret xs h are.1)
+
+named_silent : (own : List ℕ) (entries : List Entry) (facts : List Fact) → AreSilent entries →
+    AllHaveContext own facts entries
+named_silent own [] facts are = tt
+named_silent own (x ∷ xs) facts are = (
+  subst (HasContext own facts) (sym are.0.no_message) tt,
+  named_silent own xs (fact_and (fact_in x) facts) are.1,
+)
 
 -- what began has begun after further facts
 stated_and : (begins : Fact → Type 0) (o : Option Fact) (facts : List Fact) →
@@ -181,6 +191,7 @@ module _ (e : End) (facts : List Fact) (s t : State) (entries : List Entry) (are
     grows = grows_not e.who h;
     stands = stands_silent h stands;
     log = sym (told_silent e.own entries facts (log_of h) are);
+    named = named_silent e.own entries facts are;
     outs = outs_silent e.secret entries h are;
     still = λ near. inr (context_silent e.own near entries facts are);
     order = λ b n asked was. was;

@@ -1,5 +1,5 @@
 -- The law of handing over, for ends that send each other datagrams.
-use Rattle.std.specs.Prelude.{ℕ, true, false, ◌++◌}
+use Rattle.std.specs.Prelude.{ℕ, ◌⊎◌, true, false, ◌++◌}
 use Rattle.rtmfp_data_chunks.specs.HandsOver.{HandsOver, HandsOnce}
 use Rattle.endpoint_model.specs.Event.{Setup}
 use Rattle.endpoint_model.specs.State.{State}
@@ -9,7 +9,7 @@ use Rattle.endpoint_laws.specs.History.{History, log_of, TakesPart, IsHonest, Is
 use Rattle.endpoint_laws.specs.Agreed.{IsOneGroup}
 use Rattle.flow_history.specs.Deeds.{Name}
 use Rattle.flow_history.specs.Log.{queued_of, abandoned_of, handed_of}
-use Rattle.endpoint_handing.specs.Told.{told}
+use Rattle.endpoint_handing.specs.Told.{told, AllTold}
 use Rattle.endpoint_handing.specs.Orders.{HasOrder}
 
 -- The ends that take part are of one group; each stands for its log in some state; what opens was
@@ -38,3 +38,15 @@ EveryHistoryHandsOnce =
     (ends : ℕ → Setup) (later early : History) → IsOfEnds ends (later ++ early) → (n : Name) →
     HasOrder true n ends early →
     HandsOnce (queued_of n (told ends early)) (handed_of n (told ends early))
+
+-- A flow is opened once at most, so it has one of the two orders.
+abbrev pub EveryFlowHasAnOrder : Type 0
+EveryFlowHasAnOrder =
+    (ends : ℕ → Setup) (later early : History) → IsOfEnds ends (later ++ early) → (n : Name) →
+    HasOrder false n ends early ⊎ HasOrder true n ends early
+
+-- Whatever an end states of a message is told of a flow.
+abbrev pub EveryMessageIsTold : Type 0
+EveryMessageIsTold =
+    (ends : ℕ → Setup) (later early : History) → IsOfEnds ends (later ++ early) →
+    AllTold ends early

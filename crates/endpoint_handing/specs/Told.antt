@@ -1,6 +1,6 @@
 -- What the entries of ends tell of the messages of flows. A flow is named by the context in which
 -- its messages go.
-use Rattle.std.specs.Prelude.{ℕ, ◌==◌, if◌then◌else◌, true, false, List, [], ◌∷◌, ◌++◌}
+use Rattle.std.specs.Prelude.{ℕ, ◌≡◌, ◌==◌, if◌then◌else◌, true, false, List, [], ◌∷◌, ◌++◌}
 use Rattle.std.specs.Prelude.{Option, Some, None}
 use Rattle.glare_core.specs.declared.facts.Fact.{Fact}
 use Rattle.glare_core.specs.declared.facts.Fact.TheVariants.{Born, Opened}
@@ -70,8 +70,33 @@ told_onto own facts [] before = before
 told_onto own facts (entry ∷ rest) before =
     told_onto own (fact_and (fact_in entry) facts) rest (told_at own facts entry ++ before)
 
+-- the session ID of a session in which a message is queued, abandoned or handed over
+abbrev pub message_in : Entry → Option ℕ
+message_in (entry.Queued near flow seq message) = Some near
+message_in (entry.Abandoned near flow seq) = Some near
+message_in (entry.Handed near flow seq message) = Some near
+message_in entry = None
+
+-- By these facts a session has begun under the session ID.
+abbrev pub HasContext : List ℕ → List Fact → Option ℕ → Type 0
+HasContext own facts None = Unit {0}
+HasContext own facts (Some near) = (c : Context) × (sending_context own near facts ≡ Some c)
+
+-- Each message of these entries is of such a session, so none of them goes untold.
+abbrev pub AllHaveContext : List ℕ → List Fact → List Entry → Type 0
+AllHaveContext own facts [] = Unit {0}
+AllHaveContext own facts (entry ∷ rest) = HasContext own facts (message_in entry)
+    × AllHaveContext own (fact_and (fact_in entry) facts) rest
+
 -- what the ends of a history tell, the newest first
 abbrev pub told : (ℕ → Setup) → History → List Tell
 told ends [] = []
 told ends (h ∷ earlier) =
     told_onto (own_of (ends h.who)) (facts_at h.who earlier) h.event.entries (told ends earlier)
+
+-- the same at all ends
+abbrev pub AllTold : (ℕ → Setup) → History → Type 0
+AllTold ends [] = Unit {0}
+AllTold ends (h ∷ earlier) =
+    AllHaveContext (own_of (ends h.who)) (facts_at h.who earlier) h.event.entries
+    × AllTold ends earlier
