@@ -17,10 +17,10 @@ pub fn contexts_begin_once()
     ensures new { EachContextIsNew }
 {}
 
-/// Whatever ends of one group do with each other, each flow hands over what was queued on it: whole,
-/// once, in queueing order and skipping only abandoned messages, or, in arrival order, whole and
-/// once. It holds at each moment of every history in which each end stands for its log, what opens
-/// was sent, and no nonce was drawn twice; whatever datagrams are lost, repeated or late, and
+/// Whatever ends of one group do with each other, each flow hands over what was queued on it:
+/// whole, once, in queueing order and skipping only abandoned messages, or, in arrival order, whole
+/// and once. It holds at each moment of every history in which each end stands for its log, what
+/// opens was sent, and no nonce was drawn twice; whatever datagrams are lost, repeated or late, and
 /// whatever calls find no memory. Each flow has one of the two orders, and each message that is
 /// queued, abandoned or handed over is one of a flow.
 pub fn hands_over()

@@ -2,4 +2,5 @@
 //! ends do.
 #![tactic(auto)]
 
+pub mod edges;
 pub mod laws;
