@@ -1,18 +1,18 @@
 -- All that an end does with flows, thing by thing.
-use Rattle.std.proofs.Common.{◌≡◌, ℕ, zero, suc, ◌==◌, List, [], ◌∷◌, ◌++◌, map, length, Bool, true, false, if◌then◌else◌, cond}
-use Rattle.std.proofs.Common.{Option, Some, None, inl, inr, ◌⊎◌, refl, sym, ap, subst, ◌∙◌}
+use Rattle.std.proofs.Common.{◌≡◌, ℕ, zero, suc, List, [], ◌∷◌, ◌++◌, map, length, Bool, true}
+use Rattle.std.proofs.Common.{false, if◌then◌else◌}
+use Rattle.std.proofs.Common.{Option, Some, None, inl, inr, refl, sym, ap, subst, ◌∙◌}
 use Rattle.std.specs.Prelude.{slice_get, slice_set}
 use Rattle.std.specs.Option.{option_map}
 use Rattle.std.specs.FinMap.{get}
-use Rattle.rtmfp_data_chunks.specs.Chunk.{UserParts, DataChunk, Data, Next, AckBitmap, AckRanges, Probe, Exception}
+use Rattle.rtmfp_data_chunks.specs.Chunk.{UserParts, DataChunk, Data, Next, AckBitmap, AckRanges}
+use Rattle.rtmfp_data_chunks.specs.Chunk.{Probe, Exception}
 use Rattle.rtmfp_data_chunks.specs.Acked.{acked}
-use Rattle.rtmfp_data_chunks.specs.FlowOptions.{metadata_in}
 use Rattle.rtmfp_data_chunks.specs.Runs.{Run}
 use Rattle.flow_recv.specs.Receiver.{next_run}
-use Rattle.flow_send.specs.Flow.{Flow, with_sender}
-use Rattle.flow_send.specs.Acks.{Told, told, makes_lost, new_bytes}
+use Rattle.flow_send.specs.Flow.{Flow}
+use Rattle.flow_send.specs.Acks.{Told, told, makes_lost}
 use Rattle.glare_core.specs.declared.facts.Fact.{Fact}
-use Rattle.session_core.specs.Session.{SessionState}
 use Rattle.session_core.specs.Closing.{is_held, with_loss, with_acknowledged}
 use Rattle.session_core.specs.Trips.{resend_time}
 use Rattle.session_flows.specs.declared.pace.Pace.{Pace}
@@ -20,29 +20,35 @@ use Rattle.session_flows.specs.declared.taking.TakingFlow.{TakingFlow}
 use Rattle.session_flows.specs.declared.cause.FlowCause.{FlowCause}
 use Rattle.session_flows.specs.declared.refusal.CallRefusal.{CallRefusal as FlowRefusal}
 use Rattle.session_flows.specs.Told.{begins_with_a}
-use Rattle.session_flows.specs.Causes.{order_of, chunk_cause}
-use Rattle.session_flows.specs.Keeping.{FlowsState, sending_at, taking_at, with_sending, Did as FlowsDid, nothing as nothing_done}
-use Rattle.session_flows.specs.Calling.{new_flow, opening, queueing_by, queueing, abandoning_by, abandoning, finishing_by, finishing}
-use Rattle.session_flows.specs.Handing.{handed_run, hands_by, hands_once, hands, most_by, hands_all}
-use Rattle.session_flows.specs.Chunks.{made_by, made, data_taken, data_done, heard_by, heard, lost_if, opened_by, rejecting_by, rejecting, chunk_done, session_after}
-use Rattle.session_flows.specs.Owing.{after_acks, acks_put, owing_none, owes}
-use Rattle.session_flows.specs.Timing.{is_any_late, losing, after_late, session_late, overdue_in, overdue_done}
-use Rattle.session_flows.specs.Packing.{Packed, Packing, packing, flow_packed, put_back, packed_of, packed_once, packs_on, packs, packed, session_flight, first_to_send, pace_of, filled}
+use Rattle.session_flows.specs.Causes.{chunk_cause}
+use Rattle.session_flows.specs.Keeping.{FlowsState, sending_at, taking_at, with_sending}
+use Rattle.session_flows.specs.Keeping.{Did as FlowsDid, nothing as nothing_done}
+use Rattle.session_flows.specs.Calling.{new_flow, opening, queueing_by, queueing, abandoning_by}
+use Rattle.session_flows.specs.Calling.{abandoning, finishing_by, finishing}
+use Rattle.session_flows.specs.Handing.{handed_run, hands_by, hands_once, hands, most_by}
+use Rattle.session_flows.specs.Chunks.{made_by, data_taken, data_done, heard_by, lost_if, opened_by}
+use Rattle.session_flows.specs.Chunks.{rejecting_by, chunk_done, session_after}
+use Rattle.session_flows.specs.Owing.{after_acks, acks_put, owing_none}
+use Rattle.session_flows.specs.Timing.{is_any_late, losing, after_late, overdue_in, overdue_done}
+use Rattle.session_flows.specs.Packing.{Packed, Packing, packing, flow_packed, put_back, packed_of}
+use Rattle.session_flows.specs.Packing.{packs_on, packs, packed, session_flight, first_to_send}
+use Rattle.session_flows.specs.Packing.{pace_of, filled}
 use Rattle.endpoint_model.specs.declared.row.Row.{Row}
-use Rattle.endpoint_model.specs.declared.answers.CallRefusal.{CallRefusal}
 use Rattle.endpoint_model.specs.State.{State, nothing}
 use Rattle.endpoint_model.specs.Sending.{packet_head}
-use Rattle.endpoint_model.specs.FlowCall.{FlowCall, OpenFlow, Queue, Abandon, Finish, flow_refusal, flow_did}
+use Rattle.endpoint_model.specs.FlowCall.{FlowCall, OpenFlow, Queue, Abandon, Finish, flow_refusal}
+use Rattle.endpoint_model.specs.FlowCall.{flow_did}
 use Rattle.endpoint_model.specs.InSessions.{held_row}
-use Rattle.endpoint_model.specs.OnFlows.{flow_refused, flows_done, call_refusal_by, call_refusal, flow_called_by, flow_called}
-use Rattle.endpoint_model.specs.FlowChunks.{told_cause, taking_cause, flow_taken_by, acks_body, acked_by, unowed_by}
-use Rattle.endpoint_model.specs.FlowTimes.{late_marked, late_at, data_packed, data_sent}
+use Rattle.endpoint_model.specs.OnFlows.{flow_refused, flows_done, call_refusal_by, flow_called_by}
+use Rattle.endpoint_model.specs.FlowChunks.{told_cause, taking_cause, flow_taken_by, acked_by}
+use Rattle.endpoint_model.specs.FlowChunks.{unowed_by}
+use Rattle.endpoint_model.specs.FlowTimes.{late_marked, late_at, data_sent}
 use Rattle.flow_history.specs.Flow.{Opened}
 use Rattle.flow_history.specs.Deeds.{Context, Name, name, History}
 use Rattle.flow_history.specs.Keeping.{Flows}
 use Rattle.flow_history.proofs.Keeps.{tested}
 use Rattle.session_deeds.specs.Shows.{opened_of, Shows}
-use Rattle.session_deeds.specs.Deeds.{Deed, did_all}
+use Rattle.session_deeds.specs.Deeds.{Deed}
 use Rattle.session_deeds.specs.Goes.{IsDoneBy, Goes}
 use Rattle.session_deeds.specs.Pieces.{pieces_in, FitsIn}
 use Rattle.session_deeds.proofs.Lists.{push_there, push_other}
@@ -52,11 +58,12 @@ use Rattle.session_deeds.proofs.Timing.{losing_goes, overdue_goes}
 use Rattle.session_deeds.proofs.Hearing.{forgetting_goes}
 use Rattle.session_deeds.proofs.Packing.{filling_goes}
 use Rattle.session_deeds.proofs.Acking.{acking_goes}
-use Rattle.endpoint_handing.proofs.Kept.{End, away, RowKept, Stands, Hands, Does, does_nothing}
+use Rattle.endpoint_handing.proofs.Kept.{End, away, RowKept, Stands, Hands, Does}
 use Rattle.endpoint_handing.proofs.Items.{held_is_there}
 use Rattle.endpoint_handing.proofs.Owed.{OpensAsAsked, HasCome, FlowsHand}
 use Rattle.endpoint_handing.proofs.Running.{AllOpenAs, open_as}
-use Rattle.endpoint_handing.proofs.OfFlows.{OpensNone, IsOfIt, its_flows, none_came, Went, went, hands_goes, does_goes, does_put}
+use Rattle.endpoint_handing.proofs.OfFlows.{OpensNone, IsOfIt, its_flows, none_came, went}
+use Rattle.endpoint_handing.proofs.OfFlows.{hands_goes, does_goes, does_put}
 
 -- ---- no flow is there that wasn't
 

@@ -1,6 +1,6 @@
 -- A session begins: it is in a new context, and has no flows.
-use Rattle.std.proofs.Common.{◌≡◌, ℕ, ◌==◌, cond, List, [], ◌∷◌, Bool, true, false, if◌then◌else◌}
-use Rattle.std.proofs.Common.{Option, Some, None, inl, inr, ◌⊎◌, refl, sym, ap, subst, ◌∙◌, arith}
+use Rattle.std.proofs.Common.{◌≡◌, ℕ, ◌==◌, List, [], ◌∷◌, Bool, true, false, if◌then◌else◌}
+use Rattle.std.proofs.Common.{Some, inl, inr, refl, sym, ap, subst, ◌∙◌, arith}
 use Rattle.std.proofs.lemmas.Bool.Decides.{nat_tests}
 use Rattle.std.specs.FinMap.{get, insert}
 use Rattle.rtmfp_base.proofs.Maps.{found_inserted}
@@ -12,10 +12,9 @@ use Rattle.session_core.specs.declared.stage.Role.{Role}
 use Rattle.session_core.specs.declared.stage.Role.TheVariants.{Initiator, Responder}
 use Rattle.session_core.specs.Session.{SessionState, new_session}
 use Rattle.endpoint_model.specs.declared.row.Row.{Row}
-use Rattle.endpoint_model.specs.declared.entry.Entry.{Entry}
 use Rattle.endpoint_model.specs.declared.entry.Entry.TheVariants.{Fact as FactEntry}
 use Rattle.endpoint_model.specs.State.{Sessions, State, Did, new_row}
-use Rattle.flow_history.specs.Deeds.{Context, name, Begins, done, History}
+use Rattle.flow_history.specs.Deeds.{Context, Begins, done, History}
 use Rattle.flow_history.specs.Lawful.{HasBegun}
 use Rattle.endpoint_handing.specs.Once.{SendsIn}
 use Rattle.endpoint_handing.specs.Told.{sends_in, sending_context}
@@ -23,7 +22,7 @@ use Rattle.endpoint_handing.proofs.Pieces.{sealed_for}
 use Rattle.session_deeds.specs.Deeds.{none_yet}
 use Rattle.session_deeds.proofs.Chunks.{none_at_first}
 use Rattle.session_flows.specs.Keeping.{no_flows}
-use Rattle.endpoint_handing.proofs.Kept.{End, away, FlowsKept, RowKept, HasStarted, Stands, Hands, Does}
+use Rattle.endpoint_handing.proofs.Kept.{End, away, FlowsKept, RowKept, HasStarted, Stands, Does}
 use Rattle.endpoint_handing.proofs.Deeding.{grows_by, kept_by, begins_leaves_be, begun_now}
 use Rattle.endpoint_handing.proofs.Deeding.{begins_orders}
 use Rattle.endpoint_handing.proofs.Silent.{AllHad, row_same}

@@ -1,11 +1,9 @@
 -- What a datagram of a session has of flows is what the chunks of its body have.
-use Rattle.std.proofs.Common.{◌≡◌, ◌≢◌, ℕ, ◌+◌, ◌-◌, ◌==◌, ◌^◌, ◌<◌, List, [], ◌∷◌, ◌++◌, length, drop}
+use Rattle.std.proofs.Common.{◌≡◌, ℕ, ◌+◌, ◌==◌, List, [], ◌∷◌, ◌++◌, length, drop}
 use Rattle.std.proofs.Common.{cond, not, Bool, true, false, Option, Some, None, Result, Ok, Err}
-use Rattle.std.proofs.Common.{refl, sym, ap, subst, ◌∙◌, arith, append-nil, if◌then◌else◌}
+use Rattle.std.proofs.Common.{refl, sym, ap, ◌∙◌, append-nil, if◌then◌else◌}
 use Rattle.std.proofs.lemmas.List.{drop_at}
-use Rattle.std.proofs.lemmas.Bool.Decides.{nat_tests}
 use Rattle.std.specs.Int.{w32, to_be_bytes}
-use Rattle.std.specs.List.{flat_map}
 use Rattle.crypto_profile.specs.declared.keys.Context.{Context as Sealing}
 use Rattle.crypto_profile.specs.Keys.{keys_of}
 use Rattle.crypto_profile.specs.Opening.{plain_of}
@@ -24,13 +22,12 @@ use Rattle.rtmfp_data_chunks.specs.Spelling.{before_next}
 use Rattle.rtmfp_data_chunks.specs.Reader.{data_reading}
 use Rattle.session_core.specs.declared.stage.Role.{Role}
 use Rattle.session_core.specs.declared.stage.Role.TheVariants.{Initiator, Responder}
-use Rattle.session_core.specs.Session.{SessionState, mode_of, context_of, head_at}
+use Rattle.session_core.specs.Session.{SessionState, mode_of, context_of}
 use Rattle.session_core.specs.Stamps.{tick_of, echo_of}
 use Rattle.session_core.specs.Sealed.{number_bytes}
-use Rattle.endpoint_model.specs.Admission.{packet_in, whole_from}
-use Rattle.endpoint_model.specs.Keying.{chunks_of}
-use Rattle.endpoint_model.specs.Sending.{packet_head, session_packet, session_datagram}
-use Rattle.flow_history.specs.Deeds.{Context, Piece}
+use Rattle.endpoint_model.specs.Admission.{packet_in}
+use Rattle.endpoint_model.specs.Sending.{session_packet, session_datagram}
+use Rattle.flow_history.specs.Deeds.{Piece}
 use Rattle.endpoint_handing.specs.Told.{sends_in}
 use Rattle.session_deeds.specs.Pieces.{pieces_read, pieces_behind, pieces_of}
 use Rattle.endpoint_handing.proofs.Pieces.{pieces_whole, sealed_for, pieces_in}

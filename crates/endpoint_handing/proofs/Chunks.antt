@@ -1,8 +1,10 @@
 -- What the chunks of a datagram do.
-use Rattle.std.proofs.Common.{◌≡◌, ℕ, ◌==◌, List, [], ◌∷◌, ◌++◌, Bool, true, false, ◌||◌, not, if◌then◌else◌}
-use Rattle.std.proofs.Common.{Option, Some, None, Result, Ok, Err, inl, inr, ◌⊎◌, refl, sym, ap, subst, ◌∙◌, arith}
+use Rattle.std.proofs.Common.{◌≡◌, ℕ, ◌==◌, List, [], ◌∷◌, ◌++◌, Bool, true, false, ◌||◌, not}
+use Rattle.std.proofs.Common.{if◌then◌else◌}
+use Rattle.std.proofs.Common.{Option, Some, None, Result, Ok, Err, inl, inr, ◌⊎◌, refl, sym, ap}
+use Rattle.std.proofs.Common.{subst, ◌∙◌, arith}
 use Rattle.std.proofs.lemmas.Bool.Decides.{nat_tests}
-use Rattle.std.specs.FinMap.{get, insert}
+use Rattle.std.specs.FinMap.{get}
 use Rattle.rtmfp_forms.specs.Address.{AddressParts}
 use Rattle.rtmfp_packet.specs.Walk.{Placed}
 use Rattle.rtmfp_chunks.specs.Chunk.{Ping}
@@ -22,16 +24,19 @@ use Rattle.glare_core.specs.declared.facts.Why.TheVariants.{Glare, Override}
 use Rattle.glare_core.specs.declared.facts.Fact.{Fact}
 use Rattle.glare_core.specs.declared.facts.Fact.TheVariants.{Born}
 use Rattle.glare_core.specs.declared.facts.Held.{Held}
-use Rattle.glare_core.specs.declared.facts.Held.TheVariants.{Opening, HalfOpen, KeptAsResponder, KeptAsInitiator}
+use Rattle.glare_core.specs.declared.facts.Held.TheVariants.{Opening, HalfOpen, KeptAsResponder}
+use Rattle.glare_core.specs.declared.facts.Held.TheVariants.{KeptAsInitiator}
 use Rattle.glare_core.specs.declared.facts.Joined.{Joined}
 use Rattle.glare_core.specs.Ledger.{held_with}
 use Rattle.glare_core.specs.Calls.{where_true, first_that_stands, way_made}
 use Rattle.startup.specs.declared.cause.Cause.{Cause}
-use Rattle.startup.specs.declared.cause.Cause.TheVariants.{UnknownChunk, WrongPlace, WrongState, Fragment as FragmentCause}
+use Rattle.startup.specs.declared.cause.Cause.TheVariants.{UnknownChunk, WrongPlace, WrongState}
+use Rattle.startup.specs.declared.cause.Cause.TheVariants.{Fragment as FragmentCause}
 use Rattle.startup.specs.State.{StartupState, AttemptState}
 use Rattle.startup.specs.Keyings.{InitiatorKeying, ResponderKeying, keying_of, initiator_keying_in}
 use Rattle.startup.specs.Keyings.{responder_keying_in, repeated_session, again_or_birth, keyed_with}
-use Rattle.startup.specs.Keyings.{keyed_reading, after_keying, session_answer, change_answer, born_session}
+use Rattle.startup.specs.Keyings.{keyed_reading, after_keying, session_answer, change_answer}
+use Rattle.startup.specs.Keyings.{born_session}
 use Rattle.startup.specs.Keyings.{opened_with, opened_reading, after_opening}
 use Rattle.session_core.specs.declared.stage.Role.TheVariants.{Initiator, Responder}
 use Rattle.endpoint_model.specs.declared.config.Draws.{Draws}
@@ -39,16 +44,19 @@ use Rattle.endpoint_model.specs.declared.place.Place.{Place}
 use Rattle.endpoint_model.specs.declared.place.Place.TheVariants.{Startup, Attempt, Session}
 use Rattle.endpoint_model.specs.declared.walk.Walk.{Walk}
 use Rattle.endpoint_model.specs.declared.row.Row.{Row}
-use Rattle.endpoint_model.specs.declared.entry.Entry.{Entry}
 use Rattle.endpoint_model.specs.declared.entry.Entry.TheVariants.{Fact as FactEntry}
-use Rattle.endpoint_model.specs.State.{Sessions, State, Did, nothing, fact_entries, then_do, with_startup, with_sessions, free_from}
+use Rattle.endpoint_model.specs.State.{Sessions, State, Did, fact_entries, with_startup}
+use Rattle.endpoint_model.specs.State.{with_sessions, free_from}
 use Rattle.endpoint_model.specs.Sending.{sent_answer, sent_in_session}
 use Rattle.endpoint_model.specs.Admission.{sid_at}
-use Rattle.endpoint_model.specs.FlowChunks.{is_of_flows, data_fault, taking_cause, flow_cause, flow_taken_by, flow_taken}
-use Rattle.endpoint_model.specs.Causes.{is_known, form_cause, takes, has_state_for, read_cause, initiator_keying_cause}
+use Rattle.endpoint_model.specs.FlowChunks.{is_of_flows, taking_cause, flow_cause, flow_taken_by}
+use Rattle.endpoint_model.specs.FlowChunks.{flow_taken}
+use Rattle.endpoint_model.specs.Causes.{is_known, form_cause, takes, has_state_for, read_cause}
+use Rattle.endpoint_model.specs.Causes.{initiator_keying_cause}
 use Rattle.endpoint_model.specs.Causes.{responder_keying_cause, last_cause, chunk_cause}
-use Rattle.endpoint_model.specs.Effects.{without_ended, with_born, keying_done, initiator_keyed, with_opened}
-use Rattle.endpoint_model.specs.Effects.{opening_done, responder_keyed, is_told_in_session, effect, discarded}
+use Rattle.endpoint_model.specs.Effects.{without_ended, with_born, keying_done, initiator_keyed}
+use Rattle.endpoint_model.specs.Effects.{with_opened}
+use Rattle.endpoint_model.specs.Effects.{opening_done, responder_keyed, is_told_in_session, effect}
 use Rattle.endpoint_model.specs.Effects.{discarded_or, chunk_did, walked, chunks_did, read_done}
 use Rattle.endpoint_model.specs.InSessions.{told_in_session}
 use Rattle.flow_history.specs.Deeds.{Context, back, Piece, History}
@@ -57,8 +65,9 @@ use Rattle.endpoint_handing.specs.Told.{sending_context, facts_onto}
 use Rattle.session_deeds.proofs.Fitting.{what_is_read_fits}
 use Rattle.session_deeds.specs.Pieces.{FitsIn, AreSmall, pieces_read, pieces_behind}
 use Rattle.endpoint_handing.proofs.Kept.{End, away, Stands, AreNew, new_split, IsStill, Hands, Does}
-use Rattle.endpoint_handing.proofs.Kept.{hands_after, does_after, does_then, does_if, does_nothing}
-use Rattle.endpoint_handing.proofs.Silent.{AreSilent, AllHad, had_it, had_left, does_silent, does_from}
+use Rattle.endpoint_handing.proofs.Kept.{hands_after, does_after, does_then, does_nothing}
+use Rattle.endpoint_handing.proofs.Silent.{AreSilent, AllHad, had_it, had_left, does_silent}
+use Rattle.endpoint_handing.proofs.Silent.{does_from}
 use Rattle.endpoint_handing.proofs.Begun.{does_begin}
 use Rattle.endpoint_handing.proofs.Kin.{IsKin, kin_keying}
 use Rattle.endpoint_handing.proofs.Plain.{ping_none}

@@ -1,12 +1,13 @@
 -- A history with one deed of an end more, and what it changes of the flows that are kept.
 use Rattle.std.proofs.Common.{◌≡◌, ℕ, ◌==◌, cond, List, [], ◌∷◌, Bool, true, false}
-use Rattle.std.proofs.Common.{Option, Some, None, inl, inr, ◌⊎◌, refl, sym, ap, subst, ◌∙◌}
+use Rattle.std.proofs.Common.{Option, Some, None, inl, inr, refl, sym, ap, ◌∙◌}
 use Rattle.flow_recv.specs.Receiver.{Receiver}
 use Rattle.flow_history.specs.Flow.{Opened, Touch, Goes, Beside, BySender, ByReceiver}
 use Rattle.flow_history.specs.Flow.{SendingBegins, TakingBegins}
 use Rattle.flow_history.specs.Flow.{sending_after, sending_at, taking_after, taking_at}
-use Rattle.flow_history.specs.Deeds.{Context, back, same, Name, name, Piece, Deed, Begins, Out, done}
-use Rattle.flow_history.specs.Deeds.{History, data_of, acks_of, by_context, touch_of, steps_of}
+use Rattle.flow_history.specs.Deeds.{Context, back, same, Name, name, Piece, Deed, Begins, Out}
+use Rattle.flow_history.specs.Deeds.{done}
+use Rattle.flow_history.specs.Deeds.{History, data_of, acks_of, touch_of, steps_of}
 use Rattle.flow_history.specs.Run.{OpensAs}
 use Rattle.flow_history.proofs.Keeps.{tested}
 use Rattle.flow_history.proofs.Names.{number_self, same_is, same_self, same_back, back_back}

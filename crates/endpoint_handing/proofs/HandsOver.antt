@@ -1,20 +1,18 @@
 -- Every history of ends hands over what was queued, where all that ends do with flows goes with
 -- flows that do.
-use Rattle.std.proofs.Common.{◌≡◌, ℕ, ◌==◌, List, [], ◌∷◌, ◌++◌, Bool, true, false, inl, inr, ◌⊎◌, refl, sym, subst}
+use Rattle.std.proofs.Common.{◌≡◌, ℕ, List, [], ◌∷◌, ◌++◌, true, false, inl, inr, refl, sym, subst}
 use Rattle.rtmfp_data_chunks.specs.HandsOver.{HandsOver, HandsOnce}
 use Rattle.endpoint_model.specs.Event.{Setup, Event}
 use Rattle.endpoint_model.specs.State.{State, fresh}
 use Rattle.endpoint_model.specs.Log.{StandsFor}
 use Rattle.endpoint_laws.specs.History.{Happened, History, log_of, TakesPart}
 use Rattle.endpoint_laws.specs.Agreed.{IsOneGroup}
-use Rattle.flow_history.specs.Deeds.{Name}
 use Rattle.flow_history.specs.Log.{Entry as Tell, queued_of, abandoned_of, handed_of}
 use Rattle.flow_history.proofs.Entries.{history_hands_over, history_hands_once}
 use Rattle.flow_history.proofs.Keeps.{tested}
 use Rattle.flow_history.proofs.Orders.{has_an_order}
-use Rattle.endpoint_handing.specs.Told.{told}
-use Rattle.endpoint_handing.specs.Orders.{HasOrder}
-use Rattle.endpoint_handing.specs.Laws.{IsOfEnds, EveryHistoryHandsOver, EveryHistoryHandsOnce, EveryFlowHasAnOrder, EveryMessageIsTold}
+use Rattle.endpoint_handing.specs.Laws.{IsOfEnds, EveryHistoryHandsOver, EveryHistoryHandsOnce}
+use Rattle.endpoint_handing.specs.Laws.{EveryFlowHasAnOrder, EveryMessageIsTold}
 use Rattle.endpoint_handing.proofs.Kept.{End}
 use Rattle.endpoint_handing.proofs.Owed.{FlowsHand}
 use Rattle.endpoint_handing.proofs.Logs.{log_mine, log_beside, leads_before, takes_part}

@@ -1,5 +1,5 @@
 -- A history of calls and datagrams goes with a history of flows, event by event.
-use Rattle.std.proofs.Common.{◌≡◌, ℕ, ◌==◌, ◌^◌, List, [], ◌∷◌, ◌++◌, Bool, true, false, cond, length}
+use Rattle.std.proofs.Common.{◌≡◌, ℕ, ◌==◌, List, [], ◌∷◌, ◌++◌, Bool, true, false, cond}
 use Rattle.std.proofs.Common.{Option, Some, None, inl, inr, ◌⊎◌, refl, sym, ap, subst, ◌∙◌, arith}
 use Rattle.std.specs.Ordering.{nat_cmp}
 use Rattle.std.specs.FinMap.{get, empty, get-empty}
@@ -8,29 +8,30 @@ use Rattle.crypto_profile.specs.declared.keys.Context.{Context as Sealing}
 use Rattle.glare_core.specs.declared.facts.Fact.{Fact}
 use Rattle.glare_core.specs.Account.{AreLawful}
 use Rattle.glare_core.specs.Told.{AllDifferent}
-use Rattle.session_core.specs.Session.{SessionState, context_of}
-use Rattle.session_flows.specs.Keeping.{FlowsState}
+use Rattle.session_core.specs.Session.{context_of}
 use Rattle.session_flows.specs.Told.{begins_with_a}
 use Rattle.endpoint_model.specs.declared.row.Row.{Row}
 use Rattle.endpoint_model.specs.declared.entry.Entry.{Entry}
 use Rattle.endpoint_model.specs.Views.{Sending, fact_in, out_in}
-use Rattle.endpoint_model.specs.Event.{Setup, own_of, Call, Open, Cancel, Close, AddRow, Introduce, OnFlows, Receive, Tick, Event}
+use Rattle.endpoint_model.specs.Event.{Setup, own_of, Call, Open, Cancel, Close, AddRow, Introduce}
+use Rattle.endpoint_model.specs.Event.{OnFlows, Receive, Tick, Event}
 use Rattle.rtmfp_forms.specs.Address.{AddressParts}
 use Rattle.endpoint_model.specs.declared.config.Draws.{Draws}
 use Rattle.endpoint_model.specs.FlowCall.{FlowCall, OpenFlow, Queue, Abandon, Finish}
 use Rattle.endpoint_model.specs.State.{State, fresh, at_moment}
-use Rattle.endpoint_model.specs.InSessions.{if_held, held_row}
-use Rattle.endpoint_model.specs.OnFlows.{call_refusal, flow_called_by, flow_called}
-use Rattle.endpoint_model.specs.Log.{Step, Answers, Leads, StandsFor}
+use Rattle.endpoint_model.specs.OnFlows.{flow_called_by, flow_called}
+use Rattle.endpoint_model.specs.Log.{Step, Answers, StandsFor}
 use Rattle.endpoint_laws.specs.Past.{fact_and, past_of, facts_of}
 use Rattle.endpoint_laws.specs.Laws.{IsSetup, IsCall, AreCalls}
 use Rattle.endpoint_laws.specs.Lawful.{nonces_of}
-use Rattle.endpoint_laws.specs.OpensIn.{opens_in, OpensAt}
-use Rattle.endpoint_laws.specs.History.{Happened, History, log_of, past_at, facts_at, IsOut, HasOut, WasSent as WasOut}
-use Rattle.endpoint_laws.specs.History.{IsHonestCall, IsHonest as IsHonestHistory, nonces_in, TakesPart, IsFresh}
+use Rattle.endpoint_laws.specs.OpensIn.{OpensAt}
+use Rattle.endpoint_laws.specs.History.{Happened, History, log_of, past_at, facts_at, IsOut, HasOut}
+use Rattle.endpoint_laws.specs.History.{WasSent as WasOut}
+use Rattle.endpoint_laws.specs.History.{IsHonestCall, IsHonest as IsHonestHistory, nonces_in}
+use Rattle.endpoint_laws.specs.History.{TakesPart, IsFresh}
 use Rattle.endpoint_laws.proofs.Logged.{tied_to_log}
 use Rattle.endpoint_laws.proofs.Opened.{opens_in_told}
-use Rattle.flow_history.specs.Deeds.{Context, back, Name, name, History as Flowing}
+use Rattle.flow_history.specs.Deeds.{Context, back, Name, History as Flowing}
 use Rattle.flow_history.specs.Lawful.{HasBegun, IsLawful, WasSent, IsHonest}
 use Rattle.flow_history.specs.Log.{HasOrder, log_of as told_of}
 use Rattle.flow_history.proofs.Keeps.{tested}
@@ -41,16 +42,18 @@ use Rattle.endpoint_handing.proofs.Opening.{opened_in_order}
 use Rattle.endpoint_handing.specs.Orders.{OpensIt, HasOrder as IsOrdered}
 use Rattle.endpoint_handing.proofs.Once.{begins_once, names_sender}
 use Rattle.endpoint_handing.proofs.Pieces.{sealed_for, pieces_in}
-use Rattle.endpoint_handing.proofs.Kept.{End, away, session_of, FlowsKept, RowKept, StateKept, HasStarted, Stands, IsNew, AreNew}
+use Rattle.endpoint_handing.proofs.Kept.{End, away, FlowsKept, RowKept, StateKept, HasStarted}
+use Rattle.endpoint_handing.proofs.Kept.{Stands, IsNew, AreNew}
 use Rattle.endpoint_handing.proofs.Kept.{Grows, OutWent, OutsWent, Hands}
 use Rattle.endpoint_handing.proofs.Deeding.{kept_beside}
-use Rattle.endpoint_handing.proofs.Silent.{had_it, stands_silent}
 use Rattle.endpoint_handing.proofs.Items.{held_is_there}
 use Rattle.endpoint_handing.proofs.Owed.{FlowsHand, OpensAsAsked}
 use Rattle.endpoint_handing.proofs.Receiving.{with_begins, sealed_back, Arrives}
 use Rattle.endpoint_handing.proofs.Stepping.{GivenWith, answers_hand}
-use Rattle.endpoint_handing.proofs.Logs.{log_mine, log_beside, Before, leads_before, calls_before, facts_mine, facts_beside, takes_part}
-use Rattle.endpoint_handing.proofs.Logs.{different_behind, nonces_different, lawful_under, different_under}
+use Rattle.endpoint_handing.proofs.Logs.{log_mine, log_beside, Before, leads_before, calls_before}
+use Rattle.endpoint_handing.proofs.Logs.{facts_mine, facts_beside, takes_part}
+use Rattle.endpoint_handing.proofs.Logs.{different_behind, nonces_different, lawful_under}
+use Rattle.endpoint_handing.proofs.Logs.{different_under}
 
 -- ---- what is given of a history
 

@@ -1,8 +1,8 @@
 -- The things of an end that aren't of flows: attempts, and sessions that are confirmed, moved,
 -- tested, kept alive and closed.
-use Rattle.std.proofs.Common.{◌≡◌, ℕ, ◌==◌, ◌^◌, ◌<◌, ◌≤◌, List, [], ◌∷◌, ◌++◌, length, ◌||◌, not, nat_lt}
+use Rattle.std.proofs.Common.{◌≡◌, ℕ, ◌==◌, ◌^◌, ◌<◌, ◌≤◌, List, [], ◌∷◌, length, ◌||◌, nat_lt}
 use Rattle.std.proofs.Common.{Bool, true, false, if◌then◌else◌, Option, Some, None, Result, Ok, Err}
-use Rattle.std.proofs.Common.{refl, sym, subst, ◌∙◌, arith}
+use Rattle.std.proofs.Common.{refl, subst, arith}
 use Rattle.std.proofs.lemmas.Bool.{ltb-false}
 use Rattle.std.specs.FinMap.{get}
 use Rattle.rtmfp_forms.specs.Address.{AddressParts}
@@ -20,26 +20,29 @@ use Rattle.glare_core.specs.declared.facts.Why.{Why}
 use Rattle.glare_core.specs.declared.facts.Why.TheVariants.{Near, Far, Unconfirmed as NotConfirmed}
 use Rattle.glare_core.specs.declared.facts.Why.TheVariants.{Idle as WasIdle, Cancelled, Expired}
 use Rattle.glare_core.specs.declared.facts.Fact.{Fact}
-use Rattle.glare_core.specs.declared.facts.Fact.TheVariants.{Started, Confirmed, Ended}
+use Rattle.glare_core.specs.declared.facts.Fact.TheVariants.{Started, Ended}
 use Rattle.glare_core.specs.declared.facts.Held.{Held}
-use Rattle.glare_core.specs.declared.facts.Held.TheVariants.{Opening as OpeningHeld, HalfOpen, KeptAsResponder, KeptAsInitiator}
+use Rattle.glare_core.specs.declared.facts.Held.TheVariants.{Opening as OpeningHeld, HalfOpen}
+use Rattle.glare_core.specs.declared.facts.Held.TheVariants.{KeptAsResponder, KeptAsInitiator}
 use Rattle.glare_core.specs.Ledger.{held_with}
-use Rattle.glare_core.specs.Calls.{started_fact, confirmed_fact, ended_fact, first_that_stands, where_true}
-use Rattle.startup.specs.declared.answer.Answer.{Answer}
+use Rattle.glare_core.specs.Calls.{started_fact, confirmed_fact, ended_fact, first_that_stands}
+use Rattle.glare_core.specs.Calls.{where_true}
 use Rattle.startup.specs.declared.answer.Due.{Due}
-use Rattle.startup.specs.declared.answer.Due.TheVariants.{Ended as EndDue, Hello as HelloDue, Keying as KeyingDue}
+use Rattle.startup.specs.declared.answer.Due.TheVariants.{Ended as EndDue, Hello as HelloDue}
+use Rattle.startup.specs.declared.answer.Due.TheVariants.{Keying as KeyingDue}
 use Rattle.startup.specs.declared.cause.Cause.{Cause}
-use Rattle.startup.specs.declared.cause.Cause.TheVariants.{Wide, NotSelected}
+use Rattle.startup.specs.declared.cause.Cause.TheVariants.{Wide}
 use Rattle.startup.specs.declared.attempt.Stage.{Stage as AttemptStage}
 use Rattle.startup.specs.declared.attempt.Stage.TheVariants.{Hello, Keying}
-use Rattle.startup.specs.State.{StartupState, AttemptState, SpreadParts}
-use Rattle.startup.specs.Attempts.{lowest, has_number, session_in, end_fact, after_end, end_of, wide}
+use Rattle.startup.specs.State.{StartupState, AttemptState}
+use Rattle.startup.specs.Attempts.{lowest, has_number, session_in, after_end, end_of, wide}
 use Rattle.startup.specs.Attempts.{ended_attempt, after_confirm, begin_spread, after_begin}
 use Rattle.startup.specs.Keyings.{selects, initiator_hello_answer}
-use Rattle.startup.specs.Due.{due_of, is_due, is_over, repeat_of, after_due}
+use Rattle.startup.specs.Due.{is_over, repeat_of, after_due}
 use Rattle.session_core.specs.declared.stage.Stage.TheVariants.{NearClose, FarLinger}
 use Rattle.session_core.specs.declared.stage.SessionDue.{SessionDue}
-use Rattle.session_core.specs.declared.stage.SessionDue.TheVariants.{Unconfirmed, Idle, Over, RepeatClose}
+use Rattle.session_core.specs.declared.stage.SessionDue.TheVariants.{Unconfirmed, Idle, Over}
+use Rattle.session_core.specs.declared.stage.SessionDue.TheVariants.{RepeatClose}
 use Rattle.session_core.specs.Session.{SessionState, is_opening, confirmed, moved_to}
 use Rattle.session_core.specs.Closing.{is_held, is_near_close, closed_near, asked_to_close}
 use Rattle.session_core.specs.Closing.{after_due as after_due_in, needs_keepalive, kept_alive}
@@ -47,31 +50,36 @@ use Rattle.endpoint_model.specs.declared.config.Draws.{Draws}
 use Rattle.endpoint_model.specs.declared.place.Place.{Place}
 use Rattle.endpoint_model.specs.declared.place.Place.TheVariants.{Startup, Attempt, Session}
 use Rattle.endpoint_model.specs.declared.row.Row.{Row}
-use Rattle.endpoint_model.specs.declared.entry.Entry.{Entry}
-use Rattle.endpoint_model.specs.declared.entry.Entry.TheVariants.{Fact as FactEntry, Closed, Moved, Discard}
-use Rattle.endpoint_model.specs.State.{Sessions, State, Did, nothing, fact_entries, with_startup, with_row}
+use Rattle.endpoint_model.specs.declared.entry.Entry.TheVariants.{Fact as FactEntry, Closed, Moved}
+use Rattle.endpoint_model.specs.declared.entry.Entry.TheVariants.{Discard}
+use Rattle.endpoint_model.specs.State.{State, Did, nothing, fact_entries, with_startup, with_row}
 use Rattle.endpoint_model.specs.State.{with_session, free_from}
 use Rattle.endpoint_model.specs.InSessions.{if_held, held_row, sent_home, ended_as, dropped, closed}
-use Rattle.endpoint_model.specs.InSessions.{closing_by, closing, lingering, close_taken_by, moved_where}
-use Rattle.endpoint_model.specs.InSessions.{moved_by, told_in_session, test_begun, tested_by, tested}
+use Rattle.endpoint_model.specs.InSessions.{closing_by, closing, lingering, close_taken_by}
+use Rattle.endpoint_model.specs.InSessions.{moved_where}
+use Rattle.endpoint_model.specs.InSessions.{moved_by, told_in_session, tested_by, tested}
 use Rattle.endpoint_model.specs.InSessions.{session_due_done, kept_alive_by}
 use Rattle.endpoint_model.specs.Sending.{sent_if, sent_in_session}
-use Rattle.endpoint_model.specs.Introducing.{hello_cause, redirected_to}
+use Rattle.endpoint_model.specs.Introducing.{hello_cause}
 use Rattle.endpoint_model.specs.Admission.{confirming_by, confirming, sid_at}
 use Rattle.endpoint_model.specs.Causes.{read_cause}
 use Rattle.endpoint_model.specs.Effects.{opening, cancelling, due_done, discarded}
 use Rattle.endpoint_model.specs.Effects.{Reply, Silence, InStartup, Hellos, InSession, Introduction}
-use Rattle.endpoint_model.specs.Effects.{forwarded, introduction, hello_reply, replied, read_left, read_reply, read_done}
+use Rattle.endpoint_model.specs.Effects.{forwarded, introduction, hello_reply, replied, read_left}
+use Rattle.endpoint_model.specs.Effects.{read_reply, read_done}
 use Rattle.endpoint_laws.proofs.Replies.{discriminator_length}
-use Rattle.endpoint_handing.specs.Told.{facts_onto}
 use Rattle.endpoint_handing.proofs.Kept.{End, Does, does_after, does_then, does_if, does_nothing}
-use Rattle.endpoint_handing.proofs.Silent.{IsSilent, AreSilent, IsSame, same_itself, had_it, had_row, had_left}
+use Rattle.endpoint_handing.proofs.Silent.{IsSilent, AreSilent, IsSame, same_itself, had_it}
+use Rattle.endpoint_handing.proofs.Silent.{had_row, had_left}
 use Rattle.endpoint_handing.proofs.Silent.{IsAlike, does_silent, does_from}
 use Rattle.endpoint_handing.proofs.Bodies.{body_pieces}
-use Rattle.endpoint_handing.proofs.Plain.{close_none, close_ack_none, ping_none, reply_none, hello_none}
-use Rattle.endpoint_handing.proofs.Kin.{IsKin, kin_itself, kin_ended, kin_confirm, kin_end, kin_rhello, kin_change}
+use Rattle.endpoint_handing.proofs.Plain.{close_none, close_ack_none, ping_none, reply_none}
+use Rattle.endpoint_handing.proofs.Plain.{hello_none}
+use Rattle.endpoint_handing.proofs.Kin.{IsKin, kin_ended, kin_confirm, kin_end, kin_rhello}
+use Rattle.endpoint_handing.proofs.Kin.{kin_change}
 use Rattle.endpoint_handing.proofs.Kin.{kin_redirect, kin_due}
-use Rattle.endpoint_handing.proofs.Sent.{does_answer, does_answered, does_spread, does_in_session, does_home}
+use Rattle.endpoint_handing.proofs.Sent.{does_answer, does_answered, does_spread, does_in_session}
+use Rattle.endpoint_handing.proofs.Sent.{does_home}
 
 -- ---- silent entries
 

@@ -13,15 +13,16 @@ use Rattle.endpoint_model.specs.declared.entry.Entry.{Entry}
 use Rattle.endpoint_model.specs.Views.{Sending, fact_in, out_in}
 use Rattle.endpoint_model.specs.State.{State, Did, nothing, after_entries, then_do}
 use Rattle.endpoint_laws.specs.Past.{fact_and}
-use Rattle.flow_history.specs.Flow.{Carried, Steps, sending_at, taking_at}
+use Rattle.flow_history.specs.Flow.{Carried, sending_at, taking_at}
 use Rattle.flow_history.specs.Said.{WasGiven, WasTold}
-use Rattle.flow_history.specs.Deeds.{Context, back, Name, name, Piece, Done, History, steps_of}
+use Rattle.flow_history.specs.Deeds.{Context, back, Name, name, Piece, History, steps_of}
 use Rattle.flow_history.specs.Lawful.{HasBegun, CameIn, IsLawful, WasSent, IsHonest}
 use Rattle.flow_history.specs.Log.{Entry as Tell, HasOrder, log_of}
 use Rattle.flow_history.specs.Keeping.{Flows}
 use Rattle.flow_send.specs.Acks.{Told}
 use Rattle.endpoint_handing.specs.Once.{SendsIn, HasBegun as HasStated}
-use Rattle.endpoint_handing.specs.Told.{AllHaveContext, sends_in, sending_context, told_at, facts_onto, told_onto}
+use Rattle.endpoint_handing.specs.Told.{AllHaveContext, sends_in, sending_context, told_at}
+use Rattle.endpoint_handing.specs.Told.{facts_onto, told_onto}
 use Rattle.endpoint_handing.proofs.Pieces.{sealed_for, pieces_in}
 use Rattle.session_deeds.specs.Shows.{Shows}
 

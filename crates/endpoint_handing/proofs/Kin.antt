@@ -1,6 +1,6 @@
 -- What happens to the attempts of an end keeps its fingerprint and its secret.
 use Rattle.std.proofs.Common.{◌≡◌, ℕ, List, [], ◌∷◌, Bool, true, false, if◌then◌else◌}
-use Rattle.std.proofs.Common.{Option, Some, None, Result, Ok, Err, refl, ◌∙◌}
+use Rattle.std.proofs.Common.{Option, Some, None, Result, Ok, Err, refl}
 use Rattle.rtmfp_forms.specs.Address.{AddressParts}
 use Rattle.cookies.specs.declared.CookieTest.{CookieTest}
 use Rattle.cookies.specs.declared.CookieTest.TheVariants.{Bad, Moved, Expired, Current}
@@ -16,12 +16,15 @@ use Rattle.glare_core.specs.Ledger.{Ledger, held_with, noted_if}
 use Rattle.glare_core.specs.Calls.{heard, heard_noted}
 use Rattle.startup.specs.declared.cause.Cause.{Cause}
 use Rattle.startup.specs.State.{StartupState, AttemptState}
-use Rattle.startup.specs.Attempts.{lowest, has_number, has_tag, changed, after_end_of, after_cancel, confirm_fact}
+use Rattle.startup.specs.Attempts.{lowest, has_tag, changed, after_end_of, confirm_fact}
 use Rattle.startup.specs.Attempts.{after_confirm, end_fact, after_end, after_answer, after_rhello}
-use Rattle.startup.specs.Attempts.{with_attempt, without_attempt, ended_attempt, after_change, after_cookie_change}
+use Rattle.startup.specs.Attempts.{with_attempt, without_attempt, ended_attempt, after_change}
+use Rattle.startup.specs.Attempts.{after_cookie_change}
 use Rattle.startup.specs.Keyings.{InitiatorKeying, initiator_keying_in, keying_of, repeated_session}
-use Rattle.startup.specs.Keyings.{after_again_or_birth, after_keyed_with, after_keyed_reading, after_keying}
-use Rattle.startup.specs.Redirects.{told_addresses, new_candidates, after_extension, after_redirect_of, after_redirect}
+use Rattle.startup.specs.Keyings.{after_again_or_birth, after_keyed_with, after_keyed_reading}
+use Rattle.startup.specs.Keyings.{after_keying}
+use Rattle.startup.specs.Redirects.{told_addresses, new_candidates, after_extension}
+use Rattle.startup.specs.Redirects.{after_redirect_of, after_redirect}
 use Rattle.startup.specs.Due.{is_over, repeated, is_due, after_due_of, after_due}
 
 pub record IsKin (old new : StartupState) : Type 0 where

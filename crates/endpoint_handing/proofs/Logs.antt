@@ -1,20 +1,22 @@
 -- Logs and facts of the ends of a history, event by event.
-use Rattle.std.proofs.Common.{◌≡◌, ℕ, ◌==◌, List, [], ◌∷◌, ◌++◌, Bool, true, false, cond, if◌then◌else◌}
-use Rattle.std.proofs.Common.{Option, Some, None, inl, inr, ◌⊎◌, refl, sym, ap, subst, ◌∙◌, append_assoc}
+use Rattle.std.proofs.Common.{◌≡◌, ℕ, ◌==◌, List, [], ◌∷◌, ◌++◌, Bool, false, if◌then◌else◌}
+use Rattle.std.proofs.Common.{Option, Some, None, inl, inr, ◌⊎◌, refl, sym, ap, subst, ◌∙◌}
 use Rattle.glare_core.specs.declared.facts.Fact.{Fact}
-use Rattle.glare_core.specs.declared.facts.Fact.TheVariants.{Started, Born, Opened, Confirmed, Ended}
+use Rattle.glare_core.specs.declared.facts.Fact.TheVariants.{Started, Born, Opened, Confirmed}
+use Rattle.glare_core.specs.declared.facts.Fact.TheVariants.{Ended}
 use Rattle.glare_core.specs.Steps.{Among}
 use Rattle.glare_core.specs.Told.{AllDifferent}
 use Rattle.glare_core.specs.Account.{AreLawful}
 use Rattle.endpoint_model.specs.declared.entry.Entry.{Entry}
 use Rattle.endpoint_model.specs.Views.{fact_in}
-use Rattle.endpoint_model.specs.Event.{Setup, own_of, Event, moment_at}
-use Rattle.endpoint_model.specs.State.{State, fresh}
-use Rattle.endpoint_model.specs.Log.{Step, Leads, StandsFor}
-use Rattle.endpoint_laws.specs.Past.{Stamped, stamped, onto, fact_and, facts_of, begun, with_event, last_moment, past_of}
+use Rattle.endpoint_model.specs.Event.{Event, moment_at}
+use Rattle.endpoint_model.specs.State.{State}
+use Rattle.endpoint_model.specs.Log.{Step, Leads}
+use Rattle.endpoint_laws.specs.Past.{Stamped, stamped, onto, fact_and, facts_of, begun, with_event}
+use Rattle.endpoint_laws.specs.Past.{last_moment, past_of}
 use Rattle.endpoint_laws.specs.Lawful.{nonces_of}
 use Rattle.endpoint_laws.specs.Laws.{AreCalls, IsCall}
-use Rattle.endpoint_laws.specs.History.{Happened, History, log_of, facts_at, past_at, nonces_in, TakesPart}
+use Rattle.endpoint_laws.specs.History.{Happened, History, log_of, facts_at, nonces_in, TakesPart}
 use Rattle.flow_history.proofs.Keeps.{tested}
 use Rattle.flow_history.proofs.Names.{number_self}
 use Rattle.endpoint_handing.specs.Told.{facts_onto}

@@ -1,52 +1,49 @@
 -- What an end does with the flows of a session goes with deeds of a history of flows.
-use Rattle.std.proofs.Common.{◌≡◌, ℕ, zero, suc, List, [], ◌∷◌, ◌++◌, map, length, drop, Bool, true, false, if◌then◌else◌, cond}
-use Rattle.std.proofs.Common.{Option, Some, None, inl, inr, ◌⊎◌, refl, sym, ap, subst, ◌∙◌, append-nil}
-use Rattle.std.specs.Prelude.{slice_get, slice_set}
+use Rattle.std.proofs.Common.{◌≡◌, ℕ, List, [], ◌∷◌, ◌++◌, map, length, drop, Bool}
+use Rattle.std.proofs.Common.{Option, Some, None, inl, inr, refl, sym, ap, subst, ◌∙◌, append-nil}
 use Rattle.std.specs.Option.{option_map}
-use Rattle.std.specs.List.{AllByRecursion, flat_map}
-use Rattle.std.specs.FinMap.{get, insert}
+use Rattle.std.specs.List.{flat_map}
+use Rattle.std.specs.FinMap.{get}
 use Rattle.rtmfp_base.proofs.Maps.{found_inserted, get_inserted}
-use Rattle.rtmfp_packet.specs.Spelling.{Chunk as Written, chunk_bytes as written_bytes}
+use Rattle.rtmfp_packet.specs.Spelling.{chunk_bytes as written_bytes}
 use Rattle.rtmfp_packet.specs.Walk.{Body, body_of, all_placed_from, visible}
 use Rattle.rtmfp_packet.proofs.Bodies.{body_of-spelled}
 use Rattle.rtmfp_data_chunks.specs.HandsOver.{IsIn}
-use Rattle.rtmfp_data_chunks.specs.Chunk.{UserParts, DataChunk, Data as DataPart, Next, AckBitmap, AckRanges, Probe, Exception}
-use Rattle.flow_recv.specs.Receiver.{next_run}
-use Rattle.rtmfp_data_chunks.specs.Runs.{Run}
 use Rattle.flow_send.specs.Flow.{Flow}
 use Rattle.glare_core.specs.declared.facts.Fact.{Fact}
 use Rattle.glare_core.specs.declared.facts.Joined.{Joined}
-use Rattle.session_core.specs.Session.{SessionState}
-use Rattle.session_flows.specs.declared.taking.TakingFlow.{TakingFlow}
-use Rattle.session_flows.specs.Told.{begins_with_a}
-use Rattle.session_flows.specs.Keeping.{FlowsState, sending_at, taking_at, with_sending, Did as FlowsDid, nothing as nothing_done}
-use Rattle.session_flows.specs.Keeping.{Stated, Opened as OpenedOf, Queued as QueuedOf, Abandoned as AbandonedOf}
+use Rattle.session_flows.specs.Keeping.{FlowsState, sending_at, Did as FlowsDid}
+use Rattle.session_flows.specs.Keeping.{nothing as nothing_done}
+use Rattle.session_flows.specs.Keeping.{Stated, Opened as OpenedOf, Queued as QueuedOf}
+use Rattle.session_flows.specs.Keeping.{Abandoned as AbandonedOf}
 use Rattle.session_flows.specs.Keeping.{Finished as FinishedOf, Handed as HandedOf}
 use Rattle.endpoint_model.specs.declared.row.Row.{Row}
 use Rattle.endpoint_model.specs.declared.entry.Entry.{Entry}
-use Rattle.endpoint_model.specs.Views.{fact_in, out_in}
-use Rattle.endpoint_model.specs.State.{State, Did, nothing, then_do, with_row}
+use Rattle.endpoint_model.specs.Views.{fact_in}
+use Rattle.endpoint_model.specs.State.{State, nothing, then_do, with_row}
 use Rattle.endpoint_model.specs.OnFlows.{flow_entry}
 use Rattle.endpoint_model.specs.InSessions.{sent_home_by, sent_home}
 use Rattle.endpoint_laws.specs.Past.{fact_and}
-use Rattle.flow_history.specs.Flow.{Opened, Carried}
 use Rattle.flow_history.specs.Deeds.{Context, back, Name, name, Piece, Data, Ack, Out, History}
-use Rattle.flow_history.specs.Lawful.{HasBegun, MayDo}
-use Rattle.flow_history.specs.Log.{Entry as Tell, Queued as TellQueued, Abandoned as TellAbandoned, Handed as TellHanded, log_of}
+use Rattle.flow_history.specs.Lawful.{MayDo}
+use Rattle.flow_history.specs.Log.{Entry as Tell, Queued as TellQueued, Abandoned as TellAbandoned}
+use Rattle.flow_history.specs.Log.{Handed as TellHanded, log_of}
 use Rattle.flow_history.specs.Keeping.{Flows}
-use Rattle.flow_send.specs.Acks.{Told}
 use Rattle.session_deeds.specs.Shows.{opened_of, Shows}
 use Rattle.session_deeds.specs.Deeds.{Deed, did_all}
 use Rattle.session_deeds.specs.Goes.{IsDoneBy, Goes, IsSaid, AllSaid}
 use Rattle.session_deeds.specs.Pieces.{pieces_of, IsPutBehind}
 use Rattle.session_deeds.specs.Laws.{Puts}
-use Rattle.endpoint_handing.specs.Told.{AllHaveContext, sending_context, told_in, told_at, facts_onto, told_onto}
-use Rattle.endpoint_handing.proofs.Kept.{End, away, FlowsKept, RowKept, StateKept, Stands, OutsWent, Hands, Does, hands_after}
+use Rattle.endpoint_handing.specs.Told.{AllHaveContext, sending_context, told_in, told_at}
+use Rattle.endpoint_handing.specs.Told.{facts_onto, told_onto}
+use Rattle.endpoint_handing.proofs.Kept.{End, away, FlowsKept, RowKept, Stands, OutsWent, Hands}
+use Rattle.endpoint_handing.proofs.Kept.{Does, hands_after}
 use Rattle.endpoint_handing.proofs.Silent.{away_same}
 use Rattle.endpoint_handing.proofs.Begun.{contexts_apart}
 use Rattle.endpoint_handing.proofs.Bodies.{body_pieces}
 use Rattle.endpoint_handing.proofs.Sent.{hands_sent}
-use Rattle.endpoint_handing.proofs.Running.{AreKept, HaveCome, Said, tell_of, told_on, messages_told, AllOpenAs, open_as, Ran, ran}
+use Rattle.endpoint_handing.proofs.Running.{HaveCome, Said, tell_of, told_on, messages_told}
+use Rattle.endpoint_handing.proofs.Running.{AllOpenAs, open_as, Ran, ran}
 
 -- ---- what is stated of flows, as entries
 

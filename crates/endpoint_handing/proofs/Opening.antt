@@ -1,5 +1,5 @@
 -- A flow that a call opens has in the history the order that its metadata tell.
-use Rattle.std.proofs.Common.{◌≡◌, ℕ, ◌==◌, cond, List, [], ◌∷◌, ◌++◌, length, Bool, true, false}
+use Rattle.std.proofs.Common.{◌≡◌, ℕ, ◌==◌, cond, List, [], ◌∷◌, length, Bool, true, false}
 use Rattle.std.proofs.Common.{Option, Some, None, refl, sym, ap, subst, ◌∙◌}
 use Rattle.std.specs.Option.{option_map}
 use Rattle.std.specs.FinMap.{get}
@@ -7,28 +7,27 @@ use Rattle.rtmfp_base.proofs.Maps.{get_inserted}
 use Rattle.flow_send.specs.Flow.{Flow}
 use Rattle.glare_core.specs.declared.facts.Fact.{Fact}
 use Rattle.session_flows.specs.Told.{begins_with_a}
-use Rattle.session_flows.specs.Keeping.{FlowsState, sending_at as flow_at}
 use Rattle.session_flows.specs.Calling.{new_flow, opening}
 use Rattle.endpoint_model.specs.declared.row.Row.{Row}
 use Rattle.endpoint_model.specs.declared.entry.Entry.{Entry}
 use Rattle.endpoint_model.specs.declared.entry.Entry.TheVariants.{FlowOpened}
-use Rattle.endpoint_model.specs.declared.answers.CallRefusal.{CallRefusal}
-use Rattle.endpoint_model.specs.Event.{OnFlows, Answer, Began, Done, NotOpened, Refused, NotAdded, Stopped, OutOfMemory}
+use Rattle.endpoint_model.specs.Event.{OnFlows, Answer, Began, Done, NotOpened, Refused, NotAdded}
+use Rattle.endpoint_model.specs.Event.{Stopped, OutOfMemory}
 use Rattle.endpoint_model.specs.FlowCall.{FlowCall, OpenFlow}
-use Rattle.endpoint_model.specs.State.{State, nothing, with_row, Does as DoesSo}
+use Rattle.endpoint_model.specs.State.{State, with_row, Does as DoesSo}
 use Rattle.endpoint_model.specs.InSessions.{held_row}
-use Rattle.endpoint_model.specs.OnFlows.{call_refusal_by, flow_called_by, flow_called}
+use Rattle.endpoint_model.specs.OnFlows.{call_refusal_by, flow_called_by}
 use Rattle.endpoint_model.specs.Log.{Answers}
-use Rattle.flow_history.specs.Flow.{Opened, Touch, BySender, ByReceiver, Goes, Beside, SendingBegins, SendingEnds, Opens, Acts}
-use Rattle.flow_history.specs.Flow.{Step, Steps, opened_in, acted_in, sending_after, sending_at}
+use Rattle.flow_history.specs.Flow.{Opened, Touch, BySender, ByReceiver, Goes, Beside}
+use Rattle.flow_history.specs.Flow.{SendingBegins, SendingEnds, Opens, Acts}
+use Rattle.flow_history.specs.Flow.{Step, Steps, sending_after, sending_at}
 use Rattle.flow_history.specs.Run.{OpensAs, IsOrdered}
-use Rattle.flow_history.specs.Deeds.{Context, Name, name, History, steps_of}
+use Rattle.flow_history.specs.Deeds.{Name, name, History, steps_of}
 use Rattle.flow_history.specs.Log.{HasOrder}
 use Rattle.session_deeds.specs.Shows.{opened_of}
 use Rattle.session_deeds.proofs.Lists.{push_there}
 use Rattle.endpoint_handing.specs.Told.{sending_context}
 use Rattle.endpoint_handing.proofs.Kept.{End, away, RowKept, StateKept}
-use Rattle.endpoint_handing.proofs.Items.{held_is_there}
 
 -- ---- an open flow has the order in which it was opened
 

@@ -1,5 +1,5 @@
 -- What is to be shown of all that an end does with flows, thing by thing.
-use Rattle.std.proofs.Common.{◌≡◌, ℕ, List, length, Bool, true, Option, Some, None}
+use Rattle.std.proofs.Common.{◌≡◌, ℕ, List, length, Bool, true, Some, None}
 use Rattle.std.specs.FinMap.{get}
 use Rattle.rtmfp_data_chunks.specs.HandsOver.{IsIn}
 use Rattle.rtmfp_data_chunks.specs.Chunk.{DataChunk}

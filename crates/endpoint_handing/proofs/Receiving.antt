@@ -1,6 +1,8 @@
 -- What an end does of a datagram.
-use Rattle.std.proofs.Common.{◌≡◌, ℕ, zero, suc, ◌==◌, ◌^◌, ◌<◌, List, [], ◌∷◌, ◌++◌, length, drop, take, Bool, true, false}
-use Rattle.std.proofs.Common.{not, nat_lt, if◌then◌else◌, Option, Some, None, Result, Ok, Err, inl, inr, ◌⊎◌}
+use Rattle.std.proofs.Common.{◌≡◌, ℕ, zero, suc, ◌^◌, ◌<◌, List, [], ◌∷◌, ◌++◌, length, drop, take}
+use Rattle.std.proofs.Common.{Bool, true, false}
+use Rattle.std.proofs.Common.{not, nat_lt, if◌then◌else◌, Option, Some, None, Result, Ok, Err, inl}
+use Rattle.std.proofs.Common.{inr}
 use Rattle.std.proofs.Common.{refl, sym, ap, subst, ◌∙◌, append-nil}
 use Rattle.std.proofs.lemmas.List.{take-append-drop}
 use Rattle.std.specs.FinMap.{get}
@@ -21,11 +23,13 @@ use Rattle.glare_core.specs.declared.facts.Fact.{Fact}
 use Rattle.session_core.specs.declared.stage.Role.{Role}
 use Rattle.session_core.specs.declared.stage.Role.TheVariants.{Initiator, Responder}
 use Rattle.session_core.specs.declared.hearing.Unheard.{Unheard}
-use Rattle.session_core.specs.declared.hearing.Unheard.TheVariants.{Short as ShortPart, BadTag as WrongTag, Repeated as OldNumber}
+use Rattle.session_core.specs.declared.hearing.Unheard.TheVariants.{Short as ShortPart}
+use Rattle.session_core.specs.declared.hearing.Unheard.TheVariants.{BadTag as WrongTag}
+use Rattle.session_core.specs.declared.hearing.Unheard.TheVariants.{Repeated as OldNumber}
 use Rattle.session_core.specs.Session.{SessionState, context_of, with_stamps}
-use Rattle.session_core.specs.Hearing.{opens_in as opens_in_session, is_new, count_of, unheard_by, unheard, inward_keys, counted}
+use Rattle.session_core.specs.Hearing.{opens_in as opens_in_session, is_new, count_of, unheard}
+use Rattle.session_core.specs.Hearing.{inward_keys, counted}
 use Rattle.crypto_profile.specs.Window.{window_answer}
-use Rattle.session_flows.specs.Owing.{owes}
 use Rattle.startup.specs.declared.cause.Cause.{Cause}
 use Rattle.startup.specs.declared.cause.Cause.TheVariants.{WrongPlace, Short as ShortDatagram}
 use Rattle.endpoint_model.specs.declared.config.Draws.{Draws}
@@ -37,25 +41,30 @@ use Rattle.endpoint_model.specs.declared.entry.Entry.{Entry}
 use Rattle.endpoint_model.specs.Views.{fact_in}
 use Rattle.endpoint_model.specs.Keying.{chunks_of}
 use Rattle.endpoint_model.specs.State.{State, Did, nothing, then_do}
-use Rattle.endpoint_model.specs.Admission.{packet_in, place_of, opened_in_startup, heard_by, heard_in, opened_at, placed, opened_found}
-use Rattle.endpoint_model.specs.Admission.{opened_datagram, counted_by, counted_at, timed_by, timed_at, confirming}
-use Rattle.endpoint_model.specs.Admission.{mode_at, has_mode, Admission, Rejected, Admitted, admitted_packet, admitted, admission}
+use Rattle.endpoint_model.specs.Admission.{packet_in, place_of, opened_in_startup, heard_by}
+use Rattle.endpoint_model.specs.Admission.{heard_in, placed, opened_found}
+use Rattle.endpoint_model.specs.Admission.{counted_by, counted_at, timed_by, timed_at, confirming}
+use Rattle.endpoint_model.specs.Admission.{mode_at, has_mode, Admission, Rejected, Admitted}
+use Rattle.endpoint_model.specs.Admission.{admitted_packet, admitted, admission}
 use Rattle.endpoint_model.specs.InSessions.{tested}
-use Rattle.endpoint_model.specs.FlowChunks.{acked_by, owes_by, acked_if, acked_in, acked, unowed_by, unowed}
-use Rattle.endpoint_model.specs.Effects.{discarded, outset, chunks_did, gone_through, most_acks, gone_through_and_acked}
+use Rattle.endpoint_model.specs.FlowChunks.{acked_by, owes_by, acked_if, acked_in, acked, unowed_by}
+use Rattle.endpoint_model.specs.FlowChunks.{unowed}
+use Rattle.endpoint_model.specs.Effects.{outset, chunks_did, gone_through, most_acks}
+use Rattle.endpoint_model.specs.Effects.{gone_through_and_acked}
 use Rattle.endpoint_model.specs.Effects.{received, part_received}
 use Rattle.endpoint_model.specs.Log.{stopped}
 use Rattle.endpoint_laws.specs.Past.{fact_and}
 use Rattle.endpoint_laws.specs.OpensIn.{context_in_session, context_found, opens_in}
 use Rattle.flow_history.specs.Deeds.{Context, back, Piece, In, done, History}
-use Rattle.flow_history.specs.Lawful.{HasBegun, CameIn, WasSent}
+use Rattle.flow_history.specs.Lawful.{HasBegun, WasSent}
 use Rattle.endpoint_handing.specs.Told.{sends_in, facts_onto}
 use Rattle.session_deeds.specs.Pieces.{pieces_read, pieces_behind, pieces_of}
 use Rattle.endpoint_handing.proofs.Pieces.{pieces_whole, sealed_for, pieces_in}
-use Rattle.endpoint_handing.proofs.Kept.{End, away, RowKept, StateKept, HasStarted, Stands, IsNew, AreNew, new_split}
-use Rattle.endpoint_handing.proofs.Kept.{grows_then, Hands, Does, hands_after, does_then, does_if, does_nothing}
+use Rattle.endpoint_handing.proofs.Kept.{End, away, HasStarted, Stands, IsNew, AreNew, new_split}
+use Rattle.endpoint_handing.proofs.Kept.{grows_then, Hands, Does, hands_after, does_then}
+use Rattle.endpoint_handing.proofs.Kept.{does_nothing}
 use Rattle.endpoint_handing.proofs.Deeding.{grows_by, kept_by}
-use Rattle.endpoint_handing.proofs.Silent.{stands_silent, IsSame, same_then, AllHad, had_it, had_row, IsAlike, does_from}
+use Rattle.endpoint_handing.proofs.Silent.{stands_silent, same_then, had_it, had_row, IsAlike}
 use Rattle.endpoint_handing.proofs.Items.{does_discarded, does_confirming, does_tested}
 use Rattle.endpoint_handing.proofs.Owed.{FlowsHand}
 use Rattle.endpoint_handing.proofs.Chunks.{BeginsAt, AllCame, AllCameAt, stays, hands_chunks}

@@ -1,10 +1,9 @@
 -- Rows of what entries tell, and of the calls that open flows.
-use Rattle.std.proofs.Common.{◌≡◌, ℕ, List, [], ◌∷◌, Bool, true, false, Option, Some, None, refl, sym, ap, ◌∙◌}
-use Rattle.endpoint_model.specs.declared.entry.Entry.{Entry}
-use Rattle.endpoint_model.specs.Event.{Call, OnFlows}
+use Rattle.std.proofs.Common.{◌≡◌, ℕ, Bool, true, false, Option, Some, None, refl, ap, ◌∙◌}
 use Rattle.flow_history.specs.Deeds.{Context}
 use Rattle.endpoint_handing.specs.Told.{sending_context}
-use Rattle.endpoint_handing.specs.Edges.{own, to_here, born, HasItsContext, TellsOfFlows, OpensFlows}
+use Rattle.endpoint_handing.specs.Edges.{own, to_here, born, HasItsContext, TellsOfFlows}
+use Rattle.endpoint_handing.specs.Edges.{OpensFlows}
 
 pub has_its_context : HasItsContext
 has_its_context = record {

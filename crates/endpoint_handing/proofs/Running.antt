@@ -1,38 +1,45 @@
 -- Deeds of one session's flows, as deeds of a history of many ends: in the context in which the
 -- session sends.
 use Rattle.std.proofs.Common.{◌≡◌, ℕ, ◌==◌, ◌&&◌, cond, List, [], ◌∷◌, ◌++◌, map, Bool, true, false}
-use Rattle.std.proofs.Common.{if◌then◌else◌, Option, Some, None, inl, inr, ◌⊎◌, refl, sym, ap, subst, ◌∙◌}
-use Rattle.std.specs.Option.{option_map}
+use Rattle.std.proofs.Common.{Option, Some, None, inl, inr, refl, sym, ap, subst, ◌∙◌}
 use Rattle.rtmfp_data_chunks.specs.Fragments.{Message}
-use Rattle.rtmfp_data_chunks.specs.Runs.{Chunk, Run, message_of}
+use Rattle.rtmfp_data_chunks.specs.Runs.{Chunk, Run}
 use Rattle.rtmfp_data_chunks.specs.HandsOver.{IsIn}
 use Rattle.flow_recv.specs.Receiver.{Receiver, next_run}
 use Rattle.flow_send.specs.Sender.{Sender, new_sender, waits}
-use Rattle.flow_send.specs.Choice.{choice, chunk_for}
+use Rattle.flow_send.specs.Choice.{choice}
 use Rattle.flow_send.specs.Acks.{Told}
-use Rattle.flow_exchange.specs.Sending.{Act, Queues, Abandons, AbandonsFirst, AbandonsOverdue, Finishes}
-use Rattle.flow_exchange.specs.Sending.{Loses, Sends, Hears, acts, queues, finishes, abandons, abandons_one, sends}
+use Rattle.flow_exchange.specs.Sending.{Act, Queues, Abandons, AbandonsFirst, AbandonsOverdue}
+use Rattle.flow_exchange.specs.Sending.{Finishes}
+use Rattle.flow_exchange.specs.Sending.{Loses, Sends, Hears, queues, finishes, abandons}
+use Rattle.flow_exchange.specs.Sending.{abandons_one, sends}
 use Rattle.flow_history.specs.Flow.{Opened, Carried, BySender, ByReceiver, Beside, Touch, alone}
-use Rattle.flow_history.specs.Flow.{Opens as OpensStep, Acts, Makes as MakesStep, Takes as TakesStep}
+use Rattle.flow_history.specs.Flow.{Opens as OpensStep, Acts, Makes as MakesStep}
+use Rattle.flow_history.specs.Flow.{Takes as TakesStep}
 use Rattle.flow_history.specs.Flow.{Hands as HandsStep, Acks as AcksStep}
-use Rattle.flow_history.specs.Flow.{sending_after, sending_at, taking_after, taking_at, acted_in}
+use Rattle.flow_history.specs.Flow.{sending_after, sending_at, taking_after, taking_at}
 use Rattle.flow_history.specs.Said.{WasGiven, WasTold, IsGiven, IsTold, Gives, Tells}
 use Rattle.flow_history.specs.Run.{OpensAs, queued_act, abandoned_act, message_in, handed_next_by}
 use Rattle.flow_history.specs.Deeds.{Context, back, same, Name, name, same_name, Piece, Data, Ack}
-use Rattle.flow_history.specs.Deeds.{Deed as Done_in, OpensFlow, ActsOn as ActsOn_flow, MakesFlow, TakesFrom}
+use Rattle.flow_history.specs.Deeds.{Deed as Done_in, OpensFlow, ActsOn as ActsOn_flow, MakesFlow}
+use Rattle.flow_history.specs.Deeds.{TakesFrom}
 use Rattle.flow_history.specs.Deeds.{HandsOn, AcksOn, done, History, by_name, touch_of, steps_of}
-use Rattle.flow_history.specs.Lawful.{HasBegun, CameIn, MayActOn, MayDo, IsLawful, IsHonestDeed, IsHonest}
-use Rattle.flow_history.specs.Log.{Entry as Tell, Queued, Abandoned, Handed, entries_of, log_of, HasOrder}
+use Rattle.flow_history.specs.Lawful.{HasBegun, CameIn, MayActOn, MayDo, IsLawful, IsHonestDeed}
+use Rattle.flow_history.specs.Lawful.{IsHonest}
+use Rattle.flow_history.specs.Log.{Entry as Tell, Queued, Abandoned, Handed, log_of, HasOrder}
 use Rattle.flow_history.specs.Keeping.{Flows}
-use Rattle.flow_history.proofs.Names.{same_self, back_back, name_is, number_self}
+use Rattle.flow_history.proofs.Names.{same_self, name_is, number_self}
 use Rattle.session_flows.specs.Keeping.{FlowsState, Stated, Opened as OpenedOf, Queued as QueuedOf}
-use Rattle.session_flows.specs.Keeping.{Abandoned as AbandonedOf, Finished as FinishedOf, Handed as HandedOf}
-use Rattle.session_deeds.specs.Deeds.{Deed, Opens, ActsOn, Makes, Takes, Hands, Acks, changed_at, opened_by}
-use Rattle.session_deeds.specs.Deeds.{acted_by, made_by, taken_by, handed_by, did, did_all, as_queued, as_handed}
+use Rattle.session_flows.specs.Keeping.{Abandoned as AbandonedOf, Finished as FinishedOf}
+use Rattle.session_flows.specs.Keeping.{Handed as HandedOf}
+use Rattle.session_deeds.specs.Deeds.{Deed, Opens, ActsOn, Makes, Takes, Hands, Acks, opened_by}
+use Rattle.session_deeds.specs.Deeds.{acted_by, made_by, taken_by, handed_by, did, did_all}
+use Rattle.session_deeds.specs.Deeds.{as_queued, as_handed}
 use Rattle.session_deeds.specs.Deeds.{told, told_all, MayAct, May, MayAll}
 use Rattle.session_deeds.specs.Goes.{of_messages, Says, IsSaid}
 use Rattle.endpoint_handing.proofs.Kept.{FlowsKept, Grows, grows_not, grows_then}
-use Rattle.endpoint_handing.proofs.Deeding.{grows_by, sends_now, takes_now, Leaves_be, kept_by, not_same, backs_apart}
+use Rattle.endpoint_handing.proofs.Deeding.{grows_by, sends_now, takes_now, Leaves_be, kept_by}
+use Rattle.endpoint_handing.proofs.Deeding.{not_same, backs_apart}
 
 -- ---- a deed in a context
 

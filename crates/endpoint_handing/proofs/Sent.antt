@@ -1,29 +1,30 @@
 -- A datagram goes out, in the startup context or in a session.
-use Rattle.std.proofs.Common.{◌≡◌, ℕ, ◌+◌, ◌==◌, List, [], ◌∷◌, ◌++◌, Bool, true, false, if◌then◌else◌}
-use Rattle.std.proofs.Common.{Option, Some, None, inl, inr, ◌⊎◌, refl, sym, ap, subst, ◌∙◌}
+use Rattle.std.proofs.Common.{◌≡◌, ℕ, ◌+◌, ◌==◌, List, [], ◌∷◌, Bool, true, false, if◌then◌else◌}
+use Rattle.std.proofs.Common.{Option, Some, None, inl, inr, refl, sym, ap, subst, ◌∙◌}
 use Rattle.std.specs.FinMap.{get}
 use Rattle.rtmfp_forms.specs.Address.{AddressParts}
 use Rattle.glare_core.specs.declared.facts.Fact.{Fact}
 use Rattle.crypto_profile.specs.declared.keys.Context.TheVariants.{Startup}
-use Rattle.session_core.specs.Session.{SessionState, context_of}
+use Rattle.session_core.specs.Session.{context_of}
 use Rattle.session_core.specs.Sealed.{is_spent, after_seal}
 use Rattle.startup.specs.declared.answer.Answer.{Answer}
 use Rattle.startup.specs.State.{SpreadParts}
 use Rattle.endpoint_model.specs.declared.row.Row.{Row}
-use Rattle.endpoint_model.specs.declared.entry.Entry.{Entry}
 use Rattle.endpoint_model.specs.declared.entry.Entry.TheVariants.{Out as OutEntry}
-use Rattle.endpoint_model.specs.State.{State, Did, nothing, then_do, with_row, with_session, with_sealed}
-use Rattle.endpoint_model.specs.Sending.{last_count, startup_datagram, sent_startup, sent_answer, sent_if}
-use Rattle.endpoint_model.specs.Sending.{sent_each, sent_spread, session_datagram, sent_by, sent_in_session}
+use Rattle.endpoint_model.specs.State.{State, Did, nothing, with_session, with_sealed}
+use Rattle.endpoint_model.specs.Sending.{last_count, startup_datagram, sent_startup, sent_answer}
+use Rattle.endpoint_model.specs.Sending.{sent_if}
+use Rattle.endpoint_model.specs.Sending.{sent_each, sent_spread, session_datagram, sent_by}
+use Rattle.endpoint_model.specs.Sending.{sent_in_session}
 use Rattle.endpoint_model.specs.InSessions.{sent_home_by, sent_home}
-use Rattle.flow_history.specs.Deeds.{Context, Name, Piece, Out, done, History}
-use Rattle.flow_history.specs.Lawful.{HasBegun, MayDo, WasSent}
+use Rattle.flow_history.specs.Deeds.{Context, Piece, Out, done, History}
+use Rattle.flow_history.specs.Lawful.{MayDo, WasSent}
 use Rattle.endpoint_handing.specs.Told.{facts_onto}
 use Rattle.endpoint_handing.proofs.Pieces.{pieces_in}
-use Rattle.endpoint_handing.proofs.Kept.{End, away, session_of, RowKept, HasStarted, Stands, WentIn, Hands, Does}
+use Rattle.endpoint_handing.proofs.Kept.{End, away, RowKept, Stands, WentIn, Hands, Does}
 use Rattle.endpoint_handing.proofs.Kept.{does_then, does_nothing}
 use Rattle.endpoint_handing.proofs.Deeding.{grows_by, kept_by, out_leaves_be, out_orders}
-use Rattle.endpoint_handing.proofs.Silent.{IsSilent, AreSilent, IsSame, same_itself, row_same, AllHad, had_it, had_row}
+use Rattle.endpoint_handing.proofs.Silent.{IsSilent, IsSame, same_itself, row_same, had_it, had_row}
 use Rattle.endpoint_handing.proofs.Silent.{IsAlike, does_silent}
 use Rattle.endpoint_handing.proofs.Bodies.{body_pieces, datagram_pieces, session_away}
 

@@ -1,7 +1,7 @@
 -- Things that say nothing of flows: no session begins, nothing goes out in one, and no message is
 -- told.
-use Rattle.std.proofs.Common.{◌≡◌, ℕ, List, [], ◌∷◌, ◌++◌, Bool, true, false, if◌then◌else◌}
-use Rattle.std.proofs.Common.{Option, Some, None, inl, inr, ◌⊎◌, refl, sym, ap, subst, ◌∙◌}
+use Rattle.std.proofs.Common.{◌≡◌, ℕ, List, [], ◌∷◌, ◌++◌}
+use Rattle.std.proofs.Common.{Option, Some, None, inl, inr, refl, sym, ap, subst, ◌∙◌}
 use Rattle.std.specs.FinMap.{get, insert, remove}
 use Rattle.rtmfp_base.proofs.Maps.{found_inserted, found_left}
 use Rattle.glare_core.specs.declared.facts.Fact.{Fact}
@@ -9,19 +9,18 @@ use Rattle.glare_core.specs.declared.facts.Joined.{Joined}
 use Rattle.session_core.specs.declared.stage.Role.{Role}
 use Rattle.session_core.specs.Session.{SessionState}
 use Rattle.session_flows.specs.Keeping.{FlowsState}
-use Rattle.startup.specs.State.{StartupState}
 use Rattle.endpoint_model.specs.declared.row.Row.{Row}
 use Rattle.endpoint_model.specs.declared.entry.Entry.{Entry}
 use Rattle.endpoint_model.specs.Views.{fact_in, out_in}
-use Rattle.endpoint_model.specs.State.{Sessions, State, Did, nothing, with_row, without_row}
+use Rattle.endpoint_model.specs.State.{Sessions, State, Did}
 use Rattle.endpoint_laws.specs.Past.{fact_and}
 use Rattle.flow_history.specs.Deeds.{Context, History}
 use Rattle.flow_history.specs.Log.{Entry as Tell, log_of}
-use Rattle.endpoint_handing.specs.Once.{SendsIn, HasBegun as HasStated}
+use Rattle.endpoint_handing.specs.Once.{HasBegun as HasStated}
 use Rattle.endpoint_handing.specs.Told.{message_in, HasContext, AllHaveContext}
 use Rattle.endpoint_handing.specs.Told.{sends_in, sending_context, told_at, facts_onto, told_onto}
-use Rattle.endpoint_handing.proofs.Kept.{End, away, FlowsKept, RowKept, StateKept, HasStarted, Stands}
-use Rattle.endpoint_handing.proofs.Kept.{grows_not, OutWent, OutsWent, Hands, Does, AreNew}
+use Rattle.endpoint_handing.proofs.Kept.{End, away, FlowsKept, RowKept, HasStarted, Stands}
+use Rattle.endpoint_handing.proofs.Kept.{grows_not, OutWent, OutsWent, Does}
 
 -- ---- silent entries
 

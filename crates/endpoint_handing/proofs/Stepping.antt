@@ -1,14 +1,13 @@
 -- What a call of an end adds to a history of flows.
-use Rattle.std.proofs.Common.{◌≡◌, ℕ, ◌<◌, ◌^◌, List, [], ◌∷◌, ◌++◌, length, Bool, true, false}
-use Rattle.std.proofs.Common.{Option, Some, None, refl, sym, ap, subst, ◌∙◌}
-use Rattle.rtmfp_forms.specs.Address.{AddressParts}
+use Rattle.std.proofs.Common.{◌≡◌, ◌<◌, ◌^◌, List, [], length}
+use Rattle.std.proofs.Common.{None, refl, sym, subst}
 use Rattle.glare_core.specs.declared.facts.Fact.{Fact}
 use Rattle.endpoint_model.specs.declared.entry.Entry.{Entry}
-use Rattle.endpoint_model.specs.declared.config.Draws.{Draws}
-use Rattle.endpoint_model.specs.Event.{Call, Open, Cancel, Close, AddRow, Introduce, OnFlows, Receive, Tick}
-use Rattle.endpoint_model.specs.Event.{Answer, Began, Done, NotOpened, Refused, NotAdded, Stopped, OutOfMemory}
-use Rattle.endpoint_model.specs.FlowCall.{FlowCall}
-use Rattle.endpoint_model.specs.State.{State, Did, Does as DoesSo, nothing, at_moment}
+use Rattle.endpoint_model.specs.Event.{Call, Open, Cancel, Close, AddRow, Introduce, OnFlows}
+use Rattle.endpoint_model.specs.Event.{Receive, Tick}
+use Rattle.endpoint_model.specs.Event.{Answer, Began, Done, NotOpened, Refused, NotAdded, Stopped}
+use Rattle.endpoint_model.specs.Event.{OutOfMemory}
+use Rattle.endpoint_model.specs.State.{State, Did, Does as DoesSo, nothing}
 use Rattle.endpoint_model.specs.Admission.{admission}
 use Rattle.endpoint_model.specs.Introducing.{with_redirect, introducing}
 use Rattle.endpoint_model.specs.InSessions.{closing}
@@ -17,7 +16,7 @@ use Rattle.endpoint_model.specs.FlowTimes.{all_late}
 use Rattle.endpoint_model.specs.Effects.{opening, cancelling, ticks, received}
 use Rattle.endpoint_model.specs.Log.{Answers, stopped}
 use Rattle.flow_history.specs.Deeds.{History}
-use Rattle.endpoint_handing.proofs.Kept.{End, Stands, AreNew, Hands, Does, does_nothing}
+use Rattle.endpoint_handing.proofs.Kept.{End, Stands, AreNew, Hands, does_nothing}
 use Rattle.endpoint_handing.proofs.Silent.{had_it, IsAlike, does_from}
 use Rattle.endpoint_handing.proofs.Items.{does_opening, does_cancelling, does_closing}
 use Rattle.endpoint_handing.proofs.Owed.{FlowsHand, OpensAsAsked}

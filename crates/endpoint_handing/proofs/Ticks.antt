@@ -1,5 +1,5 @@
 -- What time makes due, and the calls on flows.
-use Rattle.std.proofs.Common.{◌≡◌, ℕ, zero, suc, List, [], ◌∷◌, Bool, true, false, if◌then◌else◌}
+use Rattle.std.proofs.Common.{◌≡◌, ℕ, zero, suc, List, [], ◌∷◌, Bool, true, false}
 use Rattle.std.proofs.Common.{Option, Some, None, refl, ap, ◌∙◌}
 use Rattle.std.specs.FinMap.{get, keys}
 use Rattle.rtmfp_base.proofs.Lowest.{first_is_there}
@@ -14,10 +14,13 @@ use Rattle.session_flows.specs.Timing.{overdue_in}
 use Rattle.session_flows.specs.Packing.{is_data_due}
 use Rattle.endpoint_model.specs.declared.row.Row.{Row}
 use Rattle.endpoint_model.specs.declared.row_due.RowDue.{RowDue}
-use Rattle.endpoint_model.specs.declared.row_due.RowDue.TheVariants.{Session as SessionOf, Abandon, Data, Keepalive}
-use Rattle.endpoint_model.specs.State.{State, Did, nothing, then_do}
-use Rattle.endpoint_model.specs.FlowTimes.{late_at, late_each, all_late, end_due, abandon_due, row_due, is_row_due, due_row, row_due_done}
-use Rattle.endpoint_model.specs.Effects.{attempt_item, row_item, session_item, item_done, tick_once, ticks}
+use Rattle.endpoint_model.specs.declared.row_due.RowDue.TheVariants.{Session as SessionOf, Abandon}
+use Rattle.endpoint_model.specs.declared.row_due.RowDue.TheVariants.{Data, Keepalive}
+use Rattle.endpoint_model.specs.State.{State, Did, nothing}
+use Rattle.endpoint_model.specs.FlowTimes.{late_at, late_each, all_late, end_due, abandon_due}
+use Rattle.endpoint_model.specs.FlowTimes.{row_due, is_row_due, due_row, row_due_done}
+use Rattle.endpoint_model.specs.Effects.{attempt_item, row_item, session_item, item_done, tick_once}
+use Rattle.endpoint_model.specs.Effects.{ticks}
 use Rattle.endpoint_handing.proofs.Kept.{End, Does, does_then, does_nothing}
 use Rattle.endpoint_handing.proofs.Items.{does_attempt_due, does_session_due, does_kept_alive}
 use Rattle.endpoint_handing.proofs.Owed.{FlowsHand}

@@ -1,17 +1,16 @@
 -- Rows of what entries tell, and of the calls that open flows.
-use Rattle.std.specs.Prelude.{ℕ, ◌≡◌, true, false, List, [], ◌∷◌, Option, Some, None}
+use Rattle.std.specs.Prelude.{ℕ, ◌≡◌, true, false, List, [], ◌∷◌, Some, None}
 use Rattle.glare_core.specs.declared.facts.Fact.{Fact}
 use Rattle.glare_core.specs.declared.facts.Fact.TheVariants.{Started, Born, Opened, Ended}
 use Rattle.glare_core.specs.declared.facts.Joined.{Joined}
 use Rattle.glare_core.specs.declared.facts.Why.TheVariants.{Near}
 use Rattle.session_flows.specs.Told.{begins_with_a}
-use Rattle.endpoint_model.specs.declared.entry.Entry.{Entry}
 use Rattle.endpoint_model.specs.declared.entry.Entry.TheVariants as entry
 use Rattle.endpoint_model.specs.declared.answers.CallRefusal.TheVariants.{NoSession}
 use Rattle.endpoint_model.specs.Event.{OnFlows, Done, Refused, Event}
-use Rattle.endpoint_model.specs.FlowCall.{OpenFlow, Finish}
+use Rattle.endpoint_model.specs.FlowCall.{OpenFlow}
 use Rattle.flow_history.specs.Deeds.{Context, Name}
-use Rattle.flow_history.specs.Log.{Entry as Tell, Queued, Abandoned, Handed}
+use Rattle.flow_history.specs.Log.{Queued, Abandoned, Handed}
 use Rattle.endpoint_handing.specs.Told.{sending_context, told_onto, AllHaveContext}
 use Rattle.endpoint_handing.specs.Orders.{OpensIt}
 
