@@ -9,7 +9,8 @@ use Rattle.flow_send.specs.Sender.{next_of, queued, waits, message_at, abandoned
 use Rattle.flow_send.proofs.Ends.{next_unfinished}
 use Rattle.flow_send.proofs.Queuings.{allowed}
 use Rattle.flow_send.proofs.Steadies.{steady_new, steady_queued, steady_abandoned, steady_finished}
-use Rattle.flow_exchange.specs.Sending.{Sending, Act, Queues, Abandons, Finishes, acts, queues, abandons}
+use Rattle.flow_exchange.specs.Sending.{Sending, Act, Queues, Abandons, Finishes, acts, queues}
+use Rattle.flow_exchange.specs.Sending.{abandons}
 use Rattle.flow_exchange.specs.Sending.{finishes}
 use Rattle.flow_history.specs.Flow.{alone}
 use Rattle.flow_history.specs.Deeds.{Piece}
