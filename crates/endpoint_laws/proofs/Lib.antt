@@ -59,6 +59,7 @@ pub mod AnswerCarried
 mod Carried
 mod Complete
 mod AllHanded
+mod FlowsWithin
 mod Components
 pub mod EachRow
 mod EventTold

@@ -10,3 +10,4 @@ pub mod Agreed
 pub mod OpensIn
 pub mod Complete
 pub mod Handed
+pub mod Within

@@ -4,6 +4,7 @@
 ghost use Rattle.endpoint_laws.specs.Agreed.{EveryLawfulHistoryIsAgreed, EachEndStatesItsLog, EachPrefixIsAMoment, LogsKeepTheSame};
 ghost use Rattle.endpoint_laws.specs.Complete.{AdmissibleKeyingsBear, KeyingsWithoutCauseOpen};
 ghost use Rattle.endpoint_laws.specs.Handed.{EveryMessageIsHandedOver};
+ghost use Rattle.endpoint_laws.specs.Within.{FlowsAreWithin};
 ghost use Rattle.endpoint_laws.specs.Laws.{EveryLogIsLawful, TheLedgerIsOfTheLog, UsesAreWithin};
 ghost use Rattle.endpoint_laws.specs.OfTheLog.{TheStateIsOfTheLog};
 
@@ -60,4 +61,10 @@ pub fn keyings_without_cause_open()
 /// whatever they answered, no session is left with a message that could be handed over.
 pub fn every_message_is_handed_over()
     ensures { EveryMessageIsHandedOver }
+{}
+
+/// Each session of an end has at most 256 flows in either direction, and their IDs are those of
+/// their places, or rise.
+pub fn flows_are_within()
+    ensures { FlowsAreWithin }
 {}
