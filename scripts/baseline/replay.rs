@@ -1,6 +1,7 @@
 //! A plain Rust program that prints what `rtmfp replay --generate N --steps K` prints: the bar for its speed.
-//! With `--flows` it makes another run instead, of two ends that call on flows, and with `--transfer` one of K megabytes
-//! that go over, of whose datagrams each N-th is lost. With `--script` it prints the script of the run, and with
+//! With `--flows` it makes another run instead, of two ends that call on flows, with `--calls` one of six ends that also
+//! call each other, hang up and move, and with `--transfer` one of K megabytes that go over, of whose datagrams each N-th
+//! is lost. With `--script` it prints the script of the run, and with
 //! `--report` the report of it. Without a seed it reads a script from its input, and prints the report of each line;
 //! with `--datagrams` alone it prints the bytes of each datagram that was sent instead, one a line, in hexadecimal.
 #[path = "replay/crypto.rs"]
@@ -257,11 +258,15 @@ fn run(seed: u64, steps: u64) -> Result<World, (StepFault, u64)> {
     Ok(world)
 }
 
-/// The run of a seed; with `--flows` one that calls on flows; with `--transfer` so many megabytes that go over, of whose
-/// datagrams each so many-th is lost, as the seed says.
+/// The run of a seed; with `--flows` one that calls on flows; with `--calls` one of ends that also call each other, hang
+/// up and move; with `--transfer` so many megabytes that go over, of whose datagrams each so many-th is lost, as the
+/// seed says.
 fn generated(seed: u64, steps: u64, flags: &HashSet<String>) -> Result<World, (StepFault, u64)> {
     if flags.contains("--flows") {
         return random::run(seed, steps);
+    }
+    if flags.contains("--calls") {
+        return random::calls(seed, steps);
     }
     if flags.contains("--transfer") {
         return random::transfer(seed, steps);
@@ -326,7 +331,7 @@ fn task() -> Option<Task> {
         match word.as_str() {
             "--generate" => seed = Some(words.next()?.parse().ok()?),
             "--steps" => steps = Some(words.next()?.parse().ok().filter(|n| *n <= 100_000)?),
-            "--script" | "--report" | "--flows" | "--transfer" => _ = flags.insert(word),
+            "--script" | "--report" | "--flows" | "--calls" | "--transfer" => _ = flags.insert(word),
             "--datagrams" if seed.is_none() && steps.is_none() => return words.next().is_none().then_some(Task::Datagrams),
             _ => return None,
         }

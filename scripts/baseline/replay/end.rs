@@ -351,6 +351,11 @@ impl End {
         self.sessions.values().filter(|s| matches!(s.state, State::Open)).count()
     }
 
+    /// The session IDs of its sessions, those that are closing among them.
+    pub fn nears(&self) -> Vec<u32> {
+        self.sessions.keys().copied().collect()
+    }
+
     // ---- calls
 
     pub fn open(&mut self, peer: Print, list: &[Address], moment: u64, draws: &Draws, out: &mut Vec<Entry>) -> Result<(), Refusal> {

@@ -1,15 +1,20 @@
-//! Scripts of two ends with a session: random ones, which call on its flows while datagrams are lost, repeated and
-//! reordered, and transfers, of which each so many-th datagram is lost.
+//! Scripts of ends with sessions: random ones of two ends, which call on the flows of a session while datagrams are lost,
+//! repeated and reordered; random ones of several, which also call each other, hang up, call again and move in between;
+//! and transfers, of which each so many-th datagram is lost.
 use crate::flow::Options;
 use crate::end::Entry;
+use crate::wire::Host;
 use crate::{address_of, Step, StepFault, World};
 use std::collections::VecDeque;
 
 const MESSAGES: [u64; 8] = [0, 1, 3, 999, 1_000, 1_001, 2_500, 20_000];
 const PARTS: u64 = 100;
+/// How many ends call each other: they can keep twelve sessions and more.
+const CALLERS: usize = 6;
 
 struct Script {
     world: World,
+    ends: usize,
     x: u64,
     line: u64,
     /// How many of a hundred datagrams don't arrive in their order.
@@ -21,16 +26,25 @@ struct Script {
 
 /// A world after a script of so many lines behind the handshake.
 pub fn run(seed: u64, steps: u64) -> Result<World, (StepFault, u64)> {
-    let mut script = Script::new(seed);
+    let mut script = Script::new(seed, 2);
     script.disorder = script.draw(40);
     let done = script.handshake().and_then(|()| script.flow()).and_then(|()| (0..steps).try_for_each(|_| script.go_on()));
     done.map_err(|fault| (fault, script.line))?;
     Ok(script.world)
 }
 
+/// A world of several ends after a script of so many lines behind those of the ends.
+pub fn calls(seed: u64, steps: u64) -> Result<World, (StepFault, u64)> {
+    let mut script = Script::new(seed, CALLERS);
+    script.disorder = script.draw(40);
+    let done = script.meet().and_then(|()| (0..steps).try_for_each(|_| script.call()));
+    done.map_err(|fault| (fault, script.line))?;
+    Ok(script.world)
+}
+
 /// A world after a transfer of so many megabytes, in messages of a million bytes.
 pub fn transfer(lost: u64, megabytes: u64) -> Result<World, (StepFault, u64)> {
-    let mut script = Script::new(0);
+    let mut script = Script::new(0, 2);
     let flow = Step::Flow { end: 0, near: 3, priority: 4, metadata: vec![0x6d], answers: None };
     let done = script.handshake().and_then(|()| script.step(flow));
     let done = done.and_then(|()| (0..megabytes).try_for_each(|_| script.carry(lost)));
@@ -39,8 +53,8 @@ pub fn transfer(lost: u64, megabytes: u64) -> Result<World, (StepFault, u64)> {
 }
 
 impl Script {
-    fn new(seed: u64) -> Self {
-        Script { world: World::new(), x: seed, line: 0, disorder: 0, pending: VecDeque::new(), sent: 0 }
+    fn new(seed: u64, ends: usize) -> Self {
+        Script { world: World::new(), ends, x: seed, line: 0, disorder: 0, pending: VecDeque::new(), sent: 0 }
     }
 
     /// A message goes over: each 50 ms a tick, and then all datagrams but each so many-th.
@@ -77,9 +91,27 @@ impl Script {
         Ok(())
     }
 
+    /// Brings a datagram to the end whose address it was sent to. Where ends move, one of forty comes from another place.
     fn bring(&mut self, number: usize) -> Result<(), StepFault> {
-        let by = self.world.sent[number - 1].by;
-        self.step(Step::Deliver { number, end: 1 - by, from: address_of(by) })
+        let sent = &self.world.sent[number - 1];
+        let (by, to) = (sent.by, sent.to);
+        let Host::V4([.., last]) = to.host else { unreachable!("all ends have short addresses") };
+        let mut from = address_of(by);
+        if self.ends > 2 && self.draw(40) == 0 {
+            from.port += 1 + self.draw(3) as u16;
+        }
+        self.step(Step::Deliver { number, end: usize::from(last) - 1, from })
+    }
+
+    fn end(&mut self) -> usize {
+        self.draw(self.ends as u64) as usize
+    }
+
+    fn meet(&mut self) -> Result<(), StepFault> {
+        (0..self.ends).try_for_each(|end| {
+            let cert = format!("a certificate of e{end}");
+            self.step(Step::End { name: format!("e{end}"), max_peers: 16, max_sessions: 16, cert })
+        })
     }
 
     fn handshake(&mut self) -> Result<(), StepFault> {
@@ -94,33 +126,37 @@ impl Script {
         Ok(())
     }
 
-    /// The session ID at an end: those of lines 3 and 6.
-    fn near(end: usize) -> u32 {
-        [3, 6][end]
+    /// The session ID of one of the sessions at an end, or one that isn't there.
+    fn near(&mut self, end: usize) -> u32 {
+        let nears = self.world.ends[end].nears();
+        let place = self.draw(nears.len() as u64 + u64::from(nears.is_empty())) as usize;
+        nears.get(place).copied().unwrap_or(1)
     }
 
     fn flow(&mut self) -> Result<(), StepFault> {
-        let (end, priority) = (self.draw(2) as usize, self.draw(8) as u8);
+        let (end, priority) = (self.end(), self.draw(8) as u8);
         let metadata = if self.draw(3) == 0 { vec![0x61, 0x62] } else { vec![0x6d] };
         let answers = (self.draw(5) == 0).then(|| self.draw(2));
-        self.step(Step::Flow { end, near: Self::near(end), priority, metadata, answers })
+        let near = self.near(end);
+        self.step(Step::Flow { end, near, priority, metadata, answers })
     }
 
     fn queue(&mut self) -> Result<(), StepFault> {
-        let (end, flow) = (self.draw(2) as usize, self.draw(3));
+        let (end, flow) = (self.end(), self.draw(3));
         let size = MESSAGES[self.draw(8) as usize];
         let now = self.world.moment;
         let deadline = (self.draw(4) == 0).then(|| now + self.draw(2_000));
         let resends = (self.draw(4) == 0).then(|| self.draw(3) as u32);
         let message = (0..size).map(|i| (i % 251) as u8).collect();
         let options = Options { deadline, resends };
-        self.step(Step::Queue { end, near: Self::near(end), flow, options, message })
+        let near = self.near(end);
+        self.step(Step::Queue { end, near, flow, options, message })
     }
 
     /// Brings the next datagram, or loses it, or brings another one, also one that was brought before.
     fn bring_some(&mut self) -> Result<(), StepFault> {
         let Some(next) = self.pending.pop_front() else {
-            let end = self.draw(2) as usize;
+            let end = self.end();
             return self.step(Step::Tick { end });
         };
         if self.draw(PARTS) >= self.disorder {
@@ -140,18 +176,38 @@ impl Script {
         }
     }
 
+    /// A step of ends that call each other, or one that goes on with their messages.
+    fn call(&mut self) -> Result<(), StepFault> {
+        let (end, peer) = (self.end(), self.end());
+        match self.draw(PARTS) {
+            0..=2 => self.step(Step::Open { end, peer, list: vec![address_of(peer)] }),
+            3 if self.draw(4) == 0 => {
+                let near = self.near(end);
+                self.step(Step::Close { end, near })
+            }
+            3 => {
+                let n = 1 + self.draw(6);
+                self.step(Step::Cancel { end, n })
+            }
+            4..=6 => self.flow(),
+            _ => self.go_on(),
+        }
+    }
+
     fn go_on(&mut self) -> Result<(), StepFault> {
-        let end = self.draw(2) as usize;
+        let end = self.end();
         match self.draw(PARTS) {
             0 => self.flow(),
             1..=6 => self.queue(),
             7 => {
                 let (flow, seq) = (self.draw(3), 1 + self.draw(30));
-                self.step(Step::Abandon { end, near: Self::near(end), flow, seq })
+                let near = self.near(end);
+                self.step(Step::Abandon { end, near, flow, seq })
             }
             8 if self.draw(20) == 0 => {
                 let flow = self.draw(3);
-                self.step(Step::Finish { end, near: Self::near(end), flow })
+                let near = self.near(end);
+                self.step(Step::Finish { end, near, flow })
             }
             8..=20 => self.step(Step::Tick { end }),
             21..=26 => {
