@@ -9,13 +9,13 @@ mod endpoint;
 mod flow_calls;
 mod introducing;
 mod kinds;
+pub mod laws;
 mod receiving;
 mod session_ticking;
 mod ticking;
 
 pub use end_state::Outbox;
 pub use endpoint::Endpoint;
-pub use endpoint_laws::laws;
 pub use endpoint_model::{CallRefusal, Config, Draws, Entry, OpenRefusal, Stopped};
 pub use flow_send::{MessageOptions, QueueRefusal};
 pub use introducer::RowRefusal;

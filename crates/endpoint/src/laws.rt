@@ -1,0 +1,11 @@
+//! What holds of every log that an end can stand for, and of every history of many ends: of their
+//! sessions, and of the messages in their flows. The functions do nothing: the contract of each is
+//! its law. They stand in the crates that prove them, and are passed on.
+
+pub use endpoint_handing::laws::{contexts_begin_once, hands_over};
+pub use endpoint_laws::laws::{
+    admissible_keyings_bear, agreed, agreed_logs, every_log_is_lawful,
+    every_message_is_handed_over, flows_are_within, keyings_without_cause_open, ledger_of_the_log,
+    state_of_the_log, uses_are_within,
+};
+pub use flow_exchange::laws::exchange;
