@@ -13,6 +13,7 @@ pub mod Answered
 pub mod Entered
 pub mod Growing
 pub mod Agreeing
+pub mod Handing
 pub mod Refusing
 pub mod Pieces
 pub mod Fetching

@@ -17,6 +17,7 @@ use Rattle.rendezvous_world.specs.History.{bytes_or_none, history_of}
 use Rattle.rendezvous_world.specs.Faults.{is_forged_at, step_fault}
 use Rattle.rendezvous_world.specs.Stepping.{Called, Stepped, StoppedIn, Noted}
 use Rattle.rendezvous_world.specs.Sound.{IsSound, AreBelow}
+use Rattle.rendezvous_world.specs.Handing.{MessagesGoOver}
 use Rattle.rendezvous_world.specs.Kept.{IsWorld}
 
 -- Where what each step keeps holds of a world, its history is lawful, honest and fresh, and each
@@ -28,6 +29,11 @@ EveryWorldIsSound = (w : Seen) → IsWorld w → IsSound w
 -- fits together.
 abbrev pub EveryWorldIsAgreed : Type 0
 EveryWorldIsAgreed = (w : Seen) → IsWorld w → IsAgreed (setup_at w.ends) (history_of w)
+
+-- And the messages of its flows go over: whole, none twice, and in queueing order where a flow is in
+-- that, skipping only abandoned ones.
+abbrev pub EveryWorldHandsOver : Type 0
+EveryWorldHandsOver = (w : Seen) → IsWorld w → MessagesGoOver (setup_at w.ends) (history_of w)
 
 -- A step that isn't refused and calls an end keeps it, whatever the end answered.
 abbrev pub EveryCallKeepsAWorld : Type 0

@@ -10,6 +10,7 @@ pub mod Sound
 pub mod Entering
 pub mod Inside
 pub mod Kept
+pub mod Handing
 pub mod Laws
 pub mod Pairs
 pub mod Edges

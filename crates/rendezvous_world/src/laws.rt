@@ -1,7 +1,7 @@
 //! What holds of every world. The functions do nothing: the contract of each is its law.
 
 ghost use Rattle.rendezvous_world.specs.Kept.{IsWorld};
-ghost use Rattle.rendezvous_world.specs.Laws.{EveryWorldIsSound, EveryWorldIsAgreed, EveryCallKeepsAWorld, EveryForgedDatagramIsDishonest, EveryStepKeepsAWorld, empty_world};
+ghost use Rattle.rendezvous_world.specs.Laws.{EveryWorldIsSound, EveryWorldIsAgreed, EveryWorldHandsOver, EveryCallKeepsAWorld, EveryForgedDatagramIsDishonest, EveryStepKeepsAWorld, empty_world};
 
 /// The history of each world is lawful, honest and fresh, and each end stands for its own log, but
 /// that it may keep a later moment.
@@ -13,6 +13,12 @@ pub fn every_world_is_sound()
 /// together.
 pub fn every_world_is_agreed()
     ensures { EveryWorldIsAgreed }
+{}
+
+/// At each moment each flow of such a world has handed over messages that were queued on it, whole
+/// and none twice; and where it is in queueing order, in this order, skipping only abandoned ones.
+pub fn every_world_hands_over()
+    ensures { EveryWorldHandsOver }
 {}
 
 /// A step that isn't refused and calls an end leaves such a world, whatever the end answered.

@@ -57,6 +57,7 @@ impl World {
     ghost use Rattle.rendezvous_world.specs.Entering.{IsDone};
     ghost use Rattle.rendezvous_world.specs.Faults.{step_fault};
     ghost use Rattle.endpoint_laws.specs.Agreed.{IsAgreed};
+    ghost use Rattle.rendezvous_world.specs.Handing.{MessagesGoOver};
     ghost use Rattle.rendezvous_world.specs.History.{history_of};
     ghost use Rattle.rendezvous_world.specs.Inside.{named_of, passing};
     ghost use Rattle.rendezvous_world.specs.Seen.{setup_at};
@@ -102,9 +103,11 @@ impl World {
         ensures err { OnErr result ((self.new ≡ self.old) ⊎
             (StoppedIn self.old line step.now self.new ⊎ Noted self.old step.now self.new)) }
 
-        // The history of the journal is lawful, honest and fresh, and hence agreed.
+        // The history of the journal is lawful, honest and fresh, hence agreed, and the messages of
+        // its flows go over.
         ensures sound { IsSound self.new }
         ensures agreed { IsAgreed (setup_at self.new.ends) (history_of self.new) }
+        ensures go_over { MessagesGoOver (setup_at self.new.ends) (history_of self.new) }
     {
         let result = self.take_step(line, step);
         self.keeps();
@@ -115,6 +118,7 @@ impl World {
     fn keeps(&self)
         ensures sound { IsSound self.now }
         ensures agreed { IsAgreed (setup_at self.now.ends) (history_of self.now) }
+        ensures go_over { MessagesGoOver (setup_at self.now.ends) (history_of self.now) }
     {
         // This is read for the prover alone, which finds here what holds of every world.
         let _moment = &self.moment;
@@ -157,11 +161,12 @@ impl World {
     }
 
     /// What the steps did. At any moment the history of the journal is lawful, honest and fresh,
-    /// and hence agreed.
+    /// hence agreed, and the messages of its flows go over.
     pub fn journal(&self) -> &Journal
         ensures lines { result.now ≡ self.now.lines }
         ensures sound { IsSound self.now }
         ensures agreed { IsAgreed (setup_at self.now.ends) (history_of self.now) }
+        ensures go_over { MessagesGoOver (setup_at self.now.ends) (history_of self.now) }
     {
         self.keeps();
         &self.journal

@@ -5,6 +5,7 @@ use Rattle.rendezvous_world.specs.Laws.{empty_world}
 use Rattle.rendezvous_world.proofs.Keeping.{new_world}
 use Rattle.rendezvous_world.proofs.Sounds.{every_world_is_sound}
 use Rattle.rendezvous_world.proofs.Agreeing.{agreed}
+use Rattle.rendezvous_world.proofs.Handing.{hands_over}
 use Rattle.rtmfp_play.specs.Play.{HistoryHolds, Plays}
 use Rattle.rtmfp_cli.specs.declared.doing.Doing.{Doing}
 use Rattle.rtmfp_cli.specs.declared.doing.Doing.TheVariants.{Showing, Playing}
@@ -13,7 +14,7 @@ use Rattle.rtmfp_cli.specs.Script.{Runs}
 
 -- a run begins with a world that holds
 pub empty_holds : HistoryHolds empty_world
-empty_holds = record { sound = every_world_is_sound empty_world new_world; agreed = agreed empty_world new_world }
+empty_holds = record { sound = every_world_is_sound empty_world new_world; agreed = agreed empty_world new_world; go_over = hands_over empty_world new_world }
 
 plays_holds : (w : Seen) (n : ℕ) (line : List ℕ) (t : Seen) (text : List ℕ) → HistoryHolds w → Plays w n line t text → HistoryHolds t
 plays_holds w n line t text holds plays =

@@ -1,8 +1,9 @@
 //! What holds of all runs over lines. The functions do nothing: the contract of each is its law.
 ghost use Rattle.rtmfp_cli.specs.Laws.{EachScriptHasOneRun, EachTextIsTheReport, EveryRunHolds, Limits};
 
-/// No run of a script leaves two ends that keep different sessions with each other: its history is
-/// lawful, honest and fresh, and so it is agreed.
+/// No run of a script leaves two ends that keep different sessions with each other, or a flow that
+/// handed over what wasn't queued on it, a part of a message, or a message twice or out of order: its
+/// history is lawful, honest and fresh, and so it is agreed, and messages go over.
 pub fn every_run_holds()
     ensures { EveryRunHolds }
 {}

@@ -14,6 +14,7 @@ use Rattle.rendezvous_world.specs.declared.journal.Refused.{Refused}
 use Rattle.rendezvous_world.specs.declared.journal.Refused.TheVariants.{Open as OpenRefused, Call as CallRefused, Row as RowRefused}
 use Rattle.endpoint_laws.specs.Agreed.{IsAgreed}
 use Rattle.rendezvous_world.specs.Seen.{Seen, group_secret, setup_at}
+use Rattle.rendezvous_world.specs.Handing.{MessagesGoOver}
 use Rattle.rendezvous_world.specs.History.{history_of}
 use Rattle.rendezvous_world.specs.Sound.{IsSound}
 use Rattle.rendezvous_world.specs.Inside.{named_of}
@@ -108,10 +109,12 @@ report_since w t = told_next (names_of t) (length (sent_in w.lines))
 -- ---- what is made of line n
 
 -- What holds of a world after each line: each end stands for its own log, but that it may keep a
--- later moment, the history is lawful, honest and fresh, and hence agreed.
+-- later moment; the history is lawful, honest and fresh, and hence agreed; and the messages of its
+-- flows go over.
 pub record HistoryHolds (w : Seen) : Type 0 where
   pub sound : IsSound w
   pub agreed : IsAgreed (setup_at w.ends) (history_of w)
+  pub go_over : MessagesGoOver (setup_at w.ends) (history_of w)
 
 -- The line says a step, which was done whole; this is the report of it, and the history holds.
 pub record PlaysStep (w : Seen) (n : ℕ) (line : List ℕ) (t : Seen) (text : List ℕ) : Type 0 where

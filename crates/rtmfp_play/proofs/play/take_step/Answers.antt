@@ -8,7 +8,7 @@ use Rattle.rtmfp_play.proofs.play.take_step.Goals as goal
 pub returns-in_ok-push_line-in-Ok-clause-stepped : goal.returns-in_ok-push_line-in-Ok-clause-stepped
 returns-in_ok-push_line-in-Ok-clause-stepped c = (
   c.in-Ok.ensures.ok,
-  record { sound = c.step.ensures.sound; agreed = c.step.ensures.agreed },
+  record { sound = c.step.ensures.sound; agreed = c.step.ensures.agreed; go_over = c.step.ensures.go_over },
   c.in_ok-push_line-in-Ok.ensures.text ∙ ap (λ (x : List ℕ). c.args.text.now ++ x) (told_same _ _ _ _ _ _ c.named.ensures c.in_ok-sent.ensures
       (ap (λ (xs : List JournalLine). slice_get xs (length c.lines-lines.result.now)) (c.lines.ensures ∙ c.journal-in-Ok.ensures.lines)
       ∙ ap (λ (xs : List JournalLine). slice_get c.step.new.self.lines (length xs)) (c.lines-lines.ensures ∙ c.journal.ensures.lines))),
