@@ -1,11 +1,12 @@
 -- Bytes without LF.
-use Rattle.std.proofs.Common.{◌≡◌, ◌≢◌, ℕ, zero, suc, ◌+◌, ◌<◌, ◌≤◌, List, [], ◌∷◌, ◌++◌, length, take, drop, get_or, sym, ap, ◌∙◌, arith, subst, Some, None, Option, eq-eqb}
+use Rattle.std.proofs.Common.{◌≡◌, ◌≢◌, ℕ, zero, suc, ◌+◌, ◌<◌, ◌≤◌, List, [], ◌∷◌, ◌++◌, length, take, drop, get_or, refl, sym, ap, ◌∙◌, arith, subst, Some, None, Option, eq-eqb}
 use Rattle.std.proofs.lemmas.Bool.{eqb-true}
-use Rattle.std.proofs.Math.Seq.{take-length, drop-cons}
+use Rattle.std.proofs.Math.Seq.{take-length, drop-cons, drop-length}
 use Rattle.std.proofs.lemmas.List.{take-append-drop, length-drop, length-take-le, get_or-drop}
 use Rattle.memchr.specs.Find.{IsFirstByte, Passes, is_byte}
-use Rattle.rtmfp_lines.specs.Lines.{NoLf}
-use Rattle.rtmfp_lines.specs.Reading.{IsFirstLf, IsTooLong, StartsWithLine}
+use Rattle.rtmfp_lines.specs.Lines.{NoLf, lines_of}
+use Rattle.rtmfp_lines.specs.Reading.{IsFirstLf, IsTooLong, Splits, StartsWithLine}
+use Rattle.rtmfp_lines.proofs.LinesLaws.{lines_of-lf, lines_of-last}
 
 pub no_lf_from : (bs : List ℕ) (n : ℕ) → ((k : ℕ) → k < n → get_or bs k 0 ≢ 10) → NoLf (take n bs)
 no_lf_from bs zero h = tt
@@ -64,3 +65,27 @@ found_long limit scanned i bs none first long within =
 
 pub found_none : (scanned : ℕ) (bs : List ℕ) → NoLf (take scanned bs) → IsFirstLf (drop scanned bs) None → NoLf bs
 found_none scanned bs none first = subst NoLf (take-append-drop scanned bs) (no_lf-append (take scanned bs) (drop scanned bs) none first)
+
+-- the first line of a text, and what stands behind its LF
+pub split_first : (text line rest : List ℕ) (i : ℕ) → IsFirstLf text (Some i) → line ≡ take i text → rest ≡ drop (i + 1) text → Splits text line rest
+split_first text line rest i first l r =
+    let P : ℕ → Type 0 = λ n. StartsWithLine (length text) text n in
+    let same : 0 + i ≡ i = omega arith in
+    let starts : StartsWithLine (length text) text i = subst P same (found_line (length text) 0 i text tt first (omega (arith, first.0)) (omega arith)) in
+    let lines : lines_of text ≡ take i text ∷ lines_of (drop (i + 1) text) =
+    ap lines_of starts.joined ∙ lines_of-lf (take i text) (drop (i + 1) text) first.1 in
+    record {
+      lines = lines ∙ ap (λ xs. xs ∷ lines_of (drop (i + 1) text)) (sym l) ∙ ap (λ xs. line ∷ lines_of xs) (sym r);
+      shorter = omega (arith, ap length r, length-drop (i + 1) text, first.0);
+    }
+
+-- a last line without LF
+pub split_last : (text line rest : List ℕ) → NoLf text → text ≢ [] → line ≡ take (length text) text → rest ≡ drop (length text) text → Splits text line rest
+split_last [] line rest free some l r = absurd (some refl)
+split_last (b ∷ text) line rest free some l r =
+    let all : line ≡ b ∷ text = l ∙ take-length (b ∷ text) in
+    let none : rest ≡ [] = r ∙ drop-length (b ∷ text) in
+    record {
+      lines = lines_of-last b text free ∙ ap (λ xs. xs ∷ []) (sym all) ∙ ap (λ xs. line ∷ lines_of xs) (sym none);
+      shorter = omega (arith, ap length none);
+    }

@@ -5,7 +5,7 @@ use Rattle.rtmfp_lines.specs.declared.lines.Found.{Found}
 use Rattle.rtmfp_lines.specs.declared.lines.Found.TheVariants as found
 use Rattle.rtmfp_lines.specs.declared.lines.Next.{Next}
 use Rattle.rtmfp_lines.specs.declared.lines.Next.TheVariants as next
-use Rattle.rtmfp_lines.specs.Lines.{NoLf}
+use Rattle.rtmfp_lines.specs.Lines.{NoLf, lines_of}
 use Rattle.rtmfp_host.specs.Seen.{SourceSeen}
 use Rattle.rtmfp_lines.specs.Outside.{Outside, NothingFailed, SourceFailed, SinkFailed}
 
@@ -28,6 +28,11 @@ IsPart limit bytes = (length bytes ≤ limit) × NoLf bytes
 abbrev pub IsFirstLf : List ℕ → Option ℕ → Type 0
 IsFirstLf bytes None = NoLf bytes
 IsFirstLf bytes (Some i) = (i < length bytes) × NoLf (take i bytes) × (slice_index bytes i ≡ 10)
+
+-- the first line of a text, and what stands behind it
+pub record Splits (text line rest : List ℕ) : Type 0 where
+  pub lines : lines_of text ≡ line ∷ lines_of rest
+  pub shorter : length rest < length text
 
 abbrev pub Finds : ℕ → List ℕ → Found → Type 0
 Finds limit bytes (found.Line len) = StartsWithLine limit bytes len

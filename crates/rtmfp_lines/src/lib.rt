@@ -8,5 +8,5 @@ mod lines;
 mod status;
 
 pub use buffer::Buffer;
-pub use lines::{Next, next_line};
+pub use lines::{Next, first_line, next_line};
 pub use status::Status;

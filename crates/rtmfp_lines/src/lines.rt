@@ -1,9 +1,9 @@
 //! Lines read from a source in whatever pieces it gives.
-ghost use Rattle.std.specs.Prelude.{◌≡◌, ◌+◌, ◌*◌, ◌^◌, ◌<◌, ◌≤◌, [], length, take, drop};
+ghost use Rattle.std.specs.Prelude.{◌≡◌, ◌+◌, ◌*◌, ◌^◌, ◌<◌, ◌≤◌, [], length, take, drop, MatchOption};
 ghost use Rattle.rtmfp_host.specs.Writing.{Appends};
 ghost use Rattle.rtmfp_lines.specs.Lines.{NoLf};
 ghost use Rattle.rtmfp_lines.specs.Outside.{outside};
-ghost use Rattle.rtmfp_lines.specs.Reading.{Asks, Finds, IsFirstLf, NextFaults, ReadsLine};
+ghost use Rattle.rtmfp_lines.specs.Reading.{Asks, Finds, IsFirstLf, NextFaults, ReadsLine, Splits};
 
 use crate::buffer::Buffer;
 use memchr::memchr;
@@ -40,6 +40,24 @@ fn first_lf(bytes: &[u8]) -> Option<usize>
     ensures { IsFirstLf bytes.now result }
 {
     memchr(b'\n', bytes)
+}
+
+/// The first line of a text, without its LF, and what stands behind it; nothing where there is no
+/// byte. A last line without LF is a line.
+pub fn first_line(text: &[u8]) -> Option<(&[u8], &[u8])>
+    ensures { MatchOption result (text.now ≡ []) (λ p. Splits text.now p.0.now p.1.now) }
+{
+    if text.is_empty() {
+        return None;
+    }
+    match first_lf(text) {
+        Some(end) => {
+            let (line, _) = text.split_at(end);
+            let (_, rest) = text.split_at(end + 1);
+            Some((line, rest))
+        }
+        None => Some(text.split_at(text.len())),
+    }
 }
 
 /// The index of the first LF behind the first `scanned` bytes, counted from there.
