@@ -7,3 +7,4 @@ pub mod Scanning
 pub mod Meeting
 pub mod Openings
 pub mod Serving
+pub mod Commanding

@@ -1,4 +1,5 @@
 pub mod Words
+pub mod CommandLine
 pub mod Reading
 pub mod Items
 pub mod ItemReading

@@ -29,15 +29,15 @@ pub record IsGenerate (words : List (String Global)) (seed steps : ℕ) : Type 0
       (map string_bytes words ≡ codes "replay" ∷ (seed_parts ++ steps_parts)) ⊎
       (map string_bytes words ≡ codes "replay" ∷ (steps_parts ++ seed_parts))
 
--- words that say no command
-pub record IsFaulty (words : List (String Global)) : Type 0 where
+-- words that say none of these
+pub record IsOther (words : List (String Global)) : Type 0 where
   pub not_show : IsShow words → ⊥
   pub not_replay : IsReplay words → ⊥
   pub not_generate : (seed steps : ℕ) → IsGenerate words seed steps → ⊥
 
 -- what the words say
 abbrev pub Reads : List (String Global) → Option Command → Type 0
-Reads words None = IsFaulty words
+Reads words None = IsOther words
 Reads words (Some Show) = IsShow words
 Reads words (Some Replay) = IsReplay words
 Reads words (Some (Generate seed steps)) = IsGenerate words seed steps

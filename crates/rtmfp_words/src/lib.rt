@@ -2,6 +2,7 @@
 #![tactic(auto)]
 
 mod command;
+mod command_line;
 mod fault;
 mod meet_words;
 mod opening_words;
@@ -12,6 +13,7 @@ mod values;
 mod words;
 
 pub use command::{Command, read_command};
+pub use command_line::{CommandLine, read_command_line};
 pub use fault::WordsFault;
 pub use meet_words::{MeetWords, read_meet_words};
 pub use opening_words::OpeningWords;
