@@ -1,0 +1,5 @@
+pub mod Pushed
+pub mod Written
+pub mod Going
+pub mod Stepping
+pub mod Runs
