@@ -6,6 +6,8 @@
 #[cfg(test)]
 mod machine;
 #[cfg(test)]
+mod meeting;
+#[cfg(test)]
 mod memory;
 #[cfg(test)]
 mod words;

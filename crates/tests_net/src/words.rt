@@ -1,6 +1,9 @@
-//! The words of `serve` and `meet`: lists that are in the grammar, and each one step away from it.
+//! The words of `serve` and `meet`, and whole command lines: lists that are in the grammar, and each
+//! one step away from it.
 
-use rtmfp_words::{WordsFault, read_meet_words, read_serve_words};
+use rtmfp_words::{
+    Command, CommandLine, WordsFault, read_command_line, read_meet_words, read_serve_words,
+};
 use std::alloc::Global;
 use std::test::Fail;
 
@@ -83,6 +86,35 @@ meet = none
 met --port 1 --turns 1 = none
 ";
 
+/// Rows of whole command lines, with the command behind `=`.
+const LINES: &str = "\
+show = show
+replay = replay
+replay --generate 7 --steps=5 = generate
+serve 10.0.0.1:1 P name --turns 5 = serve
+serve --turns=5 --introduce 10.0.0.1:1 P name = serve
+meet --port 40100 --turns 200 = meet
+serve 10.0.0.1:1 P name --turns 0 = none
+serve 10.0.0.1:1 P name --turns 5 --steps 5 = none
+meet --port 40100 --turns 200 serve = none
+meet --port 40100 --turns 200 --generate 7 = none
+show --turns 5 = none
+replay --turns 5 = none
+replay --port 5 --turns 5 = none
+--turns 5 --port 5 meet = none
+audit = none
+play = none
+help = none
+--help = none
+-- = none
+-- show = none
+Show = none
+Meet --port 40100 --turns 200 = none
+ = none
+ show = none
+show  = none
+";
+
 /// The words of a row.
 fn words_of(alloc: Global, text: &str) -> Result<Vec<String>, Fail> {
     let digits = "0123456789abcdef0123456789abcdef";
@@ -130,6 +162,31 @@ fn met(alloc: Global, words: &[String]) -> Result<String, Fail> {
     Ok(format!(in alloc; "{port} {turns}")?)
 }
 
+/// The command that words say.
+fn said(alloc: Global, words: &[String]) -> &'static str {
+    match read_command_line(alloc, words) {
+        Ok(CommandLine::Lines(Command::Show)) => "show",
+        Ok(CommandLine::Lines(Command::Replay)) => "replay",
+        Ok(CommandLine::Lines(Command::Generate { .. })) => "generate",
+        Ok(CommandLine::Serve(_)) => "serve",
+        Ok(CommandLine::Meet(_)) => "meet",
+        Err(WordsFault::Faulty) => "none",
+        Err(WordsFault::Memory) => "memory",
+    }
+}
+
+/// The first row that is wrong.
+fn wrong_line(alloc: Global) -> Result<Option<&'static str>, Fail> {
+    for row in LINES.lines() {
+        let (text, wanted) = row.rsplit_once(" = ").unwrap_or(("", ""));
+        let words = words_of(alloc, text)?;
+        if said(alloc, words.as_slice()) != wanted {
+            return Ok(Some(row));
+        }
+    }
+    Ok(None)
+}
+
 /// The first row that is wrong.
 fn wrong_serve(alloc: Global) -> Result<Option<&'static str>, Fail> {
     for row in SERVE.lines() {
@@ -163,5 +220,12 @@ fn words_of_serve_are_these(rt: HostRuntime) -> Result<(), Fail> {
 #[test]
 fn words_of_meet_are_these(rt: HostRuntime) -> Result<(), Fail> {
     assert_eq!(rt; wrong_meet(rt.alloc())?, None);
+    Ok(())
+}
+
+#[test]
+fn command_lines_are_these(rt: HostRuntime) -> Result<(), Fail> {
+    assert_eq!(rt; wrong_line(rt.alloc())?, None);
+    assert!(rt; said(rt.alloc(), &[]) == "none");
     Ok(())
 }
