@@ -1,0 +1,243 @@
+-- Runs, turn by turn.
+use Rattle.std.proofs.Common.{◌≡◌, ◌≢◌, ◌⊎◌, inl, inr, ℕ, ◌+◌, ◌<◌, List, [], ◌∷◌, ◌++◌, drop, take, length, refl, sym, ap, ◌∙◌, append-nil, subst, Option, Some, None, add-one, arith}
+use Rattle.identity.specs.Certificates.{IsCertificate}
+use Rattle.rtmfp_host.specs.Faults.{Rose}
+use Rattle.rtmfp_host.specs.Linking.{LinkSeen, Calls}
+use Rattle.rtmfp_host.specs.Ticking.{Clock}
+use Rattle.rtmfp_host.specs.Drawing.{EntropySeen, next_block}
+use Rattle.rtmfp_host.specs.Seen.{SinkSeen}
+use Rattle.rtmfp_host.specs.declared.link.LinkCall.TheVariants.{Bind}
+use Rattle.endpoint_model.specs.Event.{Event, Setup}
+use Rattle.endpoint_model.specs.State.{State, fresh}
+use Rattle.endpoint_model.specs.Log.{StandsFor}
+use Rattle.endpoint_laws.specs.Laws.{AreCalls, IsSetup}
+use Rattle.endpoint_laws.proofs.Logged.{every_log_is_lawful}
+use Rattle.rtmfp_report.specs.EntryText.{sent_after}
+use Rattle.rtmfp_words.specs.Node.{Serving}
+use Rattle.rtmfp_node.specs.declared.served.Served.{Served}
+use Rattle.rtmfp_node.specs.declared.served.Served.TheVariants.{Done, Memory, LinkFault, SinkFault, EntropyFault}
+use Rattle.rtmfp_node.specs.Outside.{Counted, Outside, PassesOn, outside, Told, Leaves}
+use Rattle.rtmfp_node.specs.Events.{ExtendsBy, entries_of}
+use Rattle.rtmfp_node.specs.Turn.{Run, Turn, TurnZero, Turns, after_bind}
+use Rattle.rtmfp_node.specs.Cut.{CutAtZero, CutBy, Untouched}
+use Rattle.rtmfp_node.specs.Whole.{CutAtStart, CutLater, CutRun, Ends, OnlyBound, Ran, instance_in, setup_of}
+use Rattle.rtmfp_node.specs.Acting.{Drew, Follows, TurnDone, TurnEnds, TurnsCut, TurnsDone, TurnsEnd, ZeroDone, ZeroEnds}
+use Rattle.rtmfp_node.proofs.Acts.{calls_sized, counted_more, entries_of_more, extends_more, extends_none, sent_after_more}
+use Rattle.rtmfp_node.proofs.Told.{By, by_after, by_call, by_draw, by_leaves, by_none, by_then, leaves_map}
+use Rattle.rtmfp_node.proofs.Turning.{undrawn}
+
+-- ---- turns
+
+pub turns_none : (v : Serving) (count : ℕ) (s : State) (o : Outside) → TurnsDone v 0 count s s count o o
+turns_none v count s o = record {
+  log = [];
+  stands = extends_none s;
+  sized = tt;
+  counted = refl;
+  leaves = by_leaves (λ x y. Turns v 0 count x y []) by_none (λ x h. (refl, refl));
+}
+
+pub turns_more : (v : Serving) (n count middle later : ℕ) (s t u : State) (a b c : Outside) → TurnsDone v n count s t middle a b → TurnDone v (n + 1) middle t u later b c → TurnsDone v (n + 1) count s u later a c
+turns_more v n count middle later s t u a b c p q = record {
+  log = p.log ++ q.log;
+  stands = extends_more s t u p.log q.log p.stands q.stands;
+  sized = calls_sized p.log q.log p.sized q.sized;
+  counted = q.counted ∙ ap (λ k. sent_after k (entries_of q.log)) p.counted ∙ counted_more count p.log q.log;
+  leaves = record {
+    back = λ now tells.
+        let two = q.leaves.back now tells in
+        let one = p.leaves.back two.0 two.1 in
+        let last = subst (λ k. Turn v (n + 1) k two.0 now q.log) p.counted two.2 in
+        (one.0, one.1, subst (λ k. Turns v k count one.0 now (p.log ++ q.log)) (sym (add-one n)) (two.0, p.log, q.log, one.2, last, refl));
+  };
+}
+
+turns_cut : (r : Served) (v : Serving) (n count middle : ℕ) (s t : State) (a b c : Outside) → n < v.turns → TurnsDone v n count s t middle a b → Leaves (CutBy r v (n + 1) middle t) b c →
+    Leaves (TurnsCut r v count s) a c
+turns_cut r v n count middle s t a b c fewer p q = record {
+  back = λ now tells.
+      let two = q.back now tells in
+      let one = p.leaves.back two.0 two.1 in (
+        one.0,
+        one.1,
+        record {
+          turns = n;
+          fewer = fewer;
+          middle = two.0;
+          log = p.log;
+          left = t;
+          whole = one.2;
+          stands = p.stands;
+          sized = p.sized;
+          cut = subst (λ k. CutBy r v (n + 1) k t two.0 now) p.counted two.2;
+        },
+      );
+}
+
+pub turns_stopped : (r : Served) (v : Serving) (n count middle later last : ℕ) (s t u w : State) (a b c : Outside) → r ≢ Done → n < v.turns → TurnsDone v n count s t middle a b →
+    TurnEnds r v (n + 1) middle t u later b c → TurnsEnd r v count s w last a c
+turns_stopped Done v n count middle later last s t u w a b c other fewer p q = absurd (other refl)
+turns_stopped Memory v n count middle later last s t u w a b c other fewer p q = turns_cut Memory v n count middle s t a b c fewer p q
+turns_stopped LinkFault v n count middle later last s t u w a b c other fewer p q = turns_cut LinkFault v n count middle s t a b c fewer p q
+turns_stopped SinkFault v n count middle later last s t u w a b c other fewer p q = turns_cut SinkFault v n count middle s t a b c fewer p q
+turns_stopped EntropyFault v n count middle later last s t u w a b c other fewer p q = turns_cut EntropyFault v n count middle s t a b c fewer p q
+
+pub turn_done : (r : Served) (v : Serving) (turn count later : ℕ) (s t : State) (a b : Outside) → r ≡ Done → TurnEnds r v turn count s t later a b → TurnDone v turn count s t later a b
+turn_done r v turn count later s t a b is p = subst (λ (k : Served). TurnEnds k v turn count s t later a b) is p
+
+pub zero_is_done : (r : Served) (v : Serving) (later : ℕ) (s t : State) (a b : Outside) → r ≡ Done → ZeroEnds r v s t later a b → ZeroDone v s t later a b
+zero_is_done r v later s t a b is p = subst (λ (k : Served). ZeroEnds k v s t later a b) is p
+
+-- ---- the whole run
+
+-- turn 0 and some turns, after the first draw and the bind
+abbrev ran_of : (v : Serving) (n : ℕ) (block : List ℕ) (s t u : State) (first log : List Event) (x opened y : Told) → IsSetup (setup_of v block) → StandsFor (setup_of v block) [] s → block ≡ next_block x.blocks →
+    ExtendsBy s t first → ExtendsBy t u log → AreCalls first → AreCalls log → TurnZero v (after_bind v x) opened first → Turns v n (sent_after 0 (entries_of first)) opened y log → Ran v n x y
+ran_of v n block s t u first log x opened y is begins same one two sized_one sized_two zero others =
+    let setup : setup_of v block ≡ setup_of v (next_block x.blocks) = ap (setup_of v) same in
+    let stands = subst (λ (k : Setup). StandsFor k (first ++ log) u) setup (extends_more s t u first log one two (setup_of v block) [] begins) in record {
+      log = first ++ log;
+      state = u;
+      run = record { opened = opened; first = first; later = log; turn_zero = zero; others = others; whole = refl };
+      stands = stands;
+      lawful =
+          every_log_is_lawful (setup_of v (next_block x.blocks)) (first ++ log) u (subst (λ (k : Setup). IsSetup k) setup is) (calls_sized first log sized_one sized_two) stands;
+    }
+
+-- the first draw and the bind, and then what leaves this
+begins_with : (P : Told → Told → Type 0) (v : Serving) (block : List ℕ) (l l1 : LinkSeen) (c : Option Clock) (b b1 : EntropySeen) (k : SinkSeen) (o : Outside) → Drew b.blocks b1.blocks block → Calls l.line l1.line (Bind v.bind) →
+    Leaves P (outside l1 c b1 k) o → Leaves (λ x y. (block ≡ next_block x.blocks) × P (after_bind v x) y) (outside l c b k) o
+begins_with P v block l l1 c b b1 k o drew bound rest =
+    leaves_map (by_after (by_then (by_draw block l c b b1 k drew) (by_call (Bind v.bind) l l1 c b1 k bound)) rest) (λ x y f. (f.0.0, f.1))
+
+pub only_bound : (v : Serving) (block : List ℕ) (l l1 : LinkSeen) (c : Option Clock) (b b1 : EntropySeen) (k : SinkSeen) → Drew b.blocks b1.blocks block → Calls l.line l1.line (Bind v.bind) →
+    Leaves (OnlyBound v) (outside l c b k) (outside l1 c b1 k)
+only_bound v block l l1 c b b1 k drew bound =
+    by_leaves (OnlyBound v) (by_then (by_draw block l c b b1 k drew) (by_call (Bind v.bind) l l1 c b1 k bound)) (λ x f. record { calls = refl; text = refl })
+
+-- turn 0 was cut
+bound_then : (v : Serving) (x y : Told) → Untouched (after_bind v x) y → OnlyBound v x y
+bound_then v x y h = record { calls = ap (λ l. l.calls) h.line; text = h.text }
+
+start_cut : (r : Served) (v : Serving) (block : List ℕ) (x y : Told) → block ≡ next_block x.blocks → CutAtZero r v (fresh (setup_of v block)) (after_bind v x) y → CutAtStart r v x y
+start_cut Done v block x y same cut = absurd cut
+start_cut Memory v block x y same (inl cut) = inl (bound_then v x y cut)
+start_cut Memory v block x y same (inr cut) =
+    inr (subst (λ k. CutAtZero Memory v (fresh (setup_of v k)) (after_bind v x) y) same (inr cut))
+start_cut LinkFault v block x y same cut = absurd cut
+start_cut SinkFault v block x y same cut = subst (λ k. CutAtZero SinkFault v (fresh (setup_of v k)) (after_bind v x) y) same cut
+start_cut EntropyFault v block x y same cut = inr (bound_then v x y cut)
+
+zero_cut_run : (r : Served) (v : Serving) (block : List ℕ) (l l1 : LinkSeen) (c : Option Clock) (b b1 : EntropySeen) (k : SinkSeen) (o : Outside) → Drew b.blocks b1.blocks block → Calls l.line l1.line (Bind v.bind) →
+    Leaves (CutAtZero r v (fresh (setup_of v block))) (outside l1 c b1 k) o → Leaves (CutRun r v) (outside l c b k) o
+zero_cut_run r v block l l1 c b b1 k o drew bound cut =
+    leaves_map (begins_with (CutAtZero r v (fresh (setup_of v block))) v block l l1 c b b1 k o drew bound cut) (λ x y f. inl (start_cut r v block x y f.0 f.1))
+
+pub stopped_at_zero : (r : Served) (v : Serving) (block : List ℕ) (later : ℕ) (s t : State) (l l1 : LinkSeen) (c : Option Clock) (b b1 : EntropySeen) (k : SinkSeen) (o : Outside) → r ≢ Done → Drew b.blocks b1.blocks block →
+    Calls l.line l1.line (Bind v.bind) → s ≡ fresh (setup_of v block) → ZeroEnds r v s t later (outside l1 c b1 k) o → Ends r v (outside l c b k) o
+stopped_at_zero Done v block later s t l l1 c b b1 k o other drew bound is cut = absurd (other refl)
+stopped_at_zero Memory v block later s t l l1 c b b1 k o other drew bound is cut =
+    zero_cut_run Memory v block l l1 c b b1 k o drew bound (subst (λ (z : State). Leaves (CutAtZero Memory v z) (outside l1 c b1 k) o) is cut)
+stopped_at_zero LinkFault v block later s t l l1 c b b1 k o other drew bound is cut =
+    zero_cut_run LinkFault v block l l1 c b b1 k o drew bound (subst (λ (z : State). Leaves (CutAtZero LinkFault v z) (outside l1 c b1 k) o) is cut)
+stopped_at_zero SinkFault v block later s t l l1 c b b1 k o other drew bound is cut =
+    zero_cut_run SinkFault v block l l1 c b b1 k o drew bound (subst (λ (z : State). Leaves (CutAtZero SinkFault v z) (outside l1 c b1 k) o) is cut)
+stopped_at_zero EntropyFault v block later s t l l1 c b b1 k o other drew bound is cut =
+    zero_cut_run EntropyFault v block l l1 c b b1 k o drew bound (subst (λ (z : State). Leaves (CutAtZero EntropyFault v z) (outside l1 c b1 k) o) is cut)
+
+-- ---- all the turns, or some of them
+
+module _ (v : Serving) (block : List ℕ) (count : ℕ) (s t : State) (l l1 : LinkSeen) (c : Option Clock) (b b1 : EntropySeen) (k : SinkSeen) (opened o : Outside)
+    (is : IsSetup (setup_of v block)) (begins : StandsFor (setup_of v block) [] s) (drew : Drew b.blocks b1.blocks block) (bound : Calls l.line l1.line (Bind v.bind))
+    (zero : ZeroDone v s t count (outside l1 c b1 k) opened) where
+  ran_whole : (later : ℕ) (u : State) → TurnsDone v v.turns count t u later opened o → Leaves (Ran v v.turns) (outside l c b k) o
+  ran_whole later u all =
+      leaves_map
+      (begins_with (λ x y. (middle : Told) × TurnZero v x middle zero.log × Turns v v.turns count middle y all.log) v block l l1 c b b1 k o drew bound (record {
+        back = λ now tells.
+            let two = all.leaves.back now tells in
+            let one = zero.leaves.back two.0 two.1 in
+            (one.0, one.1, (two.0, one.2, two.2));
+      }))
+      (λ x y f.
+      ran_of v v.turns block s t u zero.log all.log x f.1.0 y is begins f.0 zero.stands all.stands zero.sized all.sized f.1.1
+      (subst (λ j. Turns v v.turns j f.1.0 y all.log) zero.counted f.1.2))
+
+  later_cut : (r : Served) (x y : Told) → block ≡ next_block x.blocks → (middle : Told) → TurnZero v (after_bind v x) middle zero.log → TurnsCut r v count t middle y → CutRun r v x y
+  later_cut r x y same middle first cut =
+      let counted : sent_after 0 (entries_of zero.log) ≡ count = sym zero.counted in
+      inr (record {
+        turns = cut.turns;
+        fewer = cut.fewer;
+        middle = cut.middle;
+        ran =
+            ran_of v cut.turns block s t cut.left zero.log cut.log x middle cut.middle is begins same zero.stands cut.stands zero.sized cut.sized first
+            (subst (λ j. Turns v cut.turns j middle cut.middle cut.log) zero.counted cut.whole);
+        cut =
+            subst (λ j. CutBy r v (cut.turns + 1) j cut.left cut.middle y)
+            (ap (λ j. sent_after j (entries_of cut.log)) zero.counted ∙ counted_more 0 zero.log cut.log) cut.cut;
+      })
+
+  ran_cut : (r : Served) → Leaves (TurnsCut r v count t) opened o → Leaves (CutRun r v) (outside l c b k) o
+  ran_cut r cut =
+      leaves_map
+      (begins_with (λ x y. (middle : Told) × TurnZero v x middle zero.log × TurnsCut r v count t middle y) v block l l1 c b b1 k o drew bound (record {
+        back = λ now tells.
+            let two = cut.back now tells in
+            let one = zero.leaves.back two.0 two.1 in
+            (one.0, one.1, (two.0, one.2, two.2));
+      }))
+      (λ x y f. later_cut r x y f.0 f.1.0 f.1.1 f.1.2)
+
+  pub run_ends : (r : Served) (later : ℕ) (u : State) → TurnsEnd r v count t u later opened o → Ends r v (outside l c b k) o
+  run_ends Done later u all = ran_whole later u all
+  run_ends Memory later u cut = ran_cut Memory cut
+  run_ends LinkFault later u cut = ran_cut LinkFault cut
+  run_ends SinkFault later u cut = ran_cut SinkFault cut
+  run_ends EntropyFault later u cut = ran_cut EntropyFault cut
+
+-- ---- runs that ended before turn 0
+
+pub undrawn_run : (v : Serving) (l : LinkSeen) (c : Option Clock) (b a : EntropySeen) (t : SinkSeen) → Follows b.blocks a.blocks → Ends EntropyFault v (outside l c b t) (outside l c a t)
+undrawn_run v l c b a t follows = leaves_map (undrawn l c b a t follows) (λ x y h. inl (inl h))
+
+pub unbound_run : (v : Serving) (block : List ℕ) (l l1 : LinkSeen) (c : Option Clock) (b b1 : EntropySeen) (k : SinkSeen) → Drew b.blocks b1.blocks block → Calls l.line l1.line (Bind v.bind) →
+    Ends LinkFault v (outside l c b k) (outside l1 c b1 k)
+unbound_run v block l l1 c b b1 k drew bound = leaves_map (only_bound v block l l1 c b b1 k drew bound) (λ x y h. inl h)
+
+pub unbegun_run : (v : Serving) (block : List ℕ) (l l1 : LinkSeen) (c : Option Clock) (b b1 : EntropySeen) (k : SinkSeen) → Drew b.blocks b1.blocks block → Calls l.line l1.line (Bind v.bind) →
+    Ends Memory v (outside l c b k) (outside l1 c b1 k)
+unbegun_run v block l l1 c b b1 k drew bound = leaves_map (only_bound v block l l1 c b b1 k drew bound) (λ x y h. inl (inl h))
+
+-- ---- counts and what is passed on, from one part of a run to the next
+
+pub counted_later : (r : Served) (a b c : Outside) → Counted Done a b → Counted r b c → Counted r a c
+counted_later Done a b c p q = record { link = q.link ∙ p.link; entropy = q.entropy ∙ p.entropy; sink = q.sink ∙ p.sink }
+counted_later Memory a b c p q = record { link = q.link ∙ p.link; entropy = q.entropy ∙ p.entropy; sink = q.sink ∙ p.sink }
+counted_later LinkFault a b c p q = record { link = subst (λ k. Rose k c.link.faults) p.link q.link; entropy = q.entropy ∙ p.entropy; sink = q.sink ∙ p.sink }
+counted_later EntropyFault a b c p q = record { link = q.link ∙ p.link; entropy = subst (λ k. Rose k c.entropy.faults) p.entropy q.entropy; sink = q.sink ∙ p.sink }
+counted_later SinkFault a b c p q = record { link = q.link ∙ p.link; entropy = q.entropy ∙ p.entropy; sink = subst (λ k. Rose k c.sink.faults) p.sink q.sink }
+
+pub passed_later : (r : Served) (a b c : Outside) → PassesOn Done a b → PassesOn r b c → PassesOn r a c
+passed_later Done a b c p q = λ h. q (p h)
+passed_later Memory a b c p q = λ h. q (p h)
+passed_later LinkFault a b c p q = λ h. q (p h)
+passed_later EntropyFault a b c p q = λ h. q (p h)
+passed_later SinkFault a b c p q = tt
+
+pub counted_as : (r : Served) (a b : Outside) → r ≡ Done → Counted r a b → Counted Done a b
+counted_as r a b is p = subst (λ (k : Served). Counted k a b) is p
+
+pub passed_as : (r : Served) (a b : Outside) → r ≡ Done → PassesOn r a b → PassesOn Done a b
+passed_as r a b is p = subst (λ (k : Served). PassesOn k a b) is p
+
+-- ---- the sizes of what an end is given
+
+pub sized_by : (v : Serving) (block cookie group : List ℕ) → IsCertificate (instance_in v.instance block ++ v.name) → group ≡ v.group → length group ≡ 32 → cookie ≡ take 32 (drop 16 block) → length cookie ≡ 32 →
+    IsSetup (setup_of v block)
+sized_by v block cookie group cert is long same wide = record {
+  cert = cert;
+  secret = ap length (sym is) ∙ long;
+  cookie_secret = ap length (sym same) ∙ wide;
+  sessions = omega arith;
+}

@@ -1,0 +1,197 @@
+-- What was told is traced back, call by call.
+use Rattle.std.proofs.Common.{◌≡◌, ℕ, List, [], ◌∷◌, ◌++◌, drop, refl, sym, ap, ◌∙◌, subst, append-nil, Option, Some, None, IsSome}
+use Rattle.rtmfp_host.specs.Linking.{Line, LinkSeen, next_given, after_call, Calls, Receives}
+use Rattle.rtmfp_host.specs.Ticking.{Clock, next_moment, after_moment, Ticks}
+use Rattle.rtmfp_host.specs.Drawing.{EntropySeen, next_block}
+use Rattle.rtmfp_host.specs.Seen.{SinkSeen}
+use Rattle.rtmfp_host.specs.Writing.{Appends}
+use Rattle.rtmfp_host.specs.declared.link.Given.{Given}
+use Rattle.rtmfp_host.specs.declared.link.LinkCall.{LinkCall}
+use Rattle.rtmfp_host.specs.declared.link.LinkCall.TheVariants.{Receive}
+use Rattle.rtmfp_node.specs.Outside.{Outside, outside, Told, Tells, Leaves}
+use Rattle.rtmfp_node.specs.Acting.{Drew, Follows, CallsAll}
+
+-- What is told in the end is this function of what was told, of which this holds.
+pub record By (f : Told → Told) (F : Told → Type 0) (before after : Outside) : Type 0 where
+  pub trace : (now : Told) → Tells after now → (was : Told) × Tells before was × (now ≡ f was) × F was
+
+pub by_none : {o : Outside} → By (λ x. x) (λ x. Unit {0}) o o
+by_none = record { trace = λ now tells. (now, tells, refl, tt) }
+
+pub by_then : {f g : Told → Told} {F G : Told → Type 0} {a b c : Outside} → By f F a b → By g G b c → By (λ x. g (f x)) (λ x. F x × G (f x)) a c
+by_then {f} {g} {F} {G} {a} {b} {c} p q = record {
+  trace = λ now tells.
+      let two = q.trace now tells in
+      let one = p.trace two.0 two.1 in
+      (one.0, one.1, two.2 ∙ ap g one.2, (one.3, subst G one.2 two.3));
+}
+
+pub by_leaves : {f : Told → Told} {F : Told → Type 0} {a b : Outside} (R : Told → Told → Type 0) → By f F a b → ((x : Told) → F x → R x (f x)) → Leaves R a b
+by_leaves {f} {F} {a} {b} R p h = record {
+  back = λ now tells.
+      let one = p.trace now tells in
+      (one.0, one.1, subst (R one.0) (sym one.2) (h one.0 one.3));
+}
+
+pub leaves_map : {P Q : Told → Told → Type 0} {a b : Outside} → Leaves P a b → ((x y : Told) → P x y → Q x y) → Leaves Q a b
+leaves_map {P} {Q} {a} {b} p h = record { back = λ now tells. let one = p.back now tells in (one.0, one.1, h one.0 now one.2) }
+
+-- something told, and then what leaves this
+pub by_after : {f : Told → Told} {F : Told → Type 0} {P : Told → Told → Type 0} {a b c : Outside} → By f F a b → Leaves P b c → Leaves (λ x y. F x × P (f x) y) a c
+by_after {f} {F} {P} {a} {b} {c} p q = record {
+  back = λ now tells.
+      let two = q.back now tells in
+      let one = p.trace two.0 two.1 in
+      (one.0, one.1, (one.3, subst (λ k. P k now) one.2 two.2));
+}
+
+-- ---- single calls
+
+abbrev pub with_blocks : Told → List (List ℕ) → Told
+with_blocks x blocks = record { line = x.line; clock = x.clock; blocks = blocks; text = x.text }
+
+abbrev pub with_clock : Told → Clock → Told
+with_clock x clock = record { line = x.line; clock = clock; blocks = x.blocks; text = x.text }
+
+abbrev pub with_line : Told → Line → Told
+with_line x line = record { line = line; clock = x.clock; blocks = x.blocks; text = x.text }
+
+abbrev pub with_text : Told → List ℕ → Told
+with_text x text = record { line = x.line; clock = x.clock; blocks = x.blocks; text = text }
+
+some_same : {A : Type 0} (x y : A) → ◌≡◌ {A = Option A} (Some x) (Some y) → x ≡ y
+some_same x y e = cc (e)
+
+pub drew_back : (b c : Option (List (List ℕ))) (block : List ℕ) (now : List (List ℕ)) → Drew b c block → c ≡ Some now →
+    (was : List (List ℕ)) × (b ≡ Some was) × (block ≡ next_block was) × (now ≡ drop 1 was)
+drew_back b None block now h e = absurd (cc)
+drew_back None (Some x) block now h e = absurd h
+drew_back (Some was) (Some x) block now h e = let same : x ≡ now = cc (e) in (was, refl, h.0, sym same ∙ h.1)
+
+pub by_draw : (block : List ℕ) (l : LinkSeen) (c : Option Clock) (b a : EntropySeen) (t : SinkSeen) → Drew b.blocks a.blocks block →
+    By (λ x. with_blocks x (drop 1 x.blocks)) (λ x. block ≡ next_block x.blocks) (outside l c b t) (outside l c a t)
+by_draw block l c b a t drew = record {
+  trace = λ now tells.
+      let p = drew_back b.blocks a.blocks block now.blocks drew tells.blocks in (
+        with_blocks now p.0,
+        record { line = tells.line; clock = tells.clock; blocks = p.1; text = tells.text },
+        ap (with_blocks now) p.3,
+        p.2,
+      );
+}
+
+ticks_back : (b c : Option Clock) (moment : ℕ) (now : Clock) → Ticks b c moment → c ≡ Some now → (was : Clock) × (b ≡ Some was) × (moment ≡ next_moment was) × (now ≡ after_moment was)
+ticks_back b None moment now h e = absurd (cc)
+ticks_back None (Some x) moment now h e = absurd h
+ticks_back (Some was) (Some x) moment now h e = let same : x ≡ now = cc (e) in (was, refl, h.0, sym same ∙ h.1)
+
+pub by_moment : (moment : ℕ) (l : LinkSeen) (c d : Option Clock) (b : EntropySeen) (t : SinkSeen) → Ticks c d moment →
+    By (λ x. with_clock x (after_moment x.clock)) (λ x. moment ≡ next_moment x.clock) (outside l c b t) (outside l d b t)
+by_moment moment l c d b t ticks = record {
+  trace = λ now tells.
+      let p = ticks_back c d moment now.clock ticks tells.clock in (
+        with_clock now p.0,
+        record { line = tells.line; clock = p.1; blocks = tells.blocks; text = tells.text },
+        ap (with_clock now) p.3,
+        p.2,
+      );
+}
+
+receives_back : (b c : Option Line) (until : ℕ) (given : Given) (now : Line) → Receives b c until (Some given) → c ≡ Some now →
+    (was : Line) × (b ≡ Some was) × (given ≡ next_given was.left) × (now ≡ record { left = drop 1 was.left; calls = was.calls ++ Receive until ∷ [] })
+receives_back b None until given now h e = absurd (cc)
+receives_back None (Some x) until given now h e = absurd h
+receives_back (Some was) (Some x) until given now h e = let same : x ≡ now = cc (e) in (was, refl, h.0, sym same ∙ h.1)
+
+abbrev pub after_given : ℕ → Line → Line
+after_given until line = record { left = drop 1 line.left; calls = line.calls ++ Receive until ∷ [] }
+
+pub by_receive : (given : Given) (until : ℕ) (l m : LinkSeen) (c : Option Clock) (b : EntropySeen) (t : SinkSeen) → Receives l.line m.line until (Some given) →
+    By (λ x. with_line x (after_given until x.line)) (λ x. given ≡ next_given x.line.left) (outside l c b t) (outside m c b t)
+by_receive given until l m c b t receives = record {
+  trace = λ now tells.
+      let p = receives_back l.line m.line until given now.line receives tells.line in (
+        with_line now p.0,
+        record { line = p.1; clock = tells.clock; blocks = tells.blocks; text = tells.text },
+        ap (with_line now) p.3,
+        p.2,
+      );
+}
+
+heard_back : (b c : Option Line) (until : ℕ) (given : Option Given) (now : Line) → Receives b c until given → c ≡ Some now → (was : Line) × (b ≡ Some was) × (now.calls ≡ was.calls ++ Receive until ∷ [])
+heard_back b None until given now h e = absurd (cc)
+heard_back None (Some x) until given now h e = absurd h
+heard_back (Some was) (Some x) until given now h e = let same : x ≡ now = cc (e) in (was, refl, ap (λ (l : Line). l.calls) (sym same ∙ h.1))
+
+-- a receive, whatever it gave
+pub leaves_wait : (given : Option Given) (until : ℕ) (l m : LinkSeen) (c : Option Clock) (b : EntropySeen) (t : SinkSeen) → Receives l.line m.line until given →
+    Leaves (λ x y. (y.line.calls ≡ x.line.calls ++ Receive until ∷ []) × (y.text ≡ x.text)) (outside l c b t) (outside m c b t)
+leaves_wait given until l m c b t receives = record {
+  back = λ now tells.
+      let p = heard_back l.line m.line until given now.line receives tells.line in (
+        with_line now p.0,
+        record { line = p.1; clock = tells.clock; blocks = tells.blocks; text = tells.text },
+        (p.2, refl),
+      );
+}
+
+calls_back : (b c : Option Line) (calls : List LinkCall) (now : Line) → CallsAll b c calls → c ≡ Some now → (was : Line) × (b ≡ Some was) × (now ≡ record { left = was.left; calls = was.calls ++ calls })
+calls_back b None calls now h e = absurd (cc)
+calls_back None (Some x) calls now h e = absurd h
+calls_back (Some was) (Some x) calls now h e = let same : x ≡ now = cc (e) in (was, refl, sym same ∙ h)
+
+appends_back : (b c : Option (List ℕ)) (text now : List ℕ) → Appends b c text → c ≡ Some now → (was : List ℕ) × (b ≡ Some was) × (now ≡ was ++ text)
+appends_back b None text now h e = absurd (cc)
+appends_back None (Some x) text now h e = absurd h
+appends_back (Some was) (Some x) text now h e = let same : x ≡ now = cc (e) in (was, refl, sym same ∙ h)
+
+abbrev pub emitted : List LinkCall → List ℕ → Told → Told
+emitted calls text x = record { line = record { left = x.line.left; calls = x.line.calls ++ calls }; clock = x.clock; blocks = x.blocks; text = x.text ++ text }
+
+pub by_emit : (calls : List LinkCall) (text : List ℕ) (l m : LinkSeen) (c : Option Clock) (b : EntropySeen) (t u : SinkSeen) → CallsAll l.line m.line calls → Appends t.written u.written text →
+    By (emitted calls text) (λ x. Unit {0}) (outside l c b t) (outside m c b u)
+by_emit calls text l m c b t u called wrote = record {
+  trace = λ now tells.
+      let p = calls_back l.line m.line calls now.line called tells.line in
+      let q = appends_back t.written u.written text now.text wrote tells.text in (
+        record { line = p.0; clock = now.clock; blocks = now.blocks; text = q.0 },
+        record { line = p.1; clock = tells.clock; blocks = tells.blocks; text = q.1 },
+        ap (λ (k : Line). record { line = k; clock = now.clock; blocks = now.blocks; text = now.text }) p.2
+            ∙ ap (λ (k : List ℕ). record { line = record { left = p.0.left; calls = p.0.calls ++ calls }; clock = now.clock; blocks = now.blocks; text = k }) q.2,
+        tt,
+      );
+}
+
+bind_back : (b c : Option Line) (call : LinkCall) (now : Line) → Calls b c call → c ≡ Some now → (was : Line) × (b ≡ Some was) × (now ≡ after_call was call)
+bind_back b None call now h e = absurd (cc)
+bind_back None (Some x) call now h e = absurd h
+bind_back (Some was) (Some x) call now h e = let same : x ≡ now = cc (e) in (was, refl, sym same ∙ h)
+
+pub by_call : (call : LinkCall) (l m : LinkSeen) (c : Option Clock) (b : EntropySeen) (t : SinkSeen) → Calls l.line m.line call →
+    By (λ x. with_line x (after_call x.line call)) (λ x. Unit {0}) (outside l c b t) (outside m c b t)
+by_call call l m c b t called = record {
+  trace = λ now tells.
+      let p = bind_back l.line m.line call now.line called tells.line in (
+        with_line now p.0,
+        record { line = p.1; clock = tells.clock; blocks = tells.blocks; text = tells.text },
+        ap (with_line now) p.2,
+        tt,
+      );
+}
+
+-- blocks that were drawn one after another, or none any more
+told_before : (b a : Option (List (List ℕ))) (now : List (List ℕ)) → Follows b a → a ≡ Some now → (was : List (List ℕ)) × (b ≡ Some was)
+told_before (Some was) a now follows e = (was, refl)
+told_before None (Some x) now follows e = absurd (cc (follows refl))
+told_before None None now follows e = absurd (cc)
+
+pub leaves_drawing : (l : LinkSeen) (c : Option Clock) (b a : EntropySeen) (t : SinkSeen) → Follows b.blocks a.blocks →
+    Leaves (λ x y. (y.line ≡ x.line) × (y.text ≡ x.text)) (outside l c b t) (outside l c a t)
+leaves_drawing l c b a t follows = record {
+  back = λ now tells.
+      let p = told_before b.blocks a.blocks now.blocks follows tells.blocks in (
+        with_blocks now p.0,
+        record { line = tells.line; clock = tells.clock; blocks = p.1; text = tells.text },
+        (refl, refl),
+      );
+}

@@ -1,0 +1,14 @@
+use Rattle.std.proofs.Common.{rules, [], ap, length}
+use Rattle.endpoint_model.specs.Event.{Done, Receive}
+use Rattle.rtmfp_node.proofs.Acts.{did_call, grown_from, noted_from}
+use Rattle.rtmfp_node.proofs.calls.receive.Goals as goal
+
+pub note-requires : goal.note-requires
+note-requires c =
+    grown_from _ c.args.out.now.entries c.receive.new.out.entries _ (ap length c.entries-before.ensures.entries) c.in-Ok.ensures.taken.ok.entries
+
+pub returns : goal.returns
+returns c =
+    did_call c.args.turn c.args.moment (Receive c.args.from c.args.datagram.now c.args.draws.now) Done c.args.end.now c.receive.new.self c.args.out.now.entries c.receive.new.out.entries _
+    c.args.notes.now c.note.new.notes c.in-Ok.ensures.taken.ok.entries c.in-Ok.ensures.stands (c.are_bytes.ensures, c.are_sized.ensures.nonce, c.are_sized.ensures.word, c.are_sized.ensures.token)
+    (noted_from c.args.turn _ c.args.out.now.entries c.receive.new.out.entries c.args.notes.now c.note.new.notes [] (ap length c.entries-before.ensures.entries) c.in_ok-note.ensures)

@@ -1,0 +1,12 @@
+use Rattle.std.proofs.Common.{◌≡◌, ◌++◌, refl, ap, ◌∙◌, append_assoc, codes, List, ℕ, []}
+use Rattle.rtmfp_report.specs.LineText.{head_text, line_text}
+use Rattle.rtmfp_text.specs.Words.{number_field_text, text_of}
+use Rattle.rtmfp_node.specs.Report.{unsent_line}
+use Rattle.rtmfp_text.proofs.Pushes.{Pushed, push_then, push_end, pushed, pushed_last}
+use Rattle.rtmfp_node.proofs.sending.push_unsent.Goals as goal
+
+pub returns : goal.returns
+unfolding unsent_line line_text head_text
+returns c =
+    let head = push_then _ c.in_ok-push_number.ensures (push_then _ c.in_ok-push.ensures (push_then _ c.in_ok-push-2.ensures (push_end _ c.in_ok-push-3.ensures))) in
+    (pushed head (push_then _ c.in_ok-push_number_field.ensures (push_end _ c.in_ok-push-4.ensures))).joined

@@ -1,0 +1,55 @@
+use Rattle.std.proofs.Common.{rules, ◌≡◌, ◌++◌, ℕ, List, [], ap, ◌∙◌, refl, inl}
+use Rattle.rtmfp_host.specs.Linking.{given_by}
+use Rattle.rtmfp_node.specs.Outside.{outside}
+use Rattle.rtmfp_node.specs.Acting.{Noted, begun}
+use Rattle.rtmfp_node.proofs.Sends.{counted_all, emit_as, passes_all, passes_still}
+use Rattle.rtmfp_node.proofs.Told.{leaves_map}
+use Rattle.rtmfp_node.proofs.Turning.{turn_ends_on, undrawn, waited, waited_twice}
+use Rattle.rtmfp_node.proofs.turn.turn.Goals as goal
+
+pub returns-clause-ends : goal.returns-clause-ends
+returns-clause-ends g c =
+    let given = given_by c.receive-got.result c.receive-got.new.buf in
+    let m = c.args.node.now.notes in
+    let node = c.act_anew.new.node in
+    turn_ends_on c.emit.result c.args.words.now c.args.turn m.count c.in-Some.block c.now-first.result c.now-moment.result given c.args.node.now.end node.end
+    (node.heard.entries ++ node.out.entries) (begun m) node.notes (g.L.Link.seen c.args.link.now) (g.L.Link.seen c.receive-got.new.self) (g.L.Link.seen c.emit.new.link)
+    (g.C.Moments.seen c.args.clock.now) (g.C.Moments.seen c.now-first.new.self) (g.C.Moments.seen c.now-moment.new.self) (g.E.Entropy.seen c.args.entropy.now)
+    (g.E.Entropy.seen c.draw.new.entropy) (g.K.Sink.seen c.args.sink.now) (g.K.Sink.seen c.emit.new.sink) (search rules) (search rules) (search rules) (search rules) (search rules)
+    (ap (λ (x : List ℕ). record { secret = x; count = m.count; text = [] }) c.requires)
+    (emit_as c.emit.result c.args.turn c.count-count.result m.count c.text.result.now node.notes.text c.entries.result.now c.entries-2.result.now node.heard.entries node.out.entries
+    (g.L.Link.seen c.receive-got.new.self).line (g.L.Link.seen c.emit.new.link).line (g.K.Sink.seen c.args.sink.now).written (g.K.Sink.seen c.emit.new.sink).written (search rules) (search rules)
+    (search rules) (search rules) c.emit.ensures.ends)
+
+pub returns-clause-counted : goal.returns-clause-counted
+returns-clause-counted g c =
+    counted_all c.emit.result c.args.turn c.count-count.result c.text.result.now (c.entries.result.now ++ c.entries-2.result.now) (g.L.Link.seen c.receive-got.new.self).line
+    (g.L.Link.seen c.emit.new.link).line (g.K.Sink.seen c.args.sink.now).written (g.K.Sink.seen c.emit.new.sink).written
+    (outside (g.L.Link.seen c.args.link.now) (g.C.Moments.seen c.args.clock.now) (g.E.Entropy.seen c.args.entropy.now) (g.K.Sink.seen c.args.sink.now))
+    (outside (g.L.Link.seen c.emit.new.link) (g.C.Moments.seen c.now-moment.new.self) (g.E.Entropy.seen c.draw.new.entropy) (g.K.Sink.seen c.emit.new.sink)) c.emit.ensures.ends
+    (c.emit.ensures.link ∙ c.is_failed.ensures.no (search rules) _ _ c.receive-got.ensures.faults) (search rules) c.emit.ensures.sink
+
+pub returns-clause-passed : goal.returns-clause-passed
+returns-clause-passed g c =
+    passes_all c.emit.result
+    (outside (g.L.Link.seen c.args.link.now) (g.C.Moments.seen c.args.clock.now) (g.E.Entropy.seen c.args.entropy.now) (g.K.Sink.seen c.args.sink.now))
+    (outside (g.L.Link.seen c.emit.new.link) (g.C.Moments.seen c.now-moment.new.self) (g.E.Entropy.seen c.draw.new.entropy) (g.K.Sink.seen c.emit.new.sink)) c.emit.ensures.passed
+
+pub returns-then-is_failed-clause-ends : goal.returns-then-is_failed-clause-ends
+returns-then-is_failed-clause-ends g c =
+    waited c.in-Some.block c.now-first.result (given_by c.receive-got.result c.receive-got.new.buf) (g.L.Link.seen c.args.link.now) (g.L.Link.seen c.receive-got.new.self)
+    (g.C.Moments.seen c.args.clock.now) (g.C.Moments.seen c.now-first.new.self) (g.E.Entropy.seen c.args.entropy.now) (g.E.Entropy.seen c.draw.new.entropy) (g.K.Sink.seen c.args.sink.now)
+    (search rules) (search rules) (search rules)
+
+pub returns-in_default-act_anew-clause-ends : goal.returns-in_default-act_anew-clause-ends
+returns-in_default-act_anew-clause-ends g c =
+    leaves_map
+    (waited_twice c.in-Some.block c.now-first.result c.now-moment.result (given_by c.receive-got.result c.receive-got.new.buf) (g.L.Link.seen c.args.link.now) (g.L.Link.seen c.receive-got.new.self)
+    (g.C.Moments.seen c.args.clock.now) (g.C.Moments.seen c.now-first.new.self) (g.C.Moments.seen c.now-moment.new.self) (g.E.Entropy.seen c.args.entropy.now) (g.E.Entropy.seen c.draw.new.entropy)
+    (g.K.Sink.seen c.args.sink.now) (search rules) (search rules) (search rules) (search rules))
+    (λ x y h. inl h)
+
+pub returns-in_default-clause-ends : goal.returns-in_default-clause-ends
+returns-in_default-clause-ends g c =
+    undrawn (g.L.Link.seen c.args.link.now) (g.C.Moments.seen c.args.clock.now) (g.E.Entropy.seen c.args.entropy.now) (g.E.Entropy.seen c.draw.new.entropy) (g.K.Sink.seen c.args.sink.now)
+    c.draw.ensures.follows

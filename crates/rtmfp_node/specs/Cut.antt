@@ -1,0 +1,87 @@
+-- What a turn leaves that isn't taken whole.
+use Rattle.std.specs.Prelude.{◌≡◌, ◌⊎◌, ℕ, List, [], ◌∷◌, ◌++◌, take}
+use Rattle.rtmfp_host.specs.Linking.{next_given}
+use Rattle.rtmfp_host.specs.Ticking.{next_moment, after_moment}
+use Rattle.rtmfp_host.specs.Drawing.{next_block}
+use Rattle.rtmfp_host.specs.declared.link.LinkCall.{LinkCall}
+use Rattle.rtmfp_host.specs.declared.link.LinkCall.TheVariants.{Receive}
+use Rattle.endpoint_model.specs.Event.{Event}
+use Rattle.endpoint_model.specs.State.{State}
+use Rattle.endpoint_model.specs.Views.{Sending}
+use Rattle.rtmfp_words.specs.Node.{Serving}
+use Rattle.rtmfp_node.specs.declared.served.Served.{Served}
+use Rattle.rtmfp_node.specs.declared.served.Served.TheVariants.{Done, Memory, LinkFault, SinkFault, EntropyFault}
+use Rattle.rtmfp_node.specs.Outside.{Told}
+use Rattle.rtmfp_node.specs.Events.{AreOpened, AreTurnEvents, ExtendsBy, draws_of, entries_of}
+use Rattle.rtmfp_node.specs.Report.{events_text, unsent_text}
+use Rattle.rtmfp_node.specs.Turn.{AreSends, outs_in, until_of}
+
+-- The link wasn't called, and nothing was written.
+pub record Untouched (before after : Told) : Type 0 where
+  pub line : after.line ≡ before.line
+  pub text : after.text ≡ before.text
+
+-- The link was asked for a datagram, and nothing was written.
+pub record Waited (before after : Told) : Type 0 where
+  pub calls : after.line.calls
+      ≡ before.line.calls ++ Receive (until_of (next_moment before.clock)) ∷ []
+  pub text : after.text ≡ before.text
+
+-- sends of the first of these datagrams
+abbrev pub AreFirstSends : List Sending → List LinkCall → Type 0
+AreFirstSends outs sends = (first rest : List Sending) × (outs ≡ first ++ rest) ×
+    AreSends first sends
+
+-- A part of the report, and nothing was sent yet; or the whole report, and a part of the lines of
+-- what was lost.
+abbrev pub IsPart : List ℕ → List ℕ → List LinkCall → List ℕ → Type 0
+IsPart report lost sends part =
+    ((sends ≡ []) × (k : ℕ) × (part ≡ take k report)) ⊎
+    ((k : ℕ) × (part ≡ report ++ take k lost))
+
+-- Behind these calls of the link, the writing or the sending of a turn with these events was broken
+-- off.
+pub record Breaks (v : Serving) (turn count : ℕ) (waits : List LinkCall) (before after : Told)
+    (log : List Event) : Type 0 where
+  pub sends : List LinkCall
+  pub sent : AreFirstSends (outs_in (entries_of log)) sends
+  pub calls : after.line.calls ≡ before.line.calls ++ waits ++ sends
+  pub part : List ℕ
+  pub text : after.text ≡ before.text ++ part
+  pub is_part : IsPart (events_text v.group turn count log) (unsent_text turn count sends) sends
+      part
+
+-- A turn that an end began in s made all its calls, and was broken off then.
+pub record Broken (v : Serving) (turn count : ℕ) (s : State) (before after : Told) : Type 0 where
+  pub log : List Event
+  pub left : State
+  pub events : AreTurnEvents v.send (next_given before.line.left)
+      (next_moment (after_moment before.clock)) (draws_of (next_block before.blocks)) log
+  pub stands : ExtendsBy s left log
+  pub breaks : Breaks v turn count (Receive (until_of (next_moment before.clock)) ∷ []) before after
+      log
+
+-- the same of turn 0, which waits for nothing
+pub record BrokenAtZero (v : Serving) (s : State) (before after : Told) : Type 0 where
+  pub log : List Event
+  pub left : State
+  pub events : AreOpened v.openings (next_moment before.clock) before.blocks log
+  pub stands : ExtendsBy s left log
+  pub breaks : Breaks v 0 0 [] before after log
+
+-- how a turn, which an end began in s, ends with each fault, and for want of memory
+abbrev pub CutBy : Served → Serving → ℕ → ℕ → State → Told → Told → Type 0
+CutBy Done v turn count s before after = ⊥
+CutBy Memory v turn count s before after =
+    Waited before after ⊎ Broken v turn count s before after
+CutBy LinkFault v turn count s before after = Waited before after
+CutBy EntropyFault v turn count s before after = Untouched before after
+CutBy SinkFault v turn count s before after = Broken v turn count s before after
+
+-- how turn 0 ends; it waits for nothing
+abbrev pub CutAtZero : Served → Serving → State → Told → Told → Type 0
+CutAtZero Done v s before after = ⊥
+CutAtZero Memory v s before after = Untouched before after ⊎ BrokenAtZero v s before after
+CutAtZero LinkFault v s before after = ⊥
+CutAtZero EntropyFault v s before after = Untouched before after
+CutAtZero SinkFault v s before after = BrokenAtZero v s before after

@@ -1,0 +1,93 @@
+-- The turns of a node.
+use Rattle.std.specs.Prelude.{◌≡◌, ℕ, zero, suc, ◌+◌, ◌-◌, ◌^◌, min, Bool, List, [], ◌∷◌, ◌++◌, drop, length, Option, Some, None}
+use Rattle.rtmfp_host.specs.Linking.{next_given, after_call}
+use Rattle.rtmfp_host.specs.Ticking.{next_moment, after_moment}
+use Rattle.rtmfp_host.specs.Drawing.{next_block}
+use Rattle.rtmfp_host.specs.declared.link.LinkCall.{LinkCall}
+use Rattle.rtmfp_host.specs.declared.link.LinkCall.TheVariants.{Bind, Receive, Send}
+use Rattle.endpoint_model.specs.declared.entry.Entry.{Entry}
+use Rattle.endpoint_model.specs.Event.{Event}
+use Rattle.endpoint_model.specs.Views.{Sending, out_in}
+use Rattle.rtmfp_report.specs.EntryText.{sent_after}
+use Rattle.rtmfp_words.specs.Node.{Serving}
+use Rattle.rtmfp_node.specs.Outside.{Told}
+use Rattle.rtmfp_node.specs.Events.{AreOpened, AreTurnEvents, draws_of, entries_of}
+use Rattle.rtmfp_node.specs.Report.{events_text, unsent_text}
+
+-- ---- sends
+
+abbrev pub outs_by : Option Sending → List Sending
+outs_by None = []
+outs_by (Some out) = out ∷ []
+
+-- the datagrams that go out, in their order
+abbrev pub outs_in : List Entry → List Sending
+outs_in [] = []
+outs_in (entry ∷ entries) = outs_by (out_in entry) ++ outs_in entries
+
+-- one send for each of these datagrams, in order, each done or not
+abbrev pub AreSends : List Sending → List LinkCall → Type 0
+AreSends [] sends = sends ≡ []
+AreSends (out ∷ outs) sends = (done : Bool) × (later : List LinkCall) ×
+    (sends ≡ Send out.to out.datagram done ∷ later) × AreSends outs later
+
+-- ---- turn 0 and the others
+
+-- Turn 0, with its events: a moment; a draw and an open for each opening; their report; a send for
+-- each datagram.
+pub record TurnZero (v : Serving) (before after : Told) (log : List Event) : Type 0 where
+  pub events : AreOpened v.openings (next_moment before.clock) before.blocks log
+  pub sends : List LinkCall
+  pub sent : AreSends (outs_in (entries_of log)) sends
+  pub left : after.line.left ≡ before.line.left
+  pub calls : after.line.calls ≡ before.line.calls ++ sends
+  pub clock : after.clock ≡ after_moment before.clock
+  pub blocks : after.blocks ≡ drop (length v.openings) before.blocks
+  pub text : after.text ≡ before.text ++ events_text v.group 0 0 log ++ unsent_text 0 0 sends
+
+-- a receive waits 50 ms at most
+abbrev pub until_of : ℕ → ℕ
+until_of first = min (first + 50) (2 ^ 64 - 1)
+
+-- A turn with this number, before which so many datagrams went out, with its events: a draw, a
+-- moment, a receive, a second moment; the calls of the end at that; their report; a send for each
+-- datagram.
+pub record Turn (v : Serving) (turn count : ℕ) (before after : Told) (log : List Event)
+    : Type 0 where
+  pub events : AreTurnEvents v.send (next_given before.line.left)
+      (next_moment (after_moment before.clock)) (draws_of (next_block before.blocks)) log
+  pub sends : List LinkCall
+  pub sent : AreSends (outs_in (entries_of log)) sends
+  pub left : after.line.left ≡ drop 1 before.line.left
+  pub calls : after.line.calls
+      ≡ before.line.calls ++ Receive (until_of (next_moment before.clock)) ∷ sends
+  pub clock : after.clock ≡ after_moment (after_moment before.clock)
+  pub blocks : after.blocks ≡ drop 1 before.blocks
+  pub text : after.text
+      ≡ before.text ++ events_text v.group turn count log ++ unsent_text turn count sends
+
+-- so many turns from turn 1 on, one after another, with their events
+abbrev pub Turns : Serving → ℕ → ℕ → Told → Told → List Event → Type 0
+Turns v zero count before after log = (after ≡ before) × (log ≡ [])
+Turns v (suc n) count before after log =
+    (middle : Told) × (earlier last : List Event) × Turns v n count before middle earlier ×
+    Turn v (n + 1) (sent_after count (entries_of earlier)) middle after last ×
+    (log ≡ earlier ++ last)
+
+-- ---- the whole run
+
+-- after the first draw and the bind
+abbrev pub after_bind : Serving → Told → Told
+after_bind v before = record before {
+  line = after_call before.line (Bind v.bind);
+  blocks = drop 1 before.blocks;
+}
+
+-- A run of so many turns, with its log: a draw and a bind, turn 0, and the turns.
+pub record Run (v : Serving) (turns : ℕ) (before after : Told) (log : List Event) : Type 0 where
+  pub opened : Told
+  pub first : List Event
+  pub later : List Event
+  pub turn_zero : TurnZero v (after_bind v before) opened first
+  pub others : Turns v turns (sent_after 0 (entries_of first)) opened after later
+  pub whole : log ≡ first ++ later

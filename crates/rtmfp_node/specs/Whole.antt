@@ -1,0 +1,81 @@
+-- How a run of a node ends.
+use Rattle.std.specs.Prelude.{◌≡◌, ◌⊎◌, ℕ, ◌+◌, ◌<◌, List, [], ◌∷◌, ◌++◌, drop, take, Option, Some, None}
+use Rattle.rtmfp_host.specs.Drawing.{next_block}
+use Rattle.rtmfp_host.specs.declared.link.LinkCall.TheVariants.{Bind}
+use Rattle.endpoint_model.specs.declared.config.Config.{Config}
+use Rattle.endpoint_model.specs.Event.{Setup, Event}
+use Rattle.endpoint_model.specs.State.{State, fresh}
+use Rattle.endpoint_model.specs.Log.{StandsFor}
+use Rattle.endpoint_laws.specs.Lawful.{IsLawful}
+use Rattle.rtmfp_report.specs.EntryText.{sent_after}
+use Rattle.rtmfp_words.specs.Node.{Serving}
+use Rattle.rtmfp_node.specs.declared.served.Served.{Served}
+use Rattle.rtmfp_node.specs.declared.served.Served.TheVariants.{Done, Memory, LinkFault, SinkFault, EntropyFault}
+use Rattle.rtmfp_node.specs.Outside.{Outside, Told, Leaves}
+use Rattle.rtmfp_node.specs.Events.{entries_of}
+use Rattle.rtmfp_node.specs.Turn.{Run, after_bind}
+use Rattle.rtmfp_node.specs.Cut.{CutAtZero, CutBy, Untouched}
+
+-- ---- what the end is given
+
+-- the first bytes of the certificate: those of the words, or the first of the first block
+abbrev pub instance_in : Option (List ℕ) → List ℕ → List ℕ
+instance_in None block = take 16 block
+instance_in (Some bytes) block = bytes
+
+abbrev pub config_of : Serving → Config
+config_of v = record { max_peers = 65536; max_sessions = 4096; introduces = v.introduce }
+
+-- The certificate and the cookie secret come of the first block.
+abbrev pub setup_of : Serving → List ℕ → Setup
+setup_of v block = record {
+  config = config_of v;
+  cert = instance_in v.instance block ++ v.name;
+  secret = v.group;
+  cookie_secret = take 32 (drop 16 block);
+}
+
+-- ---- runs
+
+-- A run of so many turns, with a log that the end stands for in the end, and that is lawful.
+pub record Ran (v : Serving) (turns : ℕ) (before after : Told) : Type 0 where
+  pub log : List Event
+  pub state : State
+  pub run : Run v turns before after log
+  pub stands : StandsFor (setup_of v (next_block before.blocks)) log state
+  pub lawful : IsLawful (setup_of v (next_block before.blocks)) log
+
+-- Nothing but the bind was done of the link, and nothing was written.
+pub record OnlyBound (v : Serving) (before after : Told) : Type 0 where
+  pub calls : after.line.calls ≡ before.line.calls ++ Bind v.bind ∷ []
+  pub text : after.text ≡ before.text
+
+-- How a run ends before turn 0 is done: at the first draw, at the bind, or in turn 0.
+abbrev pub CutAtStart : Served → Serving → Told → Told → Type 0
+CutAtStart Done v before after = ⊥
+CutAtStart LinkFault v before after = OnlyBound v before after
+CutAtStart EntropyFault v before after = Untouched before after ⊎ OnlyBound v before after
+CutAtStart Memory v before after = OnlyBound v before after ⊎
+    CutAtZero Memory v (fresh (setup_of v (next_block before.blocks))) (after_bind v before) after
+CutAtStart SinkFault v before after =
+    CutAtZero SinkFault v (fresh (setup_of v (next_block before.blocks))) (after_bind v before)
+    after
+
+-- Turn 0 and some turns were taken whole, and the next one was cut.
+pub record CutLater (result : Served) (v : Serving) (before after : Told) : Type 0 where
+  pub turns : ℕ
+  pub fewer : turns < v.turns
+  pub middle : Told
+  pub ran : Ran v turns before middle
+  pub cut : CutBy result v (turns + 1) (sent_after 0 (entries_of ran.log)) ran.state middle after
+
+abbrev pub CutRun : Served → Serving → Told → Told → Type 0
+CutRun result v before after = CutAtStart result v before after ⊎ CutLater result v before after
+
+-- How a run ends, where its link, its clock, its random source and its sink tell.
+abbrev pub Ends : Served → Serving → Outside → Outside → Type 0
+Ends Done v before after = Leaves (Ran v v.turns) before after
+Ends Memory v before after = Leaves (CutRun Memory v) before after
+Ends LinkFault v before after = Leaves (CutRun LinkFault v) before after
+Ends EntropyFault v before after = Leaves (CutRun EntropyFault v) before after
+Ends SinkFault v before after = Leaves (CutRun SinkFault v) before after

@@ -1,0 +1,174 @@
+//! The calls of the end, each with its report.
+ghost use Rattle.std.specs.Prelude.{◌≡◌, ◌<◌, ◌≤◌, ◌^◌, ◌∷◌, [], OnOk, drop, length};
+ghost use Rattle.endpoint_model.specs.Event.{Done, Receive, Tick};
+ghost use Rattle.endpoint_laws.specs.Laws.{AreBytes};
+ghost use Rattle.rtmfp_node.specs.Acting.{ActsIn, DidCall, DidOpen, added, noted_more};
+ghost use Rattle.rtmfp_node.specs.Events.{event_of, opens_flow, queues};
+
+use crate::notes::Notes;
+use endpoint::{Draws, Endpoint, MessageOptions, Outbox};
+use identity::Epd;
+use rtmfp_forms::Address;
+use rtmfp_words::OpeningWords;
+use std::alloc::AllocError;
+
+/// The priority of the flow of a node's message.
+const PRIORITY: u8 = 4;
+
+/// The metadata of that flow.
+const METADATA: &[u8] = b"m";
+
+/// The bytes of a datagram are bytes. This and the next ones do nothing: they tell what the types
+/// say.
+fn are_bytes(datagram: &[u8])
+    ensures { AreBytes datagram.now }
+{}
+
+/// A fingerprint has 32 bytes.
+fn is_print(print: &[u8; 32])
+    ensures { length print.now ≡ 32 }
+{}
+
+/// Draws have their sizes.
+fn are_sized(draws: &Draws)
+    ensures nonce { length draws.now.nonce ≡ 16 }
+    ensures tag { length draws.now.tag ≡ 16 }
+    ensures token { length draws.now.token ≡ 16 }
+    ensures word { draws.now.word < 2 ^ 32 }
+{
+    are_sixteen(&draws.nonce);
+    are_sixteen(&draws.tag);
+    are_sixteen(&draws.token);
+    is_word(draws.word);
+}
+
+fn are_sixteen(bytes: &[u8; 16])
+    ensures { length bytes.now ≡ 16 }
+{}
+
+fn is_word(word: u32)
+    ensures { word < 2 ^ 32 }
+{}
+
+/// Notes the entries behind the first ones.
+fn note(turn: u64, before: usize, out: &Outbox, notes: &mut Notes) -> Result<(), AllocError>
+    requires { before ≤ length out.now.entries }
+    ensures { OnOk result (notes.new ≡ noted_more turn notes.old (drop before out.now.entries)
+        []) }
+{
+    let (_, added) = out.entries().split_at(before);
+    notes.add(turn, added)
+}
+
+/// Takes a datagram.
+pub(crate) fn receive(
+    end: &mut Endpoint,
+    from: Address,
+    moment: u64,
+    datagram: &mut [u8],
+    draws: &Draws,
+    turn: u64,
+    out: &mut Outbox,
+    notes: &mut Notes,
+) -> Result<(), AllocError>
+    requires { length datagram.old ≤ 2048 }
+    ensures { OnOk result (ActsIn turn end.old end.new out.old.entries out.new.entries notes.old
+        notes.new (event_of moment (Receive from datagram.old draws.now) Done
+        (added out.old.entries out.new.entries) ∷ [])) }
+{
+    are_bytes(datagram);
+    are_sized(draws);
+    let before = out.entries().len();
+    let Ok(()) = end.receive(from, moment, datagram, draws, out) else {
+        return Err(AllocError);
+    };
+    note(turn, before, out, notes)?;
+    Ok(())
+}
+
+/// Does all that is due.
+pub(crate) fn tick(
+    end: &mut Endpoint,
+    moment: u64,
+    draws: &Draws,
+    turn: u64,
+    out: &mut Outbox,
+    notes: &mut Notes,
+) -> Result<(), AllocError>
+    ensures { OnOk result (ActsIn turn end.old end.new out.old.entries out.new.entries notes.old
+        notes.new (event_of moment (Tick draws.now) Done
+        (added out.old.entries out.new.entries) ∷ [])) }
+{
+    let before = out.entries().len();
+    let Ok(()) = end.tick(moment, draws, out) else {
+        return Err(AllocError);
+    };
+    note(turn, before, out, notes)?;
+    Ok(())
+}
+
+/// Makes an opening in turn 0.
+pub(crate) fn open(
+    end: &mut Endpoint,
+    opening: &OpeningWords,
+    moment: u64,
+    draws: &Draws,
+    out: &mut Outbox,
+    notes: &mut Notes,
+) -> Result<(), AllocError>
+    ensures { OnOk result (DidOpen opening.now moment draws.now end.old end.new out.old.entries
+        out.new.entries notes.old notes.new) }
+{
+    is_print(&opening.print);
+    are_sized(draws);
+    let before = out.entries().len();
+    let epd = Epd {
+        print: opening.print,
+    };
+    let candidates = [opening.at];
+    let answer = end.open(&epd, &candidates, moment, draws, out);
+    note(0, before, out, notes)?;
+    notes.settle_open(0, answer)?;
+    Ok(())
+}
+
+/// Opens the flow of the message in a session.
+pub(crate) fn open_flow(
+    end: &mut Endpoint,
+    near: u32,
+    turn: u64,
+    out: &mut Outbox,
+    notes: &mut Notes,
+) -> Result<(), AllocError>
+    ensures { OnOk result (DidCall near opens_flow turn end.old end.new out.old.entries
+        out.new.entries notes.old notes.new) }
+{
+    let before = out.entries().len();
+    let answer = end.open_flow(near, PRIORITY, METADATA, None, out);
+    note(turn, before, out, notes)?;
+    notes.settle_call(turn, answer)?;
+    Ok(())
+}
+
+/// Queues the message in that flow.
+pub(crate) fn queue(
+    end: &mut Endpoint,
+    near: u32,
+    message: &[u8],
+    turn: u64,
+    out: &mut Outbox,
+    notes: &mut Notes,
+) -> Result<(), AllocError>
+    ensures { OnOk result (DidCall near (queues message.now) turn end.old end.new out.old.entries
+        out.new.entries notes.old notes.new) }
+{
+    let before = out.entries().len();
+    let options = MessageOptions {
+        deadline: None,
+        resends: None,
+    };
+    let answer = end.queue(near, 0, message, options, out);
+    note(turn, before, out, notes)?;
+    notes.settle_call(turn, answer)?;
+    Ok(())
+}

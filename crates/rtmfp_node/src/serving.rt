@@ -1,0 +1,165 @@
+//! A node, from its first draw to its last turn.
+ghost use Rattle.std.specs.Prelude.{◌≡◌, [], IfOk, length};
+ghost use Rattle.endpoint_model.specs.Log.{StandsFor};
+ghost use Rattle.endpoint_model.specs.State.{fresh};
+ghost use Rattle.endpoint_laws.specs.Laws.{IsSetup};
+ghost use Rattle.rtmfp_words.specs.Node.{IsNodeName};
+ghost use Rattle.rtmfp_node.specs.Acting.{TurnsEnd};
+ghost use Rattle.rtmfp_node.specs.Outside.{Counted, PassesOn, outside};
+ghost use Rattle.rtmfp_node.specs.Whole.{Ends, setup_of};
+
+use crate::draw::{certificate_of, cookie_secret_of, draw};
+use crate::notes::Notes;
+use crate::served::Served;
+use crate::turn::{Node, turn};
+use crate::turn_zero::turn_zero;
+use endpoint::{Config, Endpoint, Outbox};
+use rtmfp_base::Memory;
+use rtmfp_host::{Bound, Entropy, Link, Moments, Sink};
+use rtmfp_text::Text;
+use rtmfp_words::ServeWords;
+use std::alloc::Global;
+
+/// The most peers that a node ever knows (own).
+const MAX_PEERS: u32 = 65_536;
+
+/// The most attempts and sessions of a node at a time (own).
+const MAX_SESSIONS: u32 = 4_096;
+
+/// How many entries an outbox has room for from the beginning. The chunks of a datagram are fewer,
+/// so one that is only refused asks for no memory.
+const ROOM: u32 = 1_024;
+
+/// Serves a node as the words say (own): draws its secrets, binds, makes its openings, and takes
+/// its turns.
+///
+/// Of the first block that is drawn, bytes 0 to 15 begin its certificate, unless the words do, and
+/// bytes 16 to 47 are its cookie secret. In turn 0 it looks at the clock, draws a block and opens
+/// an attempt for each opening in its order, writes their report, and sends each datagram. A turn
+/// is a draw, a look at the clock, a receive of the link until 50 ms later, and a second look;
+/// then, at this moment, the end takes the datagram that came, opens a flow and queues the message
+/// in each session that it opened, where the words have one, and does what is due; the report is
+/// written, and each datagram is sent. One that can't be sent is lost, and a line tells of it.
+///
+/// The first event in the order of the run gives the answer. With `Done` all turns were taken. With
+/// `LinkFault` the bind or a receive failed, with `EntropyFault` a draw, and the turns before stand
+/// whole. With `SinkFault` a write or a flush failed, with `Memory` no memory was found; then the
+/// last turn may be there in part.
+pub fn serve<L: Link, C: Moments, E: Entropy, K: Sink>(
+    alloc: Global,
+    words: &ServeWords,
+    link: &mut L,
+    clock: &mut C,
+    entropy: &mut E,
+    sink: &mut K,
+) -> Served
+    requires { IsNodeName words.now.name }
+    ensures ends { Ends result words.now
+        (outside (L.seen link.old) (C.seen clock.old) (E.seen entropy.old) (K.seen sink.old))
+        (outside (L.seen link.new) (C.seen clock.new) (E.seen entropy.new) (K.seen sink.new)) }
+
+    // A fault is answered where the count of its object rose, and no other count rose.
+    ensures counted { Counted result
+        (outside (L.seen link.old) (C.seen clock.old) (E.seen entropy.old) (K.seen sink.old))
+        (outside (L.seen link.new) (C.seen clock.new) (E.seen entropy.new) (K.seen sink.new)) }
+
+    // All that was written was passed on, unless the sink has failed.
+    ensures passed { PassesOn result
+        (outside (L.seen link.old) (C.seen clock.old) (E.seen entropy.old) (K.seen sink.old))
+        (outside (L.seen link.new) (C.seen clock.new) (E.seen entropy.new) (K.seen sink.new)) }
+{
+    let Some(block) = draw(entropy) else {
+        return Served::EntropyFault;
+    };
+    match link.bind(&words.bind) {
+        Bound::Failed => return Served::LinkFault,
+        Bound::Done => {}
+    }
+    let Ok(mut node) = node_of(alloc, words, &block) else {
+        return Served::Memory;
+    };
+    let served = turn_zero(words, &mut node, link, clock, entropy, sink);
+    if !served.is_done() {
+        return served;
+    }
+    take_turns(words, &mut node, link, clock, entropy, sink)
+}
+
+/// A node that has done nothing yet, by the words and the first block.
+fn node_of(alloc: Global, words: &ServeWords, block: &[u8; 64]) -> Result<Node, Memory>
+    requires { IsNodeName words.now.name }
+    ensures stands { IfOk result (λ node. StandsFor (setup_of words.now block.now) [] node.end) }
+    ensures fresh { IfOk result (λ node. node.end ≡ fresh (setup_of words.now block.now)) }
+    ensures sized { IfOk result (λ node. IsSetup (setup_of words.now block.now)) }
+    ensures notes { IfOk result (λ node. node.notes ≡ record {
+      secret = words.now.group;
+      count = 0;
+      text = [];
+    }) }
+{
+    let heard = Outbox::new(alloc, ROOM)?;
+    let out = Outbox::new(alloc, ROOM)?;
+    let config = Config {
+        max_peers: MAX_PEERS,
+        max_sessions: MAX_SESSIONS,
+        introduces: words.introduce,
+    };
+    let certificate = certificate_of(alloc, &words.instance, words.name.bytes(), block)?;
+    let secret = secret_of(&words.group);
+    let cookie_secret = cookie_secret_of(block);
+    Ok(Node {
+        end: Endpoint::new(alloc, config, certificate, secret, cookie_secret),
+        heard,
+        out,
+        notes: Notes::new(alloc, &secret),
+        lost: Text::new(alloc),
+    })
+}
+
+/// The secret of the group.
+fn secret_of(group: &[u8; 32]) -> [u8; 32]
+    ensures value { result ≡ group.now }
+    ensures long { length result ≡ 32 }
+{
+    *group
+}
+
+/// Takes the turns.
+fn take_turns<L: Link, C: Moments, E: Entropy, K: Sink>(
+    words: &ServeWords,
+    node: &mut Node,
+    link: &mut L,
+    clock: &mut C,
+    entropy: &mut E,
+    sink: &mut K,
+) -> Served
+    requires { node.old.notes.secret ≡ words.now.group }
+    ensures ends { TurnsEnd result words.now node.old.notes.count node.old.end node.new.end
+        node.new.notes.count
+        (outside (L.seen link.old) (C.seen clock.old) (E.seen entropy.old) (K.seen sink.old))
+        (outside (L.seen link.new) (C.seen clock.new) (E.seen entropy.new) (K.seen sink.new)) }
+    ensures counted { Counted result
+        (outside (L.seen link.old) (C.seen clock.old) (E.seen entropy.old) (K.seen sink.old))
+        (outside (L.seen link.new) (C.seen clock.new) (E.seen entropy.new) (K.seen sink.new)) }
+    ensures passed { PassesOn result
+        (outside (L.seen link.old) (C.seen clock.old) (E.seen entropy.old) (K.seen sink.old))
+        (outside (L.seen link.new) (C.seen clock.new) (E.seen entropy.new) (K.seen sink.new)) }
+{
+    let mut buf = [0; 2048];
+    for before in 0..words.turns {
+        let served = turn(
+            words,
+            before + 1,
+            node,
+            &mut buf,
+            link,
+            clock,
+            entropy,
+            sink,
+        );
+        if !served.is_done() {
+            return served;
+        }
+    }
+    Served::Done
+}

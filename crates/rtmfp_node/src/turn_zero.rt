@@ -1,0 +1,89 @@
+//! Turn 0 of a node.
+ghost use Rattle.std.specs.Prelude.{◌≡◌};
+ghost use Rattle.rtmfp_node.specs.Acting.{DrawnAt, OpensEnd, ZeroEnds};
+ghost use Rattle.rtmfp_node.specs.Outside.{Counted, PassesOn, outside};
+
+use crate::calls::open;
+use crate::draw::{draw, draws_of};
+use crate::notes::Notes;
+use crate::sending::emit;
+use crate::served::Served;
+use crate::turn::Node;
+use endpoint::{Endpoint, Outbox};
+use rtmfp_host::{Entropy, Link, Moments, Sink};
+use rtmfp_words::{OpeningWords, ServeWords};
+
+/// Takes turn 0: makes the openings, writes what they did, and sends what goes out.
+pub(crate) fn turn_zero<L: Link, C: Moments, E: Entropy, K: Sink>(
+    words: &ServeWords,
+    node: &mut Node,
+    link: &mut L,
+    clock: &mut C,
+    entropy: &mut E,
+    sink: &mut K,
+) -> Served
+    requires secret { node.old.notes.secret ≡ words.now.group }
+    requires none { node.old.notes.count ≡ 0 }
+    ensures ends { ZeroEnds result words.now node.old.end node.new.end node.new.notes.count
+        (outside (L.seen link.old) (C.seen clock.old) (E.seen entropy.old) (K.seen sink.old))
+        (outside (L.seen link.new) (C.seen clock.new) (E.seen entropy.new) (K.seen sink.new)) }
+    ensures counted { Counted result
+        (outside (L.seen link.old) (C.seen clock.old) (E.seen entropy.old) (K.seen sink.old))
+        (outside (L.seen link.new) (C.seen clock.new) (E.seen entropy.new) (K.seen sink.new)) }
+    ensures passed { PassesOn result
+        (outside (L.seen link.old) (C.seen clock.old) (E.seen entropy.old) (K.seen sink.old))
+        (outside (L.seen link.new) (C.seen clock.new) (E.seen entropy.new) (K.seen sink.new)) }
+    ensures secret { result ≡ Served.Done → node.new.notes.secret ≡ words.now.group }
+{
+    let moment = clock.now();
+    node.heard.clear();
+    node.out.clear();
+    node.notes.clear();
+    let served = open_all(
+        &mut node.end,
+        words.openings.as_slice(),
+        moment,
+        entropy,
+        &mut node.out,
+        &mut node.notes,
+    );
+    if !served.is_done() {
+        return served;
+    }
+    emit(
+        node.notes.text(),
+        node.heard.entries(),
+        node.out.entries(),
+        0,
+        0,
+        link,
+        sink,
+        &mut node.lost,
+    )
+}
+
+/// Makes the openings, with a draw each.
+fn open_all<E: Entropy>(
+    end: &mut Endpoint,
+    openings: &[OpeningWords],
+    moment: u64,
+    entropy: &mut E,
+    out: &mut Outbox,
+    notes: &mut Notes,
+) -> Served
+    ensures ends { OpensEnd result openings.now moment (E.seen entropy.old).blocks
+        (E.seen entropy.new).blocks end.old end.new out.old.entries out.new.entries notes.old
+        notes.new }
+    ensures drawn { DrawnAt result (E.seen entropy.old).faults (E.seen entropy.new).faults }
+{
+    for opening in openings {
+        let Some(block) = draw(entropy) else {
+            return Served::EntropyFault;
+        };
+        let draws = draws_of(&block);
+        let Ok(()) = open(end, opening, moment, &draws, out, notes) else {
+            return Served::Memory;
+        };
+    }
+    Served::Done
+}
