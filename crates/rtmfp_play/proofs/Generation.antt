@@ -33,12 +33,9 @@ pub run_ends_so : (s : Status) (seed steps count x : ℕ) (v : Seen) → count <
     RunEnds (λ Kind line. StopsAtStep Kind seed steps line) s
 run_ends_so status.Done seed steps count x v few e runs ends = ends
 run_ends_so status.Memory seed steps count x v few e runs ends = tt
-run_ends_so status.BadWords seed steps count x v few e runs ends = ends
 run_ends_so (status.BadScript line) seed steps count x v few e runs ends = stops _ seed steps count x line v few ends.0 e runs ends.1
 run_ends_so (status.Forged line) seed steps count x v few e runs ends = stops _ seed steps count x line v few ends.0 e runs ends.1
-run_ends_so status.SinkFault seed steps count x v few e runs ends = ends
-run_ends_so status.SourceFault seed steps count x v few e runs ends = ends
-run_ends_so status.ScriptLong seed steps count x v few e runs ends = ends
+run_ends_so _ seed steps count x v few e runs ends = ends
 
 all_entries-append : (lines more : List JournalLine) → all_entries (lines ++ more) ≡ all_entries lines ++ all_entries more
 all_entries-append [] more = refl
