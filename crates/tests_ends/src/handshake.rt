@@ -1,8 +1,8 @@
 //! The bytes of a whole handshake, beside those of a program written apart.
 
-use crate::by_hand::Ends;
 use std::alloc::Global;
 use std::test::Fail;
+use tests_base::by_hand::Ends;
 
 /// What `scripts/baseline/handshake.py` prints: the caller's hello, the answerer's hello, both
 /// keyings, the ping that opens the session, and its answer.

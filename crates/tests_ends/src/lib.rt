@@ -3,8 +3,6 @@
 #![tactic(auto)]
 
 #[cfg(test)]
-mod by_hand;
-#[cfg(test)]
 mod handshake;
 #[cfg(test)]
 mod introducing;

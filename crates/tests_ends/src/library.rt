@@ -1,11 +1,11 @@
 //! An end as a library, in the lines that README shows.
 
-use crate::by_hand::{ANSWERER, CALLER, GROUP, draws};
 use endpoint::{Config, Endpoint, Entry, Outbox};
 use identity::{CertFault, Certificate, Epd};
 use rtmfp_forms::Address;
 use std::alloc::Global;
 use std::test::Fail;
+use tests_base::by_hand::{ANSWERER, CALLER, GROUP, draws};
 
 /// An attempt is opened, a datagram comes, and time goes on.
 fn goes_on(end: &mut Endpoint, out: &mut Outbox, address: Address) -> Result<(), Fail> {

@@ -1,9 +1,9 @@
 //! Rows of rules, each with its edge and what stands beside it, after docs/PROTOCOL.md. A row gives
 //! what is done with an end, and what it adds; a datagram that goes out is told by its length.
 
-use crate::by_hand::Ends;
 use std::alloc::Global;
 use std::test::Fail;
+use tests_base::by_hand::Ends;
 
 /// A session is born, which isn't confirmed yet. The datagrams have the lengths of those in
 /// handshake.rt.
@@ -237,55 +237,6 @@ session b 17 01010000 1000 1 = out 42; out 58;
 session b 18 010c0000 2000 9 = ended 6 Far; out 42;
 ";
 
-/// Calls on flows of a half-open session, then of one that is kept, and when it is closing: each
-/// refusal at its edge.
-const FLOWS: &str = "flow b 5 4 6d = NoSession
-flow a 3 4 6d = NoSession
-flow b 6 8 - = WideMetadata(0)
-flow b 6 7 - = flow 6 0;
-flow b 6 0 6d6d6d6d6d6d6d6d6d6d6d6d6d6d6d6d6d6d6d6d6d6d6d6d6d6d6d6d6d6d6d6d6d6d6d6d6d6d6d6d6d6d6d6d6d6d6d6d6d6d6d6d6d6d6d6d6d6d6d6d6d6d6d6d6d = WideMetadata(65)
-flow b 6 0 6d6d6d6d6d6d6d6d6d6d6d6d6d6d6d6d6d6d6d6d6d6d6d6d6d6d6d6d6d6d6d6d6d6d6d6d6d6d6d6d6d6d6d6d6d6d6d6d6d6d6d6d6d6d6d6d6d6d6d6d6d6d6d6d = flow 6 1;
-queue b 5 0 1 = NoSession
-queue b 6 2 1 = NoFlow
-queue b 6 0 1048577 = Queue(TooLong(1048576))
-queue b 6 0 0 = queued 6 0 1 0;
-queue b 6 0 1001 = queued 6 0 2 1001;
-queue b 6 0 1000 = queued 6 0 4 1000;
-queue b 6 1 1 = queued 6 1 1 1;
-abandon b 5 0 2 = NoSession
-abandon b 6 2 2 = NoFlow
-abandon b 6 0 3 = NotQueued
-abandon b 6 0 2 = abandoned 6 0 2;
-abandon b 6 0 2 = NotQueued
-abandon b 6 0 5 = NotQueued
-finish b 5 0 = NoSession
-finish b 6 2 = NoFlow
-finish b 6 0 = finished 6 0 5;
-finish b 6 0 = Finished
-queue b 6 0 0 = Queue(Finished)
-abandon b 6 0 4 = abandoned 6 0 4;
-kept b 1 9 = out 149;
-last a 2 7 = opened 3 6; out 42;
-flow a 3 4 6d = flow 3 0;
-close b 6 0 = ended 6 Near; out 42;
-flow b 6 0 - = NoSession
-queue b 6 1 1 = NoSession
-abandon b 6 1 1 = NoSession
-finish b 6 1 = NoSession
-";
-
-/// What a flow holds of messages: 2,097,152 bytes.
-const BACKLOG: &str = "flow b 6 0 - = flow 6 0;
-queue b 6 0 1048576 = queued 6 0 1 1048576;
-queue b 6 0 1048575 = queued 6 0 1050 1048575;
-queue b 6 0 2 = Queue(Backlog(2097151))
-queue b 6 0 1 = queued 6 0 2099 1;
-queue b 6 0 1 = Queue(Backlog(2097152))
-queue b 6 0 0 = queued 6 0 2100 0;
-abandon b 6 0 1050 = abandoned 6 0 1050;
-queue b 6 0 1048575 = queued 6 0 2101 1048575;
-";
-
 /// The first row of a table that isn't so of these ends.
 pub(crate) fn first_wrong(
     alloc: Global,
@@ -342,7 +293,7 @@ pub(crate) fn wrong_in(
 const OF_NEW_ENDS: [&str; 5] = [OPENS, PACKETS, KEYINGS, ANSWERS, TIMES];
 
 /// Tables of ends after the opening.
-const OF_OPENED: [&str; 13] = [
+const OF_OPENED: [&str; 11] = [
     HANDSHAKE,
     SPENT,
     CONTEXTS,
@@ -354,48 +305,12 @@ const OF_OPENED: [&str; 13] = [
     UNCONFIRMED,
     KEPT_ALIVE,
     MOVES,
-    FLOWS,
-    BACKLOG,
 ];
 
 #[test]
 fn rows_are_so(rt: HostRuntime) -> Result<(), Fail> {
     assert_eq!(rt; wrong_in(rt.alloc(), "", &OF_NEW_ENDS)?, None);
     assert_eq!(rt; wrong_in(rt.alloc(), OPENING, &OF_OPENED)?, None);
-    Ok(())
-}
-
-/// Whether a row tells of these ends what it is to tell.
-fn tells(alloc: Global, ends: &mut Ends, row: &str, want: &str) -> Result<bool, Fail> {
-    let told = ends.told(alloc, row)?;
-    Ok(told.as_str() == want)
-}
-
-/// Whether the answerer's next flow has this ID.
-fn opens_next(alloc: Global, ends: &mut Ends, id: u32) -> Result<bool, Fail> {
-    let want = format!(in alloc; "flow 6 {id}; ")?;
-    tells(alloc, ends, "flow b 6 0 -", want.as_str())
-}
-
-/// Whether a session of these ends opens 256 flows, and no more.
-fn opens_256(alloc: Global, ends: &mut Ends) -> Result<bool, Fail> {
-    let _ = first_wrong(alloc, ends, OPENING)?;
-    for id in 0..256_u32 {
-        if !opens_next(alloc, ends, id)? {
-            return Ok(false);
-        }
-    }
-    tells(alloc, ends, "flow b 6 8 -", "FlowsFull(256)")
-}
-
-fn flows_are_limited(alloc: Global) -> Result<bool, Fail> {
-    let mut ends = Ends::new(alloc)?;
-    opens_256(alloc, &mut ends)
-}
-
-#[test]
-fn a_session_opens_256_flows_at_most(rt: HostRuntime) -> Result<(), Fail> {
-    assert!(rt; flows_are_limited(rt.alloc())?);
     Ok(())
 }
 

@@ -1,7 +1,8 @@
 //! Two ends by hand: a caller `a` and an answerer `b`, and what is done with them, as the words of
 //! a row say.
 
-use crypto_profile::{Context, Keys, seal_in_place};
+use crate::carrying::{Path, handed_over};
+use crypto_profile::{Context, Keys, open_in_place, seal_in_place};
 use endpoint::{CallRefusal, Config, Draws, Endpoint, Entry, MessageOptions, Outbox};
 use glare_core::Fact;
 use identity::{CertFault, Certificate, Epd};
@@ -10,11 +11,11 @@ use rtmfp_forms::Address;
 use std::alloc::{AllocError, Global};
 use std::test::Fail;
 
-pub(crate) const GROUP: [u8; 32] = [7; 32];
+pub const GROUP: [u8; 32] = [7; 32];
 
-pub(crate) const ANSWERER: &[u8] = b"0123456789abcdefanswerer";
+pub const ANSWERER: &[u8] = b"0123456789abcdefanswerer";
 
-pub(crate) const CALLER: &[u8] = b"0123456789abcdefcaller";
+pub const CALLER: &[u8] = b"0123456789abcdefcaller";
 
 fn end(alloc: Global, cert: &[u8], peers: u32, sessions: u32) -> Result<Endpoint, CertFault> {
     let config = Config {
@@ -39,7 +40,7 @@ fn address(last: u8) -> Address {
     Address::v4([10, 0, 0, last], 1935)
 }
 
-pub(crate) fn draws(word: u32) -> Draws {
+pub fn draws(word: u32) -> Draws {
     let mut nonce = [0; 16];
     nonce[15] = (word % 256) as u8;
     let mut token = nonce;
@@ -170,6 +171,15 @@ fn sealed(
 
 /// The context of packets to the responder, in the session of the handshake.
 fn to_responder(alloc: Global) -> Result<Context, Fail> {
+    in_session(alloc, true)
+}
+
+/// The context of packets to the initiator.
+fn to_initiator(alloc: Global) -> Result<Context, Fail> {
+    in_session(alloc, false)
+}
+
+fn in_session(alloc: Global, to_responder: bool) -> Result<Context, Fail> {
     Ok(Context::Session {
         ni: draws(3).nonce,
         nr: draws(6).nonce,
@@ -177,8 +187,41 @@ fn to_responder(alloc: Global) -> Result<Context, Fail> {
         fp_r: epd_of(alloc, "answerer")?.print,
         sid_i: 3,
         sid_r: 6,
-        to_responder: true,
+        to_responder,
     })
+}
+
+/// The plain packet of a datagram to the initiator, in the session of the handshake.
+fn opened(alloc: Global, datagram: &[u8]) -> Result<String, Fail> {
+    let mut part = Vec::from_slice(alloc, datagram.get(4..).unwrap_or(&[]))?;
+    let context = to_initiator(alloc)?;
+    let range = open_in_place(&Keys::of(&GROUP, &context), 3, part.as_mut_slice());
+    let plain = range.ok().and_then(|range| part.as_slice().get(range));
+    Ok(hex::encode(alloc, plain.unwrap_or(&[]))?)
+}
+
+/// A packet with a message of a byte in a flow, whose number is spelled with two bytes.
+fn message_of(flow: u32) -> [u8; 14] {
+    let high = (flow / 128 % 128 + 128) as u8;
+    let low = (flow % 128) as u8;
+    [1, 0x10, 0, 10, 0x80, high, low, 1, 1, 2, 0, 0x6d, 0, 0x61]
+}
+
+/// A packet with a fragment of so many bytes, of a message of 1,659 fragments.
+fn fragment_of(alloc: Global, number: u32, length: u32) -> Result<Vec<u8>, AllocError> {
+    let flags = match number {
+        1 => 0x90,
+        1659 => 0xa0,
+        _ => 0xb0,
+    };
+    let (high, low) = ((number / 128 % 128 + 128) as u8, (number % 128) as u8);
+    let [first, second] = ((length % 4096 + 10) as u16).to_be_bytes();
+    let head = [
+        1, 0x10, first, second, flags, 0, high, low, high, low, 2, 0, 0x6d, 0,
+    ];
+    let mut plain = Vec::from_slice(alloc, &head)?;
+    plain.resize((length % 4096 + 14) as usize, 7)?;
+    Ok(plain)
 }
 
 /// A word of a row.
@@ -439,16 +482,16 @@ fn made(alloc: Global, row: &str, index: usize) -> Result<Vec<u8>, Fail> {
 /// A caller and an answerer, the last datagram, one that is kept, and where the datagrams of the
 /// last call went.
 #[derive(Drop)]
-pub(crate) struct Ends {
-    a: Endpoint,
-    b: Endpoint,
+pub struct Ends {
+    pub(crate) a: Endpoint,
+    pub(crate) b: Endpoint,
     last: Vec<u8>,
     kept: Vec<u8>,
     places: String,
 }
 
 impl Ends {
-    pub(crate) fn new(alloc: Global) -> Result<Ends, Fail> {
+    pub fn new(alloc: Global) -> Result<Ends, Fail> {
         Ok(Ends {
             a: end(alloc, CALLER, 16, 16)?,
             b: end(alloc, ANSWERER, 16, 16)?,
@@ -458,7 +501,7 @@ impl Ends {
         })
     }
 
-    pub(crate) fn last(&self) -> &[u8] {
+    pub fn last(&self) -> &[u8] {
         self.last.as_slice()
     }
 
@@ -500,12 +543,7 @@ impl Ends {
     }
 
     /// Gives the answerer a packet of the session of the handshake.
-    pub(crate) fn hears(
-        &mut self,
-        alloc: Global,
-        count: u64,
-        plain: &[u8],
-    ) -> Result<String, Fail> {
+    pub fn hears(&mut self, alloc: Global, count: u64, plain: &[u8]) -> Result<String, Fail> {
         let datagram = sealed(alloc, &to_responder(alloc)?, 6, count, plain)?;
         let added = receives(alloc, &mut self.b, 1, 0, 8, datagram.as_slice())?;
         Ok(added.text)
@@ -566,10 +604,34 @@ impl Ends {
         Ok(String::from_str(alloc, name)?)
     }
 
+    /// Gives the answerer a message of a byte in a flow, as a row says, or a fragment.
+    fn takes(&mut self, alloc: Global, row: &str) -> Result<String, Fail> {
+        let (count, value) = (u64::from(number(row, 1)), number(row, 2));
+        if word(row, 0) == "message" {
+            return self.hears(alloc, count, &message_of(value));
+        }
+        let plain = fragment_of(alloc, value, number(row, 3))?;
+        self.hears(alloc, count, plain.as_slice())
+    }
+
+    /// How often a long message is handed over, whatever becomes of its datagrams.
+    fn carries(&mut self, alloc: Global, row: &str) -> Result<String, Fail> {
+        let path = match word(row, 1) {
+            "whole" => Path::Whole,
+            "reversed" => Path::Reversed,
+            _ => Path::TenthIsLost,
+        };
+        let handed = handed_over(alloc, self, path)?;
+        Ok(format!(in alloc; "{handed}")?)
+    }
+
     /// What comes of what a row says.
-    pub(crate) fn told(&mut self, alloc: Global, row: &str) -> Result<String, Fail> {
+    pub fn told(&mut self, alloc: Global, row: &str) -> Result<String, Fail> {
         match word(row, 0) {
             "new" => self.renews(alloc, row),
+            "plain" => opened(alloc, self.last.as_slice()),
+            "message" | "fragment" => self.takes(alloc, row),
+            "carry" => self.carries(alloc, row),
             "places" => Ok(String::from_str(alloc, self.places.as_str())?),
             "keep" => self.keeps(alloc),
             "last" | "kept" => self.passes(alloc, row),
