@@ -1,22 +1,46 @@
 //! Plays the examples, which are the files of this crate's `data`, and tells of each whether what
 //! is written is the report beside it. Its words are the names of the examples. All are scripts,
-//! but for `packets`, whose lines are packets.
+//! but for `packets`, whose lines are packets, for texts of rows, each of which is a script with its
+//! report (`flows.rows` and the like), and for texts of tables, of rows of two ends by hand
+//! (`flows.tables`).
 #![tactic(auto)]
+
+mod rows;
+mod tables;
 
 use rtmfp_cli::run;
 use rtmfp_host::{MemorySink, MemorySource};
+use std::test::Fail;
 use std::{env, fs, io};
 
-fn main(rt: HostRuntime) -> io::Result<()> {
+fn main(rt: HostRuntime) -> Result<(), Fail> {
     for name in env::args(&rt)?.skip(1) {
-        let told = if is_so(&rt, name.as_str())? {
-            "has its report"
-        } else {
-            "has another report"
-        };
-        println!(rt; "{name} {told}")?;
+        play(&rt, name.as_str())?;
     }
     Ok(())
+}
+
+/// Plays the examples of a name, by what the name ends with.
+fn play(rt: &HostRuntime, name: &str) -> Result<(), Fail> {
+    if name.ends_with(".rows") {
+        let text = fs::read_to_string(rt, name)?;
+        return Ok(rows::tell_rows(rt, text.as_str())?);
+    }
+    if name.ends_with(".tables") {
+        let text = fs::read_to_string(rt, name)?;
+        return tables::tell_tables(rt, text.as_str());
+    }
+    Ok(tell(rt, name, is_so(rt, name)?)?)
+}
+
+/// Tells of a script whether it has its report.
+fn tell(rt: &HostRuntime, name: &str, is_so: bool) -> io::Result<()> {
+    let told = if is_so {
+        "has its report"
+    } else {
+        "has another report"
+    };
+    println!(rt; "{name} {told}")
 }
 
 /// The text of a file of an example.

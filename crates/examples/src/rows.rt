@@ -1,0 +1,154 @@
+//! Rows of scripts, each with its report, as texts in the crate's `data`. How such a text is
+//! written stands at its head.
+
+use crate::tell;
+use rtmfp_cli::{Status, run};
+use rtmfp_host::{MemorySink, MemorySource};
+use std::alloc::{AllocError, Global};
+use std::io;
+use tests_base::rows::lines_of;
+
+/// The digits of a message of so many bytes.
+fn digits(alloc: Global, length: u64) -> Result<String, AllocError> {
+    let mut bytes = Vec::new(alloc);
+    for index in 0..length {
+        bytes.push((index % 251) as u8)?;
+    }
+    hex::encode(alloc, bytes.as_slice())
+}
+
+/// Adds a line of a report, in which a last word `*7` is a message of 7 bytes.
+fn push_report(alloc: Global, line: &str, report: &mut String) -> Result<(), AllocError> {
+    match line.rsplit_once(" *") {
+        Some((front, length)) => {
+            report.push_str(front)?;
+            report.push_str(" ")?;
+            report.push_str(digits(alloc, length.parse::<u64>().unwrap_or(0))?.as_str())?;
+        }
+        None => report.push_str(line)?,
+    }
+    report.push_str("\n")
+}
+
+/// Adds a line of a script.
+fn push_step(line: &str, script: &mut String) -> Result<(), AllocError> {
+    script.push_str(line)?;
+    script.push_str("\n")
+}
+
+/// A script, its report, and how many lines the script has.
+#[derive(Drop)]
+struct Transcript {
+    script: String,
+    report: String,
+    steps: u64,
+}
+
+impl Transcript {
+    fn new(alloc: Global) -> Transcript {
+        Transcript {
+            script: String::new(alloc),
+            report: String::new(alloc),
+            steps: 0,
+        }
+    }
+
+    /// Adds the lines that a line of a row stands for, of the script or of the report.
+    fn push_line(&mut self, alloc: Global, line: &str) -> Result<(), AllocError> {
+        let step = line.strip_prefix("> ");
+        for text in lines_of(alloc, step.unwrap_or(line))? {
+            if step.is_some() {
+                self.steps = self.steps.saturating_add(1);
+                push_step(text.as_str(), &mut self.script)?;
+            } else {
+                push_report(alloc, text.as_str(), &mut self.report)?;
+            }
+        }
+        Ok(())
+    }
+
+    /// Adds lines, but no step where the script has so many.
+    fn push(&mut self, alloc: Global, lines: &str, most: u64) -> Result<(), AllocError> {
+        for line in lines.lines() {
+            if line.starts_with("> ") && self.steps >= most {
+                return Ok(());
+            }
+            if !line.starts_with(['#', '+']) {
+                self.push_line(alloc, line)?;
+            }
+        }
+        Ok(())
+    }
+}
+
+/// The lines of the row of this title.
+pub(crate) fn row_named<'a>(rows: &'a str, title: &str) -> &'a str {
+    for row in rows.split("\n@ ").skip(1) {
+        let (name, lines) = row.split_once('\n').unwrap_or(("", ""));
+        if name == title {
+            return lines;
+        }
+    }
+    ""
+}
+
+/// The first lines of another row that a row begins with: how many, and its title.
+fn begins_with(lines: &str) -> Option<(u64, &str)> {
+    for line in lines.lines() {
+        if let Some(front) = line.strip_prefix("+ ") {
+            let (count, title) = front.split_once(' ')?;
+            return Some((count.parse::<u64>().ok()?, title));
+        }
+    }
+    None
+}
+
+/// A row and those that it begins with, of each its lines and how many lines of the script there
+/// are behind it. Four rows are the most that begin with one another.
+fn parts<'a>(
+    alloc: Global,
+    rows: &'a str,
+    lines: &'a str,
+) -> Result<Vec<(&'a str, u64)>, AllocError> {
+    let mut parts = vec![in alloc; (lines, u64::MAX)]?;
+    let mut front = lines;
+    for _ in 0..4 {
+        let Some((count, title)) = begins_with(front) else {
+            break;
+        };
+        front = row_named(rows, title);
+        parts.push((front, count))?;
+    }
+    Ok(parts)
+}
+
+/// What the lines of a row stand for.
+fn whole_row(alloc: Global, rows: &str, lines: &str) -> Result<Transcript, AllocError> {
+    let mut whole = Transcript::new(alloc);
+    let parts = parts(alloc, rows, lines)?;
+    for (lines, most) in parts.iter().rev() {
+        whole.push(alloc, lines, *most)?;
+    }
+    Ok(whole)
+}
+
+/// Whether a run of the script of a row is done and writes its report.
+fn is_so(alloc: Global, rows: &str, lines: &str) -> Result<bool, AllocError> {
+    let whole = whole_row(alloc, rows, lines)?;
+    let mut words = Vec::new(alloc);
+    words.push(String::from_str(alloc, "replay")?)?;
+    let mut source = MemorySource::new(whole.script.into_bytes());
+    let mut sink = MemorySink::new(alloc);
+    let status = run(alloc, words.as_slice(), &mut source, &mut sink);
+    Ok(status == Status::Done && sink.written() == Some(whole.report.as_bytes()))
+}
+
+/// Tells of each of these rows whether its script has its report.
+pub(crate) fn tell_rows(rt: &HostRuntime, rows: &str) -> io::Result<()> {
+    for row in rows.split("\n@ ").skip(1) {
+        let (title, lines) = row.split_once('\n').unwrap_or((row, ""));
+        let has_it = is_so(rt.alloc(), rows, lines)?;
+        tell(rt, title, has_it)?;
+    }
+    Ok(())
+}
