@@ -1,5 +1,5 @@
 -- Messages for the sessions that were opened.
-use Rattle.std.proofs.Common.{◌≡◌, ℕ, ◌+◌, ◌<◌, List, [], ◌∷◌, ◌++◌, take, length, refl, sym, ap, ◌∙◌, append_assoc, append-nil, subst, drop, Option, Some, None, get_or, add-one}
+use Rattle.std.proofs.Common.{◌≡◌, ℕ, ◌+◌, ◌<◌, List, [], ◌∷◌, ◌++◌, take, length, refl, sym, ap, ◌∙◌, append_assoc, subst, drop, Option, Some, None, get_or, add-one}
 use Rattle.std.proofs.Math.Seq.{take-suc}
 use Rattle.endpoint_model.specs.declared.entry.Entry.{Entry}
 use Rattle.rtmfp_forms.specs.Address.{AddressParts}

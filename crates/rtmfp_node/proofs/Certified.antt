@@ -1,9 +1,8 @@
 -- Instance bytes and a name are a certificate.
-use Rattle.std.proofs.Common.{◌≡◌, ℕ, ◌+◌, ◌-◌, ◌≤◌, Bool, true, false, nat_lt, List, [], ◌∷◌, ◌++◌, take, drop, length, refl, sym, ap, ◌∙◌, arith, Option, Some, None, Result, Ok, Err, if◌then◌else◌}
+use Rattle.std.proofs.Common.{◌≡◌, ℕ, ◌+◌, ◌≤◌, Bool, true, false, nat_lt, List, [], ◌∷◌, ◌++◌, drop, length, refl, sym, ap, ◌∙◌, arith, Some, None, Result, Ok, Err, if◌then◌else◌}
 use Rattle.std.specs.List.{list_all}
 use Rattle.std.proofs.lemmas.Bool.Decides.{nat_tests}
 use Rattle.std.proofs.lemmas.List.{length-append}
-use Rattle.identity.specs.declared.cert.CertFault.{CertFault}
 use Rattle.identity.specs.declared.cert.CertFault.TheVariants.{Short, LongName, NotAscii}
 use Rattle.identity.specs.Certificates.{IsCertificate, certificate_fault, has_ascii_name}
 use Rattle.rtmfp_words.specs.Node.{IsNodeName}

@@ -1,10 +1,10 @@
 -- Openings, one after another.
-use Rattle.std.proofs.Common.{◌≡◌, ℕ, ◌+◌, ◌<◌, suc, List, [], ◌∷◌, ◌++◌, drop, take, length, refl, sym, ap, ◌∙◌, subst, Option, Some, None, get_or, add-one, arith}
+use Rattle.std.proofs.Common.{◌≡◌, ℕ, ◌+◌, ◌<◌, suc, List, [], ◌∷◌, ◌++◌, drop, take, length, refl, sym, ap, ◌∙◌, subst, Option, Some, get_or, add-one, arith}
 use Rattle.std.proofs.Math.Seq.{take-suc}
 use Rattle.std.proofs.lemmas.List.{drop-drop}
 use Rattle.rtmfp_host.specs.Linking.{LinkSeen}
 use Rattle.rtmfp_host.specs.Ticking.{Clock}
-use Rattle.rtmfp_host.specs.Drawing.{EntropySeen, next_block}
+use Rattle.rtmfp_host.specs.Drawing.{EntropySeen}
 use Rattle.rtmfp_host.specs.Seen.{SinkSeen}
 use Rattle.endpoint_model.specs.declared.entry.Entry.{Entry}
 use Rattle.endpoint_model.specs.Event.{Event}
@@ -12,7 +12,7 @@ use Rattle.endpoint_model.specs.State.{State}
 use Rattle.rtmfp_words.specs.declared.opening_words.OpeningWords.{OpeningWords}
 use Rattle.rtmfp_node.specs.Outside.{outside}
 use Rattle.rtmfp_node.specs.Events.{AreOpened, IsOpened, draws_of}
-use Rattle.rtmfp_node.specs.Acting.{ActsIn, AreOpenedBy, DidOpen, Drew, Noted, OpensAll}
+use Rattle.rtmfp_node.specs.Acting.{AreOpenedBy, DidOpen, Drew, Noted, OpensAll}
 use Rattle.rtmfp_node.proofs.Acts.{in_none, in_then}
 use Rattle.rtmfp_node.proofs.Told.{By, drew_back, with_blocks}
 

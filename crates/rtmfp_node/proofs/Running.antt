@@ -1,5 +1,5 @@
 -- Runs, turn by turn.
-use Rattle.std.proofs.Common.{◌≡◌, ◌≢◌, ◌⊎◌, inl, inr, ℕ, ◌+◌, ◌<◌, List, [], ◌∷◌, ◌++◌, drop, take, length, refl, sym, ap, ◌∙◌, append-nil, subst, Option, Some, None, add-one, arith}
+use Rattle.std.proofs.Common.{◌≡◌, ◌≢◌, inl, inr, ℕ, ◌+◌, ◌<◌, List, [], ◌++◌, drop, take, length, refl, sym, ap, ◌∙◌, subst, Option, add-one, arith}
 use Rattle.identity.specs.Certificates.{IsCertificate}
 use Rattle.rtmfp_host.specs.Faults.{Rose}
 use Rattle.rtmfp_host.specs.Linking.{LinkSeen, Calls}
@@ -18,12 +18,12 @@ use Rattle.rtmfp_node.specs.declared.served.Served.{Served}
 use Rattle.rtmfp_node.specs.declared.served.Served.TheVariants.{Done, Memory, LinkFault, SinkFault, EntropyFault}
 use Rattle.rtmfp_node.specs.Outside.{Counted, Outside, PassesOn, outside, Told, Leaves}
 use Rattle.rtmfp_node.specs.Events.{ExtendsBy, entries_of}
-use Rattle.rtmfp_node.specs.Turn.{Run, Turn, TurnZero, Turns, after_bind}
+use Rattle.rtmfp_node.specs.Turn.{Turn, TurnZero, Turns, after_bind}
 use Rattle.rtmfp_node.specs.Cut.{CutAtZero, CutBy, Untouched}
-use Rattle.rtmfp_node.specs.Whole.{CutAtStart, CutLater, CutRun, Ends, OnlyBound, Ran, instance_in, setup_of}
+use Rattle.rtmfp_node.specs.Whole.{CutAtStart, CutRun, Ends, OnlyBound, Ran, instance_in, setup_of}
 use Rattle.rtmfp_node.specs.Acting.{Drew, Follows, TurnDone, TurnEnds, TurnsCut, TurnsDone, TurnsEnd, ZeroDone, ZeroEnds}
-use Rattle.rtmfp_node.proofs.Acts.{calls_sized, counted_more, entries_of_more, extends_more, extends_none, sent_after_more}
-use Rattle.rtmfp_node.proofs.Told.{By, by_after, by_call, by_draw, by_leaves, by_none, by_then, leaves_map}
+use Rattle.rtmfp_node.proofs.Acts.{calls_sized, counted_more, extends_more, extends_none}
+use Rattle.rtmfp_node.proofs.Told.{by_after, by_call, by_draw, by_leaves, by_none, by_then, leaves_map}
 use Rattle.rtmfp_node.proofs.Turning.{undrawn}
 
 -- ---- turns

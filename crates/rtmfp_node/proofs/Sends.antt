@@ -1,5 +1,5 @@
 -- Sends and their lines, one after another.
-use Rattle.std.proofs.Common.{◌≡◌, ◌≢◌, ◌⊎◌, inl, inr, ℕ, ◌+◌, ◌<◌, suc, Bool, true, false, List, [], ◌∷◌, ◌++◌, take, drop, length, refl, sym, ap, ◌∙◌, append_assoc, append-nil, subst, Option, Some, None, get_or, add-one, arith, ◌-◌, ◌^◌, ◌≤◌, min}
+use Rattle.std.proofs.Common.{◌≡◌, ◌≢◌, inl, inr, ℕ, ◌+◌, ◌<◌, suc, Bool, true, false, List, [], ◌∷◌, ◌++◌, take, drop, length, refl, sym, ap, ◌∙◌, append_assoc, append-nil, subst, Option, Some, None, get_or, add-one, arith}
 use Rattle.std.proofs.Math.Seq.{take-suc}
 use Rattle.std.proofs.lemmas.List.{take-append-drop}
 use Rattle.crypto_profile.specs.declared.keys.Context.{Context}
@@ -20,7 +20,6 @@ use Rattle.rtmfp_node.specs.Outside.{Counted, Outside, PassesOn, Stays}
 use Rattle.rtmfp_node.specs.Report.{unsent_line, unsent_text}
 use Rattle.rtmfp_node.proofs.Acts.{sent_after_more}
 use Rattle.rtmfp_node.specs.Turn.{AreSends, outs_by, outs_in}
-use Rattle.rtmfp_node.specs.Cut.{AreFirstSends}
 use Rattle.rtmfp_node.specs.Acting.{CallsAll, CountedAt, EmitEnds, EmittedSome, LostEnds, PassOn, PassedAt, SendEnds, SentAll, SentSome}
 
 -- ---- texts

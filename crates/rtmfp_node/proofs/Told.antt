@@ -1,5 +1,5 @@
 -- What was told is traced back, call by call.
-use Rattle.std.proofs.Common.{◌≡◌, ℕ, List, [], ◌∷◌, ◌++◌, drop, refl, sym, ap, ◌∙◌, subst, append-nil, Option, Some, None, IsSome}
+use Rattle.std.proofs.Common.{◌≡◌, ℕ, List, [], ◌∷◌, ◌++◌, drop, refl, sym, ap, ◌∙◌, subst, Option, Some, None}
 use Rattle.rtmfp_host.specs.Linking.{Line, LinkSeen, next_given, after_call, Calls, Receives}
 use Rattle.rtmfp_host.specs.Ticking.{Clock, next_moment, after_moment, Ticks}
 use Rattle.rtmfp_host.specs.Drawing.{EntropySeen, next_block}

@@ -1,5 +1,5 @@
 -- Turns, from what their parts did.
-use Rattle.std.proofs.Common.{◌≡◌, ◌≢◌, ◌⊎◌, inl, inr, ℕ, ◌+◌, List, [], ◌∷◌, ◌++◌, drop, length, refl, sym, ap, ◌∙◌, append_assoc, append-nil, subst, Option, Some, None}
+use Rattle.std.proofs.Common.{◌≡◌, ◌≢◌, inl, inr, ℕ, List, [], ◌∷◌, ◌++◌, drop, length, refl, sym, ap, ◌∙◌, append_assoc, append-nil, subst, Option, Some, None}
 use Rattle.rtmfp_host.specs.Linking.{LinkSeen, next_given, Receives}
 use Rattle.rtmfp_host.specs.Ticking.{Clock, next_moment, after_moment, Ticks}
 use Rattle.rtmfp_host.specs.Drawing.{EntropySeen, next_block}
@@ -7,7 +7,6 @@ use Rattle.rtmfp_host.specs.Seen.{SinkSeen}
 use Rattle.rtmfp_host.specs.declared.link.Given.{Given}
 use Rattle.rtmfp_host.specs.declared.link.LinkCall.{LinkCall}
 use Rattle.rtmfp_host.specs.declared.link.LinkCall.TheVariants.{Receive}
-use Rattle.endpoint_model.specs.declared.config.Draws.{Draws}
 use Rattle.endpoint_model.specs.declared.entry.Entry.{Entry}
 use Rattle.endpoint_model.specs.Event.{Event}
 use Rattle.endpoint_model.specs.State.{State}
@@ -19,11 +18,11 @@ use Rattle.rtmfp_node.specs.declared.served.Served.TheVariants.{Done, Memory, Li
 use Rattle.rtmfp_node.specs.Outside.{Counted, Outside, outside, Told, Leaves}
 use Rattle.rtmfp_node.specs.Report.{events_text, unsent_text}
 use Rattle.rtmfp_node.specs.Events.{AreOpened, AreTurnEvents, draws_of, entries_of}
-use Rattle.rtmfp_node.specs.Turn.{AreSends, Turn, TurnZero, outs_in, until_of}
-use Rattle.rtmfp_node.specs.Cut.{AreFirstSends, Breaks, Broken, BrokenAtZero, CutAtZero, CutBy, IsPart, Untouched, Waited}
-use Rattle.rtmfp_node.specs.Acting.{Acted, ActedOn, Acts, ActsIn, DrawnAt, Drew, EmitEnds, EmittedAll, EmittedSome, Follows, Noted, OpensAll, OpensEnd, TurnDone, TurnEnds, ZeroDone, ZeroEnds, begun}
+use Rattle.rtmfp_node.specs.Turn.{AreSends, outs_in, until_of}
+use Rattle.rtmfp_node.specs.Cut.{AreFirstSends, Broken, BrokenAtZero, IsPart, Untouched, Waited}
+use Rattle.rtmfp_node.specs.Acting.{Acted, ActedOn, Acts, DrawnAt, Drew, EmitEnds, EmittedAll, EmittedSome, Follows, Noted, OpensAll, OpensEnd, TurnDone, TurnEnds, ZeroDone, ZeroEnds}
 use Rattle.rtmfp_node.proofs.Openings.{by_opens}
-use Rattle.rtmfp_node.proofs.Told.{By, after_given, by_draw, by_emit, by_leaves, by_moment, by_receive, by_then, emitted, leaves_drawing, leaves_map, leaves_wait, with_blocks, with_clock, with_line, by_after}
+use Rattle.rtmfp_node.proofs.Told.{By, by_draw, by_emit, by_leaves, by_moment, by_receive, by_then, emitted, leaves_drawing, leaves_map, leaves_wait, by_after}
 
 -- ---- what was noted
 

@@ -1,9 +1,8 @@
 -- The calls of an end in a turn of its node, and what they add.
-use Rattle.std.specs.Prelude.{◌≡◌, ℕ, List, [], ◌∷◌, ◌++◌, drop, take, length, Option, Some, None}
+use Rattle.std.specs.Prelude.{◌≡◌, ℕ, List, [], ◌∷◌, ◌++◌, drop, take, Option, Some, None}
 use Rattle.std.specs.Int.{w32, from_be_bytes}
 use Rattle.glare_core.specs.declared.facts.Fact.{Fact}
 use Rattle.glare_core.specs.declared.facts.Fact.TheVariants.{Started, Born, Opened, Confirmed, Ended}
-use Rattle.rtmfp_forms.specs.Address.{AddressParts}
 use Rattle.rtmfp_host.specs.Drawing.{next_block}
 use Rattle.rtmfp_host.specs.declared.link.Given.{Given}
 use Rattle.rtmfp_host.specs.declared.link.Given.TheVariants.{Datagram, Quiet}

@@ -1,9 +1,8 @@
 -- The report of a node: its lines begin with the turn and `self`, and its peers are called by the
 -- digits of their fingerprints.
-use Rattle.std.specs.Prelude.{ℕ, ◌+◌, Bool, true, false, List, [], ◌∷◌, ◌++◌, codes}
+use Rattle.std.specs.Prelude.{ℕ, ◌+◌, true, false, List, [], ◌∷◌, ◌++◌, codes}
 use Rattle.rtmfp_host.specs.declared.link.LinkCall.{LinkCall}
 use Rattle.rtmfp_host.specs.declared.link.LinkCall.TheVariants.{Bind, Receive, Send}
-use Rattle.endpoint_model.specs.declared.entry.Entry.{Entry}
 use Rattle.endpoint_model.specs.Event.{Answer, Began, Done, NotOpened, Refused, NotAdded, Stopped, OutOfMemory, Event}
 use Rattle.rtmfp_text.specs.Words.{number_field_text}
 use Rattle.rtmfp_report.specs.EntryText.{entries_text, sent_after}

@@ -1,4 +1,4 @@
-use Rattle.std.proofs.Common.{rules, refl, [], ap, length}
+use Rattle.std.proofs.Common.{refl, [], ap, length}
 use Rattle.endpoint_model.specs.Event.{Open}
 use Rattle.endpoint_model.specs.Log.{answer_of_open}
 use Rattle.rtmfp_node.specs.Events.{event_of}

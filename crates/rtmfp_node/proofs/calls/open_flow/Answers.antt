@@ -1,4 +1,4 @@
-use Rattle.std.proofs.Common.{rules, refl, [], ap, length}
+use Rattle.std.proofs.Common.{refl, [], ap, length}
 use Rattle.endpoint_model.specs.Event.{OnFlows}
 use Rattle.endpoint_model.specs.Log.{answer_of_call}
 use Rattle.rtmfp_node.specs.Events.{event_of, opens_flow}

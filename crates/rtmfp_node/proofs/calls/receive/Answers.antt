@@ -1,4 +1,4 @@
-use Rattle.std.proofs.Common.{rules, [], ap, length}
+use Rattle.std.proofs.Common.{[], ap, length}
 use Rattle.endpoint_model.specs.Event.{Done, Receive}
 use Rattle.rtmfp_node.proofs.Acts.{did_call, grown_from, noted_from}
 use Rattle.rtmfp_node.proofs.calls.receive.Goals as goal

@@ -1,6 +1,4 @@
-use Rattle.std.proofs.Common.{rules, subst, Some, List}
-use Rattle.endpoint_model.specs.declared.entry.Entry.{Entry}
-use Rattle.rtmfp_node.specs.Acting.{SendCalls}
+use Rattle.std.proofs.Common.{rules}
 use Rattle.rtmfp_node.proofs.Calling.{calls_next, calls_none}
 use Rattle.rtmfp_node.proofs.messages.send_messages.Goals as goal
 

@@ -1,8 +1,6 @@
-use Rattle.std.proofs.Common.{◌≡◌, ◌++◌, refl, ap, ◌∙◌, append_assoc, codes, List, ℕ, []}
 use Rattle.rtmfp_report.specs.LineText.{head_text, line_text}
-use Rattle.rtmfp_text.specs.Words.{number_field_text, text_of}
 use Rattle.rtmfp_node.specs.Report.{unsent_line}
-use Rattle.rtmfp_text.proofs.Pushes.{Pushed, push_then, push_end, pushed, pushed_last}
+use Rattle.rtmfp_text.proofs.Pushes.{push_then, push_end, pushed}
 use Rattle.rtmfp_node.proofs.sending.push_unsent.Goals as goal
 
 pub returns : goal.returns

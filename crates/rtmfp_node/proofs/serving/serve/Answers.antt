@@ -1,6 +1,6 @@
 use Rattle.std.proofs.Common.{rules}
 use Rattle.rtmfp_node.specs.Outside.{outside}
-use Rattle.rtmfp_node.proofs.Running.{unbegun_run, unbound_run, undrawn_run, run_ends, stopped_at_zero, zero_is_done, counted_as, counted_later, passed_as, passed_later}
+use Rattle.rtmfp_node.proofs.Running.{unbegun_run, unbound_run, undrawn_run, run_ends, stopped_at_zero, zero_is_done}
 use Rattle.rtmfp_node.proofs.serving.serve.Goals as goal
 
 pub returns-clause-ends : goal.returns-clause-ends

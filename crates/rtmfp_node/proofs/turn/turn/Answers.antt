@@ -1,8 +1,8 @@
-use Rattle.std.proofs.Common.{rules, ◌≡◌, ◌++◌, ℕ, List, [], ap, ◌∙◌, refl, inl}
+use Rattle.std.proofs.Common.{rules, ◌++◌, ℕ, List, [], ap, ◌∙◌, inl}
 use Rattle.rtmfp_host.specs.Linking.{given_by}
 use Rattle.rtmfp_node.specs.Outside.{outside}
-use Rattle.rtmfp_node.specs.Acting.{Noted, begun}
-use Rattle.rtmfp_node.proofs.Sends.{counted_all, emit_as, passes_all, passes_still}
+use Rattle.rtmfp_node.specs.Acting.{begun}
+use Rattle.rtmfp_node.proofs.Sends.{counted_all, emit_as, passes_all}
 use Rattle.rtmfp_node.proofs.Told.{leaves_map}
 use Rattle.rtmfp_node.proofs.Turning.{turn_ends_on, undrawn, waited, waited_twice}
 use Rattle.rtmfp_node.proofs.turn.turn.Goals as goal

@@ -1,7 +1,6 @@
-use Rattle.std.proofs.Common.{rules, ◌≡◌, ◌++◌, ◌∙◌, ap, List, ℕ, []}
-use Rattle.rtmfp_node.specs.Outside.{outside}
-use Rattle.rtmfp_node.proofs.Sends.{counted_all, emit_as, passes_all, passes_still}
-use Rattle.rtmfp_node.proofs.Turning.{all_opened, counted_zero, opens_as, zero_cut, zero_ends}
+use Rattle.std.proofs.Common.{rules, ◌∙◌, ap, List, ℕ, []}
+use Rattle.rtmfp_node.proofs.Sends.{emit_as}
+use Rattle.rtmfp_node.proofs.Turning.{all_opened, opens_as, zero_cut, zero_ends}
 use Rattle.rtmfp_node.proofs.turn_zero.turn_zero.Goals as goal
 
 pub returns-clause-ends : goal.returns-clause-ends
