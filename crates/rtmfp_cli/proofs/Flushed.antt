@@ -113,7 +113,6 @@ run_ends doing status.Memory result start mid sink finishes ends =
           (λ script some. cut doing start mid sink script some.lines some.more some.split some.took kept some.has) ends.1,
     )
     )
-run_ends doing status.BadWords result start mid sink finishes ends = absurd ends
 run_ends doing (status.BadScript n) result start mid sink finishes ends =
     let after = outside mid.source sink in
     let kept = finishes.written in
@@ -148,3 +147,4 @@ run_ends doing status.ScriptLong result start mid sink finishes ends =
           (λ script many. cut doing start mid sink script many.lines (many.line ∷ many.stops.more) many.stops.split many.took kept many.has) ends.1,
     )
     )
+run_ends doing _ result start mid sink finishes ends = absurd ends

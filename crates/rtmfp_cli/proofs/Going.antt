@@ -438,7 +438,6 @@ going_ends status.Memory first doing left start now after n old new going fits t
   still_calm start now after going.calm turned.0,
   some_done first doing start now after n old turned.1.0 going (ahead_by first doing start now after n old turned.1.0 going fits turned.1.1.takes) turned.1.1.written,
 )
-going_ends status.BadWords first doing left start now after n old new going fits turned = turned
 going_ends (status.BadScript m) first doing left start now after n old new going fits turned =
     let P : ℕ → Type 0 = λ k. Told start (λ script. StopsOn IsBadLine first script k start after) in
     let bytes : List ℕ = turned.1.1.0 in (
@@ -463,7 +462,7 @@ going_ends status.SourceFault first doing left start now after n old new going f
       turned.1,
       taken_done first doing start now after n old bytes going (ahead_by first doing start now after n old bytes going fits turned.2.1.takes) turned.2.1.written part (may_follow n (limit_of first) fits bytes part),
     )
-going_ends status.ScriptLong first doing left start now after n old new going fits turned = absurd turned
+going_ends _ first doing left start now after n old new going fits turned = absurd turned
 
 -- the end behind the last line that may be
 pub going_closed : (s : RunStatus) (first doing : Doing) (start now after : Outside) (old : List ℕ) → Going first doing start now max_lines old → Closed s now after old → Ends first s start after
@@ -471,10 +470,6 @@ going_closed status.Done first doing start now after old going closed = (
   still_calm start now after going.calm closed.0,
   all_done first doing doing start now after max_lines old [] [] going (ahead_closed first doing start now after old [] going closed.1.takes) closed.2 (refl, refl) closed.1.written (lit≤ tt),
 )
-going_closed status.Memory first doing start now after old going closed = absurd closed
-going_closed status.BadWords first doing start now after old going closed = closed
-going_closed (status.BadScript m) first doing start now after old going closed = absurd closed
-going_closed (status.Forged m) first doing start now after old going closed = absurd closed
 going_closed status.SinkFault first doing start now after old going closed =
     let bytes : List ℕ = closed.1.0 in (
       sink_failed start now after going.calm closed.0,
@@ -492,6 +487,7 @@ going_closed status.ScriptLong first doing start now after old going closed =
       still_calm start now after going.calm closed.0,
       too_many first doing start now after old bytes going (ahead_closed first doing start now after old bytes going closed.1.1.takes) closed.1.1.written closed.1.2,
     )
+going_closed _ first doing start now after old going closed = absurd closed
 
 -- nothing was read and done
 pub none_done : (first : Doing) (start : Outside) → Holds first → Ends first status.Memory start start

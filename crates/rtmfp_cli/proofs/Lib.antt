@@ -4,3 +4,4 @@ pub mod Reporting
 pub mod OneRun
 pub mod Going
 pub mod Flushed
+pub mod Running

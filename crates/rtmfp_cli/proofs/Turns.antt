@@ -79,7 +79,6 @@ line_turned Went doing left n limit len before mid sink old bytes between still 
 line_turned (Ended status.Done) doing left n limit len before mid sink old bytes between still e starts printed = absurd printed
 line_turned (Ended status.Memory) doing left n limit len before mid sink old bytes between still e starts printed =
     (calm before mid sink still printed.1, (bytes, none_written (limit_of doing) before mid sink old bytes between printed.0))
-line_turned (Ended status.BadWords) doing left n limit len before mid sink old bytes between still e starts printed = printed
 line_turned (Ended (status.BadScript m)) doing left n limit len before mid sink old bytes between still e starts printed = (
   printed.0,
   (calm before mid sink still printed.3, (bytes, none_written (limit_of doing) before mid sink old bytes between printed.2, next_whole (IsBadLine doing n) mid.source.left limit len bytes starts printed.1)),
@@ -98,7 +97,7 @@ line_turned (Ended status.SinkFault) doing left n limit len before mid sink old 
       failed = fails before mid sink still printed.4;
     }
 line_turned (Ended status.SourceFault) doing left n limit len before mid sink old bytes between still e starts printed = absurd printed
-line_turned (Ended status.ScriptLong) doing left n limit len before mid sink old bytes between still e starts printed = printed
+line_turned (Ended _) doing left n limit len before mid sink old bytes between still e starts printed = printed
 
 -- a last line without LF is all that is there
 pub last_line : (bytes : List ℕ) → NoLf bytes → bytes ≢ [] → lines_of bytes ≡ bytes ∷ []
@@ -136,7 +135,6 @@ pub last_turned : (s : RunStatus) (doing left : Doing) (n : ℕ) (before mid : O
 last_turned status.Done doing left n before mid sink old bytes new between still free some end printed = absurd printed
 last_turned status.Memory doing left n before mid sink old bytes new between still free some end printed =
     (calm before mid sink still printed.1, (bytes, none_written (limit_of doing) before mid sink old bytes between printed.0))
-last_turned status.BadWords doing left n before mid sink old bytes new between still free some end printed = printed
 last_turned (status.BadScript m) doing left n before mid sink old bytes new between still free some end printed = (
   printed.0,
   (calm before mid sink still printed.3, (bytes, none_written (limit_of doing) before mid sink old bytes between printed.2, next_last (IsBadLine doing n) mid.source.left bytes free some end printed.1)),
@@ -155,7 +153,7 @@ last_turned status.SinkFault doing left n before mid sink old bytes new between 
       failed = fails before mid sink still printed.4;
     }
 last_turned status.SourceFault doing left n before mid sink old bytes new between still free some end printed = absurd printed
-last_turned status.ScriptLong doing left n before mid sink old bytes new between still free some end printed = printed
+last_turned _ doing left n before mid sink old bytes new between still free some end printed = printed
 
 -- nothing is left
 pub end_turned : (doing : Doing) (n : ℕ) (before after : Outside) (old bytes : List ℕ) → Between (limit_of doing) before after old bytes → NothingFailed before after → bytes ≡ [] → IsAtEnd after.source.left → DoesRest doing n before after old

@@ -3,3 +3,4 @@ pub mod Script
 pub mod Turning
 pub mod Run
 pub mod Laws
+pub mod Commands

@@ -3,7 +3,7 @@ use Rattle.std.specs.Prelude.{◌≡◌, ◌⊎◌, []}
 use Rattle.rtmfp_host.specs.Faults.{Rose}
 use Rattle.rtmfp_host.specs.Writing.{Appends}
 use Rattle.rtmfp_lines.specs.declared.status.Status.{Status as RunStatus}
-use Rattle.rtmfp_lines.specs.declared.status.Status.TheVariants.{Done, Memory, BadWords, BadScript, Forged, SinkFault, SourceFault, ScriptLong}
+use Rattle.rtmfp_lines.specs.declared.status.Status.TheVariants.{SinkFault, SourceFault}
 use Rattle.rtmfp_host.specs.Seen.{SinkSeen}
 use Rattle.rtmfp_lines.specs.Outside.{Settled}
 
@@ -20,11 +20,6 @@ pub record Stays (status result : RunStatus) (before after : SinkSeen) : Type 0 
 
 -- what the end of a run over lines does to a status
 abbrev pub Finishes : RunStatus → RunStatus → SinkSeen → SinkSeen → Type 0
-Finishes Done result before after = PassesOn Done result before after
-Finishes Memory result before after = PassesOn Memory result before after
-Finishes BadWords result before after = PassesOn BadWords result before after
-Finishes (BadScript n) result before after = PassesOn (BadScript n) result before after
-Finishes (Forged n) result before after = PassesOn (Forged n) result before after
 Finishes SinkFault result before after = Stays SinkFault result before after
 Finishes SourceFault result before after = Stays SourceFault result before after
-Finishes ScriptLong result before after = PassesOn ScriptLong result before after
+Finishes status result before after = PassesOn status result before after

@@ -134,13 +134,12 @@ abbrev pub Told : Outside → (List ℕ → Type 0) → Type 0
 Told before P = IfSome before.source.left P
 
 -- How a run over the source ends with each status, where nothing has failed but by the status, and
--- this holds of the outside where nothing has.
+-- this holds of the outside where nothing has. Other statuses don't come.
 abbrev pub EndsWhere : (Outside → Outside → Type 0) → Doing → Status → Outside → Outside → Type 0
 EndsWhere P doing status.Done before after = P before after ×
     Told before (λ script. AllDone doing script before after)
 EndsWhere P doing status.Memory before after = P before after ×
     Told before (λ script. SomeDone doing script before after)
-EndsWhere P doing status.BadWords before after = ⊥
 EndsWhere P doing (status.BadScript n) before after = P before after ×
     Told before (λ script. StopsOn IsBadLine doing script n before after)
 EndsWhere P doing (status.Forged n) before after = P before after ×
@@ -152,6 +151,7 @@ EndsWhere P doing status.SourceFault before after =
     Told before (λ script. TakenDone doing script before after)
 EndsWhere P doing status.ScriptLong before after = P before after ×
     Told before (λ script. TooMany doing script before after)
+EndsWhere P doing other before after = ⊥
 
 -- nothing has failed, and all that was written was passed on
 pub record IsWhole (before after : Outside) : Type 0 where

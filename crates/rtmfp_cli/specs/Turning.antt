@@ -85,7 +85,6 @@ Turned Went doing left n before after old new = DoesOne doing left n before afte
 Turned (Ended status.Done) doing left n before after old new = DoesRest doing n before after old
 Turned (Ended status.Memory) doing left n before after old new = NothingFailed before after ×
     ((bytes : List ℕ) × DoesNone (limit_of doing) before after old bytes)
-Turned (Ended status.BadWords) doing left n before after old new = ⊥
 Turned (Ended (status.BadScript m)) doing left n before after old new = (m ≡ n) ×
     StopsBefore (IsBadLine doing n) (limit_of doing) before after old
 Turned (Ended (status.Forged m)) doing left n before after old new = (m ≡ n) ×
@@ -94,7 +93,7 @@ Turned (Ended status.SinkFault) doing left n before after old new =
     DoesPart doing n before after old
 Turned (Ended status.SourceFault) doing left n before after old new =
     StopsReading (limit_of doing) before after old
-Turned (Ended status.ScriptLong) doing left n before after old new = ⊥
+Turned (Ended other) doing left n before after old new = ⊥
 
 -- what doing line n makes of the sink
 abbrev pub Printed : Turn → Doing → Doing → ℕ → List ℕ → SinkSeen → SinkSeen → Type 0

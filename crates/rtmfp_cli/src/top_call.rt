@@ -1,7 +1,11 @@
 //! The top call.
-ghost use Rattle.std.specs.Prelude.{◌≡◌, ◌↔◌, ℕ};
-ghost use Rattle.rtmfp_words.specs.Words.{IsFaulty, IsGenerate, IsReplay, IsShow};
+ghost use Rattle.std.specs.Prelude.{◌≡◌, ℕ, None, false};
+ghost use Rattle.rtmfp_words.specs.CommandLine.{IsFaulty};
+ghost use Rattle.rtmfp_words.specs.Node.{IsMeet};
+ghost use Rattle.rtmfp_words.specs.Words.{IsGenerate, IsReplay, IsShow};
+ghost use Rattle.rtmfp_cli.specs.Commands.{CommandEnds, Fits, HasRisen, IsRefused, IsUnknown, NeedsNoSource, NeedsNoSpawner, objects, reads_lines, starts_nodes};
 ghost use Rattle.rtmfp_cli.specs.Doing.{Holds, IsNext, playing, showing};
+ghost use Rattle.rtmfp_meet.specs.Meeting.{MeetEnds, failed_with, sides};
 ghost use Rattle.rtmfp_play.specs.Generated.{GeneratedEnds};
 ghost use Rattle.rtmfp_lines.specs.Outside.{outside};
 ghost use Rattle.rtmfp_cli.specs.Run.{Finishes, PassesOn};
@@ -9,31 +13,34 @@ ghost use Rattle.rtmfp_cli.specs.Script.{ScriptEnds};
 
 use crate::doing::Doing;
 use crate::script_run::run_script;
-use rtmfp_host::{Sink, Source, Wrote};
+use rtmfp_host::{Entropy, Link, Moments, Sink, Source, Spawner, Wrote};
 use rtmfp_lines::Status;
+use rtmfp_meet::meet;
 use rtmfp_play::{Playing, generate};
-use rtmfp_words::{Command, read_command};
+use rtmfp_words::{Command, CommandLine, WordsFault, read_command_line};
 use std::alloc::Global;
 
-/// Does what the words of the command line say, over the source and the sink, and says how it ended
-/// (own). The words are those after the program's name. The first event in the order of the run
-/// gives the status.
+/// Does what the words of the command line say, over the six objects, and says how it ended (own).
+/// The words are those after the program's name. The first event in the order of the run gives the
+/// status.
 ///
 /// `show` reads one packet a line in hexadecimal, and writes its text. `replay` reads one step of a
 /// script a line, does it, and writes its report. `replay --generate N --steps K` makes a script of
-/// its own, and writes one line that sums it up.
-pub fn run<S: Source, K: Sink>(
+/// its own, and writes one line that sums it up. `meet` starts three nodes and writes what they
+/// wrote. The words of `serve` are refused, since it isn't there yet.
+pub fn run<L: Link, C: Moments, E: Entropy, S: Source, K: Sink, P: Spawner>(
     alloc: Global,
     words: &[String],
+    link: &mut L,
+    clock: &mut C,
+    entropy: &mut E,
     source: &mut S,
     sink: &mut K,
+    spawner: &mut P,
 ) -> Status
-    ensures bad_words { (result ≡ Status.BadWords) ↔ IsFaulty words.now }
+    requires { (P.seen spawner.old).status ≡ None }
 
-    // Other words leave no text, and nothing is read.
-    ensures nothing_read { result ≡ Status.BadWords → source.new ≡ source.old }
-    ensures nothing_written { result ≡ Status.BadWords → sink.new ≡ sink.old }
-
+    // What the words say is done.
     ensures show { IsShow words.now → ScriptEnds showing result
         (outside (S.seen source.old) (K.seen sink.old))
         (outside (S.seen source.new) (K.seen sink.new)) }
@@ -42,20 +49,71 @@ pub fn run<S: Source, K: Sink>(
         (outside (S.seen source.new) (K.seen sink.new)) }
     ensures generate { (seed steps : ℕ) → IsGenerate words.now seed steps →
         GeneratedEnds seed steps result (K.seen sink.old) (K.seen sink.new) }
+    ensures meet { (port turns : ℕ) → IsMeet words.now port turns → MeetEnds port turns result
+        (sides (P.seen spawner.old) (K.seen sink.old))
+        (sides (P.seen spawner.new) (K.seen sink.new)) }
 
-    // A generated script needs no source.
-    ensures unread { (seed steps : ℕ) → IsGenerate words.now seed steps → source.new ≡ source.old }
+    // Other words are refused, and no others.
+    ensures refused { IsFaulty words.now → IsRefused result words.now }
+    ensures bad_words { result ≡ Status.BadWords → IsUnknown words.now }
+
+    // A fault is told only where the count of its object has risen, and a child's status exactly
+    // where a wait gave one.
+    ensures faults { HasRisen result
+        (objects (L.seen link.old) (C.seen clock.old) (E.seen entropy.old) (S.seen source.old)
+        (K.seen sink.old) (P.seen spawner.old))
+        (objects (L.seen link.new) (C.seen clock.new) (E.seen entropy.new) (S.seen source.new)
+        (K.seen sink.new) (P.seen spawner.new)) }
+    ensures child { (P.seen spawner.new).status ≡ failed_with result }
+
+    // An object that a command doesn't need is as before.
+    ensures link { link.new ≡ link.old }
+    ensures clock { clock.new ≡ clock.old }
+    ensures entropy { entropy.new ≡ entropy.old }
+    ensures source { NeedsNoSource words.now → source.new ≡ source.old }
+    ensures sink { IsFaulty words.now → sink.new ≡ sink.old }
+    ensures spawner { NeedsNoSpawner words.now → spawner.new ≡ spawner.old }
 {
-    match read_command(words) {
-        None => Status::BadWords,
-        Some(Command::Show) => over_lines(alloc, Doing::Showing, source, sink),
-        Some(Command::Replay) => over_lines(
-            alloc,
-            Doing::Playing(Playing::new(alloc)),
-            source,
-            sink,
-        ),
-        Some(Command::Generate { seed, steps }) => generate(alloc, seed, steps, sink),
+    match read_command_line(alloc, words) {
+        Ok(line) => run_command(alloc, line, link, clock, entropy, source, sink, spawner),
+        Err(WordsFault::Faulty) => Status::BadWords,
+        Err(WordsFault::Memory) => Status::Memory,
+    }
+}
+
+/// Does what a command line says.
+fn run_command<L: Link, C: Moments, E: Entropy, S: Source, K: Sink, P: Spawner>(
+    alloc: Global,
+    line: CommandLine,
+    link: &mut L,
+    clock: &mut C,
+    entropy: &mut E,
+    source: &mut S,
+    sink: &mut K,
+    spawner: &mut P,
+) -> Status
+    requires none { (P.seen spawner.old).status ≡ None }
+    requires fits { Fits line }
+    ensures ends { CommandEnds line result
+        (objects (L.seen link.old) (C.seen clock.old) (E.seen entropy.old) (S.seen source.old)
+        (K.seen sink.old) (P.seen spawner.old))
+        (objects (L.seen link.new) (C.seen clock.new) (E.seen entropy.new) (S.seen source.new)
+        (K.seen sink.new) (P.seen spawner.new)) }
+    ensures link { link.new ≡ link.old }
+    ensures clock { clock.new ≡ clock.old }
+    ensures entropy { entropy.new ≡ entropy.old }
+    ensures source { reads_lines line ≡ false → source.new ≡ source.old }
+    ensures spawner { starts_nodes line ≡ false → spawner.new ≡ spawner.old }
+{
+    match line {
+        CommandLine::Lines(Command::Show) => over_lines(alloc, Doing::Showing, source, sink),
+        CommandLine::Lines(Command::Replay) => {
+            let playing = Playing::new(alloc);
+            over_lines(alloc, Doing::Playing(playing), source, sink)
+        }
+        CommandLine::Lines(Command::Generate { seed, steps }) => generate(alloc, seed, steps, sink),
+        CommandLine::Serve(_) => Status::BadWords,
+        CommandLine::Meet(words) => meet(alloc, words, sink, spawner),
     }
 }
 
@@ -90,7 +148,11 @@ fn finish<K: Sink>(status: Status, sink: &mut K) -> Status
         Status::BadWords => pass_on(Status::BadWords, sink),
         Status::BadScript(line) => pass_on(Status::BadScript(line), sink),
         Status::Forged(line) => pass_on(Status::Forged(line), sink),
+        Status::LinkFault => pass_on(Status::LinkFault, sink),
+        Status::EntropyFault => pass_on(Status::EntropyFault, sink),
+        Status::SpawnFault => pass_on(Status::SpawnFault, sink),
         Status::ScriptLong => pass_on(Status::ScriptLong, sink),
+        Status::ChildFailed(status) => pass_on(Status::ChildFailed(status), sink),
     }
 }
 

@@ -2,7 +2,8 @@
 
 ghost use Rattle.std.specs.Prelude.{◌<◌};
 
-use rtmfp_cli::{Status, run};
+use crate::running::run_over;
+use rtmfp_cli::Status;
 use rtmfp_host::{FaultySink, FaultySource, MemorySink, MemorySource};
 use std::alloc::{AllocError, Global};
 use std::test::Fail;
@@ -136,8 +137,8 @@ pub(crate) fn says_status(field: &str, status: Status) -> bool {
         Status::Forged(n) => field.starts_with("forged ") && n == line,
         Status::SourceFault => field == "source-fault",
         Status::SinkFault => field == "sink-fault",
-        Status::Memory => false,
         Status::ScriptLong => field == "script-long",
+        _ => false,
     }
 }
 
@@ -155,7 +156,7 @@ fn is_so(alloc: Global, row: &str) -> Result<bool, AllocError> {
     let words = words_of(alloc, field(row, 1))?;
     let mut source = source_of(alloc, row)?;
     let mut sink = sink_of(alloc, row)?;
-    let status = run(alloc, words.as_slice(), &mut source, &mut sink);
+    let status = run_over(alloc, words.as_slice(), &mut source, &mut sink);
     Ok(says_written(alloc, row, &sink)? && says_status(field(row, 0), status))
 }
 
@@ -186,7 +187,7 @@ fn status_over(alloc: Global, word: &str, byte: u8, count: usize) -> Result<Stat
     let words = words_of(alloc, word)?;
     let mut source = MemorySource::new(vec![in alloc; byte; count]?);
     let mut sink = MemorySink::new(alloc);
-    Ok(run(alloc, words.as_slice(), &mut source, &mut sink))
+    Ok(run_over(alloc, words.as_slice(), &mut source, &mut sink))
 }
 
 /// A source has a million lines at most, and a line of `show` 4,096 bytes.

@@ -13,6 +13,8 @@ mod introductions;
 #[cfg(test)]
 mod report;
 #[cfg(test)]
+mod running;
+#[cfg(test)]
 mod script;
 #[cfg(test)]
 mod transcripts;

@@ -2,7 +2,7 @@
 //! `examples`.
 
 use crate::cli::says_status;
-use rtmfp_cli::run;
+use crate::running::run_over;
 use rtmfp_host::{MemorySink, MemorySource};
 use std::alloc::{AllocError, Global};
 use std::test::Fail;
@@ -274,7 +274,7 @@ pub(crate) fn gives(
     words.push(String::from_str(alloc, "replay")?)?;
     let mut source = MemorySource::new(script);
     let mut sink = MemorySink::new(alloc);
-    let status = run(alloc, words.as_slice(), &mut source, &mut sink);
+    let status = run_over(alloc, words.as_slice(), &mut source, &mut sink);
     Ok(says_status(end, status) && sink.written() == Some(report))
 }
 

@@ -1,23 +1,56 @@
-use Rattle.std.proofs.Common.{◌≡◌, ℕ, Option, Some, sym, ap, ◌∙◌, subst}
-use Rattle.rtmfp_words.specs.declared.command.Command.{Command}
-use Rattle.rtmfp_words.specs.declared.command.Command.TheVariants.{Generate}
-use Rattle.rtmfp_play.specs.Generated.{GeneratedEnds}
+use Rattle.std.proofs.Common.{◌≡◌, ◌⊎◌, ℕ, inl, inr, ap, subst}
+use Rattle.std.specs.Prelude.{Ok, Err}
+use Rattle.rtmfp_meet.specs.Meeting.{MeetEnds, sides}
+use Rattle.rtmfp_meet.proofs.Runs.{nothing_met}
+use Rattle.rtmfp_words.specs.declared.command.Command.TheVariants.{Show, Replay, Generate}
+use Rattle.rtmfp_words.specs.declared.command_line.CommandLine.{CommandLine}
+use Rattle.rtmfp_words.specs.declared.command_line.CommandLine.TheVariants.{Lines, Meet}
+use Rattle.rtmfp_words.specs.declared.meet_words.MeetWords.{MeetWords}
+use Rattle.rtmfp_words.proofs.Commanding.{names_no_lines}
+use Rattle.rtmfp_cli.specs.Commands.{CommandEnds, objects}
+use Rattle.rtmfp_cli.proofs.Running.{bad_words, child_told, ended_so, fits_of, not_faulty, reads_none, risen, starts_none}
 use Rattle.rtmfp_cli.proofs.top_call.run.Goals as goal
 
--- the words say one pair of numbers
-picked : (r : Option Command) (a b seed steps : ℕ) (P : ℕ → ℕ → Type 0) → r ≡ Some (Generate a b) → r ≡ Some (Generate seed steps) → P a b → P seed steps
-picked r a b seed steps P e f p =
-    let same : ◌≡◌ {A = Option Command} (Some (Generate a b)) (Some (Generate seed steps)) = sym e ∙ f in
-    let first : a ≡ seed = cc in
-    let second : b ≡ steps = cc in
-    subst (λ x. P seed x) second (subst (λ x. P x b) first p)
+pub run_command-requires-clause-fits : goal.run_command-requires-clause-fits
+run_command-requires-clause-fits g c = fits_of c.args.words.now c.in-Ok.line c.in-Ok.ensures.says
 
-pub returns-in-None-clause-generate : goal.returns-in-None-clause-generate
-returns-in-None-clause-generate g c = λ seed steps says. c.in-None.ensures.reads.not_generate seed steps says
+-- ---- a command
 
-pub returns-in-Some-Generate-clause-generate : goal.returns-in-Some-Generate-clause-generate
-returns-in-Some-Generate-clause-generate g c = λ seed steps says.
-    picked c.read_command.result c.in-Some-Generate.seed c.in-Some-Generate.steps seed steps
-    (λ a b. GeneratedEnds a b c.generate.result (g.K.Sink.seen c.args.sink.now)
-    (g.K.Sink.seen c.generate.new.sink))
-    (c.in-Some-Generate.is ∙ ap Some c.in-Some-Generate.field-0-is) (c.read_command.ensures.generate seed steps says) c.generate.ensures
+pub returns-in-Ok-clause-show : goal.returns-in-Ok-clause-show
+returns-in-Ok-clause-show g c = λ show. ended_so c.read_command_line.result c.in-Ok.line (Lines Show) _ _ _ c.in-Ok.is (c.read_command_line.ensures.only (Lines Show) show) c.run_command.ensures.ends
+
+pub returns-in-Ok-clause-replay : goal.returns-in-Ok-clause-replay
+returns-in-Ok-clause-replay g c = λ replay. ended_so c.read_command_line.result c.in-Ok.line (Lines Replay) _ _ _ c.in-Ok.is (c.read_command_line.ensures.only (Lines Replay) replay) c.run_command.ensures.ends
+
+pub returns-in-Ok-clause-generate : goal.returns-in-Ok-clause-generate
+returns-in-Ok-clause-generate g c =
+    λ seed steps generate. ended_so c.read_command_line.result c.in-Ok.line (Lines (Generate seed steps)) _ _ _ c.in-Ok.is (c.read_command_line.ensures.only (Lines (Generate seed steps)) generate) c.run_command.ensures.ends
+
+pub returns-in-Ok-clause-meet : goal.returns-in-Ok-clause-meet
+returns-in-Ok-clause-meet g c =
+    λ port turns meet. (
+    let m : MeetWords = record { port = port; turns = turns } in
+    ended_so c.read_command_line.result c.in-Ok.line (Meet m) _ _ _ c.in-Ok.is (c.read_command_line.ensures.only (Meet m) meet) c.run_command.ensures.ends
+    )
+
+pub returns-in-Ok-clause-refused : goal.returns-in-Ok-clause-refused
+returns-in-Ok-clause-refused g c = λ faulty. absurd (not_faulty c.args.words.now c.in-Ok.line c.in-Ok.ensures.says faulty)
+
+pub returns-in-Ok-clause-bad_words : goal.returns-in-Ok-clause-bad_words
+returns-in-Ok-clause-bad_words g c = λ bad. bad_words c.args.words.now c.in-Ok.line c.run_command.result _ _ c.in-Ok.ensures.says bad c.run_command.ensures.ends
+
+pub returns-in-Ok-clause-faults : goal.returns-in-Ok-clause-faults
+returns-in-Ok-clause-faults g c = risen c.in-Ok.line c.run_command.result _ _ c.run_command.ensures.ends
+
+pub returns-in-Ok-clause-child : goal.returns-in-Ok-clause-child
+returns-in-Ok-clause-child g c =
+    child_told c.in-Ok.line c.run_command.result _ _ c.requires (λ none. ap g.P.Spawner.seen (c.run_command.ensures.spawner none)) c.run_command.ensures.ends
+
+pub returns-in-Ok-clause-source : goal.returns-in-Ok-clause-source
+returns-in-Ok-clause-source g c = λ no. c.run_command.ensures.source (reads_none c.args.words.now c.in-Ok.line c.in-Ok.ensures.says no.0 no.1)
+
+pub returns-in-Ok-clause-sink : goal.returns-in-Ok-clause-sink
+returns-in-Ok-clause-sink g c = λ faulty. absurd (not_faulty c.args.words.now c.in-Ok.line c.in-Ok.ensures.says faulty)
+
+pub returns-in-Ok-clause-spawner : goal.returns-in-Ok-clause-spawner
+returns-in-Ok-clause-spawner g c = λ meet. c.run_command.ensures.spawner (starts_none c.args.words.now c.in-Ok.line c.in-Ok.ensures.says meet)

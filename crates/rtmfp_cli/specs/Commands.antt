@@ -1,0 +1,104 @@
+-- What each command does, and what it leaves of the six objects that it is given.
+use Rattle.std.specs.Prelude.{◌≡◌, ◌⊎◌, ℕ, ◌≤◌, Bool, true, false, List, Option, String}
+use Rattle.std.specs.declared.alloc.Global.{Global}
+use Rattle.rtmfp_host.specs.Drawing.{EntropySeen}
+use Rattle.rtmfp_host.specs.Faults.{Rose}
+use Rattle.rtmfp_host.specs.Linking.{LinkSeen}
+use Rattle.rtmfp_host.specs.Seen.{SinkSeen, SourceSeen}
+use Rattle.rtmfp_host.specs.Spawning.{SpawnerSeen}
+use Rattle.rtmfp_host.specs.Ticking.{Clock}
+use Rattle.rtmfp_lines.specs.Outside.{outside}
+use Rattle.rtmfp_lines.specs.declared.status.Status.{Status as RunStatus}
+use Rattle.rtmfp_lines.specs.declared.status.Status.TheVariants as status
+use Rattle.rtmfp_meet.specs.Meeting.{MeetEnds, sides}
+use Rattle.rtmfp_play.specs.Generated.{GeneratedEnds}
+use Rattle.rtmfp_words.specs.CommandLine.{IsFaulty, NamesNode}
+use Rattle.rtmfp_words.specs.Node.{IsMeet, IsServe, Serving}
+use Rattle.rtmfp_words.specs.Words.{IsReplay, IsShow}
+use Rattle.rtmfp_words.specs.declared.command.Command.TheVariants.{Show, Replay, Generate}
+use Rattle.rtmfp_words.specs.declared.command_line.CommandLine.{CommandLine}
+use Rattle.rtmfp_words.specs.declared.command_line.CommandLine.TheVariants.{Lines, Serve, Meet}
+use Rattle.rtmfp_cli.specs.Doing.{playing, showing}
+use Rattle.rtmfp_cli.specs.Script.{ScriptEnds}
+
+-- what is seen of the six objects
+pub record Objects : Type 0 where
+  pub link : LinkSeen
+  pub clock : Option Clock
+  pub entropy : EntropySeen
+  pub source : SourceSeen
+  pub sink : SinkSeen
+  pub spawner : SpawnerSeen
+
+abbrev pub objects : LinkSeen → Option Clock → EntropySeen → SourceSeen → SinkSeen → SpawnerSeen →
+    Objects
+objects link clock entropy source sink spawner = record {
+  link = link;
+  clock = clock;
+  entropy = entropy;
+  source = source;
+  sink = sink;
+  spawner = spawner;
+}
+
+-- ---- commands
+
+-- How a command ends. That `serve` runs a node isn't there yet: its words are refused.
+abbrev pub CommandEnds : CommandLine → RunStatus → Objects → Objects → Type 0
+CommandEnds (Lines Show) result before after = ScriptEnds showing result
+    (outside before.source before.sink) (outside after.source after.sink)
+CommandEnds (Lines Replay) result before after = ScriptEnds playing result
+    (outside before.source before.sink) (outside after.source after.sink)
+CommandEnds (Lines (Generate seed steps)) result before after =
+    GeneratedEnds seed steps result before.sink after.sink
+CommandEnds (Serve v) result before after = result ≡ status.BadWords
+CommandEnds (Meet m) result before after = MeetEnds m.port m.turns result
+    (sides before.spawner before.sink) (sides after.spawner after.sink)
+
+-- a generated run has no more steps than it may
+abbrev pub Fits : CommandLine → Type 0
+Fits (Lines Show) = Unit {0}
+Fits (Lines Replay) = Unit {0}
+Fits (Lines (Generate seed steps)) = steps ≤ 100000
+Fits (Serve v) = Unit {0}
+Fits (Meet m) = Unit {0}
+
+-- Words are refused: they are faulty, and there may be no memory to see it where the first is that of
+-- a node.
+abbrev pub IsRefused : RunStatus → List (String Global) → Type 0
+IsRefused result words = (result ≡ status.BadWords) ⊎
+    ((result ≡ status.Memory) × NamesNode words)
+
+-- Until `serve` is there its words are refused as well.
+abbrev pub IsUnknown : List (String Global) → Type 0
+IsUnknown words = IsFaulty words ⊎ ((v : Serving) × IsServe words v)
+
+-- ---- what a command needs
+
+abbrev pub reads_lines : CommandLine → Bool
+reads_lines (Lines Show) = true
+reads_lines (Lines Replay) = true
+reads_lines (Lines (Generate seed steps)) = false
+reads_lines (Serve v) = false
+reads_lines (Meet m) = false
+
+abbrev pub starts_nodes : CommandLine → Bool
+starts_nodes (Meet m) = true
+starts_nodes line = false
+
+abbrev pub NeedsNoSource : List (String Global) → Type 0
+NeedsNoSource words = (IsShow words → ⊥) × (IsReplay words → ⊥)
+
+abbrev pub NeedsNoSpawner : List (String Global) → Type 0
+NeedsNoSpawner words = (port turns : ℕ) → IsMeet words port turns → ⊥
+
+-- ---- faults
+
+-- A fault is told only where the count of the object that it names has risen.
+abbrev pub HasRisen : RunStatus → Objects → Objects → Type 0
+HasRisen status.LinkFault before after = Rose before.link.faults after.link.faults
+HasRisen status.SinkFault before after = Rose before.sink.faults after.sink.faults
+HasRisen status.SourceFault before after = Rose before.source.faults after.source.faults
+HasRisen status.EntropyFault before after = Rose before.entropy.faults after.entropy.faults
+HasRisen status.SpawnFault before after = Rose before.spawner.faults after.spawner.faults
+HasRisen other before after = Unit {0}
