@@ -6,9 +6,10 @@
 #![tactic(auto)]
 
 mod rows;
+mod running;
 mod tables;
 
-use rtmfp_cli::run;
+use crate::running::run_over;
 use rtmfp_host::{MemorySink, MemorySource};
 use std::test::Fail;
 use std::{env, fs, io};
@@ -58,6 +59,6 @@ fn is_so(rt: &HostRuntime, name: &str) -> io::Result<bool> {
     words.push(String::from_str(rt.alloc(), command)?)?;
     let mut source = MemorySource::new(script.into_bytes());
     let mut sink = MemorySink::new(rt.alloc());
-    let _ = run(rt.alloc(), words.as_slice(), &mut source, &mut sink);
+    let _ = run_over(rt.alloc(), words.as_slice(), &mut source, &mut sink);
     Ok(sink.written() == Some(report.as_bytes()))
 }

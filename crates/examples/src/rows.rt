@@ -1,8 +1,9 @@
 //! Rows of scripts, each with its report, as texts in the crate's `data`. How such a text is
 //! written stands at its head.
 
+use crate::running::run_over;
 use crate::tell;
-use rtmfp_cli::{Status, run};
+use rtmfp_cli::Status;
 use rtmfp_host::{MemorySink, MemorySource};
 use std::alloc::{AllocError, Global};
 use std::io;
@@ -139,7 +140,7 @@ fn is_so(alloc: Global, rows: &str, lines: &str) -> Result<bool, AllocError> {
     words.push(String::from_str(alloc, "replay")?)?;
     let mut source = MemorySource::new(whole.script.into_bytes());
     let mut sink = MemorySink::new(alloc);
-    let status = run(alloc, words.as_slice(), &mut source, &mut sink);
+    let status = run_over(alloc, words.as_slice(), &mut source, &mut sink);
     Ok(status == Status::Done && sink.written() == Some(whole.report.as_bytes()))
 }
 
