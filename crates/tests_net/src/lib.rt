@@ -10,4 +10,6 @@ mod meeting;
 #[cfg(test)]
 mod memory;
 #[cfg(test)]
+mod serving;
+#[cfg(test)]
 mod words;
