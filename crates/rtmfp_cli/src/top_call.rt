@@ -143,16 +143,7 @@ fn finish<K: Sink>(status: Status, sink: &mut K) -> Status
     match status {
         Status::SinkFault => Status::SinkFault,
         Status::SourceFault => Status::SourceFault,
-        Status::Done => pass_on(Status::Done, sink),
-        Status::Memory => pass_on(Status::Memory, sink),
-        Status::BadWords => pass_on(Status::BadWords, sink),
-        Status::BadScript(line) => pass_on(Status::BadScript(line), sink),
-        Status::Forged(line) => pass_on(Status::Forged(line), sink),
-        Status::LinkFault => pass_on(Status::LinkFault, sink),
-        Status::EntropyFault => pass_on(Status::EntropyFault, sink),
-        Status::SpawnFault => pass_on(Status::SpawnFault, sink),
-        Status::ScriptLong => pass_on(Status::ScriptLong, sink),
-        Status::ChildFailed(status) => pass_on(Status::ChildFailed(status), sink),
+        other => pass_on(other, sink),
     }
 }
 

@@ -1,13 +1,9 @@
-use Rattle.std.proofs.Common.{◌≡◌, ◌⊎◌, ℕ, inl, inr, ap, subst}
-use Rattle.std.specs.Prelude.{Ok, Err}
-use Rattle.rtmfp_meet.specs.Meeting.{MeetEnds, sides}
+use Rattle.std.proofs.Common.{ap, ◌∙◌}
+use Rattle.std.specs.Prelude.{Err}
 use Rattle.rtmfp_meet.proofs.Runs.{nothing_met}
 use Rattle.rtmfp_words.specs.declared.command.Command.TheVariants.{Show, Replay, Generate}
-use Rattle.rtmfp_words.specs.declared.command_line.CommandLine.{CommandLine}
 use Rattle.rtmfp_words.specs.declared.command_line.CommandLine.TheVariants.{Lines, Meet}
 use Rattle.rtmfp_words.specs.declared.meet_words.MeetWords.{MeetWords}
-use Rattle.rtmfp_words.proofs.Commanding.{names_no_lines}
-use Rattle.rtmfp_cli.specs.Commands.{CommandEnds, objects}
 use Rattle.rtmfp_cli.proofs.Running.{bad_words, child_told, ended_so, fits_of, not_faulty, reads_none, risen, starts_none}
 use Rattle.rtmfp_cli.proofs.top_call.run.Goals as goal
 
@@ -54,3 +50,11 @@ returns-in-Ok-clause-sink g c = λ faulty. absurd (not_faulty c.args.words.now c
 
 pub returns-in-Ok-clause-spawner : goal.returns-in-Ok-clause-spawner
 returns-in-Ok-clause-spawner g c = λ meet. c.run_command.ensures.spawner (starts_none c.args.words.now c.in-Ok.line c.in-Ok.ensures.says meet)
+
+-- ---- no command
+
+pub returns-in-Err-Faulty-clause-generate : goal.returns-in-Err-Faulty-clause-generate
+returns-in-Err-Faulty-clause-generate g c = λ seed steps says. (c.read_command_line.ensures.faulty (c.in-Err-Faulty.is ∙ ap Err c.in-Err-Faulty.field-0-is)).not_generate seed steps says
+
+pub returns-in-Err-Memory-clause-meet : goal.returns-in-Err-Memory-clause-meet
+returns-in-Err-Memory-clause-meet g c = λ port turns says. nothing_met port turns (g.P.Spawner.seen c.args.spawner.now) (g.K.Sink.seen c.args.sink.now) c.requires
