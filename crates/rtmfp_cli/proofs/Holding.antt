@@ -1,7 +1,8 @@
 -- What lines leave holds.
-use Rattle.std.proofs.Common.{ℕ, ◌+◌, List, [], ◌∷◌, inl, inr, sym, subst}
+use Rattle.std.proofs.Common.{◌≡◌, ℕ, ◌+◌, List, [], ◌∷◌, inl, inr, sym, subst}
 use Rattle.rendezvous_world.specs.Seen.{Seen}
 use Rattle.rendezvous_world.specs.Laws.{empty_world}
+use Rattle.rendezvous_world.proofs.Calling.{seen_is}
 use Rattle.rendezvous_world.proofs.Keeping.{new_world}
 use Rattle.rendezvous_world.proofs.Sounds.{every_world_is_sound}
 use Rattle.rendezvous_world.proofs.Agreeing.{agreed}
@@ -15,6 +16,9 @@ use Rattle.rtmfp_cli.specs.Script.{Runs}
 -- a run begins with a world that holds
 pub empty_holds : HistoryHolds empty_world
 empty_holds = record { sound = every_world_is_sound empty_world new_world; agreed = agreed empty_world new_world; go_over = hands_over empty_world new_world }
+
+pub new_holds : (w : Seen) → w.moment ≡ 0 → w.ends ≡ [] → w.lines ≡ [] → HistoryHolds w
+new_holds w moment ends lines = subst HistoryHolds (sym (seen_is w 0 [] [] moment ends lines)) empty_holds
 
 plays_holds : (w : Seen) (n : ℕ) (line : List ℕ) (t : Seen) (text : List ℕ) → HistoryHolds w → Plays w n line t text → HistoryHolds t
 plays_holds w n line t text holds plays =

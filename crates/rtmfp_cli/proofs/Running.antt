@@ -1,27 +1,27 @@
 -- What the words say is done, and nothing else.
-use Rattle.std.proofs.Common.{◌≡◌, ◌⊎◌, ℕ, inl, inr, List, [], ◌∷◌, Bool, true, false, refl, sym, ap, ◌∙◌, subst, None}
-use Rattle.std.specs.Prelude.{ℤ, String, Result, Ok, Err}
+use Rattle.std.proofs.Common.{◌≡◌, ℕ, inl, inr, List, false, refl, sym, ap, ◌∙◌, subst, None}
+use Rattle.std.specs.Prelude.{String, Result, Ok, Err}
 use Rattle.std.specs.declared.alloc.Global.{Global}
 use Rattle.rtmfp_lines.specs.declared.status.Status.{Status as RunStatus}
 use Rattle.rtmfp_lines.specs.declared.status.Status.TheVariants as status
 use Rattle.rtmfp_lines.specs.Outside.{Outside, outside}
 use Rattle.rtmfp_host.specs.Seen.{SinkSeen}
-use Rattle.rtmfp_host.specs.Spawning.{SpawnerSeen}
 use Rattle.rtmfp_host.specs.declared.spawner.SpawnCall.{SpawnCall}
-use Rattle.rtmfp_meet.specs.Meeting.{EndsAt, MeetEnds, Sides, Step, Starting, Waiting, failed_with, node_of, sides}
-use Rattle.rtmfp_meet.proofs.Runs.{nothing_met}
+use Rattle.rtmfp_meet.specs.Meeting.{EndsAt, MeetEnds, Sides, Step, Starting, Waiting, failed_with, sides}
 use Rattle.rtmfp_play.specs.Generated.{GeneratedEnds}
-use Rattle.rtmfp_words.specs.CommandLine.{IsFaulty, NamesNode, Says}
+use Rattle.rtmfp_words.specs.CommandLine.{IsFaulty, Says}
+use Rattle.rtmfp_node.specs.declared.served.Served.{Served}
+use Rattle.rtmfp_node.specs.declared.served.Served.TheVariants as served
+use Rattle.rtmfp_node.specs.Outside.{Counted}
 use Rattle.rtmfp_words.specs.Node.{IsMeet, IsServe, Serving}
-use Rattle.rtmfp_words.specs.Words.{IsGenerate, IsReplay, IsShow}
-use Rattle.rtmfp_words.specs.declared.command.Command.{Command}
+use Rattle.rtmfp_words.specs.Words.{IsReplay, IsShow}
 use Rattle.rtmfp_words.specs.declared.command.Command.TheVariants.{Show, Replay, Generate}
 use Rattle.rtmfp_words.specs.declared.command_line.CommandLine.{CommandLine}
 use Rattle.rtmfp_words.specs.declared.command_line.CommandLine.TheVariants.{Lines, Serve, Meet}
 use Rattle.rtmfp_words.specs.declared.fault.WordsFault.{WordsFault}
 use Rattle.rtmfp_words.specs.declared.fault.WordsFault.TheVariants.{Faulty, Memory}
-use Rattle.rtmfp_words.proofs.Commanding.{Finds, faulty_only, names_no_lines, not_read}
-use Rattle.rtmfp_cli.specs.Commands.{CommandEnds, Fits, HasRisen, IsUnknown, Objects, reads_lines, starts_nodes}
+use Rattle.rtmfp_words.proofs.Commanding.{Finds, faulty_only, not_read}
+use Rattle.rtmfp_cli.specs.Commands.{CommandEnds, Fits, HasRisen, Objects, NodeEnds, around, reads_lines, serves, starts_nodes, status_of}
 use Rattle.rtmfp_cli.specs.Doing.{playing, showing}
 use Rattle.rtmfp_cli.specs.declared.doing.Doing.{Doing}
 use Rattle.rtmfp_cli.specs.Script.{ScriptEnds}
@@ -43,7 +43,7 @@ pub fits_of : (words : List (String Global)) (line : CommandLine) → Says words
 fits_of words (Lines Show) says = tt
 fits_of words (Lines Replay) says = tt
 fits_of words (Lines (Generate seed steps)) says = says.few_steps
-fits_of words (Serve v) says = tt
+fits_of words (Serve v) says = says.name
 fits_of words (Meet m) says = tt
 
 -- ---- what doesn't come
@@ -80,15 +80,23 @@ of_meet _ port turns before after ends = let e = ends.course.ends in of_meet_at 
 pub ended_so : (result : Result CommandLine WordsFault) (line other : CommandLine) (s : RunStatus) (before after : Objects) → result ≡ Ok line → Finds result other → CommandEnds line s before after → CommandEnds other s before after
 ended_so result line other s before after is finds ends = let P : CommandLine → Type 0 = λ x. CommandEnds x s before after in subst P (one_line result line other is finds) ends
 
-bad_so : (words : List (String Global)) (line : CommandLine) (before after : Objects) → Says words line → CommandEnds line status.BadWords before after → IsUnknown words
+-- a run of a node doesn't find the words bad
+served_well : (how : Served) → status.BadWords ≡ status_of how → ⊥
+served_well served.Done is = absurd (cc)
+served_well served.Memory is = absurd (cc)
+served_well served.LinkFault is = absurd (cc)
+served_well served.SinkFault is = absurd (cc)
+served_well served.EntropyFault is = absurd (cc)
+
+bad_so : (words : List (String Global)) (line : CommandLine) (before after : Objects) → Says words line → CommandEnds line status.BadWords before after → IsFaulty words
 bad_so words (Lines Show) before after says ends = absurd ends
 bad_so words (Lines Replay) before after says ends = absurd ends
 bad_so words (Lines (Generate seed steps)) before after says ends = absurd ends
-bad_so words (Serve v) before after says ends = inr (v, says)
+bad_so words (Serve v) before after says ends = absurd (served_well ends.how ends.is)
 bad_so words (Meet m) before after says ends = absurd (of_meet status.BadWords m.port m.turns _ _ ends)
 
--- only faulty words are bad, until `serve` is there
-pub bad_words : (words : List (String Global)) (line : CommandLine) (s : RunStatus) (before after : Objects) → Says words line → s ≡ status.BadWords → CommandEnds line s before after → IsUnknown words
+-- only faulty words are bad
+pub bad_words : (words : List (String Global)) (line : CommandLine) (s : RunStatus) (before after : Objects) → Says words line → s ≡ status.BadWords → CommandEnds line s before after → IsFaulty words
 bad_words words line s before after says bad ends = let P : RunStatus → Type 0 = λ x. CommandEnds line x before after in bad_so words line before after says (subst P bad ends)
 
 script_risen : (s : RunStatus) (doing : Doing) (before after : Objects) → ScriptEnds doing s (outside before.source before.sink) (outside after.source after.sink) → HasRisen s before after
@@ -121,14 +129,21 @@ met_risen (status.Forged n) port turns before after ends = tt
 met_risen status.ScriptLong port turns before after ends = tt
 met_risen _ port turns before after ends = absurd (of_meet _ port turns _ _ ends)
 
-refused_risen : (s : RunStatus) (before after : Objects) → s ≡ status.BadWords → HasRisen s before after
-refused_risen s before after is = let P : RunStatus → Type 0 = λ x. HasRisen x before after in subst P (sym is) tt
+counted_risen : (how : Served) (before after : Objects) → Counted how (around before) (around after) → HasRisen (status_of how) before after
+counted_risen served.Done before after counted = tt
+counted_risen served.Memory before after counted = tt
+counted_risen served.LinkFault before after counted = counted.link
+counted_risen served.SinkFault before after counted = counted.sink
+counted_risen served.EntropyFault before after counted = counted.entropy
+
+served_risen : (v : Serving) (s : RunStatus) (before after : Objects) → NodeEnds v s (around before) (around after) → HasRisen s before after
+served_risen v s before after ends = let P : RunStatus → Type 0 = λ x. HasRisen x before after in subst P (sym ends.is) (counted_risen ends.how before after ends.counted)
 
 pub risen : (line : CommandLine) (s : RunStatus) (before after : Objects) → CommandEnds line s before after → HasRisen s before after
 risen (Lines Show) s before after ends = script_risen s showing before after ends
 risen (Lines Replay) s before after ends = script_risen s playing before after ends
 risen (Lines (Generate seed steps)) s before after ends = generated_risen s seed steps before after ends
-risen (Serve v) s before after ends = refused_risen s before after ends
+risen (Serve v) s before after ends = served_risen v s before after ends
 risen (Meet m) s before after ends = met_risen s m.port m.turns before after ends
 
 -- ---- the status of a child
@@ -141,6 +156,13 @@ generated_child : (s : RunStatus) (seed steps : ℕ) (before after : SinkSeen) �
 generated_child (status.ChildFailed c) seed steps before after ends = absurd ends
 generated_child _ seed steps before after ends = refl
 
+served_child : (how : Served) → failed_with (status_of how) ≡ None
+served_child served.Done = refl
+served_child served.Memory = refl
+served_child served.LinkFault = refl
+served_child served.SinkFault = refl
+served_child served.EntropyFault = refl
+
 pub child_told : (line : CommandLine) (s : RunStatus) (before after : Objects) → before.spawner.status ≡ None → (starts_nodes line ≡ false → after.spawner ≡ before.spawner) → CommandEnds line s before after → after.spawner.status ≡ failed_with s
 child_told (Lines Show) s before after none same ends =
     ap (λ p. p.status) (same refl) ∙ none ∙ sym (script_child s showing (outside before.source before.sink) (outside after.source after.sink) ends)
@@ -149,7 +171,7 @@ child_told (Lines Replay) s before after none same ends =
 child_told (Lines (Generate seed steps)) s before after none same ends =
     ap (λ p. p.status) (same refl) ∙ none ∙ sym (generated_child s seed steps before.sink after.sink ends)
 child_told (Serve v) s before after none same ends =
-    ap (λ p. p.status) (same refl) ∙ none ∙ sym (ap failed_with ends)
+    ap (λ p. p.status) (same refl) ∙ none ∙ sym (ap failed_with ends.is ∙ served_child ends.how)
 child_told (Meet m) s before after none same ends = ends.first
 
 -- ---- what a command doesn't need
@@ -167,3 +189,10 @@ starts_none words (Lines Replay) says meet = refl
 starts_none words (Lines (Generate seed steps)) says meet = refl
 starts_none words (Serve v) says meet = refl
 starts_none words (Meet m) says meet = absurd (meet m.port m.turns says)
+
+pub serves_none : (words : List (String Global)) (line : CommandLine) → Says words line → ((v : Serving) → IsServe words v → ⊥) → serves line ≡ false
+serves_none words (Lines Show) says serve = refl
+serves_none words (Lines Replay) says serve = refl
+serves_none words (Lines (Generate seed steps)) says serve = refl
+serves_none words (Serve v) says serve = absurd (serve v says)
+serves_none words (Meet m) says serve = refl

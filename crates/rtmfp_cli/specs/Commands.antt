@@ -11,9 +11,13 @@ use Rattle.rtmfp_lines.specs.Outside.{outside}
 use Rattle.rtmfp_lines.specs.declared.status.Status.{Status as RunStatus}
 use Rattle.rtmfp_lines.specs.declared.status.Status.TheVariants as status
 use Rattle.rtmfp_meet.specs.Meeting.{MeetEnds, sides}
+use Rattle.rtmfp_node.specs.declared.served.Served.{Served}
+use Rattle.rtmfp_node.specs.declared.served.Served.TheVariants as served
+use Rattle.rtmfp_node.specs.Outside.{Counted, PassesOn, Outside as NodeOutside, outside as node_outside}
+use Rattle.rtmfp_node.specs.Whole.{Ends}
 use Rattle.rtmfp_play.specs.Generated.{GeneratedEnds}
-use Rattle.rtmfp_words.specs.CommandLine.{IsFaulty, NamesNode}
-use Rattle.rtmfp_words.specs.Node.{IsMeet, IsServe, Serving}
+use Rattle.rtmfp_words.specs.CommandLine.{NamesNode}
+use Rattle.rtmfp_words.specs.Node.{IsMeet, IsNodeName, IsServe, Serving}
 use Rattle.rtmfp_words.specs.Words.{IsReplay, IsShow}
 use Rattle.rtmfp_words.specs.declared.command.Command.TheVariants.{Show, Replay, Generate}
 use Rattle.rtmfp_words.specs.declared.command_line.CommandLine.{CommandLine}
@@ -41,9 +45,36 @@ objects link clock entropy source sink spawner = record {
   spawner = spawner;
 }
 
+-- ---- a node
+
+-- the status of a run of a node
+abbrev pub status_of : Served → RunStatus
+status_of served.Done = status.Done
+status_of served.Memory = status.Memory
+status_of served.LinkFault = status.LinkFault
+status_of served.SinkFault = status.SinkFault
+status_of served.EntropyFault = status.EntropyFault
+
+-- what a node sees of the objects
+abbrev pub around : Objects → NodeOutside
+around o = node_outside o.link o.clock o.entropy o.sink
+
+-- A node was run, and ended so.
+pub record NodeEnds (v : Serving) (result : RunStatus) (before after : NodeOutside) : Type 0 where
+  pub how : Served
+  pub is : result ≡ status_of how
+  pub ends : Ends how v before after
+  pub counted : Counted how before after
+  pub passed : PassesOn how before after
+
+-- How `serve` ends. There may be no memory to read its words, and then nothing was done.
+abbrev pub ServeEnds : Serving → RunStatus → NodeOutside → NodeOutside → Type 0
+ServeEnds v result before after = NodeEnds v result before after ⊎
+    ((result ≡ status.Memory) × (after ≡ before))
+
 -- ---- commands
 
--- How a command ends. That `serve` runs a node isn't there yet: its words are refused.
+-- how a command ends
 abbrev pub CommandEnds : CommandLine → RunStatus → Objects → Objects → Type 0
 CommandEnds (Lines Show) result before after = ScriptEnds showing result
     (outside before.source before.sink) (outside after.source after.sink)
@@ -51,27 +82,23 @@ CommandEnds (Lines Replay) result before after = ScriptEnds playing result
     (outside before.source before.sink) (outside after.source after.sink)
 CommandEnds (Lines (Generate seed steps)) result before after =
     GeneratedEnds seed steps result before.sink after.sink
-CommandEnds (Serve v) result before after = result ≡ status.BadWords
+CommandEnds (Serve v) result before after = NodeEnds v result (around before) (around after)
 CommandEnds (Meet m) result before after = MeetEnds m.port m.turns result
     (sides before.spawner before.sink) (sides after.spawner after.sink)
 
--- a generated run has no more steps than it may
+-- a generated run has no more steps than it may, and a node has a name
 abbrev pub Fits : CommandLine → Type 0
 Fits (Lines Show) = Unit {0}
 Fits (Lines Replay) = Unit {0}
 Fits (Lines (Generate seed steps)) = steps ≤ 100000
-Fits (Serve v) = Unit {0}
+Fits (Serve v) = IsNodeName v.name
 Fits (Meet m) = Unit {0}
 
--- Words are refused: they are faulty, and there may be no memory to see it where the first is that of
--- a node.
+-- Words are refused: they are faulty. There may be no memory to see it where the first is that of a
+-- node.
 abbrev pub IsRefused : RunStatus → List (String Global) → Type 0
 IsRefused result words = (result ≡ status.BadWords) ⊎
     ((result ≡ status.Memory) × NamesNode words)
-
--- Until `serve` is there its words are refused as well.
-abbrev pub IsUnknown : List (String Global) → Type 0
-IsUnknown words = IsFaulty words ⊎ ((v : Serving) × IsServe words v)
 
 -- ---- what a command needs
 
@@ -85,6 +112,13 @@ reads_lines (Meet m) = false
 abbrev pub starts_nodes : CommandLine → Bool
 starts_nodes (Meet m) = true
 starts_nodes line = false
+
+abbrev pub serves : CommandLine → Bool
+serves (Serve v) = true
+serves line = false
+
+abbrev pub NeedsNoNetwork : List (String Global) → Type 0
+NeedsNoNetwork words = (v : Serving) → IsServe words v → ⊥
 
 abbrev pub NeedsNoSource : List (String Global) → Type 0
 NeedsNoSource words = (IsShow words → ⊥) × (IsReplay words → ⊥)

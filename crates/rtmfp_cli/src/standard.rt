@@ -10,8 +10,8 @@ use std::io::{self, BufWriter};
 use std::process::ExitCode;
 
 /// All that the program does (own): it runs over standard input and output, a socket, the clock, a
-/// generator and child programs, with the words of the command line, prints on standard error how that ended where it wasn't done, and gives the exit
-/// status.
+/// generator and child programs, with the words of the command line, prints on standard error how
+/// that ended where it wasn't done, and gives the exit status.
 pub fn run_program(rt: &HostRuntime) -> ExitCode {
     let status = run_words(rt);
     let mut text = Text::new(rt.alloc());

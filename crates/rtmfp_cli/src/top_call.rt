@@ -1,9 +1,10 @@
 //! The top call.
 ghost use Rattle.std.specs.Prelude.{◌≡◌, ℕ, None, false};
 ghost use Rattle.rtmfp_words.specs.CommandLine.{IsFaulty};
-ghost use Rattle.rtmfp_words.specs.Node.{IsMeet};
+ghost use Rattle.rtmfp_node.specs.Outside.{outside as node_outside};
+ghost use Rattle.rtmfp_words.specs.Node.{IsMeet, IsNodeName, IsServe, Serving};
 ghost use Rattle.rtmfp_words.specs.Words.{IsGenerate, IsReplay, IsShow};
-ghost use Rattle.rtmfp_cli.specs.Commands.{CommandEnds, Fits, HasRisen, IsRefused, IsUnknown, NeedsNoSource, NeedsNoSpawner, objects, reads_lines, starts_nodes};
+ghost use Rattle.rtmfp_cli.specs.Commands.{CommandEnds, Fits, HasRisen, IsRefused, NeedsNoNetwork, NeedsNoSource, NeedsNoSpawner, NodeEnds, ServeEnds, objects, reads_lines, serves, starts_nodes, status_of};
 ghost use Rattle.rtmfp_cli.specs.Doing.{Holds, IsNext, playing, showing};
 ghost use Rattle.rtmfp_meet.specs.Meeting.{MeetEnds, failed_with, sides};
 ghost use Rattle.rtmfp_play.specs.Generated.{GeneratedEnds};
@@ -16,8 +17,9 @@ use crate::script_run::run_script;
 use rtmfp_host::{Entropy, Link, Moments, Sink, Source, Spawner, Wrote};
 use rtmfp_lines::Status;
 use rtmfp_meet::meet;
+use rtmfp_node::{Served, serve};
 use rtmfp_play::{Playing, generate};
-use rtmfp_words::{Command, CommandLine, WordsFault, read_command_line};
+use rtmfp_words::{Command, CommandLine, ServeWords, WordsFault, read_command_line};
 use std::alloc::Global;
 
 /// Does what the words of the command line say, over the six objects, and says how it ended (own).
@@ -26,8 +28,8 @@ use std::alloc::Global;
 ///
 /// `show` reads one packet a line in hexadecimal, and writes its text. `replay` reads one step of a
 /// script a line, does it, and writes its report. `replay --generate N --steps K` makes a script of
-/// its own, and writes one line that sums it up. `meet` starts three nodes and writes what they
-/// wrote. The words of `serve` are refused, since it isn't there yet.
+/// its own, and writes one line that sums it up. `serve` runs a node on the network, and writes its
+/// report. `meet` starts three nodes and writes what they wrote.
 pub fn run<L: Link, C: Moments, E: Entropy, S: Source, K: Sink, P: Spawner>(
     alloc: Global,
     words: &[String],
@@ -49,13 +51,16 @@ pub fn run<L: Link, C: Moments, E: Entropy, S: Source, K: Sink, P: Spawner>(
         (outside (S.seen source.new) (K.seen sink.new)) }
     ensures generate { (seed steps : ℕ) → IsGenerate words.now seed steps →
         GeneratedEnds seed steps result (K.seen sink.old) (K.seen sink.new) }
+    ensures serve { (v : Serving) → IsServe words.now v → ServeEnds v result
+        (node_outside (L.seen link.old) (C.seen clock.old) (E.seen entropy.old) (K.seen sink.old))
+        (node_outside (L.seen link.new) (C.seen clock.new) (E.seen entropy.new) (K.seen sink.new)) }
     ensures meet { (port turns : ℕ) → IsMeet words.now port turns → MeetEnds port turns result
         (sides (P.seen spawner.old) (K.seen sink.old))
         (sides (P.seen spawner.new) (K.seen sink.new)) }
 
     // Other words are refused, and no others.
     ensures refused { IsFaulty words.now → IsRefused result words.now }
-    ensures bad_words { result ≡ Status.BadWords → IsUnknown words.now }
+    ensures bad_words { result ≡ Status.BadWords → IsFaulty words.now }
 
     // A fault is told only where the count of its object has risen, and a child's status exactly
     // where a wait gave one.
@@ -67,9 +72,9 @@ pub fn run<L: Link, C: Moments, E: Entropy, S: Source, K: Sink, P: Spawner>(
     ensures child { (P.seen spawner.new).status ≡ failed_with result }
 
     // An object that a command doesn't need is as before.
-    ensures link { link.new ≡ link.old }
-    ensures clock { clock.new ≡ clock.old }
-    ensures entropy { entropy.new ≡ entropy.old }
+    ensures link { NeedsNoNetwork words.now → link.new ≡ link.old }
+    ensures clock { NeedsNoNetwork words.now → clock.new ≡ clock.old }
+    ensures entropy { NeedsNoNetwork words.now → entropy.new ≡ entropy.old }
     ensures source { NeedsNoSource words.now → source.new ≡ source.old }
     ensures sink { IsFaulty words.now → sink.new ≡ sink.old }
     ensures spawner { NeedsNoSpawner words.now → spawner.new ≡ spawner.old }
@@ -99,9 +104,9 @@ fn run_command<L: Link, C: Moments, E: Entropy, S: Source, K: Sink, P: Spawner>(
         (K.seen sink.old) (P.seen spawner.old))
         (objects (L.seen link.new) (C.seen clock.new) (E.seen entropy.new) (S.seen source.new)
         (K.seen sink.new) (P.seen spawner.new)) }
-    ensures link { link.new ≡ link.old }
-    ensures clock { clock.new ≡ clock.old }
-    ensures entropy { entropy.new ≡ entropy.old }
+    ensures link { serves line ≡ false → link.new ≡ link.old }
+    ensures clock { serves line ≡ false → clock.new ≡ clock.old }
+    ensures entropy { serves line ≡ false → entropy.new ≡ entropy.old }
     ensures source { reads_lines line ≡ false → source.new ≡ source.old }
     ensures spawner { starts_nodes line ≡ false → spawner.new ≡ spawner.old }
 {
@@ -112,8 +117,39 @@ fn run_command<L: Link, C: Moments, E: Entropy, S: Source, K: Sink, P: Spawner>(
             over_lines(alloc, Doing::Playing(playing), source, sink)
         }
         CommandLine::Lines(Command::Generate { seed, steps }) => generate(alloc, seed, steps, sink),
-        CommandLine::Serve(_) => Status::BadWords,
+        CommandLine::Serve(words) => serve_node(alloc, &words, link, clock, entropy, sink),
         CommandLine::Meet(words) => meet(alloc, words, sink, spawner),
+    }
+}
+
+/// Runs a node.
+fn serve_node<L: Link, C: Moments, E: Entropy, K: Sink>(
+    alloc: Global,
+    words: &ServeWords,
+    link: &mut L,
+    clock: &mut C,
+    entropy: &mut E,
+    sink: &mut K,
+) -> Status
+    requires { IsNodeName words.now.name }
+    ensures { NodeEnds words.now result
+        (node_outside (L.seen link.old) (C.seen clock.old) (E.seen entropy.old) (K.seen sink.old))
+        (node_outside (L.seen link.new) (C.seen clock.new) (E.seen entropy.new) (K.seen sink.new)) }
+{
+    let served = serve(alloc, words, link, clock, entropy, sink);
+    status_of(served)
+}
+
+/// The status of a run of a node.
+fn status_of(served: Served) -> Status
+    ensures { result ≡ status_of served }
+{
+    match served {
+        Served::Done => Status::Done,
+        Served::Memory => Status::Memory,
+        Served::LinkFault => Status::LinkFault,
+        Served::SinkFault => Status::SinkFault,
+        Served::EntropyFault => Status::EntropyFault,
     }
 }
 

@@ -1,10 +1,10 @@
-use Rattle.std.proofs.Common.{ap, ◌∙◌}
+use Rattle.std.proofs.Common.{inl, inr, refl, ap, ◌∙◌}
 use Rattle.std.specs.Prelude.{Err}
 use Rattle.rtmfp_meet.proofs.Runs.{nothing_met}
 use Rattle.rtmfp_words.specs.declared.command.Command.TheVariants.{Show, Replay, Generate}
-use Rattle.rtmfp_words.specs.declared.command_line.CommandLine.TheVariants.{Lines, Meet}
+use Rattle.rtmfp_words.specs.declared.command_line.CommandLine.TheVariants.{Lines, Serve, Meet}
 use Rattle.rtmfp_words.specs.declared.meet_words.MeetWords.{MeetWords}
-use Rattle.rtmfp_cli.proofs.Running.{bad_words, child_told, ended_so, fits_of, not_faulty, reads_none, risen, starts_none}
+use Rattle.rtmfp_cli.proofs.Running.{bad_words, child_told, ended_so, fits_of, not_faulty, reads_none, risen, serves_none, starts_none}
 use Rattle.rtmfp_cli.proofs.top_call.run.Goals as goal
 
 pub run_command-requires-clause-fits : goal.run_command-requires-clause-fits
@@ -21,6 +21,9 @@ returns-in-Ok-clause-replay g c = λ replay. ended_so c.read_command_line.result
 pub returns-in-Ok-clause-generate : goal.returns-in-Ok-clause-generate
 returns-in-Ok-clause-generate g c =
     λ seed steps generate. ended_so c.read_command_line.result c.in-Ok.line (Lines (Generate seed steps)) _ _ _ c.in-Ok.is (c.read_command_line.ensures.only (Lines (Generate seed steps)) generate) c.run_command.ensures.ends
+
+pub returns-in-Ok-clause-serve : goal.returns-in-Ok-clause-serve
+returns-in-Ok-clause-serve g c = λ v serve. inl (ended_so c.read_command_line.result c.in-Ok.line (Serve v) _ _ _ c.in-Ok.is (c.read_command_line.ensures.only (Serve v) serve) c.run_command.ensures.ends)
 
 pub returns-in-Ok-clause-meet : goal.returns-in-Ok-clause-meet
 returns-in-Ok-clause-meet g c =
@@ -42,6 +45,15 @@ pub returns-in-Ok-clause-child : goal.returns-in-Ok-clause-child
 returns-in-Ok-clause-child g c =
     child_told c.in-Ok.line c.run_command.result _ _ c.requires (λ none. ap g.P.Spawner.seen (c.run_command.ensures.spawner none)) c.run_command.ensures.ends
 
+pub returns-in-Ok-clause-link : goal.returns-in-Ok-clause-link
+returns-in-Ok-clause-link g c = λ no. c.run_command.ensures.link (serves_none c.args.words.now c.in-Ok.line c.in-Ok.ensures.says no)
+
+pub returns-in-Ok-clause-clock : goal.returns-in-Ok-clause-clock
+returns-in-Ok-clause-clock g c = λ no. c.run_command.ensures.clock (serves_none c.args.words.now c.in-Ok.line c.in-Ok.ensures.says no)
+
+pub returns-in-Ok-clause-entropy : goal.returns-in-Ok-clause-entropy
+returns-in-Ok-clause-entropy g c = λ no. c.run_command.ensures.entropy (serves_none c.args.words.now c.in-Ok.line c.in-Ok.ensures.says no)
+
 pub returns-in-Ok-clause-source : goal.returns-in-Ok-clause-source
 returns-in-Ok-clause-source g c = λ no. c.run_command.ensures.source (reads_none c.args.words.now c.in-Ok.line c.in-Ok.ensures.says no.0 no.1)
 
@@ -58,3 +70,9 @@ returns-in-Err-Faulty-clause-generate g c = λ seed steps says. (c.read_command_
 
 pub returns-in-Err-Memory-clause-meet : goal.returns-in-Err-Memory-clause-meet
 returns-in-Err-Memory-clause-meet g c = λ port turns says. nothing_met port turns (g.P.Spawner.seen c.args.spawner.now) (g.K.Sink.seen c.args.sink.now) c.requires
+
+pub returns-in-Err-Memory-clause-serve : goal.returns-in-Err-Memory-clause-serve
+returns-in-Err-Memory-clause-serve g c = λ v serve. inr (refl, refl)
+
+pub returns-in-Err-Faulty-clause-serve : goal.returns-in-Err-Faulty-clause-serve
+returns-in-Err-Faulty-clause-serve g c = λ v says. absurd ((c.read_command_line.ensures.faulty (c.in-Err-Faulty.is ∙ ap Err c.in-Err-Faulty.field-0-is)).not_serve v says)
