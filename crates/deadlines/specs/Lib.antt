@@ -1,0 +1,3 @@
+pub mod Deadlines
+pub mod Inside
+pub mod Edges
