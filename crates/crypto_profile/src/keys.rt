@@ -123,7 +123,8 @@ impl Keys {
         self.tags.bytes()
     }
 
-    pub(crate) fn stream(&self) -> &HmacKey
+    /// The key of the keystream, hashed once.
+    pub fn stream(&self) -> &HmacKey
         ensures { result.now ≡ self.now.enc }
     {
         &self.stream

@@ -3,3 +3,4 @@ pub mod Seals
 pub mod Meets
 pub mod Courses
 pub mod Folds
+pub mod Deadlines

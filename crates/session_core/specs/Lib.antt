@@ -8,3 +8,4 @@ pub mod Meeting
 pub mod Closing
 pub mod Edges
 pub mod Calls
+pub mod Deadline

@@ -2,6 +2,7 @@
 //! law.
 
 ghost use Rattle.session_core.specs.Calls.{AddressIsTheLast, CourseIsByTheTable, EndsStay, StampIsTheLast, TakenIsTheLast, TripIsByTheSamples, WindowIsByAcksAndLosses};
+ghost use Rattle.session_core.specs.Deadline.{IsDueByDeadline};
 ghost use Rattle.session_core.specs.Meeting.{ContextsMeet, SealedOpensThere};
 ghost use Rattle.session_core.specs.Hearing.{HearsByTaken, OpensSomePlain, OpensThisPlain};
 
@@ -43,4 +44,10 @@ pub fn values_are_folds_over_the_calls()
 /// of the last keepalive are those to which the table of the calls leads.
 pub fn a_session_goes_by_the_table_of_its_calls()
     ensures { CourseIsByTheTable }
+{}
+
+/// At each moment something of its own is due of a session, or a keepalive, exactly where its
+/// deadline has come.
+pub fn what_is_due_is_past_the_deadline()
+    ensures { IsDueByDeadline }
 {}

@@ -1,10 +1,12 @@
 //! One end of a session.
 
-ghost use Rattle.std.specs.Prelude.{◌≡◌, ◌↔◌, ◌<◌, ◌^◌, IsTrue, List, ℕ, false, is_none, ◌≤◌, length, IfSome};
+ghost use Rattle.std.specs.Prelude.{◌≡◌, ◌↔◌, ◌<◌, ◌^◌, IsTrue, List, ℕ, false, true, is_none, ◌≤◌, length, IfSome};
+ghost use Rattle.crypto_profile.specs.Keys.{keys_of};
 ghost use Rattle.crypto_profile.specs.Sealing.{Opens};
 ghost use Rattle.glare_core.specs.Calls.{where_true};
 ghost use Rattle.session_core.specs.Session.{SessionState, context_between, context_of, first_stage, new_session, is_opening, confirmed, mode_of, head_at, with_stamps, moved_to};
 ghost use Rattle.session_core.specs.Closing.{is_held, is_near_close, closed_near, asked_to_close, close_answered, first_due, after_due, needs_keepalive, kept_alive, with_acknowledged, with_loss};
+ghost use Rattle.session_core.specs.Deadline.{deadline};
 ghost use Rattle.session_core.specs.Congestion.{IsCongestion};
 ghost use Rattle.session_core.specs.Trips.{resend_time};
 ghost use Rattle.session_core.specs.Sealed.{is_spent, seal_answer, after_seal, sealed_into};
@@ -13,7 +15,9 @@ ghost use Rattle.session_core.specs.Hearing.{counted, opens_in, unheard, heard_a
 use crate::congestion::{Congestion, first_congestion, grown, shrunk};
 use crate::hearing::{Unheard, count_of, has_session_number, opens_under};
 use crate::sealing::{number_of_count, seal_into};
-use crate::stage::{Role, SessionDue, Stage, is_held, is_past, is_past_last};
+use crate::stage::{
+    NEVER, Role, SessionDue, Stage, after, after_last, is_held, is_past, is_past_last,
+};
 use crate::stamps::{Stamp, echo_of, stamp_after, tick_of};
 use crate::trips::{RoundTrip, resend_time, trip_after};
 use crypto_profile::{CIPHERED_AT, Context, HmacKey, Keys, ReplayWindow, open_in_place};
@@ -146,14 +150,27 @@ impl Session {
     ) -> Session
         ensures { result ≡ new_session joined.now own.now role address secret.now moment }
     {
-        let group = HmacKey::of(secret);
+        Session::under(joined, own, role, address, &HmacKey::of(secret), moment)
+    }
+
+    /// The same under the group secret, which was hashed before.
+    pub fn under(
+        joined: &Joined,
+        own: &[u8; 32],
+        role: Role,
+        address: Address,
+        secret: &HmacKey,
+        moment: u64,
+    ) -> Session
+        ensures { result ≡ new_session joined.now own.now role address secret.now moment }
+    {
         Session {
             joined: *joined,
             own: *own,
             role,
-            secret: *secret,
-            inward: Keys::under(&group, &context_between(joined, own, role, false)),
-            outward: Keys::under(&group, &context_between(joined, own, role, true)),
+            secret: *secret.bytes(),
+            inward: Keys::under(secret, &context_between(joined, own, role, false)),
+            outward: Keys::under(secret, &context_between(joined, own, role, true)),
             address,
             stage: first_stage(role),
             since: moment,
@@ -199,6 +216,21 @@ impl Session {
         ensures { result ≡ context_of self.now outward }
     {
         context_between(&self.joined, &self.own, self.role, outward)
+    }
+
+    /// The key of the keystream of packets away from this end, by which they are deciphered and
+    /// none is verified.
+    pub fn stream_key(&self) -> &HmacKey
+        ensures { result.now ≡ (keys_of self.now.secret (context_of self.now true)).enc }
+    {
+        self.outward.stream()
+    }
+
+    /// The group secret.
+    pub fn secret(&self) -> &[u8; 32]
+        ensures { result.now ≡ self.now.secret }
+    {
+        &self.secret
     }
 
     /// Whether a sealed part opens in the context towards this end, also where its number was taken
@@ -462,6 +494,27 @@ impl Session {
         self.stage == Stage::Open
             && is_past(KEEPALIVE, self.taken, moment)
             && is_past_last(KEEPALIVE, self.keepalive, moment)
+    }
+
+    /// From which moment on something of the session's own is due: its end, the end of its closing,
+    /// its close again, or a keepalive. 2^64, to which no moment comes, where nothing ever is.
+    pub fn deadline(&self) -> u128
+        ensures { result ≡ deadline self.now }
+    {
+        match self.stage {
+            Stage::Opening => after(UNCONFIRMED, self.since),
+            Stage::Open => {
+                let again = after_last(KEEPALIVE, self.keepalive);
+                let keepalive = after(KEEPALIVE, self.taken).max(again);
+                after(IDLE, self.taken).min(keepalive)
+            }
+            Stage::NearClose => {
+                let again = after_last(CLOSE_AGAIN, self.close_sent);
+                after(CLOSING, self.since).min(again)
+            }
+            Stage::FarLinger => after(LINGERING, self.since),
+            Stage::Closed => NEVER,
+        }
     }
 
     /// The milliseconds after which what was sent is sent again.

@@ -2,6 +2,10 @@
 
 ghost use Rattle.std.specs.Prelude.{◌≡◌};
 ghost use Rattle.session_core.specs.Closing.{is_held, is_past, is_past_last};
+ghost use Rattle.session_core.specs.Deadline.{after, after_last};
+
+/// A moment to which none comes: moments are below 2^64.
+pub(crate) const NEVER: u128 = 1 << 64;
 
 /// Which end of a session this is.
 #[derive(Clone, Copy, Debug, PartialEq, Eq)]
@@ -61,5 +65,22 @@ pub(crate) fn is_past_last(span: u64, last: Option<u64>, moment: u64) -> bool
     match last {
         None => true,
         Some(at) => is_past(span, at, moment),
+    }
+}
+
+/// So many milliseconds after a moment.
+pub(crate) fn after(span: u64, at: u64) -> u128
+    ensures { result ≡ after span at }
+{
+    at as u128 + span as u128
+}
+
+/// The same of the last of some sendings: at once where there was none.
+pub(crate) fn after_last(span: u64, last: Option<u64>) -> u128
+    ensures { result ≡ after_last span last }
+{
+    match last {
+        None => 0,
+        Some(at) => after(span, at),
     }
 }
