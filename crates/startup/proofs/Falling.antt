@@ -1,14 +1,10 @@
 -- What was due of an attempt isn't any more once it is done.
-use Rattle.std.proofs.Common.{ℕ, ◌≡◌, ◌<◌, ◌+◌, ◌≤◌, ◌||◌, Bool, true, false, nat_le, List, get_or, Option, Some, None, IfSome, sym, ap, refl, ◌∙◌, subst, arith}
+use Rattle.std.proofs.Common.{ℕ, ◌≡◌, ◌<◌, ◌+◌, ◌≤◌, ◌||◌, Bool, true, false, nat_le, Option, Some, None, IfSome, sym, ap, refl, ◌∙◌, subst, arith}
 use Rattle.std.specs.FinMap.{get}
 use Rattle.std.proofs.lemmas.Bool.Decides.{nat_tests}
 use Rattle.rtmfp_base.proofs.Counts.{count_removed, count_changed}
-use Rattle.rtmfp_base.specs.Counts.{count_where}
-use Rattle.startup.specs.declared.attempt.Row.{Row}
-use Rattle.startup.specs.State.{AttemptState, Attempts, StartupState}
-use Rattle.startup.specs.Rows.{entry_of, table_of}
-use Rattle.startup.specs.Sought.{IsLowest, IsChanged, IsGone}
-use Rattle.startup.proofs.Choices.{some_row}
+use Rattle.startup.specs.declared.answer.Due.{Due}
+use Rattle.startup.specs.State.{AttemptState, StartupState}
 use Rattle.startup.specs.Attempts.{lowest}
 use Rattle.startup.specs.Due.{gap_of, is_over, is_repeat_due, is_due, repeated, due, due_of, after_due, after_due_of, due_count}
 use Rattle.startup.proofs.Keeping.{lowest_is_there, lowest_passes}
@@ -42,23 +38,6 @@ falls_of s moment (Some e) is =
 pub due_falls : (s : StartupState) (moment : ℕ) → IfSome (due s moment) (λ _. due_count moment (after_due s moment) < due_count moment s)
 due_falls s moment = falls_of s moment (lowest (is_due moment) s.attempts) refl
 
--- ---- the same by rows
-
--- the attempt at an index that is due is taken away
-pub gone_falls : (rows : List Row) (index : ℕ) (new : List Row) (moment : ℕ) → IsLowest (is_due moment) rows (Some index) → IsGone rows index new →
-    count_where (is_due moment) (table_of new) < count_where (is_due moment) (table_of rows)
-gone_falls rows index new moment at gone =
-    let row = some_row rows index at.0 in
-    let e = entry_of (get_or rows index row) in
-    subst (λ (t : Attempts). count_where (is_due moment) t < count_where (is_due moment) (table_of rows)) (sym (gone.table row))
-    (one_less _ _ (count_removed (is_due moment) (table_of rows) e.0 e.1 (lowest_is_there (is_due moment) (table_of rows) e (at.1 row)) (lowest_passes (is_due moment) (table_of rows) e (at.1 row))))
-
--- the attempt at an index that is due is repeated
-pub repeated_falls : (rows : List Row) (index : ℕ) (new : List Row) (moment : ℕ) (row : Row) → IsLowest (is_due moment) rows (Some index) → IsChanged rows index (λ a. repeated a moment) new →
-    row ≡ get_or rows index row → is_over moment row.attempt ≡ false → count_where (is_due moment) (table_of new) < count_where (is_due moment) (table_of rows)
-repeated_falls rows index new moment row at changed is lasts =
-    let e = entry_of (get_or rows index row) in
-    let lasts_there : is_over moment e.1 ≡ false = ap (λ (r : Row). is_over moment r.attempt) (sym is) ∙ lasts in
-    subst (λ (t : Attempts). count_where (is_due moment) t < count_where (is_due moment) (table_of rows)) (sym (changed.table row))
-    (one_less _ _ (count_changed (is_due moment) (table_of rows) e.0 e.1 (repeated e.1 moment) (lowest_is_there (is_due moment) (table_of rows) e (at.1 row))
-    (lowest_passes (is_due moment) (table_of rows) e (at.1 row)) (repeated_is_done e.1 moment lasts_there)))
+-- the same where what is due is known
+pub falls_when : (s : StartupState) (moment : ℕ) (thing : Due) → Some thing ≡ due s moment → due_count moment (after_due s moment) < due_count moment s
+falls_when s moment thing told = subst (λ (o : Option Due). IfSome o (λ _. due_count moment (after_due s moment) < due_count moment s)) (sym told) (due_falls s moment)

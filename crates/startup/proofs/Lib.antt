@@ -3,9 +3,7 @@ pub mod Sizes
 pub mod Components
 pub mod Offsets
 pub mod Stepping
-pub mod Removing
 pub mod Uncaused
-pub mod Changes
 pub mod Keeping
 pub mod Choices
 pub mod Startups
@@ -13,5 +11,8 @@ pub mod Falling
 pub mod Chosen
 pub mod Standing
 pub mod Judged
-pub mod Finding
 pub mod Redirected
+pub mod Seats
+pub mod Walked
+pub mod KeyMaps
+pub mod Indices

@@ -4,6 +4,8 @@ pub mod Packets
 pub mod Attempts
 pub mod Due
 pub mod Sought
+pub mod Table
+pub mod Indexed
 pub mod Keyings
 pub mod Read
 pub mod Redirects

@@ -11,10 +11,10 @@ ghost use Rattle.startup.specs.Attempts.{after_cookie_change, change_keying, aft
 ghost use Rattle.startup.specs.Judging.{IsFound};
 
 use crate::answer::{Answer, KeyRefusal};
+use crate::attempt::Change;
 use crate::cause::Cause;
-use crate::choosing::{answered_index, changed_index};
-use crate::leaving::{Found, found_at, index_of_found};
-use crate::rows::{answer_at, recookie_at};
+use crate::choosing::{answered_near, changed_near};
+use crate::leaving::Found;
 use crate::sending::{keying_again, keying_answer};
 use crate::startup::Startup;
 use rtmfp_forms::Address;
@@ -40,8 +40,8 @@ impl Startup {
             ≡ Some cause) }
     {
         let print = Sha256::digest(cert);
-        match answered_index(&self.attempts, tag, cookie, &print) {
-            Ok(index) => Ok(found_at(&self.attempts, index)),
+        match answered_near(&self.attempts, tag, cookie, &print) {
+            Ok(near) => Ok(Found { near }),
             Err(cause) => Err(cause),
         }
     }
@@ -62,9 +62,13 @@ impl Startup {
         ensures after { (chosen : Option (ℕ × AttemptState)) → IsFound self.old found chosen →
             self.new ≡ after_answer self.old chosen from.now cookie.now moment }
     {
-        let index = index_of_found(&self.attempts, found);
-        let answer = keying_answer(&self.attempts[index], &self.sign, &self.cert, from, cookie);
-        answer_at(&mut self.attempts, index, from, cookie, moment);
+        let near = found.near;
+        let answer = match self.attempts.get(near) {
+            Some(attempt) => keying_answer(near, attempt, &self.sign, &self.cert, from, cookie),
+            None => unreachable!(),
+        };
+        self.attempts
+            .change(near, &Change::Answered(from, cookie), moment);
         answer
     }
 
@@ -110,8 +114,8 @@ impl Startup {
         ensures refused { IfErr result (λ cause. cookie_change_cause self.now sid old.now new.now
             ≡ Some cause) }
     {
-        match changed_index(&self.attempts, sid, old, new) {
-            Ok(index) => Ok(found_at(&self.attempts, index)),
+        match changed_near(&self.attempts, sid, old, new) {
+            Ok(near) => Ok(Found { near }),
             Err(cause) => Err(cause),
         }
     }
@@ -127,12 +131,16 @@ impl Startup {
         ensures after { (chosen : Option (ℕ × AttemptState)) → IsFound self.old found chosen →
             self.new ≡ after_change self.old chosen new.now moment }
     {
-        let index = index_of_found(&self.attempts, found);
-        let answer = match keying_again(&self.attempts[index], &self.sign, &self.cert, new) {
+        let near = found.near;
+        let again = match self.attempts.get(near) {
+            Some(attempt) => keying_again(near, attempt, &self.sign, &self.cert, new),
+            None => unreachable!(),
+        };
+        let answer = match again {
             Some(answer) => answer,
             None => unreachable!(),
         };
-        recookie_at(&mut self.attempts, index, new, moment);
+        self.attempts.change(near, &Change::Recookied(new), moment);
         answer
     }
 

@@ -115,6 +115,20 @@ impl Attempt {
     ghost use Rattle.startup.specs.Attempts.{answered, recookied};
     ghost use Rattle.startup.specs.Due.{repeated};
     ghost use Rattle.startup.specs.Redirects.{extended};
+    ghost use Rattle.startup.specs.Sought.{change_of, Allows};
+
+    /// It changes so at a moment.
+    pub(crate) fn change(&mut self, change: &Change<'_>, moment: u64)
+        requires { Allows change.now self.old }
+        ensures { self.new ≡ change_of change.now moment self.old }
+    {
+        match change {
+            Change::Answered(from, cookie) => self.answer(from, cookie, moment),
+            Change::Recookied(new) => self.recookie(new, moment),
+            Change::Extended(new) => self.extend(new, moment),
+            Change::Repeated => self.repeat(moment),
+        }
+    }
 
     /// The responder answered from this address with this cookie.
     pub(crate) fn answer(&mut self, from: &Address, cookie: &[u8], moment: u64)
@@ -174,6 +188,19 @@ impl Attempt {
             LAST_GAP
         };
     }
+}
+
+/// How an attempt changes.
+#[derive(Drop)]
+pub(crate) enum Change<'a> {
+    /// The responder answered from this address with this cookie.
+    Answered(&'a Address, &'a [u8]),
+    /// Its keying goes out with this cookie from now on.
+    Recookied(&'a [u8]),
+    /// It has these further candidates, which hellos went to.
+    Extended(&'a [Address]),
+    /// What it sends is sent again.
+    Repeated,
 }
 
 /// An attempt, and its near id.

@@ -5,13 +5,14 @@ ghost use Rattle.glare_core.specs.Ledger.{held_with};
 ghost use Rattle.startup.specs.Attempts.{session_in};
 
 use crate::answer::Spread;
-use crate::attempt::{Attempt, Row, Stage};
+use crate::attempt::{Attempt, Stage};
 use crate::candidates::{Candidates, distinct_candidates};
-use crate::rows::{Sought, end_at, lowest, push_reserved};
+use crate::rows::{Sought, end_at};
 use crate::sending::hello_spread;
 use crate::startup::Startup;
 use glare_core::{Fact, Held, Peers, StartRefusal, Why};
 use identity::Epd;
+use rtmfp_base::Memory;
 use rtmfp_forms::Address;
 
 /// Whether a session is held with the peer.
@@ -68,9 +69,9 @@ impl Startup {
             Some(refusal) => return Err(refusal),
             None => {}
         }
-        match self.attempts.try_reserve(1) {
+        match self.attempts.reserve() {
             Ok(()) => {}
-            Err(_) => return Err(StartRefusal::Memory),
+            Err(Memory) => return Err(StartRefusal::Memory),
         }
         let fact = match self.peers.start(&epd.print, near, ni) {
             Ok(fact) => fact,
@@ -90,7 +91,7 @@ impl Startup {
             gap: 0,
         };
         let spread = hello_spread(&attempt);
-        push_reserved(&mut self.attempts, Row { near, attempt });
+        self.attempts.keep(near, attempt);
         Ok((fact, spread))
     }
 
@@ -100,8 +101,8 @@ impl Startup {
         ensures fact { result ≡ cancel_fact self.old n }
         ensures after { self.new ≡ after_cancel self.old n }
     {
-        match lowest(&self.attempts, &Sought::Number(n)) {
-            Some(index) => Some(end_at(&mut self.peers, &mut self.attempts, index, Why::Cancelled)),
+        match self.attempts.find(&Sought::Number(n)) {
+            Some(near) => Some(end_at(&mut self.peers, &mut self.attempts, near, Why::Cancelled)),
             None => None,
         }
     }

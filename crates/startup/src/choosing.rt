@@ -1,15 +1,14 @@
 //! Which attempt a chunk speaks of, and why it is discarded.
 
 ghost use Rattle.std.specs.Prelude.{◌≡◌, ◌≤◌, length, IfOk, IfErr, Some, None};
-ghost use Rattle.std.specs.FinMap.{get, len};
-ghost use Rattle.startup.specs.Rows.{table_of};
+ghost use Rattle.std.specs.FinMap.{get};
 ghost use Rattle.startup.specs.Attempts.{wide, lowest, has_tag, hello_cause, hello_cause_among, changed, if_cookie, change_cause_among};
-ghost use Rattle.startup.specs.Sought.{IsChosen};
+ghost use Rattle.startup.specs.Sought.{IsChosen, IsChosenAt};
 
-use crate::attempt::{Attempt, Row, Stage};
+use crate::attempt::{Attempt, Stage};
 use crate::cause::Cause;
-use crate::leaving::index_of;
-use crate::rows::{Sought, has_cookie, lowest};
+use crate::indexed::IndexedAttempts;
+use crate::rows::{Sought, has_cookie};
 
 /// The most bytes of a tag or a cookie that is taken from a peer (own).
 const WIDTH: usize = 128;
@@ -41,21 +40,20 @@ fn hello_cause(attempt: &Attempt, print: &[u8; 32]) -> Option<Cause>
     }
 }
 
-/// The index of the attempt that a responder's hello with this tag, cookie and fingerprint answers,
-/// or why it is discarded.
-pub(crate) fn answered_index(
-    rows: &[Row],
+/// The near id of the attempt that a responder's hello with this tag, cookie and fingerprint
+/// answers, or why it is discarded.
+pub(crate) fn answered_near(
+    attempts: &IndexedAttempts,
     tag: &[u8],
     cookie: &[u8],
     print: &[u8; 32],
-) -> Result<usize, Cause>
-    requires { len (table_of rows.now) ≡ length rows.now }
-    ensures ok { IfOk result (λ i. IsChosen (lowest (has_tag tag.now) (table_of rows.now)) rows.now
-        (Some i)) }
+) -> Result<u32, Cause>
+    ensures ok { IfOk result (IsChosenAt (lowest (has_tag tag.now) attempts.now.attempts)
+        attempts.now.attempts) }
     ensures cookie { IfOk result (λ _. length cookie.now ≤ 128) }
-    ensures cause { IfOk result (λ _. hello_cause_among (table_of rows.now) tag.now cookie.now
+    ensures cause { IfOk result (λ _. hello_cause_among attempts.now.attempts tag.now cookie.now
         print.now ≡ None) }
-    ensures refused { IfErr result (λ e. hello_cause_among (table_of rows.now) tag.now cookie.now
+    ensures refused { IfErr result (λ e. hello_cause_among attempts.now.attempts tag.now cookie.now
         print.now ≡ Some e) }
 {
     match wide(tag) {
@@ -66,24 +64,27 @@ pub(crate) fn answered_index(
         Some(cause) => return Err(cause),
         None => {}
     }
-    let Some(index) = lowest(rows, &Sought::Tag(tag)) else {
+    let Some(near) = attempts.find(&Sought::Tag(tag)) else {
         return Err(Cause::NoAttempt);
     };
-    match hello_cause(&rows[index].attempt, print) {
+    let Some(attempt) = attempts.get(near) else {
+        return Err(Cause::NoAttempt);
+    };
+    match hello_cause(attempt, print) {
         Some(cause) => Err(cause),
-        None => Ok(index),
+        None => Ok(near),
     }
 }
 
-/// The index of the attempt with this near id, where it has this cookie.
-fn cookie_index(rows: &[Row], near: u32, cookie: &[u8]) -> Option<usize>
-    requires { len (table_of rows.now) ≡ length rows.now }
-    ensures { IsChosen (if_cookie cookie.now near (get (table_of rows.now) near)) rows.now result }
+/// This near id, where its attempt has this cookie.
+fn with_cookie(attempts: &IndexedAttempts, near: u32, cookie: &[u8]) -> Option<u32>
+    ensures { IsChosen (if_cookie cookie.now near (get attempts.now.attempts near))
+        attempts.now.attempts result }
 {
-    match index_of(rows, near) {
-        Some(index) => {
-            if has_cookie(&rows[index].attempt, cookie) {
-                Some(index)
+    match attempts.get(near) {
+        Some(attempt) => {
+            if has_cookie(attempt, cookie) {
+                Some(near)
             } else {
                 None
             }
@@ -92,29 +93,32 @@ fn cookie_index(rows: &[Row], near: u32, cookie: &[u8]) -> Option<usize>
     }
 }
 
-/// The index of the attempt whose cookie a change under this session ID replaces.
-fn chosen_index(rows: &[Row], sid: u32, old: &[u8]) -> Option<usize>
-    requires { len (table_of rows.now) ≡ length rows.now }
-    ensures { IsChosen (changed (table_of rows.now) sid old.now) rows.now result }
+/// The near id of the attempt whose cookie a change under this session ID replaces.
+fn chosen_near(attempts: &IndexedAttempts, sid: u32, old: &[u8]) -> Option<u32>
+    ensures { IsChosen (changed attempts.now.attempts sid old.now) attempts.now.attempts result }
 {
     if sid == 0 {
-        lowest(rows, &Sought::Cookie(old))
+        attempts.find(&Sought::Cookie(old))
     } else {
-        cookie_index(rows, sid, old)
+        with_cookie(attempts, sid, old)
     }
 }
 
-/// The index of the attempt whose cookie a change under this session ID replaces, or why it is
+/// The near id of the attempt whose cookie a change under this session ID replaces, or why it is
 /// discarded.
-pub(crate) fn changed_index(rows: &[Row], sid: u32, old: &[u8], new: &[u8]) -> Result<usize, Cause>
-    requires { len (table_of rows.now) ≡ length rows.now }
-    ensures ok { IfOk result (λ index. IsChosen (changed (table_of rows.now) sid old.now) rows.now
-        (Some index)) }
+pub(crate) fn changed_near(
+    attempts: &IndexedAttempts,
+    sid: u32,
+    old: &[u8],
+    new: &[u8],
+) -> Result<u32, Cause>
+    ensures ok { IfOk result (IsChosenAt (changed attempts.now.attempts sid old.now)
+        attempts.now.attempts) }
     ensures cookie { IfOk result (λ _. length new.now ≤ 128) }
-    ensures cause { IfOk result (λ _. change_cause_among (table_of rows.now) sid old.now new.now
+    ensures cause { IfOk result (λ _. change_cause_among attempts.now.attempts sid old.now new.now
         ≡ None) }
-    ensures refused { IfErr result (λ e. change_cause_among (table_of rows.now) sid old.now new.now
-        ≡ Some e) }
+    ensures refused { IfErr result (λ e. change_cause_among attempts.now.attempts sid old.now
+        new.now ≡ Some e) }
 {
     match wide(old) {
         Some(cause) => return Err(cause),
@@ -124,8 +128,8 @@ pub(crate) fn changed_index(rows: &[Row], sid: u32, old: &[u8], new: &[u8]) -> R
         Some(cause) => return Err(cause),
         None => {}
     }
-    match chosen_index(rows, sid, old) {
-        Some(index) => Ok(index),
+    match chosen_near(attempts, sid, old) {
+        Some(near) => Ok(near),
         None => Err(Cause::NoAttempt),
     }
 }

@@ -1,7 +1,8 @@
 //! What time makes due of the attempts.
 
 use crate::answer::Due;
-use crate::rows::{Sought, end_at, is_over, lowest, repeat_at};
+use crate::attempt::Change;
+use crate::rows::{end_at, is_over};
 use crate::sending::repeat_of;
 use crate::startup::Startup;
 use glare_core::Why;
@@ -20,19 +21,22 @@ impl Startup {
         ensures after { self.new ≡ after_due self.old moment }
         ensures falls { IfSome result (λ _. due_count moment self.new < due_count moment self.old) }
     {
-        let Some(index) = lowest(&self.attempts, &Sought::Due(moment)) else {
+        let Some(near) = self.attempts.due(moment) else {
             return None;
         };
-        if is_over(&self.attempts[index].attempt, moment) {
+        let Some(attempt) = self.attempts.get(near) else {
+            return None;
+        };
+        if is_over(attempt, moment) {
             return Some(Due::Ended(end_at(
                 &mut self.peers,
                 &mut self.attempts,
-                index,
+                near,
                 Why::Expired,
             )));
         }
-        let repeat = repeat_of(&self.attempts[index], &self.sign, &self.cert);
-        repeat_at(&mut self.attempts, index, moment);
+        let repeat = repeat_of(near, attempt, &self.sign, &self.cert);
+        self.attempts.change(near, &Change::Repeated, moment);
         Some(repeat)
     }
 }

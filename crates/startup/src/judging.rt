@@ -3,7 +3,7 @@
 
 ghost use Rattle.std.specs.Prelude.{ℕ, [], ◌∷◌, Option, ◌≡◌, length, IfOk, IfErr, OnErr, IsTrue};
 ghost use Rattle.std.specs.Prelude.{Ok, Some, None};
-ghost use Rattle.std.specs.FinMap.{get, len};
+ghost use Rattle.std.specs.FinMap.{get};
 ghost use Rattle.std.specs.Option.{option_copied};
 ghost use Rattle.sha2.specs.Sha256.{sha256};
 ghost use Rattle.cookies.specs.declared.CookieTest.TheVariants.{Current};
@@ -17,14 +17,13 @@ ghost use Rattle.startup.specs.Keyings.{rikeying_cause, opened, after_opening};
 ghost use Rattle.startup.specs.Packets.{is_signed};
 ghost use Rattle.startup.specs.Judging.{unless_cause, again_or_new, hearing, judged_initiator};
 ghost use Rattle.startup.specs.Read.{initiator_of, responder_of};
-ghost use Rattle.startup.specs.Rows.{table_of};
 ghost use Rattle.startup.specs.State.{peer_of_attempt};
 
 use crate::answer::{KeyRefusal, Keyed};
-use crate::attempt::{Attempt, Row, Stage};
+use crate::attempt::{Attempt, Stage};
 use crate::cause::Cause;
 use crate::choosing::wide;
-use crate::leaving::{index_of, leave_at};
+use crate::indexed::IndexedAttempts;
 use crate::parts::is_signed;
 use crate::reading::{
     InitiatorFields, ResponderFields, read_initiator_keying, read_responder_keying,
@@ -140,19 +139,21 @@ fn unopened_cause(attempt: &Attempt, fields: &ResponderFields<'_>) -> Option<Cau
 }
 
 /// The peer of the attempt with this near id, or why a responder's keying doesn't open it.
-fn opened_peer(rows: &[Row], near: u32, fields: &ResponderFields<'_>) -> Result<[u8; 32], Cause>
-    requires { len (table_of rows.now) ≡ length rows.now }
-    ensures peer { IfOk result (λ peer. peer_of_attempt (get (table_of rows.now) near)
+fn opened_peer(
+    attempts: &IndexedAttempts,
+    near: u32,
+    fields: &ResponderFields<'_>,
+) -> Result<[u8; 32], Cause>
+    ensures peer { IfOk result (λ peer. peer_of_attempt (get attempts.now.attempts near)
         ≡ Some peer) }
     ensures none { IfOk result (λ _. attempt_cause (responder_of fields.now)
-        (get (table_of rows.now) near) ≡ None) }
+        (get attempts.now.attempts near) ≡ None) }
     ensures refused { IfErr result (λ cause. attempt_cause (responder_of fields.now)
-        (get (table_of rows.now) near) ≡ Some cause) }
+        (get attempts.now.attempts near) ≡ Some cause) }
 {
-    let Some(index) = index_of(rows, near) else {
+    let Some(attempt) = attempts.get(near) else {
         return Err(Cause::NoAttempt);
     };
-    let attempt = &rows[index].attempt;
     match unopened_cause(attempt, fields) {
         Some(cause) => Err(cause),
         None => Ok(attempt.peer),
@@ -315,7 +316,7 @@ impl Startup {
             .answer(peer, fields.part.nr, fields.near, fields.part.k)
         {
             Some(fact) => {
-                leave_at(&mut self.attempts, near);
+                self.attempts.forget(near);
                 fact
             }
             None => unreachable!(),

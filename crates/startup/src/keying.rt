@@ -18,9 +18,9 @@ ghost use Rattle.startup.specs.Read.{initiator_of};
 use crate::answer::{Answer, KeyRefusal, Keyed};
 use crate::cause::Cause;
 use crate::choosing::wide;
-use crate::leaving::leave;
 use crate::packets::{cookiechange_packet, rhello_packet, rikeying_packet};
 use crate::reading::{InitiatorFields, read_initiator_keying, read_responder_keying};
+use crate::rows::forget;
 use crate::startup::Startup;
 use glare_core::{Fact, Heard, Held, Joined, Keying};
 use identity::Epd;
@@ -155,7 +155,7 @@ impl Startup {
         let attempt = opening_id(self.peers.held(&keying.peer));
         match self.peers.hear(keying, near, nr, true) {
             Ok(Heard::Birth { ended, born }) => {
-                leave(&mut self.attempts, attempt);
+                forget(&mut self.attempts, attempt);
                 Ok(Keyed::Birth {
                     ended,
                     born,

@@ -1,64 +1,62 @@
 //! Redirects, which tell further addresses of the peer that an attempt is towards.
 
-ghost use Rattle.std.specs.Prelude.{◌≡◌, ◌≤◌, ◌+◌, ◌<◌, length, take, slice_index_or, IfErr, IfNone, IfOk, IfSome, IsOk, OnErr, OnOk, Err, Some, None};
-ghost use Rattle.std.specs.FinMap.{len};
-ghost use Rattle.startup.specs.declared.attempt.Row.{Row};
-ghost use Rattle.startup.specs.Attempts.{lowest, has_tag};
+ghost use Rattle.std.specs.Prelude.{◌≡◌, ◌≤◌, ◌+◌, ◌<◌, length, take, IfErr, IfNone, IfOk, IfSome, IsOk, OnErr, OnOk, Err, Some, None};
 ghost use Rattle.startup.specs.Redirects.{adds, after_redirect, new_candidates, redirect_answer};
 ghost use Rattle.startup.specs.Redirects.{redirect_cause, redirect_cause_among, redirect_spread};
 ghost use Rattle.startup.specs.Redirects.{told_addresses};
-ghost use Rattle.startup.specs.Rows.{table_of};
-ghost use Rattle.startup.specs.Sought.{IsChosen};
+ghost use Rattle.startup.specs.Sought.{IsExtension};
 
 use crate::answer::{Answer, Spread};
-use crate::attempt::Row;
+use crate::attempt::Change;
 use crate::candidates::{Candidates, new_candidates};
 use crate::cause::Cause;
 use crate::choosing::wide;
+use crate::indexed::IndexedAttempts;
 use crate::judging::is_in_hello;
 use crate::packets::redirect_packet;
-use crate::rows::{Sought, extend_at, lowest};
+use crate::rows::Sought;
 use crate::sending::hello_to;
 use crate::startup::Startup;
 use rtmfp_forms::Address;
 
-/// What a redirect adds: the index of its attempt, and the new candidates.
+/// What a redirect adds: the near id of its attempt, and the new candidates.
 #[derive(Drop)]
 struct Extension {
-    index: usize,
+    near: u32,
     new: Candidates,
 }
 
 /// What a redirect with this tag and list adds that came from an address, or why it is discarded.
-fn extension_by(rows: &[Row], tag: &[u8], list: &[u8], from: &Address) -> Result<Extension, Cause>
-    requires { len (table_of rows.now) ≡ length rows.now }
-    ensures chosen { IfOk result (λ e. IsChosen (lowest (has_tag tag.now) (table_of rows.now))
-        rows.now (Some e.index)) }
-    ensures new { IfOk result (λ e. (d : Row) → take e.new.count e.new.to
-        ≡ new_candidates (slice_index_or rows.now e.index d).attempt.candidates
-        (told_addresses list.now from.now)) }
-    ensures few { IfOk result (λ e. (d : Row) →
-        length (slice_index_or rows.now e.index d).attempt.candidates + e.new.count ≤ 16) }
+fn extension_by(
+    attempts: &IndexedAttempts,
+    tag: &[u8],
+    list: &[u8],
+    from: &Address,
+) -> Result<Extension, Cause>
+    ensures chosen { IfOk result (λ e. IsExtension attempts.now.attempts tag.now
+        (told_addresses list.now from.now) e.near (take e.new.count e.new.to)) }
     ensures counted { IfOk result (λ e. length (take e.new.count e.new.to) ≡ e.new.count) }
-    ensures none { IfOk result (λ _. redirect_cause_among (table_of rows.now) tag.now
+    ensures none { IfOk result (λ _. redirect_cause_among attempts.now.attempts tag.now
         (told_addresses list.now from.now) ≡ None) }
-    ensures refused { IfErr result (λ cause. redirect_cause_among (table_of rows.now) tag.now
+    ensures refused { IfErr result (λ cause. redirect_cause_among attempts.now.attempts tag.now
         (told_addresses list.now from.now) ≡ Some cause) }
 {
     match wide(tag) {
         Some(cause) => return Err(cause),
         None => {}
     }
-    let Some(index) = lowest(rows, &Sought::Tag(tag)) else {
+    let Some(near) = attempts.find(&Sought::Tag(tag)) else {
         return Err(Cause::NoAttempt);
     };
-    let attempt = &rows[index].attempt;
+    let Some(attempt) = attempts.get(near) else {
+        return Err(Cause::NoAttempt);
+    };
     if !is_in_hello(&attempt.stage) {
         return Err(Cause::WrongState);
     }
     let held = attempt.addresses();
     match new_candidates(held, list, from) {
-        Some(new) => Ok(Extension { index, new }),
+        Some(new) => Ok(Extension { near, new }),
         None => Err(Cause::CandidatesFull(held.len() as u64)),
     }
 }
@@ -129,15 +127,19 @@ impl Startup {
         ensures heard { IfNone (redirect_cause self.old tag.now list.now from.now) (IsOk result) }
         ensures err { OnErr result (self.new ≡ self.old) }
     {
-        let Extension { index, new } = match extension_by(&self.attempts, tag, list, from) {
+        let Extension { near, new } = match extension_by(&self.attempts, tag, list, from) {
             Ok(found) => found,
             Err(cause) => return Err(cause),
         };
-        let spread = hello_to(&self.attempts[index].attempt, &new.to, new.count);
+        let spread = match self.attempts.get(near) {
+            Some(attempt) => hello_to(attempt, &new.to, new.count),
+            None => unreachable!(),
+        };
         if new.count == 0 {
             return Ok(spread);
         }
-        extend_at(&mut self.attempts, index, &new.to[..new.count], moment);
+        self.attempts
+            .change(near, &Change::Extended(&new.to[..new.count]), moment);
         Ok(spread)
     }
 }

@@ -6,7 +6,7 @@ ghost use Rattle.startup.specs.Attempts.{rhello_cause, cookie_change_cause};
 ghost use Rattle.startup.specs.Redirects.{redirect_cause};
 
 use crate::cause::Cause;
-use crate::choosing::{answered_index, changed_index};
+use crate::choosing::{answered_near, changed_near};
 use crate::reading::fault_cause;
 use crate::startup::Startup;
 use identity::Certificate;
@@ -62,7 +62,7 @@ impl Startup {
         ensures { result ≡ rhello_refusal_with self.now payload.now tag.now cookie.now cert.now }
     {
         match Certificate::read(cert) {
-            Ok(cert) => match answered_index(&self.attempts, tag, cookie, &cert.print()) {
+            Ok(cert) => match answered_near(&self.attempts, tag, cookie, &cert.print()) {
                 Ok(_) => None,
                 Err(cause) => Some(cause),
             },
@@ -108,7 +108,7 @@ impl Startup {
     fn change_refusal(&self, sid: u32, old: &[u8], new: &[u8]) -> Option<Cause>
         ensures { result ≡ cookie_change_cause self.now sid old.now new.now }
     {
-        match changed_index(&self.attempts, sid, old, new) {
+        match changed_near(&self.attempts, sid, old, new) {
             Ok(_) => None,
             Err(cause) => Some(cause),
         }

@@ -5,7 +5,7 @@ ghost use Rattle.startup.specs.Attempts.{keying_signed, again_signed, hello_spre
 ghost use Rattle.startup.specs.Due.{repeat_signed};
 
 use crate::answer::{Answer, Due, Spread};
-use crate::attempt::{Attempt, CANDIDATES, Row, Stage};
+use crate::attempt::{Attempt, CANDIDATES, Stage};
 use crate::packets::{ihello_packet, iikeying_packet};
 use crypto_profile::HmacKey;
 use identity::Certificate;
@@ -37,23 +37,22 @@ pub(crate) fn hello_spread(attempt: &Attempt) -> Spread
 
 /// The keying of an attempt under the signature key, to an address with a cookie.
 pub(crate) fn keying_answer(
-    row: &Row,
+    near: u32,
+    attempt: &Attempt,
     key: &HmacKey,
     cert: &Certificate,
     to: &Address,
     cookie: &[u8],
 ) -> Answer
     requires { length cookie.now ≤ 128 }
-    ensures { result ≡ keying_signed key.now cert.now row.now.near row.now.attempt to.now
-        cookie.now }
+    ensures { result ≡ keying_signed key.now cert.now near attempt.now to.now cookie.now }
 {
-    let attempt = &row.attempt;
     Answer {
         to: *to,
         sid: 0,
         plain: iikeying_packet(
             key,
-            row.near,
+            near,
             cookie,
             cert.bytes(),
             &attempt.ni,
@@ -66,32 +65,29 @@ pub(crate) fn keying_answer(
 /// The keying of an attempt, to the address that answered, with another cookie; None in the hello
 /// stage.
 pub(crate) fn keying_again(
-    row: &Row,
+    near: u32,
+    attempt: &Attempt,
     key: &HmacKey,
     cert: &Certificate,
     cookie: &[u8],
 ) -> Option<Answer>
     requires { length cookie.now ≤ 128 }
-    ensures { result ≡ again_signed key.now cert.now row.now.near row.now.attempt
-        row.now.attempt.stage cookie.now }
+    ensures { result ≡ again_signed key.now cert.now near attempt.now attempt.now.stage cookie.now }
 {
-    let attempt = &row.attempt;
     match &attempt.stage {
         Stage::Hello => None,
-        Stage::Keying { at, .. } => Some(keying_answer(row, key, cert, at, cookie)),
+        Stage::Keying { at, .. } => Some(keying_answer(near, attempt, key, cert, at, cookie)),
     }
 }
 
 /// What an attempt sends again.
-pub(crate) fn repeat_of(row: &Row, key: &HmacKey, cert: &Certificate) -> Due
-    ensures { result ≡ repeat_signed key.now cert.now row.now.near row.now.attempt
-        row.now.attempt.stage }
+pub(crate) fn repeat_of(near: u32, attempt: &Attempt, key: &HmacKey, cert: &Certificate) -> Due
+    ensures { result ≡ repeat_signed key.now cert.now near attempt.now attempt.now.stage }
 {
-    let attempt = &row.attempt;
     match &attempt.stage {
         Stage::Hello => Due::Hello(hello_spread(attempt)),
         Stage::Keying { at, cookie } => {
-            Due::Keying(keying_answer(row, key, cert, at, cookie.bytes()))
+            Due::Keying(keying_answer(near, attempt, key, cert, at, cookie.bytes()))
         }
     }
 }

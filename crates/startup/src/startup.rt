@@ -1,6 +1,6 @@
 //! What an end keeps to open sessions.
 
-use crate::attempt::Row;
+use crate::indexed::IndexedAttempts;
 use cookies::CookieMaker;
 use crypto_profile::{HmacKey, sign_key};
 use glare_core::Peers;
@@ -23,8 +23,7 @@ pub struct Startup {
     pub(crate) sign: HmacKey,
     pub(crate) cookies: CookieMaker,
     pub(crate) peers: Peers,
-    /// The attempts, in any order.
-    pub(crate) attempts: Vec<Row>,
+    pub(crate) attempts: IndexedAttempts,
 }
 
 impl Model for Startup {
@@ -38,10 +37,10 @@ impl Model for Startup {
 
     ghost use Rattle.startup.specs.Rows.{state_of, IsStartup};
 
-    ghost view = { λ s. state_of s.cert s.secret s.cookies s.peers s.attempts.items };
+    ghost view = { λ s. state_of s.cert s.secret s.cookies s.peers s.attempts.attempts };
 
     ghost invariant = { λ s. IsStartup s.cert s.print s.secret s.sign s.cookies s.peers
-        s.attempts.items };
+        s.attempts.attempts };
 }
 
 impl Startup {
@@ -66,7 +65,7 @@ impl Startup {
             sign: HmacKey::of(&sign_key(&secret)),
             cookies: CookieMaker::new(cookie_secret),
             peers: Peers::new(alloc, print, max_peers, 0),
-            attempts: Vec::new(alloc),
+            attempts: IndexedAttempts::new(alloc),
         }
     }
 

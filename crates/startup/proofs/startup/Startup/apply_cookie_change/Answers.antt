@@ -1,35 +1,48 @@
-use Rattle.std.proofs.Common.{◌≡◌, ap, sym, subst, ◌∙◌, Some, List, refl}
+use Rattle.std.proofs.Common.{ap, ◌∙◌, refl, sym, Some}
 use Rattle.std.specs.FinMap.{get}
-use Rattle.startup.specs.declared.attempt.Row.{Row}
-use Rattle.startup.specs.State.{AttemptState, Attempts, StartupState}
-use Rattle.startup.specs.Rows.{entry_of, table_of}
-use Rattle.startup.specs.Attempts.{changed, recookied}
-use Rattle.startup.specs.Sought.{IsChosen}
-use Rattle.startup.proofs.Finding.{chosen_so}
+use Rattle.startup.specs.State.{StartupState}
+use Rattle.startup.specs.Attempts.{recookied, again_signed, change_keying, after_change, with_attempt}
+use Rattle.startup.proofs.Choices.{got_is, never_none}
 use Rattle.startup.proofs.Keeping.{changed_has_cookie, keying_goes_again}
-use Rattle.startup.proofs.Startups.{changed_is_kept}
+use Rattle.startup.proofs.Startups.{changed_is_kept, changed_state}
 use Rattle.startup.proofs.startup.Startup.apply_cookie_change.Goals as goal
 
 pub unreachable-requires : goal.unreachable-requires
 unreachable-requires c =
     let i = c.self.inside in
-    let row : Row = c.index.result.now in
-    let attempts : Attempts = c.args.self.now.attempts in
-    let at : IsChosen (changed attempts c.requires.found.0 c.requires.found.1.0) i.attempts.items (Some c.index_of_found-index.result) =
-    chosen_so c.args.self.now i.attempts.items c.index_of_found-index.result c.args.found (changed attempts c.requires.found.0 c.requires.found.1.0) (ap (λ (t : StartupState). t.attempts) c.self.view_is)
-    (subst (λ (r : List Row). (attempt : AttemptState) → get (table_of r) c.args.found.near ≡ Some attempt → IsChosen (Some (c.args.found.near, attempt)) r (Some c.index_of_found-index.result)) c.deref.ensures.value c.index_of_found-index.ensures)
-    c.requires.found.1.1 in
-    let is : changed attempts c.requires.found.0 c.requires.found.1.0 ≡ Some (entry_of row) = at.1 row ∙ ap (λ (r : Row). Some (entry_of r)) (sym c.index.ensures) in
-    keying_goes_again i.sign i.cert row.near row.attempt c.requires.found.1.0 c.args.new.now (changed_has_cookie attempts c.requires.found.0 c.requires.found.1.0 (entry_of row) is)
-    (sym c.keying_again.ensures ∙ c.in-None.is)
+    let found = c.requires.found.1.1 in
+    never_none found.attempt (get i.attempts.attempts c.args.found.near) c.in-None.ensures (ap (λ (t : StartupState). get t.attempts c.args.found.near) c.self.view_is ∙ found.there)
+
+pub unreachable-requires-in-None-again : goal.unreachable-requires-in-None-again
+unreachable-requires-in-None-again c =
+    let i = c.self.inside in
+    let found = c.requires.found.1.1 in
+    let there = ap (λ (t : StartupState). get t.attempts c.args.found.near) c.self.view_is ∙ found.there in
+    let e = got_is i.attempts.attempts c.args.found.near c.in-Some.attempt.now found.attempt (sym c.in-Some.ensures) there in
+    keying_goes_again i.sign i.cert c.args.found.near found.attempt c.requires.found.1.0 c.args.new.now
+    (changed_has_cookie c.args.self.now.attempts c.requires.found.0 c.requires.found.1.0 (c.args.found.near, found.attempt) found.chosen_is)
+    ((λ j. again_signed i.sign i.cert c.args.found.near (sym e j) (sym e j).stage c.args.new.now) ∙ sym c.keying_again-again.ensures ∙ c.in-None-again.is)
 
 pub invariant_of-self : goal.invariant_of-self
 invariant_of-self c =
     let i = c.self.inside in
-    let attempts : Attempts = c.args.self.now.attempts in
-    let at : IsChosen (changed attempts c.requires.found.0 c.requires.found.1.0) i.attempts.items (Some c.index_of_found-index.result) =
-    chosen_so c.args.self.now i.attempts.items c.index_of_found-index.result c.args.found (changed attempts c.requires.found.0 c.requires.found.1.0) (ap (λ (t : StartupState). t.attempts) c.self.view_is)
-    (subst (λ (r : List Row). (attempt : AttemptState) → get (table_of r) c.args.found.near ≡ Some attempt → IsChosen (Some (c.args.found.near, attempt)) r (Some c.index_of_found-index.result)) c.deref.ensures.value c.index_of_found-index.ensures)
-    c.requires.found.1.1 in
-    changed_is_kept i.cert i.print i.secret i.sign i.cookies i.peers i.attempts.items c.self.invariant c.index_of_found-index.result at.0 (λ a. recookied a c.args.new.now c.args.moment) c.recookie_at.new.rows.items
-    c.recookie_at.ensures (record { peer = λ a. refl; n = λ a. refl; ni = λ a. refl })
+    let found = c.requires.found.1.1 in
+    changed_is_kept i.cert i.print i.secret i.sign i.cookies i.peers i.attempts.attempts c.self.invariant c.args.found.near found.attempt (ap (λ (t : StartupState). get t.attempts c.args.found.near) c.self.view_is ∙ found.there)
+    (λ a. recookied a c.args.new.now c.args.moment) c.change.new.self.attempts c.change.ensures (record { peer = λ a. refl; n = λ a. refl; ni = λ a. refl })
+
+pub returns-clause-answer : goal.returns-clause-answer
+returns-clause-answer c chosen found =
+    let i = c.self.inside in
+    let there = ap (λ (t : StartupState). get t.attempts c.args.found.near) c.self.view_is ∙ found.there in
+    let e = got_is i.attempts.attempts c.args.found.near c.in-Some.attempt.now found.attempt (sym c.in-Some.ensures) there in
+    ap (λ o. change_keying c.args.self.now o c.args.new.now) found.chosen_is
+    ∙ sym (sym c.in-Some-again.is ∙ c.keying_again-again.ensures ∙ (λ j. again_signed (c.self.invariant.sign_is j) i.cert c.args.found.near (e j) (e j).stage c.args.new.now)
+    ∙ ap (λ (t : StartupState). change_keying t (Some (c.args.found.near, found.attempt)) c.args.new.now) c.self.view_is)
+
+pub returns-clause-after : goal.returns-clause-after
+returns-clause-after c chosen found =
+    let i = c.self.inside in
+    changed_state i.cert i.print i.secret i.sign i.cookies i.peers i.attempts.attempts c.self.invariant c.args.found.near found.attempt (ap (λ (t : StartupState). get t.attempts c.args.found.near) c.self.view_is ∙ found.there)
+    (λ a. recookied a c.args.new.now c.args.moment) c.change.new.self.attempts c.change.ensures
+    ∙ ap (λ (t : StartupState). with_attempt t c.args.found.near (recookied found.attempt c.args.new.now c.args.moment)) c.self.view_is
+    ∙ sym (ap (λ o. after_change c.args.self.now o c.args.new.now c.args.moment) found.chosen_is)

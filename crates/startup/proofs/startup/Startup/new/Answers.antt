@@ -1,14 +1,10 @@
 use Rattle.std.proofs.Common.{◌∙◌}
-use Rattle.std.specs.FinMap.{len-empty}
-use Rattle.std.specs.Ordering.{nat_cmp}
-use Rattle.startup.specs.State.{AttemptState}
 use Rattle.startup.proofs.Sound.{new_is_sound}
 use Rattle.startup.proofs.startup.Startup.new.Goals as goal
 
 pub invariant_of-result : goal.invariant_of-result
-invariant_of-result c = rw (c.new-2.ensures.ledger, c.new-3.ensures.items) (record {
+invariant_of-result c = rw (c.new-2.ensures.ledger, c.new-3.ensures) (record {
   print_is = c.print-print.ensures;
   sign_is = c.of.ensures ∙ c.sign_key.ensures;
-  distinct = len-empty nat_cmp AttemptState;
   sound = rw (c.print-print.ensures) (new_is_sound _ _ _ _);
 })

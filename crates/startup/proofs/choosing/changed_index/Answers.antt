@@ -1,7 +1,0 @@
-use Rattle.std.proofs.Common.{sym}
-use Rattle.startup.proofs.Choices.{change_stands}
-use Rattle.startup.proofs.choosing.changed_index.Goals as goal
-
-pub returns-in-Some-chosen_index-clause-cause : goal.returns-in-Some-chosen_index-clause-cause
-returns-in-Some-chosen_index-clause-cause c =
-    change_stands _ c.args.sid c.args.old.now c.args.new.now c.args.rows.now c.in-Some-chosen_index.index (sym c.in-None.ensures) (sym c.in-None-wide.ensures) c.in-Some-chosen_index.ensures

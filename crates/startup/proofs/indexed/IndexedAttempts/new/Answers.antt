@@ -1,0 +1,12 @@
+use Rattle.std.proofs.Common.{◌∙◌, sym, ap}
+use Rattle.std.specs.FinMap.{get, get-empty}
+use Rattle.std.specs.Ordering.{nat_cmp}
+use Rattle.std.proofs.lemmas.Option.{none-some}
+use Rattle.startup.specs.State.{Attempts}
+use Rattle.startup.proofs.indexed.IndexedAttempts.new.Goals as goal
+
+pub invariant_of-result : goal.invariant_of-result
+invariant_of-result c = (
+  λ whole near a there. absurd (none-some a (sym (get-empty nat_cmp near) ∙ sym (ap (λ (m : Attempts). get m near) c.new.ensures) ∙ there)),
+  λ whole near a there. absurd (none-some a (sym (get-empty nat_cmp near) ∙ sym (ap (λ (m : Attempts). get m near) c.new.ensures) ∙ there)),
+)

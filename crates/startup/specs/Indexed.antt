@@ -1,0 +1,37 @@
+-- The near ids of attempts by a word of each.
+use Rattle.std.specs.Prelude.{ℕ, ◌≡◌, Bool, true, List, take, Option, Some, refl}
+use Rattle.std.specs.Int.{w64, from_be_bytes}
+use Rattle.std.specs.Coded.{Coded, code_by, coded×, coded_ℕ, coded_bool}
+use Rattle.std.specs.Ordering.{nat_cmp}
+use Rattle.std.specs.FinMap.{FinMap, get, code}
+use Rattle.startup.specs.State.{AttemptState, Attempts}
+
+-- the near ids by words, and whether no two attempts have had one word
+pub record Words : Type 0 where
+  pub nears : FinMap nat_cmp ℕ
+  pub whole : Bool
+
+abbrev pub words_code : Coded Words
+words_code =
+    code_by (FinMap nat_cmp ℕ × Bool) (coded× (code coded_ℕ coded_ℕ) coded_bool)
+    (λ w. (w.nears, w.whole)) (λ p. record { nears = p.0; whole = p.1 }) (λ _. refl)
+
+-- the front of a tag
+abbrev pub word_of : List ℕ → ℕ
+word_of bytes = from_be_bytes w64 (take 8 bytes)
+
+abbrev pub number_word : AttemptState → ℕ
+number_word a = a.n
+
+abbrev pub tag_word : AttemptState → ℕ
+tag_word a = word_of a.tag
+
+-- While the index is whole, each attempt is found by its word.
+abbrev pub IsIndexed : (AttemptState → ℕ) → Words → Attempts → Type 0
+IsIndexed word words attempts = words.whole ≡ true → (near : ℕ) (a : AttemptState) →
+    get attempts near ≡ Some a → get words.nears (word a) ≡ Some near
+
+-- While the index is whole, each attempt that passes is found by this word.
+abbrev pub IsFoundBy : (AttemptState → Bool) → Words → ℕ → Attempts → Type 0
+IsFoundBy test words word attempts = words.whole ≡ true → (near : ℕ) (a : AttemptState) →
+    get attempts near ≡ Some a → test a ≡ true → get words.nears word ≡ Some near

@@ -1,0 +1,178 @@
+//! The attempts of an end, found by their numbers and tags as well.
+
+ghost use Rattle.std.specs.Prelude.{◌≡◌, ◌≢◌, ◌<◌, ◌^◌, ◌≤◌, true, None, Some, OnOk, length};
+ghost use Rattle.std.specs.Option.{option_copied};
+ghost use Rattle.std.specs.FinMap.{empty, get, insert, len, remove};
+ghost use Rattle.startup.specs.State.{AttemptState};
+ghost use Rattle.startup.specs.Attempts.{lowest};
+ghost use Rattle.startup.specs.Due.{is_due};
+ghost use Rattle.startup.specs.Sought.{fits, IsChosen, change_of, Allows};
+ghost use Rattle.startup.specs.Table.{in_attempt};
+ghost use Rattle.startup.specs.Indexed.{word_of, IsFoundBy};
+
+use crate::attempt::{Attempt, Change};
+use crate::index::Index;
+use crate::rows::{Sought, fits};
+use crate::table::AttemptTable;
+use rtmfp_base::Memory;
+use std::alloc::Global;
+use std::marker::Model;
+
+/// How many bytes of a tag are its word.
+const WORD: usize = 8;
+
+/// The attempts of an end, as a table of them is seen. One is found by its number and by its tag in
+/// constant time on average, as long as no two have had one number, or tags that begin alike.
+#[derive(Drop)]
+pub(crate) struct IndexedAttempts {
+    table: AttemptTable,
+    numbers: Index,
+    tags: Index,
+}
+
+impl Model for IndexedAttempts {
+    ghost use Rattle.startup.specs.contracts.attempt.Attempt as attempt_type;
+    ghost use Rattle.startup.specs.Table.{Table, table_code};
+    ghost use Rattle.startup.specs.Indexed.{IsIndexed, number_word, tag_word};
+
+    ghost Value = { Table };
+
+    ghost coded = { table_code attempt_type.the_row.coded };
+
+    ghost view = { λ t. t.table };
+
+    ghost invariant = { λ t. IsIndexed number_word t.numbers t.table.attempts
+        × IsIndexed tag_word t.tags t.table.attempts };
+}
+
+/// The word of a tag: its first 8 bytes.
+fn word_of(tag: &[u8]) -> u64
+    requires { 8 ≤ length tag.now }
+    ensures { result ≡ word_of tag.now }
+{
+    let mut first = [0u8; WORD];
+    first.copy_from_slice(&tag[..WORD]);
+    u64::from_be_bytes(first)
+}
+
+/// The near id of the attempt that is sought, which has this word.
+fn find_in(table: &AttemptTable, index: &Index, word: u64, sought: &Sought<'_>) -> Option<u32>
+    requires { IsFoundBy (fits sought.now) index.now word table.now.attempts }
+    ensures { IsChosen (lowest (fits sought.now) table.now.attempts) table.now.attempts result }
+{
+    if !index.is_whole() {
+        return table.find(sought);
+    }
+    let Some(near) = index.get(word) else {
+        return None;
+    };
+    let Some(attempt) = table.get(near) else {
+        return None;
+    };
+    if fits(attempt, sought) {
+        return Some(near);
+    }
+    None
+}
+
+impl IndexedAttempts {
+    /// No attempts. It takes no memory.
+    pub(crate) fn new(alloc: Global) -> IndexedAttempts
+        ensures { result.attempts ≡ empty }
+    {
+        IndexedAttempts {
+            table: AttemptTable::new(alloc),
+            numbers: Index::new(alloc),
+            tags: Index::new(alloc),
+        }
+    }
+
+    /// How many attempts there are.
+    pub(crate) fn count(&self) -> usize
+        ensures value { result ≡ len self.now.attempts }
+        ensures small { result < 2 ^ 63 }
+    {
+        self.table.count()
+    }
+
+    /// The attempt under this near id.
+    pub(crate) fn get(&self, near: u32) -> Option<&Attempt>
+        ensures { option_copied result ≡ get self.now.attempts near }
+    {
+        self.table.get(near)
+    }
+
+    /// Finds memory for one more attempt.
+    pub(crate) fn reserve(&mut self) -> Result<(), Memory>
+        ensures ok { OnOk result (self.new.ready ≡ true) }
+        ensures attempts { self.new.attempts ≡ self.old.attempts }
+    {
+        match self.numbers.reserve() {
+            Ok(()) => {}
+            Err(Memory) => return Err(Memory),
+        }
+        match self.tags.reserve() {
+            Ok(()) => {}
+            Err(Memory) => return Err(Memory),
+        }
+        self.table.reserve()
+    }
+
+    /// Keeps an attempt under a near id that no other one has, for which there is room. It takes no
+    /// memory.
+    pub(crate) fn keep(&mut self, near: u32, attempt: Attempt)
+        requires ready { self.old.ready ≡ true }
+        requires free { get self.old.attempts near ≡ None }
+        ensures { self.new.attempts ≡ insert self.old.attempts near attempt }
+    {
+        self.numbers.put(attempt.n, near);
+        self.tags.put(word_of(&attempt.tag), near);
+        self.table.keep(near, attempt);
+    }
+
+    /// Changes the attempt under this near id, where there is one, at a moment. It takes no memory.
+    pub(crate) fn change(&mut self, near: u32, change: &Change<'_>, moment: u64)
+        requires { (a : AttemptState) → get self.old.attempts near ≡ Some a → Allows change.now a }
+        ensures { self.new.attempts
+            ≡ in_attempt (change_of change.now moment) self.old.attempts near }
+    {
+        self.table.change(near, change, moment);
+    }
+
+    /// Forgets the attempt under this near id, where there is one. It takes no memory.
+    pub(crate) fn forget(&mut self, near: u32)
+        ensures { self.new.attempts ≡ remove self.old.attempts near }
+    {
+        let Some(attempt) = self.table.get(near) else {
+            self.table.forget(near);
+            return;
+        };
+        self.numbers.take(attempt.n);
+        self.tags.take(word_of(&attempt.tag));
+        self.table.forget(near);
+    }
+
+    /// The near id of the attempt that is sought; of several that with the lowest one.
+    pub(crate) fn find(&self, sought: &Sought<'_>) -> Option<u32>
+        ensures { IsChosen (lowest (fits sought.now) self.now.attempts) self.now.attempts result }
+    {
+        match sought {
+            Sought::Number(n) => find_in(&self.table, &self.numbers, *n, sought),
+            Sought::Tag(tag) => {
+                if tag.len() < WORD {
+                    return self.table.find(sought);
+                }
+                find_in(&self.table, &self.tags, word_of(tag), sought)
+            }
+            Sought::Cookie(_) => self.table.find(sought),
+        }
+    }
+
+    /// The near id of the attempt that is due first, by rising near ids. It looks at those alone
+    /// that are due.
+    pub(crate) fn due(&self, moment: u64) -> Option<u32>
+        ensures { IsChosen (lowest (is_due moment) self.now.attempts) self.now.attempts result }
+    {
+        self.table.due(moment)
+    }
+}
