@@ -1,7 +1,6 @@
 -- The first of the messages that wait.
 use Rattle.std.proofs.Common.{◌≡◌, ℕ, ◌+◌, ◌<◌, ◌≤◌, nat_lt, nat_le, ◌==◌, cond, not, Bool, true, false, ◌&&◌, ◌||◌, List, [], ◌∷◌, length, Some, None, refl, ap, sym, ◌∙◌, arith, inl, inr, ◌⊎◌}
 use Rattle.std.specs.List.{filter, slice_get}
-use Rattle.std.specs.Map.{values_of}
 use Rattle.std.proofs.lemmas.Bool.{eq-eqb, lt-leb, le-leb, lt-ltb}
 use Rattle.rtmfp_data_chunks.specs.HandsOver.{IsIn}
 use Rattle.flow_send.specs.declared.waiting.Waiting.{Waiting}
@@ -12,14 +11,6 @@ use Rattle.flow_send.specs.Steady.{Line}
 use Rattle.flow_send.specs.Messages.{touches, keeps}
 use Rattle.rtmfp_data_chunks.proofs.Filtering.{filter_all}
 use Rattle.flow_send.proofs.Walking.{in_low, in_line}
-
--- ---- in the map
-
-pub front_is : (es : List (ℕ × Waiting)) (k : ℕ) (v : Waiting) → slice_get es 0 ≡ Some (k, v) → Some v ≡ slice_get (values_of es) 0
-front_is [] k v h = absurd cc
-front_is (e ∷ es) k v h = let p : e ≡ (k, v) = cc in ap (λ (q : ℕ × Waiting). Some q.1) (sym p)
-
--- ---- in the list
 
 front_same : (x w : Waiting) (later : List Waiting) → slice_get (x ∷ later) 0 ≡ Some w → x ≡ w
 front_same x w later e = cc

@@ -20,6 +20,7 @@ pub mod Orders
 pub mod Followed
 pub mod Passing
 pub mod Walking
+pub mod Slotting
 pub mod Foremost
 pub mod Lowest
 pub mod Losing

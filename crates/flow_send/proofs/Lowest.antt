@@ -1,15 +1,17 @@
 -- Blocks of numbers in which no message is overdue.
-use Rattle.std.proofs.Common.{◌≡◌, ◌≢◌, ◌⊎◌, ℕ, zero, suc, ◌+◌, ◌-◌, ◌*◌, ◌/◌, ◌%◌, ◌^◌, ◌<◌, ◌≤◌, ◌==◌, cond, Bool, true, false, ◌&&◌, List, [], ◌∷◌, ◌++◌, length, get_or, replicate, Option, Some, None, refl, ap, sym, ◌∙◌, subst, arith, inl, inr}
+use Rattle.std.proofs.Common.{◌≡◌, ◌≢◌, ◌⊎◌, ℕ, zero, suc, ◌+◌, ◌-◌, ◌*◌, ◌/◌, ◌%◌, ◌^◌, ◌<◌, ◌≤◌, ◌==◌, cond, Bool, true, false, ◌&&◌, ◌||◌, nat_le, nat_lt, List, [], ◌∷◌, ◌++◌, length, get_or, replicate, Option, Some, None, refl, ap, sym, ◌∙◌, subst, arith, inl, inr}
 use Rattle.std.specs.Prelude.{IfSome}
 use Rattle.std.specs.List.{sum_by}
 use Rattle.std.specs.Option.{is_some, unwrap_or, IsSomeAnd}
-use Rattle.std.proofs.lemmas.Bool.{cases_Bool, cases_lt, cases_eq, eqb-true, eq-eqb, lt-leb}
+use Rattle.std.proofs.lemmas.Bool.{cases_Bool, cases_lt, cases_eq, eqb-true, eq-eqb, lt-leb, leb-true}
 use Rattle.rtmfp_data_chunks.specs.HandsOver.{IsIn}
 use Rattle.flow_send.specs.declared.waiting.Waiting.{Waiting}
-use Rattle.flow_send.specs.Rows.{Row, lost_of}
-use Rattle.flow_send.specs.Sender.{message_at, without_message, first_number, is_past, is_spent, is_overdue, first_overdue}
-use Rattle.flow_send.specs.Deadlines.{IsNotBefore, NoneLimited, Unspent}
-use Rattle.flow_send.specs.Steady.{Line}
+use Rattle.flow_send.specs.declared.state.State.{State}
+use Rattle.flow_send.specs.declared.state.State.TheVariants.{Unsent, Flying, Lost, Acknowledged, Abandoned}
+use Rattle.flow_send.specs.Rows.{Row, lost_of, is_lost, any_row}
+use Rattle.flow_send.specs.Sender.{message_at, without_message, first_number, has_number, is_past, is_spent, is_spent_row, is_overdue, first_overdue}
+use Rattle.flow_send.specs.Deadlines.{IsNotBefore, NoneBefore, NoneLimited, Unspent, NoneBehind, NoneSpentBehind}
+use Rattle.flow_send.specs.Steady.{Line, AllOk, is_fresh}
 use Rattle.flow_send.specs.Messages.{IsFirstFrom, InLine, is_left}
 use Rattle.flow_send.specs.Lows.{block_of, low_at, AreLows, IsFirstLow, IsFoundIn, IsLowIn, AllInBlocks, overdue_in}
 use Rattle.flow_send.proofs.Quiet.{not_past, unspent, neither, not_before_lower}
@@ -243,3 +245,46 @@ lows_raised old new from to block low ws h a few lo hi l own others = λ w i.
           subst (λ m. IsNotBefore m w.options.deadline) (sym (ap (low_at new) same ∙ own)) (l w i same)
       | inr ne ↦ subst (λ m. IsNotBefore m w.options.deadline) (sym (others (block_of w.number) ne)) (h w i)
     ]
+
+-- ---- messages behind the highest number sent
+
+before_in : (soonest : ℕ) (ws : List Waiting) (w : Waiting) → NoneBefore soonest ws → IsIn w ws → IsNotBefore soonest w.options.deadline
+before_in soonest [] w h i = absurd i
+before_in soonest (x ∷ ws) w h i = elim i [
+  | inl e ↦ subst (λ (y : Waiting). IsNotBefore soonest y.options.deadline) (sym e) h.0
+  | inr j ↦ before_in soonest ws w h.1 j
+]
+
+pub none_behind : (moment soonest sent n : ℕ) (rows : List Row) (ws : List Waiting) → moment ≤ soonest → NoneBefore soonest ws → NoneSpentBehind sent n rows ws → NoneBehind sent moment n rows ws
+none_behind moment soonest sent n rows ws le b h = λ w i lt.
+    neither (is_past w.options.deadline moment) (is_spent w.options.resends w n rows) (not_past w.options.deadline soonest moment (before_in soonest ws w b i) le) (h w i lt)
+
+fresh_unlost : (s : State) → is_fresh s ≡ true → is_lost s ≡ false
+fresh_unlost Unsent e = refl
+fresh_unlost Flying e = absurd cc
+fresh_unlost Lost e = absurd cc
+fresh_unlost Acknowledged e = refl
+fresh_unlost Abandoned e = refl
+
+no_row : (a l s rest : Bool) → (a ≡ true → l ≡ false) → rest ≡ false → ((a && (l && s)) || rest) ≡ false
+no_row true true s rest h e = absurd (let k = h refl in cc)
+no_row true false s rest h e = e
+no_row false l s rest h e = e
+
+fresh_any : (limit sent n : ℕ) (w : Waiting) (rows : List Row) → AllOk sent n rows → sent < w.number → any_row (λ k r. has_number w k && is_spent_row limit r) n rows ≡ false
+fresh_any limit sent n w [] h lt = refl
+fresh_any limit sent n w (r ∷ rows) h lt =
+    no_row (has_number w n) (is_lost r.state) (nat_le limit r.resends) (any_row (λ k x. has_number w k && is_spent_row limit x) (n + 1) rows)
+    (λ e. fresh_unlost r.state (h.0.fresh (let le = leb-true w.number n (both_true (nat_le w.number n) (nat_lt n (w.number + w.count)) e).0 in omega (arith, le, lt))))
+    (fresh_any limit sent (n + 1) w rows h.1 lt)
+
+fresh_by : (limit : Option ℕ) (sent n : ℕ) (w : Waiting) (rows : List Row) → AllOk sent n rows → sent < w.number → is_spent limit w n rows ≡ false
+fresh_by None sent n w rows h lt = refl
+fresh_by (Some limit) sent n w rows h lt = fresh_any limit sent n w rows h lt
+
+pub fresh_unspent : (sent n : ℕ) (rows : List Row) (ws : List Waiting) → AllOk sent n rows → NoneSpentBehind sent n rows ws
+fresh_unspent sent n rows ws h = λ w i lt. fresh_by w.options.resends sent n w rows h lt
+
+pub behind_by : (last : Option ℕ) (number moment n : ℕ) (rows : List Row) (ws : List Waiting) → IfSome last (λ k. NoneBehind k moment n rows ws) → IsSomeAnd last (λ k. k < number) → (w : Waiting) → IsIn w ws → number ≤ w.number → is_overdue moment n rows w ≡ false
+behind_by None number moment n rows ws h e w i le = absurd e
+behind_by (Some k) number moment n rows ws h lt w i le = h w i (omega (arith, lt, le))

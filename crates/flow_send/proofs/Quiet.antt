@@ -1,15 +1,12 @@
 -- Where no message can be overdue.
-use Rattle.std.proofs.Common.{◌≡◌, ◌⊎◌, ℕ, cond, ◌+◌, ◌≤◌, nat_le, ◌==◌, Bool, true, false, ◌&&◌, ◌||◌, List, [], ◌∷◌, ◌++◌, Option, Some, None, refl, ap, sym, ◌∙◌, subst, arith, inl, inr}
+use Rattle.std.proofs.Common.{◌≡◌, ◌⊎◌, ℕ, cond, ◌+◌, ◌≤◌, nat_le, ◌==◌, Bool, true, false, ◌&&◌, ◌||◌, List, [], ◌∷◌, ◌++◌, Option, Some, None, refl, sym, ◌∙◌, arith, inl, inr}
 use Rattle.std.specs.List.{sum_by}
-use Rattle.std.specs.Map.{values_of}
-use Rattle.flow_send.specs.Steady.{Line}
 use Rattle.std.proofs.lemmas.Bool.{le-ltb}
 use Rattle.std.proofs.lemmas.List.Sums.{sum_by-cons}
 use Rattle.flow_send.specs.declared.waiting.Waiting.{Waiting}
 use Rattle.flow_send.specs.Rows.{Row, any_row, lost_of, is_lost}
 use Rattle.flow_send.specs.Sender.{without_message, has_number, is_past, is_spent, is_spent_row, is_overdue, first_overdue}
 use Rattle.flow_send.specs.Deadlines.{IsNotBefore, NoneBefore, NoneLimited, Reach}
-use Rattle.flow_send.proofs.Keeping.{line_lower, line_order}
 use Rattle.flow_send.proofs.Summing.{zero_if}
 
 pub not_past : (deadline : Option ℕ) (soonest moment : ℕ) → IsNotBefore soonest deadline → moment ≤ soonest → is_past deadline moment ≡ false
@@ -96,26 +93,3 @@ reach_push before soonest latest limited after ws w r lb ll d e = record {
   deadlines = none_before_push soonest latest ws w (none_before_lower soonest before ws lb r.deadlines) ll d;
   limits = λ f. let g = e f in none_limited_push ws w (r.limits g.0) g.1;
 }
-
--- ---- a walk over all messages
-
-skip_if : (t : Bool) (n : ℕ) (rest : Option ℕ) → t ≡ false → cond t (Some n) rest ≡ rest
-skip_if true n rest e = absurd cc
-skip_if false n rest e = refl
-
-find_if : (t : Bool) (n : ℕ) (rest : Option ℕ) → t ≡ true → cond t (Some n) rest ≡ Some n
-find_if true n rest e = refl
-find_if false n rest e = absurd cc
-
-pub look_on : (moment n : ℕ) (rows : List Row) (it later : List (ℕ × Waiting)) (k : ℕ) (w : Waiting) → it ≡ (k, w) ∷ later → is_overdue moment n rows w ≡ false
-    → first_overdue moment n rows (values_of it) ≡ first_overdue moment n rows (values_of later)
-look_on moment n rows it later k w e f = ap (λ (es : List (ℕ × Waiting)). first_overdue moment n rows (values_of es)) e ∙ skip_if (is_overdue moment n rows w) w.number (first_overdue moment n rows (values_of later)) f
-
-pub look_found : (moment n : ℕ) (rows : List Row) (it later : List (ℕ × Waiting)) (k : ℕ) (w : Waiting) → it ≡ (k, w) ∷ later → is_overdue moment n rows w ≡ true
-    → first_overdue moment n rows (values_of it) ≡ Some w.number
-look_found moment n rows it later k w e f = ap (λ (es : List (ℕ × Waiting)). first_overdue moment n rows (values_of es)) e ∙ find_if (is_overdue moment n rows w) w.number (first_overdue moment n rows (values_of later)) f
-
-pub look_line : (high : ℕ) (it later : List (ℕ × Waiting)) (k : ℕ) (w : Waiting) → it ≡ (k, w) ∷ later → Line 0 high (values_of it) → (w.number + w.count ≤ high) × Line 0 high (values_of later)
-look_line high it later k w e h =
-    let g = subst (λ (es : List (ℕ × Waiting)). Line 0 high (values_of es)) e h in
-    (line_order (w.number + w.count) high (values_of later) g.2, line_lower 0 (w.number + w.count) high (values_of later) (omega arith) g.2)

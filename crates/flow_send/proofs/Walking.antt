@@ -1,121 +1,24 @@
--- The messages that wait as a map by their first numbers, and a walk over those near some numbers.
-use Rattle.std.proofs.Common.{◌≡◌, ℕ, ◌+◌, ◌-◌, ◌<◌, ◌≤◌, ◌^◌, nat_lt, nat_le, ◌==◌, cond, not, Bool, true, false, ◌&&◌, ◌||◌, List, [], ◌∷◌, ◌++◌, Option, Some, None, refl, ap, sym, ◌∙◌, subst, arith, inl, inr}
-use Rattle.std.specs.Prelude.{IfSome, IsSome}
+-- A walk over those near some numbers.
+use Rattle.std.proofs.Common.{◌≡◌, ℕ, ◌+◌, ◌-◌, ◌<◌, ◌≤◌, ◌^◌, nat_lt, nat_le, ◌==◌, cond, not, Bool, true, false, ◌&&◌, ◌||◌, List, [], ◌∷◌, Option, Some, None, refl, ap, sym, ◌∙◌, subst, arith, inl, inr}
+use Rattle.std.specs.Prelude.{IsSome}
 use Rattle.std.specs.Option.{unwrap_or}
-use Rattle.std.specs.Ordering.{nat_cmp, is_gt, match_ordering}
-use Rattle.std.specs.declared.ops.Bound.{Bound}
-use Rattle.std.specs.declared.ops.Bound.TheVariants.{Included, Excluded, Unbounded}
-use Rattle.std.specs.List.{filter, slice_get, sum_by}
-use Rattle.std.specs.List.Sorted.{IsStrictlySortedBy}
-use Rattle.std.specs.Map.{keys_of, values_of, lookup, remove_entry}
-use Rattle.std.specs.BTreeMap.{BTreeMap, insert_entry}
-use Rattle.std.specs.BTreeMap.Range.{IsRangeOf, IsEntryInRange, IsFromStart, IsLeBy}
-use Rattle.std.proofs.lemmas.Map.Keys.{le_from_not_gt, ge_from_not_lt}
+use Rattle.std.specs.List.{filter, sum_by}
 use Rattle.std.proofs.lemmas.List.Sums.{sum_by-cons}
-use Rattle.std.proofs.lemmas.Bool.{cases_Bool, cases_lt, lt-ltb, le-ltb, le-leb, lt-leb, leb-false, ne_eqb, eqb-true, eq-eqb}
+use Rattle.std.proofs.lemmas.Bool.{cases_Bool, cases_lt, lt-ltb, le-ltb, le-leb, lt-leb, ne_eqb, eqb-true, eq-eqb}
 use Rattle.rtmfp_data_chunks.specs.HandsOver.{IsIn}
-use Rattle.rtmfp_data_chunks.proofs.Keys.{less_lt, lt_less, gt_greater, eq_equal, is_key, is_key_is}
 use Rattle.rtmfp_data_chunks.proofs.Filtering.{filter_same, filter_all, filter_twice, in_filter}
 use Rattle.flow_send.specs.declared.waiting.Waiting.{Waiting}
 use Rattle.flow_send.specs.Rows.{Row}
-use Rattle.flow_send.specs.Sender.{message_at, without_message, first_number}
+use Rattle.flow_send.specs.Sender.{message_at, without_message}
 use Rattle.flow_send.specs.Acks.{still_waits}
 use Rattle.flow_send.specs.Steady.{Line}
 use Rattle.flow_send.proofs.Keeping.{line_order}
-use Rattle.flow_send.specs.Messages.{keyed, IsKeyed, AllBelow, IsFirstFrom, IsLastBelow, InLine, touches, touched, keeps, keeps_at, is_left, Reaches}
+use Rattle.flow_send.specs.Messages.{IsFirstFrom, InLine, touches, touched, keeps, keeps_at, is_left, Reaches}
 
 -- the numbers that a walk has before it
 abbrev pub left_numbers : Option ℕ → ℕ
 left_numbers None = 0
 left_numbers (Some f) = 2 ^ 64 - f
-
--- ---- the entries of a map
-
-pub values_keyed : (xs : List Waiting) → values_of (keyed xs) ≡ xs
-values_keyed [] = refl
-values_keyed (y ∷ later) = ap (λ zs. y ∷ zs) (values_keyed later)
-
-pub lookup_keyed : (n : ℕ) (xs : List Waiting) → lookup (is_key n) (keyed xs) ≡ message_at n xs
-lookup_keyed n [] = refl
-lookup_keyed n (y ∷ later) =
-    ap (λ t. cond t (Some y) (lookup (is_key n) (keyed later))) (is_key_is n y.number) ∙ ap (λ o. cond (y.number == n) (Some y) o) (lookup_keyed n later)
-
-remove_if : (n : ℕ) (y : Waiting) (later : List Waiting) (zs : List Waiting) (t : Bool) → cond t (keyed later) ((y.number, y) ∷ keyed zs) ≡ keyed (cond t later (y ∷ zs))
-remove_if n y later zs true = refl
-remove_if n y later zs false = refl
-
-pub remove_keyed : (n : ℕ) (xs : List Waiting) → remove_entry (is_key n) (keyed xs) ≡ keyed (without_message n xs)
-remove_keyed n [] = refl
-remove_keyed n (y ∷ later) =
-    ap (λ t. cond t (keyed later) ((y.number, y) ∷ remove_entry (is_key n) (keyed later))) (is_key_is n y.number)
-    ∙ (ap (λ es. cond (y.number == n) (keyed later) ((y.number, y) ∷ es)) (remove_keyed n later) ∙ remove_if n y later (without_message n later) (y.number == n))
-
-push_if : (x y : Waiting) (later : List Waiting) (fs : List (ℕ × Waiting)) → y.number < x.number → fs ≡ keyed (later ++ x ∷ [])
-    → match_ordering (nat_cmp x.number y.number) ((x.number, x) ∷ (y.number, y) ∷ keyed later) ((y.number, x) ∷ keyed later) ((y.number, y) ∷ fs) ≡ keyed (y ∷ (later ++ x ∷ []))
-push_if x y later fs lt e = rw (gt_greater x.number y.number lt) (ap (λ ds. (y.number, y) ∷ ds) e)
-
-pub push_keyed : (x : Waiting) (xs : List Waiting) → AllBelow x.number xs → insert_entry nat_cmp (keyed xs) x.number x ≡ keyed (xs ++ x ∷ [])
-push_keyed x [] h = refl
-push_keyed x (y ∷ later) h = push_if x y later (insert_entry nat_cmp (keyed later) x.number x) h.0 (push_keyed x later h.1)
-
-pub keyed_from : (fs : List (ℕ × Waiting)) (xs : List Waiting) → IsStrictlySortedBy nat_cmp (keys_of fs) → fs ≡ keyed xs → IsKeyed fs × (values_of fs ≡ xs)
-keyed_from fs xs o e =
-    let v : values_of fs ≡ xs = ap (λ ds. values_of ds) e ∙ values_keyed xs in
-    (record { order = o; keyed = e ∙ ap (λ ys. keyed ys) (sym v) }, v)
-
-pub kept_pushed : (es fs : List (ℕ × Waiting)) (x : Waiting) → IsKeyed es → IsStrictlySortedBy nat_cmp (keys_of fs) → fs ≡ insert_entry nat_cmp es x.number x → AllBelow x.number (values_of es) → IsKeyed fs × (values_of fs ≡ values_of es ++ x ∷ [])
-kept_pushed es fs x k o e h = keyed_from fs (values_of es ++ x ∷ []) o (e ∙ (ap (λ ds. insert_entry nat_cmp ds x.number x) k.keyed ∙ push_keyed x (values_of es) h))
-
-pub kept_removed : (es fs : List (ℕ × Waiting)) (n : ℕ) → IsKeyed es → IsStrictlySortedBy nat_cmp (keys_of fs) → fs ≡ remove_entry (is_key n) es → IsKeyed fs × (values_of fs ≡ without_message n (values_of es))
-kept_removed es fs n k o e = keyed_from fs (without_message n (values_of es)) o (e ∙ (ap (remove_entry (is_key n)) k.keyed ∙ remove_keyed n (values_of es)))
-
-first_same : (e : ℕ × Waiting) (es fs : List (ℕ × Waiting)) (k : ℕ) (v : Waiting) → e ∷ es ≡ (e.1.number, e.1) ∷ fs → Some e ≡ Some (k, v) → k ≡ e.1.number
-first_same e es fs k v h f =
-    let a : e ≡ (e.1.number, e.1) = cc in
-    let b : e ≡ (k, v) = cc in
-    sym (ap (λ (p : ℕ × Waiting). p.0) b) ∙ ap (λ (p : ℕ × Waiting). p.0) a
-
-pub first_key : (es : List (ℕ × Waiting)) (k : ℕ) (v : Waiting) → es ≡ keyed (values_of es) → slice_get es 0 ≡ Some (k, v) → Some k ≡ first_number (values_of es)
-first_key [] k v h f = absurd cc
-first_key (e ∷ es) k v h f = ap (λ n. Some n) (first_same e es (keyed (values_of es)) k v h f)
-
--- ---- what a range finds
-
-pub get_is : (q : ℕ) (es : List (ℕ × Waiting)) (runs : List Waiting) → es ≡ keyed runs → lookup (is_key q) es ≡ message_at q runs
-get_is q es runs e = ap (λ ds. lookup (is_key q) ds) e ∙ lookup_keyed q runs
-
-pub from_le : (n q : ℕ) → n ≤ q → IsFromStart nat_cmp (Included n) q
-from_le n q le = elim (cases_lt n q) [
-  | inl lt ↦ ap is_gt (lt_less n q lt)
-  | inr ge ↦ ap is_gt (eq_equal n q (omega (arith, le, ge)))
-]
-
-pub first_in : (n : ℕ) (lo : Bound ℕ) (m : BTreeMap ℕ Waiting) (runs : List Waiting) (r rest : List (ℕ × Waiting)) (k : ℕ) (y : Waiting) → m.entries ≡ keyed runs → IsRangeOf nat_cmp lo Unbounded m r → r ≡ (k, y) ∷ rest
-    → ((q : ℕ) → n ≤ q → IsFromStart nat_cmp lo q) → (IsFromStart nat_cmp lo k → n ≤ k) → IsFirstFrom n runs (Some k)
-first_in n lo m runs r rest k y e h s to back =
-    let here : IsEntryInRange nat_cmp lo Unbounded m (k, y) = subst (λ es. IfSome (slice_get es 0) (IsEntryInRange nat_cmp lo Unbounded m)) s h.1 in
-    let found : message_at k runs ≡ Some y = sym (get_is k m.entries runs e) ∙ here.1 in (
-      back here.0.0,
-      subst IsSome (sym found) refl,
-      λ q le i. le_from_not_gt k q (subst (λ (es : List (ℕ × Waiting)). IfSome (slice_get es 0) (λ x. IsLeBy nat_cmp x.0 q)) s (h.2 q (to q le, tt) (subst IsSome (sym (get_is q m.entries runs e)) i))),
-    )
-
-pub none_in : (n : ℕ) (lo : Bound ℕ) (m : BTreeMap ℕ Waiting) (runs : List Waiting) (r : List (ℕ × Waiting)) → m.entries ≡ keyed runs → IsRangeOf nat_cmp lo Unbounded m r → r ≡ []
-    → ((q : ℕ) → n ≤ q → IsFromStart nat_cmp lo q) → IsFirstFrom n runs None
-none_in n lo m runs r e h s to = λ q le. sym (get_is q m.entries runs e) ∙ h.5 s q (to q le, tt)
-
-pub last_in : (n : ℕ) (m : BTreeMap ℕ Waiting) (runs : List Waiting) (r rest : List (ℕ × Waiting)) (k : ℕ) (y : Waiting) → m.entries ≡ keyed runs → IsRangeOf nat_cmp Unbounded (Excluded n) m r → r ≡ rest ++ (k, y) ∷ []
-    → IsLastBelow n runs (Some k)
-last_in n m runs r rest k y e h s =
-    let here : IsEntryInRange nat_cmp Unbounded (Excluded n) m (k, y) = h.3 (k, y) rest s in
-    let found : message_at k runs ≡ Some y = sym (get_is k m.entries runs e) ∙ here.1 in (
-      less_lt k n here.0.1,
-      subst IsSome (sym found) refl,
-      λ q lt i. ge_from_not_lt k q (h.4 (k, y) rest s q (tt, lt_less q n lt) (subst IsSome (sym (get_is q m.entries runs e)) i)),
-    )
-
-pub none_below : (n : ℕ) (m : BTreeMap ℕ Waiting) (runs : List Waiting) (r : List (ℕ × Waiting)) → m.entries ≡ keyed runs → IsRangeOf nat_cmp Unbounded (Excluded n) m r → r ≡ [] → IsLastBelow n runs None
-none_below n m runs r e h s = λ q lt. sym (get_is q m.entries runs e) ∙ h.5 s q (tt, lt_less q n lt)
 
 -- ---- members
 
@@ -179,25 +82,9 @@ skip_at n y later e = ap (λ t. cond t (Some y) (message_at n later)) e
 
 -- ---- where it begins
 
-pub reach_below : (low : ℕ) (runs : List Waiting) (f : ℕ) → InLine 0 runs → IsLastBelow low runs (Some f) → Reaches low runs (Some f)
-reach_below low runs f h b = λ y i e.
-    let lt : y.number < f = leb-false f y.number e in
-    let z = has_run (message_at f runs) b.1 in
-    let g = at_in f runs z.0 z.1 in
-    let q = in_apart 0 runs y z.0 h i g.0 (omega (arith, lt, g.1)) in
-    let s = b.0 in omega (arith, q, g.1, s)
-
 pub reach_none_if : (low : ℕ) (runs : List Waiting) (o : Option ℕ) (y : Waiting) → IsFirstFrom low runs o → low ≤ y.number → message_at y.number runs ≡ Some y → is_left o y ≡ true
 reach_none_if low runs None y b le e = let n : None ≡ Some y = sym (b y.number le) ∙ e in absurd cc
 reach_none_if low runs (Some g) y b le e = le-leb g y.number (b.2 y.number le (is_some (message_at y.number runs) y e))
-
-pub reach_none : (low : ℕ) (runs : List Waiting) (o : Option ℕ) → InLine 0 runs → IsLastBelow low runs None → IsFirstFrom low runs o → Reaches low runs o
-reach_none low runs o h b c = λ y i e.
-    let at = in_at 0 runs y h i in
-    elim (cases_lt y.number low) [
-      | inl lt ↦ let n : None ≡ Some y = sym (b y.number lt) ∙ at in absurd cc
-      | inr le ↦ let t : true ≡ false = sym (reach_none_if low runs o y c le at) ∙ e in absurd cc
-    ]
 
 and_no : (a b : Bool) → b ≡ false → (a && b) ≡ false
 and_no true b e = e
@@ -339,10 +226,6 @@ none_removed n (y ∷ later) e = removed_if (y.number == n) e (none_removed n la
 pub in_line : (low high : ℕ) (ws : List Waiting) → Line low high ws → InLine low ws
 in_line low high [] h = tt
 in_line low high (w ∷ later) h = (h.0, h.1, in_line (w.number + w.count) high later h.2)
-
-pub all_below : (low high : ℕ) (ws : List Waiting) → Line low high ws → AllBelow high ws
-all_below low high [] h = tt
-all_below low high (w ∷ later) h = (omega (arith, h.1, line_order (w.number + w.count) high later h.2), all_below (w.number + w.count) high later h.2)
 
 pub line_in : (low high : ℕ) (ws : List Waiting) (w : Waiting) → Line low high ws → IsIn w ws → w.number + w.count ≤ high
 line_in low high [] w h i = absurd i

@@ -13,4 +13,5 @@ pub mod Calls
 pub mod Counted
 pub mod Passed
 pub mod Messages
+pub mod Slots
 pub mod Lows

@@ -2,41 +2,17 @@
 use Rattle.std.specs.Prelude.{ℕ, ◌≡◌, ◌+◌, ◌<◌, ◌≤◌, nat_lt, nat_le, ◌&&◌, ◌||◌, not, Bool, true}
 use Rattle.std.specs.Prelude.{false, List, [], ◌∷◌, Option, Some, None, IsSome}
 use Rattle.std.specs.List.{list_any}
-use Rattle.std.specs.Map.{keys_of, values_of}
-use Rattle.std.specs.Ordering.{nat_cmp}
-use Rattle.std.specs.List.Sorted.{IsStrictlySortedBy}
 use Rattle.rtmfp_data_chunks.specs.HandsOver.{IsIn}
 use Rattle.flow_send.specs.declared.waiting.Waiting.{Waiting}
 use Rattle.flow_send.specs.Rows.{Row}
 use Rattle.flow_send.specs.Sender.{message_at}
 use Rattle.flow_send.specs.Acks.{still_waits}
 
--- each with the number that it begins with
-abbrev pub keyed : List Waiting → List (ℕ × Waiting)
-keyed [] = []
-keyed (y ∷ later) = (y.number, y) ∷ keyed later
-
--- the entries rise and have the numbers that their messages begin with
-pub record IsKeyed (entries : List (ℕ × Waiting)) : Type 0 where
-  pub order : IsStrictlySortedBy nat_cmp (keys_of entries)
-  pub keyed : entries ≡ keyed (values_of entries)
-
--- each begins below a number
-abbrev pub AllBelow : ℕ → List Waiting → Type 0
-AllBelow n [] = Unit {0}
-AllBelow n (y ∷ later) = (y.number < n) × AllBelow n later
-
 -- the first of those that begin at a number or above it
 abbrev pub IsFirstFrom : ℕ → List Waiting → Option ℕ → Type 0
 IsFirstFrom n ws None = (q : ℕ) → n ≤ q → message_at q ws ≡ None
 IsFirstFrom n ws (Some g) = (n ≤ g) × IsSome (message_at g ws) ×
     ((q : ℕ) → n ≤ q → IsSome (message_at q ws) → g ≤ q)
-
--- the last of those that begin below a number
-abbrev pub IsLastBelow : ℕ → List Waiting → Option ℕ → Type 0
-IsLastBelow n ws None = (q : ℕ) → q < n → message_at q ws ≡ None
-IsLastBelow n ws (Some g) = (g < n) × IsSome (message_at g ws) ×
-    ((q : ℕ) → q < n → IsSome (message_at q ws) → q ≤ g)
 
 -- the messages go upward, and no two have a number
 abbrev pub InLine : ℕ → List Waiting → Type 0

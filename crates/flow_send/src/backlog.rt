@@ -7,8 +7,10 @@ ghost use Rattle.std.specs.Option.{is_some};
 ghost use Rattle.flow_send.specs.Sender.{message_at, without_message, first_number, first_overdue};
 ghost use Rattle.flow_send.specs.Acks.{still_waits};
 ghost use Rattle.flow_send.specs.Deadlines.{IsNotBefore, Unspent, Reach};
+ghost use Rattle.flow_send.specs.Deadlines.{NoneBehind, NoneSpentBehind};
+ghost use Rattle.flow_send.specs.Rows.{Row};
 ghost use Rattle.flow_send.specs.Steady.{Line};
-ghost use Rattle.flow_send.specs.Messages.{AllBelow, InLine, OthersWait, keeps, keeps_at};
+ghost use Rattle.flow_send.specs.Messages.{InLine, OthersWait, keeps, keeps_at};
 ghost use Rattle.flow_send.specs.Lows.{IsFoundIn, IsLowIn, AllInBlocks, overdue_in};
 
 use crate::lows::{Lows, PLACES, block_of};
@@ -85,7 +87,8 @@ impl Backlog {
 
     /// Adds a message at the end.
     pub fn push(&mut self, message: Waiting) -> Result<(), AllocError>
-        requires last { AllBelow message.number self.old }
+        requires last { Line 0 message.number self.old }
+        requires some { 0 < message.count }
         requires bytes { sum_by (λ w. w.size) self.old + message.size < 2 ^ 64 }
         requires fragments { sum_by (λ w. w.count) self.old + message.count < 2 ^ 64 }
         ensures pushed { OnOk result (self.new ≡ self.old ++ message ∷ []) }
@@ -231,22 +234,9 @@ impl Backlog {
         !rows.any_lost()
     }
 
-    /// The number of the first message whose deadline or limit of resends is passed, where each is
-    /// looked at.
-    fn look_at_all(&self, rows: &Rows, forward: u64, moment: u64) -> Option<u64>
-        requires { Line 0 (forward + 1 + length rows.now.rows) self.now }
-        ensures { result ≡ first_overdue moment (forward + 1) rows.now.rows self.now }
-    {
-        for (_, message) in self.messages.iter() {
-            if message.is_overdue(rows, forward, moment) {
-                return Some(message.number);
-            }
-        }
-        None
-    }
-
-    /// The same where no message has a limit of resends or no row is lost. Only those are looked at
-    /// that begin in a block with a deadline before the moment.
+    /// The number of the first message whose deadline is passed, where no message has a limit of
+    /// resends or no row is lost. Only those are looked at that begin in a block with a deadline
+    /// before the moment.
     fn look_at_late(&self, rows: &Rows, forward: u64, moment: u64) -> Option<u64>
         requires line { Line 0 (forward + 1 + length rows.now.rows) self.now }
         requires unspent { Unspent rows.now.rows self.now }
@@ -367,8 +357,9 @@ impl Backlog {
     }
 
     /// The number of the first message whose deadline or limit of resends is passed.
-    pub fn look(&self, rows: &Rows, forward: u64, moment: u64) -> Option<u64>
-        requires { Line 0 (forward + 1 + length rows.now.rows) self.now }
+    pub fn look(&self, rows: &Rows, forward: u64, moment: u64, sent: u64) -> Option<u64>
+        requires line { Line 0 (forward + 1 + length rows.now.rows) self.now }
+        requires fresh { NoneSpentBehind sent (forward + 1) rows.now.rows self.now }
         ensures { result ≡ first_overdue moment (forward + 1) rows.now.rows self.now }
     {
         if self.is_quiet(rows, moment) {
@@ -377,26 +368,46 @@ impl Backlog {
         if self.is_unspent(rows) {
             return self.look_at_late(rows, forward, moment);
         }
-        self.look_at_all(rows, forward, moment)
+        self.messages
+            .first_overdue(rows, forward, moment, self.last(moment, sent))
+    }
+
+    /// The highest number sent, where no deadline is passed: then no message behind it is overdue.
+    fn last(&self, moment: u64, sent: u64) -> Option<u64>
+        ensures { (n : ℕ) (rows : List Row) → NoneSpentBehind sent n rows self.now →
+            IfSome result (λ k. NoneBehind k moment n rows self.now) }
+    {
+        if moment > self.soonest {
+            return None;
+        }
+        Some(sent)
     }
 
     /// Whether a message's deadline or limit of resends is passed.
-    pub fn any_overdue(&self, rows: &Rows, forward: u64, moment: u64) -> bool
-        requires { Line 0 (forward + 1 + length rows.now.rows) self.now }
+    pub fn any_overdue(&self, rows: &Rows, forward: u64, moment: u64, sent: u64) -> bool
+        requires line { Line 0 (forward + 1 + length rows.now.rows) self.now }
+        requires fresh { NoneSpentBehind sent (forward + 1) rows.now.rows self.now }
         ensures { result ≡ is_some (first_overdue moment (forward + 1) rows.now.rows self.now) }
     {
-        self.look(rows, forward, moment).is_some()
+        self.look(rows, forward, moment, sent).is_some()
     }
 
     /// The number of the first message whose deadline or limit of resends is passed. The messages
     /// before it are looked at again only after the next deadline of their blocks, or where a row
     /// is lost and a message has a limit.
-    pub fn first_overdue(&mut self, rows: &Rows, forward: u64, moment: u64) -> Option<u64>
-        requires { Line 0 (forward + 1 + length rows.now.rows) self.old }
+    pub fn first_overdue(
+        &mut self,
+        rows: &Rows,
+        forward: u64,
+        moment: u64,
+        sent: u64,
+    ) -> Option<u64>
+        requires line { Line 0 (forward + 1 + length rows.now.rows) self.old }
+        requires fresh { NoneSpentBehind sent (forward + 1) rows.now.rows self.old }
         ensures first { result ≡ first_overdue moment (forward + 1) rows.now.rows self.old }
         ensures same { self.new ≡ self.old }
     {
-        let number = self.look(rows, forward, moment);
+        let number = self.look(rows, forward, moment, sent);
         self.raise(rows, forward, moment, block_of(number.unwrap_or(u64::MAX)));
         number
     }

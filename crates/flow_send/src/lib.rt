@@ -15,6 +15,7 @@ mod pick;
 mod row;
 mod rows;
 mod sender;
+mod slots;
 mod state;
 mod totals;
 mod waiting;

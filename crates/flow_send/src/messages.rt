@@ -1,36 +1,44 @@
-//! The messages that wait as a map, by the number that each begins with.
+//! The messages that wait, by the number that each begins with.
 
-ghost use Rattle.std.specs.Prelude.{◌≡◌, ◌+◌, ◌∷◌, ◌++◌, [], OnOk, OnErr, List, length};
-ghost use Rattle.std.specs.Prelude.{Some, true, drop, slice_get};
-ghost use Rattle.std.specs.Map.{values_of};
+ghost use Rattle.std.specs.Prelude.{◌≡◌, ◌+◌, ◌<◌, ◌∷◌, ◌++◌, [], OnOk, OnErr, length, slice_get};
+ghost use Rattle.std.specs.Prelude.{IfSome, true};
+ghost use Rattle.std.specs.Option.{IsSomeAnd};
+ghost use Rattle.flow_send.specs.Deadlines.{NoneBehind};
 ghost use Rattle.flow_send.specs.Sender.{message_at, without_message, first_number};
-ghost use Rattle.flow_send.specs.Messages.{AllBelow, IsFirstFrom, IsLastBelow, InLine, Reaches};
+ghost use Rattle.flow_send.specs.Sender.{first_overdue};
+ghost use Rattle.flow_send.specs.Messages.{IsFirstFrom, InLine, Reaches};
+ghost use Rattle.flow_send.specs.Steady.{Line};
 
+use crate::rows::Rows;
+use crate::slots::{Slot, behind, found, lengthen, next, place, slot_at, start, trim_back};
 use crate::waiting::Waiting;
 use std::alloc::{AllocError, Global};
-use std::collections::BTreeMap;
-use std::collections::btree_map::Iter;
+use std::collections::VecDeque;
 use std::marker::Model;
-use std::ops::Bound;
 
-/// The messages that wait. Contracts see them by rising number. A search and a removal take time by
-/// the logarithm of their number.
+/// The messages that wait. Contracts see them by rising number. One that is taken out from among
+/// others leaves its slot, so that none is moved; slots at the front are taken away with what was
+/// before them. So what is done at an end takes few steps, a search the logarithm of the slots.
 #[derive(Drop)]
 pub struct Messages {
-    map: BTreeMap<u64, Waiting>,
+    slots: VecDeque<Slot>,
+    waiting: usize,
+    /// How many slots were taken away at the front.
+    taken: usize,
+    /// Where a message was taken out last. The next search is often near it.
+    near: usize,
 }
 
 impl Model for Messages {
-    ghost use Rattle.std.specs.Prelude.{List};
-    ghost use Rattle.std.specs.Map.{values_of};
+    ghost use Rattle.std.specs.Prelude.{◌≡◌, List, length};
     ghost use Rattle.flow_send.specs.declared.waiting.Waiting.{Waiting};
-    ghost use Rattle.flow_send.specs.Messages.{IsKeyed};
+    ghost use Rattle.flow_send.specs.Slots.{waiting_in, IsLine};
 
     ghost Value = { List Waiting };
 
-    ghost view = { λ m. values_of m.map.entries };
+    ghost view = { λ m. waiting_in m.slots.items };
 
-    ghost invariant = { λ m. IsKeyed m.map.entries };
+    ghost invariant = { λ m. IsLine m.slots.items × (m.waiting ≡ length (waiting_in m.slots.items)) };
 }
 
 impl Messages {
@@ -38,56 +46,39 @@ impl Messages {
         ensures { result ≡ [] }
     {
         Messages {
-            map: BTreeMap::new(alloc),
+            slots: VecDeque::new(alloc),
+            waiting: 0,
+            taken: 0,
+            near: 0,
         }
     }
 
     pub fn len(&self) -> usize
         ensures { result ≡ length self.now }
     {
-        self.map.len()
-    }
-
-    /// The messages in order, each with its number.
-    pub fn iter(&self) -> Iter<'_, u64, Waiting>
-        ensures { values_of result ≡ self.now }
-    {
-        self.map.iter()
+        self.waiting
     }
 
     /// The message that begins at a number.
     pub fn at(&self, number: u64) -> Option<Waiting>
         ensures { result ≡ message_at number self.now }
     {
-        self.map.get(&number).copied()
+        found(&self.slots, place(&self.slots, number, self.near), number)
     }
 
     /// The first message.
     pub fn front(&self) -> Option<Waiting>
         ensures { result ≡ slice_get self.now 0 }
     {
-        match self.map.first_key_value() {
-            Some((_, message)) => Some(*message),
-            None => None,
-        }
+        next(&self.slots, 0)
     }
 
     /// The number of the first message.
     pub fn first(&self) -> Option<u64>
         ensures { result ≡ first_number self.now }
     {
-        match self.map.first_key_value() {
-            Some((first, _)) => Some(*first),
-            None => None,
-        }
-    }
-
-    /// The number of the last message that begins below a number.
-    pub fn below(&self, number: u64) -> Option<u64>
-        ensures { IsLastBelow number self.now result }
-    {
-        match self.map.range(..number).next_back() {
-            Some((first, _)) => Some(*first),
+        match next(&self.slots, 0) {
+            Some(message) => Some(message.number),
             None => None,
         }
     }
@@ -96,8 +87,8 @@ impl Messages {
     pub fn from(&self, number: u64) -> Option<u64>
         ensures { IsFirstFrom number self.now result }
     {
-        match self.map.range(number..).next() {
-            Some((first, _)) => Some(*first),
+        match next(&self.slots, place(&self.slots, number, self.near)) {
+            Some(message) => Some(message.number),
             None => None,
         }
     }
@@ -106,12 +97,9 @@ impl Messages {
     pub fn after(&self, number: u64) -> Option<u64>
         ensures { IsFirstFrom (number + 1) self.now result }
     {
-        match self
-            .map
-            .range((Bound::Excluded(number), Bound::Unbounded))
-            .next()
-        {
-            Some((first, _)) => Some(*first),
+        let at = behind(&self.slots, place(&self.slots, number, self.near), number);
+        match next(&self.slots, at) {
+            Some(message) => Some(message.number),
             None => None,
         }
     }
@@ -122,19 +110,53 @@ impl Messages {
         requires { InLine 0 self.now }
         ensures { Reaches low self.now result }
     {
-        match self.below(low) {
-            Some(first) => Some(first),
-            None => self.from(low),
+        let place = place(&self.slots, low, self.near);
+        match next(&self.slots, start(&self.slots, place, low)) {
+            Some(message) => Some(message.number),
+            None => None,
         }
+    }
+
+    /// The number of the first message whose deadline or limit of resends is passed. Each is looked
+    /// at, up to a number behind which there is none, where there is one.
+    pub fn first_overdue(
+        &self,
+        rows: &Rows,
+        forward: u64,
+        moment: u64,
+        last: Option<u64>,
+    ) -> Option<u64>
+        requires line { Line 0 (forward + 1 + length rows.now.rows) self.now }
+        requires none { IfSome last (λ n. NoneBehind n moment (forward + 1) rows.now.rows self.now) }
+        ensures { result ≡ first_overdue moment (forward + 1) rows.now.rows self.now }
+    {
+        let mut at: usize = 0;
+        while let Some(slot) = slot_at(&self.slots, at) {
+            if slot.gone > 0 {
+                at = at.saturating_add(slot.gone);
+                continue;
+            }
+            if is_behind(slot.message.number, last) {
+                return None;
+            }
+            if slot.message.is_overdue(rows, forward, moment) {
+                return Some(slot.message.number);
+            }
+            at += 1;
+        }
+        None
     }
 
     /// Adds a message behind the others.
     pub fn push(&mut self, message: Waiting) -> Result<(), AllocError>
-        requires { AllBelow message.number self.old }
+        requires last { Line 0 message.number self.old }
+        requires some { 0 < message.count }
         ensures pushed { OnOk result (self.new ≡ self.old ++ message ∷ []) }
         ensures err { OnErr result (self.new ≡ self.old) }
     {
-        self.map.insert(message.number, message)?;
+        trim_back(&mut self.slots);
+        self.slots.push_back(Slot { message, gone: 0 })?;
+        self.waiting += 1;
         Ok(())
     }
 
@@ -143,30 +165,65 @@ impl Messages {
         ensures message { result ≡ message_at number self.old }
         ensures rest { self.new ≡ without_message number self.old }
     {
-        if self.begins_with(number) {
-            return self.pop_front();
-        }
-        self.map.remove(&number)
+        let at = place(&self.slots, number, self.near);
+        let Some(message) = found(&self.slots, at, number) else {
+            return None;
+        };
+        self.slots[at] = Slot { message, gone: 1 };
+        self.waiting -= 1;
+        self.near = at;
+        self.tidy(at);
+        Some(message)
     }
 
-    /// Whether the first message begins at a number.
-    fn begins_with(&self, number: u64) -> bool
-        ensures { result ≡ true → first_number self.now ≡ Some number }
+    /// After the one at an index waits no more.
+    fn tidy(&mut self, at: usize)
+        ensures { self.new ≡ self.old }
     {
-        match self.map.first_key_value() {
-            Some((first, _)) => *first == number,
-            None => false,
+        if at == 0 {
+            self.trim_front();
+            return;
+        }
+        self.join(at);
+    }
+
+    /// Takes away the slots at the front that wait no more.
+    fn trim_front(&mut self)
+        ensures { self.new ≡ self.old }
+    {
+        while let Some(front) = slot_at(&self.slots, 0) {
+            if front.gone == 0 {
+                return;
+            }
+            let _ = self.slots.pop_front();
+            self.taken = self.taken.wrapping_add(1);
         }
     }
 
-    /// Takes out the first message. It is found without a search.
-    fn pop_front(&mut self) -> Option<Waiting>
-        ensures message { result ≡ slice_get self.old 0 }
-        ensures rest { self.new ≡ drop 1 self.old }
+    /// Of each stretch around a slot that wait no more, where it is as long as a power of two and
+    /// begins at a multiple of that, the first one tells all. So from any slot on the next message
+    /// that waits is few steps away.
+    fn join(&mut self, at: usize)
+        ensures { self.new ≡ self.old }
     {
-        match self.map.pop_first() {
-            Some((_, message)) => Some(message),
-            None => None,
+        let slot = self.taken.wrapping_add(at);
+        let mut half: usize = 1;
+        while half < self.slots.len() {
+            let back = slot % half.saturating_mul(2);
+            if back > at || !lengthen(&mut self.slots, at - back, half) {
+                return;
+            }
+            half = half.saturating_mul(2);
         }
+    }
+}
+
+/// Whether a number is behind the last one, where there is one.
+fn is_behind(number: u64, last: Option<u64>) -> bool
+    ensures { result ≡ true → IsSomeAnd last (λ n. n < number) }
+{
+    match last {
+        Some(last) => last < number,
+        None => false,
     }
 }

@@ -313,14 +313,16 @@ impl FlowSender {
     pub fn any_overdue(&self, moment: u64) -> bool
         ensures { result ≡ is_some (overdue moment self.now.sender) }
     {
-        self.waiting.any_overdue(&self.rows, self.forward, moment)
+        self.waiting
+            .any_overdue(&self.rows, self.forward, moment, self.sent)
     }
 
     /// The number of the first message whose deadline or limit of resends is passed.
     pub fn first_overdue(&self, moment: u64) -> Option<u64>
         ensures { result ≡ overdue moment self.now.sender }
     {
-        self.waiting.look(&self.rows, self.forward, moment)
+        self.waiting
+            .look(&self.rows, self.forward, moment, self.sent)
     }
 
     /// Abandons the first message whose deadline or limit of resends is passed, and gives its
@@ -332,7 +334,7 @@ impl FlowSender {
     {
         let number = self
             .waiting
-            .first_overdue(&self.rows, self.forward, moment)?;
+            .first_overdue(&self.rows, self.forward, moment, self.sent)?;
         self.give_up(number);
         Some(number)
     }

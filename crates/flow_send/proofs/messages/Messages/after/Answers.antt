@@ -1,21 +1,15 @@
-use Rattle.std.proofs.Common.{◌+◌, List, Some, None, subst, arith}
-use Rattle.std.specs.declared.ops.Bound.TheVariants.{Excluded}
-use Rattle.std.specs.Map.{values_of}
+use Rattle.std.proofs.Common.{◌+◌, List, Some, None, subst}
 use Rattle.flow_send.specs.declared.waiting.Waiting.{Waiting}
 use Rattle.flow_send.specs.Messages.{IsFirstFrom}
-use Rattle.rtmfp_data_chunks.proofs.Keys.{less_lt, lt_less}
-use Rattle.flow_send.proofs.Walking.{first_in, none_in}
+use Rattle.flow_send.proofs.Slotting.{first_from}
 use Rattle.flow_send.proofs.messages.Messages.after.Goals as goal
 
 pub returns-in-Some : goal.returns-in-Some
 returns-in-Some c =
-    let m = c.self.inside.map in
-    let k = c.in-Some.first.now in
-    subst (λ (rs : List Waiting). IsFirstFrom (c.args.number + 1) rs (Some k)) c.self.view_is
-    (first_in (c.args.number + 1) (Excluded c.args.number) m (values_of m.entries) c.range.result c.next.new.self k c.in-Some.field-0-1.now c.self.invariant.keyed (c.range.ensures.in_range tt) c.in-Some.ensures.steps (λ q le. lt_less c.args.number q (omega (arith, le))) (λ e. let lt = less_lt c.args.number k e in omega (arith, lt)))
+    subst (λ (ws : List Waiting). IsFirstFrom (c.args.number + 1) ws (Some c.in-Some.message.number)) c.self.view_is
+    (first_from (c.args.number + 1) c.behind-at.result c.self.inside.slots.items (Some c.in-Some.message) c.self.invariant.0.line c.behind-at.ensures c.in-Some.ensures)
 
 pub returns-in-None : goal.returns-in-None
 returns-in-None c =
-    let m = c.self.inside.map in
-    subst (λ (rs : List Waiting). IsFirstFrom (c.args.number + 1) rs None) c.self.view_is
-    (none_in (c.args.number + 1) (Excluded c.args.number) m (values_of m.entries) c.range.result c.self.invariant.keyed (c.range.ensures.in_range tt) c.in-None.ensures.steps.0 (λ q le. lt_less c.args.number q (omega (arith, le))))
+    subst (λ (ws : List Waiting). IsFirstFrom (c.args.number + 1) ws None) c.self.view_is
+    (first_from (c.args.number + 1) c.behind-at.result c.self.inside.slots.items None c.self.invariant.0.line c.behind-at.ensures c.in-None.ensures)

@@ -1,20 +1,28 @@
-use Rattle.std.proofs.Common.{◌≡◌, ◌∙◌, ap}
-use Rattle.std.specs.Map.{values_of}
+use Rattle.std.proofs.Common.{List, length, ap, sym, ◌∙◌, arith}
+use Rattle.flow_send.specs.declared.waiting.Waiting.{Waiting}
 use Rattle.flow_send.specs.Sender.{message_at, without_message}
-use Rattle.flow_send.specs.Messages.{IsKeyed}
-use Rattle.flow_send.proofs.Walking.{kept_removed, get_is}
+use Rattle.flow_send.specs.Slots.{slot_of, waiting_in}
+use Rattle.flow_send.proofs.Slotting.{there, leaves_at, line_left, fewer}
+use Rattle.flow_send.proofs.Walking.{none_removed}
 use Rattle.flow_send.proofs.messages.Messages.remove.Goals as goal
 
-both : (c : goal.After-remove) → IsKeyed c.remove.new.self.entries × (values_of c.remove.new.self.entries ≡ without_message c.args.number (values_of c.self.inside.map.entries))
-both c = kept_removed c.self.inside.map.entries c.remove.new.self.entries c.args.number c.self.invariant c.remove.ensures.ordered c.remove.ensures.entries
+pub returns-in_default-clause-rest : goal.returns-in_default-clause-rest
+returns-in_default-clause-rest c = sym (none_removed c.args.number c.args.self.now (sym (c.in_default.ensures.message ∙ ap (message_at c.args.number) c.self.view_is)))
+
+pub index_mut-requires : goal.index_mut-requires
+index_mut-requires c =
+    let slots = c.self.inside.slots in
+    let lt = there c.place-at.result slots.items (slot_of c.in-Some.message) c.in-Some.ensures.there in
+    omega (arith, lt, slots.ok)
 
 pub invariant_of-self : goal.invariant_of-self
-invariant_of-self c = (both c).0
-
-pub returns-clause-message : goal.returns-clause-message
-returns-clause-message c =
-    let es = c.self.inside.map.entries in
-    c.remove.ensures.value ∙ (get_is c.args.number es (values_of es) c.self.invariant.keyed ∙ ap (message_at c.args.number) c.self.view_is)
+invariant_of-self c =
+    let items = c.self.inside.slots.items in
+    let w = c.in-Some.message in
+    let at = sym c.in-Some.ensures.message in
+    let e = ap (λ (ws : List Waiting). length ws) (leaves_at c.place-at.result c.args.number items w c.self.invariant.0.line c.in-Some.ensures.there at) in
+    (line_left c.place-at.result items w c.in-Some.ensures.there c.self.invariant.0, omega (arith, e, c.self.invariant.1, fewer c.args.number (waiting_in items) w at))
 
 pub returns-clause-rest : goal.returns-clause-rest
-returns-clause-rest c = (both c).1 ∙ ap (without_message c.args.number) c.self.view_is
+returns-clause-rest c =
+    c.tidy.ensures ∙ (leaves_at c.place-at.result c.args.number c.self.inside.slots.items c.in-Some.message c.self.invariant.0.line c.in-Some.ensures.there (sym c.in-Some.ensures.message) ∙ ap (without_message c.args.number) c.self.view_is)

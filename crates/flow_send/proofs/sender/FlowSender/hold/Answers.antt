@@ -6,13 +6,11 @@ use Rattle.rtmfp_forms.specs.OptionReading.{options_in}
 use Rattle.flow_send.specs.declared.waiting.Waiting.{Waiting}
 use Rattle.flow_send.specs.Rows.{Row, stored_of}
 use Rattle.flow_send.specs.Sender.{sender_of, Sender, next_of, rows_of, waiting_of, queued}
-use Rattle.flow_send.specs.Messages.{AllBelow}
-use Rattle.flow_send.specs.Steady.{Steady, end_of, line_end}
+use Rattle.flow_send.specs.Steady.{Steady, Line, end_of, line_end}
 use Rattle.flow_send.specs.Flow.{Flow, queue_refusal, next_message, with_sender}
 use Rattle.flow_send.proofs.Steadies.{steady_queued}
 use Rattle.flow_send.proofs.Queuings.{rows_stored, allowed}
 use Rattle.flow_send.proofs.Followed.{held}
-use Rattle.flow_send.proofs.Walking.{all_below}
 use Rattle.flow_send.proofs.sender.FlowSender.hold.Goals as goal
 use Rattle.flow_send.proofs.sender.FlowSender.hold.Goals.{After-append}
 
@@ -80,4 +78,4 @@ push-requires-clause-last c =
     let a = allowed s (length c.args.message.now) (subst (λ (f : Flow). queue_refusal f.sender (length c.args.message.now) ≡ None) (sym c.self.view_is) c.requires.allowed) in
     let number : c.args.number ≡ next_of s = c.requires.number ∙ ap (λ (f : Flow). next_of f.sender) (sym c.self.view_is) in
     let end : end_of s ≡ c.args.number = ap (λ o. line_end o (next_of s)) a.unfinished ∙ sym number in
-    subst (λ n. AllBelow n i.waiting) end (all_below 0 (end_of s) i.waiting c.self.invariant.0.line)
+    subst (λ n. Line 0 n i.waiting) end c.self.invariant.0.line
