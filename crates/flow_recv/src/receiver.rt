@@ -17,7 +17,7 @@ ghost use Rattle.flow_recv.specs.Acking.{free_blocks, ack_head, ack_bytes, Tells
 ghost use Rattle.rtmfp_forms.specs.Outgoing.{packet_limit};
 ghost use Rattle.flow_recv.specs.Outcome.{refusal, took, message};
 ghost use Rattle.flow_recv.specs.Sound.{AllAlive, Sound};
-ghost use Rattle.flow_recv.specs.Order.{InOrder};
+ghost use Rattle.flow_recv.specs.Order.{InOrder, AllKnown};
 
 use crate::above::Above;
 use crate::acking::{pairs_len, put_pairs};
@@ -159,6 +159,12 @@ impl FlowReceiver {
     pub fn runs(&self) -> usize
         ensures value { result ≡ length self.now.runs }
         ensures small { result ≤ 2 ^ 63 }
+        // So at any moment at most 3,145,728 bytes are held, and at most 65,536 numbers above the
+        // lowest missing one aren't missing; the spans go upward and don't touch.
+        ensures sound { Sound self.now }
+        // The runs go upward, no two have a number, and none of their numbers is missing.
+        ensures order { InOrder 0 self.now.runs }
+        ensures known { AllKnown self.now.spans self.now.runs }
     {
         self.runs.len()
     }
