@@ -1,5 +1,5 @@
 -- What a session keeps of its flows, and what one thing that is done with them leaves and states.
-use Rattle.std.specs.Prelude.{ℕ, ◌==◌, nat_lt, false, if◌then◌else◌, List, [], ◌∷◌}
+use Rattle.std.specs.Prelude.{ℕ, ◌==◌, nat_lt, Bool, false, if◌then◌else◌, List, [], ◌∷◌, length}
 use Rattle.std.specs.Prelude.{◌++◌, Option, Some, None, slice_get, slice_set}
 use Rattle.flow_send.specs.Flow.{Flow}
 use Rattle.flow_recv.specs.Receiver.{Receiver}
@@ -22,6 +22,10 @@ abbrev pub with_taking : FlowsState → List TakingFlow → FlowsState
 with_taking s taking = record s { taking = taking }
 
 -- ---- sending flows
+
+-- there is one
+abbrev pub sends : FlowsState → Bool
+sends s = nat_lt 0 (length s.sending)
 
 abbrev pub sending_at : FlowsState → ℕ → Option Flow
 sending_at s id = slice_get s.sending id

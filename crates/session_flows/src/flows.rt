@@ -4,7 +4,7 @@ ghost use Rattle.std.specs.Prelude.{◌≡◌, ◌<◌, ◌∷◌, [], length, S
 ghost use Rattle.std.specs.Prelude.{IfErr, MatchOption, slice_get, IsOk};
 ghost use Rattle.flow_send.specs.Sender.{next_of};
 ghost use Rattle.flow_send.specs.declared.outcome.QueueRefusal.{QueueRefusal};
-ghost use Rattle.session_flows.specs.Keeping.{no_flows, Opened, Queued, Abandoned, Finished};
+ghost use Rattle.session_flows.specs.Keeping.{no_flows, sends, Opened, Queued, Abandoned, Finished};
 ghost use Rattle.session_flows.specs.Calling.{open_refusal, opening, queue_refused, queueing};
 ghost use Rattle.session_flows.specs.Calling.{abandon_refused, abandoning, finish_refused};
 ghost use Rattle.session_flows.specs.Calling.{finishing, queue_refusal_of, queue_answer};
@@ -56,6 +56,14 @@ impl Flows {
             sending: Vec::new(alloc),
             taking: Vec::new(alloc),
         }
+    }
+
+    /// Whether there is a sending flow. Where there is none nothing is due of the flows, whatever
+    /// the moment.
+    pub fn sends(&self) -> bool
+        ensures { result ≡ sends self.now }
+    {
+        !self.sending.is_empty()
     }
 
     /// Why `open_flow` would refuse, but for want of memory.

@@ -1,6 +1,6 @@
 -- A row whose flows were called on.
-use Rattle.std.proofs.Common.{ℕ, List, ◌≡◌, length, get_or, set, Option, Some, None, Result, Ok, Err, IfOk, OnOk, MatchOption, refl, sym, ap, subst, ◌∙◌}
-use Rattle.std.specs.FinMap.{get, len}
+use Rattle.std.proofs.Common.{ℕ, List, ◌≡◌, get_or, set, Option, Some, None, Result, Ok, Err, IfOk, OnOk, MatchOption, refl, sym, ap, subst, ◌∙◌}
+use Rattle.std.specs.FinMap.{get}
 use Rattle.session_flows.specs.declared.refusal.CallRefusal.{CallRefusal}
 use Rattle.session_flows.specs.declared.refusal.CallRefusal.TheVariants.{NoFlow}
 use Rattle.session_flows.specs.Keeping.{FlowsState, Stated, Did}
@@ -8,6 +8,8 @@ use Rattle.endpoint_model.specs.declared.row.Row.{Row}
 use Rattle.endpoint_model.specs.FlowCall.{FlowCall, flow_refusal, flow_did}
 use Rattle.session_table.specs.Table.{Table, table_of, in_row}
 use Rattle.session_table.specs.Calls.{called, stated_by, refused_by}
+use Rattle.deadlines.specs.Deadlines.{Slots}
+use Rattle.session_table.specs.Inside.{Indices, IsKept, IsLoose}
 use Rattle.session_table.proofs.Changing.{changed_at}
 use Rattle.session_table.proofs.Rows.{index_in, found_at, found_nowhere}
 
@@ -26,19 +28,19 @@ ok_ok r h f = ok_on r h f
 
 -- ---- the row of the session
 
-module _ (seen : Table) (rows list : List Row) (free near index : ℕ) (old : Row) (view : record { rows = table_of rows; free = free } ≡ seen) (distinct : len (table_of rows) ≡ length rows)
+module _ {at : Indices} {slots : Slots} {sending : ℕ} (seen : Table) (rows list : List Row) (free near index : ℕ) (old : Row) (view : record { rows = table_of rows; free = free } ≡ seen) (kept : IsKept rows at slots sending)
     (position : Some index ≡ index_in list near) (list_is : list ≡ rows) (is : old ≡ get_or rows index old) where
   pub there : get seen.rows near ≡ Some old
-  there = ap (λ (t : Table). get t.rows near) (sym view) ∙ found_at rows near index old distinct (sym (position ∙ ap (λ (r : List Row). index_in r near) list_is)) is
+  there = ap (λ (t : Table). get t.rows near) (sym view) ∙ found_at rows near index old kept.ordered.distinct (sym (position ∙ ap (λ (r : List Row). index_in r near) list_is)) is
 
-  pub stays_distinct : (flows : FlowsState) → len (table_of (set rows index (record old { flows = flows }))) ≡ length (set rows index (record old { flows = flows }))
-  stays_distinct flows = (changed_at (λ (r : Row). record r { flows = flows }) rows list near index old (record old { flows = flows }) distinct position list_is is refl refl).distinct
+  pub stays_loose : (flows : FlowsState) → IsLoose (set rows index (record old { flows = flows })) at slots sending index
+  stays_loose flows = (changed_at (λ (r : Row). record r { flows = flows }) rows list near index old (record old { flows = flows }) kept position list_is is refl refl).loose
 
   module _ (call : FlowCall) (flows : FlowsState) (stated : List Stated) (did : flow_did old.flows call ≡ record { flows = flows; stated = stated }) where
     pub rows_are : table_of (set rows index (record old { flows = flows })) ≡ in_row (called call) seen.rows near
     rows_are =
         let made : record old { flows = flows } ≡ called call old = ap (λ (d : Did). record old { flows = d.flows }) (sym did) in
-        (changed_at (called call) rows list near index old (record old { flows = flows }) distinct position list_is is made refl).table
+        (changed_at (called call) rows list near index old (record old { flows = flows }) kept position list_is is made refl).table
         ∙ ap (λ (t : Table). in_row (called call) t.rows near) view
 
     pub stated_is : stated_by call (get seen.rows near) ≡ stated

@@ -1,6 +1,6 @@
 -- One row of the list is changed.
-use Rattle.std.proofs.Common.{ℕ, List, ◌≡◌, ◌+◌, length, get_or, set, Bool, true, false, if◌then◌else◌, Option, Some, None, refl, sym, ap, ◌∙◌}
-use Rattle.std.specs.FinMap.{insert, len}
+use Rattle.std.proofs.Common.{ℕ, List, ◌≡◌, ◌+◌, get_or, set, Bool, true, false, if◌then◌else◌, Option, Some, None, refl, sym, ap, ◌∙◌}
+use Rattle.std.specs.FinMap.{insert}
 use Rattle.session_core.specs.declared.stage.Stage.TheVariants.{NearClose, FarLinger}
 use Rattle.session_core.specs.declared.stage.SessionDue.{SessionDue}
 use Rattle.session_core.specs.declared.stage.SessionDue.TheVariants.{Unconfirmed, Idle, Over, RepeatClose}
@@ -10,32 +10,36 @@ use Rattle.session_core.specs.Closing.{is_held, closed_near, asked_to_close, aft
 use Rattle.endpoint_model.specs.declared.row.Row.{Row}
 use Rattle.rtmfp_base.proofs.Rows.{index_found}
 use Rattle.session_table.specs.Table.{near_of, itself, table_of, with_changed, in_row, of_session}
+use Rattle.deadlines.specs.Deadlines.{Slots}
+use Rattle.session_table.specs.Inside.{Indices, IsKept, IsLoose}
 use Rattle.session_table.proofs.Rows.{index_in, put_at, found_at, found_nowhere}
+use Rattle.session_table.proofs.Found.{set_loose}
 
-pub record IsChanged (change : Row → Row) (rows : List Row) (near : ℕ) (changed : List Row) : Type 0 where
+pub record IsChanged (change : Row → Row) (rows : List Row) (at : Indices) (slots : Slots) (sending near index : ℕ) (changed : List Row) : Type 0 where
   pub table : table_of changed ≡ in_row change (table_of rows) near
-  pub distinct : len (table_of changed) ≡ length changed
+  pub loose : IsLoose changed at slots sending index
 
 -- in rows that are these, the row at the index of a session ID, which stays
-pub changed_at : (change : Row → Row) (rows seen : List Row) (near index : ℕ) (old new : Row) → len (table_of rows) ≡ length rows → Some index ≡ index_in seen near → seen ≡ rows →
-    old ≡ get_or rows index old → new ≡ change old → near_of (change old) ≡ near_of old → IsChanged change rows near (set rows index new)
-changed_at change rows seen near index old new distinct position seen_is is made same =
+pub changed_at : {at : Indices} {slots : Slots} {sending : ℕ} (change : Row → Row) (rows seen : List Row) (near index : ℕ) (old new : Row) → IsKept rows at slots sending → Some index ≡ index_in seen near → seen ≡ rows →
+    old ≡ get_or rows index old → new ≡ change old → near_of (change old) ≡ near_of old → IsChanged change rows at slots sending near index (set rows index new)
+changed_at {at} {slots} {sending} change rows seen near index old new kept position seen_is is made same =
     let found : index_in rows near ≡ Some index = sym (position ∙ ap (λ (r : List Row). index_in r near) seen_is) in
-    let at = index_found near_of itself rows near index distinct found in
-    let id : near_of new ≡ near = ap near_of made ∙ same ∙ ap near_of is ∙ at.key_is old in
-    let kept = put_at rows new index distinct (ap (index_in rows) id ∙ found) in
+    let place = index_found near_of itself rows near index kept.ordered.distinct found in
+    let stays : near_of new ≡ near_of (get_or rows index old) = ap near_of made ∙ same ∙ ap near_of is in
+    let id : near_of new ≡ near = stays ∙ place.key_is old in
+    let put = put_at rows new index kept.ordered.distinct (ap (index_in rows) id ∙ found) in
     record {
-      table = kept.table ∙ ap (λ (k : ℕ). insert (table_of rows) k new) id ∙ ap (insert (table_of rows) near) made
-          ∙ sym (ap (with_changed change (table_of rows) near) (found_at rows near index old distinct found is));
-      distinct = kept.distinct;
+      table = put.table ∙ ap (λ (k : ℕ). insert (table_of rows) k new) id ∙ ap (insert (table_of rows) near) made
+          ∙ sym (ap (with_changed change (table_of rows) near) (found_at rows near index old kept.ordered.distinct found is));
+      loose = set_loose rows at slots sending index new old kept stays put.distinct;
     }
 
 -- the same of the session in it
-pub session_changed : (change : SessionState → SessionState) (rows seen : List Row) (near index : ℕ) (old : Row) (new : SessionState) → len (table_of rows) ≡ length rows →
+pub session_changed : {at : Indices} {slots : Slots} {sending : ℕ} (change : SessionState → SessionState) (rows seen : List Row) (near index : ℕ) (old : Row) (new : SessionState) → IsKept rows at slots sending →
     Some index ≡ index_in seen near → seen ≡ rows → old ≡ get_or rows index old → new ≡ change old.session → (change old.session).joined.near ≡ old.session.joined.near →
-    IsChanged (of_session change) rows near (set rows index (record old { session = new }))
-session_changed change rows seen near index old new distinct position seen_is is made same =
-    changed_at (of_session change) rows seen near index old (record old { session = new }) distinct position seen_is is (ap (λ (s : SessionState). record old { session = s }) made) same
+    IsChanged (of_session change) rows at slots sending near index (set rows index (record old { session = new }))
+session_changed {at} {slots} {sending} change rows seen near index old new kept position seen_is is made same =
+    changed_at (of_session change) rows seen near index old (record old { session = new }) kept position seen_is is (ap (λ (s : SessionState). record old { session = s }) made) same
 
 -- where no row has the session ID
 pub unchanged : (change : Row → Row) (rows seen : List Row) (near : ℕ) → None ≡ index_in seen near → seen ≡ rows → table_of rows ≡ in_row change (table_of rows) near

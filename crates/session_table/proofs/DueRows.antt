@@ -1,13 +1,10 @@
 -- How the rows are looked through for the first of which something is due.
 use Rattle.std.proofs.Common.{ℕ, ◌≡◌, ◌<◌, length, List, get_or, ◌+◌, ◌⊎◌, inl, inr, arith, Bool, true, false, Option, Some, None, sym, ap, ◌∙◌}
-use Rattle.std.specs.FinMap.{len}
 use Rattle.std.proofs.lemmas.Bool.{cases_order}
 use Rattle.std.proofs.lemmas.List.{get_or_default}
 use Rattle.rtmfp_base.specs.Rows.{IsBest}
-use Rattle.rtmfp_base.proofs.Lowest.{best_is_entry, none_is_entry}
 use Rattle.endpoint_model.specs.declared.row.Row.{Row}
-use Rattle.endpoint_model.specs.FlowTimes.{is_row_due}
-use Rattle.session_table.specs.Table.{near_of, itself, table_of, IsDueAt}
+use Rattle.session_table.specs.Table.{near_of, itself}
 
 module _ (test : Row → Bool) (rows : List Row) (index : ℕ) (row : Row) (within : index < length rows) (is : row ≡ get_or rows index row) where
   at_index : (d : Row) → get_or rows index d ≡ row
@@ -38,7 +35,3 @@ module _ (test : Row → Bool) (rows : List Row) (index : ℕ) (row : Row) (with
           absurd (cc)
     ];
   }
-
-pub lowest_of_all : (moment : ℕ) (rows : List Row) (best : Option ℕ) → len (table_of rows) ≡ length rows → IsBest near_of itself (is_row_due moment) rows (length rows) best → IsDueAt moment rows best
-lowest_of_all moment rows None distinct is = none_is_entry near_of itself (is_row_due moment) rows is
-lowest_of_all moment rows (Some index) distinct is = (is.within, best_is_entry near_of itself (is_row_due moment) rows index distinct is)

@@ -1,5 +1,5 @@
 -- Rows whose numbers that are lost by time are marked, and that they are what all sessions of an end are then.
-use Rattle.std.proofs.Common.{ℕ, ◌≡◌, ◌<◌, ◌+◌, ◌&&◌, List, [], ◌∷◌, ◌++◌, map, length, take, drop, Bool, true, false, cond, if◌then◌else◌, Option, Some, None, T, inl, inr, refl, sym, ap, ◌∙◌, arith}
+use Rattle.std.proofs.Common.{ℕ, ◌≡◌, ◌<◌, ◌+◌, ◌&&◌, List, [], ◌∷◌, map, length, Bool, true, false, cond, if◌then◌else◌, Option, Some, None, T, inl, inr, refl, sym, ap, ◌∙◌, arith}
 use Rattle.std.specs.Option.{option_map}
 use Rattle.std.specs.Ordering.{nat_cmp, eq_by_cmp, is_lt}
 use Rattle.std.specs.Cmp.{nat_cmp_total}
@@ -7,7 +7,6 @@ use Rattle.std.specs.FinMap.{get, len, keys, entries, entries_sorted, get-entrie
 use Rattle.std.specs.FinMap as fin
 use Rattle.std.specs.FinMap.Entries.{below_all}
 use Rattle.std.proofs.lemmas.Bool.Decides.{nat_tests}
-use Rattle.std.proofs.lemmas.List.{length-map, take_at}
 use Rattle.rtmfp_base.proofs.Maps.{same_tables, same_or_not, get_inserted, get_beside, len_new}
 use Rattle.rtmfp_base.proofs.Rows.{first_is_new, rest_are_distinct}
 use Rattle.session_core.specs.Session.{SessionState}
@@ -48,7 +47,7 @@ keeps_if : (b : Bool) (s t : SessionState) → t.joined.near ≡ s.joined.near �
 keeps_if true s t e = e
 keeps_if false s t e = refl
 
-late_keeps : (moment : ℕ) (row : Row) → near_of (late_marked moment row) ≡ near_of row
+pub late_keeps : (moment : ℕ) (row : Row) → near_of (late_marked moment row) ≡ near_of row
 late_keeps moment row = keeps_if (is_any_late row.session row.flows moment) row.session (with_loss true row.session) refl
 
 pub late_distinct : (moment : ℕ) (rows new : List Row) → new ≡ map (late_marked moment) rows → len (table_of rows) ≡ length rows → len (table_of new) ≡ length new
@@ -57,12 +56,6 @@ late_distinct moment rows new is distinct =
 
 pub late_rows : (moment : ℕ) (rows new : List Row) → new ≡ map (late_marked moment) rows → AreLate moment (table_of rows) (table_of new)
 late_rows moment rows new is near = ap (λ (xs : List Row). get (table_of xs) near) is ∙ mapped_get (late_marked moment) (late_keeps moment) rows near
-
--- the rows as they are written back
-pub written_back : (moment len : ℕ) (rows seen new : List Row) → new ≡ map (late_marked moment) seen → seen ≡ rows → length seen ≡ len →
-    take len (new ++ drop (length new) rows) ≡ map (late_marked moment) rows
-written_back moment len rows seen new is same long =
-    take_at new (drop (length new) rows) len (ap length is ∙ length-map seen (late_marked moment) ∙ long) ∙ is ∙ ap (map (late_marked moment)) same
 
 -- ---- entries by rising keys
 

@@ -1,9 +1,21 @@
 mod Rows
 mod Likely
+mod Hashed
+mod Placed
+mod Timed
+mod Exchanged
+mod Keeping
+mod Split
+mod Edited
+mod Moving
+mod Found
 mod Changing
 mod SealedParts
 mod DueRows
+mod Firsts
+mod OwnDue
 mod Called
 mod Taken
 mod Behind
 pub mod Late
+mod LateKept

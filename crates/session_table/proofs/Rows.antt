@@ -1,7 +1,7 @@
 -- The list of rows as the table of them.
-use Rattle.std.proofs.Common.{ℕ, List, ◌≡◌, ◌==◌, ◌++◌, [], ◌∷◌, length, get_or, set, Option, Some, None, position, is_some, sym, ap, ◌∙◌}
+use Rattle.std.proofs.Common.{ℕ, List, ◌≡◌, ◌==◌, length, get_or, set, Option, Some, None, position, is_some, sym, ap, ◌∙◌}
 use Rattle.std.specs.FinMap.{get, insert, len, contains_key}
-use Rattle.rtmfp_base.proofs.Rows.{index_found, index_none, table_set, set_are_distinct, table_push, pushed_are_distinct}
+use Rattle.rtmfp_base.proofs.Rows.{index_found, index_none, table_set, set_are_distinct}
 use Rattle.rtmfp_base.proofs.Indices.{index_tells}
 use Rattle.endpoint_model.specs.declared.row.Row.{Row}
 use Rattle.session_table.specs.Table.{near_of, itself, table_of}
@@ -20,14 +20,6 @@ put_at rows row index distinct found =
     record {
       table = table_set near_of itself rows index row row distinct at.within (sym (at.key_is row));
       distinct = set_are_distinct near_of itself rows index row row distinct at.within (sym (at.key_is row));
-    }
-
-pub put_besides : (rows : List Row) (row : Row) → len (table_of rows) ≡ length rows → index_in rows (near_of row) ≡ None → IsPut rows row (rows ++ row ∷ [])
-put_besides rows row distinct found =
-    let none = index_none near_of itself rows (near_of row) found in
-    record {
-      table = table_push near_of itself rows row none;
-      distinct = pushed_are_distinct near_of itself rows row distinct none;
     }
 
 -- A session ID has an index exactly where it is in the table.

@@ -1,6 +1,6 @@
 -- The rows of an end's sessions: as a list, and by their session IDs; and what is done to the row
 -- under one.
-use Rattle.std.specs.Prelude.{ℕ, ◌<◌, ◌≡◌, List, map, length, slice_index_or, true, if◌then◌else◌, Option, Some, None, refl}
+use Rattle.std.specs.Prelude.{ℕ, List, map, true, if◌then◌else◌, Option, Some, None, refl}
 use Rattle.std.specs.List.{find}
 use Rattle.std.specs.Coded.{Coded, code_by, coded×, coded_ℕ}
 use Rattle.std.specs.FinMap.{from_entries, entries, get, insert, code}
@@ -85,13 +85,6 @@ sealed_by moment body None = None
 sealed_by moment body (Some row) = sealed_of moment body row.session
 
 -- ---- what is due
-
--- The index of the row with the lowest session ID of those of which something is due.
-abbrev pub IsDueAt : ℕ → List Row → Option ℕ → Type 0
-IsDueAt moment rows None = find (λ e. is_row_due moment e.1) (entries (table_of rows)) ≡ None
-IsDueAt moment rows (Some index) = (index < length rows) ×
-    ((d : Row) → find (λ e. is_row_due moment e.1) (entries (table_of rows))
-    ≡ Some (entry_of (slice_index_or rows index d)))
 
 -- a session ID, and what is due of its session
 abbrev pub under : ℕ → Option RowDue → Option (ℕ × RowDue)

@@ -26,8 +26,12 @@ impl SessionTable {
         ensures falls { owes_by (get self.old.rows near) ≡ true →
             owed_at (get self.new.rows near) < owed_at (get self.old.rows near) }
     {
-        match index_near(&self.rows, near, self.likely) {
-            Some(index) => seal_acks_of(&mut self.rows[index], moment, blank),
+        match index_near(&self.kept, near, self.likely) {
+            Some(index) => {
+                let sealed = seal_acks_of(&mut self.kept.rows[index], moment, blank);
+                self.kept.settle(index);
+                sealed
+            }
             None => None,
         }
     }
@@ -36,8 +40,9 @@ impl SessionTable {
     pub fn forget_acks(&mut self, near: u32)
         ensures { self.new.rows ≡ in_row (of_flows owing_none) self.old.rows near }
     {
-        if let Some(index) = index_near(&self.rows, near, self.likely) {
-            self.rows[index].flows.forget_acks();
+        if let Some(index) = index_near(&self.kept, near, self.likely) {
+            self.kept.rows[index].flows.forget_acks();
+            self.kept.settle(index);
         }
     }
 }

@@ -31,11 +31,13 @@ impl SessionTable {
             (λ e. result ≡ Err e) }
         ensures err { OnErr result (self.new.rows ≡ self.old.rows) }
     {
-        let Some(index) = index_near(&self.rows, near, self.likely) else {
+        let Some(index) = index_near(&self.kept, near, self.likely) else {
             return Err(CallRefusal::NoFlow);
         };
-        let row = &mut self.rows[index];
-        row.flows.open_flow(priority, metadata, answers)
+        let row = &mut self.kept.rows[index];
+        let opened = row.flows.open_flow(priority, metadata, answers);
+        self.kept.settle(index);
+        opened
     }
 
     /// Queues a message in a flow of the session, and gives the number of its first fragment.
@@ -55,11 +57,13 @@ impl SessionTable {
             (λ e. result ≡ Err e) }
         ensures err { OnErr result (self.new.rows ≡ self.old.rows) }
     {
-        let Some(index) = index_near(&self.rows, near, self.likely) else {
+        let Some(index) = index_near(&self.kept, near, self.likely) else {
             return Err(CallRefusal::NoFlow);
         };
-        let row = &mut self.rows[index];
-        row.flows.queue(flow, message, options)
+        let row = &mut self.kept.rows[index];
+        let queued = row.flows.queue(flow, message, options);
+        self.kept.settle(index);
+        queued
     }
 
     /// Abandons the message of a flow of the session that begins at a number. It takes no memory.
@@ -72,11 +76,13 @@ impl SessionTable {
             (result ≡ Ok tt) (λ e. result ≡ Err e) }
         ensures err { OnErr result (self.new.rows ≡ self.old.rows) }
     {
-        let Some(index) = index_near(&self.rows, near, self.likely) else {
+        let Some(index) = index_near(&self.kept, near, self.likely) else {
             return Err(CallRefusal::NoFlow);
         };
-        let row = &mut self.rows[index];
-        row.flows.abandon(flow, seq)
+        let row = &mut self.kept.rows[index];
+        let abandoned = row.flows.abandon(flow, seq);
+        self.kept.settle(index);
+        abandoned
     }
 
     /// Finishes a flow of the session, and gives its last number. It takes no memory.
@@ -89,10 +95,12 @@ impl SessionTable {
             (IsOk result) (λ e. result ≡ Err e) }
         ensures err { OnErr result (self.new.rows ≡ self.old.rows) }
     {
-        let Some(index) = index_near(&self.rows, near, self.likely) else {
+        let Some(index) = index_near(&self.kept, near, self.likely) else {
             return Err(CallRefusal::NoFlow);
         };
-        let row = &mut self.rows[index];
-        row.flows.finish(flow)
+        let row = &mut self.kept.rows[index];
+        let finished = row.flows.finish(flow);
+        self.kept.settle(index);
+        finished
     }
 }

@@ -19,8 +19,9 @@ impl SessionTable {
         requires { 32 ≤ length part.now }
         ensures { self.new.rows ≡ in_session (λ x. counted x part.now) self.old.rows near }
     {
-        if let Some(index) = index_near(&self.rows, near, self.likely) {
-            self.rows[index].session.take_number(part);
+        if let Some(index) = index_near(&self.kept, near, self.likely) {
+            self.kept.rows[index].session.take_number(part);
+            self.kept.settle(index);
         }
     }
 
@@ -28,8 +29,9 @@ impl SessionTable {
     pub fn take_stamps(&mut self, near: u32, head: &PacketHead, moment: u64)
         ensures { self.new.rows ≡ in_session (with_stamps head.now moment) self.old.rows near }
     {
-        if let Some(index) = index_near(&self.rows, near, self.likely) {
-            self.rows[index].session.take_stamps(head, moment);
+        if let Some(index) = index_near(&self.kept, near, self.likely) {
+            self.kept.rows[index].session.take_stamps(head, moment);
+            self.kept.settle(index);
         }
     }
 
@@ -37,8 +39,9 @@ impl SessionTable {
     pub fn confirm(&mut self, near: u32)
         ensures { self.new.rows ≡ in_session confirmed self.old.rows near }
     {
-        if let Some(index) = index_near(&self.rows, near, self.likely) {
-            let _ = self.rows[index].session.confirm();
+        if let Some(index) = index_near(&self.kept, near, self.likely) {
+            let _ = self.kept.rows[index].session.confirm();
+            self.kept.settle(index);
         }
     }
 
@@ -46,8 +49,9 @@ impl SessionTable {
     pub fn close(&mut self, near: u32, moment: u64)
         ensures { self.new.rows ≡ in_session (closed_near moment) self.old.rows near }
     {
-        if let Some(index) = index_near(&self.rows, near, self.likely) {
-            let _ = self.rows[index].session.close(moment);
+        if let Some(index) = index_near(&self.kept, near, self.likely) {
+            let _ = self.kept.rows[index].session.close(moment);
+            self.kept.settle(index);
         }
     }
 
@@ -55,8 +59,9 @@ impl SessionTable {
     pub fn linger(&mut self, near: u32, moment: u64)
         ensures { self.new.rows ≡ in_session (asked_to_close moment) self.old.rows near }
     {
-        if let Some(index) = index_near(&self.rows, near, self.likely) {
-            let _ = self.rows[index].session.take_close_request(moment);
+        if let Some(index) = index_near(&self.kept, near, self.likely) {
+            let _ = self.kept.rows[index].session.take_close_request(moment);
+            self.kept.settle(index);
         }
     }
 
@@ -65,8 +70,9 @@ impl SessionTable {
         ensures { self.new.rows ≡ in_session (λ x. after_due (first_due x moment) moment x)
             self.old.rows near }
     {
-        if let Some(index) = index_near(&self.rows, near, self.likely) {
-            let _ = self.rows[index].session.due(moment);
+        if let Some(index) = index_near(&self.kept, near, self.likely) {
+            let _ = self.kept.rows[index].session.due(moment);
+            self.kept.settle(index);
         }
     }
 
@@ -74,8 +80,9 @@ impl SessionTable {
     pub fn note_keepalive(&mut self, near: u32, moment: u64)
         ensures { self.new.rows ≡ in_session (kept_alive moment) self.old.rows near }
     {
-        if let Some(index) = index_near(&self.rows, near, self.likely) {
-            let _ = self.rows[index].session.keepalive(moment);
+        if let Some(index) = index_near(&self.kept, near, self.likely) {
+            let _ = self.kept.rows[index].session.keepalive(moment);
+            self.kept.settle(index);
         }
     }
 
@@ -84,9 +91,10 @@ impl SessionTable {
     pub fn test(&mut self, near: u32, from: &Address, token: [u8; 16], moment: u64)
         ensures { self.new.rows ≡ in_row (tested from.now token moment) self.old.rows near }
     {
-        if let Some(index) = index_near(&self.rows, near, self.likely) {
-            let row = &mut self.rows[index];
+        if let Some(index) = index_near(&self.kept, near, self.likely) {
+            let row = &mut self.kept.rows[index];
             let _ = row.moves.seen(row.session.address(), from, token, moment);
+            self.kept.settle(index);
         }
     }
 
@@ -95,10 +103,11 @@ impl SessionTable {
     pub fn move_to(&mut self, near: u32, from: &Address, bytes: &[u8])
         ensures { self.new.rows ≡ in_row (moved from.now bytes.now) self.old.rows near }
     {
-        if let Some(index) = index_near(&self.rows, near, self.likely) {
-            let row = &mut self.rows[index];
+        if let Some(index) = index_near(&self.kept, near, self.likely) {
+            let row = &mut self.kept.rows[index];
             let _ = row.moves.reply(from, bytes);
             row.session.move_to(*from);
+            self.kept.settle(index);
         }
     }
 }

@@ -33,11 +33,13 @@ impl SessionTable {
             (λ x. result ≡ Err (Untaken.Cause x)) }
         ensures err { OnErr result (self.new.rows ≡ self.old.rows) }
     {
-        let Some(index) = index_near(&self.rows, near, self.likely) else {
+        let Some(index) = index_near(&self.kept, near, self.likely) else {
             return Err(Untaken::Cause(FlowCause::WrongState));
         };
-        let row = &mut self.rows[index];
-        row.flows.take_data(&row.session, chunk)
+        let row = &mut self.kept.rows[index];
+        let taken = row.flows.take_data(&row.session, chunk);
+        self.kept.settle(index);
+        taken
     }
 
     /// Hands over the next message of a flow of the session, with the number of its first fragment.
@@ -47,8 +49,12 @@ impl SessionTable {
             ≡ in_row (of_flows (λ f. (hands_once f flow).flows)) self.old.rows near }
         ensures stated { handed_in flow (get self.old.rows near) ≡ handed_stated flow result }
     {
-        match index_near(&self.rows, near, self.likely) {
-            Some(index) => self.rows[index].flows.hand_next(flow),
+        match index_near(&self.kept, near, self.likely) {
+            Some(index) => {
+                let handed = self.kept.rows[index].flows.hand_next(flow);
+                self.kept.settle(index);
+                handed
+            }
             None => None,
         }
     }
@@ -70,12 +76,15 @@ impl SessionTable {
             (IsOk result) (λ x. result ≡ Err x) }
         ensures err { OnErr result (self.new.rows ≡ self.old.rows) }
     {
-        let Some(index) = index_near(&self.rows, near, self.likely) else {
+        let Some(index) = index_near(&self.kept, near, self.likely) else {
             return Err(FlowCause::WrongState);
         };
-        let row = &mut self.rows[index];
-        row.flows
-            .take_ack(&mut row.session, flow, blocks, upto, spans)
+        let row = &mut self.kept.rows[index];
+        let taken = row
+            .flows
+            .take_ack(&mut row.session, flow, blocks, upto, spans);
+        self.kept.settle(index);
+        taken
     }
 
     /// Owes an ack for a buffer probe of a flow of the session. It takes no memory.
@@ -86,11 +95,13 @@ impl SessionTable {
             (get self.old.rows near)) (IsOk result) (λ x. result ≡ Err x) }
         ensures err { OnErr result (self.new.rows ≡ self.old.rows) }
     {
-        let Some(index) = index_near(&self.rows, near, self.likely) else {
+        let Some(index) = index_near(&self.kept, near, self.likely) else {
             return Err(FlowCause::WrongState);
         };
-        let row = &mut self.rows[index];
-        row.flows.take_probe(&row.session, flow)
+        let row = &mut self.kept.rows[index];
+        let taken = row.flows.take_probe(&row.session, flow);
+        self.kept.settle(index);
+        taken
     }
 
     /// Takes an exception, by which the other end rejects a flow of the session: the numbers of the
@@ -115,10 +126,12 @@ impl SessionTable {
         ensures err { OnErr result ((self.new.rows ≡ self.old.rows)
             × (abandoned.new.items ≡ abandoned.old.items)) }
     {
-        let Some(index) = index_near(&self.rows, near, self.likely) else {
+        let Some(index) = index_near(&self.kept, near, self.likely) else {
             return Err(Untaken::Cause(FlowCause::WrongState));
         };
-        let row = &mut self.rows[index];
-        row.flows.take_exception(&row.session, flow, abandoned)
+        let row = &mut self.kept.rows[index];
+        let taken = row.flows.take_exception(&row.session, flow, abandoned);
+        self.kept.settle(index);
+        taken
     }
 }

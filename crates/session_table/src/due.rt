@@ -1,12 +1,14 @@
 //! What time makes due of the sessions.
 
-ghost use Rattle.std.specs.Prelude.{◌≡◌, ◌<◌, ◌+◌, length};
-ghost use Rattle.std.specs.FinMap.{len};
+ghost use Rattle.std.specs.Prelude.{◌≡◌, ◌<◌, ◌≤◌, ◌+◌, IfSome, Some, length};
 ghost use Rattle.rtmfp_base.specs.Rows.{IsBest};
 ghost use Rattle.endpoint_model.specs.FlowTimes.{is_row_due, row_due};
 ghost use Rattle.session_table.specs.FlowTimes.{flows_due, still_due};
-ghost use Rattle.session_table.specs.Table.{IsDueAt, due_in, itself, near_of, table_of, under};
+ghost use Rattle.session_table.specs.Inside.{IsKept, lower_of, nears_of};
+ghost use Rattle.session_table.specs.Table.{due_in, itself, near_of, under};
 
+use crate::kept::Kept;
+use crate::row_facts::near_of;
 use crate::table::SessionTable;
 use endpoint_model::{Row, RowDue};
 
@@ -56,7 +58,7 @@ fn due_of(row: &Row, moment: u64) -> Option<(u32, RowDue)>
     ensures { result ≡ under (near_of row.now) (row_due moment row.now) }
 {
     match row_due(row, moment) {
-        Some(due) => Some((row.session.joined().near, due)),
+        Some(due) => Some((near_of(row), due)),
         None => None,
     }
 }
@@ -74,7 +76,7 @@ fn better(rows: &[Row], moment: u64, best: Option<usize>, index: usize) -> Optio
     }
     match best {
         Some(other) => {
-            if rows[other].session.joined().near <= row.session.joined().near {
+            if near_of(&rows[other]) <= near_of(row) {
                 Some(other)
             } else {
                 Some(index)
@@ -84,16 +86,62 @@ fn better(rows: &[Row], moment: u64, best: Option<usize>, index: usize) -> Optio
     }
 }
 
-/// The index of the row with the lowest session ID of those of which something is due.
-fn lowest_due(rows: &[Row], moment: u64) -> Option<usize>
-    requires { len (table_of rows.now) ≡ length rows.now }
-    ensures { IsDueAt moment rows.now result }
+/// The index of the row with the lowest session ID of the first rows, so many, of which something
+/// is due.
+fn lowest_due(rows: &[Row], count: usize, moment: u64) -> Option<usize>
+    requires { count ≤ length rows.now }
+    ensures { IsBest near_of itself (is_row_due moment) rows.now count result }
 {
     let mut best = None;
-    for index in 0..rows.len() {
+    for index in 0..count {
         best = better(rows, moment, best, index);
     }
     best
+}
+
+/// Of two indices that of the row with the lower session ID.
+fn lower(rows: &[Row], one: Option<usize>, other: Option<usize>) -> Option<usize>
+    requires one { IfSome one (λ index. index < length rows.now) }
+    requires other { IfSome other (λ index. index < length rows.now) }
+    ensures { result ≡ lower_of (nears_of rows.now) one other }
+{
+    match one {
+        None => other,
+        Some(index) => lower_than(rows, index, other),
+    }
+}
+
+/// The same where there is a first one.
+fn lower_than(rows: &[Row], one: usize, other: Option<usize>) -> Option<usize>
+    requires one { one < length rows.now }
+    requires other { IfSome other (λ index. index < length rows.now) }
+    ensures { result ≡ lower_of (nears_of rows.now) (Some one) other }
+{
+    match other {
+        None => Some(one),
+        Some(index) => {
+            if near_of(&rows[one]) <= near_of(&rows[index]) {
+                Some(one)
+            } else {
+                Some(index)
+            }
+        }
+    }
+}
+
+impl Kept {
+    /// The index of the row with the lowest session ID of those of which something is due at a
+    /// moment. Rows without a sending flow are looked at only where their deadline has come.
+    pub(crate) fn first_due(&self, moment: u64) -> Option<usize>
+        requires { IsKept self.now.rows.items self.now.places.at self.now.deadlines
+            self.now.sending }
+        ensures { IsBest near_of itself (is_row_due moment) self.now.rows.items
+            (length self.now.rows.items) result }
+    {
+        let own = self.deadlines.due(moment);
+        let flowing = lowest_due(&self.rows, self.sending, moment);
+        lower(&self.rows, own, flowing)
+    }
 }
 
 impl SessionTable {
@@ -102,8 +150,8 @@ impl SessionTable {
     pub fn first_due(&self, moment: u64) -> Option<(u32, RowDue)>
         ensures { result ≡ due_in moment self.now.rows }
     {
-        match lowest_due(&self.rows, moment) {
-            Some(index) => due_of(&self.rows[index], moment),
+        match self.kept.first_due(moment) {
+            Some(index) => due_of(&self.kept.rows[index], moment),
             None => None,
         }
     }

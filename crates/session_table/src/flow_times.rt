@@ -6,9 +6,11 @@ ghost use Rattle.std.specs.FinMap.{get};
 ghost use Rattle.endpoint_model.specs.FlowTimes.{data_body, late_marked};
 ghost use Rattle.session_table.specs.FlowTimes.{AreLate, DataFalls, OverdueWaits, data_gone};
 ghost use Rattle.session_table.specs.FlowTimes.{data_sealed, overdue_gone};
+ghost use Rattle.session_table.specs.Inside.{IsKept};
 ghost use Rattle.session_table.specs.Table.{in_row, sealed_of};
 
 use crate::index::index_near;
+use crate::kept::Kept;
 use crate::sealing::{Sealed, seal_packet};
 use crate::table::SessionTable;
 use endpoint_model::Row;
@@ -20,7 +22,7 @@ impl SessionTable {
     pub fn lose_late(&mut self, moment: u64)
         ensures { AreLate moment self.old.rows self.new.rows }
     {
-        lose_late(&mut self.rows, moment);
+        self.kept.lose_late(moment);
     }
 
     /// Abandons the first message of the session's flows that is sent no longer, where there is
@@ -29,8 +31,9 @@ impl SessionTable {
         ensures rows { self.new.rows ≡ in_row (overdue_gone moment) self.old.rows near }
         ensures waits { IfSome (get self.old.rows near) (λ row. OverdueWaits moment row) }
     {
-        if let Some(index) = index_near(&self.rows, near, self.likely) {
-            abandon_in(&mut self.rows[index], moment);
+        if let Some(index) = index_near(&self.kept, near, self.likely) {
+            abandon_in(&mut self.kept.rows[index], moment);
+            self.kept.settle(index);
         }
     }
 
@@ -46,19 +49,30 @@ impl SessionTable {
         // Where flow data is due, less is left to send then, and the same messages wait.
         ensures falls { IfSome (get self.old.rows near) (λ row. DataFalls moment row) }
     {
-        match index_near(&self.rows, near, self.likely) {
-            Some(index) => seal_data_in(&mut self.rows[index], moment, blank),
+        match index_near(&self.kept, near, self.likely) {
+            Some(index) => {
+                let sealed = seal_data_in(&mut self.kept.rows[index], moment, blank);
+                self.kept.settle(index);
+                sealed
+            }
             None => None,
         }
     }
 }
 
-/// Marks the numbers that are lost by time in each row.
-fn lose_late(rows: &mut [Row], moment: u64)
-    ensures { rows.new ≡ map (late_marked moment) rows.old }
-{
-    for row in rows.iter_mut() {
-        lose_in(row, moment);
+impl Kept {
+    /// Marks the numbers that are lost by time in each row. Those without a sending flow have none,
+    /// and aren't looked at.
+    fn lose_late(&mut self, moment: u64)
+        requires { IsKept self.old.rows.items self.old.places.at self.old.deadlines
+            self.old.sending }
+        ensures kept { IsKept self.new.rows.items self.new.places.at self.new.deadlines
+            self.new.sending }
+        ensures rows { self.new.rows.items ≡ map (late_marked moment) self.old.rows.items }
+    {
+        for index in 0..self.sending {
+            lose_in(&mut self.rows[index], moment);
+        }
     }
 }
 

@@ -1,29 +1,23 @@
-//! Where a session's row stands in the list of rows.
+//! Where a session's row stands among the rows.
 
-ghost use Rattle.std.specs.Prelude.{◌≡◌, ◌<◌, ◌≤◌, ◌==◌, IfNone, IfSome, None, length, position};
-ghost use Rattle.std.specs.FinMap.{len};
-ghost use Rattle.session_table.specs.Table.{near_of, table_of};
+ghost use Rattle.std.specs.Prelude.{◌≡◌, ◌==◌, position};
+ghost use Rattle.session_table.specs.Inside.{IsKept};
+ghost use Rattle.session_table.specs.Table.{near_of};
 
-use endpoint_model::Row;
+use crate::kept::Kept;
+use crate::row_facts::near_of;
 
-/// The index of the row of the session with this session ID.
-pub(crate) fn index_of(rows: &[Row], near: u32) -> Option<usize>
-    ensures { result ≡ position (λ row. near_of row == near) rows.now }
+/// The index of the row of the session with this session ID. It is looked for at this index first,
+/// and else where it is known to stand.
+pub(crate) fn index_near(kept: &Kept, near: u32, likely: usize) -> Option<usize>
+    requires { IsKept kept.now.rows.items kept.now.places.at kept.now.deadlines kept.now.sending }
+    ensures { result ≡ position (λ row. near_of row == near) kept.now.rows.items }
 {
-    rows.iter()
-        .position(|row| row.session.joined().near == near)
-}
-
-/// The same, where the row is looked for at this index first.
-pub(crate) fn index_near(rows: &[Row], near: u32, likely: usize) -> Option<usize>
-    requires { len (table_of rows.now) ≡ length rows.now }
-    ensures { result ≡ position (λ row. near_of row == near) rows.now }
-{
-    if likely < rows.len() {
-        let found = rows[likely].session.joined().near;
+    if likely < kept.rows.len() {
+        let found = near_of(&kept.rows[likely]);
         if found == near {
             return Some(likely);
         }
     }
-    index_of(rows, near)
+    kept.places.find(near)
 }

@@ -9,6 +9,9 @@ mod chunks;
 mod due;
 mod flow_times;
 mod index;
+mod kept;
+mod places;
+mod row_facts;
 mod sealing;
 mod table;
 

@@ -49,8 +49,12 @@ impl SessionTable {
         ensures limit { IfSome result (λ x. length x.datagram ≤ 1200) }
         ensures rows { self.new.rows ≡ in_session after_seal self.old.rows near }
     {
-        match index_near(&self.rows, near, self.likely) {
-            Some(index) => seal_in(&mut self.rows[index].session, moment, blank, chunk),
+        match index_near(&self.kept, near, self.likely) {
+            Some(index) => {
+                let sealed = seal_in(&mut self.kept.rows[index].session, moment, blank, chunk);
+                self.kept.settle(index);
+                sealed
+            }
             None => None,
         }
     }

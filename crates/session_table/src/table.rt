@@ -1,6 +1,8 @@
 //! The table of the sessions, by their session IDs.
 
-use crate::index::{index_near, index_of};
+use crate::index::index_near;
+use crate::kept::Kept;
+use crate::row_facts::near_of;
 use endpoint_model::Row;
 use mobility::Moves;
 use session_core::Session;
@@ -14,16 +16,16 @@ use std::marker::Model;
 #[derive(Drop)]
 pub struct SessionTable {
     pub(crate) alloc: Global,
-    /// The rows, in any order.
-    pub(crate) rows: Vec<Row>,
+    /// The rows, and what finds them.
+    pub(crate) kept: Kept,
     /// The index of the session of the last datagram, where a session is looked for first.
     pub(crate) likely: usize,
 }
 
 impl Model for SessionTable {
-    ghost use Rattle.std.specs.Prelude.{◌≡◌, ◌-◌, length, vec_len, vec_capacity};
-    ghost use Rattle.std.specs.FinMap.{len};
     ghost use Rattle.endpoint_model.specs.contracts.row.Row as row_type;
+    ghost use Rattle.session_table.specs.Inside.{IsKept};
+    ghost use Rattle.session_table.specs.Room.{free_of};
     ghost use Rattle.session_table.specs.Table.{Table, table_code, table_of};
 
     ghost Value = { Table };
@@ -31,11 +33,12 @@ impl Model for SessionTable {
     ghost coded = { table_code row_type.the_row.coded };
 
     ghost view = { λ t. record {
-      rows = table_of t.rows.items;
-      free = vec_capacity t.rows - vec_len t.rows;
+      rows = table_of t.kept.rows.items;
+      free = free_of t.kept;
     } };
 
-    ghost invariant = { λ t. len (table_of t.rows.items) ≡ length t.rows.items };
+    ghost invariant = { λ t. IsKept t.kept.rows.items t.kept.places.at t.kept.deadlines
+        t.kept.sending };
 }
 
 impl SessionTable {
@@ -51,7 +54,7 @@ impl SessionTable {
     {
         SessionTable {
             alloc,
-            rows: Vec::new(alloc),
+            kept: Kept::new(alloc),
             likely: 0,
         }
     }
@@ -61,22 +64,22 @@ impl SessionTable {
         ensures value { result ≡ len self.now.rows }
         ensures small { result < 2 ^ 63 }
     {
-        self.rows.len()
+        self.kept.rows.len()
     }
 
     /// Whether a session has this session ID.
     pub fn has(&self, near: u32) -> bool
         ensures { result ≡ contains_key self.now.rows near }
     {
-        index_near(&self.rows, near, self.likely).is_some()
+        index_near(&self.kept, near, self.likely).is_some()
     }
 
     /// The row of the session with this session ID.
     pub fn row(&self, near: u32) -> Option<&Row>
         ensures { option_copied result ≡ get self.now.rows near }
     {
-        match index_near(&self.rows, near, self.likely) {
-            Some(index) => Some(&self.rows[index]),
+        match index_near(&self.kept, near, self.likely) {
+            Some(index) => Some(&self.kept.rows[index]),
             None => None,
         }
     }
@@ -85,7 +88,7 @@ impl SessionTable {
     pub fn look_up(&mut self, near: u32)
         ensures { self.new ≡ self.old }
     {
-        if let Some(index) = index_near(&self.rows, near, self.likely) {
+        if let Some(index) = index_near(&self.kept, near, self.likely) {
             self.likely = index;
         }
     }
@@ -95,7 +98,7 @@ impl SessionTable {
         ensures ok { OnOk result (0 < self.new.free) }
         ensures rows { self.new.rows ≡ self.old.rows }
     {
-        self.rows.reserve(1)
+        self.kept.reserve()
     }
 
     /// Keeps a session that begins under its session ID, for which there is room: no address of it
@@ -116,13 +119,12 @@ impl SessionTable {
         requires { 0 < self.old.free }
         ensures { self.new.rows ≡ insert self.old.rows (near_of row) row }
     {
-        match index_of(&self.rows, row.session.joined().near) {
-            Some(index) => self.rows[index] = row,
-            None => {
-                let Ok(()) = self.rows.push(row) else {
-                    return;
-                };
+        match index_near(&self.kept, near_of(&row), self.likely) {
+            Some(index) => {
+                self.kept.rows[index] = row;
+                self.kept.settle(index);
             }
+            None => self.kept.add(row),
         }
     }
 
@@ -131,8 +133,8 @@ impl SessionTable {
         ensures rows { self.new.rows ≡ remove self.old.rows near }
         ensures free { self.old.free ≤ self.new.free }
     {
-        if let Some(index) = index_near(&self.rows, near, self.likely) {
-            self.rows.swap_remove(index);
+        if let Some(index) = index_near(&self.kept, near, self.likely) {
+            self.kept.forget(index);
         }
     }
 }

@@ -1,21 +1,21 @@
-use Rattle.std.proofs.Common.{◌≡◌, ◌∷◌, [], Err, IsOk, refl}
+use Rattle.std.proofs.Common.{◌≡◌, ◌∷◌, [], Err, IsOk, refl, ◌∙◌}
 use Rattle.session_flows.specs.Keeping.{Finished}
 use Rattle.session_flows.specs.declared.refusal.CallRefusal.TheVariants.{NoFlow}
 use Rattle.endpoint_model.specs.FlowCall.{Finish}
-use Rattle.session_table.proofs.Called.{ok_on, ok_if, stays_distinct, rows_are, stated_is, refused_is, refused_nowhere}
+use Rattle.session_table.proofs.Called.{ok_on, ok_if, stays_loose, rows_are, stated_is, refused_is, refused_nowhere}
 use Rattle.session_table.proofs.table.SessionTable.finish.Goals as goal
 
 pub returns-in_default-clause-refused : goal.returns-in_default-clause-refused
-returns-in_default-clause-refused c = refused_nowhere c.args.self.now c.self.inside.rows.items _ _ c.args.near c.self.view_is c.in_default.ensures c.deref.ensures.value (Finish c.args.flow) _ (λ e. Err NoFlow ≡ Err e) refl
+returns-in_default-clause-refused c = refused_nowhere c.args.self.now c.self.inside.kept.rows.items _ _ c.args.near c.self.view_is c.in_default.ensures refl (Finish c.args.flow) _ (λ e. Err NoFlow ≡ Err e) refl
 
-pub invariant_of-self : goal.invariant_of-self
-invariant_of-self c = stays_distinct c.args.self.now c.self.inside.rows.items _ _ c.args.near c.in-Some.index c.index_mut-row.result.now c.self.view_is c.self.invariant c.in-Some.ensures c.deref.ensures.value c.index_mut-row.ensures.value c.finish.new.self
+pub settle-requires-clause-loose : goal.settle-requires-clause-loose
+settle-requires-clause-loose c = stays_loose c.args.self.now c.self.inside.kept.rows.items _ _ c.args.near c.in-Some.index c.index_mut-row.result.now c.self.view_is c.self.invariant c.in-Some.ensures refl c.index_mut-row.ensures.value c.finish-finished.new.self
 
 pub returns-clause-rows : goal.returns-clause-rows
-returns-clause-rows c = ok_on c.finish.result c.finish.ensures.did (λ seq did. rows_are c.args.self.now c.self.inside.rows.items _ _ c.args.near c.in-Some.index c.index_mut-row.result.now c.self.view_is c.self.invariant c.in-Some.ensures c.deref.ensures.value c.index_mut-row.ensures.value (Finish c.args.flow) c.finish.new.self (Finished c.args.flow seq ∷ []) did)
+returns-clause-rows c = ok_on c.finish-finished.result c.finish-finished.ensures.did (λ seq did. c.settle.ensures.table ∙ rows_are c.args.self.now c.self.inside.kept.rows.items _ _ c.args.near c.in-Some.index c.index_mut-row.result.now c.self.view_is c.self.invariant c.in-Some.ensures refl c.index_mut-row.ensures.value (Finish c.args.flow) c.finish-finished.new.self (Finished c.args.flow seq ∷ []) did)
 
 pub returns-clause-stated : goal.returns-clause-stated
-returns-clause-stated c = ok_if c.finish.result c.finish.ensures.did (λ seq did. stated_is c.args.self.now c.self.inside.rows.items _ _ c.args.near c.in-Some.index c.index_mut-row.result.now c.self.view_is c.self.invariant c.in-Some.ensures c.deref.ensures.value c.index_mut-row.ensures.value (Finish c.args.flow) c.finish.new.self (Finished c.args.flow seq ∷ []) did)
+returns-clause-stated c = ok_if c.finish-finished.result c.finish-finished.ensures.did (λ seq did. stated_is c.args.self.now c.self.inside.kept.rows.items _ _ c.args.near c.in-Some.index c.index_mut-row.result.now c.self.view_is c.self.invariant c.in-Some.ensures refl c.index_mut-row.ensures.value (Finish c.args.flow) c.finish-finished.new.self (Finished c.args.flow seq ∷ []) did)
 
 pub returns-clause-refused : goal.returns-clause-refused
-returns-clause-refused c = refused_is c.args.self.now c.self.inside.rows.items _ _ c.args.near c.in-Some.index c.index_mut-row.result.now c.self.view_is c.self.invariant c.in-Some.ensures c.deref.ensures.value c.index_mut-row.ensures.value (Finish c.args.flow) (IsOk c.finish.result) (λ e. c.finish.result ≡ Err e) c.finish.ensures.refused
+returns-clause-refused c = refused_is c.args.self.now c.self.inside.kept.rows.items _ _ c.args.near c.in-Some.index c.index_mut-row.result.now c.self.view_is c.self.invariant c.in-Some.ensures refl c.index_mut-row.ensures.value (Finish c.args.flow) (IsOk c.finish-finished.result) (λ e. c.finish-finished.result ≡ Err e) c.finish-finished.ensures.refused

@@ -1,21 +1,21 @@
-use Rattle.std.proofs.Common.{◌≡◌, ◌∷◌, [], Err, IfErr, refl}
+use Rattle.std.proofs.Common.{◌≡◌, ◌∷◌, [], Err, IfErr, refl, ◌∙◌}
 use Rattle.session_flows.specs.Keeping.{Opened}
 use Rattle.session_flows.specs.declared.refusal.CallRefusal.TheVariants.{NoFlow, Memory}
 use Rattle.endpoint_model.specs.FlowCall.{OpenFlow}
-use Rattle.session_table.proofs.Called.{ok_on, ok_if, stays_distinct, rows_are, stated_is, refused_is, refused_nowhere}
+use Rattle.session_table.proofs.Called.{ok_on, ok_if, stays_loose, rows_are, stated_is, refused_is, refused_nowhere}
 use Rattle.session_table.proofs.table.SessionTable.open_flow.Goals as goal
 
 pub returns-in_default-clause-refused : goal.returns-in_default-clause-refused
-returns-in_default-clause-refused c = refused_nowhere c.args.self.now c.self.inside.rows.items _ _ c.args.near c.self.view_is c.in_default.ensures c.deref.ensures.value (OpenFlow c.args.priority c.args.metadata.now c.args.answers) _ (λ e. Err NoFlow ≡ Err e) refl
+returns-in_default-clause-refused c = refused_nowhere c.args.self.now c.self.inside.kept.rows.items _ _ c.args.near c.self.view_is c.in_default.ensures refl (OpenFlow c.args.priority c.args.metadata.now c.args.answers) _ (λ e. Err NoFlow ≡ Err e) refl
 
-pub invariant_of-self : goal.invariant_of-self
-invariant_of-self c = stays_distinct c.args.self.now c.self.inside.rows.items _ _ c.args.near c.in-Some.index c.index_mut-row.result.now c.self.view_is c.self.invariant c.in-Some.ensures c.deref.ensures.value c.index_mut-row.ensures.value c.open_flow.new.self
+pub settle-requires-clause-loose : goal.settle-requires-clause-loose
+settle-requires-clause-loose c = stays_loose c.args.self.now c.self.inside.kept.rows.items _ _ c.args.near c.in-Some.index c.index_mut-row.result.now c.self.view_is c.self.invariant c.in-Some.ensures refl c.index_mut-row.ensures.value c.open_flow-opened.new.self
 
 pub returns-clause-rows : goal.returns-clause-rows
-returns-clause-rows c = ok_on c.open_flow.result c.open_flow.ensures.did (λ id did. rows_are c.args.self.now c.self.inside.rows.items _ _ c.args.near c.in-Some.index c.index_mut-row.result.now c.self.view_is c.self.invariant c.in-Some.ensures c.deref.ensures.value c.index_mut-row.ensures.value (OpenFlow c.args.priority c.args.metadata.now c.args.answers) c.open_flow.new.self (Opened id ∷ []) did)
+returns-clause-rows c = ok_on c.open_flow-opened.result c.open_flow-opened.ensures.did (λ id did. c.settle.ensures.table ∙ rows_are c.args.self.now c.self.inside.kept.rows.items _ _ c.args.near c.in-Some.index c.index_mut-row.result.now c.self.view_is c.self.invariant c.in-Some.ensures refl c.index_mut-row.ensures.value (OpenFlow c.args.priority c.args.metadata.now c.args.answers) c.open_flow-opened.new.self (Opened id ∷ []) did)
 
 pub returns-clause-stated : goal.returns-clause-stated
-returns-clause-stated c = ok_if c.open_flow.result c.open_flow.ensures.did (λ id did. stated_is c.args.self.now c.self.inside.rows.items _ _ c.args.near c.in-Some.index c.index_mut-row.result.now c.self.view_is c.self.invariant c.in-Some.ensures c.deref.ensures.value c.index_mut-row.ensures.value (OpenFlow c.args.priority c.args.metadata.now c.args.answers) c.open_flow.new.self (Opened id ∷ []) did)
+returns-clause-stated c = ok_if c.open_flow-opened.result c.open_flow-opened.ensures.did (λ id did. stated_is c.args.self.now c.self.inside.kept.rows.items _ _ c.args.near c.in-Some.index c.index_mut-row.result.now c.self.view_is c.self.invariant c.in-Some.ensures refl c.index_mut-row.ensures.value (OpenFlow c.args.priority c.args.metadata.now c.args.answers) c.open_flow-opened.new.self (Opened id ∷ []) did)
 
 pub returns-clause-refused : goal.returns-clause-refused
-returns-clause-refused c = refused_is c.args.self.now c.self.inside.rows.items _ _ c.args.near c.in-Some.index c.index_mut-row.result.now c.self.view_is c.self.invariant c.in-Some.ensures c.deref.ensures.value c.index_mut-row.ensures.value (OpenFlow c.args.priority c.args.metadata.now c.args.answers) (IfErr c.open_flow.result (λ e. e ≡ Memory)) (λ e. c.open_flow.result ≡ Err e) c.open_flow.ensures.refused
+returns-clause-refused c = refused_is c.args.self.now c.self.inside.kept.rows.items _ _ c.args.near c.in-Some.index c.index_mut-row.result.now c.self.view_is c.self.invariant c.in-Some.ensures refl c.index_mut-row.ensures.value (OpenFlow c.args.priority c.args.metadata.now c.args.answers) (IfErr c.open_flow-opened.result (λ e. e ≡ Memory)) (λ e. c.open_flow-opened.result ≡ Err e) c.open_flow-opened.ensures.refused

@@ -6,21 +6,21 @@ use Rattle.session_flows.specs.Keeping.{FlowsState}
 use Rattle.session_flows.specs.Causes.{ack_cause}
 use Rattle.session_flows.specs.Chunks.{session_heard}
 use Rattle.session_table.specs.Chunks.{heard_in}
-use Rattle.session_table.proofs.Taken.{both_ok, hearing_keeps, row_distinct, row_changed, cause_is, cause_none}
+use Rattle.session_table.proofs.Taken.{both_ok, hearing_keeps, row_loose, row_changed, cause_is, cause_none}
 use Rattle.session_table.proofs.table.SessionTable.take_ack.Goals as goal
 
 pub returns-in_default-clause-cause : goal.returns-in_default-clause-cause
-returns-in_default-clause-cause c = cause_none c.args.self.now c.self.inside.rows.items _ _ c.args.near c.self.view_is c.in_default.ensures c.deref.ensures.value (λ s f. ack_cause s f c.args.flow (told c.args.blocks c.args.upto c.args.spans)) _ (λ x. Err WrongState ≡ Err x) refl
+returns-in_default-clause-cause c = cause_none c.args.self.now c.self.inside.kept.rows.items _ _ c.args.near c.self.view_is c.in_default.ensures refl (λ s f. ack_cause s f c.args.flow (told c.args.blocks c.args.upto c.args.spans)) _ (λ x. Err WrongState ≡ Err x) refl
 
-pub invariant_of-self : goal.invariant_of-self
-invariant_of-self c = row_distinct c.args.self.now c.self.inside.rows.items _ _ c.args.near c.in-Some.index c.index_mut-row.result.now c.self.view_is c.self.invariant c.in-Some.ensures c.deref.ensures.value c.index_mut-row.ensures.value (record c.index_mut-row.result.now { session = c.take_ack.new.session; flows = c.take_ack.new.self })
-    (hearing_keeps _ c.take_ack.result c.index_mut-row.result.now.session c.take_ack.new.session c.index_mut-row.result.now.flows c.args.flow (told c.args.blocks c.args.upto c.args.spans) c.take_ack.ensures.session c.take_ack.ensures.err)
+pub settle-requires-clause-loose : goal.settle-requires-clause-loose
+settle-requires-clause-loose c = row_loose c.args.self.now c.self.inside.kept.rows.items _ _ c.args.near c.in-Some.index c.index_mut-row.result.now c.self.view_is c.self.invariant c.in-Some.ensures refl c.index_mut-row.ensures.value (record c.index_mut-row.result.now { session = c.take_ack-taken.new.session; flows = c.take_ack-taken.new.self })
+    (hearing_keeps _ c.take_ack-taken.result c.index_mut-row.result.now.session c.take_ack-taken.new.session c.index_mut-row.result.now.flows c.args.flow (told c.args.blocks c.args.upto c.args.spans) c.take_ack-taken.ensures.session c.take_ack-taken.ensures.err)
 
 pub returns-clause-rows : goal.returns-clause-rows
-returns-clause-rows c = both_ok c.take_ack.result c.take_ack.ensures.session c.take_ack.ensures.flows (λ session flows. row_changed c.args.self.now c.self.inside.rows.items _ _ c.args.near c.in-Some.index c.index_mut-row.result.now c.self.view_is c.self.invariant c.in-Some.ensures c.deref.ensures.value c.index_mut-row.ensures.value (heard_in c.args.flow (told c.args.blocks c.args.upto c.args.spans)) (record c.index_mut-row.result.now { session = c.take_ack.new.session; flows = c.take_ack.new.self })
-    (ap (λ (s : SessionState). record c.index_mut-row.result.now { session = s; flows = c.take_ack.new.self }) session
+returns-clause-rows c = both_ok c.take_ack-taken.result c.take_ack-taken.ensures.session c.take_ack-taken.ensures.flows (λ session flows. c.settle.ensures.table ∙ row_changed c.args.self.now c.self.inside.kept.rows.items _ _ c.args.near c.in-Some.index c.index_mut-row.result.now c.self.view_is c.self.invariant c.in-Some.ensures refl c.index_mut-row.ensures.value (heard_in c.args.flow (told c.args.blocks c.args.upto c.args.spans)) (record c.index_mut-row.result.now { session = c.take_ack-taken.new.session; flows = c.take_ack-taken.new.self })
+    (ap (λ (s : SessionState). record c.index_mut-row.result.now { session = s; flows = c.take_ack-taken.new.self }) session
     ∙ ap (λ (f : FlowsState). record c.index_mut-row.result.now { session = session_heard c.index_mut-row.result.now.session c.index_mut-row.result.now.flows c.args.flow (told c.args.blocks c.args.upto c.args.spans); flows = f }) flows)
-    (hearing_keeps _ c.take_ack.result c.index_mut-row.result.now.session c.take_ack.new.session c.index_mut-row.result.now.flows c.args.flow (told c.args.blocks c.args.upto c.args.spans) c.take_ack.ensures.session c.take_ack.ensures.err))
+    (hearing_keeps _ c.take_ack-taken.result c.index_mut-row.result.now.session c.take_ack-taken.new.session c.index_mut-row.result.now.flows c.args.flow (told c.args.blocks c.args.upto c.args.spans) c.take_ack-taken.ensures.session c.take_ack-taken.ensures.err))
 
 pub returns-clause-cause : goal.returns-clause-cause
-returns-clause-cause c = cause_is c.args.self.now c.self.inside.rows.items _ _ c.args.near c.in-Some.index c.index_mut-row.result.now c.self.view_is c.self.invariant c.in-Some.ensures c.deref.ensures.value c.index_mut-row.ensures.value (λ s f. ack_cause s f c.args.flow (told c.args.blocks c.args.upto c.args.spans)) (IsOk c.take_ack.result) (λ x. c.take_ack.result ≡ Err x) c.take_ack.ensures.cause
+returns-clause-cause c = cause_is c.args.self.now c.self.inside.kept.rows.items _ _ c.args.near c.in-Some.index c.index_mut-row.result.now c.self.view_is c.self.invariant c.in-Some.ensures refl c.index_mut-row.ensures.value (λ s f. ack_cause s f c.args.flow (told c.args.blocks c.args.upto c.args.spans)) (IsOk c.take_ack-taken.result) (λ x. c.take_ack-taken.result ≡ Err x) c.take_ack-taken.ensures.cause

@@ -1,21 +1,21 @@
-use Rattle.std.proofs.Common.{◌≡◌, Err, IfErr, refl}
+use Rattle.std.proofs.Common.{◌≡◌, Err, IfErr, refl, ◌∙◌}
 use Rattle.rtmfp_data_chunks.specs.Chunk.{user_parts}
 use Rattle.session_flows.specs.declared.cause.FlowCause.TheVariants.{WrongState}
 use Rattle.session_flows.specs.declared.cause.Untaken.TheVariants.{Cause, Memory}
 use Rattle.session_flows.specs.Causes.{data_cause}
 use Rattle.session_flows.specs.Chunks.{data_taken}
-use Rattle.session_table.proofs.Called.{stays_distinct}
+use Rattle.session_table.proofs.Called.{stays_loose}
 use Rattle.session_table.proofs.Taken.{on_ok, flows_changed, cause_is, cause_none}
 use Rattle.session_table.proofs.table.SessionTable.take_data.Goals as goal
 
 pub returns-in_default-clause-cause : goal.returns-in_default-clause-cause
-returns-in_default-clause-cause c = cause_none c.args.self.now c.self.inside.rows.items _ _ c.args.near c.self.view_is c.in_default.ensures c.deref.ensures.value (λ s f. data_cause s f (user_parts c.args.chunk.now)) _ (λ x. Err (Cause WrongState) ≡ Err (Cause x)) refl
+returns-in_default-clause-cause c = cause_none c.args.self.now c.self.inside.kept.rows.items _ _ c.args.near c.self.view_is c.in_default.ensures refl (λ s f. data_cause s f (user_parts c.args.chunk.now)) _ (λ x. Err (Cause WrongState) ≡ Err (Cause x)) refl
 
-pub invariant_of-self : goal.invariant_of-self
-invariant_of-self c = stays_distinct c.args.self.now c.self.inside.rows.items _ _ c.args.near c.in-Some.index c.index_mut-row.result.now c.self.view_is c.self.invariant c.in-Some.ensures c.deref.ensures.value c.index_mut-row.ensures.value c.take_data.new.self
+pub settle-requires-clause-loose : goal.settle-requires-clause-loose
+settle-requires-clause-loose c = stays_loose c.args.self.now c.self.inside.kept.rows.items _ _ c.args.near c.in-Some.index c.index_mut-row.result.now c.self.view_is c.self.invariant c.in-Some.ensures refl c.index_mut-row.ensures.value c.take_data-taken.new.self
 
 pub returns-clause-rows : goal.returns-clause-rows
-returns-clause-rows c = on_ok c.take_data.result c.take_data.ensures.taken (λ did. flows_changed c.args.self.now c.self.inside.rows.items _ _ c.args.near c.in-Some.index c.index_mut-row.result.now c.self.view_is c.self.invariant c.in-Some.ensures c.deref.ensures.value c.index_mut-row.ensures.value (λ f. data_taken f (user_parts c.args.chunk.now)) c.take_data.new.self did)
+returns-clause-rows c = on_ok c.take_data-taken.result c.take_data-taken.ensures.taken (λ did. c.settle.ensures.table ∙ flows_changed c.args.self.now c.self.inside.kept.rows.items _ _ c.args.near c.in-Some.index c.index_mut-row.result.now c.self.view_is c.self.invariant c.in-Some.ensures refl c.index_mut-row.ensures.value (λ f. data_taken f (user_parts c.args.chunk.now)) c.take_data-taken.new.self did)
 
 pub returns-clause-cause : goal.returns-clause-cause
-returns-clause-cause c = cause_is c.args.self.now c.self.inside.rows.items _ _ c.args.near c.in-Some.index c.index_mut-row.result.now c.self.view_is c.self.invariant c.in-Some.ensures c.deref.ensures.value c.index_mut-row.ensures.value (λ s f. data_cause s f (user_parts c.args.chunk.now)) (IfErr c.take_data.result (λ e. e ≡ Memory)) (λ x. c.take_data.result ≡ Err (Cause x)) c.take_data.ensures.cause
+returns-clause-cause c = cause_is c.args.self.now c.self.inside.kept.rows.items _ _ c.args.near c.in-Some.index c.index_mut-row.result.now c.self.view_is c.self.invariant c.in-Some.ensures refl c.index_mut-row.ensures.value (λ s f. data_cause s f (user_parts c.args.chunk.now)) (IfErr c.take_data-taken.result (λ e. e ≡ Memory)) (λ x. c.take_data-taken.result ≡ Err (Cause x)) c.take_data-taken.ensures.cause

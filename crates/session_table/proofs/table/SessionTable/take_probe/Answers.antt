@@ -1,19 +1,19 @@
-use Rattle.std.proofs.Common.{◌≡◌, Err, IsOk, refl}
+use Rattle.std.proofs.Common.{◌≡◌, Err, IsOk, refl, ◌∙◌}
 use Rattle.session_flows.specs.declared.cause.FlowCause.TheVariants.{WrongState}
 use Rattle.session_flows.specs.Causes.{probe_cause}
 use Rattle.session_flows.specs.Chunks.{probed}
-use Rattle.session_table.proofs.Called.{stays_distinct}
+use Rattle.session_table.proofs.Called.{stays_loose}
 use Rattle.session_table.proofs.Taken.{on_ok, flows_changed, cause_is, cause_none}
 use Rattle.session_table.proofs.table.SessionTable.take_probe.Goals as goal
 
 pub returns-in_default-clause-cause : goal.returns-in_default-clause-cause
-returns-in_default-clause-cause c = cause_none c.args.self.now c.self.inside.rows.items _ _ c.args.near c.self.view_is c.in_default.ensures c.deref.ensures.value (λ s f. probe_cause s f c.args.flow) _ (λ x. Err WrongState ≡ Err x) refl
+returns-in_default-clause-cause c = cause_none c.args.self.now c.self.inside.kept.rows.items _ _ c.args.near c.self.view_is c.in_default.ensures refl (λ s f. probe_cause s f c.args.flow) _ (λ x. Err WrongState ≡ Err x) refl
 
-pub invariant_of-self : goal.invariant_of-self
-invariant_of-self c = stays_distinct c.args.self.now c.self.inside.rows.items _ _ c.args.near c.in-Some.index c.index_mut-row.result.now c.self.view_is c.self.invariant c.in-Some.ensures c.deref.ensures.value c.index_mut-row.ensures.value c.take_probe.new.self
+pub settle-requires-clause-loose : goal.settle-requires-clause-loose
+settle-requires-clause-loose c = stays_loose c.args.self.now c.self.inside.kept.rows.items _ _ c.args.near c.in-Some.index c.index_mut-row.result.now c.self.view_is c.self.invariant c.in-Some.ensures refl c.index_mut-row.ensures.value c.take_probe-taken.new.self
 
 pub returns-clause-rows : goal.returns-clause-rows
-returns-clause-rows c = on_ok c.take_probe.result c.take_probe.ensures.flows (λ did. flows_changed c.args.self.now c.self.inside.rows.items _ _ c.args.near c.in-Some.index c.index_mut-row.result.now c.self.view_is c.self.invariant c.in-Some.ensures c.deref.ensures.value c.index_mut-row.ensures.value (λ f. probed f c.args.flow) c.take_probe.new.self did)
+returns-clause-rows c = on_ok c.take_probe-taken.result c.take_probe-taken.ensures.flows (λ did. c.settle.ensures.table ∙ flows_changed c.args.self.now c.self.inside.kept.rows.items _ _ c.args.near c.in-Some.index c.index_mut-row.result.now c.self.view_is c.self.invariant c.in-Some.ensures refl c.index_mut-row.ensures.value (λ f. probed f c.args.flow) c.take_probe-taken.new.self did)
 
 pub returns-clause-cause : goal.returns-clause-cause
-returns-clause-cause c = cause_is c.args.self.now c.self.inside.rows.items _ _ c.args.near c.in-Some.index c.index_mut-row.result.now c.self.view_is c.self.invariant c.in-Some.ensures c.deref.ensures.value c.index_mut-row.ensures.value (λ s f. probe_cause s f c.args.flow) (IsOk c.take_probe.result) (λ x. c.take_probe.result ≡ Err x) c.take_probe.ensures.cause
+returns-clause-cause c = cause_is c.args.self.now c.self.inside.kept.rows.items _ _ c.args.near c.in-Some.index c.index_mut-row.result.now c.self.view_is c.self.invariant c.in-Some.ensures refl c.index_mut-row.ensures.value (λ s f. probe_cause s f c.args.flow) (IsOk c.take_probe-taken.result) (λ x. c.take_probe-taken.result ≡ Err x) c.take_probe-taken.ensures.cause

@@ -1,0 +1,28 @@
+//! What is told of one row.
+
+ghost use Rattle.std.specs.Prelude.{◌≡◌};
+ghost use Rattle.session_table.specs.Inside.{deadline_of, sends_of};
+ghost use Rattle.session_table.specs.Table.{near_of};
+
+use endpoint_model::Row;
+
+/// The session ID of its session.
+pub(crate) fn near_of(row: &Row) -> u32
+    ensures { result ≡ near_of row.now }
+{
+    row.session.joined().near
+}
+
+/// When something of its session's own is due first.
+pub(crate) fn deadline_of(row: &Row) -> u128
+    ensures { result ≡ (deadline_of row.now).at }
+{
+    row.session.deadline()
+}
+
+/// Whether it has a sending flow.
+pub(crate) fn sends(row: &Row) -> bool
+    ensures { result ≡ sends_of row.now }
+{
+    row.flows.sends()
+}
