@@ -82,8 +82,8 @@ fn answer_hello(
         end.old.moment)) end.new out.old out.new) }
     ensures err { OnErr result (Done (nothing end.old) end.new out.old out.new) }
 {
-    let blank = blank(end.alloc)?;
     out.make_room(1)?;
+    let blank = blank(end.alloc)?;
     let answer = end.startup.apply_hello(tag, to, end.moment);
     end.send_answer(blank, &answer, out);
     Ok(())
@@ -106,8 +106,8 @@ fn take_hello(
         out.new) }
     ensures err { OnErr result (Done (nothing end.old) end.new out.old out.new) }
 {
-    let blank = blank(end.alloc)?;
     out.make_room(1)?;
+    let blank = blank(end.alloc)?;
     if let Ok(answer) = end
         .startup
         .responder_hello(tag, cookie, cert, from, end.moment)
@@ -132,8 +132,8 @@ fn change_cookie(
         (cookie_change_keying end.old.startup sid old.now new.now)) end.new out.old out.new) }
     ensures err { OnErr result (Done (nothing end.old) end.new out.old out.new) }
 {
-    let blank = blank(end.alloc)?;
     out.make_room(1)?;
+    let blank = blank(end.alloc)?;
     if let Ok(answer) = end.startup.cookie_change(sid, old, new, end.moment) {
         end.send_answer(blank, &answer, out);
     }
@@ -155,8 +155,8 @@ fn reply(
         end.new out.old out.new) }
     ensures err { OnErr result (Done (nothing end.old) end.new out.old out.new) }
 {
-    let blank = blank(end.alloc)?;
     out.make_room(1)?;
+    let blank = blank(end.alloc)?;
     end.send_in_session(blank, near, to, chunk, out);
     Ok(())
 }

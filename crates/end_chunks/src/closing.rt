@@ -17,8 +17,8 @@ pub(crate) fn take_close(end: &mut EndState, near: u32, out: &mut Outbox) -> Res
         end.new out.old out.new) }
     ensures err { OnErr result (Done (nothing end.old) end.new out.old out.new) }
 {
-    let blank = blank(end.alloc)?;
     out.make_room(2)?;
+    let blank = blank(end.alloc)?;
     end_by_peer(end, near, out);
     end.send_home(blank, near, &ChunkView::CloseAck, out);
     Ok(())

@@ -149,9 +149,9 @@ pub(crate) fn introduce_to(
         (redirected_to end.old selected.now.print)))) end.new out.old out.new) }
     ensures err { OnErr result (Done (nothing end.old) end.new out.old out.new) }
 {
+    out.make_room(2)?;
     let first = blank(end.alloc)?;
     let second = blank(end.alloc)?;
-    out.make_room(2)?;
     let redirect = end.redirect_to(selected, tag, from);
     forward(end, first, selected, epd, tag, from, out);
     if let Some(answer) = redirect {
@@ -178,8 +178,8 @@ pub(crate) fn take_redirect(
         out.new) }
     ensures err { OnErr result (Done (nothing end.old) end.new out.old out.new) }
 {
-    let blanks = blanks(end.alloc, count)?;
     out.make_room(count)?;
+    let blanks = blanks(end.alloc, count)?;
     if let Ok(spread) = end.startup.redirect(tag, list, from, end.moment) {
         end.send_each(blanks, spread.addresses(), &spread.plain, out);
     }

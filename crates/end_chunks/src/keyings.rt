@@ -10,6 +10,7 @@ ghost use Rattle.endpoint_model.specs.Effects.{initiator_keyed, responder_keyed,
 ghost use Rattle.endpoint_model.specs.Effects.{sessions_opened, without_ended};
 ghost use Rattle.endpoint_model.specs.State.{Done, full, nothing};
 
+use crypto_profile::HmacKey;
 use end_state::{EndState, Outbox, add_fact, blank};
 use endpoint_model::{Draws, Entry};
 use glare_core::Fact;
@@ -37,9 +38,9 @@ pub(crate) fn initiator_keyed(
     ensures err { OnErr result (Done (nothing end.old) end.new out.old out.new) }
 {
     let near = end.free_from(draws.word);
-    let blank = blank(end.alloc)?;
     out.make_room(3)?;
     end.sessions.reserve()?;
+    let blank = blank(end.alloc)?;
     match end
         .startup
         .apply_initiator_keying(fields, hearing, from, end.moment, near, draws.nonce)
@@ -93,9 +94,9 @@ pub(crate) fn responder_keyed(
         fields.now.payload.now) end.new out.old out.new) }
     ensures err { OnErr result (Done (nothing end.old) end.new out.old out.new) }
 {
-    let blank = blank(end.alloc)?;
     out.make_room(2)?;
     end.sessions.reserve()?;
+    let blank = blank(end.alloc)?;
     let fact = end.startup.apply_responder_keying(near, peer, fields);
     keep_opened(
         &mut end.sessions,
@@ -117,7 +118,7 @@ fn keep_born(
     born: &Fact,
     print: &[u8; 32],
     from: &Address,
-    secret: &[u8; 32],
+    secret: &HmacKey,
     moment: u64,
 )
     requires { 0 < sessions.old.free }
@@ -126,7 +127,7 @@ fn keep_born(
 {
     if let Fact::Born(joined) = born {
         forget_ended(sessions, ended);
-        let session = Session::new(joined, print, Role::Responder, *from, secret, moment);
+        let session = Session::under(joined, print, Role::Responder, *from, secret, moment);
         sessions.keep(session);
     }
 }
@@ -137,7 +138,7 @@ fn keep_opened(
     opened: &Fact,
     print: &[u8; 32],
     from: &Address,
-    secret: &[u8; 32],
+    secret: &HmacKey,
     moment: u64,
 )
     requires { 0 < sessions.old.free }
@@ -145,7 +146,7 @@ fn keep_opened(
         secret.now moment }
 {
     if let Fact::Opened(joined) = opened {
-        let session = Session::new(joined, print, Role::Initiator, *from, secret, moment);
+        let session = Session::under(joined, print, Role::Initiator, *from, secret, moment);
         sessions.keep(session);
     }
 }

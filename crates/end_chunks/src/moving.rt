@@ -90,8 +90,8 @@ fn test_in(
     if !asks(end, near, from) {
         return Ok(());
     }
-    let blank = blank(end.alloc)?;
     out.make_room(1)?;
+    let blank = blank(end.alloc)?;
     begin_test(end, near, from, token);
     end.send_in_session(blank, near, from, &ChunkView::Ping { bytes: &token }, out);
     Ok(())

@@ -1,7 +1,7 @@
 //! What an end keeps.
 
 use crate::settings::Settings;
-use crypto_profile::{Context, Keys};
+use crypto_profile::{Context, HmacKey, Keys};
 use endpoint_model::Config;
 use identity::Certificate;
 use introducer::{Directory, RowRefusal};
@@ -21,7 +21,8 @@ pub struct EndState {
     pub alloc: Global,
     pub settings: Settings,
     pub moment: u64,
-    pub secret: [u8; 32],
+    /// The secret of the group, hashed once.
+    pub secret: HmacKey,
     /// The fingerprint of the own certificate.
     pub print: [u8; 32],
     /// The keys of startup packets.
@@ -77,6 +78,7 @@ impl EndState {
             }) }
     {
         let print = cert.print();
+        let group = HmacKey::of(&secret);
         EndState {
             alloc,
             settings: Settings {
@@ -85,9 +87,9 @@ impl EndState {
                 directory: Directory::new(alloc),
             },
             moment: 0,
-            secret,
             print,
-            keys: Keys::of(&secret, &Context::Startup),
+            keys: Keys::under(&group, &Context::Startup),
+            secret: group,
             sealed: 0,
             startup: Startup::new(alloc, cert, secret, cookie_secret, config.max_peers),
             sessions: SessionTable::new(alloc),

@@ -1,4 +1,5 @@
 pub mod Keeps
 pub mod Kinds
+pub mod StreamKeys
 pub mod DueItems
 pub mod Walks

@@ -117,8 +117,8 @@ fn begin(
 {
     let near = end.free_from(draws.word);
     let n = end.startup.peers().started() + 1;
-    let blanks = blanks(end.alloc, candidates.len())?;
     out.make_room(1 + candidates.len())?;
+    let blanks = blanks(end.alloc, candidates.len())?;
     match end
         .startup
         .begin(epd, candidates, near, draws.nonce, draws.tag, end.moment)

@@ -51,8 +51,8 @@ fn close_held(end: &mut EndState, near: u32, out: &mut Outbox) -> Result<(), All
     ensures ok { OnOk result (Done (closing end.old near) end.new out.old out.new) }
     ensures err { OnErr result (Done (nothing end.old) end.new out.old out.new) }
 {
-    let blank = blank(end.alloc)?;
     out.make_room(2)?;
+    let blank = blank(end.alloc)?;
     end.tell_end(near, Why::Near, out);
     end.begin_closing(near);
     end.send_home(blank, near, &ChunkView::Close, out);

@@ -1,11 +1,15 @@
-//! The context in which a datagram opens.
+//! The context in which a datagram opens, and the keys by which sessions seal.
 
 ghost use Rattle.std.specs.Prelude.{◌≡◌, ◌≤◌, ◌↔◌, IsTrue, Some, length, true};
 ghost use Rattle.end_state.specs.NamedContext.{named_context};
 ghost use Rattle.endpoint_laws.specs.OpensIn.{OpensByTheLog, opens_in};
+ghost use Rattle.std.specs.Prelude.{option_copied};
+ghost use Rattle.std.specs.FinMap.{get};
+ghost use Rattle.endpoint.specs.StreamKeys.{sealer_of, stream_key, stream_key_in};
 
 use crate::endpoint::Endpoint;
-use crypto_profile::Context;
+use crypto_profile::{Context, HmacKey};
+use endpoint_model::Row;
 
 impl Endpoint {
     /// The context of a datagram's session ID at this end, where the datagram opens in it: startup
@@ -37,5 +41,42 @@ impl Endpoint {
             Some(named) => named == *context,
             None => false,
         }
+    }
+
+    /// The key of the keystream of a context under this secret, where a session of this end seals
+    /// in it. It isn't derived.
+    pub fn stream_key(&self, secret: &[u8; 32], context: &Context) -> Option<&HmacKey>
+        ensures { option_copied result ≡ stream_key self.now secret.now context.now }
+    {
+        match self.end.sessions.row(sealer_of(context)) {
+            Some(row) => stream_key_in(row, secret, context),
+            None => None,
+        }
+    }
+}
+
+/// The session ID of the end that seals in a context.
+fn sealer_of(context: &Context) -> u32
+    ensures { result ≡ sealer_of context.now }
+{
+    match context {
+        Context::Startup => 0,
+        Context::Session {
+            sid_i,
+            sid_r,
+            to_responder,
+            ..
+        } => { if *to_responder { *sid_i } else { *sid_r } }
+    }
+}
+
+/// The key of a session's keystream, where it seals in this context under this secret.
+fn stream_key_in<'a>(row: &'a Row, secret: &[u8; 32], context: &Context) -> Option<&'a HmacKey>
+    ensures { option_copied result ≡ stream_key_in secret.now context.now (Some row.now) }
+{
+    if row.session.context(true).is_same(context) && *row.session.secret() == *secret {
+        Some(row.session.stream_key())
+    } else {
+        None
     }
 }

@@ -320,8 +320,8 @@ fn send_acks_once(end: &mut EndState, near: u32, out: &mut Outbox) -> Result<(),
         out.old out.new) }
     ensures err { OnErr result (Done (nothing end.old) end.new out.old out.new) }
 {
-    let blank = blank(end.alloc)?;
     out.make_room(1)?;
+    let blank = blank(end.alloc)?;
     end.send_acks(blank, near, out);
     Ok(())
 }

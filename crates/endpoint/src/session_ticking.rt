@@ -108,8 +108,8 @@ fn send_data(end: &mut EndState, near: u32, out: &mut Outbox) -> Result<(), Allo
     ensures falls { OnOk result
         (IfSome (get end.old.sessions near) (λ row. DataFalls end.old.moment row)) }
 {
-    let blank = blank(end.alloc)?;
     out.make_room(1)?;
+    let blank = blank(end.alloc)?;
     end.send_data(blank, near, out);
     Ok(())
 }
@@ -134,8 +134,8 @@ fn repeat_close(end: &mut EndState, near: u32, out: &mut Outbox) -> Result<(), A
         (get end.old.sessions near)) end.new out.old out.new) }
     ensures err { OnErr result (Done (nothing end.old) end.new out.old out.new) }
 {
-    let blank = blank(end.alloc)?;
     out.make_room(1)?;
+    let blank = blank(end.alloc)?;
     end.note_due(near);
     end.send_home(blank, near, &ChunkView::Close, out);
     Ok(())
@@ -147,8 +147,8 @@ fn keep_alive(end: &mut EndState, near: u32, out: &mut Outbox) -> Result<(), All
         end.new out.old out.new) }
     ensures err { OnErr result (Done (nothing end.old) end.new out.old out.new) }
 {
-    let blank = blank(end.alloc)?;
     out.make_room(1)?;
+    let blank = blank(end.alloc)?;
     end.note_keepalive(near);
     end.send_home(blank, near, &ChunkView::Ping { bytes: &[] }, out);
     Ok(())

@@ -24,7 +24,7 @@ use Rattle.introducer.proofs.FewRows.{few_addresses}
 use Rattle.endpoint_laws.specs.Past.{Stamped, OfEvent, onto, facts_of, past_of, last_moment, begun}
 use Rattle.endpoint_laws.specs.Taken.{was_gone_through, datagram_in}
 use Rattle.endpoint_laws.specs.Complete.{outs_in, outs_of}
-use Rattle.endpoint_laws.specs.Laws.{IsSetup, IsCall, AreCalls, EveryLogIsLawful, TheLedgerIsOfTheLog, UsesAreWithin}
+use Rattle.endpoint_laws.specs.Laws.{IsSetup, IsCall, AreCalls, EveryLogIsLawful, TheLedgerIsOfTheLog, UsesAreWithin, RowsAreWithin}
 use Rattle.endpoint_laws.proofs.Bytes.{of_bytes}
 use Rattle.endpoint_laws.proofs.Lines.{FactPart, OutPart, CountPart, EntriesMeet, EventsMeet, events_lawful}
 use Rattle.endpoint_laws.proofs.Tied.{Tied, fresh_tied}
@@ -299,3 +299,6 @@ ledger_of_log setup log s is calls stands = (tied_to_log setup log s is calls st
 
 pub uses_within : UsesAreWithin
 uses_within setup log s is calls stands = (tied_to_log setup log s is calls stands).within
+
+pub rows_within : RowsAreWithin
+rows_within setup log s is calls stands = (tied_to_log setup log s is calls stands).rows

@@ -2,6 +2,7 @@
 use Rattle.std.specs.Prelude.{ℕ, ◌≡◌, ◌≤◌, ◌<◌, ◌^◌, List, [], ◌∷◌, length, All}
 use Rattle.identity.specs.Certificates.{IsCertificate}
 use Rattle.glare_core.specs.Account.{StandsFor as AccountStandsFor}
+use Rattle.glare_core.specs.Ledger.{row_count}
 use Rattle.endpoint_model.specs.Event.{Setup, Call, Open, Receive, Event}
 use Rattle.endpoint_laws.specs.Past.{facts_of, past_of}
 use Rattle.endpoint_model.specs.State.{State, uses}
@@ -46,3 +47,8 @@ TheLedgerIsOfTheLog = (setup : Setup) (log : List Event) (s : State) → IsSetup
 abbrev pub UsesAreWithin : Type 0
 UsesAreWithin = (setup : Setup) (log : List Event) (s : State) → IsSetup setup → AreCalls log →
     StandsFor setup log s → uses s ≤ setup.config.max_sessions
+
+-- There are never more rows of peers than may be.
+abbrev pub RowsAreWithin : Type 0
+RowsAreWithin = (setup : Setup) (log : List Event) (s : State) → IsSetup setup → AreCalls log →
+    StandsFor setup log s → row_count s.startup.ledger ≤ setup.config.max_peers

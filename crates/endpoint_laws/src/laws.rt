@@ -5,7 +5,7 @@ ghost use Rattle.endpoint_laws.specs.Agreed.{EveryLawfulHistoryIsAgreed, EachEnd
 ghost use Rattle.endpoint_laws.specs.Complete.{AdmissibleKeyingsBear, KeyingsWithoutCauseOpen};
 ghost use Rattle.endpoint_laws.specs.Handed.{EveryMessageIsHandedOver};
 ghost use Rattle.endpoint_laws.specs.Within.{FlowsAreWithin};
-ghost use Rattle.endpoint_laws.specs.Laws.{EveryLogIsLawful, TheLedgerIsOfTheLog, UsesAreWithin};
+ghost use Rattle.endpoint_laws.specs.Laws.{EveryLogIsLawful, TheLedgerIsOfTheLog, UsesAreWithin, RowsAreWithin};
 ghost use Rattle.endpoint_laws.specs.OfTheLog.{TheStateIsOfTheLog};
 
 /// Each log that an end stands for is lawful: each of its entries meets its line of the table.
@@ -28,6 +28,11 @@ pub fn state_of_the_log()
 /// There are never more attempts and sessions than may be.
 pub fn uses_are_within()
     ensures { UsesAreWithin }
+{}
+
+/// There are never more rows of peers than may be.
+pub fn rows_are_within()
+    ensures { RowsAreWithin }
 {}
 
 /// Each history of ends of one group that is lawful, honest and fresh is agreed: at each moment,

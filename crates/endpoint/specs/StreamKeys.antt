@@ -1,0 +1,25 @@
+-- The keys of the keystreams in which an end's sessions seal.
+use Rattle.std.specs.Prelude.{ℕ, true, false, if◌then◌else◌, ◌&&◌, bytes_eq, List, Option, Some, None}
+use Rattle.std.specs.FinMap.{get}
+use Rattle.crypto_profile.specs.declared.keys.Context.{Context}
+use Rattle.crypto_profile.specs.declared.keys.Context.TheVariants.{Startup, Session}
+use Rattle.crypto_profile.specs.Keys.{keys_of, same_context}
+use Rattle.session_core.specs.Session.{context_of}
+use Rattle.endpoint_model.specs.declared.row.Row.{Row}
+use Rattle.endpoint_model.specs.State.{State}
+
+-- the session ID of the end that seals in a context
+abbrev pub sealer_of : Context → ℕ
+sealer_of Startup = 0
+sealer_of (Session ni nr fp_i fp_r sid_i sid_r true) = sid_i
+sealer_of (Session ni nr fp_i fp_r sid_i sid_r false) = sid_r
+
+-- that of a session's keystream, where it seals in this context under this secret
+abbrev pub stream_key_in : List ℕ → Context → Option Row → Option (List ℕ)
+stream_key_in secret context None = None
+stream_key_in secret context (Some row) =
+    if same_context (context_of row.session true) context && bytes_eq row.session.secret secret
+    then Some (keys_of secret context).enc else None
+
+abbrev pub stream_key : State → List ℕ → Context → Option (List ℕ)
+stream_key s secret context = stream_key_in secret context (get s.sessions (sealer_of context))
