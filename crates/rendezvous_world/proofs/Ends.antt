@@ -1,8 +1,10 @@
 -- Ends by their numbers: after one more came, and after one changed its state.
-use Rattle.std.proofs.Common.{◌≡◌, ◌≢◌, ℕ, zero, suc, ◌+◌, ◌-◌, ◌<◌, ◌≤◌, ◌==◌, List, [], ◌∷◌, ◌++◌, length, slice_get, Bool, true, false, if◌then◌else◌, Option, Some, inl, inr, ◌⊎◌, refl, sym, ap, ◌∙◌, arith}
+use Rattle.std.proofs.Common.{◌≡◌, ◌≢◌, ℕ, zero, suc, ◌+◌, ◌-◌, ◌<◌, ◌≤◌, ◌==◌, List, [], ◌∷◌, ◌++◌, map, length, slice_get, slice_index_or, Bool, true, false, if◌then◌else◌, Option, Some, None, inl, inr, ◌⊎◌, refl, sym, ap, ◌∙◌, arith}
 use Rattle.std.proofs.lemmas.Bool.Decides.{nat_tests}
 use Rattle.endpoint_model.specs.State.{State}
-use Rattle.rendezvous_world.specs.Seen.{EndSeen, setup_at}
+use Rattle.rendezvous_world.specs.declared.end.End.{End}
+use Rattle.rendezvous_world.specs.Seen.{EndSeen, setup_at, state_at}
+use Rattle.rendezvous_world.specs.Inside.{end_seen}
 use Rattle.rendezvous_world.specs.Stepping.{in_state, with_state}
 use Rattle.rendezvous_world.specs.Kept.{AreApart}
 
@@ -48,6 +50,16 @@ pub below_length : (ends : List EndSeen) (who : ℕ) (end : EndSeen) → slice_g
 below_length [] who end e = absurd (cc)
 below_length (x ∷ ends) zero end e = omega arith
 below_length (x ∷ ends) (suc who) end e = let rest : who < length ends = below_length ends who end e in omega arith
+
+pub state_there : (ends : List End) (who : ℕ) (d : End) → who < length ends → state_at (map end_seen ends) who ≡ Some (slice_index_or ends who d).endpoint
+state_there [] who d below = absurd (omega arith)
+state_there (x ∷ ends) zero d below = refl
+state_there (x ∷ ends) (suc who) d below = state_there ends who d (omega arith)
+
+pub no_state : (ends : List End) (who : ℕ) → length ends ≤ who → state_at (map end_seen ends) who ≡ None
+no_state [] who e = refl
+no_state (x ∷ ends) zero e = absurd (omega arith)
+no_state (x ∷ ends) (suc who) e = no_state ends who (omega arith)
 
 -- ---- one changed its state
 

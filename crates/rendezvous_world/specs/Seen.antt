@@ -1,6 +1,6 @@
 -- What a world is: its moment, its ends by their numbers, and the lines of its journal, the oldest
 -- first.
-use Rattle.std.specs.Prelude.{ℕ, false, zero, suc, List, [], ◌∷◌, replicate, refl}
+use Rattle.std.specs.Prelude.{ℕ, false, zero, suc, List, [], ◌∷◌, replicate, Option, Some, None, refl}
 use Rattle.std.specs.Coded.{Coded, code_by, coded×, coded_ℕ, coded_list}
 use Rattle.endpoint_model.specs.declared.config.Config.{Config}
 use Rattle.endpoint_model.specs.Event.{Setup, own_of}
@@ -41,6 +41,12 @@ setup_at (end ∷ ends) (suc who) = setup_at ends who
 -- the fingerprint of the end with this number
 abbrev pub print_at : List EndSeen → ℕ → List ℕ
 print_at ends who = own_of (setup_at ends who)
+
+-- what the end with this number keeps
+abbrev pub state_at : List EndSeen → ℕ → Option State
+state_at [] who = None
+state_at (end ∷ ends) zero = Some end.state
+state_at (end ∷ ends) (suc who) = state_at ends who
 
 -- ---- how a world is stored: as the tuples of its fields
 

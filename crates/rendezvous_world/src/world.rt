@@ -1,9 +1,14 @@
 //! The world: its ends, its moment and its journal.
 
+ghost use Rattle.std.specs.Prelude.{◌≡◌, map, option_copied};
+ghost use Rattle.rendezvous_world.specs.Inside.{end_seen};
+ghost use Rattle.rendezvous_world.specs.Seen.{state_at};
+
 use crate::end::End;
 use crate::journal::Journal;
 use crate::keyed::Keyed;
 use crate::step::{Step, StepFault};
+use endpoint::Endpoint;
 use rtmfp_forms::Address;
 use rtmfp_text::Directory;
 use std::alloc::Global;
@@ -52,7 +57,7 @@ impl Model for World {
 }
 
 impl World {
-    ghost use Rattle.std.specs.Prelude.{◌≡◌, ◌⊎◌, ◌<◌, ◌^◌, ◌-◌, [], IfErr, IfNone, IfSome, IsSome, OnErr, OnOk, length, map, min, Err};
+    ghost use Rattle.std.specs.Prelude.{◌≡◌, ◌⊎◌, ◌<◌, ◌^◌, ◌-◌, [], IfErr, IfNone, IfSome, IsSome, OnErr, OnOk, length, map, min, option_copied, Err};
     ghost use Rattle.rendezvous_world.specs.Datagrams.{nth};
     ghost use Rattle.rendezvous_world.specs.Entering.{IsDone};
     ghost use Rattle.rendezvous_world.specs.Faults.{step_fault};
@@ -60,7 +65,7 @@ impl World {
     ghost use Rattle.rendezvous_world.specs.Handing.{MessagesGoOver};
     ghost use Rattle.rendezvous_world.specs.History.{history_of};
     ghost use Rattle.rendezvous_world.specs.Inside.{named_of, passing};
-    ghost use Rattle.rendezvous_world.specs.Seen.{setup_at};
+    ghost use Rattle.rendezvous_world.specs.Seen.{setup_at, state_at};
     ghost use Rattle.rendezvous_world.specs.Sent.{sent_in};
     ghost use Rattle.rendezvous_world.specs.Sound.{AreBelow, IsSound};
     ghost use Rattle.rendezvous_world.specs.Stepping.{Noted, Stepped, StoppedIn};
@@ -179,6 +184,13 @@ impl World {
         &self.named
     }
 
+    /// The end with this number.
+    pub fn endpoint(&self, end: usize) -> Option<&Endpoint>
+        ensures { option_copied result ≡ state_at self.now.ends end }
+    {
+        endpoint_at(&self.ends, end)
+    }
+
     /// How many datagrams were sent; where there are more than 2^64 - 1, that number.
     pub fn sent_count(&self) -> u64
         ensures { result ≡ min (length (sent_in self.now.lines)) (2 ^ 64 - 1) }
@@ -203,4 +215,14 @@ impl World {
     {
         self.moment
     }
+}
+
+/// The end with this number among ends.
+fn endpoint_at(ends: &[End], end: usize) -> Option<&Endpoint>
+    ensures { option_copied result ≡ state_at (map end_seen ends.now) end }
+{
+    if end >= ends.len() {
+        return None;
+    }
+    Some(&ends[end].endpoint)
 }

@@ -77,6 +77,7 @@ fn take_step(
     let sent = sent_so_far(world)?;
     match world.step(number, step) {
         Ok(()) => {
+            learn_line(keys, world, lines);
             push_line(
                 keys,
                 world.named(),
@@ -93,6 +94,18 @@ fn take_step(
         Err(StepFault::BadStep) => Ok(Said::Bad),
         Err(StepFault::Forged) => Ok(Said::Forged),
         Err(StepFault::Memory) => Err(AllocError),
+    }
+}
+
+/// Keeps the keys of the sessions that sent in the line of the journal with this index, as their
+/// end has them.
+fn learn_line(keys: &mut GroupKeys, world: &World, at: usize)
+    ensures { keys.new ≡ keys.old }
+{
+    if let Some(line) = world.journal().lines().get(at) {
+        if let Some(end) = world.endpoint(line.end()) {
+            keys.learn_from(line.out().entries(), end);
+        }
     }
 }
 

@@ -3,7 +3,7 @@ ghost use Rattle.std.specs.Prelude.{◌≡◌, List, ℕ, true};
 ghost use Rattle.rtmfp_report.specs.KeptKeys.{AreUnder};
 
 use crypto_profile::{Context, HmacKey, decipher_in_place, stream_key};
-use endpoint::Entry;
+use endpoint::{Endpoint, Entry};
 use std::alloc::Global;
 use std::marker::Model;
 
@@ -85,6 +85,32 @@ impl GroupKeys {
         }
     }
 
+    /// Keeps the keys of the sessions that sent these entries, as far as this end has them and
+    /// memory is found. They aren't derived, which spares most of the time that `push_entries`
+    /// would take for them.
+    pub fn learn_from(&mut self, entries: &[Entry], end: &Endpoint)
+        ensures { self.new ≡ self.old }
+    {
+        for entry in entries {
+            if let Entry::Out { context, .. } = entry {
+                self.keep_of(context, end);
+            }
+        }
+    }
+
+    /// Keeps the key of a context, where this end has it.
+    fn keep_of(&mut self, context: &Context, end: &Endpoint)
+        ensures { self.new ≡ self.old }
+    {
+        let Some(slot) = slot_of(context) else {
+            return;
+        };
+        if self.kept.is_empty() {
+            self.kept = empty_slots(self.alloc);
+        }
+        keep_found(&mut self.kept, slot, &self.secret, context, end);
+    }
+
     /// Keeps the key of a context.
     fn keep(&mut self, context: &Context)
         ensures { self.new ≡ self.old }
@@ -160,6 +186,28 @@ fn keep_in(kept: &mut [Option<KeptKey>], slot: usize, secret: &HmacKey, context:
         context: *context,
         key: stream_key(secret, context),
     });
+}
+
+/// Keeps the key of a context in this slot, if there is one and this end has the key.
+fn keep_found(
+    kept: &mut [Option<KeptKey>],
+    slot: usize,
+    secret: &HmacKey,
+    context: &Context,
+    end: &Endpoint,
+)
+    requires { AreUnder secret.now kept.old }
+    ensures { AreUnder secret.now kept.new }
+{
+    if slot >= kept.len() || is_kept(&kept[slot], context) {
+        return;
+    }
+    if let Some(key) = end.stream_key(secret.bytes(), context) {
+        kept[slot] = Some(KeptKey {
+            context: *context,
+            key: key.copy(),
+        });
+    }
 }
 
 /// Whether the key of this context is kept here.
