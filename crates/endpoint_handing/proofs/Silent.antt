@@ -35,10 +35,6 @@ abbrev pub AreSilent : List Entry → Type 0
 AreSilent [] = Unit {0}
 AreSilent (entry ∷ rest) = IsSilent entry × AreSilent rest
 
-pub silent_append : (xs ys : List Entry) → AreSilent xs → AreSilent ys → AreSilent (xs ++ ys)
-silent_append [] ys p q = q
-silent_append (x ∷ xs) ys p q = (p.0, silent_append xs ys p.1 q)
-
 told_silent : (own : List ℕ) (entries : List Entry) (facts : List Fact) (before : List Tell) →
     AreSilent entries → told_onto own facts entries before ≡ before
 told_silent own [] facts before are = refl

@@ -9,9 +9,6 @@ module _ {V : Type 0} (test : V → Bool) where
   abbrev one_where : V → ℕ
   one_where v = cond (test v) 1 0
 
-  pub count_new : (m : FinMap nat_cmp V) (k : ℕ) (v : V) → get m k ≡ None → count_where test (insert m k v) ≡ count_where test m + cond (test v) 1 0
-  count_new m k v none = sum_new one_where m k v none
-
   -- a value that passes is taken away
   pub count_removed : (m : FinMap nat_cmp V) (k : ℕ) (v : V) → get m k ≡ Some v → test v ≡ true → count_where test (remove m k) + 1 ≡ count_where test m
   count_removed m k v there good = ap (λ b. count_where test (remove m k) + cond b 1 0) (sym good) ∙ sum_removed one_where m k v there

@@ -48,10 +48,6 @@ write_then Failed a b c xs ys first writes =
 pub whole_part : (a b : Option (List ℕ)) (xs : List ℕ) → Appends a b xs → (k : ℕ) × Appends a b (take k xs)
 whole_part a b xs first = let P : List ℕ → Type 0 = λ zs. Appends a b zs in (length xs, subst P (sym (take-length xs)) first)
 
--- a count from an equal one on
-pub counts_from : (r : Wrote) (a b c : ℕ) → b ≡ a → CountsWrote r b c → CountsWrote r a c
-counts_from r a b c same counts = let P : ℕ → Type 0 = λ n. CountsWrote r n c in subst P same counts
-
 -- ---- lines
 
 pub record Written (prefix text rest : List ℕ) (before after : SinkSeen) : Type 0 where
@@ -59,9 +55,6 @@ pub record Written (prefix text rest : List ℕ) (before after : SinkSeen) : Typ
   pub split : lines_of text ≡ done ++ lines_of rest
   pub written : Appends before.written after.written (behind prefix done)
   pub faults : after.faults ≡ before.faults
-
-pub written_none : (prefix text : List ℕ) (sink : SinkSeen) → Written prefix text text sink sink
-written_none prefix text sink = record { done = []; split = refl; written = appends_none sink.written; faults = refl }
 
 behind-append : (prefix : List ℕ) (xs ys : List (List ℕ)) → behind prefix (xs ++ ys) ≡ behind prefix xs ++ behind prefix ys
 behind-append prefix [] ys = refl
@@ -98,13 +91,6 @@ written_part prefix text rest line later before mid after so splits wrote =
     ∙ ap (λ ls. behind prefix so.done ++ behind prefix ls) splits.lines in
     subst P (sym bytes) (write_then Failed before.written mid.written after.written (behind prefix so.done) (piece ++ behind prefix (lines_of later)) so.written
     (cut_there mid.written after.written piece (behind prefix (lines_of later)) wrote))
-
--- all lines
-pub written_all : (prefix text rest : List ℕ) (before after : SinkSeen) → Written prefix text rest before after → rest ≡ [] → Appends before.written after.written (behind prefix (lines_of text))
-written_all prefix text rest before after so none =
-    let P : List ℕ → Type 0 = λ zs. Appends before.written after.written zs in
-    let all : lines_of text ≡ so.done = so.split ∙ ap (λ zs. so.done ++ lines_of zs) none ∙ append-nil so.done in
-    subst P (ap (behind prefix) (sym all)) so.written
 
 -- all lines were written, and were passed on or not
 pub handed : (r : Wrote) (node : Node) (text prefix : List ℕ) (before mid after : SinkSeen) → prefix ≡ prefix_of node → Appends before.written mid.written (behind prefix (lines_of text)) → mid.faults ≡ before.faults →

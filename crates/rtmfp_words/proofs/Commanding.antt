@@ -232,10 +232,3 @@ serve_refused_only words result fault is other begins only =
           inr (ap Err same)
     ]
     ) (λ m says. absurd (meets_no_serve (one_first words (codes "meet") (codes "serve") (meet_first words m.port m.turns says) begins)))
-
--- words of a node are none of a command over lines
-pub names_no_lines : (words : List (String Global)) (command : Command) → NamesNode words → Reads words (Some command) → ⊥
-names_no_lines words command names reads = elim names [
-  | inl serve ↦ reads_no_serve words command reads serve
-  | inr meet ↦ reads_no_meet words command reads meet
-]

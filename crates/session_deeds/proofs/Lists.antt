@@ -129,13 +129,6 @@ module _ (P : TakingFlow → Type 0) where
   each_in id t (x ∷ later) e h =
       in_by id x t later (x.id == id) h.0 (λ k. each_in id t later k h.1) e
 
-  each_by : (f : TakingFlow → TakingFlow) (id : ℕ) (x : TakingFlow) (later : List TakingFlow)
-      (b : Bool) → (b ≡ true → P (f x)) → P x → AllByRecursion P later →
-      AllByRecursion P (changed f id later) →
-      AllByRecursion P (cond b (f x ∷ later) (x ∷ changed f id later))
-  each_by f id x later true q p h ih = (q refl, h)
-  each_by f id x later false q p h ih = (p, ih)
-
   there_by : (f : TakingFlow → TakingFlow) (id : ℕ) (x t : TakingFlow) (later : List TakingFlow)
       (b : Bool) → P (f t) → cond b (Some x) (in_taking id later) ≡ Some t → b ≡ true → P (f x)
   there_by f id x t later true q h e = subst (λ (u : TakingFlow). P (f u)) (sym (is_some h)) q
