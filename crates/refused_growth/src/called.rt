@@ -1,0 +1,172 @@
+//! A call of an end, which may be made again.
+
+ghost use Rattle.std.specs.Prelude.{◌≤◌, length};
+
+use endpoint::{CallRefusal, Draws, Endpoint, MessageOptions, OpenRefusal, Outbox, RowRefusal};
+use identity::Epd;
+use rtmfp_base::Message;
+use rtmfp_forms::Address;
+use rtmfp_script::ScriptLine;
+
+/// The longest datagram that an end is given.
+const LONGEST: usize = 2048;
+
+/// What is done with an end.
+#[derive(Drop)]
+pub(crate) enum Deed {
+    /// A step of a script that brings no datagram and no message, with the fingerprint of the peer
+    /// that it names, where it does.
+    Step {
+        step: ScriptLine,
+        peer: [u8; 32],
+    },
+    /// A message is queued.
+    Queue {
+        near: u32,
+        flow: u64,
+        options: MessageOptions,
+        message: Message,
+    },
+    /// A datagram reaches it.
+    Take {
+        from: Address,
+        datagram: Message,
+    },
+    Tick,
+}
+
+/// How a call ended.
+#[derive(Clone, Copy, PartialEq, Eq)]
+pub(crate) enum Called {
+    /// It was done, or refused for another reason than want of memory.
+    Done,
+    Wanting,
+    /// A datagram found no memory, and counts as taken or doesn't.
+    Stopped(bool),
+}
+
+fn of_refusal(refusal: CallRefusal) -> Called {
+    match refusal {
+        CallRefusal::Memory => Called::Wanting,
+        _ => Called::Done,
+    }
+}
+
+/// How a call on sessions and flows ended.
+fn of_call<T: Drop>(answer: Result<T, CallRefusal>) -> Called {
+    match answer {
+        Ok(_) => Called::Done,
+        Err(refusal) => of_refusal(refusal),
+    }
+}
+
+fn opens(
+    end: &mut Endpoint,
+    peer: [u8; 32],
+    candidates: &[Address],
+    moment: u64,
+    draws: &Draws,
+    out: &mut Outbox,
+) -> Called {
+    match end.open(&Epd { print: peer }, candidates, moment, draws, out) {
+        Err(OpenRefusal::Memory) => Called::Wanting,
+        _ => Called::Done,
+    }
+}
+
+fn adds_row(end: &mut Endpoint, peer: [u8; 32], addresses: &[Address]) -> Called {
+    match end.add_row(peer, addresses) {
+        Err(RowRefusal::Memory) => Called::Wanting,
+        _ => Called::Done,
+    }
+}
+
+/// Gives an end a copy of a datagram. One that is too long isn't given.
+fn takes(
+    end: &mut Endpoint,
+    from: &Address,
+    datagram: &[u8],
+    moment: u64,
+    draws: &Draws,
+    out: &mut Outbox,
+) -> Called {
+    let mut room = [0; LONGEST];
+    if datagram.len() > LONGEST {
+        return Called::Done;
+    }
+    let (bytes, _) = room.split_at_mut(datagram.len());
+    bytes.copy_from_slice(datagram);
+    match end.receive(*from, moment, bytes, draws, out) {
+        Ok(()) => Called::Done,
+        Err(stopped) => Called::Stopped(stopped.taken),
+    }
+}
+
+/// Does a step on sessions and flows.
+fn calls(end: &mut Endpoint, step: &ScriptLine, moment: u64, out: &mut Outbox) -> Called {
+    match step {
+        ScriptLine::Cancel { number, .. } => of_call(end.cancel(*number, out)),
+        ScriptLine::Close { near, .. } => of_call(end.close(*near, moment, out)),
+        ScriptLine::Flow {
+            near,
+            priority,
+            metadata,
+            answers,
+            ..
+        } => of_call(end.open_flow(*near, *priority, metadata.bytes(), *answers, out)),
+        ScriptLine::Abandon {
+            near,
+            flow,
+            seq,
+            ..
+        } => of_call(end.abandon(*near, *flow, *seq, out)),
+        ScriptLine::Finish { near, flow, .. } => of_call(end.finish(*near, *flow, out)),
+        _ => Called::Done,
+    }
+}
+
+/// Does a step that brings no datagram.
+fn steps(
+    end: &mut Endpoint,
+    step: &ScriptLine,
+    peer: [u8; 32],
+    moment: u64,
+    draws: &Draws,
+    out: &mut Outbox,
+) -> Called {
+    match step {
+        ScriptLine::Introduce { .. } => {
+            end.introduce();
+            Called::Done
+        }
+        ScriptLine::Redirect { addresses, .. } => adds_row(end, peer, addresses.as_slice()),
+        ScriptLine::Open { candidates, .. } => {
+            opens(end, peer, candidates.as_slice(), moment, draws, out)
+        }
+        other => calls(end, other, moment, out),
+    }
+}
+
+/// Makes a call.
+pub(crate) fn do_deed(
+    end: &mut Endpoint,
+    deed: &Deed,
+    moment: u64,
+    draws: &Draws,
+    out: &mut Outbox,
+) -> Called {
+    match deed {
+        Deed::Step { step, peer } => steps(end, step, *peer, moment, draws, out),
+        Deed::Queue {
+            near,
+            flow,
+            options,
+            message,
+        } => of_call(end.queue(*near, *flow, message.bytes(), *options, out)),
+        Deed::Take { from, datagram } => takes(end, from, datagram.bytes(), moment, draws, out),
+        Deed::Tick => match end.tick(moment, draws, out) {
+            Ok(()) => Called::Done,
+            Err(_) => Called::Wanting,
+        },
+    }
+}
