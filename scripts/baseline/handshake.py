@@ -108,4 +108,5 @@ def main():
         print(sent.hex())
 
 
-main()
+if __name__ == "__main__":
+    main()
