@@ -192,7 +192,7 @@ fn labelled(secret: &HmacKey, startup: &[u8], i: &[u8], r: &[u8], context: &Cont
             mac.update(fp_i);
             mac.update(fp_r);
             mac.update(&sid_i.to_be_bytes());
-            mac.finish_with(&sid_r.to_be_bytes())
+            mac.finish(&sid_r.to_be_bytes())
         }
     }
 }

@@ -12,7 +12,7 @@ const BLOCK_LEN: usize = 64;
 pub fn hmac(key: &[u8], text: &[u8]) -> [u8; 32]
     ensures { result ≡ hmac key.now text.now }
 {
-    RunningHmac::new(key).finish_with(text)
+    RunningHmac::new(key).finish(text)
 }
 
 // A key of at most a block as one block, with zeros after it.
@@ -87,6 +87,16 @@ impl RunningHmac {
             HoldsText key (text ++ piece.now) self.new }
     {
         self.inner.update(piece);
+    }
+
+    // The HMAC of the text and a last piece. No hash state is copied.
+    pub(crate) fn finish(mut self, last: &[u8]) -> [u8; 32]
+        ensures { (key text : List ℕ) → HoldsText key text self →
+            result ≡ hmac key (text ++ last.now) }
+    {
+        self.inner.update(last);
+        self.outer.update(self.inner.finalize());
+        self.outer.finalize()
     }
 
     // The HMAC of the text and a last piece, which is not added.

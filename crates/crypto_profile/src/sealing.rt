@@ -99,7 +99,7 @@ fn tag(keys: &Keys, sid: u32, rest: &[u8]) -> [u8; 16]
 {
     let mut running = keys.tags().begin();
     running.update(&sid.to_be_bytes());
-    let whole = running.finish_with(rest);
+    let whole = running.finish(rest);
     let mut tag = [0u8; 16];
     tag.copy_from_slice(&whole[..TAG_LEN]);
     tag
