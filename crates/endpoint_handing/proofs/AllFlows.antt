@@ -50,7 +50,8 @@ use Rattle.flow_history.proofs.Keeps.{tested}
 use Rattle.session_deeds.specs.Shows.{opened_of, Shows}
 use Rattle.session_deeds.specs.Deeds.{Deed}
 use Rattle.session_deeds.specs.Goes.{IsDoneBy, Goes}
-use Rattle.session_deeds.specs.Pieces.{pieces_in, FitsIn}
+use Rattle.rtmfp_data_chunks.specs.Fitting.{FitsIn}
+use Rattle.session_deeds.specs.Pieces.{pieces_in}
 use Rattle.session_deeds.proofs.Lists.{push_there, push_other}
 use Rattle.session_deeds.proofs.Calls.{opening_goes, queueing_goes, abandoning_goes, finishing_goes}
 use Rattle.session_deeds.proofs.Chunks.{chunk_goes}

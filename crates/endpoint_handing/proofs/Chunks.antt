@@ -62,8 +62,9 @@ use Rattle.endpoint_model.specs.InSessions.{told_in_session}
 use Rattle.flow_history.specs.Deeds.{Context, back, Piece, History}
 use Rattle.flow_history.specs.Lawful.{CameIn}
 use Rattle.endpoint_handing.specs.Told.{sending_context, facts_onto}
-use Rattle.session_deeds.proofs.Fitting.{what_is_read_fits}
-use Rattle.session_deeds.specs.Pieces.{FitsIn, AreSmall, pieces_read, pieces_behind}
+use Rattle.rtmfp_data_chunks.proofs.Fitting.{what_is_read_fits, small_next}
+use Rattle.rtmfp_data_chunks.specs.Fitting.{FitsIn, AreSmall}
+use Rattle.session_deeds.specs.Pieces.{pieces_read, pieces_behind}
 use Rattle.endpoint_handing.proofs.Kept.{End, away, Stands, AreNew, new_split, IsStill, Hands, Does}
 use Rattle.endpoint_handing.proofs.Kept.{hands_after, does_after, does_then, does_nothing}
 use Rattle.endpoint_handing.proofs.Silent.{AreSilent, AllHad, had_it, had_left, does_silent}
@@ -317,14 +318,6 @@ rest_came e (Session near) facts before c cs h d at one all = record {
   named = stays e near facts (facts_onto d.entries facts) at (one.still near) ∙ all.named;
   came = λ x among. one.grows.came e.who (back all.context) x (all.came x (in_second x (pieces_read (data_reading before c.kind c.payload)) (pieces_behind (before_next (data_reading before c.kind c.payload)) cs) among));
 }
-
--- the numbers that the next chunk stands behind are of 64 bits
-small_next : (before : Option Numbers) (kind : ℕ) (payload : List ℕ) → AreSmall before → AreSmall (before_next (data_reading before kind payload))
-small_next before kind payload small = by (data_reading before kind payload) refl
-  where
-    by : (r : Result DataChunk DataFault) → data_reading before kind payload ≡ r → AreSmall (before_next r)
-    by (Ok chunk) is = (what_is_read_fits before kind payload chunk small is).1
-    by (Err fault) is = tt
 
 module _ (e : End) (owed : FlowsHand e) (place : Place) (from : AddressParts) (draws : Draws) (at : BeginsAt e place) where
   pub hands_chunks : (cs : List Placed) (facts : List Fact) (walk : Walk) (s : State) (h : History) → Stands e facts s h → AreSmall walk.cursor → AllCameAt e place facts walk.cursor cs h → AreNew e facts (chunks_did place from draws walk s cs).entries →

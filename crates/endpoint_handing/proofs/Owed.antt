@@ -16,7 +16,8 @@ use Rattle.endpoint_model.specs.FlowChunks.{taking_cause, flow_taken_by, acked_b
 use Rattle.endpoint_model.specs.FlowTimes.{late_at, data_sent}
 use Rattle.flow_history.specs.Deeds.{back, name, Piece, History}
 use Rattle.flow_history.specs.Lawful.{CameIn}
-use Rattle.session_deeds.specs.Pieces.{pieces_in, FitsIn}
+use Rattle.rtmfp_data_chunks.specs.Fitting.{FitsIn}
+use Rattle.session_deeds.specs.Pieces.{pieces_in}
 use Rattle.endpoint_handing.proofs.Kept.{End, away, Stands, Hands, Does}
 
 -- A flow that is opened has the order that is asked of it.

@@ -12,3 +12,4 @@ pub mod PairsTold
 pub mod Ahead
 pub mod Keys
 pub mod Filtering
+pub mod Fitting

@@ -11,3 +11,4 @@ pub mod Reader
 pub mod Writing
 pub mod AckedLeft
 pub mod FlowOptions
+pub mod Fitting

@@ -29,7 +29,8 @@ use Rattle.session_flows.proofs.Hearing.{room_for}
 use Rattle.session_deeds.specs.Deeds.{Makes, Takes, Hands, taken_by, handed_by, as_handed}
 use Rattle.session_deeds.specs.Shows.{receiver_of, AreNarrow, IsTellable}
 use Rattle.session_deeds.specs.Goes.{Goes}
-use Rattle.session_deeds.specs.Pieces.{carried_of, IsReadable}
+use Rattle.rtmfp_data_chunks.specs.Fitting.{IsReadable}
+use Rattle.session_deeds.specs.Pieces.{carried_of}
 use Rattle.session_deeds.specs.Laws.{DataGoes, HandingGoes, HandingOneGoes}
 use Rattle.session_deeds.proofs.Chains.{none_goes, one_goes, then_goes}
 use Rattle.session_deeds.proofs.Lists.{each_in, added_there}

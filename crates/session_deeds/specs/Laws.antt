@@ -7,6 +7,7 @@ use Rattle.rtmfp_packet.specs.Walk.{all_placed_from, visible}
 use Rattle.rtmfp_packet.specs.Whole.{Whole}
 use Rattle.rtmfp_data_chunks.specs.declared.user_data.Numbers.{Numbers}
 use Rattle.rtmfp_data_chunks.specs.Chunk.{UserParts, DataChunk}
+use Rattle.rtmfp_data_chunks.specs.Fitting.{IsReadable, FitsIn, AreSmall}
 use Rattle.rtmfp_data_chunks.specs.HandsOver.{IsIn}
 use Rattle.rtmfp_data_chunks.specs.Reader.{data_reading}
 use Rattle.rtmfp_data_chunks.specs.Spelling.{before_next}
@@ -27,8 +28,7 @@ use Rattle.session_flows.specs.Packing.{filled}
 use Rattle.session_flows.specs.Timing.{after_late, overdue_done, overdue_in}
 use Rattle.session_deeds.specs.Deeds.{Deed, none_yet}
 use Rattle.session_deeds.specs.Goes.{IsDoneBy, Goes, AllSaid}
-use Rattle.session_deeds.specs.Pieces.{carried_of, pieces_in, pieces_of, IsPutBehind, IsReadable}
-use Rattle.session_deeds.specs.Pieces.{FitsIn, AreSmall}
+use Rattle.session_deeds.specs.Pieces.{carried_of, pieces_in, pieces_of, IsPutBehind}
 use Rattle.session_deeds.specs.Shows.{Shows}
 
 -- ---- calls

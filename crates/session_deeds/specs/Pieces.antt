@@ -1,5 +1,5 @@
 -- What the chunks of a packet have for flows.
-use Rattle.std.specs.Prelude.{ℕ, ◌≡◌, ◌++◌, ◌^◌, ◌<◌, ◌≤◌, List, [], ◌∷◌, Option, Some}
+use Rattle.std.specs.Prelude.{ℕ, ◌≡◌, ◌++◌, List, [], ◌∷◌, Option}
 use Rattle.std.specs.Prelude.{None, Result, Ok, Err}
 use Rattle.std.specs.List.{AllByRecursion, flat_map}
 use Rattle.std.specs.Option.{option_map}
@@ -11,7 +11,7 @@ use Rattle.rtmfp_data_chunks.specs.Chunk.{UserParts, DataChunk, Data, Next, AckB
 use Rattle.rtmfp_data_chunks.specs.Chunk.{Probe, Exception}
 use Rattle.rtmfp_data_chunks.specs.Acked.{acked}
 use Rattle.rtmfp_data_chunks.specs.Reader.{data_reading}
-use Rattle.rtmfp_data_chunks.specs.Spelling.{IsBehind, before_next}
+use Rattle.rtmfp_data_chunks.specs.Spelling.{before_next}
 use Rattle.flow_send.specs.Acks.{told}
 use Rattle.flow_history.specs.Flow.{Carried}
 use Rattle.flow_history.specs.Deeds.{Piece, Data as DataOf, Ack as AckOf}
@@ -49,25 +49,6 @@ pieces_behind before (c ∷ later) = pieces_read (data_reading before c.kind c.p
 
 abbrev pub pieces_of : List Placed → List Piece
 pieces_of chunks = pieces_behind None chunks
-
--- ---- numbers of 64 bits
-
--- of a user data chunk
-pub record IsReadable (user : UserParts) : Type 0 where
-  pub flow : user.flow < 2 ^ 64
-  pub seq : user.seq < 2 ^ 64
-  pub behind : IsBehind user.forward user.seq user.abandon
-
-abbrev pub FitsIn : DataChunk → Type 0
-FitsIn (Data user) = IsReadable user
-FitsIn (Next user) = IsReadable user
-FitsIn chunk = Unit {0}
-
--- the numbers of the chunk before
-abbrev pub AreSmall : Option Numbers → Type 0
-AreSmall None = Unit {0}
-AreSmall (Some before) = (before.flow < 2 ^ 64) × (before.seq < 2 ^ 64)
-    × (before.forward ≤ before.seq)
 
 -- ---- packets
 

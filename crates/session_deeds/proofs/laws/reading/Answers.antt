@@ -1,4 +1,5 @@
-use Rattle.session_deeds.proofs.Fitting.{what_is_put_is_read, what_is_read_fits}
+use Rattle.rtmfp_data_chunks.proofs.Fitting.{what_is_read_fits}
+use Rattle.session_deeds.proofs.Fitting.{what_is_put_is_read}
 use Rattle.session_deeds.proofs.laws.reading.Goals as goal
 
 pub returns-clause-packet : goal.returns-clause-packet
