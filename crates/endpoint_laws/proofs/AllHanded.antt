@@ -171,7 +171,7 @@ none_is_kept : IsKept NoneReady
 none_is_kept = record {
   none = λ q. refl;
   called = λ f c may none. same_ready f (flow_did f c).flows (queued_same f c) none;
-  chunk = λ session f c may none. chunk_ready f c none;
+  chunk = λ session f c fits may none. chunk_ready f c none;
   acked = λ f packet none q. acks_same f.taking packet q ∙ none q;
   unowed = λ f none q. paid_same f.taking q ∙ none q;
   late = λ session f moment none. same_ready f (after_late session f moment) (late_same (is_held session.stage) f _) none;

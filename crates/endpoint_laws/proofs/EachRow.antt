@@ -16,7 +16,9 @@ use Rattle.rtmfp_chunks.specs.Chunk.{Chunk, Ping, RHello, Redirect, CookieChange
 use Rattle.rtmfp_chunks.specs.Writing.{chunk_bytes}
 use Rattle.rtmfp_data_chunks.specs.declared.view.DataFault.{DataFault}
 use Rattle.rtmfp_data_chunks.specs.Chunk.{DataChunk}
+use Rattle.rtmfp_data_chunks.specs.Fitting.{FitsIn, AreSmall}
 use Rattle.rtmfp_data_chunks.specs.Reader.{data_reading}
+use Rattle.rtmfp_data_chunks.proofs.Fitting.{what_is_read_fits, small_next}
 use Rattle.mobility.specs.declared.pending.Test.{Test}
 use Rattle.mobility.specs.Tests.{asks, after_seen, after_reply, address_for}
 use Rattle.glare_core.specs.declared.facts.Fact.{Fact}
@@ -80,7 +82,7 @@ module _ (P : FlowsState → Type 0) where
   pub record IsKept : Type 0 where
     pub none : P no_flows
     pub called : (f : FlowsState) (c : FlowCall) → flow_refusal f c ≡ None → P f → P (flow_did f c).flows
-    pub chunk : (session : SessionState) (f : FlowsState) (c : DataChunk) → flows_cause session f c ≡ None → P f → P (chunk_done f c).flows
+    pub chunk : (session : SessionState) (f : FlowsState) (c : DataChunk) → FitsIn c → flows_cause session f c ≡ None → P f → P (chunk_done f c).flows
     pub acked : (f : FlowsState) (packet : List ℕ) → P f → P (after_acks f packet)
     pub unowed : (f : FlowsState) → P f → P (owing_none f)
     pub late : (session : SessionState) (f : FlowsState) (moment : ℕ) → P f → P (after_late session f moment)
@@ -302,13 +304,13 @@ module _ (P : FlowsState → Type 0) where
     none_told None e = refl
     none_told (Some cause) e = absurd (cc)
 
-    keeps_flow_taken : (s : State) (near : ℕ) (read : Result DataChunk DataFault) → flow_cause (get s.sessions near) read ≡ None → Keeps s (flow_taken s near read)
-    keeps_flow_taken s near (Err fault) none = keeps_nothing s
-    keeps_flow_taken s near (Ok chunk) none = by (get s.sessions near) refl none
+    keeps_flow_taken : (s : State) (near : ℕ) (read : Result DataChunk DataFault) → ((chunk : DataChunk) → read ≡ Ok chunk → FitsIn chunk) → flow_cause (get s.sessions near) read ≡ None → Keeps s (flow_taken s near read)
+    keeps_flow_taken s near (Err fault) fits none = keeps_nothing s
+    keeps_flow_taken s near (Ok chunk) fits none = by (get s.sessions near) refl none
       where
         by : (o : Option Row) → get s.sessions near ≡ o → taking_cause o chunk ≡ None → Keeps s (flow_taken_by s near chunk o)
         by None is none = λ each. each
-        by (Some row) is none = λ each. put s.sessions near _ (kept.chunk row.session row.flows chunk (none_told _ none) (each near row is)) each
+        by (Some row) is none = λ each. put s.sessions near _ (kept.chunk row.session row.flows chunk (fits chunk refl) (none_told _ none) (each near row is)) each
 
     keeps_acked_by : (s : State) (near : ℕ) (o : Option Row) → get s.sessions near ≡ o → Keeps s (acked_by s near o)
     keeps_acked_by s near None is = keeps_nothing s
@@ -452,39 +454,41 @@ module _ (P : FlowsState → Type 0) where
         by (Err cause) = each
         by (Ok found) = packed _ found.0 (packet_in found.1) (keeps_counted s found.0 _ each)
 
-    keeps_chunk : (place : Place) (from : AddressParts) (draws : Draws) (walk : Walk) (s : State) (c : Placed) → Keeps s (chunk_did place from draws walk s c)
-    keeps_chunk place from draws walk s c = by_cause (chunk_cause s place walk from c) refl
+    keeps_chunk : (place : Place) (from : AddressParts) (draws : Draws) (walk : Walk) (s : State) (c : Placed) → AreSmall walk.cursor → Keeps s (chunk_did place from draws walk s c)
+    keeps_chunk place from draws walk s c small = by_cause (chunk_cause s place walk from c) refl
       where
-        by_kind : (a b t f : Bool) (payload : List ℕ) (read : Result Chunk ChunkFault) (data_read : Result DataChunk DataFault) →
+        by_kind : (a b t f : Bool) (payload : List ℕ) (read : Result Chunk ChunkFault) (data_read : Result DataChunk DataFault) → ((chunk : DataChunk) → data_read ≡ Ok chunk → FitsIn chunk) →
             (if a then initiator_keying_cause s walk from payload else (if b then responder_keying_cause s (sid_at place) payload
             else (if f then flow_cause (get s.sessions (sid_at place)) data_read else first_that_stands (where_true (not (has_state_for s place c.kind)) WrongState ∷ read_cause s place from read ∷ [])))) ≡ None →
             Keeps s
             (if a then initiator_keyed s from draws payload else (if b then responder_keyed s (sid_at place) from payload
             else (if t then told_in_session s (sid_at place) from c else (if f then flow_taken s (sid_at place) data_read else read_done s place from read))))
-        by_kind true b t f payload read data_read none = keeps_initiator s from draws payload
-        by_kind false true t f payload read data_read none = keeps_opened s (sid_at place) from (opened s.startup (sid_at place) payload)
-        by_kind false false true f payload read data_read none = keeps_told s (sid_at place) from c
-        by_kind false false false true payload read data_read none = keeps_flow_taken s (sid_at place) data_read none
-        by_kind false false false false payload read data_read none = keeps_read s place from read
+        by_kind true b t f payload read data_read fits none = keeps_initiator s from draws payload
+        by_kind false true t f payload read data_read fits none = keeps_opened s (sid_at place) from (opened s.startup (sid_at place) payload)
+        by_kind false false true f payload read data_read fits none = keeps_told s (sid_at place) from c
+        by_kind false false false true payload read data_read fits none = keeps_flow_taken s (sid_at place) data_read fits none
+        by_kind false false false false payload read data_read fits none = keeps_read s place from read
 
         by_cause : (o : Option Cause) → chunk_cause s place walk from c ≡ o → Keeps s (discarded_or s c.at o (effect s place walk from draws c))
         by_cause (Some cause) e = λ each. each
         by_cause None e =
             let all = all_none (causes s place walk from c) e in
-            by_kind (c.kind == 0x38) (c.kind == 0x78) (is_told_in_session c.kind) (is_of_flows c.kind) c.payload (chunk_reading c.kind c.payload) (data_reading walk.cursor c.kind c.payload) all.1.1.1.1.0
+            by_kind (c.kind == 0x38) (c.kind == 0x78) (is_told_in_session c.kind) (is_of_flows c.kind) c.payload (chunk_reading c.kind c.payload) (data_reading walk.cursor c.kind c.payload) (λ chunk is. (what_is_read_fits walk.cursor c.kind c.payload chunk small is).0)
+            all.1.1.1.1.0
 
-    keeps_chunks : (place : Place) (from : AddressParts) (draws : Draws) (walk : Walk) (s : State) (cs : List Placed) → Keeps s (chunks_did place from draws walk s cs)
-    keeps_chunks place from draws walk s [] = keeps_nothing s
-    keeps_chunks place from draws walk s (c ∷ cs) =
+    keeps_chunks : (place : Place) (from : AddressParts) (draws : Draws) (walk : Walk) (s : State) (cs : List Placed) → AreSmall walk.cursor → Keeps s (chunks_did place from draws walk s cs)
+    keeps_chunks place from draws walk s [] small = keeps_nothing s
+    keeps_chunks place from draws walk s (c ∷ cs) small =
         let d : Did = chunk_did place from draws walk s c in
-        keeps_then s d (λ t. chunks_did place from draws (walked walk c) t cs) (keeps_chunk place from draws walk s c) (keeps_chunks place from draws (walked walk c) d.state cs)
+        keeps_then s d (λ t. chunks_did place from draws (walked walk c) t cs) (keeps_chunk place from draws walk s c small)
+        (keeps_chunks place from draws (walked walk c) d.state cs (small_next walk.cursor c.kind c.payload small))
 
     keeps_through : (from : AddressParts) (draws : Draws) (s : State) (place : Place) (cs : List Placed) (count : ℕ) → Keeps s (gone_through_and_acked from draws s place cs count)
     keeps_through from draws s place cs count =
         let first : Did = confirming s place in
         let went : Did = gone_through from draws s place cs in
         keeps_then s went (λ t. acked count t place)
-        (keeps_then s first (λ t. chunks_did place from draws outset t cs) (keeps_confirming s place) (keeps_chunks place from draws outset first.state cs)) (keeps_acked count went.state place)
+        (keeps_then s first (λ t. chunks_did place from draws outset t cs) (keeps_confirming s place) (keeps_chunks place from draws outset first.state cs tt)) (keeps_acked count went.state place)
 
     keeps_received : (from : AddressParts) (draws : Draws) (a : Admission) → Each (left_by a) → Each (received from draws a).state
     keeps_received from draws (Rejected s cause) each = each

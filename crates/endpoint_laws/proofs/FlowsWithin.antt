@@ -293,7 +293,7 @@ pub sound_is_kept : IsKept IsSound
 sound_is_kept = record {
   none = record { numbered = tt; few = omega arith; rise = tt; few_taking = omega arith };
   called = called_sound;
-  chunk = chunk_sound;
+  chunk = λ session f c fits may h. chunk_sound session f c may h;
   acked = λ f packet h. sound_put f packet h;
   unowed = unowed_sound;
   late = late_sound;

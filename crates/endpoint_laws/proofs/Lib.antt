@@ -60,6 +60,7 @@ mod Carried
 mod Complete
 mod AllHanded
 mod FlowsWithin
+mod FlowsFew
 mod Components
 pub mod EachRow
 mod EventTold

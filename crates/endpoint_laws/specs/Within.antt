@@ -1,6 +1,10 @@
--- How many flows the sessions of an end have, and what their IDs are.
-use Rattle.std.specs.Prelude.{ℕ, ◌≡◌, List, Some}
+-- How many flows the sessions of an end have, what their IDs are, and how much each flow holds.
+use Rattle.std.specs.Prelude.{ℕ, ◌≡◌, ◌+◌, ◌≤◌, true, List, Some}
+use Rattle.std.specs.List.{AllByRecursion}
 use Rattle.std.specs.FinMap.{get}
+use Rattle.flow_recv.specs.Receiver.{Receiver, knows, end_of_first, held_in}
+use Rattle.flow_send.specs.Sender.{Sender, bytes_held, fragments_held}
+use Rattle.session_flows.specs.Keeping.{FlowsState}
 use Rattle.session_flows.specs.Laws.{IsSound}
 use Rattle.endpoint_model.specs.declared.row.Row.{Row}
 use Rattle.endpoint_model.specs.Event.{Setup, Event}
@@ -12,3 +16,23 @@ use Rattle.endpoint_model.specs.Log.{StandsFor}
 abbrev pub FlowsAreWithin : Type 0
 FlowsAreWithin = (setup : Setup) (log : List Event) (s : State) (near : ℕ) (row : Row) →
     StandsFor setup log s → get s.sessions near ≡ Some row → IsSound row.flows
+
+-- A sending flow holds at most 2,097,152 bytes and 65,536 fragments of messages that wait.
+pub record SendsFew (s : Sender) : Type 0 where
+  pub bytes : bytes_held s ≤ 2097152
+  pub fragments : fragments_held s ≤ 65536
+
+-- A receiving flow holds at most 3,145,728 bytes. Each number that was taken or given up is at most
+-- 65,536 above the lowest missing one, so no more than so many are.
+pub record TakesFew (r : Receiver) : Type 0 where
+  pub bytes : held_in r.runs ≤ 3145728
+  pub numbers : (n : ℕ) → knows r.spans n ≡ true → n ≤ end_of_first r.spans + 1 + 65536
+
+pub record HoldFew (s : FlowsState) : Type 0 where
+  pub sending : AllByRecursion (λ f. SendsFew f.sender) s.sending
+  pub taking : AllByRecursion (λ t. TakesFew t.receiver) s.taking
+
+-- In every log, each flow of each session.
+abbrev pub FlowsHoldFew : Type 0
+FlowsHoldFew = (setup : Setup) (log : List Event) (s : State) (near : ℕ) (row : Row) →
+    StandsFor setup log s → get s.sessions near ≡ Some row → HoldFew row.flows

@@ -4,7 +4,7 @@
 ghost use Rattle.endpoint_laws.specs.Agreed.{EveryLawfulHistoryIsAgreed, EachEndStatesItsLog, EachPrefixIsAMoment, LogsKeepTheSame};
 ghost use Rattle.endpoint_laws.specs.Complete.{AdmissibleKeyingsBear, KeyingsWithoutCauseOpen};
 ghost use Rattle.endpoint_laws.specs.Handed.{EveryMessageIsHandedOver};
-ghost use Rattle.endpoint_laws.specs.Within.{FlowsAreWithin};
+ghost use Rattle.endpoint_laws.specs.Within.{FlowsAreWithin, FlowsHoldFew};
 ghost use Rattle.endpoint_laws.specs.Laws.{EveryLogIsLawful, TheLedgerIsOfTheLog, UsesAreWithin, RowsAreWithin};
 ghost use Rattle.endpoint_laws.specs.OfTheLog.{TheStateIsOfTheLog};
 
@@ -72,4 +72,11 @@ pub fn every_message_is_handed_over()
 /// their places, or rise.
 pub fn flows_are_within()
     ensures { FlowsAreWithin }
+{}
+
+/// No flow of an end holds more than it may: a sending one at most 2,097,152 bytes and 65,536
+/// fragments of messages that wait, a receiving one at most 3,145,728 bytes, and at most 65,536
+/// numbers above its lowest missing one.
+pub fn flows_hold_few()
+    ensures { FlowsHoldFew }
 {}
