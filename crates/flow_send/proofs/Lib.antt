@@ -23,5 +23,7 @@ pub mod Walking
 pub mod Slotting
 pub mod Foremost
 pub mod Lowest
+pub mod Marking
+pub mod Keepings
 pub mod Losing
 pub mod Fitting

@@ -1,20 +1,19 @@
 -- Blocks of numbers in which no message is overdue.
-use Rattle.std.proofs.Common.{◌≡◌, ◌≢◌, ◌⊎◌, ℕ, zero, suc, ◌+◌, ◌-◌, ◌*◌, ◌/◌, ◌%◌, ◌^◌, ◌<◌, ◌≤◌, ◌==◌, cond, Bool, true, false, ◌&&◌, ◌||◌, nat_le, nat_lt, List, [], ◌∷◌, ◌++◌, length, get_or, replicate, Option, Some, None, refl, ap, sym, ◌∙◌, subst, arith, inl, inr}
+use Rattle.std.proofs.Common.{◌≡◌, ◌≢◌, ◌⊎◌, ℕ, zero, suc, ◌+◌, ◌-◌, ◌*◌, ◌/◌, ◌%◌, ◌^◌, ◌<◌, ◌≤◌, ◌==◌, cond, Bool, true, false, ◌&&◌, ◌||◌, List, [], ◌∷◌, ◌++◌, length, get_or, replicate, Option, Some, None, refl, ap, sym, ◌∙◌, subst, arith, inl, inr}
 use Rattle.std.specs.Prelude.{IfSome}
-use Rattle.std.specs.List.{sum_by}
 use Rattle.std.specs.Option.{is_some, unwrap_or, IsSomeAnd}
-use Rattle.std.proofs.lemmas.Bool.{cases_Bool, cases_lt, cases_eq, eqb-true, eq-eqb, lt-leb, leb-true}
+use Rattle.std.proofs.lemmas.Bool.{cases_Bool, cases_lt, cases_eq, eqb-true, eq-eqb, lt-leb}
 use Rattle.rtmfp_data_chunks.specs.HandsOver.{IsIn}
 use Rattle.flow_send.specs.declared.waiting.Waiting.{Waiting}
-use Rattle.flow_send.specs.declared.state.State.{State}
-use Rattle.flow_send.specs.declared.state.State.TheVariants.{Unsent, Flying, Lost, Acknowledged, Abandoned}
-use Rattle.flow_send.specs.Rows.{Row, lost_of, is_lost, any_row}
-use Rattle.flow_send.specs.Sender.{message_at, without_message, first_number, has_number, is_past, is_spent, is_spent_row, is_overdue, first_overdue}
-use Rattle.flow_send.specs.Deadlines.{IsNotBefore, NoneBefore, NoneLimited, Unspent, NoneBehind, NoneSpentBehind}
-use Rattle.flow_send.specs.Steady.{Line, AllOk, is_fresh}
+use Rattle.flow_send.specs.Rows.{Row}
+use Rattle.flow_send.specs.Sender.{message_at, without_message, first_number, is_past, is_spent, is_overdue, first_overdue}
+use Rattle.flow_send.specs.Deadlines.{IsNotBefore}
+use Rattle.flow_send.specs.Steady.{Line}
 use Rattle.flow_send.specs.Messages.{IsFirstFrom, InLine, is_left}
-use Rattle.flow_send.specs.Lows.{block_of, low_at, AreLows, IsFirstLow, IsFoundIn, IsLowIn, AllInBlocks, overdue_in}
-use Rattle.flow_send.proofs.Quiet.{not_past, unspent, neither, not_before_lower}
+use Rattle.flow_send.specs.Lows.{block_of, low_at, AreLows, IsFoundIn, IsLowIn, AllInBlocks, overdue_in}
+use Rattle.flow_send.specs.Marks.{Marked, marked_at, Covers, IsFirstBlock, NoneSpentBefore}
+use Rattle.flow_send.proofs.Marking.{covered}
+use Rattle.flow_send.proofs.Quiet.{not_past, neither, not_before_lower}
 use Rattle.flow_send.proofs.Walking.{here_at, skip_at, at_in, in_at, in_low, in_line, line_in, reach_none_if}
 
 -- ---- places
@@ -48,17 +47,11 @@ lowered old new block b low own le others = elim (cases_eq (b % 1028) (block % 1
 
 -- ---- one message
 
-spares : (ws : List Waiting) (w : Waiting) → NoneLimited ws → IsIn w ws → w.options.resends ≡ None
-spares [] w h i = absurd i
-spares (x ∷ ws) w h i = elim i [ inl e ↦ ap (λ (y : Waiting). y.options.resends) e ∙ h.0 | inr j ↦ spares ws w h.1 j ]
-
-one_unspent : (rows : List Row) (ws : List Waiting) (w : Waiting) → Unspent rows ws → IsIn w ws → (w.options.resends ≡ None) ⊎ (sum_by lost_of rows ≡ 0)
-one_unspent rows ws w u i = elim u [ inl h ↦ inl (spares ws w h i) | inr e ↦ inr e ]
-
--- its block has no deadline before the moment
-quiet : (moment n : ℕ) (rows : List Row) (lows : List ℕ) (ws : List Waiting) (w : Waiting) → AreLows lows ws → Unspent rows ws → IsIn w ws → moment ≤ low_at lows (block_of w.number) → is_overdue moment n rows w ≡ false
-quiet moment n rows lows ws w l u i le =
-    neither (is_past w.options.deadline moment) (is_spent w.options.resends w n rows) (not_past w.options.deadline (low_at lows (block_of w.number)) moment (l w i) le) (unspent w.options.resends w n rows (one_unspent rows ws w u i))
+-- its block has no deadline before the moment and no mark
+quiet : (moment n : ℕ) (rows : List Row) (lows : List ℕ) (m : Marked) (ws : List Waiting) (w : Waiting) → AreLows lows ws → Covers m ws n rows → IsIn w ws → (moment ≤ low_at lows (block_of w.number)) × (marked_at m (block_of w.number) ≡ false)
+    → is_overdue moment n rows w ≡ false
+quiet moment n rows lows m ws w l u i h =
+    neither (is_past w.options.deadline moment) (is_spent w.options.resends w n rows) (not_past w.options.deadline (low_at lows (block_of w.number)) moment (l w i) h.0) (covered m ws n rows w u i h.1)
 
 -- ---- a walk over the blocks
 
@@ -69,27 +62,28 @@ is_passed (Some g) b = b < g
 abbrev pub Passed : ℕ → ℕ → List Row → List Waiting → Option ℕ → Type 0
 Passed moment n rows ws next = (w : Waiting) → IsIn w ws → is_passed next (block_of w.number) → is_overdue moment n rows w ≡ false
 
-pub pass_first : (moment n : ℕ) (rows : List Row) (lows : List ℕ) (ws : List Waiting) (from to : ℕ) (next : Option ℕ) → AreLows lows ws → Unspent rows ws → AllInBlocks from to ws → IsFirstLow lows from to moment next → Passed moment n rows ws next
-pass_first moment n rows lows ws from to None l u a h = λ w i p. let k = a w i in quiet moment n rows lows ws w l u i (h (block_of w.number) k.0 k.1)
-pass_first moment n rows lows ws from to (Some g) l u a h = λ w i p. let k = a w i in quiet moment n rows lows ws w l u i (h.2 (block_of w.number) k.0 p)
+pub pass_first : (moment n : ℕ) (rows : List Row) (lows : List ℕ) (m : Marked) (ws : List Waiting) (from to : ℕ) (next : Option ℕ) → AreLows lows ws → Covers m ws n rows → AllInBlocks from to ws → IsFirstBlock lows m from to moment next
+    → Passed moment n rows ws next
+pass_first moment n rows lows m ws from to None l u a h = λ w i p. let k = a w i in quiet moment n rows lows m ws w l u i (h (block_of w.number) k.0 k.1)
+pass_first moment n rows lows m ws from to (Some g) l u a h = λ w i p. let k = a w i in quiet moment n rows lows m ws w l u i (h.2 (block_of w.number) k.0 p)
 
-pub pass_next : (moment n : ℕ) (rows : List Row) (lows : List ℕ) (ws : List Waiting) (from to b : ℕ) (next : Option ℕ) → AreLows lows ws → Unspent rows ws → AllInBlocks from to ws
-    → Passed moment n rows ws (Some b) → IsFoundIn moment n rows b ws None → IsFirstLow lows (b + 1) to moment next → Passed moment n rows ws next
-pass_next moment n rows lows ws from to b next l u a before here h = λ w i p. elim (cases_lt (block_of w.number) b) [
+pub pass_next : (moment n : ℕ) (rows : List Row) (lows : List ℕ) (m : Marked) (ws : List Waiting) (from to b : ℕ) (next : Option ℕ) → AreLows lows ws → Covers m ws n rows → AllInBlocks from to ws
+    → Passed moment n rows ws (Some b) → IsFoundIn moment n rows b ws None → IsFirstBlock lows m (b + 1) to moment next → Passed moment n rows ws next
+pass_next moment n rows lows m ws from to b next l u a before here h = λ w i p. elim (cases_lt (block_of w.number) b) [
   | inl lt ↦ before w i lt
   | inr ge ↦ elim (cases_lt b (block_of w.number)) [
-    | inl gt ↦ quiet moment n rows lows ws w l u i (low_of next (block_of w.number) (omega (arith, gt)) (a w i).1 p h)
+    | inl gt ↦ quiet moment n rows lows m ws w l u i (low_of next (block_of w.number) (omega (arith, gt)) (a w i).1 p h)
     | inr le ↦ here w i (omega (arith, ge, le))
   ]
 ]
   where
-    low_of : (o : Option ℕ) (c : ℕ) → b + 1 ≤ c → c < to → is_passed o c → IsFirstLow lows (b + 1) to moment o → moment ≤ low_at lows c
+    low_of : (o : Option ℕ) (c : ℕ) → b + 1 ≤ c → c < to → is_passed o c → IsFirstBlock lows m (b + 1) to moment o → (moment ≤ low_at lows c) × (marked_at m c ≡ false)
     low_of None c lo hi p h = h c lo hi
     low_of (Some g) c lo hi p h = h.2 c lo p
 
-pub few_of : (lows : List ℕ) (from to moment : ℕ) (o : Option ℕ) → to < 2 ^ 60 → IsFirstLow lows from to moment o → IfSome o (λ g. g < 2 ^ 60)
-few_of lows from to moment None lt h = tt
-few_of lows from to moment (Some g) lt h = let k = h.1 in omega (arith, k, lt)
+pub few_of : (lows : List ℕ) (m : Marked) (from to moment : ℕ) (o : Option ℕ) → to < 2 ^ 60 → IsFirstBlock lows m from to moment o → IfSome o (λ g. g < 2 ^ 60)
+few_of lows m from to moment None lt h = tt
+few_of lows m from to moment (Some g) lt h = let k = h.1 in omega (arith, k, lt)
 
 skip_if : (t : Bool) (n : ℕ) (rest : Option ℕ) → t ≡ false → cond t (Some n) rest ≡ rest
 skip_if true n rest e = absurd cc
@@ -206,7 +200,7 @@ all_in high from to ws h e f = λ w i.
 pub lows_lower : (old new : List ℕ) (ws : List Waiting) → ((b : ℕ) → low_at new b ≤ low_at old b) → AreLows old ws → AreLows new ws
 lows_lower old new ws le h = λ w i. not_before_lower (low_at new (block_of w.number)) (low_at old (block_of w.number)) w.options.deadline (le (block_of w.number)) (h w i)
 
-from_more : (x e : Waiting) (ws : List Waiting) → IsIn x (ws ++ e ∷ []) → IsIn x ws ⊎ (x ≡ e)
+pub from_more : (x e : Waiting) (ws : List Waiting) → IsIn x (ws ++ e ∷ []) → IsIn x ws ⊎ (x ≡ e)
 from_more x e [] (inl q) = inr q
 from_more x e [] (inr i) = absurd i
 from_more x e (y ∷ ws) (inl q) = inl (inl q)
@@ -222,7 +216,7 @@ lows_push lows ws w h own = λ y i. elim (from_more y w ws i) [
   | inr e ↦ subst (λ (v : Waiting). IsNotBefore (low_at lows (block_of v.number)) v.options.deadline) (sym e) own
 ]
 
-in_without : (n : ℕ) (ws : List Waiting) (w : Waiting) → IsIn w (without_message n ws) → IsIn w ws
+pub in_without : (n : ℕ) (ws : List Waiting) (w : Waiting) → IsIn w (without_message n ws) → IsIn w ws
 in_without n [] w i = absurd i
 in_without n (x ∷ ws) w i = without_if (x.number == n) i (in_without n ws w)
   where
@@ -246,45 +240,32 @@ lows_raised old new from to block low ws h a few lo hi l own others = λ w i.
       | inr ne ↦ subst (λ m. IsNotBefore m w.options.deadline) (sym (others (block_of w.number) ne)) (h w i)
     ]
 
--- ---- messages behind the highest number sent
+-- ---- messages before the first that is overdue
 
-before_in : (soonest : ℕ) (ws : List Waiting) (w : Waiting) → NoneBefore soonest ws → IsIn w ws → IsNotBefore soonest w.options.deadline
-before_in soonest [] w h i = absurd i
-before_in soonest (x ∷ ws) w h i = elim i [
-  | inl e ↦ subst (λ (y : Waiting). IsNotBefore soonest y.options.deadline) (sym e) h.0
-  | inr j ↦ before_in soonest ws w h.1 j
+or_both : (a b : Bool) → (a || b) ≡ false → (a ≡ false) × (b ≡ false)
+or_both true b e = absurd cc
+or_both false b e = (refl, e)
+
+not_before : (moment n low : ℕ) (rows : List Row) (ws : List Waiting) (o : Option ℕ) → InLine low ws → o ≡ first_overdue moment n rows ws → (w : Waiting) → IsIn w ws → is_passed o w.number → is_overdue moment n rows w ≡ false
+not_before moment n low rows [] o h e w i p = absurd i
+not_before moment n low rows (x ∷ ws) o h e w i p = elim (cases_Bool (is_overdue moment n rows x)) [
+  | inl t ↦
+      let f : o ≡ Some x.number = e ∙ find_if (is_overdue moment n rows x) x.number (first_overdue moment n rows ws) t in
+      let lt : w.number < x.number = subst (λ (q : Option ℕ). is_passed q w.number) f p in
+      elim i [
+        | inl s ↦ let k = ap (λ (y : Waiting). y.number) s in absurd (omega (arith, k, lt))
+        | inr j ↦ let l = in_low (x.number + x.count) ws w h.2 j in absurd (omega (arith, l.0, lt))
+      ]
+  | inr t ↦ elim i [
+    | inl s ↦ ap (λ (y : Waiting). is_overdue moment n rows y) s ∙ t
+    | inr j ↦ not_before moment n (x.number + x.count) rows ws o h.2 (e ∙ skip_if (is_overdue moment n rows x) x.number (first_overdue moment n rows ws) t) w j p
+  ]
 ]
 
-pub none_behind : (moment soonest sent n : ℕ) (rows : List Row) (ws : List Waiting) → moment ≤ soonest → NoneBefore soonest ws → NoneSpentBehind sent n rows ws → NoneBehind sent moment n rows ws
-none_behind moment soonest sent n rows ws le b h = λ w i lt.
-    neither (is_past w.options.deadline moment) (is_spent w.options.resends w n rows) (not_past w.options.deadline soonest moment (before_in soonest ws w b i) le) (h w i lt)
-
-fresh_unlost : (s : State) → is_fresh s ≡ true → is_lost s ≡ false
-fresh_unlost Unsent e = refl
-fresh_unlost Flying e = absurd cc
-fresh_unlost Lost e = absurd cc
-fresh_unlost Acknowledged e = refl
-fresh_unlost Abandoned e = refl
-
-no_row : (a l s rest : Bool) → (a ≡ true → l ≡ false) → rest ≡ false → ((a && (l && s)) || rest) ≡ false
-no_row true true s rest h e = absurd (let k = h refl in cc)
-no_row true false s rest h e = e
-no_row false l s rest h e = e
-
-fresh_any : (limit sent n : ℕ) (w : Waiting) (rows : List Row) → AllOk sent n rows → sent < w.number → any_row (λ k r. has_number w k && is_spent_row limit r) n rows ≡ false
-fresh_any limit sent n w [] h lt = refl
-fresh_any limit sent n w (r ∷ rows) h lt =
-    no_row (has_number w n) (is_lost r.state) (nat_le limit r.resends) (any_row (λ k x. has_number w k && is_spent_row limit x) (n + 1) rows)
-    (λ e. fresh_unlost r.state (h.0.fresh (let le = leb-true w.number n (both_true (nat_le w.number n) (nat_lt n (w.number + w.count)) e).0 in omega (arith, le, lt))))
-    (fresh_any limit sent (n + 1) w rows h.1 lt)
-
-fresh_by : (limit : Option ℕ) (sent n : ℕ) (w : Waiting) (rows : List Row) → AllOk sent n rows → sent < w.number → is_spent limit w n rows ≡ false
-fresh_by None sent n w rows h lt = refl
-fresh_by (Some limit) sent n w rows h lt = fresh_any limit sent n w rows h lt
-
-pub fresh_unspent : (sent n : ℕ) (rows : List Row) (ws : List Waiting) → AllOk sent n rows → NoneSpentBehind sent n rows ws
-fresh_unspent sent n rows ws h = λ w i lt. fresh_by w.options.resends sent n w rows h lt
-
-pub behind_by : (last : Option ℕ) (number moment n : ℕ) (rows : List Row) (ws : List Waiting) → IfSome last (λ k. NoneBehind k moment n rows ws) → IsSomeAnd last (λ k. k < number) → (w : Waiting) → IsIn w ws → number ≤ w.number → is_overdue moment n rows w ≡ false
-behind_by None number moment n rows ws h e w i le = absurd e
-behind_by (Some k) number moment n rows ws h lt w i le = h w i (omega (arith, lt, le))
+-- of none that begins in an earlier block a lost number was sent as often as its limit allows
+pub spent_after : (moment n low : ℕ) (rows : List Row) (ws : List Waiting) (o : Option ℕ) → InLine low ws → o ≡ first_overdue moment n rows ws → NoneSpentBefore (block_of (unwrap_or o 18446744073709551615)) n rows ws
+spent_after moment n low rows ws o h e = λ w i lt. (or_both (is_past w.options.deadline moment) (is_spent w.options.resends w n rows) (not_before moment n low rows ws o h e w i (below o w.number lt))).1
+  where
+    below : (q : Option ℕ) (k : ℕ) → block_of k < block_of (unwrap_or q 18446744073709551615) → is_passed q k
+    below None k lt = tt
+    below (Some g) k lt = omega (arith, lt)

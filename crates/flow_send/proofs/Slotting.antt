@@ -1,20 +1,17 @@
 -- The messages in a line, and those among them that wait.
 use Rattle.std.proofs.Common.{◌≡◌, ◌≢◌, ◌⊎◌, ℕ, zero, suc, ◌+◌, ◌-◌, ◌<◌, ◌≤◌, ◌==◌, cond, Bool, true, false, List, [], ◌∷◌, ◌++◌, length, set, get_or, drop, Option, Some, None, refl, ap, sym, ◌∙◌, subst, arith, inl, inr}
-use Rattle.std.specs.Prelude.{IsSome, IfSome}
+use Rattle.std.specs.Prelude.{IsSome}
 use Rattle.std.specs.Option.{unwrap_or, IsSomeAnd}
 use Rattle.std.specs.List.{slice_get}
 use Rattle.std.proofs.lemmas.Bool.{cases_eq, cases_lt, ne_eqb, eq-eqb, le-leb}
 use Rattle.rtmfp_data_chunks.specs.HandsOver.{IsIn}
 use Rattle.flow_send.specs.declared.waiting.Waiting.{Waiting}
 use Rattle.flow_send.specs.declared.slots.Slot.{Slot}
-use Rattle.flow_send.specs.Rows.{Row}
-use Rattle.flow_send.specs.Sender.{message_at, without_message, first_number, is_overdue, first_overdue}
+use Rattle.flow_send.specs.Sender.{message_at, without_message, first_number}
 use Rattle.flow_send.specs.Steady.{Line}
 use Rattle.flow_send.specs.Messages.{InLine, IsFirstFrom, is_left, Reaches}
 use Rattle.flow_send.specs.Slots.{slot_of, gone_of, waiting_in, InSlots, GoneFor, AllGone, IsLine, LastWaits, AreBelow, AreFrom, IsPlace, IsStart, number_of}
-use Rattle.flow_send.specs.Deadlines.{NoneBehind}
 use Rattle.flow_send.proofs.Walking.{in_low, line_in, at_in}
-use Rattle.flow_send.proofs.Lowest.{first_none, behind_by}
 
 -- ---- one slot
 
@@ -95,22 +92,6 @@ none_on (suc at) [] e = refl
 none_on zero (x ∷ later) e = absurd cc
 none_on (suc at) (x ∷ later) e = none_on at later e
 
-cond_on : (t : Bool) (n : ℕ) (rest : Option ℕ) → t ≡ false → cond t (Some n) rest ≡ rest
-cond_on true n rest e = absurd cc
-cond_on false n rest e = refl
-
-pub look_on : (moment n at : ℕ) (rows : List Row) (slots : List Slot) (s : Slot) → slice_get slots at ≡ Some s → s.gone ≡ 0 → is_overdue moment n rows s.message ≡ false
-    → first_overdue moment n rows (waiting_in (drop at slots)) ≡ first_overdue moment n rows (waiting_in (drop (at + 1) slots))
-look_on moment n at rows slots s e g f =
-    ap (λ (ws : List Waiting). first_overdue moment n rows ws) (live_on at slots s e g) ∙ cond_on (is_overdue moment n rows s.message) s.message.number (first_overdue moment n rows (waiting_in (drop (at + 1) slots))) f
-
-pub look_found : (moment n at : ℕ) (rows : List Row) (slots : List Slot) (s : Slot) → slice_get slots at ≡ Some s → s.gone ≡ 0 → is_overdue moment n rows s.message ≡ true → first_overdue moment n rows (waiting_in (drop at slots)) ≡ Some s.message.number
-look_found moment n at rows slots s e g f =
-    ap (λ (ws : List Waiting). first_overdue moment n rows ws) (live_on at slots s e g) ∙ ap (λ t. cond t (Some s.message.number) (first_overdue moment n rows (waiting_in (drop (at + 1) slots)))) f
-
-pub look_none : (moment n at : ℕ) (rows : List Row) (slots : List Slot) → slice_get slots at ≡ None → first_overdue moment n rows (waiting_in (drop at slots)) ≡ None
-look_none moment n at rows slots e = ap (λ (ws : List Waiting). first_overdue moment n rows ws) (none_on at slots e)
-
 in_tail : (x : Slot) (later : List Slot) (y : Waiting) → IsIn y (waiting_in later) → IsIn y (waiting_in (x ∷ later))
 in_tail x later y i = elim (cases_eq x.gone 0) [
   | inl g ↦ subst (λ (ws : List Waiting). IsIn y ws) (sym (waits_on x later g)) (inr i)
@@ -127,24 +108,6 @@ in_waiting low (x ∷ later) h = elim (cases_eq x.gone 0) [
     lower : (low high : ℕ) (ws : List Waiting) → low ≤ high → InLine high ws → InLine low ws
     lower low high [] le h = tt
     lower low high (w ∷ ws) le h = (omega (arith, le, h.0), h.1, h.2)
-
-in_drop : (at : ℕ) (slots : List Slot) (y : Waiting) → IsIn y (waiting_in (drop at slots)) → IsIn y (waiting_in slots)
-in_drop zero slots y i = i
-in_drop (suc at) [] y i = i
-in_drop (suc at) (x ∷ later) y i = in_tail x later y (in_drop at later y i)
-
-low_drop : (at low : ℕ) (slots : List Slot) (s : Slot) (y : Waiting) → InSlots low slots → slice_get slots at ≡ Some s → IsIn y (waiting_in (drop at slots)) → s.message.number ≤ y.number
-low_drop at low [] s y h e i = absurd cc
-low_drop zero low (x ∷ later) s y h e i =
-    let q = ap (λ (z : Slot). z.message.number) (here_is x s e) in
-    let k = (in_low x.message.number (waiting_in (x ∷ later)) y (in_waiting x.message.number (x ∷ later) (omega arith, h.1, h.2)) i).0 in
-    omega (arith, q, k)
-low_drop (suc at) low (x ∷ later) s y h e i = low_drop at (x.message.number + x.message.count) later s y h.2 e i
-
-pub look_behind : (last : Option ℕ) (moment n at : ℕ) (rows : List Row) (slots : List Slot) (s : Slot) → InSlots 0 slots → slice_get slots at ≡ Some s → IfSome last (λ k. NoneBehind k moment n rows (waiting_in slots)) → IsSomeAnd last (λ k. k < s.message.number)
-    → first_overdue moment n rows (waiting_in (drop at slots)) ≡ None
-look_behind last moment n at rows slots s h e q lt =
-    first_none moment n rows (waiting_in (drop at slots)) (λ w i. behind_by last s.message.number moment n rows (waiting_in slots) q lt w (in_drop at slots w i) (low_drop at 0 slots s w h e i))
 
 -- ---- places
 

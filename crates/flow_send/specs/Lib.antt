@@ -15,3 +15,4 @@ pub mod Passed
 pub mod Messages
 pub mod Slots
 pub mod Lows
+pub mod Marks

@@ -21,12 +21,6 @@ abbrev pub AreLows : List ℕ → List Waiting → Type 0
 AreLows lows ws = (w : Waiting) → IsIn w ws →
     IsNotBefore (low_at lows (block_of w.number)) w.options.deadline
 
--- the first block from one to before another whose moment is before one
-abbrev pub IsFirstLow : List ℕ → ℕ → ℕ → ℕ → Option ℕ → Type 0
-IsFirstLow lows from to moment None = (b : ℕ) → from ≤ b → b < to → moment ≤ low_at lows b
-IsFirstLow lows from to moment (Some g) = (from ≤ g) × (g < to) ×
-    ((b : ℕ) → from ≤ b → b < g → moment ≤ low_at lows b)
-
 -- it begins in a block and is overdue
 abbrev pub overdue_in : ℕ → ℕ → List Row → ℕ → Option Waiting → Bool
 overdue_in moment n rows block None = false

@@ -1,19 +1,19 @@
 //! The messages of a flow that are neither abandoned nor wholly acknowledged, by rising number.
 
 ghost use Rattle.std.specs.Prelude.{◌≡◌, ◌+◌, ◌-◌, ◌<◌, ◌≤◌, ◌^◌, ◌∷◌, ◌++◌, [], OnOk, OnErr, List};
-ghost use Rattle.std.specs.Prelude.{ℕ, length, Some, None, true, not, ◌||◌, ◌==◌, IfSome};
+ghost use Rattle.std.specs.Prelude.{ℕ, length, Some, None, true, false, not, ◌||◌, ◌==◌, IfSome};
 ghost use Rattle.std.specs.List.{sum_by, filter};
 ghost use Rattle.std.specs.Option.{is_some};
 ghost use Rattle.flow_send.specs.Sender.{message_at, without_message, first_number, first_overdue};
 ghost use Rattle.flow_send.specs.Acks.{still_waits};
-ghost use Rattle.flow_send.specs.Deadlines.{IsNotBefore, Unspent, Reach};
-ghost use Rattle.flow_send.specs.Deadlines.{NoneBehind, NoneSpentBehind};
-ghost use Rattle.flow_send.specs.Rows.{Row};
+ghost use Rattle.flow_send.specs.Deadlines.{IsNotBefore, NoneLimited, Unspent, Reach};
+ghost use Rattle.flow_send.specs.Marks.{Covers, Grows, Noted, NoneSpentBefore};
 ghost use Rattle.flow_send.specs.Steady.{Line};
 ghost use Rattle.flow_send.specs.Messages.{InLine, OthersWait, keeps, keeps_at};
 ghost use Rattle.flow_send.specs.Lows.{IsFoundIn, IsLowIn, AllInBlocks, overdue_in};
 
 use crate::lows::{Lows, PLACES, block_of};
+use crate::marks::Marks;
 use crate::messages::Messages;
 use crate::rows::Rows;
 use crate::waiting::Waiting;
@@ -214,6 +214,34 @@ impl Backlog {
         }
     }
 
+    /// Whether a message may have a limit of resends.
+    pub fn is_limited(&self) -> bool
+        ensures { result ≡ false → NoneLimited self.now }
+    {
+        self.limited
+    }
+
+    /// Marks the block of the message that has a number, where so many resends are as many as its
+    /// limit allows.
+    pub fn mark(&self, marks: &mut Marks, number: u64, resends: u32)
+        requires { InLine 0 self.now }
+        ensures noted { Noted marks.new self.now number resends }
+        ensures grows { Grows marks.old marks.new }
+    {
+        let Some(first) = self.messages.reaching(number) else {
+            return;
+        };
+        match self.messages.at(first) {
+            Some(message) if message.touches(number, number) => {
+                if message.is_reached(resends) {
+                    marks.mark(block_of(first));
+                }
+            }
+            // Never so, but the clause of `reaching` doesn't say it.
+            _ => marks.mark_all(),
+        }
+    }
+
     /// Whether no message can be overdue, as far as that can be told without looking at each.
     fn is_quiet(&self, rows: &Rows, moment: u64) -> bool
         ensures { result ≡ true → (n : ℕ) → first_overdue moment n rows.now.rows self.now ≡ None }
@@ -234,22 +262,21 @@ impl Backlog {
         !rows.any_lost()
     }
 
-    /// The number of the first message whose deadline is passed, where no message has a limit of
-    /// resends or no row is lost. Only those are looked at that begin in a block with a deadline
-    /// before the moment.
-    fn look_at_late(&self, rows: &Rows, forward: u64, moment: u64) -> Option<u64>
+    /// The number of the first message whose deadline or limit of resends is passed. Only those are
+    /// looked at that begin in a block with a mark, or with a deadline before the moment.
+    fn look_at_blocks(&self, rows: &Rows, forward: u64, moment: u64, marks: &Marks) -> Option<u64>
         requires line { Line 0 (forward + 1 + length rows.now.rows) self.now }
-        requires unspent { Unspent rows.now.rows self.now }
+        requires covers { Covers marks.now self.now (forward + 1) rows.now.rows }
         ensures { result ≡ first_overdue moment (forward + 1) rows.now.rows self.now }
     {
         let (from, to) = self.blocks(rows, forward);
-        let mut next = self.lows.first_block(from, to, moment);
+        let mut next = self.lows.first_block(marks, from, to, moment);
         while let Some(block) = next {
             let found = self.look_in(rows, forward, moment, block);
             if found.is_some() {
                 return found;
             }
-            next = self.lows.first_block(block + 1, to, moment);
+            next = self.lows.first_block(marks, block + 1, to, moment);
         }
         None
     }
@@ -356,59 +383,82 @@ impl Backlog {
         self.lows.set(block, low);
     }
 
-    /// The number of the first message whose deadline or limit of resends is passed.
-    pub fn look(&self, rows: &Rows, forward: u64, moment: u64, sent: u64) -> Option<u64>
+    /// Takes away the marks of the blocks from one to before another, of which no message was sent
+    /// again as often as its limit allows. Where two blocks may use one place, all stay.
+    fn clear(&self, rows: &Rows, forward: u64, marks: &mut Marks, end: u64)
         requires line { Line 0 (forward + 1 + length rows.now.rows) self.now }
-        requires fresh { NoneSpentBehind sent (forward + 1) rows.now.rows self.now }
+        requires covers { Covers marks.old self.now (forward + 1) rows.now.rows }
+        requires passed { NoneSpentBefore end (forward + 1) rows.now.rows self.now }
+        ensures { Covers marks.new self.now (forward + 1) rows.now.rows }
+    {
+        if !marks.any() {
+            return;
+        }
+        let (from, to) = self.blocks(rows, forward);
+        if to.saturating_sub(from) > PLACES {
+            return;
+        }
+        if end >= to {
+            marks.forget_all();
+            self.clear_blocks(rows, forward, marks, from, to, to);
+            return;
+        }
+        self.clear_blocks(rows, forward, marks, from, to, end);
+    }
+
+    fn clear_blocks(
+        &self,
+        rows: &Rows,
+        forward: u64,
+        marks: &mut Marks,
+        from: u64,
+        to: u64,
+        end: u64,
+    )
+        requires within { AllInBlocks from to self.now }
+        requires places { to - from ≤ 1028 }
+        requires end { end ≤ to }
+        requires covers { Covers marks.old self.now (forward + 1) rows.now.rows }
+        requires passed { NoneSpentBefore end (forward + 1) rows.now.rows self.now }
+        ensures { Covers marks.new self.now (forward + 1) rows.now.rows }
+    {
+        for block in from..end {
+            marks.clear(block);
+        }
+    }
+
+    /// The number of the first message whose deadline or limit of resends is passed.
+    pub fn look(&self, rows: &Rows, forward: u64, moment: u64, marks: &Marks) -> Option<u64>
+        requires line { Line 0 (forward + 1 + length rows.now.rows) self.now }
+        requires covers { Covers marks.now self.now (forward + 1) rows.now.rows }
         ensures { result ≡ first_overdue moment (forward + 1) rows.now.rows self.now }
     {
         if self.is_quiet(rows, moment) {
             return None;
         }
-        if self.is_unspent(rows) {
-            return self.look_at_late(rows, forward, moment);
-        }
-        self.messages
-            .first_overdue(rows, forward, moment, self.last(moment, sent))
-    }
-
-    /// The highest number sent, where no deadline is passed: then no message behind it is overdue.
-    fn last(&self, moment: u64, sent: u64) -> Option<u64>
-        ensures { (n : ℕ) (rows : List Row) → NoneSpentBehind sent n rows self.now →
-            IfSome result (λ k. NoneBehind k moment n rows self.now) }
-    {
-        if moment > self.soonest {
-            return None;
-        }
-        Some(sent)
-    }
-
-    /// Whether a message's deadline or limit of resends is passed.
-    pub fn any_overdue(&self, rows: &Rows, forward: u64, moment: u64, sent: u64) -> bool
-        requires line { Line 0 (forward + 1 + length rows.now.rows) self.now }
-        requires fresh { NoneSpentBehind sent (forward + 1) rows.now.rows self.now }
-        ensures { result ≡ is_some (first_overdue moment (forward + 1) rows.now.rows self.now) }
-    {
-        self.look(rows, forward, moment, sent).is_some()
+        self.look_at_blocks(rows, forward, moment, marks)
     }
 
     /// The number of the first message whose deadline or limit of resends is passed. The messages
-    /// before it are looked at again only after the next deadline of their blocks, or where a row
-    /// is lost and a message has a limit.
+    /// before it are looked at again only after the next deadline of their blocks, or where one of
+    /// their blocks is marked anew.
     pub fn first_overdue(
         &mut self,
         rows: &Rows,
         forward: u64,
         moment: u64,
-        sent: u64,
+        marks: &mut Marks,
     ) -> Option<u64>
         requires line { Line 0 (forward + 1 + length rows.now.rows) self.old }
-        requires fresh { NoneSpentBehind sent (forward + 1) rows.now.rows self.old }
+        requires covers { Covers marks.old self.old (forward + 1) rows.now.rows }
         ensures first { result ≡ first_overdue moment (forward + 1) rows.now.rows self.old }
         ensures same { self.new ≡ self.old }
+        ensures covers { Covers marks.new self.old (forward + 1) rows.now.rows }
     {
-        let number = self.look(rows, forward, moment, sent);
-        self.raise(rows, forward, moment, block_of(number.unwrap_or(u64::MAX)));
+        let number = self.look(rows, forward, moment, marks);
+        let end = block_of(number.unwrap_or(u64::MAX));
+        self.raise(rows, forward, moment, end);
+        self.clear(rows, forward, marks, end);
         number
     }
 }

@@ -3,8 +3,10 @@
 ghost use Rattle.std.specs.Prelude.{◌≡◌, ◌≢◌, ℕ, ◌%◌, ◌<◌, ◌≤◌, [], IfOk, OnOk};
 ghost use Rattle.std.specs.Prelude.{length, replicate};
 ghost use Rattle.flow_send.specs.Deadlines.{IsNotBefore};
-ghost use Rattle.flow_send.specs.Lows.{block_of, low_at, IsFirstLow};
+ghost use Rattle.flow_send.specs.Lows.{block_of, low_at};
+ghost use Rattle.flow_send.specs.Marks.{IsFirstBlock};
 
+use crate::marks::Marks;
 use std::alloc::{AllocError, Global};
 use std::marker::Model;
 
@@ -103,12 +105,15 @@ impl Lows {
         self.lows[(block % PLACES) as usize] = low;
     }
 
-    /// The first block from one to before another whose moment is before one.
-    pub fn first_block(&self, from: u64, to: u64, moment: u64) -> Option<u64>
-        ensures { IsFirstLow self.now from to moment result }
+    /// The first block from one to before another that is marked, or whose moment is before one.
+    pub fn first_block(&self, marks: &Marks, from: u64, to: u64, moment: u64) -> Option<u64>
+        ensures { IsFirstBlock self.now marks.now from to moment result }
     {
         for block in from..to {
             if self.at(block) < moment {
+                return Some(block);
+            }
+            if marks.at(block) {
                 return Some(block);
             }
         }

@@ -1,15 +1,10 @@
 //! The messages that wait, by the number that each begins with.
 
 ghost use Rattle.std.specs.Prelude.{◌≡◌, ◌+◌, ◌<◌, ◌∷◌, ◌++◌, [], OnOk, OnErr, length, slice_get};
-ghost use Rattle.std.specs.Prelude.{IfSome, true};
-ghost use Rattle.std.specs.Option.{IsSomeAnd};
-ghost use Rattle.flow_send.specs.Deadlines.{NoneBehind};
 ghost use Rattle.flow_send.specs.Sender.{message_at, without_message, first_number};
-ghost use Rattle.flow_send.specs.Sender.{first_overdue};
 ghost use Rattle.flow_send.specs.Messages.{IsFirstFrom, InLine, Reaches};
 ghost use Rattle.flow_send.specs.Steady.{Line};
 
-use crate::rows::Rows;
 use crate::slots::{Slot, behind, found, lengthen, next, place, slot_at, start, trim_back};
 use crate::waiting::Waiting;
 use std::alloc::{AllocError, Global};
@@ -117,36 +112,6 @@ impl Messages {
         }
     }
 
-    /// The number of the first message whose deadline or limit of resends is passed. Each is looked
-    /// at, up to a number behind which there is none, where there is one.
-    pub fn first_overdue(
-        &self,
-        rows: &Rows,
-        forward: u64,
-        moment: u64,
-        last: Option<u64>,
-    ) -> Option<u64>
-        requires line { Line 0 (forward + 1 + length rows.now.rows) self.now }
-        requires none { IfSome last (λ n. NoneBehind n moment (forward + 1) rows.now.rows self.now) }
-        ensures { result ≡ first_overdue moment (forward + 1) rows.now.rows self.now }
-    {
-        let mut at: usize = 0;
-        while let Some(slot) = slot_at(&self.slots, at) {
-            if slot.gone > 0 {
-                at = at.saturating_add(slot.gone);
-                continue;
-            }
-            if is_behind(slot.message.number, last) {
-                return None;
-            }
-            if slot.message.is_overdue(rows, forward, moment) {
-                return Some(slot.message.number);
-            }
-            at += 1;
-        }
-        None
-    }
-
     /// Adds a message behind the others.
     pub fn push(&mut self, message: Waiting) -> Result<(), AllocError>
         requires last { Line 0 message.number self.old }
@@ -215,15 +180,5 @@ impl Messages {
             }
             half = half.saturating_mul(2);
         }
-    }
-}
-
-/// Whether a number is behind the last one, where there is one.
-fn is_behind(number: u64, last: Option<u64>) -> bool
-    ensures { result ≡ true → IsSomeAnd last (λ n. n < number) }
-{
-    match last {
-        Some(last) => last < number,
-        None => false,
     }
 }

@@ -8,7 +8,12 @@ ghost use Rattle.flow_send.specs.Sender.{is_late, lost_if_late};
 ghost use Rattle.flow_send.specs.Acks.{count_ack, is_third};
 ghost use Rattle.flow_send.specs.Ordered.{EndsBefore, IsComplete, Follows, IsAdded, count_one};
 ghost use Rattle.flow_send.specs.Ordered.{AllOther, EndsBy, lose_one, is_late_one};
+ghost use Rattle.flow_send.specs.Messages.{InLine};
+ghost use Rattle.flow_send.specs.Marks.{AllRows, Grows, Noted, WillCover, is_losing};
 
+use crate::backlog::Backlog;
+use crate::loss::Loss;
+use crate::marks::Marks;
 use crate::rows::Rows;
 use std::alloc::{AllocError, Global};
 use std::collections::VecDeque;
@@ -142,6 +147,48 @@ impl Sendings {
         late
     }
 
+    /// Marks the messages of the numbers that will be lost, where these were sent again as often as
+    /// their limits allow.
+    pub fn mark(&self, rows: &Rows, forward: u64, waiting: &Backlog, marks: &mut Marks, loss: Loss)
+        requires follows { Follows self.now (forward + 1) rows.now.rows }
+        requires line { InLine 0 waiting.now }
+        ensures covers { WillCover marks.new waiting.now loss (forward + 1) rows.now.rows }
+        ensures grows { Grows marks.old marks.new }
+    {
+        if !waiting.is_limited() {
+            return;
+        }
+        if !self.whole {
+            marks.mark_all();
+            return;
+        }
+        self.mark_oldest(rows, forward, waiting, marks, loss);
+    }
+
+    /// The same, going from the oldest sending on up to the first one that may not be lost.
+    fn mark_oldest(
+        &self,
+        rows: &Rows,
+        forward: u64,
+        waiting: &Backlog,
+        marks: &mut Marks,
+        loss: Loss,
+    )
+        requires complete { IsComplete self.now.queue (forward + 1) rows.now.rows }
+        requires line { InLine 0 waiting.now }
+        ensures covers { WillCover marks.new waiting.now loss (forward + 1) rows.now.rows }
+        ensures grows { Grows marks.old marks.new }
+    {
+        let mut index: usize = 0;
+        while let Some((sent, number, at)) = sending(&self.queue, index) {
+            if !loss.may_lose(sent, at) {
+                return;
+            }
+            mark_number(rows, forward, waiting, marks, loss, number);
+            index += 1;
+        }
+    }
+
     /// Takes away the oldest ones of numbers that aren't in flight since.
     pub fn prune(&mut self, rows: &Rows, forward: u64)
         ensures { Follows self.old (forward + 1) rows.now.rows →
@@ -198,6 +245,41 @@ fn lose_number(rows: &mut Rows, forward: u64, number: u64, moment: u64, resend_a
     let late = rows.is_late(at as usize, moment, resend_after);
     rows.lose_at(at as usize, moment, resend_after);
     late
+}
+
+/// The sending at an index.
+fn sending(queue: &VecDeque<(u64, u64, u64)>, index: usize) -> Option<(u64, u64, u64)>
+    ensures { result ≡ slice_get queue.now.items index }
+{
+    queue.get(index).copied()
+}
+
+/// Marks the message of a number that will be lost, where it was sent again as often as its limit
+/// allows.
+fn mark_number(
+    rows: &Rows,
+    forward: u64,
+    waiting: &Backlog,
+    marks: &mut Marks,
+    loss: Loss,
+    number: u64,
+)
+    requires { InLine 0 waiting.now }
+    ensures covers { AllRows (λ k r. k ≡ number → is_losing loss r ≡ true →
+        Noted marks.new waiting.now k r.resends) (forward + 1) rows.now.rows }
+    ensures grows { Grows marks.old marks.new }
+{
+    if number <= forward {
+        return;
+    }
+    let at = number - forward - 1;
+    if at >= rows.len() as u64 {
+        return;
+    }
+    let row = rows.row(at as usize);
+    if row.is_losing(loss) {
+        waiting.mark(marks, number, row.resends());
+    }
 }
 
 /// Whether a number is in flight since this sending.

@@ -6,7 +6,9 @@ ghost use Rattle.flow_send.specs.Sender.{lost_if_late, is_late, give_up_row, is_
 ghost use Rattle.flow_send.specs.Sender.{fresh_row};
 ghost use Rattle.flow_send.specs.Choice.{sent_row};
 ghost use Rattle.flow_send.specs.Acks.{acknowledge_row, count_ack, is_third};
+ghost use Rattle.flow_send.specs.Marks.{is_losing};
 
+use crate::loss::Loss;
 use crate::state::State;
 use crate::totals::Totals;
 use rtmfp_data_chunks::Part;
@@ -105,6 +107,12 @@ impl HeldRow {
         self.ordinal
     }
 
+    pub fn resends(&self) -> u32
+        ensures { result ≡ self.now.resends }
+    {
+        self.resends
+    }
+
     /// What it gives to the sums.
     pub fn totals(&self) -> Totals
         ensures { result ≡ row_totals self.now }
@@ -186,6 +194,19 @@ impl HeldRow {
         ensures { result ≡ is_third ordinal self.now }
     {
         self.state == State::Flying && self.ordinal < ordinal && 2 <= self.acks
+    }
+
+    /// Whether it will be lost.
+    pub fn is_losing(&self, loss: Loss) -> bool
+        ensures { result ≡ is_losing loss self.now }
+    {
+        match loss {
+            Loss::Late {
+                moment,
+                resend_after,
+            } => self.is_late(moment, resend_after),
+            Loss::Third { ordinal } => self.is_third(ordinal),
+        }
     }
 
     /// Counts an ack that newly acknowledges the sending with an ordinal.

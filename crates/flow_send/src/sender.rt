@@ -27,6 +27,8 @@ ghost use Rattle.flow_send.specs.Flow.{options_length};
 use crate::acking::{acknowledge, greatest};
 use crate::backlog::Backlog;
 use crate::fragments::{cut, fragments_of};
+use crate::loss::Loss;
+use crate::marks::Marks;
 use crate::ordered::Sendings;
 use crate::outcome::{AckFault, Acked, NoChunk, NotQueued, QueueRefusal};
 use crate::pick::Pick;
@@ -60,6 +62,7 @@ pub struct FlowSender {
     rows: Rows,
     sendings: Sendings,
     waiting: Backlog,
+    marks: Marks,
     finish: Option<u64>,
     sent: u64,
     upto: u64,
@@ -75,6 +78,7 @@ impl Model for FlowSender {
     ghost use Rattle.flow_send.specs.Sender.{sender_of};
     ghost use Rattle.flow_send.specs.Steady.{Steady};
     ghost use Rattle.flow_send.specs.Ordered.{Follows};
+    ghost use Rattle.flow_send.specs.Marks.{Covers};
     ghost use Rattle.flow_send.specs.Flow.{Flow};
 
     ghost Value = { Flow };
@@ -93,7 +97,8 @@ impl Model for FlowSender {
         × (OptionsSpell (options_in f.options.items) f.options.items
         × (length (options_bytes (options_in f.options.items)) ≤ 79))
         × (f.finish ≡ None → 1 ≤ f.rows.room)
-        × Follows f.sendings (f.forward + 1) f.rows.rows };
+        × Follows f.sendings (f.forward + 1) f.rows.rows
+        × Covers f.marks f.waiting (f.forward + 1) f.rows.rows };
 }
 
 impl FlowSender {
@@ -129,6 +134,7 @@ impl FlowSender {
             rows: Rows::new(alloc)?,
             sendings: Sendings::new(alloc),
             waiting: Backlog::new(alloc),
+            marks: Marks::new(alloc),
             finish: None,
             sent: first - 1,
             upto: first - 1,
@@ -190,6 +196,7 @@ impl FlowSender {
         }
         let pieces = cut(self.alloc, message, count)?;
         self.rows.reserve(pieces.more.len() + 2)?;
+        self.marks.make_for(options.resends)?;
         // A number that is sent again has two sendings among those since the oldest one in flight.
         self.sendings.reserve(
             self.rows
@@ -313,8 +320,7 @@ impl FlowSender {
     pub fn any_overdue(&self, moment: u64) -> bool
         ensures { result ≡ is_some (overdue moment self.now.sender) }
     {
-        self.waiting
-            .any_overdue(&self.rows, self.forward, moment, self.sent)
+        self.first_overdue(moment).is_some()
     }
 
     /// The number of the first message whose deadline or limit of resends is passed.
@@ -322,7 +328,7 @@ impl FlowSender {
         ensures { result ≡ overdue moment self.now.sender }
     {
         self.waiting
-            .look(&self.rows, self.forward, moment, self.sent)
+            .look(&self.rows, self.forward, moment, &self.marks)
     }
 
     /// Abandons the first message whose deadline or limit of resends is passed, and gives its
@@ -334,7 +340,7 @@ impl FlowSender {
     {
         let number = self
             .waiting
-            .first_overdue(&self.rows, self.forward, moment, self.sent)?;
+            .first_overdue(&self.rows, self.forward, moment, &mut self.marks)?;
         self.give_up(number);
         Some(number)
     }
@@ -376,6 +382,16 @@ impl FlowSender {
             (lost_late moment resend_after self.old.sender) }
         ensures none_late { list_any (is_late moment resend_after) self.new.sender.rows ≡ false }
     {
+        self.sendings.mark(
+            &self.rows,
+            self.forward,
+            &self.waiting,
+            &mut self.marks,
+            Loss::Late {
+                moment,
+                resend_after,
+            },
+        );
         self.sendings
             .lose_late(&mut self.rows, self.forward, moment, resend_after)
     }
@@ -399,6 +415,44 @@ impl FlowSender {
             (told_by (told blocks upto spans.entry) self.old.sender)) }
         ensures err { OnErr result (self.new ≡ self.old) }
     {
+        let lost = self.rows.lost();
+        match self.hear(blocks, upto, spans) {
+            Ok(acked) => {
+                if self.rows.lost() < lost {
+                    self.tidy();
+                }
+                Ok(acked)
+            }
+            Err(fault) => Err(fault),
+        }
+    }
+
+    /// After a lost number was acknowledged. A mark for it is taken away.
+    fn tidy(&mut self)
+        ensures { self.new ≡ self.old }
+    {
+        if !self.waiting.is_limited() {
+            return;
+        }
+        // At moment 0 no deadline is passed.
+        let _ = self
+            .waiting
+            .first_overdue(&self.rows, self.forward, 0, &mut self.marks);
+    }
+
+    /// Takes an ack, and leaves marks as they are.
+    fn hear(&mut self, blocks: u64, upto: u64, spans: AckedSpans<'_>) -> Result<Acked, AckFault>
+        ensures beyond { MatchOption (beyond self.old.sender (told blocks upto spans.entry))
+            (IsOk result) (λ n. result ≡ Err (AckFault.AckBeyond n)) }
+        ensures bytes { IfOk result (λ a. a.bytes
+            ≡ new_bytes (told blocks upto spans.entry) (self.old.sender.forward + 1)
+            self.old.sender.rows) }
+        ensures lost { IfOk result (λ a. a.lost
+            ≡ makes_lost (told blocks upto spans.entry) self.old.sender) }
+        ensures ok { OnOk result (self.new ≡ with_sender self.old
+            (told_by (told blocks upto spans.entry) self.old.sender)) }
+        ensures err { OnErr result (self.new ≡ self.old) }
+    {
         let greatest = greatest(upto, &spans);
         if greatest > self.sent {
             return Err(AckFault::AckBeyond(greatest));
@@ -407,6 +461,13 @@ impl FlowSender {
         let before = self.rows.stored();
         let ordinal = acknowledge(&mut self.rows, self.forward, upto, &spans);
         let bytes = before - self.rows.stored();
+        self.sendings.mark(
+            &self.rows,
+            self.forward,
+            &self.waiting,
+            &mut self.marks,
+            Loss::Third { ordinal },
+        );
         let lost = self
             .sendings
             .count_acks(&mut self.rows, self.forward, to, ordinal);

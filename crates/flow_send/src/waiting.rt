@@ -4,6 +4,7 @@ ghost use Rattle.std.specs.Prelude.{◌≡◌, ◌+◌, ◌-◌, ◌<◌, ◌≤
 ghost use Rattle.flow_send.specs.Sender.{is_past, is_spent, is_overdue, give_up};
 ghost use Rattle.flow_send.specs.Acks.{still_waits};
 ghost use Rattle.flow_send.specs.Messages.{touches};
+ghost use Rattle.flow_send.specs.Marks.{is_reached};
 ghost use Rattle.flow_send.specs.Deadlines.{IsNotBefore};
 ghost use Rattle.flow_send.specs.Rows.{map_rows};
 
@@ -103,6 +104,16 @@ impl Waiting {
         ensures { result ≡ false → self.now.options.resends ≡ None }
     {
         self.options.resends.is_some()
+    }
+
+    /// Whether so many resends are as many as its limit allows.
+    pub fn is_reached(&self, resends: u32) -> bool
+        ensures { result ≡ is_reached self.now.options.resends resends }
+    {
+        match self.options.resends {
+            Some(limit) => limit <= resends,
+            None => false,
+        }
     }
 
     fn is_past(&self, moment: u64) -> bool

@@ -1,4 +1,4 @@
-use Rattle.std.proofs.Common.{◌≡◌, ◌+◌, ℕ, refl, sym, subst, arith}
+use Rattle.std.proofs.Common.{◌≡◌, ◌+◌, ℕ, refl, subst, arith}
 use Rattle.flow_send.specs.Slots.{AreBelow}
 use Rattle.flow_send.proofs.Slotting.{some_below}
 use Rattle.flow_send.proofs.slots.beside.Goals as goal

@@ -1,6 +1,7 @@
-use Rattle.std.proofs.Common.{◌≡◌, arith, inl, inr, ap}
+use Rattle.std.proofs.Common.{◌≡◌, ◌≤◌, ℕ, false, arith, inl, inr, sym, ◌∙◌, subst}
 use Rattle.std.proofs.lemmas.Bool.{cases_lt}
 use Rattle.flow_send.specs.Lows.{low_at}
+use Rattle.flow_send.specs.Marks.{marked_at}
 use Rattle.flow_send.proofs.lows.Lows.first_block.Goals as goal
 
 pub loop-block-init : goal.loop-block-init
@@ -10,7 +11,8 @@ pub loop-block-preserved : goal.loop-block-preserved
 loop-block-preserved c = λ b lo hi. elim (cases_lt b c.loop-block.block) [
   | inl lt ↦ c.loop-block.invariant b lo lt
   | inr ge ↦
-      let e : b ≡ c.loop-block.block = omega (arith, hi, ge) in
-      let f = ap (λ k. low_at c.args.self.now k) e in
-      omega (arith, f, c.at.ensures, c.if-at-moment.false)
+      let e : c.loop-block.block ≡ b = omega (arith, hi, ge) in
+      let low : c.args.moment ≤ low_at c.args.self.now c.loop-block.block = omega (arith, c.at.ensures, c.if-at-moment.false) in
+      let mark : marked_at c.args.marks.now c.loop-block.block ≡ false = sym c.at-in-loop-block.ensures ∙ c.if-at.false in
+      subst (λ (k : ℕ). (c.args.moment ≤ low_at c.args.self.now k) × (marked_at c.args.marks.now k ≡ false)) e (low, mark)
 ]

@@ -1,11 +1,13 @@
-use Rattle.std.proofs.Common.{◌≡◌, List, map, ap, sym, ◌∙◌, subst, arith}
+use Rattle.std.proofs.Common.{◌≡◌, ◌+◌, List, map, ap, sym, ◌∙◌, subst, arith}
 use Rattle.std.specs.List.{list_any}
 use Rattle.flow_send.specs.Rows.{Row}
 use Rattle.flow_send.specs.Sender.{sender_of, Sender, is_late, lost_if_late, lost_late}
-use Rattle.flow_send.specs.Steady.{Steady}
+use Rattle.flow_send.specs.Steady.{Steady, end_of}
 use Rattle.flow_send.specs.Flow.{Flow, with_sender}
+use Rattle.flow_send.proofs.Keepings.{lost_marks}
 use Rattle.flow_send.proofs.Sendings.{none_late}
 use Rattle.flow_send.proofs.Steadies.{steady_lost}
+use Rattle.flow_send.proofs.Walking.{in_line}
 use Rattle.flow_send.proofs.sender.FlowSender.find_lost.Goals as goal
 
 abbrev At : goal.After-lose_late → Sender
@@ -13,6 +15,14 @@ At c = let i = c.self.inside in sender_of i.forward i.rows.rows i.waiting i.fini
 
 rows_are : (c : goal.After-lose_late) → c.lose_late.new.rows.rows ≡ map (lost_if_late c.args.moment c.args.resend_after) (At c).rows
 rows_are c = c.lose_late.ensures.rows
+
+pub mark-requires-clause-follows : goal.mark-requires-clause-follows
+mark-requires-clause-follows c = c.self.invariant.3
+
+pub mark-requires-clause-line : goal.mark-requires-clause-line
+mark-requires-clause-line c =
+    let i = c.self.inside in
+    in_line 0 (end_of (sender_of i.forward i.rows.rows i.waiting i.finish i.sent i.upto i.told i.notice i.order)) i.waiting c.self.invariant.0.line
 
 pub lose_late-requires : goal.lose_late-requires
 lose_late-requires c = c.self.invariant.3
@@ -27,6 +37,7 @@ invariant_of-self c =
       c.self.invariant.1,
       λ none. let a = c.self.invariant.2 none in omega (arith, a, c.lose_late.ensures.room),
       c.lose_late.ensures.follows,
+      lost_marks i.marks c.mark.new.marks i.waiting c.args.moment c.args.resend_after (i.forward + 1) i.rows.rows c.lose_late.new.rows.rows (rows_are c) c.mark.ensures.grows c.mark.ensures.covers c.self.invariant.4,
     )
 
 pub returns-clause-late : goal.returns-clause-late

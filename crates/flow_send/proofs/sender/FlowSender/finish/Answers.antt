@@ -6,6 +6,7 @@ use Rattle.flow_send.specs.Flow.{Flow}
 use Rattle.flow_send.proofs.Ends.{next_unfinished}
 use Rattle.flow_send.proofs.Steadies.{steady_finished}
 use Rattle.flow_send.proofs.Followed.{ended}
+use Rattle.flow_send.proofs.Keepings.{ended_marks}
 use Rattle.flow_send.proofs.sender.FlowSender.finish.Goals as goal
 
 pub invariant_of-self : goal.invariant_of-self
@@ -22,4 +23,5 @@ invariant_of-self c =
       c.self.invariant.1,
       λ e. absurd cc,
       ended i.sendings (i.forward + 1) i.rows.rows c.push.new.self.rows rows c.self.invariant.3,
+      ended_marks i.marks i.waiting (i.forward + 1) i.rows.rows c.push.new.self.rows rows c.self.invariant.4,
     )

@@ -7,6 +7,7 @@ use Rattle.flow_send.proofs.Keeping.{line_inside_at, front_fits}
 use Rattle.flow_send.proofs.Numbered.{map_length}
 use Rattle.flow_send.proofs.Steadies.{steady_abandoned}
 use Rattle.flow_send.proofs.Followed.{given}
+use Rattle.flow_send.proofs.Keepings.{given_marks}
 use Rattle.flow_send.proofs.sender.FlowSender.give_up.Goals as goal
 
 pub give_up-requires : goal.give_up-requires
@@ -41,4 +42,5 @@ invariant_of-self c =
       c.self.invariant.1,
       λ none. let a = c.self.invariant.2 none in omega (arith, a, c.give_up.ensures.room, c.settle.ensures.room),
       given i.sendings w i.forward c.settle.result i.rows.rows c.give_up.new.rows.rows c.settle.new.self.rows give c.settle.ensures.count c.settle.ensures.rows c.self.invariant.3,
+      given_marks i.marks i.waiting c.remove.new.self c.args.seq w i.forward c.settle.result i.rows.rows c.give_up.new.rows.rows c.settle.new.self.rows c.remove.ensures give c.settle.ensures.count c.settle.ensures.rows c.self.invariant.4,
     )

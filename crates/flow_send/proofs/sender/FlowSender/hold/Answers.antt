@@ -1,4 +1,4 @@
-use Rattle.std.proofs.Common.{◌≡◌, ℕ, ◌+◌, List, [], ◌∷◌, ◌++◌, length, None, ap, sym, ◌∙◌, subst, arith, append_assoc}
+use Rattle.std.proofs.Common.{◌≡◌, ℕ, ◌+◌, List, [], ◌∷◌, ◌++◌, length, None, refl, ap, sym, ◌∙◌, subst, arith, append_assoc}
 use Rattle.std.specs.List.{sum_by}
 use Rattle.std.proofs.lemmas.List.Sums.{sum_by-cons, sum_by-append}
 use Rattle.rtmfp_data_chunks.specs.Fragments.{Message, fragments_of_length}
@@ -11,6 +11,7 @@ use Rattle.flow_send.specs.Flow.{Flow, queue_refusal, next_message, with_sender}
 use Rattle.flow_send.proofs.Steadies.{steady_queued}
 use Rattle.flow_send.proofs.Queuings.{rows_stored, allowed}
 use Rattle.flow_send.proofs.Followed.{held}
+use Rattle.flow_send.proofs.Keepings.{held_marks, same_marks, same_follows}
 use Rattle.flow_send.proofs.sender.FlowSender.hold.Goals as goal
 use Rattle.flow_send.proofs.sender.FlowSender.hold.Goals.{After-append}
 
@@ -63,6 +64,44 @@ invariant_of-self-2 c =
       c.self.invariant.1,
       λ none. omega (arith, c.append.ensures.room, c.push-2.ensures.room, c.in_ok-reserve.ensures.room, c.len.ensures),
       held c.self.inside.sendings c.reserve-2.new.self (c.self.inside.forward + 1) c.self.inside.rows.rows c.append.new.self.rows (next_message s c.args.message.now) (fragments_of_length (length c.args.message.now)) c.reserve-2.ensures (rows_after c) c.self.invariant.3,
+      held_marks c.self.inside.marks c.make_for.new.self c.self.inside.waiting c.push.new.self (record { number = c.args.number; count = c.fragments_of-count.result; size = length c.args.message.now; options = c.args.options }) c.self.inside.sent (c.self.inside.forward + 1) c.self.inside.rows.rows c.append.new.self.rows (next_message s c.args.message.now) (fragments_of_length (length c.args.message.now))
+          c.make_for.ensures c.in_ok-push.ensures.pushed (rows_after c) c.self.invariant.0.rows (let k = c.self.invariant.0.below in let n : c.args.number ≡ next_of s = c.requires.number ∙ ap (λ (f : Flow). next_of f.sender) (sym c.self.view_is) in omega (arith, k, n)) c.self.invariant.4,
+    )
+
+pub invariant_of-self-in_err-make_for : goal.invariant_of-self-in_err-make_for
+invariant_of-self-in_err-make_for c =
+    let i = c.self.inside in
+    let e = c.reserve.ensures.rows in
+    let n = i.forward + 1 in (
+      subst (λ (rs : List Row). Steady (sender_of i.forward rs i.waiting i.finish i.sent i.upto i.told i.notice i.order)) (sym e) c.self.invariant.0,
+      c.self.invariant.1,
+      λ none. let a = c.self.invariant.2 none in omega (arith, a, c.reserve.ensures.kept),
+      same_follows i.sendings i.sendings n i.rows.rows c.reserve.new.self.rows refl e c.self.invariant.3,
+      same_marks i.marks c.make_for.new.self i.waiting i.waiting n i.rows.rows c.reserve.new.self.rows c.make_for.ensures refl e c.self.invariant.4,
+    )
+
+pub invariant_of-self-in_err-reserve-2 : goal.invariant_of-self-in_err-reserve-2
+invariant_of-self-in_err-reserve-2 c =
+    let i = c.self.inside in
+    let e = c.reserve.ensures.rows in
+    let n = i.forward + 1 in (
+      subst (λ (rs : List Row). Steady (sender_of i.forward rs i.waiting i.finish i.sent i.upto i.told i.notice i.order)) (sym e) c.self.invariant.0,
+      c.self.invariant.1,
+      λ none. let a = c.self.invariant.2 none in omega (arith, a, c.reserve.ensures.kept),
+      same_follows i.sendings c.reserve-2.new.self n i.rows.rows c.reserve.new.self.rows c.reserve-2.ensures e c.self.invariant.3,
+      same_marks i.marks c.make_for.new.self i.waiting i.waiting n i.rows.rows c.reserve.new.self.rows c.make_for.ensures refl e c.self.invariant.4,
+    )
+
+pub invariant_of-self-in_err-push : goal.invariant_of-self-in_err-push
+invariant_of-self-in_err-push c =
+    let i = c.self.inside in
+    let e = c.reserve.ensures.rows in
+    let n = i.forward + 1 in (
+      subst (λ (ws : List Waiting). Steady (sender_of i.forward c.reserve.new.self.rows ws i.finish i.sent i.upto i.told i.notice i.order)) (sym c.in_err-push.ensures.err) (subst (λ (rs : List Row). Steady (sender_of i.forward rs i.waiting i.finish i.sent i.upto i.told i.notice i.order)) (sym e) c.self.invariant.0),
+      c.self.invariant.1,
+      λ none. let a = c.self.invariant.2 none in omega (arith, a, c.reserve.ensures.kept),
+      same_follows i.sendings c.reserve-2.new.self n i.rows.rows c.reserve.new.self.rows c.reserve-2.ensures e c.self.invariant.3,
+      same_marks i.marks c.make_for.new.self i.waiting c.push.new.self n i.rows.rows c.reserve.new.self.rows c.make_for.ensures c.in_err-push.ensures.err e c.self.invariant.4,
     )
 
 pub returns-clause-queued : goal.returns-clause-queued

@@ -11,17 +11,18 @@ use Rattle.rtmfp_data_chunks.specs.FlowOptions.{flow_options}
 use Rattle.flow_send.specs.Flow.{Flow}
 use Rattle.flow_send.proofs.Steadies.{steady_new}
 use Rattle.flow_send.proofs.Followed.{begin}
+use Rattle.flow_send.proofs.Keepings.{begun_marks}
 use Rattle.flow_send.proofs.Fitting.{options_size}
 use Rattle.flow_send.proofs.sender.FlowSender.new.Goals as goal
-use Rattle.flow_send.proofs.sender.FlowSender.new.Goals.{After-new-3}
+use Rattle.flow_send.proofs.sender.FlowSender.new.Goals.{After-new-4}
 
-fresh : (c : After-new-3) → let f = c.args.first in sender_of (f - 1) c.in_ok-new.field-0.rows c.new-3.result None (f - 1) (f - 1) None None 0 ≡ new_sender f
+fresh : (c : After-new-4) → let f = c.args.first in sender_of (f - 1) c.in_ok-new.field-0.rows c.new-3.result None (f - 1) (f - 1) None None 0 ≡ new_sender f
 fresh c =
     let f = c.args.first in
     ap (λ (rs : List Row). sender_of (f - 1) rs c.new-3.result None (f - 1) (f - 1) None None 0) c.in_ok-new.ensures.none
     ∙ ap (λ (ws : List Waiting). sender_of (f - 1) [] ws None (f - 1) (f - 1) None None 0) c.new-3.ensures
 
-listed : (c : After-new-3) → options_in c.in_ok-spell_flow_options.field-0.items ≡ flow_options c.args.metadata.now c.args.answers
+listed : (c : After-new-4) → options_in c.in_ok-spell_flow_options.field-0.items ≡ flow_options c.args.metadata.now c.args.answers
 listed c = options_in-spelled (flow_options c.args.metadata.now c.args.answers) c.in_ok-spell_flow_options.field-0.items c.in_ok-spell_flow_options.ensures
 
 pub invariant_of-result : goal.invariant_of-result
@@ -33,6 +34,7 @@ invariant_of-result c = (
   ),
   λ none. c.in_ok-new.ensures.room,
   begin c.new-2.result (c.args.first - 1 + 1) c.in_ok-new.field-0.rows (ap (λ (o : Ordered). o.queue) c.new-2.ensures) c.in_ok-new.ensures.none,
+  begun_marks c.new-4.result c.new-3.result (c.args.first - 1 + 1) c.in_ok-new.field-0.rows c.in_ok-new.ensures.none,
 )
 
 pub returns : goal.returns

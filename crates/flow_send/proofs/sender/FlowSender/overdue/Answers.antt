@@ -1,6 +1,4 @@
-use Rattle.std.proofs.Common.{◌+◌}
 use Rattle.flow_send.proofs.Ends.{line_rows}
-use Rattle.flow_send.proofs.Lowest.{fresh_unspent}
 use Rattle.flow_send.specs.Sender.{sender_of}
 use Rattle.flow_send.proofs.sender.FlowSender.overdue.Goals as goal
 
@@ -9,7 +7,5 @@ first_overdue-requires-clause-line c =
     let i = c.self.inside in
     line_rows (sender_of i.forward i.rows.rows i.waiting i.finish i.sent i.upto i.told i.notice i.order) c.self.invariant.0
 
-pub first_overdue-requires-clause-fresh : goal.first_overdue-requires-clause-fresh
-first_overdue-requires-clause-fresh c =
-    let i = c.self.inside in
-    fresh_unspent i.sent (i.forward + 1) i.rows.rows i.waiting c.self.invariant.0.rows
+pub first_overdue-requires-clause-covers : goal.first_overdue-requires-clause-covers
+first_overdue-requires-clause-covers c = c.self.invariant.4

@@ -10,6 +10,7 @@ use Rattle.flow_send.specs.Flow.{Flow, with_sender}
 use Rattle.flow_send.proofs.Chosen.{put_is}
 use Rattle.flow_send.proofs.Steadies.{steady_sent_at, chosen_open, chosen_first}
 use Rattle.flow_send.proofs.Followed.{sent_on}
+use Rattle.flow_send.proofs.Keepings.{sent_marks}
 use Rattle.flow_send.proofs.sender.FlowSender.send_row.Goals as goal
 
 abbrev At : goal.After-self-2-1 → Sender
@@ -52,6 +53,7 @@ invariant_of-self c =
       c.self.invariant.1,
       λ none. let a = c.self.invariant.2 none in omega (arith, a, c.send.ensures.room),
       sent_on c.self.inside.sendings c.push.new.self c.saturating_add-self-inside.result (c.self.inside.forward + 1) c.args.at c.args.moment c.self.inside.rows.rows c.send.new.self.rows (subst (λ (f : Flow). c.args.at < length f.sender.rows) (sym c.self.view_is) c.requires.there) c.push.ensures c.send.ensures.rows c.self.invariant.3,
+      sent_marks c.self.inside.marks c.self.inside.waiting c.saturating_add-self-inside.result (c.self.inside.forward + 1) c.args.at c.args.moment c.self.inside.rows.rows c.send.new.self.rows (subst (λ (f : Flow). c.args.at < length f.sender.rows) (sym c.self.view_is) c.requires.there) c.send.ensures.rows c.self.invariant.4,
     )
 
 pub returns : goal.returns

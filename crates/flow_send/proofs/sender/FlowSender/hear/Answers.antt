@@ -1,18 +1,20 @@
-use Rattle.std.proofs.Common.{◌≡◌, ℕ, ◌+◌, ◌-◌, ◌≤◌, List, length, Some, ap, sym, ◌∙◌, subst, arith}
+use Rattle.std.proofs.Common.{◌≡◌, ℕ, ◌+◌, ◌-◌, ◌≤◌, List, length, map, Some, ap, sym, ◌∙◌, subst, arith}
 use Rattle.std.specs.List.{sum_by}
 use Rattle.flow_send.specs.Rows.{Row, stored_of}
 use Rattle.flow_send.specs.Sender.{sender_of, Sender}
-use Rattle.flow_send.specs.Acks.{told, last_ordinal, greatest, acknowledge, new_bytes, rows_acknowledged, rows_told, makes_lost, told_by}
+use Rattle.flow_send.specs.Acks.{told, last_ordinal, greatest, acknowledge, new_bytes, rows_acknowledged, rows_told, makes_lost, told_by, count_ack, still_waits}
 use Rattle.flow_send.specs.Messages.{OthersWait}
-use Rattle.flow_send.specs.Steady.{Steady, Line}
+use Rattle.flow_send.specs.Steady.{Steady, Line, end_of}
 use Rattle.flow_send.specs.Flow.{Flow, with_sender}
 use Rattle.flow_send.proofs.Ends.{line_rows, next_small}
 use Rattle.flow_send.proofs.Keeping.{front_fits}
 use Rattle.flow_send.proofs.Numbered.{map_length}
 use Rattle.flow_send.proofs.Steadies.{told_length, steady_told}
 use Rattle.flow_send.proofs.Followed.{acked_on, told_on, settled_on}
+use Rattle.flow_send.proofs.Keepings.{acked_marks, counted_marks, told_marks}
+use Rattle.flow_send.proofs.Walking.{in_line}
 use Rattle.flow_send.proofs.Tellings.{others_told, acked_bytes, counted_rows, counted_lost, told_eq}
-use Rattle.flow_send.proofs.sender.FlowSender.take_ack.Goals as goal
+use Rattle.flow_send.proofs.sender.FlowSender.hear.Goals as goal
 
 pub acknowledge-ordinal-requires : goal.acknowledge-ordinal-requires
 acknowledge-ordinal-requires c =
@@ -30,6 +32,17 @@ overflow_sub-bytes c =
     let g : greatest a.upto a.spans ≤ s.sent = omega (arith, c.greatest-greatest.ensures, c.if-greatest-self.false) in
     let e : c.acknowledge-ordinal.new.rows.rows ≡ rows_acknowledged a s = c.acknowledge-ordinal.ensures.rows in
     omega (arith, c.stored-before.ensures, c.stored.ensures, acked_bytes a s.sent (s.forward + 1) s.rows k.rows, ap (λ (xs : List Row). sum_by stored_of xs) e)
+
+pub mark-requires-clause-follows : goal.mark-requires-clause-follows
+mark-requires-clause-follows c =
+    let i = c.self.inside in
+    let a = told c.args.blocks c.args.upto c.args.spans in
+    acked_on i.sendings a (i.forward + 1) i.rows.rows c.acknowledge-ordinal.new.rows.rows c.acknowledge-ordinal.ensures.rows c.self.invariant.3
+
+pub mark-requires-clause-line : goal.mark-requires-clause-line
+mark-requires-clause-line c =
+    let i = c.self.inside in
+    in_line 0 (end_of (sender_of i.forward i.rows.rows i.waiting i.finish i.sent i.upto i.told i.notice i.order)) i.waiting c.self.invariant.0.line
 
 pub count_acks-lost-requires-clause-inside : goal.count_acks-lost-requires-clause-inside
 count_acks-lost-requires-clause-inside c =
@@ -102,6 +115,10 @@ invariant_of-self c =
       λ none. let r = c.self.invariant.2 none in omega (arith, r, c.acknowledge-ordinal.ensures.room, c.count_acks-lost.ensures.room, c.settle.ensures.room),
       settled_on c.prune.new.self i.forward c.settle.result c.count_acks-lost.new.rows.rows c.settle.new.self.rows c.settle.ensures.count c.settle.ensures.rows
           (c.prune.ensures (told_on i.sendings a (last_ordinal a (s.forward + 1) s.rows) (i.forward + 1) i.rows.rows c.count_acks-lost.new.rows.rows rows c.self.invariant.3)),
+      told_marks c.mark.new.marks i.waiting c.drop_done.new.self (still_waits (i.forward + 1) c.count_acks-lost.new.rows.rows) i.forward c.settle.result c.count_acks-lost.new.rows.rows c.settle.new.self.rows c.drop_done.ensures c.settle.ensures.count c.settle.ensures.rows
+          (counted_marks i.marks c.mark.new.marks i.waiting c.acknowledge-ordinal.result (i.forward + 1) c.acknowledge-ordinal.new.rows.rows c.count_acks-lost.new.rows.rows
+          (rows ∙ (ap (λ o. map (count_ack o) (rows_acknowledged a s)) (sym c.acknowledge-ordinal.ensures.ordinal) ∙ ap (λ (xs : List Row). map (count_ack c.acknowledge-ordinal.result) xs) (sym e)))
+          c.mark.ensures.grows c.mark.ensures.covers (acked_marks i.marks i.waiting a (i.forward + 1) i.rows.rows c.acknowledge-ordinal.new.rows.rows e c.self.invariant.4)),
     )
 
 pub returns-clause-bytes : goal.returns-clause-bytes

@@ -3,15 +3,15 @@ use Rattle.std.proofs.Common.{◌+◌, ◌<◌, ◌^◌, length, None, sym, ◌�
 use Rattle.flow_send.specs.Lows.{AreLows, IsFoundIn}
 use Rattle.flow_send.proofs.Walking.{in_line}
 use Rattle.flow_send.proofs.Lowest.{Passed, few_of, pass_first, pass_next, first_none, found_first, not_some}
-use Rattle.flow_send.proofs.backlog.Backlog.look_at_late.Goals as goal
+use Rattle.flow_send.proofs.backlog.Backlog.look_at_blocks.Goals as goal
 
 pub loop-next-init : goal.loop-next-init
 loop-next-init c =
     let i = c.self.inside in
     let ws = c.args.self.now in
     record {
-      few = few_of i.lows c.blocks-from.result.0 c.blocks-from.result.1 c.args.moment c.first_block-next.result c.blocks-from.ensures.few c.first_block-next.ensures;
-      passed = pass_first c.args.moment (c.args.forward + 1) c.args.rows.now.rows i.lows ws c.blocks-from.result.0 c.blocks-from.result.1 c.first_block-next.result (subst (AreLows i.lows) c.self.view_is c.self.invariant.3) c.requires.unspent c.blocks-from.ensures.within c.first_block-next.ensures;
+      few = few_of i.lows c.args.marks.now c.blocks-from.result.0 c.blocks-from.result.1 c.args.moment c.first_block-next.result c.blocks-from.ensures.few c.first_block-next.ensures;
+      passed = pass_first c.args.moment (c.args.forward + 1) c.args.rows.now.rows i.lows c.args.marks.now ws c.blocks-from.result.0 c.blocks-from.result.1 c.first_block-next.result (subst (AreLows i.lows) c.self.view_is c.self.invariant.3) c.requires.covers c.blocks-from.ensures.within c.first_block-next.ensures;
     }
 
 pub loop-next-preserved : goal.loop-next-preserved
@@ -22,8 +22,8 @@ loop-next-preserved c =
     let rows = c.args.rows.now.rows in
     let b = c.in-Some.block in
     record {
-      few = few_of i.lows (b + 1) c.blocks-from.result.1 c.args.moment c.first_block-next-in-Some.result c.blocks-from.ensures.few c.first_block-next-in-Some.ensures;
-      passed = pass_next c.args.moment n rows i.lows ws c.blocks-from.result.0 c.blocks-from.result.1 b c.first_block-next-in-Some.result (subst (AreLows i.lows) c.self.view_is c.self.invariant.3) c.requires.unspent c.blocks-from.ensures.within
+      few = few_of i.lows c.args.marks.now (b + 1) c.blocks-from.result.1 c.args.moment c.first_block-next-in-Some.result c.blocks-from.ensures.few c.first_block-next-in-Some.ensures;
+      passed = pass_next c.args.moment n rows i.lows c.args.marks.now ws c.blocks-from.result.0 c.blocks-from.result.1 b c.first_block-next-in-Some.result (subst (AreLows i.lows) c.self.view_is c.self.invariant.3) c.requires.covers c.blocks-from.ensures.within
           (subst (Passed c.args.moment n rows ws) c.in-Some.is c.loop-next.invariant.passed)
           (subst (IsFoundIn c.args.moment n rows b ws) (not_some c.look_in-found.result (sym c.is_some.ensures ∙ c.if-is_some.false)) c.look_in-found.ensures) c.first_block-next-in-Some.ensures;
     }

@@ -2,7 +2,7 @@ use Rattle.std.proofs.Common.{◌+◌, ◌^◌, ◌<◌}
 use Rattle.std.specs.Prelude.{IfSome}
 use Rattle.flow_send.proofs.Lowest.{Passed}
 use Rattle.flow_send.proofs.Walking.{left_numbers}
-use Rattle.flow_send.proofs.backlog.Backlog.look_at_late.Given as goal
+use Rattle.flow_send.proofs.backlog.Backlog.look_at_blocks.Given as goal
 
 abbrev pub invariant-loop-next : goal.invariant-loop-next
 invariant-loop-next l = record {

@@ -1,0 +1,7 @@
+use Rattle.std.proofs.Common.{◌+◌}
+use Rattle.flow_send.proofs.Marking.{covers_cleared}
+use Rattle.flow_send.proofs.backlog.Backlog.clear_blocks.Goals as goal
+
+pub loop-block-preserved : goal.loop-block-preserved
+loop-block-preserved c =
+    covers_cleared c.loop-block.marks c.clear.new.self c.args.from c.args.to c.args.end c.loop-block.block c.args.self.now (c.args.forward + 1) c.args.rows.now.rows c.requires.within c.requires.places c.loop-block.auto.block c.loop-block-test.true c.requires.end c.requires.passed c.clear.ensures c.loop-block.invariant
