@@ -1,5 +1,5 @@
 -- The near ids of attempts by a word of each.
-use Rattle.std.specs.Prelude.{ℕ, ◌≡◌, Bool, true, List, take, Option, Some, refl}
+use Rattle.std.specs.Prelude.{ℕ, ◌≡◌, Bool, true, List, take, Some, refl}
 use Rattle.std.specs.Int.{w64, from_be_bytes}
 use Rattle.std.specs.Coded.{Coded, code_by, coded×, coded_ℕ, coded_bool}
 use Rattle.std.specs.Ordering.{nat_cmp}

@@ -6,6 +6,7 @@ pub mod Due
 pub mod Sought
 pub mod Table
 pub mod Indexed
+pub mod Marks
 pub mod Keyings
 pub mod Read
 pub mod Redirects

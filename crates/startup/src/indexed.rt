@@ -1,4 +1,4 @@
-//! The attempts of an end, found by their numbers and tags as well.
+//! The attempts of an end, found by their numbers, tags and cookies as well.
 
 ghost use Rattle.std.specs.Prelude.{◌≡◌, ◌≢◌, ◌<◌, ◌^◌, ◌≤◌, true, None, Some, OnOk, length};
 ghost use Rattle.std.specs.Option.{option_copied};
@@ -9,12 +9,16 @@ ghost use Rattle.startup.specs.Due.{is_due};
 ghost use Rattle.startup.specs.Sought.{fits, IsChosen, change_of, Allows};
 ghost use Rattle.startup.specs.Table.{in_attempt};
 ghost use Rattle.startup.specs.Indexed.{word_of, IsFoundBy};
+ghost use Rattle.startup.specs.declared.marks.Mark.{Mark};
+ghost use Rattle.startup.specs.Marks.{cookie_word, mark_of, passes_in, AreFrom, IsAscending, IsMarked, IsMarkedBut, KeepsMarks};
 
-use crate::attempt::{Attempt, Change};
+use crate::attempt::{Attempt, COOKIE_LIMIT, Change, Stage};
 use crate::index::Index;
+use crate::marks::{Mark, Marks, place};
 use crate::rows::{Sought, fits};
 use crate::table::AttemptTable;
 use rtmfp_base::Memory;
+use sha2::{Digest, Sha256};
 use std::alloc::Global;
 use std::marker::Model;
 
@@ -22,12 +26,17 @@ use std::marker::Model;
 const WORD: usize = 8;
 
 /// The attempts of an end, as a table of them is seen. One is found by its number and by its tag in
-/// constant time on average, as long as no two have had one number, or tags that begin alike.
+/// constant time on average, as long as no two have had one number, or tags that begin alike; by
+/// its cookie in a logarithm of their number.
+///
+/// Numbers and tags are the end's own, counted or drawn, so no peer can make two alike or choose
+/// them for their words. Cookies are the peers', who may.
 #[derive(Drop)]
 pub(crate) struct IndexedAttempts {
     table: AttemptTable,
     numbers: Index,
     tags: Index,
+    cookies: Marks,
 }
 
 impl Model for IndexedAttempts {
@@ -41,8 +50,10 @@ impl Model for IndexedAttempts {
 
     ghost view = { λ t. t.table };
 
+    ghost use Rattle.startup.specs.Marks.{IsMarked};
+
     ghost invariant = { λ t. IsIndexed number_word t.numbers t.table.attempts
-        × IsIndexed tag_word t.tags t.table.attempts };
+        × IsIndexed tag_word t.tags t.table.attempts × IsMarked t.cookies t.table.attempts };
 }
 
 /// The word of a tag: its first 8 bytes.
@@ -75,6 +86,98 @@ fn find_in(table: &AttemptTable, index: &Index, word: u64, sought: &Sought<'_>) 
     None
 }
 
+/// The word of a cookie.
+fn cookie_word(cookie: &[u8]) -> u64
+    requires { length cookie.now ≤ 128 }
+    ensures { result ≡ cookie_word cookie.now }
+{
+    let print = Sha256::digest(cookie);
+    word_of(&print)
+}
+
+/// The mark of an attempt under a near id.
+fn mark_of(attempt: &Attempt, near: u32) -> Option<Mark>
+    ensures { result ≡ mark_of attempt.now near }
+{
+    match &attempt.stage {
+        Stage::Hello => None,
+        Stage::Keying { cookie, .. } => Some(Mark {
+            word: cookie_word(cookie.bytes()),
+            near,
+        }),
+    }
+}
+
+/// The mark of the attempt under this near id, where it has one, is put with the others.
+fn mark(table: &AttemptTable, marks: &mut Marks, near: u32)
+    requires { IsMarkedBut near marks.old table.now.attempts }
+    ensures { IsMarked marks.new table.now.attempts }
+{
+    let Some(attempt) = table.get(near) else {
+        return;
+    };
+    let Some(mark) = mark_of(attempt, near) else {
+        return;
+    };
+    marks.put(mark);
+}
+
+/// The mark of the attempt under this near id, where it has one, is taken from the others.
+fn unmark(table: &AttemptTable, marks: &mut Marks, near: u32)
+    requires { IsMarked marks.old table.now.attempts }
+    ensures { IsMarkedBut near marks.new table.now.attempts }
+{
+    let Some(attempt) = table.get(near) else {
+        return;
+    };
+    let Some(mark) = mark_of(attempt, near) else {
+        return;
+    };
+    marks.take(mark);
+}
+
+/// Whether an attempt has the mark that it had after such a change.
+fn keeps_mark(change: &Change<'_>) -> bool
+    ensures { result ≡ true → KeepsMarks change.now }
+{
+    match change {
+        Change::Answered(..) => false,
+        Change::Recookied(_) => false,
+        Change::Extended(_) => true,
+        Change::Repeated => true,
+    }
+}
+
+/// Whether the attempt under this near id is one that is sought.
+fn is_sought(table: &AttemptTable, near: u32, sought: &Sought<'_>) -> bool
+    ensures { result ≡ passes_in (fits sought.now) (get table.now.attempts near) }
+{
+    match table.get(near) {
+        None => false,
+        Some(attempt) => fits(attempt, sought),
+    }
+}
+
+/// The near id of the attempt that is sought, whose mark has this word. It looks at those alone
+/// whose marks have it.
+fn find_marked(table: &AttemptTable, marks: &[Mark], word: u64, sought: &Sought<'_>) -> Option<u32>
+    requires order { IsAscending marks.now }
+    requires marked { AreFrom (fits sought.now) marks.now 0 word table.now.attempts }
+    ensures { IsChosen (lowest (fits sought.now) table.now.attempts) table.now.attempts result }
+{
+    let start = place(marks, Mark { word, near: 0 });
+    for at in start..marks.len() {
+        let mark = marks[at];
+        if mark.word != word {
+            return None;
+        }
+        if is_sought(table, mark.near, sought) {
+            return Some(mark.near);
+        }
+    }
+    None
+}
+
 impl IndexedAttempts {
     /// No attempts. It takes no memory.
     pub(crate) fn new(alloc: Global) -> IndexedAttempts
@@ -84,6 +187,7 @@ impl IndexedAttempts {
             table: AttemptTable::new(alloc),
             numbers: Index::new(alloc),
             tags: Index::new(alloc),
+            cookies: Marks::new(alloc),
         }
     }
 
@@ -115,6 +219,10 @@ impl IndexedAttempts {
             Ok(()) => {}
             Err(Memory) => return Err(Memory),
         }
+        match self.cookies.reserve(self.table.count() + 1) {
+            Ok(()) => {}
+            Err(Memory) => return Err(Memory),
+        }
         self.table.reserve()
     }
 
@@ -128,6 +236,7 @@ impl IndexedAttempts {
         self.numbers.put(attempt.n, near);
         self.tags.put(word_of(&attempt.tag), near);
         self.table.keep(near, attempt);
+        mark(&self.table, &mut self.cookies, near);
     }
 
     /// Changes the attempt under this near id, where there is one, at a moment. It takes no memory.
@@ -136,13 +245,20 @@ impl IndexedAttempts {
         ensures { self.new.attempts
             ≡ in_attempt (change_of change.now moment) self.old.attempts near }
     {
+        if keeps_mark(change) {
+            self.table.change(near, change, moment);
+            return;
+        }
+        unmark(&self.table, &mut self.cookies, near);
         self.table.change(near, change, moment);
+        mark(&self.table, &mut self.cookies, near);
     }
 
     /// Forgets the attempt under this near id, where there is one. It takes no memory.
     pub(crate) fn forget(&mut self, near: u32)
         ensures { self.new.attempts ≡ remove self.old.attempts near }
     {
+        unmark(&self.table, &mut self.cookies, near);
         let Some(attempt) = self.table.get(near) else {
             self.table.forget(near);
             return;
@@ -164,7 +280,17 @@ impl IndexedAttempts {
                 }
                 find_in(&self.table, &self.tags, word_of(tag), sought)
             }
-            Sought::Cookie(_) => self.table.find(sought),
+            Sought::Cookie(cookie) => {
+                if cookie.len() > COOKIE_LIMIT || !self.cookies.is_whole() {
+                    return self.table.find(sought);
+                }
+                find_marked(
+                    &self.table,
+                    self.cookies.in_order(),
+                    cookie_word(cookie),
+                    sought,
+                )
+            }
         }
     }
 

@@ -19,6 +19,7 @@ mod keys;
 pub mod laws;
 mod leaving;
 mod looking;
+mod marks;
 mod packets;
 mod parts;
 mod reading;

@@ -9,4 +9,5 @@ pub invariant_of-result : goal.invariant_of-result
 invariant_of-result c = (
   λ whole near a there. absurd (none-some a (sym (get-empty nat_cmp near) ∙ sym (ap (λ (m : Attempts). get m near) c.new.ensures) ∙ there)),
   λ whole near a there. absurd (none-some a (sym (get-empty nat_cmp near) ∙ sym (ap (λ (m : Attempts). get m near) c.new.ensures) ∙ there)),
+  λ whole near a mark there has. absurd (none-some a (sym (get-empty nat_cmp near) ∙ sym (ap (λ (m : Attempts). get m near) c.new.ensures) ∙ there)),
 )

@@ -1,0 +1,27 @@
+use Rattle.std.proofs.Common.{◌<◌, ◌∙◌, sym, arith, length}
+use Rattle.startup.specs.Sought.{fits}
+use Rattle.startup.proofs.Marking.{from_place, from_next, none_left, none_further, first_is_lowest}
+use Rattle.startup.proofs.indexed.find_marked.Goals as goal
+
+pub loop-at-init : goal.loop-at-init
+loop-at-init c = (omega arith, from_place (fits c.args.sought.now) c.args.marks.now c.args.word c.args.table.now.attempts c.place-start.result c.place-start.ensures c.requires.marked)
+
+pub loop-at-preserved : goal.loop-at-preserved
+loop-at-preserved c =
+    let here = c.loop-at.invariant.0 in
+    (omega (arith, here), from_next (fits c.args.sought.now) c.args.marks.now c.args.word c.args.table.now.attempts c.loop-at.at c.loop-at.invariant.1 (sym c.is_sought.ensures ∙ c.if-is_sought.false))
+
+pub returns-then-mark-word : goal.returns-then-mark-word
+returns-then-mark-word c =
+    let inside : c.loop-at.at < length c.args.marks.now = omega arith in
+    none_further (fits c.args.sought.now) c.args.marks.now c.args.word c.args.table.now.attempts c.loop-at.at c.loop-at.invariant.1 c.requires.order inside
+    (c.place-start.ensures.behind c.loop-at.at c.loop-at.invariant.0 inside) (λ e. omega (arith, e))
+
+pub returns-then-is_sought : goal.returns-then-is_sought
+returns-then-is_sought c =
+    let inside : c.loop-at.at < length c.args.marks.now = omega arith in
+    first_is_lowest (fits c.args.sought.now) c.args.marks.now c.args.word c.args.table.now.attempts c.loop-at.at c.loop-at.invariant.1 c.requires.order inside
+    (omega arith) (sym c.is_sought.ensures ∙ c.if-is_sought.true)
+
+pub returns : goal.returns
+returns c = none_left (fits c.args.sought.now) c.args.marks.now c.args.word c.args.table.now.attempts c.loop-at.at c.loop-at.invariant.1 (omega arith)

@@ -1,0 +1,105 @@
+-- The marks of attempts, each the word of a cookie and a near id, and their order.
+use Rattle.std.specs.Prelude.{ℕ, ◌≡◌, ◌<◌, ◌≤◌, Bool, true, false, List, take, length, slice_index_or, Option, Some, None, refl}
+use Rattle.std.specs.Int.{w64, from_be_bytes}
+use Rattle.std.specs.Coded.{Coded, code_by, coded×, coded_list, coded_bool}
+use Rattle.std.specs.FinMap.{get}
+use Rattle.sha2.specs.Sha256.{sha256}
+use Rattle.startup.specs.declared.marks.Mark.{Mark}
+use Rattle.startup.specs.declared.attempt.Stage.{Stage}
+use Rattle.startup.specs.declared.attempt.Stage.TheVariants.{Hello, Keying}
+use Rattle.startup.specs.declared.attempt.Change.{Change}
+use Rattle.startup.specs.State.{AttemptState, Attempts}
+use Rattle.startup.specs.Sought.{change_of}
+
+-- the marks, and whether there was room for each
+pub record Marked : Type 0 where
+  pub marks : List Mark
+  pub whole : Bool
+
+abbrev pub marked_code : Coded Mark → Coded Marked
+marked_code mark =
+    code_by (List Mark × Bool) (coded× (coded_list mark) coded_bool) (λ m. (m.marks, m.whole))
+    (λ p. record { marks = p.0; whole = p.1 }) (λ _. refl)
+
+-- ---- their order: by words, and under one word by near ids
+
+pub record IsBefore (one other : Mark) : Type 0 where
+  pub words : one.word ≤ other.word
+  pub nears : one.word ≡ other.word → one.near < other.near
+
+pub record IsUpTo (one other : Mark) : Type 0 where
+  pub words : one.word ≤ other.word
+  pub nears : one.word ≡ other.word → one.near ≤ other.near
+
+abbrev pub no_mark : Mark
+no_mark = record { word = 0; near = 0 }
+
+abbrev pub mark_at : List Mark → ℕ → Mark
+mark_at marks k = slice_index_or marks k no_mark
+
+abbrev pub IsAscending : List Mark → Type 0
+IsAscending marks = (j k : ℕ) → j ≤ k → k < length marks → IsUpTo (mark_at marks j) (mark_at marks k)
+
+-- A mark has its place behind those before it.
+pub record IsPlace (marks : List Mark) (mark : Mark) (at : ℕ) : Type 0 where
+  pub inside : at ≤ length marks
+  pub before : (k : ℕ) → k < at → IsBefore (mark_at marks k) mark
+  pub behind : (k : ℕ) → at ≤ k → k < length marks → IsUpTo mark (mark_at marks k)
+
+-- Its place lies between two.
+pub record IsBetween (marks : List Mark) (mark : Mark) (low high : ℕ) : Type 0 where
+  pub order : low ≤ high
+  pub inside : high ≤ length marks
+  pub before : (k : ℕ) → k < low → IsBefore (mark_at marks k) mark
+  pub behind : (k : ℕ) → high ≤ k → k < length marks → IsUpTo mark (mark_at marks k)
+
+-- A mark is one of these, from this one on.
+pub record StandsFrom (marks : List Mark) (start : ℕ) (mark : Mark) : Type 0 where
+  pub at : ℕ
+  pub least : start ≤ at
+  pub inside : at < length marks
+  pub here : mark_at marks at ≡ mark
+
+abbrev pub Stands : List Mark → Mark → Type 0
+Stands marks mark = StandsFrom marks 0 mark
+
+-- ---- the marks of attempts
+
+-- the word of a cookie: the first 8 bytes of its SHA-256, so that cookies with one word are alike
+unfoldable pub cookie_word : List ℕ → ℕ
+cookie_word cookie = from_be_bytes w64 (take 8 (sha256 cookie))
+
+-- An attempt has a mark in the keying stage alone.
+abbrev pub mark_in : Stage → ℕ → Option Mark
+mark_in Hello near = None
+mark_in (Keying at cookie) near = Some (record { word = cookie_word cookie; near = near })
+
+abbrev pub mark_of : AttemptState → ℕ → Option Mark
+mark_of a near = mark_in a.stage near
+
+-- While there was room, each attempt's mark is one of these.
+abbrev pub IsMarked : Marked → Attempts → Type 0
+IsMarked marked attempts = marked.whole ≡ true → (near : ℕ) (a : AttemptState) (mark : Mark) →
+    get attempts near ≡ Some a → mark_of a near ≡ Some mark → Stands marked.marks mark
+
+-- The same of all attempts but one.
+abbrev pub IsMarkedBut : ℕ → Marked → Attempts → Type 0
+IsMarkedBut one marked attempts = marked.whole ≡ true → (near : ℕ) (a : AttemptState)
+    (mark : Mark) → (near ≡ one → ⊥) → get attempts near ≡ Some a →
+    mark_of a near ≡ Some mark → Stands marked.marks mark
+
+-- An attempt has the mark that it had after such a change.
+abbrev pub KeepsMarks : Change → Type 0
+KeepsMarks change = (moment : ℕ) (a : AttemptState) (near : ℕ) →
+    mark_of (change_of change moment a) near ≡ mark_of a near
+
+-- whether an attempt is there that passes
+abbrev pub passes_in : (AttemptState → Bool) → Option AttemptState → Bool
+passes_in test None = false
+passes_in test (Some a) = test a
+
+-- The mark of each attempt that passes is one of these under this word, from this one on.
+abbrev pub AreFrom : (AttemptState → Bool) → List Mark → ℕ → ℕ → Attempts → Type 0
+AreFrom test marks start word attempts = (near : ℕ) (a : AttemptState) →
+    get attempts near ≡ Some a → test a ≡ true →
+    StandsFrom marks start (record { word = word; near = near })
