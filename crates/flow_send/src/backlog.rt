@@ -359,6 +359,9 @@ impl Backlog {
         requires { Line 0 (forward + 1 + length rows.now.rows) self.old }
         ensures { self.new ≡ self.old }
     {
+        if moment <= self.soonest {
+            return;
+        }
         let (from, to) = self.blocks(rows, forward);
         if to.saturating_sub(from) > PLACES {
             return;
