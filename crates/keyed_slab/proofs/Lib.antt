@@ -1,0 +1,6 @@
+pub mod KeyMaps
+pub mod Named
+pub mod Placing
+pub mod Seated
+pub mod Slots
+pub mod Walked

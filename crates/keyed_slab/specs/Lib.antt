@@ -1,0 +1,7 @@
+pub mod KeyedSlab
+pub mod Keys
+pub mod Lends
+pub mod Inside
+pub mod Seating
+pub mod SlotSet
+pub mod Walks

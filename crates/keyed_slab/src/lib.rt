@@ -1,0 +1,12 @@
+//! Things in the slots of a slab, each under a key that names it and never another thing.
+//!
+//! Only what is called `reserve` takes memory.
+#![tactic(auto)]
+
+mod keyed_slab;
+mod keys;
+mod slot_set;
+
+pub use keyed_slab::KeyedSlab;
+pub use keys::{Key, Keys};
+pub use slot_set::SlotSet;
