@@ -1,5 +1,5 @@
--- One row of the list is changed.
-use Rattle.std.proofs.Common.{ℕ, List, ◌≡◌, ◌+◌, get_or, set, Bool, true, false, if◌then◌else◌, Option, Some, None, refl, sym, ap, ◌∙◌}
+-- One row is changed.
+use Rattle.std.proofs.Common.{ℕ, ◌≡◌, ◌+◌, Bool, true, false, if◌then◌else◌, Option, Some, None, refl, sym, ap, ◌∙◌}
 use Rattle.std.specs.FinMap.{insert}
 use Rattle.session_core.specs.declared.stage.Stage.TheVariants.{NearClose, FarLinger}
 use Rattle.session_core.specs.declared.stage.SessionDue.{SessionDue}
@@ -8,43 +8,44 @@ use Rattle.session_core.specs.Session.{SessionState}
 use Rattle.session_core.specs.Sealed.{after_seal, is_spent}
 use Rattle.session_core.specs.Closing.{is_held, closed_near, asked_to_close, after_due, needs_keepalive, kept_alive}
 use Rattle.endpoint_model.specs.declared.row.Row.{Row}
-use Rattle.rtmfp_base.proofs.Rows.{index_found}
-use Rattle.session_table.specs.Table.{near_of, itself, table_of, with_changed, in_row, of_session}
+use Rattle.std.proofs.lemmas.Option.{same_Some}
 use Rattle.deadlines.specs.Deadlines.{Slots}
-use Rattle.session_table.specs.Inside.{Indices, IsKept, IsLoose}
-use Rattle.session_table.proofs.Rows.{index_in, put_at, found_at, found_nowhere}
-use Rattle.session_table.proofs.Found.{set_loose}
+use Rattle.keyed_slab.specs.Keys.{KeyTable}
+use Rattle.keyed_slab.specs.KeyedSlab.{Seats, thing_at, with_thing}
+use Rattle.keyed_slab.specs.SlotSet.{Flags}
+use Rattle.keyed_slab.proofs.Seated.{set_loose}
+use Rattle.session_table.specs.Table.{near_of, with_changed, in_row, of_session}
+use Rattle.session_table.specs.Inside.{IsKept, IsLoose, due_from, rows_in, sends_of, slot_of}
+use Rattle.session_table.proofs.Rows.{IsThere, row_there, put_at, found_at, found_nowhere}
 
-pub record IsChanged (change : Row → Row) (rows : List Row) (at : Indices) (slots : Slots) (sending near index : ℕ) (changed : List Row) : Type 0 where
-  pub table : table_of changed ≡ in_row change (table_of rows) near
-  pub loose : IsLoose changed at slots sending index
+pub record IsChanged (change : Row → Row) (rows : Seats Row) (keys : KeyTable) (deadlines : Slots) (sending : Flags) (near slot : ℕ) (new : Row) : Type 0 where
+  pub table : rows_in (with_thing rows slot new) ≡ in_row change (rows_in rows) near
+  pub loose : IsLoose (with_thing rows slot new) keys deadlines sending slot
 
--- in rows that are these, the row at the index of a session ID, which stays
-pub changed_at : {at : Indices} {slots : Slots} {sending : ℕ} (change : Row → Row) (rows seen : List Row) (near index : ℕ) (old new : Row) → IsKept rows at slots sending → Some index ≡ index_in seen near → seen ≡ rows →
-    old ≡ get_or rows index old → new ≡ change old → near_of (change old) ≡ near_of old → IsChanged change rows at slots sending near index (set rows index new)
-changed_at {at} {slots} {sending} change rows seen near index old new kept position seen_is is made same =
-    let found : index_in rows near ≡ Some index = sym (position ∙ ap (λ (r : List Row). index_in r near) seen_is) in
-    let place = index_found near_of itself rows near index kept.ordered.distinct found in
-    let stays : near_of new ≡ near_of (get_or rows index old) = ap near_of made ∙ same ∙ ap near_of is in
-    let id : near_of new ≡ near = stays ∙ place.key_is old in
-    let put = put_at rows new index kept.ordered.distinct (ap (index_in rows) id ∙ found) in
+-- the row in the slot of a session ID, which stays
+pub changed_at : {keys : KeyTable} {deadlines : Slots} {sending : Flags} (change : Row → Row) (rows : Seats Row) (near slot : ℕ) (old new : Row) → IsKept rows keys deadlines sending → Some slot ≡ slot_of keys near →
+    thing_at rows slot ≡ Some old → new ≡ change old → near_of (change old) ≡ near_of old → IsChanged change rows keys deadlines sending near slot new
+changed_at {keys} {deadlines} {sending} change rows near slot old new kept position is made same =
+    let there = row_there rows near kept slot position in
+    let stays : near_of new ≡ near_of old = ap near_of made ∙ same in
+    let id : near_of new ≡ near = stays ∙ ap near_of (same_Some old there.row (sym is ∙ there.stands)) ∙ there.near_is in
     record {
-      table = put.table ∙ ap (λ (k : ℕ). insert (table_of rows) k new) id ∙ ap (insert (table_of rows) near) made
-          ∙ sym (ap (with_changed change (table_of rows) near) (found_at rows near index old kept.ordered.distinct found is));
-      loose = set_loose rows at slots sending index new old kept stays put.distinct;
+      table = put_at rows slot old new kept is stays ∙ ap (λ (k : ℕ). insert (rows_in rows) k new) id ∙ ap (insert (rows_in rows) near) made
+          ∙ sym (ap (with_changed change (rows_in rows) near) (found_at rows near kept slot old position is));
+      loose = set_loose near_of due_from sends_of rows.things rows.generations keys deadlines sending slot old new kept is stays;
     }
 
 -- the same of the session in it
-pub session_changed : {at : Indices} {slots : Slots} {sending : ℕ} (change : SessionState → SessionState) (rows seen : List Row) (near index : ℕ) (old : Row) (new : SessionState) → IsKept rows at slots sending →
-    Some index ≡ index_in seen near → seen ≡ rows → old ≡ get_or rows index old → new ≡ change old.session → (change old.session).joined.near ≡ old.session.joined.near →
-    IsChanged (of_session change) rows at slots sending near index (set rows index (record old { session = new }))
-session_changed {at} {slots} {sending} change rows seen near index old new kept position seen_is is made same =
-    changed_at (of_session change) rows seen near index old (record old { session = new }) kept position seen_is is (ap (λ (s : SessionState). record old { session = s }) made) same
+pub session_changed : {keys : KeyTable} {deadlines : Slots} {sending : Flags} (change : SessionState → SessionState) (rows : Seats Row) (near slot : ℕ) (old : Row) (new : SessionState) → IsKept rows keys deadlines sending →
+    Some slot ≡ slot_of keys near → thing_at rows slot ≡ Some old → new ≡ change old.session → (change old.session).joined.near ≡ old.session.joined.near →
+    IsChanged (of_session change) rows keys deadlines sending near slot (record old { session = new })
+session_changed change rows near slot old new kept position is made same =
+    changed_at (of_session change) rows near slot old (record old { session = new }) kept position is (ap (λ (s : SessionState). record old { session = s }) made) same
 
 -- where no row has the session ID
-pub unchanged : (change : Row → Row) (rows seen : List Row) (near : ℕ) → None ≡ index_in seen near → seen ≡ rows → table_of rows ≡ in_row change (table_of rows) near
-unchanged change rows seen near position seen_is =
-    sym (ap (with_changed change (table_of rows) near) (found_nowhere rows near (sym (position ∙ ap (λ (r : List Row). index_in r near) seen_is))))
+pub unchanged : {keys : KeyTable} {deadlines : Slots} {sending : Flags} (change : Row → Row) (rows : Seats Row) (near : ℕ) → IsKept rows keys deadlines sending → None ≡ slot_of keys near →
+    rows_in rows ≡ in_row change (rows_in rows) near
+unchanged change rows near kept position = sym (ap (with_changed change (rows_in rows) near) (found_nowhere rows near kept position))
 
 -- ---- the changes leave a session under its ID
 

@@ -2,46 +2,21 @@
 use Rattle.std.proofs.Common.{ℕ, ◌≡◌, ◌<◌, ◌+◌, ◌&&◌, List, [], ◌∷◌, map, length, Bool, true, false, cond, if◌then◌else◌, Option, Some, None, T, inl, inr, refl, sym, ap, ◌∙◌, arith}
 use Rattle.std.specs.Option.{option_map}
 use Rattle.std.specs.Ordering.{nat_cmp, eq_by_cmp, is_lt}
-use Rattle.std.specs.Cmp.{nat_cmp_total}
-use Rattle.std.specs.FinMap.{get, len, keys, entries, entries_sorted, get-entries, get-insert, get-empty, is_sorted}
+use Rattle.std.specs.FinMap.{get, keys, entries, entries_sorted, get-entries, is_sorted}
 use Rattle.std.specs.FinMap as fin
 use Rattle.std.specs.FinMap.Entries.{below_all}
 use Rattle.std.proofs.lemmas.Bool.Decides.{nat_tests}
-use Rattle.rtmfp_base.proofs.Maps.{same_tables, same_or_not, get_inserted, get_beside, len_new}
-use Rattle.rtmfp_base.proofs.Rows.{first_is_new, rest_are_distinct}
+use Rattle.rtmfp_base.proofs.Maps.{same_tables, same_or_not, get_inserted, get_beside}
 use Rattle.session_core.specs.Session.{SessionState}
 use Rattle.session_core.specs.Closing.{with_loss}
 use Rattle.session_flows.specs.Timing.{is_any_late}
 use Rattle.endpoint_model.specs.declared.row.Row.{Row}
 use Rattle.endpoint_model.specs.State.{State, Sessions, with_sessions}
 use Rattle.endpoint_model.specs.FlowTimes.{late_marked, late_at, late_each, all_late}
-use Rattle.session_table.specs.Table.{near_of, itself, table_of}
+use Rattle.session_table.specs.Table.{near_of}
 use Rattle.session_table.specs.FlowTimes.{AreLate}
 
--- ---- each row is changed, and stays under its session ID
-
-pushed : (f : Row → Row) (r : Row) (o : Option Row) (b : Bool) → cond b (Some (f r)) (option_map f o) ≡ option_map f (cond b (Some r) o)
-pushed f r o true = refl
-pushed f r o false = refl
-
-module _ (f : Row → Row) (keeps : (r : Row) → near_of (f r) ≡ near_of r) where
-  mapped_get : (rows : List Row) (q : ℕ) → get (table_of (map f rows)) q ≡ option_map f (get (table_of rows) q)
-  mapped_get [] q = get-empty nat_cmp q ∙ sym (ap (option_map f) (get-empty nat_cmp q))
-  mapped_get (r ∷ rows) q =
-      get-insert nat_cmp_total (table_of (map f rows)) (near_of (f r)) (f r) q
-      ∙ ap (λ (k : ℕ). cond (eq_by_cmp nat_cmp q k) (Some (f r)) (get (table_of (map f rows)) q)) (keeps r)
-      ∙ ap (cond (eq_by_cmp nat_cmp q (near_of r)) (Some (f r))) (mapped_get rows q)
-      ∙ pushed f r (get (table_of rows) q) (eq_by_cmp nat_cmp q (near_of r))
-      ∙ sym (ap (option_map f) (get-insert nat_cmp_total (table_of rows) (near_of r) r q))
-
-  mapped_distinct : (rows : List Row) → len (table_of rows) ≡ length rows → len (table_of (map f rows)) ≡ length (map f rows)
-  mapped_distinct [] distinct = distinct
-  mapped_distinct (r ∷ rows) distinct =
-      let none : get (table_of rows) (near_of r) ≡ None = first_is_new near_of itself r rows distinct in
-      let new : get (table_of (map f rows)) (near_of (f r)) ≡ None = ap (get (table_of (map f rows))) (keeps r) ∙ mapped_get rows (near_of r) ∙ ap (option_map f) none in
-      let rest : len (table_of (map f rows)) ≡ length (map f rows) = mapped_distinct rows (rest_are_distinct near_of itself r rows distinct) in
-      let more : len (table_of (map f (r ∷ rows))) ≡ len (table_of (map f rows)) + 1 = len_new (table_of (map f rows)) (near_of (f r)) (f r) new in
-      omega (arith, rest, more)
+-- ---- each row stays under its session ID
 
 keeps_if : (b : Bool) (s t : SessionState) → t.joined.near ≡ s.joined.near → (if b then t else s).joined.near ≡ s.joined.near
 keeps_if true s t e = e
@@ -49,13 +24,6 @@ keeps_if false s t e = refl
 
 pub late_keeps : (moment : ℕ) (row : Row) → near_of (late_marked moment row) ≡ near_of row
 late_keeps moment row = keeps_if (is_any_late row.session row.flows moment) row.session (with_loss true row.session) refl
-
-pub late_distinct : (moment : ℕ) (rows new : List Row) → new ≡ map (late_marked moment) rows → len (table_of rows) ≡ length rows → len (table_of new) ≡ length new
-late_distinct moment rows new is distinct =
-    ap (λ (xs : List Row). len (table_of xs)) is ∙ mapped_distinct (late_marked moment) (late_keeps moment) rows distinct ∙ sym (ap length is)
-
-pub late_rows : (moment : ℕ) (rows new : List Row) → new ≡ map (late_marked moment) rows → AreLate moment (table_of rows) (table_of new)
-late_rows moment rows new is near = ap (λ (xs : List Row). get (table_of xs) near) is ∙ mapped_get (late_marked moment) (late_keeps moment) rows near
 
 -- ---- entries by rising keys
 

@@ -1,21 +1,11 @@
 mod Rows
-mod Likely
-mod Hashed
-mod Placed
-mod Timed
-mod Exchanged
-mod Keeping
-mod Split
-mod Edited
-mod Moving
-mod Found
+mod Rooms
 mod Changing
 mod SealedParts
-mod DueRows
-mod Firsts
 mod OwnDue
 mod Called
 mod Taken
+mod Staying
 mod Behind
 pub mod Late
 mod LateKept

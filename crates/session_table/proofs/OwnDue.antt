@@ -1,5 +1,5 @@
 -- What is due of a row is due by its deadline, or it has a sending flow.
-use Rattle.std.proofs.Common.{ℕ, ◌≡◌, ◌⊎◌, ◌<◌, ◌^◌, inl, inr, nat_le, nat_lt, is_some, List, [], ◌∷◌, length, Bool, true, false, ◌||◌, ◌&&◌, Option, Some, None, if◌then◌else◌, refl, sym, ap, ◌∙◌, arith}
+use Rattle.std.proofs.Common.{ℕ, ◌≡◌, ◌⊎◌, ◌<◌, ◌≤◌, ◌^◌, inl, inr, nat_le, nat_lt, is_some, List, [], ◌∷◌, length, Bool, true, false, ◌||◌, ◌&&◌, Option, Some, None, if◌then◌else◌, refl, sym, ap, ◌∙◌, arith}
 use Rattle.std.specs.List.{find}
 use Rattle.std.proofs.lemmas.Bool.{cases_Bool}
 use Rattle.std.proofs.lemmas.Bool.Decides.{nat_tests}
@@ -15,7 +15,7 @@ use Rattle.session_flows.specs.Packing.{goes, is_data_due, pace_of}
 use Rattle.endpoint_model.specs.declared.row.Row.{Row}
 use Rattle.endpoint_model.specs.declared.row_due.RowDue.TheVariants.{Data, Keepalive}
 use Rattle.endpoint_model.specs.FlowTimes.{abandon_due, end_due, is_row_due}
-use Rattle.session_table.specs.Inside.{deadline_of, sends_of}
+use Rattle.session_table.specs.Inside.{due_from, sends_of}
 
 -- of the four things, by what each one is
 is_one : (own : Option SessionDue) (overdue : Option (ℕ × ℕ)) (sent keep : Bool) →
@@ -68,13 +68,13 @@ none_sent session flows moment e = ap (λ (l : List Flow). is_open session.stage
 parts : (moment : ℕ) (row : Row) → is_row_due moment row ≡ (is_some (first_due row.session moment) || (is_some (overdue_in row.session row.flows moment) || (is_data_due row.session row.flows moment || needs_keepalive row.session moment)))
 parts moment row = is_one (first_due row.session moment) (overdue_in row.session row.flows moment) (is_data_due row.session row.flows moment) (needs_keepalive row.session moment)
 
-pub own_is_due : (moment : ℕ) (row : Row) → moment < 2 ^ 64 → nat_le (deadline_of row).at moment ≡ true → is_row_due moment row ≡ true
+own_is_due : (moment : ℕ) (row : Row) → moment < 2 ^ 64 → nat_le (due_from row) moment ≡ true → is_row_due moment row ≡ true
 own_is_due moment row below e =
     parts moment row
     ∙ own_first (is_some (first_due row.session moment)) (needs_keepalive row.session moment) (is_some (overdue_in row.session row.flows moment)) (is_data_due row.session row.flows moment)
     (sym (is_due_by_deadline row.session moment below) ∙ e)
 
-pub due_is_why : (moment : ℕ) (row : Row) → moment < 2 ^ 64 → is_row_due moment row ≡ true → (nat_le (deadline_of row).at moment ≡ true) ⊎ (sends_of row ≡ true)
+due_is_why : (moment : ℕ) (row : Row) → moment < 2 ^ 64 → is_row_due moment row ≡ true → (nat_le (due_from row) moment ≡ true) ⊎ (sends_of row ≡ true)
 due_is_why moment row below e = elim (cases_Bool (sends_of row)) [
   | inl sending ↦ inr sending
   | inr none ↦
@@ -82,4 +82,21 @@ due_is_why moment row below e = elim (cases_Bool (sends_of row)) [
       inl (is_due_by_deadline row.session moment below
       ∙ own_only (is_some (first_due row.session moment)) (needs_keepalive row.session moment) (is_some (overdue_in row.session row.flows moment)) (is_data_due row.session row.flows moment) (sym (parts moment row) ∙ e)
       (no_overdue row.session row.flows moment empty_then) (none_sent row.session row.flows moment empty_then))
+]
+
+-- ---- the same of numbers
+
+not_later : (at moment : ℕ) → nat_le at moment ≡ true → at ≤ moment
+not_later at moment e = grind (arith, nat_tests)
+
+is_not_later : (at moment : ℕ) → at ≤ moment → nat_le at moment ≡ true
+is_not_later at moment le = grind (arith, nat_tests)
+
+pub due_passes : (moment : ℕ) (row : Row) → moment < 2 ^ 64 → due_from row ≤ moment → is_row_due moment row ≡ true
+due_passes moment row below come = own_is_due moment row below (is_not_later (due_from row) moment come)
+
+pub why_due : (moment : ℕ) (row : Row) → moment < 2 ^ 64 → is_row_due moment row ≡ true → (due_from row ≤ moment) ⊎ (sends_of row ≡ true)
+why_due moment row below passes = elim (due_is_why moment row below passes) [
+  | inl own ↦ inl (not_later (due_from row) moment own)
+  | inr sending ↦ inr sending
 ]

@@ -1,35 +1,73 @@
--- The list of rows as the table of them.
-use Rattle.std.proofs.Common.{ℕ, List, ◌≡◌, ◌==◌, length, get_or, set, Option, Some, None, position, is_some, sym, ap, ◌∙◌}
-use Rattle.std.specs.FinMap.{get, insert, len, contains_key}
-use Rattle.rtmfp_base.proofs.Rows.{index_found, index_none, table_set, set_are_distinct}
-use Rattle.rtmfp_base.proofs.Indices.{index_tells}
+-- The rows in their slots as the table of them.
+use Rattle.std.proofs.Common.{ℕ, ◌≡◌, set, Option, Some, None, is_some, refl, sym, ap, ◌∙◌}
+use Rattle.std.specs.Option.{option_map}
+use Rattle.std.specs.FinMap.{get, insert, contains_key}
+use Rattle.std.proofs.lemmas.Option.{none-some, same_Some}
+use Rattle.deadlines.specs.Deadlines.{Slots}
+use Rattle.keyed_slab.specs.declared.keys.Key.{Key}
+use Rattle.keyed_slab.specs.Keys.{KeyTable}
+use Rattle.keyed_slab.specs.KeyedSlab.{Seats, thing_at, with_thing}
+use Rattle.keyed_slab.specs.Seating.{keyed_by}
+use Rattle.keyed_slab.specs.SlotSet.{Flags}
+use Rattle.keyed_slab.proofs.Named.{found_by, tells_key}
+use Rattle.keyed_slab.proofs.Seated.{is_put, set_at}
 use Rattle.endpoint_model.specs.declared.row.Row.{Row}
-use Rattle.session_table.specs.Table.{near_of, itself, table_of}
+use Rattle.session_table.specs.Table.{near_of}
+use Rattle.session_table.specs.Inside.{IsKept, rows_in, slot_of}
 
-abbrev pub index_in : List Row → ℕ → Option ℕ
-index_in rows near = position (λ row. near_of row == near) rows
+-- the row in the slot of a session ID
+pub record IsThere (rows : Seats Row) (near slot : ℕ) : Type 0 where
+  pub row : Row
+  pub stands : thing_at rows slot ≡ Some row
+  pub near_is : near_of row ≡ near
 
--- The rows are those with this session besides, or instead of the one with its session ID.
-pub record IsPut (rows : List Row) (row : Row) (new : List Row) : Type 0 where
-  pub table : table_of new ≡ insert (table_of rows) (near_of row) row
-  pub distinct : len (table_of new) ≡ length new
+module _ {keys : KeyTable} {deadlines : Slots} {sending : Flags} (rows : Seats Row) (near : ℕ) (kept : IsKept rows keys deadlines sending) where
+  found_there : get (rows_in rows) near ≡ keyed_by rows.things (get keys near)
+  found_there = found_by near_of rows.things rows.generations keys kept.names near
 
-pub put_at : (rows : List Row) (row : Row) (index : ℕ) → len (table_of rows) ≡ length rows → index_in rows (near_of row) ≡ Some index → IsPut rows row (set rows index row)
-put_at rows row index distinct found =
-    let at = index_found near_of itself rows (near_of row) index distinct found in
-    record {
-      table = table_set near_of itself rows index row row distinct at.within (sym (at.key_is row));
-      distinct = set_are_distinct near_of itself rows index row row distinct at.within (sym (at.key_is row));
-    }
+  pub row_there : (slot : ℕ) → Some slot ≡ slot_of keys near → IsThere rows near slot
+  row_there slot position = go (get keys near) refl
+    where
+      go : (o : Option Key) → get keys near ≡ o → IsThere rows near slot
+      go None e = absurd (none-some slot (sym (position ∙ ap (option_map (λ (key : Key). key.slot)) e)))
+      go (Some key) e =
+          let seat = kept.names.seated near key e in
+          let at = same_Some slot key.slot (position ∙ ap (option_map (λ (key : Key). key.slot)) e) in
+          record { row = seat.thing; stands = ap (thing_at rows) at ∙ seat.stands; near_is = seat.near_is }
 
--- A session ID has an index exactly where it is in the table.
-pub has_index : (rows : List Row) (near : ℕ) → len (table_of rows) ≡ length rows → is_some (index_in rows near) ≡ contains_key (table_of rows) near
-has_index rows near distinct = index_tells near_of itself rows near distinct
+  pub found_at : (slot : ℕ) (row : Row) → Some slot ≡ slot_of keys near → thing_at rows slot ≡ Some row → get (rows_in rows) near ≡ Some row
+  found_at slot row position is = go (get keys near) refl
+    where
+      go : (o : Option Key) → get keys near ≡ o → get (rows_in rows) near ≡ Some row
+      go None e = absurd (none-some slot (sym (position ∙ ap (option_map (λ (key : Key). key.slot)) e)))
+      go (Some key) e =
+          let at = same_Some slot key.slot (position ∙ ap (option_map (λ (key : Key). key.slot)) e) in
+          found_there ∙ ap (keyed_by rows.things) e ∙ ap (thing_at rows) (sym at) ∙ is
 
--- the session at its index
-pub found_at : (rows : List Row) (near index : ℕ) (row : Row) → len (table_of rows) ≡ length rows → index_in rows near ≡ Some index → row ≡ get_or rows index row → get (table_of rows) near ≡ Some row
-found_at rows near index row distinct found is =
-    (index_found near_of itself rows near index distinct found).found row ∙ ap (λ (r : Row). Some r) (sym is)
+  pub found_nowhere : None ≡ slot_of keys near → get (rows_in rows) near ≡ None
+  found_nowhere position = go (get keys near) refl
+    where
+      go : (o : Option Key) → get keys near ≡ o → get (rows_in rows) near ≡ None
+      go None e = found_there ∙ ap (keyed_by rows.things) e
+      go (Some key) e = absurd (none-some key.slot (position ∙ ap (option_map (λ (key : Key). key.slot)) e))
 
-pub found_nowhere : (rows : List Row) (near : ℕ) → index_in rows near ≡ None → get (table_of rows) near ≡ None
-found_nowhere rows near none = index_none near_of itself rows near none
+  -- A session ID has a slot exactly where it is in the table.
+  pub has_slot : is_some (slot_of keys near) ≡ contains_key (rows_in rows) near
+  has_slot = is_there (get keys near) ∙ sym (tells_key near_of rows.things rows.generations keys kept.names near)
+    where
+      is_there : (o : Option Key) → is_some (option_map (λ (key : Key). key.slot) o) ≡ is_some o
+      is_there None = refl
+      is_there (Some key) = refl
+
+  -- no row has a session ID that has no slot
+  pub no_key : None ≡ slot_of keys near → get keys near ≡ None
+  no_key position = go (get keys near) refl
+    where
+      go : (o : Option Key) → get keys near ≡ o → get keys near ≡ None
+      go None e = e
+      go (Some key) e = absurd (none-some key.slot (position ∙ ap (option_map (λ (key : Key). key.slot)) e))
+
+-- The rows are those with this one in the place of the one with its session ID.
+pub put_at : {keys : KeyTable} {deadlines : Slots} {sending : Flags} (rows : Seats Row) (slot : ℕ) (old new : Row) → IsKept rows keys deadlines sending → thing_at rows slot ≡ Some old → near_of new ≡ near_of old →
+    rows_in (with_thing rows slot new) ≡ insert (rows_in rows) (near_of new) new
+put_at {keys} rows slot old new kept at same = is_put near_of rows.things (set rows.things slot (Some new)) rows.generations keys slot kept.names old new at same (set_at rows.things slot old new at)

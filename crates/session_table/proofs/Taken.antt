@@ -1,5 +1,5 @@
 -- A row in which a chunk of flows was taken, or whose acks were sealed.
-use Rattle.std.proofs.Common.{ℕ, List, ◌≡◌, ◌<◌, ◌+◌, get_or, set, Bool, true, false, Option, Some, None, Result, Ok, Err, OnOk, OnErr, MatchOption, refl, sym, ap, subst, ◌∙◌}
+use Rattle.std.proofs.Common.{ℕ, List, ◌≡◌, ◌<◌, ◌+◌, Bool, true, false, Option, Some, None, Result, Ok, Err, OnOk, OnErr, MatchOption, refl, sym, ap, subst, ◌∙◌}
 use Rattle.std.specs.FinMap.{get}
 use Rattle.flow_send.specs.Flow.{Flow}
 use Rattle.flow_send.specs.Acks.{Told, makes_lost, new_bytes}
@@ -14,13 +14,16 @@ use Rattle.endpoint_model.specs.declared.row.Row.{Row}
 use Rattle.endpoint_model.specs.State.{Sessions}
 use Rattle.endpoint_model.specs.FlowChunks.{owes_by}
 use Rattle.rtmfp_base.proofs.Maps.{get_inserted}
-use Rattle.session_table.specs.Table.{Table, near_of, table_of, in_row, with_changed}
+use Rattle.session_table.specs.Table.{Table, near_of, in_row, with_changed}
 use Rattle.session_table.specs.Chunks.{of_flows, cause_in, owed_at}
 use Rattle.deadlines.specs.Deadlines.{Slots}
-use Rattle.session_table.specs.Inside.{Indices, IsKept, IsLoose}
+use Rattle.keyed_slab.specs.Keys.{KeyTable}
+use Rattle.keyed_slab.specs.KeyedSlab.{Seats, thing_at, with_thing}
+use Rattle.keyed_slab.specs.SlotSet.{Flags}
+use Rattle.session_table.specs.Inside.{IsKept, IsLoose, rows_in, slot_of}
 use Rattle.session_table.proofs.Changing.{changed_at, unchanged}
 use Rattle.session_table.proofs.Called.{there}
-use Rattle.session_table.proofs.Rows.{index_in, found_nowhere}
+use Rattle.session_table.proofs.Rows.{found_nowhere}
 
 -- ---- what is known where an answer is Ok
 
@@ -49,21 +52,21 @@ hearing_keeps P (Err e) old new flows flow told ok err = ap (λ (s : SessionStat
 
 -- ---- the row of the session
 
-module _ {at : Indices} {slots : Slots} {sending : ℕ} (seen : Table) (rows list : List Row) (free near index : ℕ) (old : Row) (view : record { rows = table_of rows; free = free } ≡ seen) (kept : IsKept rows at slots sending)
-    (position : Some index ≡ index_in list near) (list_is : list ≡ rows) (is : old ≡ get_or rows index old) where
-  pub row_loose : (new : Row) → near_of new ≡ near_of old → IsLoose (set rows index new) at slots sending index
-  row_loose new same = (changed_at (λ (r : Row). new) rows list near index old new kept position list_is is refl same).loose
+module _ {keys : KeyTable} {deadlines : Slots} {sending : Flags} (seen : Table) (rows : Seats Row) (free near slot : ℕ) (old : Row) (view : record { rows = rows_in rows; free = free } ≡ seen) (kept : IsKept rows keys deadlines sending)
+    (position : Some slot ≡ slot_of keys near) (is : thing_at rows slot ≡ Some old) where
+  pub row_loose : (new : Row) → near_of new ≡ near_of old → IsLoose (with_thing rows slot new) keys deadlines sending slot
+  row_loose new same = (changed_at (λ (r : Row). new) rows near slot old new kept position is refl same).loose
 
-  pub row_changed : (change : Row → Row) (new : Row) → new ≡ change old → near_of new ≡ near_of old → table_of (set rows index new) ≡ in_row change seen.rows near
+  pub row_changed : (change : Row → Row) (new : Row) → new ≡ change old → near_of new ≡ near_of old → rows_in (with_thing rows slot new) ≡ in_row change seen.rows near
   row_changed change new made same =
-      (changed_at change rows list near index old new kept position list_is is made (sym (ap near_of made) ∙ same)).table ∙ ap (λ (t : Table). in_row change t.rows near) view
+      (changed_at change rows near slot old new kept position is made (sym (ap near_of made) ∙ same)).table ∙ ap (λ (t : Table). in_row change t.rows near) view
 
-  pub flows_changed : (change : FlowsState → FlowsState) (flows : FlowsState) → flows ≡ change old.flows → table_of (set rows index (record old { flows = flows })) ≡ in_row (of_flows change) seen.rows near
+  pub flows_changed : (change : FlowsState → FlowsState) (flows : FlowsState) → flows ≡ change old.flows → rows_in (with_thing rows slot (record old { flows = flows })) ≡ in_row (of_flows change) seen.rows near
   flows_changed change flows made = row_changed (of_flows change) (record old { flows = flows }) (ap (λ (f : FlowsState). record old { flows = f }) made) refl
 
   -- what is told of it
   pub told_is : {A : Type 0} (tell : Option Row → A) → tell (get seen.rows near) ≡ tell (Some old)
-  told_is tell = ap tell (there seen rows list free near index old view kept position list_is is)
+  told_is tell = ap tell (there seen rows free near slot old view kept position is)
 
   pub cause_is : (cause : SessionState → FlowsState → Option FlowCause) (P : Type 0) (Q : FlowCause → Type 0) → MatchOption (cause old.session old.flows) P Q → MatchOption (cause_in cause (get seen.rows near)) P Q
   cause_is cause P Q h = subst (λ (o : Option FlowCause). MatchOption o P Q) (sym (told_is (cause_in cause))) h
@@ -85,12 +88,13 @@ module _ {at : Indices} {slots : Slots} {sending : ℕ} (seen : Table) (rows lis
 none_owed : {P : Type 0} → false ≡ true → P
 none_owed e = absurd cc
 
-module _ (seen : Table) (rows list : List Row) (free near : ℕ) (view : record { rows = table_of rows; free = free } ≡ seen) (position : None ≡ index_in list near) (list_is : list ≡ rows) where
+module _ {keys : KeyTable} {deadlines : Slots} {sending : Flags} (seen : Table) (rows : Seats Row) (free near : ℕ) (view : record { rows = rows_in rows; free = free } ≡ seen) (kept : IsKept rows keys deadlines sending)
+    (position : None ≡ slot_of keys near) where
   pub told_none : {A : Type 0} (tell : Option Row → A) → tell (get seen.rows near) ≡ tell None
-  told_none tell = ap tell (ap (λ (t : Table). get t.rows near) (sym view) ∙ found_nowhere rows near (sym (position ∙ ap (λ (r : List Row). index_in r near) list_is)))
+  told_none tell = ap tell (ap (λ (t : Table). get t.rows near) (sym view) ∙ found_nowhere rows near kept position)
 
   pub same_rows : (change : Row → Row) → seen.rows ≡ in_row change seen.rows near
-  same_rows change = ap (λ (t : Table). t.rows) (sym view) ∙ unchanged change rows list near position list_is ∙ ap (λ (t : Table). in_row change t.rows near) view
+  same_rows change = ap (λ (t : Table). t.rows) (sym view) ∙ unchanged change rows near kept position ∙ ap (λ (t : Table). in_row change t.rows near) view
 
   pub cause_none : (cause : SessionState → FlowsState → Option FlowCause) (P : Type 0) (Q : FlowCause → Type 0) → Q WrongState → MatchOption (cause_in cause (get seen.rows near)) P Q
   cause_none cause P Q q = subst (λ (o : Option FlowCause). MatchOption o P Q) (sym (told_none (cause_in cause))) q

@@ -7,8 +7,8 @@ ghost use Rattle.endpoint_model.specs.FlowChunks.{acks_body, owes_by};
 ghost use Rattle.session_table.specs.Chunks.{acked, acks_sealed, of_flows, owed_at};
 ghost use Rattle.session_table.specs.Table.{in_row, sealed_of};
 
-use crate::index::index_near;
 use crate::sealing::{Sealed, seal_packet};
+use crate::slot::slot_near;
 use crate::table::SessionTable;
 use endpoint_model::Row;
 use rtmfp_packet::begin_packet;
@@ -26,10 +26,10 @@ impl SessionTable {
         ensures falls { owes_by (get self.old.rows near) ≡ true →
             owed_at (get self.new.rows near) < owed_at (get self.old.rows near) }
     {
-        match index_near(&self.kept, near, self.likely) {
-            Some(index) => {
-                let sealed = seal_acks_of(&mut self.kept.rows[index], moment, blank);
-                self.kept.settle(index);
+        match slot_near(&self.kept, near, self.likely) {
+            Some(slot) => {
+                let sealed = seal_acks_of(&mut self.kept.rows[slot], moment, blank);
+                self.kept.settle(slot);
                 sealed
             }
             None => None,
@@ -40,9 +40,9 @@ impl SessionTable {
     pub fn forget_acks(&mut self, near: u32)
         ensures { self.new.rows ≡ in_row (of_flows owing_none) self.old.rows near }
     {
-        if let Some(index) = index_near(&self.kept, near, self.likely) {
-            self.kept.rows[index].flows.forget_acks();
-            self.kept.settle(index);
+        if let Some(slot) = slot_near(&self.kept, near, self.likely) {
+            self.kept.rows[slot].flows.forget_acks();
+            self.kept.settle(slot);
         }
     }
 }

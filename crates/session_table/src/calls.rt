@@ -8,7 +8,7 @@ ghost use Rattle.endpoint_model.specs.FlowCall.{Abandon, Finish, OpenFlow, Queue
 ghost use Rattle.session_table.specs.Calls.{called, refused_by, stated_by};
 ghost use Rattle.session_table.specs.Table.{in_row};
 
-use crate::index::index_near;
+use crate::slot::slot_near;
 use crate::table::SessionTable;
 use flow_send::MessageOptions;
 use session_flows::CallRefusal;
@@ -31,12 +31,12 @@ impl SessionTable {
             (λ e. result ≡ Err e) }
         ensures err { OnErr result (self.new.rows ≡ self.old.rows) }
     {
-        let Some(index) = index_near(&self.kept, near, self.likely) else {
+        let Some(slot) = slot_near(&self.kept, near, self.likely) else {
             return Err(CallRefusal::NoFlow);
         };
-        let row = &mut self.kept.rows[index];
+        let row = &mut self.kept.rows[slot];
         let opened = row.flows.open_flow(priority, metadata, answers);
-        self.kept.settle(index);
+        self.kept.settle(slot);
         opened
     }
 
@@ -57,12 +57,12 @@ impl SessionTable {
             (λ e. result ≡ Err e) }
         ensures err { OnErr result (self.new.rows ≡ self.old.rows) }
     {
-        let Some(index) = index_near(&self.kept, near, self.likely) else {
+        let Some(slot) = slot_near(&self.kept, near, self.likely) else {
             return Err(CallRefusal::NoFlow);
         };
-        let row = &mut self.kept.rows[index];
+        let row = &mut self.kept.rows[slot];
         let queued = row.flows.queue(flow, message, options);
-        self.kept.settle(index);
+        self.kept.settle(slot);
         queued
     }
 
@@ -76,12 +76,12 @@ impl SessionTable {
             (result ≡ Ok tt) (λ e. result ≡ Err e) }
         ensures err { OnErr result (self.new.rows ≡ self.old.rows) }
     {
-        let Some(index) = index_near(&self.kept, near, self.likely) else {
+        let Some(slot) = slot_near(&self.kept, near, self.likely) else {
             return Err(CallRefusal::NoFlow);
         };
-        let row = &mut self.kept.rows[index];
+        let row = &mut self.kept.rows[slot];
         let abandoned = row.flows.abandon(flow, seq);
-        self.kept.settle(index);
+        self.kept.settle(slot);
         abandoned
     }
 
@@ -95,12 +95,12 @@ impl SessionTable {
             (IsOk result) (λ e. result ≡ Err e) }
         ensures err { OnErr result (self.new.rows ≡ self.old.rows) }
     {
-        let Some(index) = index_near(&self.kept, near, self.likely) else {
+        let Some(slot) = slot_near(&self.kept, near, self.likely) else {
             return Err(CallRefusal::NoFlow);
         };
-        let row = &mut self.kept.rows[index];
+        let row = &mut self.kept.rows[slot];
         let finished = row.flows.finish(flow);
-        self.kept.settle(index);
+        self.kept.settle(slot);
         finished
     }
 }

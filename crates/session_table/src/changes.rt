@@ -8,7 +8,7 @@ ghost use Rattle.session_core.specs.Hearing.{counted};
 ghost use Rattle.session_core.specs.Session.{confirmed, with_stamps};
 ghost use Rattle.session_table.specs.Table.{in_row, in_session, moved, tested};
 
-use crate::index::index_near;
+use crate::slot::slot_near;
 use crate::table::SessionTable;
 use rtmfp_forms::Address;
 use rtmfp_packet::PacketHead;
@@ -19,9 +19,9 @@ impl SessionTable {
         requires { 32 ≤ length part.now }
         ensures { self.new.rows ≡ in_session (λ x. counted x part.now) self.old.rows near }
     {
-        if let Some(index) = index_near(&self.kept, near, self.likely) {
-            self.kept.rows[index].session.take_number(part);
-            self.kept.settle(index);
+        if let Some(slot) = slot_near(&self.kept, near, self.likely) {
+            self.kept.rows[slot].session.take_number(part);
+            self.kept.settle(slot);
         }
     }
 
@@ -29,9 +29,9 @@ impl SessionTable {
     pub fn take_stamps(&mut self, near: u32, head: &PacketHead, moment: u64)
         ensures { self.new.rows ≡ in_session (with_stamps head.now moment) self.old.rows near }
     {
-        if let Some(index) = index_near(&self.kept, near, self.likely) {
-            self.kept.rows[index].session.take_stamps(head, moment);
-            self.kept.settle(index);
+        if let Some(slot) = slot_near(&self.kept, near, self.likely) {
+            self.kept.rows[slot].session.take_stamps(head, moment);
+            self.kept.settle(slot);
         }
     }
 
@@ -39,9 +39,9 @@ impl SessionTable {
     pub fn confirm(&mut self, near: u32)
         ensures { self.new.rows ≡ in_session confirmed self.old.rows near }
     {
-        if let Some(index) = index_near(&self.kept, near, self.likely) {
-            let _ = self.kept.rows[index].session.confirm();
-            self.kept.settle(index);
+        if let Some(slot) = slot_near(&self.kept, near, self.likely) {
+            let _ = self.kept.rows[slot].session.confirm();
+            self.kept.settle(slot);
         }
     }
 
@@ -49,9 +49,9 @@ impl SessionTable {
     pub fn close(&mut self, near: u32, moment: u64)
         ensures { self.new.rows ≡ in_session (closed_near moment) self.old.rows near }
     {
-        if let Some(index) = index_near(&self.kept, near, self.likely) {
-            let _ = self.kept.rows[index].session.close(moment);
-            self.kept.settle(index);
+        if let Some(slot) = slot_near(&self.kept, near, self.likely) {
+            let _ = self.kept.rows[slot].session.close(moment);
+            self.kept.settle(slot);
         }
     }
 
@@ -59,9 +59,9 @@ impl SessionTable {
     pub fn linger(&mut self, near: u32, moment: u64)
         ensures { self.new.rows ≡ in_session (asked_to_close moment) self.old.rows near }
     {
-        if let Some(index) = index_near(&self.kept, near, self.likely) {
-            let _ = self.kept.rows[index].session.take_close_request(moment);
-            self.kept.settle(index);
+        if let Some(slot) = slot_near(&self.kept, near, self.likely) {
+            let _ = self.kept.rows[slot].session.take_close_request(moment);
+            self.kept.settle(slot);
         }
     }
 
@@ -70,9 +70,9 @@ impl SessionTable {
         ensures { self.new.rows ≡ in_session (λ x. after_due (first_due x moment) moment x)
             self.old.rows near }
     {
-        if let Some(index) = index_near(&self.kept, near, self.likely) {
-            let _ = self.kept.rows[index].session.due(moment);
-            self.kept.settle(index);
+        if let Some(slot) = slot_near(&self.kept, near, self.likely) {
+            let _ = self.kept.rows[slot].session.due(moment);
+            self.kept.settle(slot);
         }
     }
 
@@ -80,9 +80,9 @@ impl SessionTable {
     pub fn note_keepalive(&mut self, near: u32, moment: u64)
         ensures { self.new.rows ≡ in_session (kept_alive moment) self.old.rows near }
     {
-        if let Some(index) = index_near(&self.kept, near, self.likely) {
-            let _ = self.kept.rows[index].session.keepalive(moment);
-            self.kept.settle(index);
+        if let Some(slot) = slot_near(&self.kept, near, self.likely) {
+            let _ = self.kept.rows[slot].session.keepalive(moment);
+            self.kept.settle(slot);
         }
     }
 
@@ -91,10 +91,10 @@ impl SessionTable {
     pub fn test(&mut self, near: u32, from: &Address, token: [u8; 16], moment: u64)
         ensures { self.new.rows ≡ in_row (tested from.now token moment) self.old.rows near }
     {
-        if let Some(index) = index_near(&self.kept, near, self.likely) {
-            let row = &mut self.kept.rows[index];
+        if let Some(slot) = slot_near(&self.kept, near, self.likely) {
+            let row = &mut self.kept.rows[slot];
             let _ = row.moves.seen(row.session.address(), from, token, moment);
-            self.kept.settle(index);
+            self.kept.settle(slot);
         }
     }
 
@@ -103,11 +103,11 @@ impl SessionTable {
     pub fn move_to(&mut self, near: u32, from: &Address, bytes: &[u8])
         ensures { self.new.rows ≡ in_row (moved from.now bytes.now) self.old.rows near }
     {
-        if let Some(index) = index_near(&self.kept, near, self.likely) {
-            let row = &mut self.kept.rows[index];
+        if let Some(slot) = slot_near(&self.kept, near, self.likely) {
+            let row = &mut self.kept.rows[slot];
             let _ = row.moves.reply(from, bytes);
             row.session.move_to(*from);
-            self.kept.settle(index);
+            self.kept.settle(slot);
         }
     }
 }

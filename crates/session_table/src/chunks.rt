@@ -14,7 +14,7 @@ ghost use Rattle.session_table.specs.Chunks.{cause_in, handed_in, heard_in, of_f
 ghost use Rattle.session_table.specs.Chunks.{waiting_in};
 ghost use Rattle.session_table.specs.Table.{in_row};
 
-use crate::index::index_near;
+use crate::slot::slot_near;
 use crate::table::SessionTable;
 use rtmfp_base::Message;
 use rtmfp_data_chunks::{AckedSpans, UserData};
@@ -33,12 +33,12 @@ impl SessionTable {
             (λ x. result ≡ Err (Untaken.Cause x)) }
         ensures err { OnErr result (self.new.rows ≡ self.old.rows) }
     {
-        let Some(index) = index_near(&self.kept, near, self.likely) else {
+        let Some(slot) = slot_near(&self.kept, near, self.likely) else {
             return Err(Untaken::Cause(FlowCause::WrongState));
         };
-        let row = &mut self.kept.rows[index];
+        let row = &mut self.kept.rows[slot];
         let taken = row.flows.take_data(&row.session, chunk);
-        self.kept.settle(index);
+        self.kept.settle(slot);
         taken
     }
 
@@ -49,10 +49,10 @@ impl SessionTable {
             ≡ in_row (of_flows (λ f. (hands_once f flow).flows)) self.old.rows near }
         ensures stated { handed_in flow (get self.old.rows near) ≡ handed_stated flow result }
     {
-        match index_near(&self.kept, near, self.likely) {
-            Some(index) => {
-                let handed = self.kept.rows[index].flows.hand_next(flow);
-                self.kept.settle(index);
+        match slot_near(&self.kept, near, self.likely) {
+            Some(slot) => {
+                let handed = self.kept.rows[slot].flows.hand_next(flow);
+                self.kept.settle(slot);
                 handed
             }
             None => None,
@@ -76,14 +76,14 @@ impl SessionTable {
             (IsOk result) (λ x. result ≡ Err x) }
         ensures err { OnErr result (self.new.rows ≡ self.old.rows) }
     {
-        let Some(index) = index_near(&self.kept, near, self.likely) else {
+        let Some(slot) = slot_near(&self.kept, near, self.likely) else {
             return Err(FlowCause::WrongState);
         };
-        let row = &mut self.kept.rows[index];
+        let row = &mut self.kept.rows[slot];
         let taken = row
             .flows
             .take_ack(&mut row.session, flow, blocks, upto, spans);
-        self.kept.settle(index);
+        self.kept.settle(slot);
         taken
     }
 
@@ -95,12 +95,12 @@ impl SessionTable {
             (get self.old.rows near)) (IsOk result) (λ x. result ≡ Err x) }
         ensures err { OnErr result (self.new.rows ≡ self.old.rows) }
     {
-        let Some(index) = index_near(&self.kept, near, self.likely) else {
+        let Some(slot) = slot_near(&self.kept, near, self.likely) else {
             return Err(FlowCause::WrongState);
         };
-        let row = &mut self.kept.rows[index];
+        let row = &mut self.kept.rows[slot];
         let taken = row.flows.take_probe(&row.session, flow);
-        self.kept.settle(index);
+        self.kept.settle(slot);
         taken
     }
 
@@ -126,12 +126,12 @@ impl SessionTable {
         ensures err { OnErr result ((self.new.rows ≡ self.old.rows)
             × (abandoned.new.items ≡ abandoned.old.items)) }
     {
-        let Some(index) = index_near(&self.kept, near, self.likely) else {
+        let Some(slot) = slot_near(&self.kept, near, self.likely) else {
             return Err(Untaken::Cause(FlowCause::WrongState));
         };
-        let row = &mut self.kept.rows[index];
+        let row = &mut self.kept.rows[slot];
         let taken = row.flows.take_exception(&row.session, flow, abandoned);
-        self.kept.settle(index);
+        self.kept.settle(slot);
         taken
     }
 }

@@ -1,16 +1,17 @@
 //! What time makes due of the sessions.
 
-ghost use Rattle.std.specs.Prelude.{◌≡◌, ◌<◌, ◌≤◌, ◌+◌, IfSome, Some, length};
-ghost use Rattle.rtmfp_base.specs.Rows.{IsBest};
+ghost use Rattle.std.specs.Prelude.{◌≡◌, IfNone, IfSome, IsSome};
+ghost use Rattle.keyed_slab.specs.KeyedSlab.{thing_at};
 ghost use Rattle.endpoint_model.specs.FlowTimes.{is_row_due, row_due};
 ghost use Rattle.session_table.specs.FlowTimes.{flows_due, still_due};
-ghost use Rattle.session_table.specs.Inside.{IsKept, lower_of, nears_of};
-ghost use Rattle.session_table.specs.Table.{due_in, itself, near_of, under};
+ghost use Rattle.session_table.specs.Inside.{IsFirst, IsKept, NonePasses, better_of};
+ghost use Rattle.session_table.specs.Table.{due_in, near_of, under};
 
 use crate::kept::Kept;
 use crate::row_facts::near_of;
 use crate::table::SessionTable;
 use endpoint_model::{Row, RowDue};
+use keyed_slab::KeyedSlab;
 
 /// The first thing that is due of a session at a moment: its end, the end of its closing, or its
 /// close again; a message that is sent no longer; flow data; or a keepalive.
@@ -63,14 +64,14 @@ fn due_of(row: &Row, moment: u64) -> Option<(u32, RowDue)>
     }
 }
 
-/// The index of the row with the lowest session ID of those of which something is due, once the row
-/// at `index` was looked at too.
-fn better(rows: &[Row], moment: u64, best: Option<usize>, index: usize) -> Option<usize>
-    requires within { index < length rows.now }
-    requires best { IsBest near_of itself (is_row_due moment) rows.now index best }
-    ensures { IsBest near_of itself (is_row_due moment) rows.now (index + 1) result }
+/// The slot with the lowest session ID of those of which something is due, once one more slot was
+/// looked at.
+fn better(rows: &KeyedSlab<Row>, moment: u64, best: Option<usize>, slot: usize) -> Option<usize>
+    requires there { IsSome (thing_at rows.now slot) }
+    requires best { IfSome best (λ other. IsSome (thing_at rows.now other)) }
+    ensures { result ≡ better_of (is_row_due moment) rows.now best slot }
 {
-    let row = &rows[index];
+    let row = &rows[slot];
     if !is_row_due(row, moment) {
         return best;
     }
@@ -79,68 +80,27 @@ fn better(rows: &[Row], moment: u64, best: Option<usize>, index: usize) -> Optio
             if near_of(&rows[other]) <= near_of(row) {
                 Some(other)
             } else {
-                Some(index)
+                Some(slot)
             }
         }
-        None => Some(index),
-    }
-}
-
-/// The index of the row with the lowest session ID of the first rows, so many, of which something
-/// is due.
-fn lowest_due(rows: &[Row], count: usize, moment: u64) -> Option<usize>
-    requires { count ≤ length rows.now }
-    ensures { IsBest near_of itself (is_row_due moment) rows.now count result }
-{
-    let mut best = None;
-    for index in 0..count {
-        best = better(rows, moment, best, index);
-    }
-    best
-}
-
-/// Of two indices that of the row with the lower session ID.
-fn lower(rows: &[Row], one: Option<usize>, other: Option<usize>) -> Option<usize>
-    requires one { IfSome one (λ index. index < length rows.now) }
-    requires other { IfSome other (λ index. index < length rows.now) }
-    ensures { result ≡ lower_of (nears_of rows.now) one other }
-{
-    match one {
-        None => other,
-        Some(index) => lower_than(rows, index, other),
-    }
-}
-
-/// The same where there is a first one.
-fn lower_than(rows: &[Row], one: usize, other: Option<usize>) -> Option<usize>
-    requires one { one < length rows.now }
-    requires other { IfSome other (λ index. index < length rows.now) }
-    ensures { result ≡ lower_of (nears_of rows.now) (Some one) other }
-{
-    match other {
-        None => Some(one),
-        Some(index) => {
-            if near_of(&rows[one]) <= near_of(&rows[index]) {
-                Some(one)
-            } else {
-                Some(index)
-            }
-        }
+        None => Some(slot),
     }
 }
 
 impl Kept {
-    /// The index of the row with the lowest session ID of those of which something is due at a
+    /// The slot of the row with the lowest session ID of those of which something is due at a
     /// moment. Rows without a sending flow are looked at only where their deadline has come.
     pub(crate) fn first_due(&self, moment: u64) -> Option<usize>
-        requires { IsKept self.now.rows.items self.now.places.at self.now.deadlines
-            self.now.sending }
-        ensures { IsBest near_of itself (is_row_due moment) self.now.rows.items
-            (length self.now.rows.items) result }
+        requires { IsKept self.now.rows self.now.keys.keys self.now.deadlines self.now.sending }
+        ensures none { IfNone result (NonePasses (is_row_due moment) self.now.rows) }
+        ensures some { IfSome result (IsFirst (is_row_due moment) self.now.rows) }
     {
-        let own = self.deadlines.due(moment);
-        let flowing = lowest_due(&self.rows, self.sending, moment);
-        lower(&self.rows, own, flowing)
+        let slots = self.sending.slots();
+        let mut best = self.deadlines.due(moment);
+        for index in 0..slots.len() {
+            best = better(&self.rows, moment, best, slots[index]);
+        }
+        best
     }
 }
 
@@ -151,7 +111,7 @@ impl SessionTable {
         ensures { result ≡ due_in moment self.now.rows }
     {
         match self.kept.first_due(moment) {
-            Some(index) => due_of(&self.kept.rows[index], moment),
+            Some(slot) => due_of(&self.kept.rows[slot], moment),
             None => None,
         }
     }

@@ -1,19 +1,23 @@
 //! What time makes due of the flows of the sessions, and what is done of it. None of it takes
 //! memory.
 
-ghost use Rattle.std.specs.Prelude.{◌≡◌, ◌≤◌, IfSome, length, map};
+ghost use Rattle.std.specs.Prelude.{◌≡◌, ◌<◌, ◌≤◌, ℕ, IfSome, IsSome, length};
 ghost use Rattle.std.specs.FinMap.{get};
 ghost use Rattle.endpoint_model.specs.FlowTimes.{data_body, late_marked};
 ghost use Rattle.session_table.specs.FlowTimes.{AreLate, DataFalls, OverdueWaits, data_gone};
 ghost use Rattle.session_table.specs.FlowTimes.{data_sealed, overdue_gone};
-ghost use Rattle.session_table.specs.Inside.{IsKept};
+ghost use Rattle.keyed_slab.specs.KeyedSlab.{thing_at};
+ghost use Rattle.keyed_slab.specs.SlotSet.{AreApart, slot_at};
+ghost use Rattle.keyed_slab.specs.Walks.{AreChanged};
+ghost use Rattle.session_table.specs.Inside.{IsKept, rows_in};
 ghost use Rattle.session_table.specs.Table.{in_row, sealed_of};
 
-use crate::index::index_near;
 use crate::kept::Kept;
 use crate::sealing::{Sealed, seal_packet};
+use crate::slot::slot_near;
 use crate::table::SessionTable;
 use endpoint_model::Row;
+use keyed_slab::KeyedSlab;
 use rtmfp_packet::begin_packet;
 
 impl SessionTable {
@@ -31,9 +35,9 @@ impl SessionTable {
         ensures rows { self.new.rows ≡ in_row (overdue_gone moment) self.old.rows near }
         ensures waits { IfSome (get self.old.rows near) (λ row. OverdueWaits moment row) }
     {
-        if let Some(index) = index_near(&self.kept, near, self.likely) {
-            abandon_in(&mut self.kept.rows[index], moment);
-            self.kept.settle(index);
+        if let Some(slot) = slot_near(&self.kept, near, self.likely) {
+            abandon_in(&mut self.kept.rows[slot], moment);
+            self.kept.settle(slot);
         }
     }
 
@@ -49,10 +53,10 @@ impl SessionTable {
         // Where flow data is due, less is left to send then, and the same messages wait.
         ensures falls { IfSome (get self.old.rows near) (λ row. DataFalls moment row) }
     {
-        match index_near(&self.kept, near, self.likely) {
-            Some(index) => {
-                let sealed = seal_data_in(&mut self.kept.rows[index], moment, blank);
-                self.kept.settle(index);
+        match slot_near(&self.kept, near, self.likely) {
+            Some(slot) => {
+                let sealed = seal_data_in(&mut self.kept.rows[slot], moment, blank);
+                self.kept.settle(slot);
                 sealed
             }
             None => None,
@@ -64,15 +68,26 @@ impl Kept {
     /// Marks the numbers that are lost by time in each row. Those without a sending flow have none,
     /// and aren't looked at.
     fn lose_late(&mut self, moment: u64)
-        requires { IsKept self.old.rows.items self.old.places.at self.old.deadlines
-            self.old.sending }
-        ensures kept { IsKept self.new.rows.items self.new.places.at self.new.deadlines
+        requires { IsKept self.old.rows self.old.keys.keys self.old.deadlines self.old.sending }
+        ensures kept { IsKept self.new.rows self.new.keys.keys self.new.deadlines
             self.new.sending }
-        ensures rows { self.new.rows.items ≡ map (late_marked moment) self.old.rows.items }
+        ensures late { AreLate moment (rows_in self.old.rows) (rows_in self.new.rows) }
     {
-        for index in 0..self.sending {
-            lose_in(&mut self.rows[index], moment);
-        }
+        lose_in_slots(&mut self.rows, self.sending.slots(), moment);
+    }
+}
+
+/// Marks the numbers that are lost by time in the row in each of these slots.
+fn lose_in_slots(rows: &mut KeyedSlab<Row>, slots: &[usize], moment: u64)
+    requires apart { AreApart slots.now }
+    requires there { (place : ℕ) → place < length slots.now
+        → IsSome (thing_at rows.old (slot_at slots.now place)) }
+    ensures things { AreChanged (late_marked moment) rows.old.things rows.new.things slots.now
+        (length slots.now) }
+    ensures generations { rows.new.generations ≡ rows.old.generations }
+{
+    for index in 0..slots.len() {
+        lose_in(&mut rows[slots[index]], moment);
     }
 }
 

@@ -8,11 +8,10 @@ mod changes;
 mod chunks;
 mod due;
 mod flow_times;
-mod index;
 mod kept;
-mod places;
 mod row_facts;
 mod sealing;
+mod slot;
 mod table;
 
 pub use sealing::Sealed;

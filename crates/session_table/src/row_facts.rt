@@ -1,7 +1,7 @@
 //! What is told of one row.
 
 ghost use Rattle.std.specs.Prelude.{◌≡◌};
-ghost use Rattle.session_table.specs.Inside.{deadline_of, sends_of};
+ghost use Rattle.session_table.specs.Inside.{due_from, sends_of};
 ghost use Rattle.session_table.specs.Table.{near_of};
 
 use endpoint_model::Row;
@@ -15,7 +15,7 @@ pub(crate) fn near_of(row: &Row) -> u32
 
 /// When something of its session's own is due first.
 pub(crate) fn deadline_of(row: &Row) -> u128
-    ensures { result ≡ (deadline_of row.now).at }
+    ensures { result ≡ due_from row.now }
 {
     row.session.deadline()
 }

@@ -8,7 +8,7 @@ ghost use Rattle.packet_scramble.specs.Datagram.{datagram};
 ghost use Rattle.session_core.specs.Sealed.{after_seal, is_spent, sealed_part};
 ghost use Rattle.session_table.specs.Table.{in_session, packet_sealed, sealed_by, sealed_of};
 
-use crate::index::index_near;
+use crate::slot::slot_near;
 use crate::table::SessionTable;
 use crypto_profile::Context;
 use packet_scramble::{SEALED_AT, scramble};
@@ -49,10 +49,10 @@ impl SessionTable {
         ensures limit { IfSome result (λ x. length x.datagram ≤ 1200) }
         ensures rows { self.new.rows ≡ in_session after_seal self.old.rows near }
     {
-        match index_near(&self.kept, near, self.likely) {
-            Some(index) => {
-                let sealed = seal_in(&mut self.kept.rows[index].session, moment, blank, chunk);
-                self.kept.settle(index);
+        match slot_near(&self.kept, near, self.likely) {
+            Some(slot) => {
+                let sealed = seal_in(&mut self.kept.rows[slot].session, moment, blank, chunk);
+                self.kept.settle(slot);
                 sealed
             }
             None => None,

@@ -1,9 +1,10 @@
 //! The table of the sessions, by their session IDs.
 
-use crate::index::index_near;
 use crate::kept::Kept;
 use crate::row_facts::near_of;
+use crate::slot::{key_near, slot_near};
 use endpoint_model::Row;
+use keyed_slab::Key;
 use mobility::Moves;
 use session_core::Session;
 use session_flows::Flows;
@@ -18,26 +19,26 @@ pub struct SessionTable {
     pub(crate) alloc: Global,
     /// The rows, and what finds them.
     pub(crate) kept: Kept,
-    /// The index of the session of the last datagram, where a session is looked for first.
-    pub(crate) likely: usize,
+    /// The key of the session of the last datagram, which is tried first.
+    pub(crate) likely: Key,
 }
 
 impl Model for SessionTable {
     ghost use Rattle.endpoint_model.specs.contracts.row.Row as row_type;
-    ghost use Rattle.session_table.specs.Inside.{IsKept};
+    ghost use Rattle.session_table.specs.Inside.{IsKept, rows_in};
     ghost use Rattle.session_table.specs.Room.{free_of};
-    ghost use Rattle.session_table.specs.Table.{Table, table_code, table_of};
+    ghost use Rattle.session_table.specs.Table.{Table, table_code};
 
     ghost Value = { Table };
 
     ghost coded = { table_code row_type.the_row.coded };
 
     ghost view = { λ t. record {
-      rows = table_of t.kept.rows.items;
+      rows = rows_in t.kept.rows;
       free = free_of t.kept;
     } };
 
-    ghost invariant = { λ t. IsKept t.kept.rows.items t.kept.places.at t.kept.deadlines
+    ghost invariant = { λ t. IsKept t.kept.rows t.kept.keys.keys t.kept.deadlines
         t.kept.sending };
 }
 
@@ -55,7 +56,10 @@ impl SessionTable {
         SessionTable {
             alloc,
             kept: Kept::new(alloc),
-            likely: 0,
+            likely: Key {
+                slot: 0,
+                generation: 0,
+            },
         }
     }
 
@@ -64,22 +68,22 @@ impl SessionTable {
         ensures value { result ≡ len self.now.rows }
         ensures small { result < 2 ^ 63 }
     {
-        self.kept.rows.len()
+        self.kept.keys.len()
     }
 
     /// Whether a session has this session ID.
     pub fn has(&self, near: u32) -> bool
         ensures { result ≡ contains_key self.now.rows near }
     {
-        index_near(&self.kept, near, self.likely).is_some()
+        slot_near(&self.kept, near, self.likely).is_some()
     }
 
     /// The row of the session with this session ID.
     pub fn row(&self, near: u32) -> Option<&Row>
         ensures { option_copied result ≡ get self.now.rows near }
     {
-        match index_near(&self.kept, near, self.likely) {
-            Some(index) => Some(&self.kept.rows[index]),
+        match slot_near(&self.kept, near, self.likely) {
+            Some(slot) => Some(&self.kept.rows[slot]),
             None => None,
         }
     }
@@ -88,8 +92,8 @@ impl SessionTable {
     pub fn look_up(&mut self, near: u32)
         ensures { self.new ≡ self.old }
     {
-        if let Some(index) = index_near(&self.kept, near, self.likely) {
-            self.likely = index;
+        if let Some(key) = key_near(&self.kept, near, self.likely) {
+            self.likely = key;
         }
     }
 
@@ -119,10 +123,10 @@ impl SessionTable {
         requires { 0 < self.old.free }
         ensures { self.new.rows ≡ insert self.old.rows (near_of row) row }
     {
-        match index_near(&self.kept, near_of(&row), self.likely) {
-            Some(index) => {
-                self.kept.rows[index] = row;
-                self.kept.settle(index);
+        match slot_near(&self.kept, near_of(&row), self.likely) {
+            Some(slot) => {
+                self.kept.rows[slot] = row;
+                self.kept.settle(slot);
             }
             None => self.kept.add(row),
         }
@@ -133,8 +137,8 @@ impl SessionTable {
         ensures rows { self.new.rows ≡ remove self.old.rows near }
         ensures free { self.old.free ≤ self.new.free }
     {
-        if let Some(index) = index_near(&self.kept, near, self.likely) {
-            self.kept.forget(index);
+        if let Some(slot) = slot_near(&self.kept, near, self.likely) {
+            self.kept.forget(slot);
         }
     }
 }

@@ -1,24 +1,35 @@
-use Rattle.std.proofs.Common.{ℕ, ◌≡◌, ◌<◌, ◌-◌, ◌++◌, ◌∷◌, [], List, length, sym, ap, subst, ◌∙◌, arith, vec_capacity}
+use Rattle.std.proofs.Common.{ℕ, List, ◌≡◌, ◌<◌, ◌≤◌, ◌∙◌, length, min, sym, ap, subst, arith}
 use Rattle.std.specs.FinMap.{insert}
-use Rattle.endpoint_model.specs.declared.row.Row.{Row}
-use Rattle.session_table.specs.Table.{near_of, table_of}
-use Rattle.session_table.specs.Inside.{Indices, IsLoose}
-use Rattle.session_table.proofs.Moving.{added_loose, added_table, last_room}
+use Rattle.keyed_slab.specs.declared.keys.Key.{Key}
+use Rattle.keyed_slab.specs.Keys.{KeyTable}
+use Rattle.keyed_slab.specs.Seating.{IsLoose, key_to}
+use Rattle.keyed_slab.proofs.Seated.{come_named, come_put, comes_loose}
+use Rattle.session_table.specs.Inside.{due_from, sends_of}
+use Rattle.session_table.specs.Table.{near_of}
+use Rattle.session_table.proofs.Rooms.{deadline_room, flag_room}
 use Rattle.session_table.proofs.kept.Kept.add.Goals as goal
 
-pub settle-requires-clause-loose : goal.settle-requires-clause-loose
-settle-requires-clause-loose c =
-    let at_end : c.len-index.result ≡ length c.args.self.now.rows.items = omega (arith, c.len-index.ensures, c.args.self.now.rows.ok) in
-    let room : 0 < length c.args.self.now.deadlines - length c.args.self.now.rows.items = last_room (vec_capacity c.args.self.now.rows - length c.args.self.now.rows.items) c.args.self.now.places.free _ c.requires.room in
-    let at : c.put.new.self.at ≡ insert c.args.self.now.places.at (near_of c.args.row) (length c.args.self.now.rows.items) =
-    c.put.ensures ∙ (λ i. insert c.args.self.now.places.at (c.near_of-near.ensures i) (at_end i)) in
-    let loose : IsLoose (c.args.self.now.rows.items ++ c.args.row ∷ []) (insert c.args.self.now.places.at (near_of c.args.row) (length c.args.self.now.rows.items)) c.args.self.now.deadlines c.args.self.now.sending (length c.args.self.now.rows.items) =
-    added_loose c.args.self.now.rows.items c.args.self.now.places.at c.args.self.now.deadlines c.args.self.now.sending c.args.row c.requires.kept c.requires.none (omega (arith, room)) in
-    subst (λ (n : ℕ). IsLoose c.push.new.self.items c.put.new.self.at c.args.self.now.deadlines c.args.self.now.sending n) (sym at_end)
-    (subst (λ (rows : List Row). IsLoose rows c.put.new.self.at c.args.self.now.deadlines c.args.self.now.sending (length c.args.self.now.rows.items)) (sym c.in-Ok.ensures.items)
-    (subst (λ (m : Indices). IsLoose (c.args.self.now.rows.items ++ c.args.row ∷ []) m c.args.self.now.deadlines c.args.self.now.sending (length c.args.self.now.rows.items)) (sym at) loose))
+keyed : (keys more : KeyTable) (near id : ℕ) (key : Key) (generations : List ℕ) → more ≡ insert keys near key → near ≡ id → key.generation ≡ (key_to generations key.slot).generation → more ≡ insert keys id (key_to generations key.slot)
+keyed keys more near id key generations put is generation = put ∙ (λ i. insert keys (is i) (record { slot = key.slot; generation = generation i }))
+
+pub settle-requires : goal.settle-requires
+settle-requires c =
+    let k = c.args.self.now in
+    let room = k.rows.room in
+    let more = min k.rows.free k.keys.spare in
+    let slot = c.put-key.result.slot in
+    let below = c.put-key.ensures.below in
+    let timers : room ≤ length k.deadlines = deadline_room room (length k.deadlines) (length k.sending) more c.requires.room in
+    let marks : room ≤ length k.sending = flag_room room (length k.deadlines) (length k.sending) more c.requires.room in
+    let put = keyed k.keys.keys c.put.new.self.keys c.near_of-near.result (near_of c.args.row) c.put-key.result k.rows.generations c.put.ensures c.near_of-near.ensures c.put-key.ensures.generation in
+    let names = come_named near_of k.rows.things c.put-key.new.self.things k.rows.generations k.keys.keys slot c.requires.kept.names c.args.row c.put.new.self.keys c.put-key.ensures.vacant c.requires.none c.put-key.ensures.things put in
+    subst (λ (g : List ℕ). IsLoose near_of due_from sends_of c.put-key.new.self.things g c.put.new.self.keys k.deadlines k.sending slot) (sym c.put-key.ensures.generations)
+    (comes_loose near_of due_from sends_of k.rows.things k.rows.generations k.keys.keys k.deadlines k.sending c.put-key.new.self.things c.put.new.self.keys slot c.args.row c.requires.kept names c.put-key.ensures.things
+    (omega (arith, below, marks)) (omega (arith, below, timers)))
 
 pub returns-clause-table : goal.returns-clause-table
 returns-clause-table c =
-    c.settle.ensures.table ∙ ap (λ (rows : List Row). table_of rows) c.in-Ok.ensures.items
-    ∙ added_table c.args.self.now.rows.items c.args.self.now.places.at c.args.self.now.deadlines c.args.self.now.sending c.args.row c.requires.kept c.requires.none
+    let k = c.args.self.now in
+    let put = keyed k.keys.keys c.put.new.self.keys c.near_of-near.result (near_of c.args.row) c.put-key.result k.rows.generations c.put.ensures c.near_of-near.ensures c.put-key.ensures.generation in
+    c.settle.ensures.table
+    ∙ come_put near_of k.rows.things c.put-key.new.self.things k.rows.generations k.keys.keys c.put-key.result.slot c.requires.kept.names c.args.row c.put.new.self.keys c.put-key.ensures.vacant c.requires.none c.put-key.ensures.things put

@@ -1,36 +1,22 @@
-use Rattle.std.proofs.Common.{ℕ, ◌≡◌, ◌<◌, ◌++◌, length, set, map, take, drop, sym, ap, subst, ◌∙◌, arith}
-use Rattle.std.proofs.lemmas.List.{length-map}
-use Rattle.std.proofs.lemmas.List.Edits.{map_over_more}
+use Rattle.std.proofs.Common.{ℕ, List, sym, subst}
 use Rattle.endpoint_model.specs.FlowTimes.{late_marked}
-use Rattle.deadlines.specs.Deadlines.{Slots}
-use Rattle.session_table.specs.Inside.{Indices, IsKept, sends_of}
-use Rattle.session_table.proofs.LateKept.{all_marked, late_kept}
+use Rattle.keyed_slab.specs.Seating.{IsKept}
+use Rattle.keyed_slab.proofs.Walked.{changed_kept, changed_found}
+use Rattle.session_table.specs.Inside.{due_from, sends_of}
+use Rattle.session_table.specs.Table.{near_of}
+use Rattle.session_table.proofs.Late.{late_keeps}
+use Rattle.session_table.proofs.LateKept.{late_deadline, late_sends, late_idle}
 use Rattle.session_table.proofs.kept.Kept.lose_late.Goals as goal
-
-pub loop-index-preserved : goal.loop-index-preserved
-loop-index-preserved c =
-    let within : c.loop-index.index < length c.args.self.now.rows.items = omega (arith, c.loop-index-test.true, c.loop-index.auto.index-end, c.requires.split.most, length-map c.args.self.now.rows.items sends_of) in
-    record {
-      rows = ap (set c.loop-index.self.rows.items c.loop-index.index) c.lose_in.ensures
-          ∙ map_over_more (late_marked c.args.moment) c.args.self.now.rows.items c.loop-index.self.rows.items c.loop-index.index c.index_mut.result.now within c.loop-index.invariant.rows c.index_mut.ensures.value;
-      sending = c.loop-index.invariant.sending;
-      places = c.loop-index.invariant.places;
-      deadlines = c.loop-index.invariant.deadlines;
-    }
-
-pub returns-clause-rows : goal.returns-clause-rows
-returns-clause-rows c =
-    let all : c.loop-index.index ≡ c.args.self.now.sending = omega (arith, c.loop-index-test.false, c.loop-index.auto.index-end) in
-    c.loop-index.invariant.rows ∙ ap (λ (n : ℕ). map (late_marked c.args.moment) (take n c.args.self.now.rows.items) ++ drop n c.args.self.now.rows.items) all
-    ∙ all_marked c.args.moment c.args.self.now.sending c.args.self.now.rows.items c.requires.split
 
 pub returns-clause-kept : goal.returns-clause-kept
 returns-clause-kept c =
-    let all : c.loop-index.index ≡ c.args.self.now.sending = omega (arith, c.loop-index-test.false, c.loop-index.auto.index-end) in
-    let rows : c.loop-index.self.rows.items ≡ map (late_marked c.args.moment) c.args.self.now.rows.items =
-    c.loop-index.invariant.rows ∙ ap (λ (n : ℕ). map (late_marked c.args.moment) (take n c.args.self.now.rows.items) ++ drop n c.args.self.now.rows.items) all
-    ∙ all_marked c.args.moment c.args.self.now.sending c.args.self.now.rows.items c.requires.split in
-    subst (λ (at : Indices). IsKept c.loop-index.self.rows.items at c.loop-index.self.deadlines c.loop-index.self.sending) (sym c.loop-index.invariant.places)
-    (subst (λ (slots : Slots). IsKept c.loop-index.self.rows.items c.args.self.now.places.at slots c.loop-index.self.sending) (sym c.loop-index.invariant.deadlines)
-    (subst (λ (n : ℕ). IsKept c.loop-index.self.rows.items c.args.self.now.places.at c.args.self.now.deadlines n) (sym c.loop-index.invariant.sending)
-    (late_kept c.args.moment c.args.self.now.rows.items c.loop-index.self.rows.items c.args.self.now.places.at c.args.self.now.deadlines c.args.self.now.sending rows c.requires)))
+    let k = c.args.self.now in
+    let m = c.args.moment in
+    subst (λ (g : List ℕ). IsKept near_of due_from sends_of c.lose_in_slots.new.rows.things g k.keys.keys k.deadlines k.sending) (sym c.lose_in_slots.ensures.generations)
+    (changed_kept near_of due_from sends_of (late_marked m) k.rows.things c.lose_in_slots.new.rows.things k.rows.generations k.keys.keys k.deadlines k.sending c.slots.result.now c.requires (late_keeps m) (late_deadline m) (late_sends m) (late_idle m) c.slots.ensures c.lose_in_slots.ensures.things)
+
+pub returns-clause-late : goal.returns-clause-late
+returns-clause-late c =
+    let k = c.args.self.now in
+    let m = c.args.moment in
+    changed_found near_of due_from sends_of (late_marked m) k.rows.things c.lose_in_slots.new.rows.things k.rows.generations k.keys.keys k.deadlines k.sending c.slots.result.now c.requires (late_keeps m) (late_deadline m) (late_sends m) (late_idle m) c.slots.ensures c.lose_in_slots.ensures.things

@@ -6,16 +6,16 @@ use Rattle.session_table.proofs.Called.{ok_on, stays_loose, rows_are, stated_is,
 use Rattle.session_table.proofs.table.SessionTable.abandon.Goals as goal
 
 pub returns-in_default-clause-refused : goal.returns-in_default-clause-refused
-returns-in_default-clause-refused c = refused_nowhere c.args.self.now c.self.inside.kept.rows.items _ _ c.args.near c.self.view_is c.in_default.ensures refl (Abandon c.args.flow c.args.seq) _ (λ e. Err NoFlow ≡ Err e) refl
+returns-in_default-clause-refused c = refused_nowhere c.args.self.now c.self.inside.kept.rows _ c.args.near c.self.view_is c.self.invariant c.in_default.ensures.found (Abandon c.args.flow c.args.seq) _ (λ e. Err NoFlow ≡ Err e) refl
 
-pub settle-requires-clause-loose : goal.settle-requires-clause-loose
-settle-requires-clause-loose c = stays_loose c.args.self.now c.self.inside.kept.rows.items _ _ c.args.near c.in-Some.index c.index_mut-row.result.now c.self.view_is c.self.invariant c.in-Some.ensures refl c.index_mut-row.ensures.value c.abandon-abandoned.new.self
+pub settle-requires : goal.settle-requires
+settle-requires c = stays_loose c.args.self.now c.self.inside.kept.rows _ c.args.near c.in-Some.slot c.index_mut-row.result.now c.self.view_is c.self.invariant c.in-Some.ensures.found c.index_mut-row.ensures.value c.abandon-abandoned.new.self
 
 pub returns-clause-rows : goal.returns-clause-rows
-returns-clause-rows c = ok_on c.abandon-abandoned.result c.abandon-abandoned.ensures.did (λ done did. c.settle.ensures.table ∙ rows_are c.args.self.now c.self.inside.kept.rows.items _ _ c.args.near c.in-Some.index c.index_mut-row.result.now c.self.view_is c.self.invariant c.in-Some.ensures refl c.index_mut-row.ensures.value (Abandon c.args.flow c.args.seq) c.abandon-abandoned.new.self (Abandoned c.args.flow c.args.seq ∷ []) did)
+returns-clause-rows c = ok_on c.abandon-abandoned.result c.abandon-abandoned.ensures.did (λ done did. c.settle.ensures.table ∙ rows_are c.args.self.now c.self.inside.kept.rows _ c.args.near c.in-Some.slot c.index_mut-row.result.now c.self.view_is c.self.invariant c.in-Some.ensures.found c.index_mut-row.ensures.value (Abandon c.args.flow c.args.seq) c.abandon-abandoned.new.self (Abandoned c.args.flow c.args.seq ∷ []) did)
 
 pub returns-clause-stated : goal.returns-clause-stated
-returns-clause-stated c = ok_on c.abandon-abandoned.result c.abandon-abandoned.ensures.did (λ done did. stated_is c.args.self.now c.self.inside.kept.rows.items _ _ c.args.near c.in-Some.index c.index_mut-row.result.now c.self.view_is c.self.invariant c.in-Some.ensures refl c.index_mut-row.ensures.value (Abandon c.args.flow c.args.seq) c.abandon-abandoned.new.self (Abandoned c.args.flow c.args.seq ∷ []) did)
+returns-clause-stated c = ok_on c.abandon-abandoned.result c.abandon-abandoned.ensures.did (λ done did. stated_is c.args.self.now c.self.inside.kept.rows _ c.args.near c.in-Some.slot c.index_mut-row.result.now c.self.view_is c.self.invariant c.in-Some.ensures.found c.index_mut-row.ensures.value (Abandon c.args.flow c.args.seq) c.abandon-abandoned.new.self (Abandoned c.args.flow c.args.seq ∷ []) did)
 
 pub returns-clause-refused : goal.returns-clause-refused
-returns-clause-refused c = refused_is c.args.self.now c.self.inside.kept.rows.items _ _ c.args.near c.in-Some.index c.index_mut-row.result.now c.self.view_is c.self.invariant c.in-Some.ensures refl c.index_mut-row.ensures.value (Abandon c.args.flow c.args.seq) (c.abandon-abandoned.result ≡ Ok tt) (λ e. c.abandon-abandoned.result ≡ Err e) c.abandon-abandoned.ensures.refused
+returns-clause-refused c = refused_is c.args.self.now c.self.inside.kept.rows _ c.args.near c.in-Some.slot c.index_mut-row.result.now c.self.view_is c.self.invariant c.in-Some.ensures.found c.index_mut-row.ensures.value (Abandon c.args.flow c.args.seq) (c.abandon-abandoned.result ≡ Ok tt) (λ e. c.abandon-abandoned.result ≡ Err e) c.abandon-abandoned.ensures.refused

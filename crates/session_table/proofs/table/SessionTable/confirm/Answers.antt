@@ -4,15 +4,15 @@ use Rattle.session_table.specs.Table.{Table, in_session, of_session}
 use Rattle.session_table.proofs.Changing.{session_changed, unchanged}
 use Rattle.session_table.proofs.table.SessionTable.confirm.Goals as goal
 
-pub settle-requires-clause-loose : goal.settle-requires-clause-loose
-settle-requires-clause-loose c = (session_changed confirmed c.self.inside.kept.rows.items _ c.args.near c.in-Some.index c.index_mut.result.now c.confirm.new.self c.self.invariant
-    c.in-Some.ensures refl c.index_mut.ensures.value c.confirm.ensures.session refl).loose
+pub settle-requires : goal.settle-requires
+settle-requires c = (session_changed confirmed c.self.inside.kept.rows c.args.near c.in-Some.slot c.index_mut.result.now c.confirm.new.self c.self.invariant
+    c.in-Some.ensures.found c.index_mut.ensures.value c.confirm.ensures.session refl).loose
 
 pub returns-in-Some : goal.returns-in-Some
-returns-in-Some c = c.settle.ensures.table ∙ (session_changed confirmed c.self.inside.kept.rows.items _ c.args.near c.in-Some.index c.index_mut.result.now c.confirm.new.self c.self.invariant
-    c.in-Some.ensures refl c.index_mut.ensures.value c.confirm.ensures.session refl).table
+returns-in-Some c = c.settle.ensures.table ∙ (session_changed confirmed c.self.inside.kept.rows c.args.near c.in-Some.slot c.index_mut.result.now c.confirm.new.self c.self.invariant
+    c.in-Some.ensures.found c.index_mut.ensures.value c.confirm.ensures.session refl).table
     ∙ ap (λ (t : Table). in_session confirmed t.rows c.args.near) c.self.view_is
 
 pub returns-in_default : goal.returns-in_default
-returns-in_default c = ap (λ (t : Table). t.rows) (sym c.self.view_is) ∙ unchanged (of_session confirmed) c.self.inside.kept.rows.items _ c.args.near c.in_default.ensures refl
+returns-in_default c = ap (λ (t : Table). t.rows) (sym c.self.view_is) ∙ unchanged (of_session confirmed) c.self.inside.kept.rows c.args.near c.self.invariant c.in_default.ensures.found
     ∙ ap (λ (t : Table). in_session confirmed t.rows c.args.near) c.self.view_is

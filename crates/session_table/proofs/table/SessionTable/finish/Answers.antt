@@ -6,16 +6,16 @@ use Rattle.session_table.proofs.Called.{ok_on, ok_if, stays_loose, rows_are, sta
 use Rattle.session_table.proofs.table.SessionTable.finish.Goals as goal
 
 pub returns-in_default-clause-refused : goal.returns-in_default-clause-refused
-returns-in_default-clause-refused c = refused_nowhere c.args.self.now c.self.inside.kept.rows.items _ _ c.args.near c.self.view_is c.in_default.ensures refl (Finish c.args.flow) _ (λ e. Err NoFlow ≡ Err e) refl
+returns-in_default-clause-refused c = refused_nowhere c.args.self.now c.self.inside.kept.rows _ c.args.near c.self.view_is c.self.invariant c.in_default.ensures.found (Finish c.args.flow) _ (λ e. Err NoFlow ≡ Err e) refl
 
-pub settle-requires-clause-loose : goal.settle-requires-clause-loose
-settle-requires-clause-loose c = stays_loose c.args.self.now c.self.inside.kept.rows.items _ _ c.args.near c.in-Some.index c.index_mut-row.result.now c.self.view_is c.self.invariant c.in-Some.ensures refl c.index_mut-row.ensures.value c.finish-finished.new.self
+pub settle-requires : goal.settle-requires
+settle-requires c = stays_loose c.args.self.now c.self.inside.kept.rows _ c.args.near c.in-Some.slot c.index_mut-row.result.now c.self.view_is c.self.invariant c.in-Some.ensures.found c.index_mut-row.ensures.value c.finish-finished.new.self
 
 pub returns-clause-rows : goal.returns-clause-rows
-returns-clause-rows c = ok_on c.finish-finished.result c.finish-finished.ensures.did (λ seq did. c.settle.ensures.table ∙ rows_are c.args.self.now c.self.inside.kept.rows.items _ _ c.args.near c.in-Some.index c.index_mut-row.result.now c.self.view_is c.self.invariant c.in-Some.ensures refl c.index_mut-row.ensures.value (Finish c.args.flow) c.finish-finished.new.self (Finished c.args.flow seq ∷ []) did)
+returns-clause-rows c = ok_on c.finish-finished.result c.finish-finished.ensures.did (λ seq did. c.settle.ensures.table ∙ rows_are c.args.self.now c.self.inside.kept.rows _ c.args.near c.in-Some.slot c.index_mut-row.result.now c.self.view_is c.self.invariant c.in-Some.ensures.found c.index_mut-row.ensures.value (Finish c.args.flow) c.finish-finished.new.self (Finished c.args.flow seq ∷ []) did)
 
 pub returns-clause-stated : goal.returns-clause-stated
-returns-clause-stated c = ok_if c.finish-finished.result c.finish-finished.ensures.did (λ seq did. stated_is c.args.self.now c.self.inside.kept.rows.items _ _ c.args.near c.in-Some.index c.index_mut-row.result.now c.self.view_is c.self.invariant c.in-Some.ensures refl c.index_mut-row.ensures.value (Finish c.args.flow) c.finish-finished.new.self (Finished c.args.flow seq ∷ []) did)
+returns-clause-stated c = ok_if c.finish-finished.result c.finish-finished.ensures.did (λ seq did. stated_is c.args.self.now c.self.inside.kept.rows _ c.args.near c.in-Some.slot c.index_mut-row.result.now c.self.view_is c.self.invariant c.in-Some.ensures.found c.index_mut-row.ensures.value (Finish c.args.flow) c.finish-finished.new.self (Finished c.args.flow seq ∷ []) did)
 
 pub returns-clause-refused : goal.returns-clause-refused
-returns-clause-refused c = refused_is c.args.self.now c.self.inside.kept.rows.items _ _ c.args.near c.in-Some.index c.index_mut-row.result.now c.self.view_is c.self.invariant c.in-Some.ensures refl c.index_mut-row.ensures.value (Finish c.args.flow) (IsOk c.finish-finished.result) (λ e. c.finish-finished.result ≡ Err e) c.finish-finished.ensures.refused
+returns-clause-refused c = refused_is c.args.self.now c.self.inside.kept.rows _ c.args.near c.in-Some.slot c.index_mut-row.result.now c.self.view_is c.self.invariant c.in-Some.ensures.found c.index_mut-row.ensures.value (Finish c.args.flow) (IsOk c.finish-finished.result) (λ e. c.finish-finished.result ≡ Err e) c.finish-finished.ensures.refused

@@ -1,18 +1,19 @@
 use Rattle.std.proofs.Common.{sym, ap, ◌∙◌}
 use Rattle.std.specs.FinMap.{remove}
-use Rattle.rtmfp_base.proofs.Leaving.{left_nowhere}
-use Rattle.session_table.specs.Table.{Table, near_of, itself, table_of}
-use Rattle.session_table.proofs.Found.{id_found}
+use Rattle.rtmfp_base.proofs.Leaving.{removed_none}
+use Rattle.session_table.specs.Table.{Table}
+use Rattle.session_table.specs.Inside.{rows_in}
+use Rattle.session_table.proofs.Rows.{IsThere, row_there, found_nowhere}
 use Rattle.session_table.proofs.table.SessionTable.forget.Goals as goal
 
 pub returns-in-Some-clause-rows : goal.returns-in-Some-clause-rows
 returns-in-Some-clause-rows c =
-    c.forget.ensures.table
-    ∙ ap (remove (table_of c.self.inside.kept.rows.items)) (id_found c.self.inside.kept.rows.items c.args.near c.in-Some.index c.self.invariant.ordered.distinct (sym c.in-Some.ensures))
+    let there = row_there c.self.inside.kept.rows c.args.near c.self.invariant c.in-Some.slot c.in-Some.ensures.found in
+    c.forget.ensures.table there.row there.stands ∙ ap (remove (rows_in c.self.inside.kept.rows)) there.near_is
     ∙ ap (λ (t : Table). remove t.rows c.args.near) c.self.view_is
 
 pub returns-in_default-clause-rows : goal.returns-in_default-clause-rows
 returns-in_default-clause-rows c =
     ap (λ (t : Table). t.rows) (sym c.self.view_is)
-    ∙ left_nowhere near_of itself c.self.inside.kept.rows.items c.args.near (sym c.in_default.ensures)
+    ∙ removed_none (rows_in c.self.inside.kept.rows) c.args.near (found_nowhere c.self.inside.kept.rows c.args.near c.self.invariant c.in_default.ensures.found)
     ∙ ap (λ (t : Table). remove t.rows c.args.near) c.self.view_is

@@ -1,25 +1,28 @@
-use Rattle.std.proofs.Common.{◌≡◌, get_or, Some, sym, ap, ◌∙◌}
+use Rattle.std.proofs.Common.{◌≡◌, sym, ap, ◌∙◌}
 use Rattle.std.specs.FinMap.{insert}
-use Rattle.session_table.specs.Table.{Table, near_of, itself}
-use Rattle.rtmfp_base.proofs.Rows.{index_found}
-use Rattle.session_table.proofs.Rows.{index_in, put_at}
-use Rattle.session_table.proofs.Found.{placed_is, set_loose}
+use Rattle.std.proofs.lemmas.Option.{same_Some}
+use Rattle.keyed_slab.proofs.Seated.{set_loose}
+use Rattle.session_table.specs.Table.{Table, near_of}
+use Rattle.session_table.specs.Inside.{due_from, sends_of, slot_of}
+use Rattle.session_table.proofs.Rows.{IsThere, row_there, put_at, no_key}
 use Rattle.session_table.proofs.table.SessionTable.keep_row.Goals as goal
 
-pub settle-requires-clause-loose : goal.settle-requires-clause-loose
-settle-requires-clause-loose c =
-    let found : index_in c.self.inside.kept.rows.items (near_of c.args.row) ≡ Some c.in-Some.index = sym (c.in-Some.ensures ∙ ap (index_in c.self.inside.kept.rows.items) c.near_of.ensures) in
-    let stays : near_of c.args.row ≡ near_of (get_or c.self.inside.kept.rows.items c.in-Some.index c.args.row) = sym ((index_found near_of itself c.self.inside.kept.rows.items (near_of c.args.row) c.in-Some.index c.self.invariant.ordered.distinct found).key_is c.args.row) in
-    set_loose c.self.inside.kept.rows.items c.self.inside.kept.places.at c.self.inside.kept.deadlines c.self.inside.kept.sending c.in-Some.index c.args.row c.args.row c.self.invariant stays
-    (put_at c.self.inside.kept.rows.items c.args.row c.in-Some.index c.self.invariant.ordered.distinct found).distinct
+pub settle-requires : goal.settle-requires
+settle-requires c =
+    let k = c.self.inside.kept in
+    let there = row_there k.rows c.near_of.result c.self.invariant c.in-Some.slot c.in-Some.ensures.found in
+    let stays = sym (ap near_of (same_Some c.index_mut.result.now there.row (sym c.index_mut.ensures.value ∙ there.stands)) ∙ there.near_is ∙ c.near_of.ensures) in
+    set_loose near_of due_from sends_of k.rows.things k.rows.generations k.keys.keys k.deadlines k.sending c.in-Some.slot c.index_mut.result.now c.args.row c.self.invariant c.index_mut.ensures.value stays
 
 pub returns-in-Some : goal.returns-in-Some
 returns-in-Some c =
-    let found : index_in c.self.inside.kept.rows.items (near_of c.args.row) ≡ Some c.in-Some.index = sym (c.in-Some.ensures ∙ ap (index_in c.self.inside.kept.rows.items) c.near_of.ensures) in
-    c.settle.ensures.table ∙ (put_at c.self.inside.kept.rows.items c.args.row c.in-Some.index c.self.invariant.ordered.distinct found).table
+    let k = c.self.inside.kept in
+    let there = row_there k.rows c.near_of.result c.self.invariant c.in-Some.slot c.in-Some.ensures.found in
+    let stays = sym (ap near_of (same_Some c.index_mut.result.now there.row (sym c.index_mut.ensures.value ∙ there.stands)) ∙ there.near_is ∙ c.near_of.ensures) in
+    c.settle.ensures.table ∙ put_at k.rows c.in-Some.slot c.index_mut.result.now c.args.row c.self.invariant c.index_mut.ensures.value stays
     ∙ ap (λ (t : Table). insert t.rows (near_of c.args.row) c.args.row) c.self.view_is
 
 pub add-requires-clause-none : goal.add-requires-clause-none
 add-requires-clause-none c =
-    placed_is c.self.inside.kept.rows.items (near_of c.args.row) c.self.inside.kept.places.at c.self.invariant.ordered.distinct c.self.invariant.ordered.placed
-    ∙ sym (c.in-None.ensures ∙ ap (index_in c.self.inside.kept.rows.items) c.near_of.ensures)
+    let k = c.self.inside.kept in
+    no_key k.rows (near_of c.args.row) c.self.invariant (c.in-None.ensures.found ∙ ap (slot_of k.keys.keys) c.near_of.ensures)

@@ -3,10 +3,7 @@ use Rattle.std.specs.Option.{option_map}
 use Rattle.std.specs.FinMap.{get}
 use Rattle.endpoint_model.specs.FlowTimes.{late_marked}
 use Rattle.session_table.specs.Table.{Table}
-use Rattle.session_table.proofs.Late.{late_rows}
 use Rattle.session_table.proofs.table.SessionTable.lose_late.Goals as goal
 
 pub returns : goal.returns
-returns c near =
-    late_rows c.args.moment c.self.inside.kept.rows.items c.lose_late.new.self.rows.items c.lose_late.ensures.rows near
-    ∙ ap (λ (t : Table). option_map (late_marked c.args.moment) (get t.rows near)) c.self.view_is
+returns c near = c.lose_late.ensures.late near ∙ ap (λ (t : Table). option_map (late_marked c.args.moment) (get t.rows near)) c.self.view_is

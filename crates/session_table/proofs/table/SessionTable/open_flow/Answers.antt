@@ -3,19 +3,23 @@ use Rattle.session_flows.specs.Keeping.{Opened}
 use Rattle.session_flows.specs.declared.refusal.CallRefusal.TheVariants.{NoFlow, Memory}
 use Rattle.endpoint_model.specs.FlowCall.{OpenFlow}
 use Rattle.session_table.proofs.Called.{ok_on, ok_if, stays_loose, rows_are, stated_is, refused_is, refused_nowhere}
+use Rattle.session_table.proofs.Staying.{on_err, rows_stay}
 use Rattle.session_table.proofs.table.SessionTable.open_flow.Goals as goal
 
 pub returns-in_default-clause-refused : goal.returns-in_default-clause-refused
-returns-in_default-clause-refused c = refused_nowhere c.args.self.now c.self.inside.kept.rows.items _ _ c.args.near c.self.view_is c.in_default.ensures refl (OpenFlow c.args.priority c.args.metadata.now c.args.answers) _ (λ e. Err NoFlow ≡ Err e) refl
+returns-in_default-clause-refused c = refused_nowhere c.args.self.now c.self.inside.kept.rows _ c.args.near c.self.view_is c.self.invariant c.in_default.ensures.found (OpenFlow c.args.priority c.args.metadata.now c.args.answers) _ (λ e. Err NoFlow ≡ Err e) refl
 
-pub settle-requires-clause-loose : goal.settle-requires-clause-loose
-settle-requires-clause-loose c = stays_loose c.args.self.now c.self.inside.kept.rows.items _ _ c.args.near c.in-Some.index c.index_mut-row.result.now c.self.view_is c.self.invariant c.in-Some.ensures refl c.index_mut-row.ensures.value c.open_flow-opened.new.self
+pub settle-requires : goal.settle-requires
+settle-requires c = stays_loose c.args.self.now c.self.inside.kept.rows _ c.args.near c.in-Some.slot c.index_mut-row.result.now c.self.view_is c.self.invariant c.in-Some.ensures.found c.index_mut-row.ensures.value c.open_flow-opened.new.self
 
 pub returns-clause-rows : goal.returns-clause-rows
-returns-clause-rows c = ok_on c.open_flow-opened.result c.open_flow-opened.ensures.did (λ id did. c.settle.ensures.table ∙ rows_are c.args.self.now c.self.inside.kept.rows.items _ _ c.args.near c.in-Some.index c.index_mut-row.result.now c.self.view_is c.self.invariant c.in-Some.ensures refl c.index_mut-row.ensures.value (OpenFlow c.args.priority c.args.metadata.now c.args.answers) c.open_flow-opened.new.self (Opened id ∷ []) did)
+returns-clause-rows c = ok_on c.open_flow-opened.result c.open_flow-opened.ensures.did (λ id did. c.settle.ensures.table ∙ rows_are c.args.self.now c.self.inside.kept.rows _ c.args.near c.in-Some.slot c.index_mut-row.result.now c.self.view_is c.self.invariant c.in-Some.ensures.found c.index_mut-row.ensures.value (OpenFlow c.args.priority c.args.metadata.now c.args.answers) c.open_flow-opened.new.self (Opened id ∷ []) did)
 
 pub returns-clause-stated : goal.returns-clause-stated
-returns-clause-stated c = ok_if c.open_flow-opened.result c.open_flow-opened.ensures.did (λ id did. stated_is c.args.self.now c.self.inside.kept.rows.items _ _ c.args.near c.in-Some.index c.index_mut-row.result.now c.self.view_is c.self.invariant c.in-Some.ensures refl c.index_mut-row.ensures.value (OpenFlow c.args.priority c.args.metadata.now c.args.answers) c.open_flow-opened.new.self (Opened id ∷ []) did)
+returns-clause-stated c = ok_if c.open_flow-opened.result c.open_flow-opened.ensures.did (λ id did. stated_is c.args.self.now c.self.inside.kept.rows _ c.args.near c.in-Some.slot c.index_mut-row.result.now c.self.view_is c.self.invariant c.in-Some.ensures.found c.index_mut-row.ensures.value (OpenFlow c.args.priority c.args.metadata.now c.args.answers) c.open_flow-opened.new.self (Opened id ∷ []) did)
 
 pub returns-clause-refused : goal.returns-clause-refused
-returns-clause-refused c = refused_is c.args.self.now c.self.inside.kept.rows.items _ _ c.args.near c.in-Some.index c.index_mut-row.result.now c.self.view_is c.self.invariant c.in-Some.ensures refl c.index_mut-row.ensures.value (OpenFlow c.args.priority c.args.metadata.now c.args.answers) (IfErr c.open_flow-opened.result (λ e. e ≡ Memory)) (λ e. c.open_flow-opened.result ≡ Err e) c.open_flow-opened.ensures.refused
+returns-clause-refused c = refused_is c.args.self.now c.self.inside.kept.rows _ c.args.near c.in-Some.slot c.index_mut-row.result.now c.self.view_is c.self.invariant c.in-Some.ensures.found c.index_mut-row.ensures.value (OpenFlow c.args.priority c.args.metadata.now c.args.answers) (IfErr c.open_flow-opened.result (λ e. e ≡ Memory)) (λ e. c.open_flow-opened.result ≡ Err e) c.open_flow-opened.ensures.refused
+
+pub returns-clause-err : goal.returns-clause-err
+returns-clause-err c = on_err c.open_flow-opened.result c.open_flow-opened.ensures.err (λ same. c.settle.ensures.table ∙ rows_stay c.args.self.now c.self.inside.kept.rows _ c.in-Some.slot c.index_mut-row.result.now c.self.view_is c.index_mut-row.ensures.value c.open_flow-opened.new.self same)

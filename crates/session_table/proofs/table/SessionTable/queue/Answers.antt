@@ -6,16 +6,16 @@ use Rattle.session_table.proofs.Called.{ok_on, ok_if, stays_loose, rows_are, sta
 use Rattle.session_table.proofs.table.SessionTable.queue.Goals as goal
 
 pub returns-in_default-clause-refused : goal.returns-in_default-clause-refused
-returns-in_default-clause-refused c = refused_nowhere c.args.self.now c.self.inside.kept.rows.items _ _ c.args.near c.self.view_is c.in_default.ensures refl (Queue c.args.flow c.args.message.now c.args.options) _ (λ e. Err NoFlow ≡ Err e) refl
+returns-in_default-clause-refused c = refused_nowhere c.args.self.now c.self.inside.kept.rows _ c.args.near c.self.view_is c.self.invariant c.in_default.ensures.found (Queue c.args.flow c.args.message.now c.args.options) _ (λ e. Err NoFlow ≡ Err e) refl
 
-pub settle-requires-clause-loose : goal.settle-requires-clause-loose
-settle-requires-clause-loose c = stays_loose c.args.self.now c.self.inside.kept.rows.items _ _ c.args.near c.in-Some.index c.index_mut-row.result.now c.self.view_is c.self.invariant c.in-Some.ensures refl c.index_mut-row.ensures.value c.queue-queued.new.self
+pub settle-requires : goal.settle-requires
+settle-requires c = stays_loose c.args.self.now c.self.inside.kept.rows _ c.args.near c.in-Some.slot c.index_mut-row.result.now c.self.view_is c.self.invariant c.in-Some.ensures.found c.index_mut-row.ensures.value c.queue-queued.new.self
 
 pub returns-clause-rows : goal.returns-clause-rows
-returns-clause-rows c = ok_on c.queue-queued.result c.queue-queued.ensures.did (λ seq did. c.settle.ensures.table ∙ rows_are c.args.self.now c.self.inside.kept.rows.items _ _ c.args.near c.in-Some.index c.index_mut-row.result.now c.self.view_is c.self.invariant c.in-Some.ensures refl c.index_mut-row.ensures.value (Queue c.args.flow c.args.message.now c.args.options) c.queue-queued.new.self (Queued c.args.flow seq c.args.message.now ∷ []) did)
+returns-clause-rows c = ok_on c.queue-queued.result c.queue-queued.ensures.did (λ seq did. c.settle.ensures.table ∙ rows_are c.args.self.now c.self.inside.kept.rows _ c.args.near c.in-Some.slot c.index_mut-row.result.now c.self.view_is c.self.invariant c.in-Some.ensures.found c.index_mut-row.ensures.value (Queue c.args.flow c.args.message.now c.args.options) c.queue-queued.new.self (Queued c.args.flow seq c.args.message.now ∷ []) did)
 
 pub returns-clause-stated : goal.returns-clause-stated
-returns-clause-stated c = ok_if c.queue-queued.result c.queue-queued.ensures.did (λ seq did. stated_is c.args.self.now c.self.inside.kept.rows.items _ _ c.args.near c.in-Some.index c.index_mut-row.result.now c.self.view_is c.self.invariant c.in-Some.ensures refl c.index_mut-row.ensures.value (Queue c.args.flow c.args.message.now c.args.options) c.queue-queued.new.self (Queued c.args.flow seq c.args.message.now ∷ []) did)
+returns-clause-stated c = ok_if c.queue-queued.result c.queue-queued.ensures.did (λ seq did. stated_is c.args.self.now c.self.inside.kept.rows _ c.args.near c.in-Some.slot c.index_mut-row.result.now c.self.view_is c.self.invariant c.in-Some.ensures.found c.index_mut-row.ensures.value (Queue c.args.flow c.args.message.now c.args.options) c.queue-queued.new.self (Queued c.args.flow seq c.args.message.now ∷ []) did)
 
 pub returns-clause-refused : goal.returns-clause-refused
-returns-clause-refused c = refused_is c.args.self.now c.self.inside.kept.rows.items _ _ c.args.near c.in-Some.index c.index_mut-row.result.now c.self.view_is c.self.invariant c.in-Some.ensures refl c.index_mut-row.ensures.value (Queue c.args.flow c.args.message.now c.args.options) (IfErr c.queue-queued.result (λ e. e ≡ Memory)) (λ e. c.queue-queued.result ≡ Err e) c.queue-queued.ensures.refused
+returns-clause-refused c = refused_is c.args.self.now c.self.inside.kept.rows _ c.args.near c.in-Some.slot c.index_mut-row.result.now c.self.view_is c.self.invariant c.in-Some.ensures.found c.index_mut-row.ensures.value (Queue c.args.flow c.args.message.now c.args.options) (IfErr c.queue-queued.result (λ e. e ≡ Memory)) (λ e. c.queue-queued.result ≡ Err e) c.queue-queued.ensures.refused

@@ -6,16 +6,20 @@ use Rattle.session_flows.specs.Causes.{data_cause}
 use Rattle.session_flows.specs.Chunks.{data_taken}
 use Rattle.session_table.proofs.Called.{stays_loose}
 use Rattle.session_table.proofs.Taken.{on_ok, flows_changed, cause_is, cause_none}
+use Rattle.session_table.proofs.Staying.{on_err, rows_stay}
 use Rattle.session_table.proofs.table.SessionTable.take_data.Goals as goal
 
 pub returns-in_default-clause-cause : goal.returns-in_default-clause-cause
-returns-in_default-clause-cause c = cause_none c.args.self.now c.self.inside.kept.rows.items _ _ c.args.near c.self.view_is c.in_default.ensures refl (λ s f. data_cause s f (user_parts c.args.chunk.now)) _ (λ x. Err (Cause WrongState) ≡ Err (Cause x)) refl
+returns-in_default-clause-cause c = cause_none c.args.self.now c.self.inside.kept.rows _ c.args.near c.self.view_is c.self.invariant c.in_default.ensures.found (λ s f. data_cause s f (user_parts c.args.chunk.now)) _ (λ x. Err (Cause WrongState) ≡ Err (Cause x)) refl
 
-pub settle-requires-clause-loose : goal.settle-requires-clause-loose
-settle-requires-clause-loose c = stays_loose c.args.self.now c.self.inside.kept.rows.items _ _ c.args.near c.in-Some.index c.index_mut-row.result.now c.self.view_is c.self.invariant c.in-Some.ensures refl c.index_mut-row.ensures.value c.take_data-taken.new.self
+pub settle-requires : goal.settle-requires
+settle-requires c = stays_loose c.args.self.now c.self.inside.kept.rows _ c.args.near c.in-Some.slot c.index_mut-row.result.now c.self.view_is c.self.invariant c.in-Some.ensures.found c.index_mut-row.ensures.value c.take_data-taken.new.self
 
 pub returns-clause-rows : goal.returns-clause-rows
-returns-clause-rows c = on_ok c.take_data-taken.result c.take_data-taken.ensures.taken (λ did. c.settle.ensures.table ∙ flows_changed c.args.self.now c.self.inside.kept.rows.items _ _ c.args.near c.in-Some.index c.index_mut-row.result.now c.self.view_is c.self.invariant c.in-Some.ensures refl c.index_mut-row.ensures.value (λ f. data_taken f (user_parts c.args.chunk.now)) c.take_data-taken.new.self did)
+returns-clause-rows c = on_ok c.take_data-taken.result c.take_data-taken.ensures.taken (λ did. c.settle.ensures.table ∙ flows_changed c.args.self.now c.self.inside.kept.rows _ c.args.near c.in-Some.slot c.index_mut-row.result.now c.self.view_is c.self.invariant c.in-Some.ensures.found c.index_mut-row.ensures.value (λ f. data_taken f (user_parts c.args.chunk.now)) c.take_data-taken.new.self did)
 
 pub returns-clause-cause : goal.returns-clause-cause
-returns-clause-cause c = cause_is c.args.self.now c.self.inside.kept.rows.items _ _ c.args.near c.in-Some.index c.index_mut-row.result.now c.self.view_is c.self.invariant c.in-Some.ensures refl c.index_mut-row.ensures.value (λ s f. data_cause s f (user_parts c.args.chunk.now)) (IfErr c.take_data-taken.result (λ e. e ≡ Memory)) (λ x. c.take_data-taken.result ≡ Err (Cause x)) c.take_data-taken.ensures.cause
+returns-clause-cause c = cause_is c.args.self.now c.self.inside.kept.rows _ c.args.near c.in-Some.slot c.index_mut-row.result.now c.self.view_is c.self.invariant c.in-Some.ensures.found c.index_mut-row.ensures.value (λ s f. data_cause s f (user_parts c.args.chunk.now)) (IfErr c.take_data-taken.result (λ e. e ≡ Memory)) (λ x. c.take_data-taken.result ≡ Err (Cause x)) c.take_data-taken.ensures.cause
+
+pub returns-clause-err : goal.returns-clause-err
+returns-clause-err c = on_err c.take_data-taken.result c.take_data-taken.ensures.err (λ same. c.settle.ensures.table ∙ rows_stay c.args.self.now c.self.inside.kept.rows _ c.in-Some.slot c.index_mut-row.result.now c.self.view_is c.index_mut-row.ensures.value c.take_data-taken.new.self same)
