@@ -4,8 +4,9 @@
 //! that those of this program do. Steps are those of a script, without `bent`, `inject` and `forge`.
 //!
 //! It writes the lines of a report. `LINE wanting` tells of a call that found no memory, and behind
-//! it, of a datagram, whether it counts as taken. Behind `settle` each end ticks once a second,
-//! eight times, and all that goes out is delivered.
+//! it, of a datagram, whether it counts as taken. `LINE missing` tells of a step that brings a
+//! datagram which never went out, as it may be after such a call: the step is skipped. Behind
+//! `settle` each end ticks once a second, eight times, and all that goes out is delivered.
 #![tactic(auto)]
 
 mod called;

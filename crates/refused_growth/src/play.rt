@@ -218,7 +218,7 @@ impl Play {
         Ok(())
     }
 
-    /// Brings a datagram to an end.
+    /// Brings a datagram to an end. One that never went out is told and skipped.
     fn bring(
         &mut self,
         rt: &HostRuntime,
@@ -228,7 +228,7 @@ impl Play {
         from: Address,
     ) -> Result<(), Fail> {
         let Some(sent) = self.sent.get(index) else {
-            return Ok(());
+            return Ok(println!(rt; "{line} missing")?);
         };
         let deed = Deed::Take {
             from,
