@@ -12,7 +12,9 @@
 //! two runs. `late COUNT` has a sender send so many messages of a byte, lose them all by time at
 //! once, and send them again. `wide COUNT` has one hear acks of 250 stretches each, which newly
 //! tell a number each. `abandons COUNT` has one abandon its messages from the middle on, and in
-//! `deadlines COUNT` they become overdue one after another, the last one first. `full COUNT` has a
+//! `deadlines COUNT` they become overdue one after another, the last one first. `limits COUNT` has a
+//! sender lose so many messages by time twice, every second of which may be sent again once, and
+//! ask before each sending which message is overdue. `full COUNT` has a
 //! receiver with a full buffer refuse as many chunks as there are beginnings of messages that each
 //! of them would pass. The answer is the word, how many chunks there were, and how many messages
 //! were handed over, sent again, told, abandoned or refused.
@@ -122,6 +124,9 @@ fn moved_by(
     }
     if word == "abandons" {
         return abandons(rt, size);
+    }
+    if word == "limits" {
+        return limits(rt, size);
     }
     if word == "deadlines" {
         return deadlines(rt, size);
@@ -440,6 +445,45 @@ fn deadlines(rt: &impl AllocGlobal, count: u64) -> Result<Moved, Memory> {
         chunks: count,
         handed: count.wrapping_sub(from.waiting()),
     })
+}
+
+/// Messages are lost by time twice, every second of which may be sent again once. Before each
+/// sending those are abandoned that are overdue.
+fn limits(rt: &impl AllocGlobal, count: u64) -> Result<Moved, Memory> {
+    let count = count.min(65_000);
+    let mut from = FlowSender::new(rt.alloc(), FLOW, &[], None, 0, 1)?;
+    for at in 0..count {
+        let options = MessageOptions {
+            deadline: None,
+            resends: if at % 2 == 0 { None } else { Some(1) },
+        };
+        let _ = from.queue(&[0x55], options);
+    }
+    let first = send_all(&mut from, 0);
+    let again = lose_and_send(&mut from, RESEND_AFTER);
+    let last = lose_and_send(&mut from, 2 * RESEND_AFTER);
+    Ok(Moved {
+        queued: 0,
+        chunks: first.wrapping_add(again).wrapping_add(last),
+        handed: count.wrapping_sub(from.waiting()),
+    })
+}
+
+/// All is lost by time and sent again, but for what is overdue. Tells how many chunks are sent.
+fn lose_and_send(from: &mut FlowSender, moment: u64) -> u64 {
+    let _ = from.find_lost(moment, RESEND_AFTER);
+    let mut sent: u64 = 0;
+    for _ in 0..u64::MAX {
+        if from.overdue(moment).is_some() {
+            continue;
+        }
+        let next = from.next_chunk(false, 1164, 0, u64::MAX, moment, RESEND_AFTER);
+        if next.is_err() {
+            return sent;
+        }
+        sent = sent.wrapping_add(1);
+    }
+    sent
 }
 
 /// A receiver whose buffer a whole message fills holds so many beginnings of others, and refuses as
