@@ -32,7 +32,7 @@ use Rattle.flow_send.specs.Sender.{message_at}
 use Rattle.flow_send.specs.Steady.{Steady}
 use Rattle.flow_send.proofs.Ends.{next_unfinished}
 use Rattle.flow_send.proofs.Queuings.{allowed}
-use Rattle.flow_send.proofs.Steadies.{steady_abandoned, steady_finished, steady_lost, steady_new}
+use Rattle.flow_send.proofs.Steadies.{bounded, steady_abandoned, steady_finished, steady_lost, steady_new}
 use Rattle.flow_send.proofs.Steadies.{steady_queued, steady_sent, steady_told}
 use Rattle.glare_core.specs.Calls.{where_true, first_that_stands}
 use Rattle.session_core.specs.Closing.{is_held}
@@ -494,7 +494,11 @@ flows_hold_few setup log s near row stands there =
     let h = in_every_log AreWell all_is_kept setup log s stands near row there in
     record {
       sending = all_so IsSteady (λ f. SendsFew f.sender)
-          (λ f k. record { bytes = k.bytes; fragments = k.fragments }) row.flows.sending h.sending;
+          (λ f k. record {
+            bytes = k.bytes;
+            fragments = k.fragments;
+            each = (bounded f.sender k).each;
+          }) row.flows.sending h.sending;
       taking = all_so IsWell (λ t. TakesFew t.receiver)
           (λ t k. record { bytes = k.bytes; numbers = k.window }) row.flows.taking h.taking;
     }

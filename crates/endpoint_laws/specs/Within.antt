@@ -4,6 +4,7 @@ use Rattle.std.specs.List.{AllByRecursion}
 use Rattle.std.specs.FinMap.{get}
 use Rattle.flow_recv.specs.Receiver.{Receiver, knows, end_of_first, held_in}
 use Rattle.flow_send.specs.Sender.{Sender, bytes_held, fragments_held}
+use Rattle.flow_send.specs.Steady.{AllShort}
 use Rattle.session_flows.specs.Keeping.{FlowsState}
 use Rattle.session_flows.specs.Laws.{IsSound}
 use Rattle.endpoint_model.specs.declared.row.Row.{Row}
@@ -17,10 +18,12 @@ abbrev pub FlowsAreWithin : Type 0
 FlowsAreWithin = (setup : Setup) (log : List Event) (s : State) (near : ℕ) (row : Row) →
     StandsFor setup log s → get s.sessions near ≡ Some row → IsSound row.flows
 
--- A sending flow holds at most 2,097,152 bytes and 65,536 fragments of messages that wait.
+-- A sending flow holds at most 2,097,152 bytes and 65,536 fragments of messages that wait, each of
+-- at most 1,000 bytes.
 pub record SendsFew (s : Sender) : Type 0 where
   pub bytes : bytes_held s ≤ 2097152
   pub fragments : fragments_held s ≤ 65536
+  pub each : AllShort s.rows
 
 -- A receiving flow holds at most 3,145,728 bytes. Each number that was taken or given up is at most
 -- 65,536 above the lowest missing one, so no more than so many are.

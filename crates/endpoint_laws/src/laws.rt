@@ -75,8 +75,8 @@ pub fn flows_are_within()
 {}
 
 /// No flow of an end holds more than it may: a sending one at most 2,097,152 bytes and 65,536
-/// fragments of messages that wait, a receiving one at most 3,145,728 bytes, and at most 65,536
-/// numbers above its lowest missing one.
+/// fragments of messages that wait, each of at most 1,000 bytes; a receiving one at most 3,145,728
+/// bytes, and at most 65,536 numbers above its lowest missing one.
 pub fn flows_hold_few()
     ensures { FlowsHoldFew }
 {}
