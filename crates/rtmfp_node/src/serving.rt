@@ -1,10 +1,13 @@
 //! A node, from its first draw to its last turn.
-ghost use Rattle.std.specs.Prelude.{◌≡◌, [], IfOk, length};
+ghost use Rattle.std.specs.Prelude.{◌≡◌, ℕ, List, [], IfOk, length};
 ghost use Rattle.endpoint_model.specs.Log.{StandsFor};
 ghost use Rattle.endpoint_model.specs.State.{fresh};
 ghost use Rattle.endpoint_laws.specs.Laws.{IsSetup};
+ghost use Rattle.rtmfp_host.specs.declared.link.LinkCall.TheVariants.{Bind};
+ghost use Rattle.rtmfp_host.specs.Drawing.{EntropySeen};
+ghost use Rattle.rtmfp_host.specs.Linking.{Calls, LinkSeen};
 ghost use Rattle.rtmfp_words.specs.Node.{IsNodeName};
-ghost use Rattle.rtmfp_node.specs.Acting.{TurnsEnd};
+ghost use Rattle.rtmfp_node.specs.Acting.{Drew, TurnsEnd};
 ghost use Rattle.rtmfp_node.specs.Outside.{Counted, PassesOn, outside};
 ghost use Rattle.rtmfp_node.specs.Whole.{Ends, setup_of};
 
@@ -75,14 +78,72 @@ pub fn serve<L: Link, C: Moments, E: Entropy, K: Sink>(
         Bound::Failed => return Served::LinkFault,
         Bound::Done => {}
     }
-    let Ok(mut node) = node_of(alloc, words, &block) else {
+    let Ok(node) = node_of(alloc, words, &block) else {
         return Served::Memory;
     };
-    let served = turn_zero(words, &mut node, link, clock, entropy, sink);
+    serve_node(words, node, link, clock, entropy, sink)
+}
+
+/// Takes turn 0 and the turns after it with a node that was begun by a block, after its draw and
+/// the bind, and lets the node go.
+fn serve_node<L: Link, C: Moments, E: Entropy, K: Sink>(
+    words: &ServeWords,
+    mut node: Node,
+    link: &mut L,
+    clock: &mut C,
+    entropy: &mut E,
+    sink: &mut K,
+) -> Served
+    requires secret { node.notes.secret ≡ words.now.group }
+    requires none { node.notes.count ≡ 0 }
+    ensures ends { (block : List ℕ) (before : LinkSeen) (blocks : EntropySeen) →
+        IsSetup (setup_of words.now block) → StandsFor (setup_of words.now block) [] node.end →
+        node.end ≡ fresh (setup_of words.now block) →
+        Drew blocks.blocks (E.seen entropy.old).blocks block →
+        Calls before.line (L.seen link.old).line (Bind words.now.bind) →
+        Ends result words.now (outside before (C.seen clock.old) blocks (K.seen sink.old))
+        (outside (L.seen link.new) (C.seen clock.new) (E.seen entropy.new) (K.seen sink.new)) }
+    ensures counted { Counted result
+        (outside (L.seen link.old) (C.seen clock.old) (E.seen entropy.old) (K.seen sink.old))
+        (outside (L.seen link.new) (C.seen clock.new) (E.seen entropy.new) (K.seen sink.new)) }
+    ensures passed { PassesOn result
+        (outside (L.seen link.old) (C.seen clock.old) (E.seen entropy.old) (K.seen sink.old))
+        (outside (L.seen link.new) (C.seen clock.new) (E.seen entropy.new) (K.seen sink.new)) }
+{
+    take_all(words, &mut node, link, clock, entropy, sink)
+}
+
+/// Takes turn 0 and the turns after it with a node that was begun by a block, after its draw and
+/// the bind.
+fn take_all<L: Link, C: Moments, E: Entropy, K: Sink>(
+    words: &ServeWords,
+    node: &mut Node,
+    link: &mut L,
+    clock: &mut C,
+    entropy: &mut E,
+    sink: &mut K,
+) -> Served
+    requires secret { node.old.notes.secret ≡ words.now.group }
+    requires none { node.old.notes.count ≡ 0 }
+    ensures ends { (block : List ℕ) (before : LinkSeen) (blocks : EntropySeen) →
+        IsSetup (setup_of words.now block) → StandsFor (setup_of words.now block) [] node.old.end →
+        node.old.end ≡ fresh (setup_of words.now block) →
+        Drew blocks.blocks (E.seen entropy.old).blocks block →
+        Calls before.line (L.seen link.old).line (Bind words.now.bind) →
+        Ends result words.now (outside before (C.seen clock.old) blocks (K.seen sink.old))
+        (outside (L.seen link.new) (C.seen clock.new) (E.seen entropy.new) (K.seen sink.new)) }
+    ensures counted { Counted result
+        (outside (L.seen link.old) (C.seen clock.old) (E.seen entropy.old) (K.seen sink.old))
+        (outside (L.seen link.new) (C.seen clock.new) (E.seen entropy.new) (K.seen sink.new)) }
+    ensures passed { PassesOn result
+        (outside (L.seen link.old) (C.seen clock.old) (E.seen entropy.old) (K.seen sink.old))
+        (outside (L.seen link.new) (C.seen clock.new) (E.seen entropy.new) (K.seen sink.new)) }
+{
+    let served = turn_zero(words, node, link, clock, entropy, sink);
     if !served.is_done() {
         return served;
     }
-    take_turns(words, &mut node, link, clock, entropy, sink)
+    take_turns(words, node, link, clock, entropy, sink)
 }
 
 /// A node that has done nothing yet, by the words and the first block.
