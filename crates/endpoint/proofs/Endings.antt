@@ -21,7 +21,7 @@ use Rattle.endpoint_model.specs.Added.{Added}
 use Rattle.endpoint_model.specs.State.{State, Done, nothing, then_do, with_session, with_sessions, without_row}
 use Rattle.endpoint_model.specs.InSessions.{held_row, ended_as, closing, closing_by, sent_home}
 use Rattle.endpoint_model.proofs.Steps.{done_nothing, joined}
-use Rattle.rtmfp_base.proofs.Leaving.{removed_none}
+use Rattle.rtmfp_base.proofs.Maps.{removed_none}
 use Rattle.end_state.specs.Steps.{row_changed, session_changed, end_told}
 use Rattle.endpoint.specs.DueItems.{abandoned_by, dropped_by, end_due_by, kept_alive_in}
 use Rattle.end_state.proofs.Endings.{ended_done, changed_done, held_is, none_home}

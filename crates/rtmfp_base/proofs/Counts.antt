@@ -1,9 +1,9 @@
 -- How many values of a finite map pass a test, when one is put, changed or taken away: each that passes weighs one.
-use Rattle.std.proofs.Common.{ℕ, ◌≡◌, ◌+◌, Bool, true, false, cond, Some, None, sym, ap, ◌∙◌, arith}
+use Rattle.std.proofs.Common.{ℕ, ◌≡◌, ◌+◌, Bool, true, false, cond, Some, sym, ap, ◌∙◌, arith}
 use Rattle.std.specs.Ordering.{nat_cmp}
 use Rattle.std.specs.FinMap.{FinMap, get, insert, remove}
 use Rattle.rtmfp_base.specs.Counts.{count_where}
-use Rattle.rtmfp_base.proofs.Weights.{sum_new, sum_removed, sum_changed}
+use Rattle.rtmfp_base.proofs.Weights.{sum_removed, sum_changed}
 
 module _ {V : Type 0} (test : V → Bool) where
   abbrev one_where : V → ℕ

@@ -1,14 +1,11 @@
--- The first entry of a map whose value passes a test is that of the lowest such key, and how a list of rows is looked through for it.
-use Rattle.std.proofs.Common.{inl, inr, ◌≡◌, ◌<◌, ◌≤◌, ◌+◌, ℕ, Bool, true, false, List, [], ◌∷◌, length, cond, find, get_or, T, ◌&&◌, refl, sym, ap, ◌∙◌, Some, None, subst, arith}
+-- The first entry of a map whose value passes a test is that of the lowest such key.
+use Rattle.std.proofs.Common.{inl, inr, ◌≡◌, ◌<◌, ◌+◌, ℕ, Bool, true, false, List, [], ◌∷◌, cond, find, T, ◌&&◌, refl, sym, ap, ◌∙◌, Some, None, subst, arith}
 use Rattle.std.proofs.lemmas.Bool.Decides.{nat_tests}
 use Rattle.std.proofs.lemmas.Bool.{cases_order, cases_Bool}
-use Rattle.std.proofs.lemmas.List.{get_or_default}
 use Rattle.std.specs.Ordering.{nat_cmp, is_lt, eq_by_cmp}
 use Rattle.std.specs.FinMap.{FinMap, entries, entries_sorted, is_sorted, get-entries, get}
 use Rattle.std.specs.FinMap as fin
 use Rattle.std.specs.FinMap.Entries.{below_all}
-use Rattle.rtmfp_base.specs.Rows.{table, IsDistinct, IsBest}
-use Rattle.rtmfp_base.proofs.Rows.{row_at, row_of}
 
 -- ---- entries in the order of their keys
 
@@ -114,27 +111,3 @@ found_first p (first ∷ es) e s f =
 -- the first entry that passes is in the map, and passes
 pub first_is_there : {V : Type 0} (p : V → Bool) (m : FinMap nat_cmp V) (e : ℕ × V) → find (λ x. p x.1) (entries m) ≡ Some e → (get m e.0 ≡ Some e.1) × (p e.1 ≡ true)
 first_is_there p m e f = let there = found_first p (entries m) e (entries_sorted m) f in (get-entries m e.0 ∙ there.0, there.1)
-
--- ---- rows that are looked through one by one
-
-module _ {A V : Type 0} (key : A → ℕ) (value : A → V) where
-  -- when all were looked through: the first entry that passes
-  pub best_is_entry : (p : V → Bool) (rows : List A) (index : ℕ) → IsDistinct key value rows → IsBest key value p rows (length rows) (Some index) → (d : A) →
-      find (λ e. p e.1) (entries (table key value rows)) ≡ Some (key (get_or rows index d), value (get_or rows index d))
-  best_is_entry p rows index distinct is d =
-      let row = get_or rows index d in
-      lowest_is_first p (table key value rows) (key row) (value row) (row_at key value rows index d distinct is.within) (is.passes d) (λ j w lt there.
-      let found = row_of key value rows j w there in
-      elim (cases_Bool (p w)) [
-        | inl good ↦
-            let above : key (get_or rows index found.0) ≤ key (get_or rows found.1.0 found.0) = is.lowest found.1.0 found.0 found.1.1 (ap (λ (r : A). p (value r)) found.1.2 ∙ ap p found.3 ∙ good) in
-            let other : key (get_or rows found.1.0 found.0) ≡ j = ap key found.1.2 ∙ found.2 in
-            let this : key (get_or rows index found.0) ≡ key row = ap key (get_or_default rows index found.0 d is.within) in
-            absurd (omega (arith, above, other, this, lt))
-        | inr bad ↦ bad
-      ])
-
-  pub none_is_entry : (p : V → Bool) (rows : List A) → IsBest key value p rows (length rows) None → find (λ e. p e.1) (entries (table key value rows)) ≡ None
-  none_is_entry p rows is = none_is_first p (table key value rows) (λ j w there.
-      let found = row_of key value rows j w there in
-      sym (ap (λ (r : A). p (value r)) found.1.2 ∙ ap p found.3) ∙ is.fails found.1.0 found.0 found.1.1)

@@ -41,6 +41,13 @@ module _ {V : Type 0} where
     | inr is ↦ get-remove nat_cmp_total m k q ∙ ap (λ b. cond b None (get m q)) is.1
   ]
 
+  -- nothing leaves where nothing is
+  pub removed_none : (m : FinMap nat_cmp V) (k : ℕ) → get m k ≡ None → m ≡ remove m k
+  removed_none m k none = same_tables m (remove m k) (λ q. elim (same_or_not q k) [
+    | inl is ↦ ap (get m) is.0 ∙ none ∙ sym (ap (get (remove m k)) is.0 ∙ get_removed m k)
+    | inr is ↦ sym (get_left m k q is.0)
+  ])
+
   -- where something is found after an insert, it was put there or was there before
   pub found_inserted : (m : FinMap nat_cmp V) (k : ℕ) (v : V) (q : ℕ) (w : V) → get (insert m k v) q ≡ Some w → ((q ≡ k) × (v ≡ w)) ⊎ ((q ≡ k → ⊥) × (get m q ≡ Some w))
   found_inserted m k v q w e = elim (same_or_not q k) [
@@ -60,24 +67,6 @@ module _ {V : Type 0} where
   insert_twice m k v w = same_tables _ _ (λ q. elim (same_or_not q k) [
     | inl is ↦ ap (get (insert (insert m k v) k w)) is.0 ∙ get_inserted (insert m k v) k w ∙ sym (get_inserted m k w) ∙ ap (get (insert m k w)) (sym is.0)
     | inr is ↦ get_beside (insert m k v) k w q is.0 ∙ get_beside m k v q is.0 ∙ sym (get_beside m k w q is.0)
-  ])
-
-  -- values under two keys may be put in either order
-  pub insert_crossed : (m : FinMap nat_cmp V) (k : ℕ) (v : V) (j : ℕ) (w : V) → (j ≡ k → ⊥) → insert (insert m k v) j w ≡ insert (insert m j w) k v
-  insert_crossed m k v j w apart = same_tables _ _ (λ q. elim (same_or_not q j) [
-    | inl is ↦ ap (get (insert (insert m k v) j w)) is.0 ∙ get_inserted (insert m k v) j w
-        ∙ sym (ap (get (insert (insert m j w) k v)) is.0 ∙ get_beside (insert m j w) k v j apart ∙ get_inserted m j w)
-    | inr is ↦ get_beside (insert m k v) j w q is.0 ∙ elim (same_or_not q k) [
-      | inl at ↦ ap (get (insert m k v)) at.0 ∙ get_inserted m k v ∙ sym (ap (get (insert (insert m j w) k v)) at.0 ∙ get_inserted (insert m j w) k v)
-      | inr at ↦ get_beside m k v q at.0 ∙ sym (get_beside (insert m j w) k v q at.0 ∙ get_beside m j w q is.0)
-    ]
-  ])
-
-  -- what was put under a key that had nothing is taken away again
-  pub remove_inserted : (m : FinMap nat_cmp V) (k : ℕ) (v : V) → get m k ≡ None → remove (insert m k v) k ≡ m
-  remove_inserted m k v none = same_tables _ _ (λ q. elim (same_or_not q k) [
-    | inl is ↦ ap (get (remove (insert m k v) k)) is.0 ∙ get_removed (insert m k v) k ∙ sym none ∙ ap (get m) (sym is.0)
-    | inr is ↦ get_left (insert m k v) k q is.0 ∙ get_beside m k v q is.0
   ])
 
   pub len_new : (m : FinMap nat_cmp V) (k : ℕ) (v : V) → get m k ≡ None → len (insert m k v) ≡ len m + 1

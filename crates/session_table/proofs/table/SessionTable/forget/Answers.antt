@@ -1,6 +1,6 @@
 use Rattle.std.proofs.Common.{sym, ap, ◌∙◌}
 use Rattle.std.specs.FinMap.{remove}
-use Rattle.rtmfp_base.proofs.Leaving.{removed_none}
+use Rattle.rtmfp_base.proofs.Maps.{removed_none}
 use Rattle.session_table.specs.Table.{Table}
 use Rattle.session_table.specs.Inside.{rows_in}
 use Rattle.session_table.proofs.Rows.{IsThere, row_there, found_nowhere}
