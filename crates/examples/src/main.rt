@@ -1,10 +1,11 @@
 //! Plays the examples, which are the files of this crate's `data`, and tells of each whether what
 //! is written is the report beside it. Its words are the names of the examples. All are scripts,
 //! but for `packets`, whose lines are packets, for texts of rows, each of which is a script with its
-//! report (`flows.rows` and the like), and for texts of tables, of rows of two ends by hand
-//! (`flows.tables`).
+//! report (`flows.rows` and the like), for texts of tables, of rows of two ends by hand
+//! (`flows.tables`), and for tables of a script with one of its calls failing (`handshake.faults`).
 #![tactic(auto)]
 
+mod faults;
 mod rows;
 mod running;
 mod tables;
@@ -31,6 +32,9 @@ fn play(rt: &HostRuntime, name: &str) -> Result<(), Fail> {
         let text = fs::read_to_string(rt, name)?;
         return tables::tell_tables(rt, text.as_str());
     }
+    if let Some(front) = name.strip_suffix(".faults") {
+        return Ok(tell_faults(rt, front)?);
+    }
     Ok(tell(rt, name, is_so(rt, name)?)?)
 }
 
@@ -55,10 +59,16 @@ fn is_so(rt: &HostRuntime, name: &str) -> io::Result<bool> {
     let script = read(rt, name, "txt")?;
     let report = read(rt, name, "report")?;
     let command = if name == "packets" { "show" } else { "replay" };
-    let mut words = Vec::new(rt.alloc());
-    words.push(String::from_str(rt.alloc(), command)?)?;
     let mut source = MemorySource::new(script.into_bytes());
     let mut sink = MemorySink::new(rt.alloc());
-    let _ = run_over(rt.alloc(), words.as_slice(), &mut source, &mut sink);
+    let _ = run_over(rt.alloc(), command, &mut source, &mut sink)?;
     Ok(sink.written() == Some(report.as_bytes()))
+}
+
+/// Tells of the table of the faults of a script whether it is so.
+fn tell_faults(rt: &HostRuntime, name: &str) -> io::Result<()> {
+    let table = read(rt, name, "faults")?;
+    let script = read(rt, name, "txt")?;
+    let report = read(rt, name, "report")?;
+    faults::tell_faults(rt, name, table.as_str(), script.as_str(), report.as_str())
 }

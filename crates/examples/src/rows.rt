@@ -136,11 +136,9 @@ fn whole_row(alloc: Global, rows: &str, lines: &str) -> Result<Transcript, Alloc
 /// Whether a run of the script of a row is done and writes its report.
 fn is_so(alloc: Global, rows: &str, lines: &str) -> Result<bool, AllocError> {
     let whole = whole_row(alloc, rows, lines)?;
-    let mut words = Vec::new(alloc);
-    words.push(String::from_str(alloc, "replay")?)?;
     let mut source = MemorySource::new(whole.script.into_bytes());
     let mut sink = MemorySink::new(alloc);
-    let status = run_over(alloc, words.as_slice(), &mut source, &mut sink);
+    let status = run_over(alloc, "replay", &mut source, &mut sink)?;
     Ok(status == Status::Done && sink.written() == Some(whole.report.as_bytes()))
 }
 
