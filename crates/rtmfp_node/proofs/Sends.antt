@@ -41,9 +41,6 @@ appends_as a b x y e p = subst (Appends a b) e p
 pub appends_still : (a b c : Option (List ℕ)) (x : List ℕ) → Appends a b x → Appends b c [] → Appends a c x
 appends_still a b c x p q = appends_as a c (x ++ []) x (append-nil x) (appends_more a b c x [] p q)
 
-pub take_none : (xs : List ℕ) → take 0 xs ≡ []
-take_none xs = refl
-
 pub take_all : (xs : List ℕ) → take (length xs) xs ≡ xs
 take_all [] = refl
 take_all (x ∷ xs) = ap (λ ys. x ∷ ys) (take_all xs)
@@ -123,9 +120,6 @@ unsent_then : (es : List Entry) (turn count : ℕ) (xs ys : List LinkCall) → A
 unsent_then es turn count xs ys h =
     unsent_more (outs_in es) turn count xs ys h
     ∙ ap (λ k. unsent_text turn count xs ++ unsent_text turn k ys) (sent_outs count es)
-
-pub sent_none : (turn count : ℕ) (l : Option Line) (t : Option (List ℕ)) → SentAll turn count [] l l t t
-sent_none turn count l t = record { sends = []; sent = refl; calls = calls_none l; text = appends_none t }
 
 -- nothing goes out by an entry
 pub no_out : (turn count : ℕ) (e : Entry) (l : Option Line) (t : Option (List ℕ)) → out_in e ≡ None → SentAll turn count (e ∷ []) l l t t
@@ -384,14 +378,3 @@ passes_all Memory a b passed = λ before. passed
 passes_all LinkFault a b passed = λ before. passed
 passes_all EntropyFault a b passed = λ before. passed
 passes_all SinkFault a b passed = tt
-
-still : (x y : SinkSeen) → y ≡ x → x.passed ≡ x.written → y.passed ≡ y.written
-still x y same before = ap (λ (k : SinkSeen). k.passed) same ∙ before ∙ sym (ap (λ (k : SinkSeen). k.written) same)
-
--- where nothing was asked of the sink
-pub passes_still : (r : Served) (a b : Outside) → b.sink ≡ a.sink → PassesOn r a b
-passes_still Done a b same = still a.sink b.sink same
-passes_still Memory a b same = still a.sink b.sink same
-passes_still LinkFault a b same = still a.sink b.sink same
-passes_still EntropyFault a b same = still a.sink b.sink same
-passes_still SinkFault a b same = tt

@@ -56,9 +56,6 @@ with_clock x clock = record { line = x.line; clock = clock; blocks = x.blocks; t
 abbrev pub with_line : Told → Line → Told
 with_line x line = record { line = line; clock = x.clock; blocks = x.blocks; text = x.text }
 
-abbrev pub with_text : Told → List ℕ → Told
-with_text x text = record { line = x.line; clock = x.clock; blocks = x.blocks; text = text }
-
 some_same : {A : Type 0} (x y : A) → ◌≡◌ {A = Option A} (Some x) (Some y) → x ≡ y
 some_same x y e = cc (e)
 

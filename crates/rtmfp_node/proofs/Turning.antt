@@ -272,14 +272,3 @@ all_opened result openings os moment b a s t x y m n is same opens =
 pub opens_as : (result : Served) (openings os : List OpeningWords) (moment : ℕ) (b a : Option (List (List ℕ))) (s t : State) (x y : List Entry) (m n : Noted) → openings ≡ os →
     OpensEnd result openings moment b a s t x y m n → OpensEnd result os moment b a s t x y m n
 opens_as result openings os moment b a s t x y m n same opens = subst (λ (k : List OpeningWords). OpensEnd result k moment b a s t x y m n) same opens
-
--- which counts rise in turn 0 before anything is written
-pub counted_zero : (result : Served) (openings : List OpeningWords) (moment : ℕ) (b a : Option (List (List ℕ))) (s t : State) (x y : List Entry) (m n : Noted) (o p : Outside) → result ≢ Done →
-    OpensEnd result openings moment b a s t x y m n → DrawnAt result o.entropy.faults p.entropy.faults → p.link ≡ o.link → p.sink ≡ o.sink → Counted result o p
-counted_zero Done openings moment b a s t x y m n o p other opens drawn link sink = absurd (other refl)
-counted_zero Memory openings moment b a s t x y m n o p other opens drawn link sink =
-    record { link = ap (λ (k : LinkSeen). k.faults) link; entropy = drawn; sink = ap (λ (k : SinkSeen). k.faults) sink }
-counted_zero EntropyFault openings moment b a s t x y m n o p other opens drawn link sink =
-    record { link = ap (λ (k : LinkSeen). k.faults) link; entropy = drawn; sink = ap (λ (k : SinkSeen). k.faults) sink }
-counted_zero LinkFault openings moment b a s t x y m n o p other opens drawn link sink = absurd opens
-counted_zero SinkFault openings moment b a s t x y m n o p other opens drawn link sink = absurd opens
