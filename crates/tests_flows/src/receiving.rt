@@ -24,9 +24,9 @@ fn whole(seq: u64, bytes: &[u8]) -> UserData<'_>
     }
 }
 
-/// Takes the even numbers of 2 to 2,000, and then the odd ones.
-fn takes_two_thousand(flow: &mut FlowReceiver) -> bool {
-    for first in [2u64, 1] {
+/// Takes each second number of 1 to 2,000 from one of the first two on, and then the others.
+fn takes_two_thousand(flow: &mut FlowReceiver, firsts: [u64; 2]) -> bool {
+    for first in firsts {
         for at in 0..1000u64 {
             let seq = first + 2 * at;
             if flow.take(&whole(seq, &[(seq % 251) as u8])) != Ok(Took::New) {
@@ -102,8 +102,10 @@ fn tells_what_fits(alloc: Global) -> Result<bool, Memory> {
 
 #[test]
 fn a_receiver_holds_and_hands_over(rt: HostRuntime) -> Result<(), Memory> {
-    let mut flow = FlowReceiver::new(rt.alloc(), 0);
-    assert!(rt; takes_two_thousand(&mut flow) && hands_two_thousand(&mut flow));
+    for firsts in [[1, 2], [2, 1]] {
+        let mut flow = FlowReceiver::new(rt.alloc(), 0);
+        assert!(rt; takes_two_thousand(&mut flow, firsts) && hands_two_thousand(&mut flow));
+    }
     assert!(rt; holds_two_messages(rt.alloc())?);
     assert!(rt; tells_what_fits(rt.alloc())?);
     Ok(())

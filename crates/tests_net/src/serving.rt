@@ -36,6 +36,17 @@ flush 3 sink SH
 flush 4 done SH
 ";
 
+/// The same where a datagram of three bytes comes in turn 2, D, and the hello is due again then, A;
+/// V tells that this one is lost.
+const BUSY_FAULTS: &str = "\
+none 0 done SHDA
+link 3 link SH
+send 1 done SHUDA
+send 2 done SHDAV
+send 3 done SHDA
+draw 4 entropy SH
+";
+
 /// The line of the attempt that begins.
 const STARTED: &str = "0 self started peer=\
 0707070707070707070707070707070707070707070707070707070707070707 n=1 near=9 ni=ab
@@ -46,6 +57,8 @@ const HELLO: &str = "0 self sent 1 10.0.0.2:1935 ihello\n";
 const UNSENT: &str = "0 self unsent 1\n";
 
 const AGAIN: &str = "2 self sent 2 10.0.0.2:1935 ihello\n";
+
+const AGAIN_UNSENT: &str = "2 self unsent 2\n";
 
 const REFUSED: &str = "0 self refused opening 1\n";
 
@@ -88,6 +101,7 @@ fn line_of(letter: char) -> &'static str {
         'H' => HELLO,
         'U' => UNSENT,
         'A' => AGAIN,
+        'V' => AGAIN_UNSENT,
         'R' => REFUSED,
         'D' => DISCARDED,
         _ => "",
@@ -145,40 +159,58 @@ fn serve_line<L: Link, E: Entropy, K: Sink>(
 }
 
 /// How a run with these faults ends, and what the sink then has.
-fn run(alloc: Global, row: &str) -> Result<(Served, FaultySink), Fail> {
-    let link = MemoryLink::new(alloc, Vec::new(alloc));
+fn run(
+    alloc: Global,
+    row: &str,
+    link: MemoryLink,
+    moments: Vec<u64>,
+) -> Result<(Served, FaultySink), Fail> {
     let lost = failing(alloc, row, "send")?;
     let mut link = FaultyLink::new(link, failing(alloc, row, "link")?, lost);
     let entropy = MemoryEntropy::new(blocks(alloc)?);
     let mut entropy = FaultyEntropy::new(entropy, failing(alloc, row, "draw")?);
-    run_over(alloc, row, &mut link, &mut entropy)
+    let mut clock = MemoryMoments::new(moments);
+    run_over(alloc, row, &mut link, &mut clock, &mut entropy)
 }
 
 fn run_over(
     alloc: Global,
     row: &str,
     link: &mut FaultyLink,
+    clock: &mut MemoryMoments,
     entropy: &mut FaultyEntropy,
 ) -> Result<(Served, FaultySink), Fail> {
-    let mut clock = MemoryMoments::new(Vec::new(alloc));
     let writes = failing(alloc, row, "write")?;
     let mut sink = FaultySink::new(alloc, writes, failing(alloc, row, "flush")?, 0);
-    let served = serve_line(alloc, LINE, link, &mut clock, entropy, &mut sink)?;
+    let served = serve_line(alloc, LINE, link, clock, entropy, &mut sink)?;
     Ok((served, sink))
 }
 
 /// Whether a run ends as its row says.
-fn ends_so(alloc: Global, row: &str) -> Result<bool, Fail> {
+fn ends_so(alloc: Global, row: &str, link: MemoryLink, moments: Vec<u64>) -> Result<bool, Fail> {
     let lines = lines_of(alloc, word(row, 3))?;
-    let (served, sink) = run(alloc, row)?;
+    let (served, sink) = run(alloc, row, link, moments)?;
     let written = sink.written() == Some(lines.as_slice());
     Ok(written && served == served_of(word(row, 2)))
 }
 
 #[test]
 fn each_fault_ends_a_run_as_it_should(rt: HostRuntime) -> Result<(), Fail> {
+    let alloc = rt.alloc();
     for row in FAULTS.lines() {
-        let so = ends_so(rt.alloc(), row)?;
+        let link = MemoryLink::new(alloc, Vec::new(alloc));
+        let so = ends_so(alloc, row, link, Vec::new(alloc))?;
+        assert!(rt; so, "{row}");
+    }
+    Ok(())
+}
+
+#[test]
+fn each_fault_ends_a_busy_run_as_it_should(rt: HostRuntime) -> Result<(), Fail> {
+    let alloc = rt.alloc();
+    for row in BUSY_FAULTS.lines() {
+        let moments = Vec::from_array(alloc, [5, 10, 20, 1000, 1010])?;
+        let so = ends_so(alloc, row, link_with_a_datagram(alloc)?, moments)?;
         assert!(rt; so, "{row}");
     }
     Ok(())
