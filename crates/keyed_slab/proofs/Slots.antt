@@ -1,5 +1,5 @@
 -- Slots that come into a set, go out of it, and get room.
-use Rattle.std.proofs.Common.{ℕ, ◌≡◌, ◌≢◌, ◌≤◌, ◌<◌, ◌+◌, ◌-◌, List, [], ◌∷◌, ◌++◌, length, get_or, set, take, map, Bool, true, false, ltb, refl, sym, subst, ap, ◌∙◌, arith, ⊎_elim, length-append}
+use Rattle.std.proofs.Common.{ℕ, ◌≡◌, ◌≢◌, ◌≤◌, ◌<◌, ◌+◌, List, [], ◌∷◌, ◌++◌, length, get_or, set, take, Bool, true, false, ltb, refl, sym, subst, ap, ◌∙◌, arith, ⊎_elim, length-append}
 use Rattle.std.proofs.lemmas.Grind.{common_steps}
 use Rattle.std.proofs.lemmas.Bool.{cases_eq, cases_lt}
 use Rattle.std.proofs.lemmas.List.{ext_get_or, get_or-map, get_or-set_same, get_or-set_other, get_or_past, get_or_append_left, get_or_at, get_or-take, length-map, length-set, length-take-le}
@@ -129,22 +129,6 @@ module _ (s p : List ℕ) (tied : IsTied s p) where
         (λ k l. rw (slot-kept k l, place-kept (slot_at s k) (tied.named k l)) (tied.keeps k l))
         (rw (last-slot, last-place) refl);
   }
-
-pub flag_pushed : (p : List ℕ) (count slot : ℕ) → count ≤ length p → flag_of (flags_of (p ++ length p ∷ []) count) slot ≡ flag_of (flags_of p count) slot
-flag_pushed p count slot fits = ⊎_elim
-    (λ l. flag_at (p ++ length p ∷ []) count slot (omega (arith, l, longer)) ∙ ap (λ j. ltb j count) (get_or_append_left p (length p ∷ []) 0 slot l) ∙ sym (flag_at p count slot l))
-    (λ past. pushed past ∙ sym (get_or_past (flags_of p count) slot false (omega (arith, past, length-map p (λ place. ltb place count)))))
-    (cases_lt slot (length p))
-  where
-    longer : length (p ++ length p ∷ []) ≡ length p + 1
-    longer = length-append p (length p ∷ [])
-
-    pushed : length p ≤ slot → flag_of (flags_of (p ++ length p ∷ []) count) slot ≡ false
-    pushed past = ⊎_elim
-        (λ l. let same : slot ≡ length p = omega (arith, l, past, longer) in
-        flag_at (p ++ length p ∷ []) count slot l ∙ ap (λ j. ltb j count) (ap (slot_at (p ++ length p ∷ [])) same ∙ get_or_at p (length p) [] 0 (length p) refl) ∙ not_below (length p) count fits)
-        (λ beyond. get_or_past (flags_of (p ++ length p ∷ []) count) slot false (omega (arith, beyond, length-map (p ++ length p ∷ []) (λ place. ltb place count))))
-        (cases_lt slot (length (p ++ length p ∷ [])))
 
 -- the first places have the slots in the set
 false_true : {A : Type 0} → false ≡ true → A

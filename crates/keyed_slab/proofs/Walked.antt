@@ -1,9 +1,8 @@
 -- What is found first, and what is changed, where the slots of a set are gone through.
-use Rattle.std.proofs.Common.{ℕ, ◌≡◌, ◌≢◌, ◌<◌, ◌≤◌, ◌+◌, ◌⊎◌, inl, inr, List, length, nat_le, Bool, true, false, if◌then◌else◌, Option, Some, None, IfSome, IfNone, refl, sym, ap, subst, ◌∙◌, arith, ⊎_elim}
+use Rattle.std.proofs.Common.{ℕ, ◌≡◌, ◌<◌, ◌≤◌, ◌+◌, ◌⊎◌, inl, inr, List, length, nat_le, Bool, true, false, if◌then◌else◌, Option, Some, None, IfSome, IfNone, refl, sym, ap, subst, ◌∙◌, arith, ⊎_elim}
 use Rattle.std.specs.Option.{option_map}
-use Rattle.std.specs.Ordering.{nat_cmp}
 use Rattle.std.specs.List.{find}
-use Rattle.std.specs.FinMap.{FinMap, get, entries}
+use Rattle.std.specs.FinMap.{get, entries}
 use Rattle.std.proofs.lemmas.Bool.{cases_eq, cases_lt, cases_Bool}
 use Rattle.std.proofs.lemmas.Bool.Decides.{nat_tests}
 use Rattle.std.proofs.lemmas.Option.{none-some, same_Some}
@@ -13,8 +12,8 @@ use Rattle.keyed_slab.specs.declared.keys.Key.{Key}
 use Rattle.keyed_slab.specs.Keys.{KeyTable}
 use Rattle.keyed_slab.specs.KeyedSlab.{thing_in, IsChangedAt}
 use Rattle.keyed_slab.specs.SlotSet.{Flags, flag_of, slot_at, AreApart, AreListed}
-use Rattle.keyed_slab.specs.Seating.{table_in, keyed_by, deadline_in, busy_in, IsSeat, IsNamed, IsKept}
-use Rattle.keyed_slab.specs.Walks.{IsWithin, IsDueAt, IsLookedAt, near_or, NonePasses, IsFirst, NoneOf, IsFirstOf, IsBestOf, lower_of, better_with, better_of, AreChanged}
+use Rattle.keyed_slab.specs.Seating.{table_in, keyed_by, deadline_in, busy_in, IsNamed, IsKept}
+use Rattle.keyed_slab.specs.Walks.{IsWithin, IsLookedAt, near_or, NonePasses, IsFirst, NoneOf, IsFirstOf, IsBestOf, lower_of, better_with, better_of, AreChanged}
 use Rattle.keyed_slab.proofs.Named.{found_by, in_slot}
 
 false_true : {A : Type 0} → false ≡ true → A
@@ -158,14 +157,6 @@ module _ {X : Type 0} (near_of at_of : X → ℕ) (is_busy test : X → Bool) (t
       go None e = false_true (sym (kept.marked slot ∙ ap (busy_in near_of at_of is_busy) e) ∙ ap (flag_of flags) (sym is) ∙ listed.marked count less)
       go (Some thing) e = bettered near_of test things (IsLookedAt deadlines moment slots count) (IsLookedAt deadlines moment slots (count + 1)) slot thing e grows best known
 
-  -- what stands in a slot of the set
-  pub busy_there : (slots : List ℕ) (count slot : ℕ) → AreListed flags slots → count < length slots → slot_at slots count ≡ slot → (thing : X) × (thing_in things slot ≡ Some thing)
-  busy_there slots count slot listed less is = go (thing_in things slot) refl
-    where
-      go : (o : Option X) → thing_in things slot ≡ o → (thing : X) × (thing_in things slot ≡ Some thing)
-      go None e = false_true (sym (kept.marked slot ∙ ap (busy_in near_of at_of is_busy) e) ∙ ap (flag_of flags) (sym is) ∙ listed.marked count less)
-      go (Some thing) e = (thing, e)
-
   -- at last
   module _ (why : (thing : X) → test thing ≡ true → (at_of thing ≤ moment) ⊎ (is_busy thing ≡ true)) (slots : List ℕ) (listed : AreListed flags slots) where
     all_looked : (k : ℕ) (w : X) → thing_in things k ≡ Some w → test w ≡ true → IsLookedAt deadlines moment slots (length slots) k
@@ -225,9 +216,6 @@ module _ {X : Type 0} (near_of : X → ℕ) (test : X → Bool) (things : List (
 -- ---- what stands in the slots of a set is changed
 
 module _ {X : Type 0} (change : X → X) (old now new : List (Option X)) (slots : List ℕ) (count : ℕ) where
-  pub none_changed : AreChanged change old old slots 0
-  none_changed = record { done = λ place l. absurd (omega (arith, l)); rest = λ k n. refl }
-
   -- what stands in the next one is as it was
   pub next_stands : AreApart slots → count < length slots → AreChanged change old now slots count → thing_in now (slot_at slots count) ≡ thing_in old (slot_at slots count)
   next_stands apart less so_far = so_far.rest (slot_at slots count) (λ w.

@@ -1,4 +1,5 @@
 pub mod KeyedSlab
+pub mod Calls
 pub mod Keys
 pub mod Lends
 pub mod Inside

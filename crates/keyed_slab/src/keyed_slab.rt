@@ -3,6 +3,7 @@
 ghost use Rattle.std.specs.Prelude.{◌≡◌, ◌≢◌, ◌<◌, ◌≤◌, ◌+◌, ◌-◌, ◌^◌, ℕ, [], Some, None, IsSome, IfOk, OnOk, length, option_copied, slice_index_or, vec_capacity};
 ghost use Rattle.std.specs.Borrow.{Lends, sem};
 ghost use Rattle.keyed_slab.specs.KeyedSlab.{generation_at, named, thing_at, IsChangedAt};
+ghost use Rattle.keyed_slab.specs.Calls.{HasPut, HasRemoved, HasReserved};
 ghost use Rattle.keyed_slab.specs.Inside.{taken_by};
 
 use crate::keys::Key;
@@ -16,7 +17,8 @@ use std::ops::{Index, IndexMut};
 /// key, which has the number of the things that the slot had before, names nothing then.
 ///
 /// Contracts see for each slot the thing there and the generation, below which number the slots
-/// stand, and for how many more things there is room.
+/// stand, and for how many more things there is room. Once the generations of a slot are spent, its
+/// generation is 2^64, which no key has.
 #[derive(Drop)]
 pub struct KeyedSlab<T> {
     places: Slab<Place<T>>,
@@ -104,9 +106,9 @@ impl<T> KeyedSlab<T> {
         }
     }
 
-    /// The generation of a slot.
+    /// The generation of a slot in which something stands.
     fn generation(&self, slot: usize) -> u64
-        ensures { result ≡ generation_at self.now slot }
+        ensures { IsSome (thing_at self.now slot) → result ≡ generation_at self.now slot }
     {
         match self.generations.get(slot) {
             Some(generation) => *generation,
@@ -131,6 +133,7 @@ impl<T> KeyedSlab<T> {
         ensures things { self.new.things ≡ self.old.things }
         ensures generations { (slot : ℕ) → generation_at self.new slot
             ≡ generation_at self.old slot }
+        ensures call { HasReserved self.old self.new }
     {
         match self.places.reserve(1) {
             Ok(()) => {}
@@ -154,6 +157,7 @@ impl<T> KeyedSlab<T> {
         ensures things { IsChangedAt self.old.things self.new.things result.slot (Some thing) }
         ensures generation { result.generation ≡ generation_at self.old result.slot }
         ensures generations { self.new.generations ≡ self.old.generations }
+        ensures call { HasPut self.old self.new thing result }
     {
         let slot = self.places.insert_reserved(Place::Taken(thing));
         let generation = self.generations[slot];
@@ -166,12 +170,12 @@ impl<T: Drop> KeyedSlab<T> {
     pub fn remove(&mut self, slot: usize)
         requires { IsSome (thing_at self.old slot) }
         ensures things { IsChangedAt self.old.things self.new.things slot None }
-        ensures risen { generation_at self.old slot < 2 ^ 64 - 1
-            → generation_at self.new slot ≡ generation_at self.old slot + 1 }
+        ensures risen { generation_at self.new slot ≡ generation_at self.old slot + 1 }
         ensures generations { (other : ℕ) → other ≢ slot
             → generation_at self.new other ≡ generation_at self.old other }
         ensures room { self.new.room ≡ self.old.room }
         ensures free { self.old.free ≤ self.new.free }
+        ensures call { HasRemoved self.old self.new slot }
     {
         self.places.remove(slot);
         let generation = self.generations[slot];

@@ -5,6 +5,7 @@
 
 mod keyed_slab;
 mod keys;
+pub mod laws;
 mod slot_set;
 
 pub use keyed_slab::KeyedSlab;
