@@ -126,6 +126,13 @@ impl<T> KeyedSlab<T> {
         None
     }
 
+    /// A number above each slot that has a thing.
+    pub fn bound(&self) -> usize
+        ensures { (slot : ℕ) → IsSome (thing_at self.now slot) → slot < result }
+    {
+        self.generations.len()
+    }
+
     /// Finds memory for one more thing, and gives the highest slot that it may get.
     pub fn reserve(&mut self) -> Result<usize, Memory>
         ensures ok { OnOk result (0 < self.new.free) }
