@@ -1,5 +1,5 @@
 -- Which attempts are chosen.
-use Rattle.std.proofs.Common.{ℕ, ◌≡◌, true, false, List, [], ◌∷◌, Option, Some, None, is_some, sym, ap, ◌∙◌, refl}
+use Rattle.std.proofs.Common.{ℕ, ◌≡◌, true, List, [], ◌∷◌, Option, Some, None, is_some, sym, ap, ◌∙◌, refl}
 use Rattle.std.specs.FinMap.{get}
 use Rattle.glare_core.specs.Calls.{first_that_stands, where_true}
 use Rattle.startup.specs.declared.cause.Cause.{Cause}
@@ -14,13 +14,10 @@ got_is attempts near a b x y = let e : Some a ≡ Some b = sym x ∙ y in cc
 pub never_none : {A : Type 0} (x : A) (o : Option A) → None ≡ o → o ≡ Some x → ⊥
 never_none x o n s = let clash : None ≡ Some x = n ∙ s in cc
 
--- the attempt with the near id has the cookie, or it hasn't
+-- the attempt with the near id has the cookie
 module _ (attempts : Attempts) (near : ℕ) (a : AttemptState) (cookie : List ℕ) (there : get attempts near ≡ Some a) where
   pub cookie_at : has_cookie cookie a ≡ true → IsChosenAt (if_cookie cookie near (get attempts near)) attempts near
   cookie_at has = record { attempt = a; chosen_is = ap (if_cookie cookie near) there ∙ ap (λ b. where_true b (near, a)) has; there = there }
-
-  pub no_cookie_at : has_cookie cookie a ≡ false → if_cookie cookie near (get attempts near) ≡ None
-  no_cookie_at has = ap (if_cookie cookie near) there ∙ ap (λ b. where_true b (near, a)) has
 
 none_stands : (a b c : Option Cause) → a ≡ None → b ≡ None → c ≡ None → first_that_stands (a ∷ b ∷ c ∷ []) ≡ None
 none_stands None None None x y z = refl

@@ -14,6 +14,5 @@ pub mod Judged
 pub mod Redirected
 pub mod Seats
 pub mod Walked
-pub mod KeyMaps
 pub mod Indices
 pub mod Marking

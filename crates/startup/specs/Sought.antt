@@ -1,8 +1,7 @@
--- How the attempts are looked through, and how one changes.
-use Rattle.std.specs.Prelude.{ℕ, ◌≤◌, ◌+◌, ◌<◌, ◌≡◌, Bool, true, false, List, length, slice_index_or, Option, Some, None}
+-- Which attempts are sought, and how one changes.
+use Rattle.std.specs.Prelude.{ℕ, ◌≤◌, ◌+◌, ◌≡◌, Bool, List, length, Option, Some, None}
 use Rattle.std.specs.FinMap.{get}
 use Rattle.rtmfp_forms.specs.Address.{AddressParts}
-use Rattle.startup.specs.declared.attempt.Row.{Row}
 use Rattle.startup.specs.declared.attempt.Change.{Change}
 use Rattle.startup.specs.declared.attempt.Change.TheVariants.{Answered, Recookied, Extended, Repeated}
 use Rattle.startup.specs.declared.rows.Sought.{Sought}
@@ -38,30 +37,6 @@ pub record IsExtension (attempts : Attempts) (tag : List ℕ) (told : List Addre
   pub there : get attempts near ≡ Some attempt
   pub new_is : new ≡ new_candidates attempt.candidates told
   pub few : length attempt.candidates + length new ≤ 16
-
--- ---- slots that are looked through one by one
-
--- No attempt in the first n slots passes.
-pub record NonePassesBelow (test : AttemptState → Bool) (things : List (Option (Option Row)))
-    (n : ℕ) : Type 0 where
-  pub fails : (slot : ℕ) (row : Row) → slot < n →
-      slice_index_or things slot None ≡ Some (Some row) → test row.attempt ≡ false
-
--- The attempt with this near id stands in one of the first n slots and passes, and of those that
--- pass there none has a lower near id.
-pub record PassesLowestBelow (test : AttemptState → Bool) (things : List (Option (Option Row)))
-    (n near : ℕ) : Type 0 where
-  pub slot : ℕ
-  pub row : Row
-  pub stands : slice_index_or things slot None ≡ Some (Some row)
-  pub near_is : row.near ≡ near
-  pub passes : test row.attempt ≡ true
-  pub lowest : (other : ℕ) (r : Row) → other < n →
-      slice_index_or things other None ≡ Some (Some r) → test r.attempt ≡ true → near ≤ r.near
-
-abbrev pub IsBestBelow : (AttemptState → Bool) → List (Option (Option Row)) → ℕ → Option ℕ → Type 0
-IsBestBelow test things n None = NonePassesBelow test things n
-IsBestBelow test things n (Some near) = PassesLowestBelow test things n near
 
 -- ---- the change of an attempt
 

@@ -15,7 +15,6 @@ mod index;
 mod indexed;
 mod judging;
 mod keying;
-mod keys;
 pub mod laws;
 mod leaving;
 mod looking;

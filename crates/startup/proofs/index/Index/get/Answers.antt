@@ -1,7 +1,7 @@
 use Rattle.std.proofs.Common.{◌∙◌, sym, ap}
 use Rattle.std.specs.FinMap.{get}
 use Rattle.startup.specs.Indexed.{Words}
-use Rattle.startup.proofs.KeyMaps.{get_keys}
+use Rattle.keyed_slab.proofs.KeyMaps.{get_keys}
 use Rattle.startup.proofs.index.Index.get.Goals as goal
 
 pub returns : goal.returns

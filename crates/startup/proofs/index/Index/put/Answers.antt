@@ -1,7 +1,7 @@
 use Rattle.std.proofs.Common.{◌∙◌, sym, ap}
 use Rattle.std.specs.FinMap.{insert}
 use Rattle.startup.specs.Indexed.{Words}
-use Rattle.startup.proofs.KeyMaps.{keys_put}
+use Rattle.keyed_slab.proofs.KeyMaps.{keys_put}
 use Rattle.startup.proofs.index.Index.put.Goals as goal
 
 pub returns-in-Ok-clause-free : goal.returns-in-Ok-clause-free

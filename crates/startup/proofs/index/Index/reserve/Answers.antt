@@ -1,6 +1,6 @@
 use Rattle.std.proofs.Common.{◌∙◌, ap}
 use Rattle.startup.specs.Indexed.{Words}
-use Rattle.startup.proofs.KeyMaps.{keys_reordered}
+use Rattle.keyed_slab.proofs.KeyMaps.{keys_reordered}
 use Rattle.startup.proofs.index.Index.reserve.Goals as goal
 
 pub returns-clause-nears : goal.returns-clause-nears

@@ -1,7 +1,7 @@
 use Rattle.std.proofs.Common.{◌∙◌, ap}
 use Rattle.std.specs.FinMap.{remove}
 use Rattle.startup.specs.Indexed.{Words}
-use Rattle.startup.proofs.KeyMaps.{keys_taken}
+use Rattle.keyed_slab.proofs.KeyMaps.{keys_taken}
 use Rattle.startup.proofs.index.Index.take.Goals as goal
 
 pub returns-clause-nears : goal.returns-clause-nears

@@ -1,74 +1,73 @@
-use Rattle.std.proofs.Common.{◌≡◌, ◌<◌, ◌≤◌, ◌∙◌, refl, sym, ap, subst, arith, is_some, Option, Some, IfSome, length, slice_set}
-use Rattle.std.specs.FinMap.{get}
+use Rattle.std.proofs.Common.{◌∙◌, is_some, sym, ap}
+use Rattle.std.specs.FinMap.{get, insert}
 use Rattle.std.proofs.lemmas.Option.{same_Some}
-use Rattle.deadlines.specs.Deadlines.{deadline_set}
-use Rattle.startup.specs.declared.attempt.Row.{Row}
+use Rattle.keyed_slab.specs.KeyedSlab.{with_thing}
 use Rattle.startup.specs.State.{AttemptState}
-use Rattle.startup.specs.Sought.{change_of, Allows}
-use Rattle.startup.specs.Table.{Table, Parts, parts_of, due_from, changed_row, changed_thing, with_changed, in_attempt}
-use Rattle.startup.proofs.Seats.{seat_row, room_there, free_again, no_attempt_there, changed_is_kept, changed_is_put}
+use Rattle.startup.specs.Sought.{change_of}
+use Rattle.startup.specs.Table.{Table, near_of, attempt_of, attempts_in, with_changed, in_attempt}
+use Rattle.startup.proofs.Seats.{of_key, of_no_key, free_for, changed_loose, changed_there, changed_is_put, settled_kept}
 use Rattle.startup.proofs.table.AttemptTable.change.Goals as goal
 
 pub index_mut-requires : goal.index_mut-requires
-index_mut-requires c =
-    let i = c.self.inside in
-    let p : Parts = parts_of i.things.slots i.generations.items i.keys.keys i.deadlines in
-    ap is_some (seat_row p c.self.invariant c.args.near c.in-Some.key (sym c.get.ensures ∙ c.in-Some.is)).1
+index_mut-requires c = ap is_some (c.self.invariant.names.seated c.args.near c.in-Some.key (sym c.get.ensures ∙ c.in-Some.is)).stands
 
-pub change_thing-at-requires : goal.change_thing-at-requires
-change_thing-at-requires c =
+pub change_row-due-requires : goal.change_row-due-requires
+change_row-due-requires c =
     let i = c.self.inside in
-    let p : Parts = parts_of i.things.slots i.generations.items i.keys.keys i.deadlines in
-    let key_is = sym c.get.ensures ∙ c.in-Some.is in
-    let found = seat_row p c.self.invariant c.args.near c.in-Some.key key_is in
-    let thing = same_Some c.index_mut.result.now (Some found.0) (sym c.index_mut.ensures.value ∙ found.1) in
-    subst (λ (o : Option Row). IfSome o (λ row. Allows c.args.change.now row.attempt)) (sym thing) (c.requires found.0.attempt (sym (ap (λ (t : Table). get t.attempts c.args.near) c.self.view_is) ∙ found.3))
-
-pub set-requires-clause-free : goal.set-requires-clause-free
-set-requires-clause-free c =
-    let i = c.self.inside in
-    let p : Parts = parts_of i.things.slots i.generations.items i.keys.keys i.deadlines in
-    let found = seat_row p c.self.invariant c.args.near c.in-Some.key (sym c.get.ensures ∙ c.in-Some.is) in
-    λ other d n is same. free_again p c.self.invariant c.in-Some.key.slot found.0 found.1 other d n is (same ∙ sym found.2)
+    c.requires c.index_mut.result.now.attempt
+    (sym (ap (λ (t : Table). get t.attempts c.args.near) c.self.view_is)
+    ∙ of_key i.rows i.keys.keys c.self.invariant.names c.args.near c.in-Some.key c.index_mut.result.now (sym c.get.ensures ∙ c.in-Some.is) c.index_mut.ensures.value)
 
 pub set-requires-clause-room : goal.set-requires-clause-room
 set-requires-clause-room c =
     let i = c.self.inside in
-    let p : Parts = parts_of i.things.slots i.generations.items i.keys.keys i.deadlines in
-    let inside : c.in-Some.key.slot < length i.generations.items = room_there p c.self.invariant c.args.near c.in-Some.key (sym c.get.ensures ∙ c.in-Some.is) in
-    let room : length i.generations.items ≤ length i.deadlines = c.self.invariant.room in
-    omega (arith, inside, room)
+    (changed_loose i.rows i.keys.keys i.deadlines c.in-Some.key.slot c.self.invariant c.index_mut.result.now c.change_row-due.new.row c.index_mut.ensures.value (ap near_of c.change_row-due.ensures.row)).timer
+
+pub set-requires-clause-free : goal.set-requires-clause-free
+set-requires-clause-free c =
+    let i = c.self.inside in
+    let slot = c.in-Some.key.slot in
+    let old = c.index_mut.result.now in
+    let new = c.change_row-due.new.row in
+    let at = c.index_mut.ensures.value in
+    let same = ap near_of c.change_row-due.ensures.row in
+    let seat = c.self.invariant.names.seated c.args.near c.in-Some.key (sym c.get.ensures ∙ c.in-Some.is) in
+    let near_is = ap near_of (same_Some old seat.thing (sym at ∙ seat.stands)) ∙ seat.near_is in
+    λ other d n is mine. free_for (with_thing i.rows slot new) i.keys.keys i.deadlines slot new (changed_loose i.rows i.keys.keys i.deadlines slot c.self.invariant old new at same)
+    (changed_there i.rows i.keys.keys i.deadlines slot c.self.invariant old new at same) other d n is (mine ∙ sym (same ∙ near_is))
 
 pub invariant_of-self : goal.invariant_of-self
 invariant_of-self c =
     let i = c.self.inside in
-    let p : Parts = parts_of i.things.slots i.generations.items i.keys.keys i.deadlines in
-    let key_is = sym c.get.ensures ∙ c.in-Some.is in
-    let found = seat_row p c.self.invariant c.args.near c.in-Some.key key_is in
-    let thing = same_Some c.index_mut.result.now (Some found.0) (sym c.index_mut.ensures.value ∙ found.1) in
-    let f : AttemptState → AttemptState = change_of c.args.change.now c.args.moment in
-    let new : c.change_thing-at.new.thing ≡ Some (changed_row f found.0) = c.change_thing-at.ensures.thing ∙ ap (changed_thing f) thing in
-    let at : c.change_thing-at.result ≡ due_from (f found.0.attempt) = subst (λ (o : Option Row). IfSome o (λ row. c.change_thing-at.result ≡ due_from row.attempt)) new c.change_thing-at.ensures.due in
-    changed_is_kept p c.self.invariant c.args.near c.in-Some.key key_is (parts_of (slice_set i.things.slots c.in-Some.key.slot (Some c.change_thing-at.new.thing)) i.generations.items i.keys.keys c.set.new.self) f
-    (ap (λ t. slice_set i.things.slots c.in-Some.key.slot (Some t)) new) refl refl (c.set.ensures ∙ ap (λ a. deadline_set i.deadlines c.in-Some.key.slot a c.args.near) at)
+    let slot = c.in-Some.key.slot in
+    let old = c.index_mut.result.now in
+    let new = c.change_row-due.new.row in
+    let at = c.index_mut.ensures.value in
+    let same = ap near_of c.change_row-due.ensures.row in
+    let seat = c.self.invariant.names.seated c.args.near c.in-Some.key (sym c.get.ensures ∙ c.in-Some.is) in
+    let near_is = ap near_of (same_Some old seat.thing (sym at ∙ seat.stands)) ∙ seat.near_is in
+    settled_kept (with_thing i.rows slot new) i.keys.keys i.deadlines slot new (changed_loose i.rows i.keys.keys i.deadlines slot c.self.invariant old new at same)
+    (changed_there i.rows i.keys.keys i.deadlines slot c.self.invariant old new at same) c.change_row-due.result c.args.near c.set.new.self c.set.ensures c.change_row-due.ensures.due (sym (same ∙ near_is))
 
 pub returns : goal.returns
 returns c =
     let i = c.self.inside in
-    let p : Parts = parts_of i.things.slots i.generations.items i.keys.keys i.deadlines in
+    let slot = c.in-Some.key.slot in
+    let old = c.index_mut.result.now in
+    let new = c.change_row-due.new.row in
+    let at = c.index_mut.ensures.value in
+    let same = ap near_of c.change_row-due.ensures.row in
     let key_is = sym c.get.ensures ∙ c.in-Some.is in
-    let found = seat_row p c.self.invariant c.args.near c.in-Some.key key_is in
-    let thing = same_Some c.index_mut.result.now (Some found.0) (sym c.index_mut.ensures.value ∙ found.1) in
+    let seat = c.self.invariant.names.seated c.args.near c.in-Some.key key_is in
+    let near_is = ap near_of (same_Some old seat.thing (sym at ∙ seat.stands)) ∙ seat.near_is in
     let f : AttemptState → AttemptState = change_of c.args.change.now c.args.moment in
-    let new : c.change_thing-at.new.thing ≡ Some (changed_row f found.0) = c.change_thing-at.ensures.thing ∙ ap (changed_thing f) thing in
-    let at : c.change_thing-at.result ≡ due_from (f found.0.attempt) = subst (λ (o : Option Row). IfSome o (λ row. c.change_thing-at.result ≡ due_from row.attempt)) new c.change_thing-at.ensures.due in
-    changed_is_put p c.self.invariant c.args.near c.in-Some.key key_is (parts_of (slice_set i.things.slots c.in-Some.key.slot (Some c.change_thing-at.new.thing)) i.generations.items i.keys.keys c.set.new.self) f
-    (ap (λ t. slice_set i.things.slots c.in-Some.key.slot (Some t)) new) refl refl (c.set.ensures ∙ ap (λ a. deadline_set i.deadlines c.in-Some.key.slot a c.args.near) at)
+    changed_is_put i.rows i.keys.keys i.deadlines slot c.self.invariant old new at same
+    ∙ (λ j. insert (attempts_in i.rows) ((same ∙ near_is) j) (attempt_of (c.change_row-due.ensures.row j)))
+    ∙ sym (ap (with_changed f (attempts_in i.rows) c.args.near) (of_key i.rows i.keys.keys c.self.invariant.names c.args.near c.in-Some.key old key_is at))
     ∙ ap (λ (t : Table). in_attempt f t.attempts c.args.near) c.self.view_is
 
 pub returns-in_default : goal.returns-in_default
 returns-in_default c =
     let i = c.self.inside in
-    let p : Parts = parts_of i.things.slots i.generations.items i.keys.keys i.deadlines in
-    let none = sym (ap (λ (t : Table). get t.attempts c.args.near) c.self.view_is) ∙ no_attempt_there p c.self.invariant c.args.near (sym c.get.ensures ∙ c.in_default.is) in
+    let none = sym (ap (λ (t : Table). get t.attempts c.args.near) c.self.view_is) ∙ of_no_key i.rows i.keys.keys c.self.invariant.names c.args.near (sym c.get.ensures ∙ c.in_default.is) in
     sym (ap (with_changed (change_of c.args.change.now c.args.moment) c.args.self.now.attempts c.args.near) none)

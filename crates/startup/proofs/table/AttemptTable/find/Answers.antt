@@ -1,14 +1,22 @@
-use Rattle.std.proofs.Common.{ℕ, List, length, subst, ap}
+use Rattle.std.proofs.Common.{◌≡◌, None, is_some, subst, ap}
 use Rattle.startup.specs.Attempts.{lowest}
-use Rattle.startup.specs.Sought.{fits, IsBestBelow, IsChosen}
+use Rattle.startup.specs.Sought.{fits, IsChosenAt}
 use Rattle.startup.specs.State.{Attempts}
-use Rattle.startup.specs.Table.{Table, Parts, parts_of}
-use Rattle.startup.proofs.Walked.{best_is_chosen}
+use Rattle.startup.specs.Table.{Table}
+use Rattle.startup.proofs.Walked.{none_chosen, first_chosen}
 use Rattle.startup.proofs.table.AttemptTable.find.Goals as goal
 
-pub returns : goal.returns
-returns c =
+pub index-requires : goal.index-requires
+index-requires c = ap is_some c.in-Some.ensures.some.stands
+
+pub returns-in-Some : goal.returns-in-Some
+returns-in-Some c =
     let i = c.self.inside in
-    let p : Parts = parts_of i.things.slots i.generations.items i.keys.keys i.deadlines in
-    subst (λ (a : Attempts). IsChosen (lowest (fits c.args.sought.now) a) a c.lowest_in.result) (ap (λ (t : Table). t.attempts) c.self.view_is)
-    (best_is_chosen (fits c.args.sought.now) p c.lowest_in.result c.self.invariant (subst (λ (g : List ℕ). IsBestBelow (fits c.args.sought.now) i.things.slots (length g) c.lowest_in.result) c.deref.ensures.value c.lowest_in.ensures))
+    subst (λ (a : Attempts). IsChosenAt (lowest (fits c.args.sought.now) a) a c.index.result.now.near) (ap (λ (t : Table). t.attempts) c.self.view_is)
+    (first_chosen (fits c.args.sought.now) i.rows i.keys.keys c.self.invariant.names c.in-Some.slot c.index.result.now c.index.ensures c.in-Some.ensures.some)
+
+pub returns-in-None : goal.returns-in-None
+returns-in-None c =
+    let i = c.self.inside in
+    subst (λ (a : Attempts). lowest (fits c.args.sought.now) a ≡ None) (ap (λ (t : Table). t.attempts) c.self.view_is)
+    (none_chosen (fits c.args.sought.now) i.rows i.keys.keys c.self.invariant.names c.in-None.ensures.none)

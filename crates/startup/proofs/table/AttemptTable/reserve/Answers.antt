@@ -1,20 +1,28 @@
-use Rattle.std.proofs.Common.{◌≡◌, ◌≤◌, ◌+◌, ◌∙◌, subst, ap, arith, length, slice_index_or}
-use Rattle.startup.specs.Table.{Parts, parts_of}
-use Rattle.startup.proofs.Seats.{wider_is_kept, wide_enough}
+use Rattle.std.proofs.Common.{◌≤◌, ◌+◌, ◌∙◌, refl, sym, ap, subst, length, arith}
+use Rattle.deadlines.specs.Deadlines.{Slots, entry_of}
+use Rattle.deadlines.proofs.Keeping.{entry_in_room}
+use Rattle.startup.proofs.Seats.{wider_is_kept, grown_room}
 use Rattle.startup.proofs.table.AttemptTable.reserve.Goals as goal
+
+pub invariant_of-self : goal.invariant_of-self
+invariant_of-self c =
+    let i = c.self.inside in
+    wider_is_kept i.rows i.rows i.keys.keys c.reserve.new.self.keys i.deadlines i.deadlines c.self.invariant refl (λ _. refl) c.reserve.ensures.keys (λ _. refl) (omega arith)
+
+pub invariant_of-self-in_err-last : goal.invariant_of-self-in_err-last
+invariant_of-self-in_err-last c =
+    let i = c.self.inside in
+    wider_is_kept i.rows c.reserve-2.new.self i.keys.keys c.reserve.new.self.keys i.deadlines i.deadlines c.self.invariant c.reserve-2.ensures.things c.reserve-2.ensures.generations c.reserve.ensures.keys (λ _. refl) (omega arith)
+
+pub invariant_of-self-in_err-reserve-2 : goal.invariant_of-self-in_err-reserve-2
+invariant_of-self-in_err-reserve-2 c =
+    let i = c.self.inside in
+    wider_is_kept i.rows c.reserve-2.new.self i.keys.keys c.reserve.new.self.keys i.deadlines c.reserve-3.new.self c.self.invariant c.reserve-2.ensures.things c.reserve-2.ensures.generations c.reserve.ensures.keys
+    (λ slot. ap (λ (d : Slots). entry_of d slot) c.in_err-reserve-2.ensures.err) (let long = ap (λ (d : Slots). length d) c.in_err-reserve-2.ensures.err in omega (arith, long))
 
 pub invariant_of-self-2 : goal.invariant_of-self-2
 invariant_of-self-2 c =
     let i = c.self.inside in
-    let p : Parts = parts_of i.things.slots i.generations.items i.keys.keys i.deadlines in
-    let slot = c.vacant_key-slot.result in
-    let wide = wide_enough i.deadlines (slot + 1) in
-    let long = ap (λ d. length d) c.in-Ok-reserve-3.ensures.ok in
-    let room : c.in-Some.room ≡ slot + 1 = c.in-Some.ensures.1 in
-    let items = ap (λ l. length l) c.reserve-3.ensures.items in
-    let fits : length i.generations.items ≤ length i.deadlines = c.self.invariant.room in
-    wider_is_kept p (parts_of c.reserve-2.new.self.slots c.widen.new.generations.items c.reserve.new.self.keys c.reserve-4.new.self) c.self.invariant
-    (ap (λ s. s.slots) c.reserve-2.ensures.rest_kept) c.reserve.ensures.keys
-    (λ k. c.widen.ensures.kept k ∙ ap (λ l. slice_index_or l k 0) c.reserve-3.ensures.items)
-    (subst (λ l. length l ≤ length c.widen.new.generations.items) c.reserve-3.ensures.items c.widen.ensures.least) (slot + 1) c.in-Ok-reserve-3.ensures.ok
-    (c.widen.ensures.most (length c.reserve-4.new.self) (omega (arith, items, fits, wide.0, long)) (omega (arith, room, wide.1, long)))
+    wider_is_kept i.rows c.reserve-2.new.self i.keys.keys c.reserve.new.self.keys i.deadlines c.reserve-3.new.self c.self.invariant c.reserve-2.ensures.things c.reserve-2.ensures.generations c.reserve.ensures.keys
+    (λ slot. ap (λ (d : Slots). entry_of d slot) c.in_ok-reserve-2.ensures.ok ∙ entry_in_room i.deadlines (c.in_ok-last.last + 1) slot)
+    (subst (λ (d : Slots). length i.deadlines ≤ length d) (sym c.in_ok-reserve-2.ensures.ok) (grown_room i.deadlines (c.in_ok-last.last + 1)))

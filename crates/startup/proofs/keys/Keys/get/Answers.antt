@@ -1,8 +1,0 @@
-use Rattle.std.proofs.Common.{◌∙◌, sym, ap}
-use Rattle.std.specs.FinMap.{get}
-use Rattle.startup.specs.Table.{KeyMap}
-use Rattle.startup.proofs.KeyMaps.{get_keys}
-use Rattle.startup.proofs.keys.Keys.get.Goals as goal
-
-pub returns : goal.returns
-returns c = c.copied.ensures ∙ c.get.ensures.value ∙ sym (get_keys c.self.inside.map.entries c.args.near) ∙ ap (λ (k : KeyMap). get k.keys c.args.near) c.self.view_is
