@@ -16,3 +16,4 @@ pub mod Seats
 pub mod Walked
 pub mod Indices
 pub mod Marking
+pub mod Widths

@@ -1,9 +1,11 @@
 -- The near ids of attempts by a word of each.
-use Rattle.std.specs.Prelude.{ℕ, ◌≡◌, Bool, true, List, take, Some, refl}
+use Rattle.std.specs.Prelude.{ℕ, ◌≡◌, ◌≤◌, Bool, true, List, take, length, Some, refl}
 use Rattle.std.specs.Int.{w64, from_be_bytes}
 use Rattle.std.specs.Coded.{Coded, code_by, coded×, coded_ℕ, coded_bool}
 use Rattle.std.specs.Ordering.{nat_cmp}
 use Rattle.std.specs.FinMap.{FinMap, get, code}
+use Rattle.startup.specs.declared.attempt.Stage.{Stage}
+use Rattle.startup.specs.declared.attempt.Stage.TheVariants.{Hello, Keying}
 use Rattle.startup.specs.State.{AttemptState, Attempts}
 
 -- the near ids by words, and whether no two attempts have had one word
@@ -35,3 +37,18 @@ IsIndexed word words attempts = words.whole ≡ true → (near : ℕ) (a : Attem
 abbrev pub IsFoundBy : (AttemptState → Bool) → Words → ℕ → Attempts → Type 0
 IsFoundBy test words word attempts = words.whole ≡ true → (near : ℕ) (a : AttemptState) →
     get attempts near ≡ Some a → test a ≡ true → get words.nears word ≡ Some near
+
+-- ---- the sizes of what is sought
+
+-- how many bytes of a cookie are kept
+abbrev pub cookie_length : Stage → ℕ
+cookie_length Hello = 0
+cookie_length (Keying at cookie) = length cookie
+
+-- A tag has 16 bytes, and a cookie that is kept at most 128.
+pub record IsSized (a : AttemptState) : Type 0 where
+  pub tag : length a.tag ≡ 16
+  pub cookie : cookie_length a.stage ≤ 128
+
+abbrev pub AreSized : Attempts → Type 0
+AreSized attempts = (near : ℕ) (a : AttemptState) → get attempts near ≡ Some a → IsSized a

@@ -8,7 +8,7 @@ ghost use Rattle.startup.specs.Attempts.{lowest};
 ghost use Rattle.startup.specs.Due.{is_due};
 ghost use Rattle.startup.specs.Sought.{fits, IsChosen, change_of, Allows};
 ghost use Rattle.startup.specs.Table.{in_attempt};
-ghost use Rattle.startup.specs.Indexed.{word_of, IsFoundBy};
+ghost use Rattle.startup.specs.Indexed.{word_of, cookie_length, IsFoundBy, IsSized};
 ghost use Rattle.startup.specs.declared.marks.Mark.{Mark};
 ghost use Rattle.startup.specs.Marks.{cookie_word, mark_of, passes_in, AreFrom, IsAscending, IsMarked, IsMarkedBut, KeepsMarks};
 
@@ -25,12 +25,16 @@ use std::marker::Model;
 /// How many bytes of a tag are its word.
 const WORD: usize = 8;
 
+/// How many bytes a tag has.
+const TAG: usize = 16;
+
 /// The attempts of an end, as a table of them is seen. One is found by its number and by its tag in
 /// constant time on average, as long as no two have had one number, or tags that begin alike; by
 /// its cookie in a logarithm of their number.
 ///
-/// Numbers and tags are the end's own, counted or drawn, so no peer can make two alike or choose
-/// them for their words. Cookies are the peers', who may.
+/// Numbers are counted and tags drawn by the end itself, so no peer makes two alike, or chooses them
+/// for their words. Cookies are the peers', who may. What is sought is theirs as well: a tag that
+/// hasn't 16 bytes, or a cookie of more than 128, is no attempt's, and none is looked at for it.
 #[derive(Drop)]
 pub(crate) struct IndexedAttempts {
     table: AttemptTable,
@@ -42,7 +46,7 @@ pub(crate) struct IndexedAttempts {
 impl Model for IndexedAttempts {
     ghost use Rattle.startup.specs.contracts.attempt.Attempt as attempt_type;
     ghost use Rattle.startup.specs.Table.{Table, table_code};
-    ghost use Rattle.startup.specs.Indexed.{IsIndexed, number_word, tag_word};
+    ghost use Rattle.startup.specs.Indexed.{IsIndexed, AreSized, number_word, tag_word};
 
     ghost Value = { Table };
 
@@ -53,7 +57,8 @@ impl Model for IndexedAttempts {
     ghost use Rattle.startup.specs.Marks.{IsMarked};
 
     ghost invariant = { λ t. IsIndexed number_word t.numbers t.table.attempts
-        × IsIndexed tag_word t.tags t.table.attempts × IsMarked t.cookies t.table.attempts };
+        × IsIndexed tag_word t.tags t.table.attempts × IsMarked t.cookies t.table.attempts
+        × AreSized t.table.attempts };
 }
 
 /// The word of a tag: its first 8 bytes.
@@ -64,6 +69,31 @@ fn word_of(tag: &[u8]) -> u64
     let mut first = [0u8; WORD];
     first.copy_from_slice(&tag[..WORD]);
     u64::from_be_bytes(first)
+}
+
+/// A tag has 16 bytes. This and the next two do nothing: they tell what the types say.
+fn is_tag(tag: &[u8; 16])
+    ensures { length tag.now ≡ 16 }
+{}
+
+/// A cookie that is kept has at most 128 bytes.
+fn is_narrow(stage: &Stage)
+    ensures { cookie_length stage.now ≤ 128 }
+{
+    match stage {
+        Stage::Hello => {}
+        Stage::Keying { cookie, .. } => {
+            let _bytes = cookie.bytes();
+        }
+    }
+}
+
+/// An attempt's tag and cookie have these sizes.
+fn is_sized(attempt: &Attempt)
+    ensures { IsSized attempt.now }
+{
+    is_tag(&attempt.tag);
+    is_narrow(&attempt.stage);
 }
 
 /// The near id of the attempt that is sought, which has this word.
@@ -233,6 +263,7 @@ impl IndexedAttempts {
         requires free { get self.old.attempts near ≡ None }
         ensures { self.new.attempts ≡ insert self.old.attempts near attempt }
     {
+        is_sized(&attempt);
         self.numbers.put(attempt.n, near);
         self.tags.put(word_of(&attempt.tag), near);
         self.table.keep(near, attempt);
@@ -275,13 +306,16 @@ impl IndexedAttempts {
         match sought {
             Sought::Number(n) => find_in(&self.table, &self.numbers, *n, sought),
             Sought::Tag(tag) => {
-                if tag.len() < WORD {
-                    return self.table.find(sought);
+                if tag.len() != TAG {
+                    return None;
                 }
                 find_in(&self.table, &self.tags, word_of(tag), sought)
             }
             Sought::Cookie(cookie) => {
-                if cookie.len() > COOKIE_LIMIT || !self.cookies.is_whole() {
+                if cookie.len() > COOKIE_LIMIT {
+                    return None;
+                }
+                if !self.cookies.is_whole() {
                     return self.table.find(sought);
                 }
                 find_marked(

@@ -1,10 +1,11 @@
 use Rattle.std.proofs.Common.{◌∙◌, sym, subst, ap}
 use Rattle.std.specs.FinMap.{get, insert}
 use Rattle.startup.specs.State.{Attempts}
-use Rattle.startup.specs.Indexed.{IsIndexed, number_word, tag_word}
+use Rattle.startup.specs.Indexed.{IsIndexed, AreSized, number_word, tag_word}
 use Rattle.startup.proofs.Indices.{put_is_indexed}
 use Rattle.startup.specs.Marks.{IsMarked, IsMarkedBut}
 use Rattle.startup.proofs.Marking.{but_kept}
+use Rattle.startup.proofs.Widths.{kept_are_sized}
 use Rattle.startup.proofs.indexed.IndexedAttempts.keep.Goals as goal
 
 pub invariant_of-self : goal.invariant_of-self
@@ -13,12 +14,13 @@ invariant_of-self c =
     let a = c.args.attempt in
     let number = ap number_word c.attempt.view_is in
     let tag = c.word_of.ensures ∙ ap tag_word c.attempt.view_is in
-    subst (λ (x : Attempts). IsIndexed number_word c.put.new.self x × IsIndexed tag_word c.put-2.new.self x × IsMarked c.mark.new.marks x) (sym c.keep.ensures) (
+    subst (λ (x : Attempts). IsIndexed number_word c.put.new.self x × IsIndexed tag_word c.put-2.new.self x × IsMarked c.mark.new.marks x × AreSized x) (sym c.keep.ensures) (
       put_is_indexed number_word i.numbers c.put.new.self i.table.attempts c.self.invariant.0 c.args.near a c.put.ensures.old
           (λ w. ap (get i.numbers.nears) (sym number) ∙ c.put.ensures.free w) (λ w. c.put.ensures.nears w ∙ ap (λ k. insert i.numbers.nears k c.args.near) number),
       put_is_indexed tag_word i.tags c.put-2.new.self i.table.attempts c.self.invariant.1 c.args.near a c.put-2.ensures.old
           (λ w. ap (get i.tags.nears) (sym tag) ∙ c.put-2.ensures.free w) (λ w. c.put-2.ensures.nears w ∙ ap (λ k. insert i.tags.nears k c.args.near) tag),
       subst (IsMarked c.mark.new.marks) c.keep.ensures c.mark.ensures,
+      kept_are_sized i.table.attempts c.args.near c.self.invariant.3 a c.is_sized.ensures,
     )
 
 pub mark-requires : goal.mark-requires

@@ -10,4 +10,5 @@ invariant_of-result c = (
   λ whole near a there. absurd (none-some a (sym (get-empty nat_cmp near) ∙ sym (ap (λ (m : Attempts). get m near) c.new.ensures) ∙ there)),
   λ whole near a there. absurd (none-some a (sym (get-empty nat_cmp near) ∙ sym (ap (λ (m : Attempts). get m near) c.new.ensures) ∙ there)),
   λ whole near a mark there has. absurd (none-some a (sym (get-empty nat_cmp near) ∙ sym (ap (λ (m : Attempts). get m near) c.new.ensures) ∙ there)),
+  λ near a there. absurd (none-some a (sym (get-empty nat_cmp near) ∙ sym (ap (λ (m : Attempts). get m near) c.new.ensures) ∙ there)),
 )
