@@ -18,7 +18,7 @@ use Rattle.flow_send.proofs.Walking.{here_at, skip_at, at_in, in_at, in_low, in_
 
 -- ---- places
 
-same_all : (z k i : ℕ) → get_or (replicate k z) i z ≡ z
+pub same_all : (z k i : ℕ) → get_or (replicate k z) i z ≡ z
 same_all z zero i = refl
 same_all z (suc k) zero = refl
 same_all z (suc k) (suc i) = same_all z k i

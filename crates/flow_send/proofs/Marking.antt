@@ -154,7 +154,7 @@ covers_lost m ws f loss n (r ∷ rows) h c d = (
 
 -- ---- places
 
-same_all : (k i : ℕ) → get_or (replicate k false) i false ≡ false
+pub same_all : (k i : ℕ) → get_or (replicate k false) i false ≡ false
 same_all zero i = refl
 same_all (suc k) zero = refl
 same_all (suc k) (suc i) = same_all k i

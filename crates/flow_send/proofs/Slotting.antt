@@ -78,14 +78,6 @@ member (suc at) (x ∷ later) s e g = elim (cases_eq x.gone 0) [
 
 -- ---- a walk over all that wait
 
-live_on : (at : ℕ) (slots : List Slot) (s : Slot) → slice_get slots at ≡ Some s → s.gone ≡ 0 → waiting_in (drop at slots) ≡ s.message ∷ waiting_in (drop (at + 1) slots)
-live_on at [] s e g = absurd cc
-live_on zero (x ∷ later) s e g =
-    let q = here_is x s e in
-    let i : zero + 1 ≡ suc zero = omega arith in
-    waits_on x later (ap (λ (y : Slot). y.gone) q ∙ g) ∙ (ap (λ (y : Slot). y.message ∷ waiting_in later) q ∙ ap (λ (k : ℕ). s.message ∷ waiting_in (drop k (x ∷ later))) (sym i))
-live_on (suc at) (x ∷ later) s e g = let i : suc at + 1 ≡ suc (at + 1) = omega arith in live_on at later s e g ∙ ap (λ (k : ℕ). s.message ∷ waiting_in (drop k (x ∷ later))) (sym i)
-
 none_on : (at : ℕ) (slots : List Slot) → slice_get slots at ≡ None → waiting_in (drop at slots) ≡ []
 none_on zero [] e = refl
 none_on (suc at) [] e = refl
@@ -273,10 +265,6 @@ first_by n (suc at) low (x ∷ later) o h b f e =
 
 pub first_from : (n at : ℕ) (slots : List Slot) (o : Option Waiting) → InSlots 0 slots → IsPlace n at slots → o ≡ slice_get (waiting_in (drop at slots)) 0 → IsFirstFrom n (waiting_in slots) (number_of o)
 first_from n at slots o h p e = first_by n at 0 slots o h p.below p.from e
-
-pub first_number_is : (ws : List Waiting) → number_of (slice_get ws 0) ≡ first_number ws
-first_number_is [] = refl
-first_number_is (w ∷ ws) = refl
 
 -- ---- where a walk begins
 

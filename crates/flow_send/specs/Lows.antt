@@ -1,5 +1,5 @@
 -- Moments before which no deadline is, by the blocks of numbers that messages begin in.
-use Rattle.std.specs.Prelude.{ℕ, ◌≡◌, ◌==◌, ◌&&◌, ◌/◌, ◌%◌, ◌<◌, ◌≤◌, Bool, true, false, List}
+use Rattle.std.specs.Prelude.{ℕ, ◌≡◌, ◌≢◌, ◌==◌, ◌&&◌, ◌/◌, ◌%◌, ◌<◌, ◌≤◌, Bool, true, false, List}
 use Rattle.std.specs.Prelude.{Option, Some, None, get_or}
 use Rattle.std.specs.Option.{IsSomeAnd}
 use Rattle.rtmfp_data_chunks.specs.HandsOver.{IsIn}
@@ -15,6 +15,20 @@ block_of n = n / 64
 
 abbrev pub low_at : List ℕ → ℕ → ℕ
 low_at lows block = get_or lows (block % 1028) 18446744073709551615
+
+-- 32 places one after another are a group: a moment before which none of the group of a place is
+abbrev pub IsTop : ℕ → List ℕ → ℕ → Type 0
+IsTop place lows top = (i : ℕ) → i < 1028 → i / 32 ≡ place / 32 → top ≤ get_or lows i 18446744073709551615
+
+-- before which none of the others of the group is
+abbrev pub IsTopBeside : ℕ → List ℕ → ℕ → Type 0
+IsTopBeside place lows top = (i : ℕ) → i < 1028 → i / 32 ≡ place / 32 → i ≢ place →
+    top ≤ get_or lows i 18446744073709551615
+
+-- the moments of all groups
+abbrev pub AreTops : List ℕ → List ℕ → Type 0
+AreTops tops lows = (i : ℕ) → i < 1028 →
+    get_or tops (i / 32) 18446744073709551615 ≤ get_or lows i 18446744073709551615
 
 -- no deadline is before the moment of its message's block
 abbrev pub AreLows : List ℕ → List Waiting → Type 0

@@ -1,6 +1,6 @@
 -- Blocks of numbers in which a message may begin of which a lost number was sent again as often as its
 -- limit allows.
-use Rattle.std.specs.Prelude.{ℕ, ◌≡◌, ◌+◌, ◌%◌, ◌<◌, ◌≤◌, nat_le, nat_lt, Bool, true, false, ◌||◌, List, [], ◌∷◌}
+use Rattle.std.specs.Prelude.{ℕ, ◌≡◌, ◌≢◌, ◌+◌, ◌/◌, ◌%◌, ◌<◌, ◌≤◌, nat_le, nat_lt, Bool, true, false, ◌||◌, List, [], ◌∷◌}
 use Rattle.std.specs.Prelude.{Option, Some, None, get_or}
 use Rattle.rtmfp_data_chunks.specs.HandsOver.{IsIn}
 use Rattle.flow_send.specs.declared.waiting.Waiting.{Waiting}
@@ -18,6 +18,20 @@ pub record Marked : Type 0 where
 
 abbrev pub marked_at : Marked → ℕ → Bool
 marked_at m block = m.all || get_or m.places (block % 1028) false
+
+-- 32 places one after another are a group: no place of the group of a place has a mark
+abbrev pub IsBare : ℕ → List Bool → Type 0
+IsBare place places = (i : ℕ) → i < 1028 → i / 32 ≡ place / 32 → get_or places i false ≡ false
+
+-- no other one of the group has
+abbrev pub IsBareBeside : ℕ → List Bool → Type 0
+IsBareBeside place places = (i : ℕ) → i < 1028 → i / 32 ≡ place / 32 → i ≢ place →
+    get_or places i false ≡ false
+
+-- a place with a mark is in a group that tells so
+abbrev pub AreGroups : List Bool → List Bool → Type 0
+AreGroups groups places = (i : ℕ) → i < 1028 → get_or groups (i / 32) false ≡ false →
+    get_or places i false ≡ false
 
 -- so many resends are as many as a limit allows
 abbrev pub is_reached : Option ℕ → ℕ → Bool

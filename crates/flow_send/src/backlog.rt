@@ -366,8 +366,11 @@ impl Backlog {
         if to.saturating_sub(from) > PLACES {
             return;
         }
-        for block in from..end.min(to) {
+        let last = end.min(to);
+        let mut block = from;
+        while block < last {
             self.raise_block(from, to, moment, block);
+            block = block.saturating_add(self.lows.quiet(block, moment).max(1));
         }
     }
 
@@ -425,8 +428,10 @@ impl Backlog {
         requires passed { NoneSpentBefore end (forward + 1) rows.now.rows self.now }
         ensures { Covers marks.new self.now (forward + 1) rows.now.rows }
     {
-        for block in from..end {
+        let mut block = from;
+        while block < end {
             marks.clear(block);
+            block = block.saturating_add(marks.bare(block).max(1));
         }
     }
 

@@ -1,10 +1,11 @@
 //! Marks of blocks of numbers, by which messages are found that were sent again as often as their
 //! limits allow.
 
-ghost use Rattle.std.specs.Prelude.{ℕ, ◌≡◌, ◌≢◌, ◌%◌, true, false, IfOk, replicate};
-ghost use Rattle.flow_send.specs.Marks.{marked_at, Grows};
+ghost use Rattle.std.specs.Prelude.{ℕ, ◌≡◌, ◌≢◌, ◌+◌, ◌%◌, ◌<◌, ◌≤◌, true, false, IfOk};
+ghost use Rattle.std.specs.Prelude.{replicate, get_or};
+ghost use Rattle.flow_send.specs.Marks.{marked_at, Grows, IsBare, IsBareBeside};
 
-use crate::lows::PLACES;
+use crate::lows::{GROUP, GROUPS, PLACES, group_of, rest_of_group};
 use std::alloc::{AllocError, Global};
 use std::marker::Model;
 
@@ -14,14 +15,21 @@ pub struct Marks {
     /// Each block is marked.
     all: bool,
     places: Vec<bool>,
+    /// Of each group whether a place of it may have a mark.
+    groups: Vec<bool>,
 }
 
 impl Model for Marks {
-    ghost use Rattle.flow_send.specs.Marks.{Marked};
+    ghost use Rattle.std.specs.Prelude.{◌≡◌, ◌<◌, length};
+    ghost use Rattle.flow_send.specs.Marks.{Marked, AreGroups};
 
     ghost Value = { Marked };
 
     ghost view = { λ m. record { all = m.all; places = m.places.items } };
+
+    ghost invariant = { λ m. (0 < length m.places.items → length m.places.items ≡ 1028) ×
+        (0 < length m.places.items → length m.groups.items ≡ 33) ×
+        AreGroups m.groups.items m.places.items };
 }
 
 /// So many places without a mark.
@@ -40,6 +48,7 @@ impl Marks {
         Marks {
             all: false,
             places: Vec::new(alloc),
+            groups: Vec::new(alloc),
         }
     }
 
@@ -48,17 +57,64 @@ impl Marks {
         self.all || self.places.len() > 0
     }
 
-    /// Whether a block is marked.
-    pub fn at(&self, block: u64) -> bool
-        ensures { result ≡ marked_at self.now block }
+    /// Whether a place has a mark.
+    fn at_place(&self, place: usize) -> bool
+        ensures { result ≡ get_or self.now.places place false }
     {
-        if self.all {
-            return true;
-        }
-        match self.places.get((block % PLACES) as usize) {
-            Some(place) => *place,
+        match self.places.get(place) {
+            Some(mark) => *mark,
             None => false,
         }
+    }
+
+    /// Whether a place of a place's group may have a mark.
+    fn group(&self, place: usize) -> bool
+        ensures { result ≡ false → IsBare place self.now.places }
+    {
+        match self.groups.get(group_of(place)) {
+            Some(group) => *group,
+            None => false,
+        }
+    }
+
+    /// Whether a place of a place's group has a mark, that one aside.
+    fn any_beside(&self, place: usize) -> bool
+        requires { place < 1028 }
+        ensures { result ≡ false → IsBareBeside place self.now.places }
+    {
+        let first = group_of(place) * GROUP as usize;
+        for other in first..first + GROUP as usize {
+            if other != place && self.at_place(other) {
+                return true;
+            }
+        }
+        false
+    }
+
+    /// How many blocks from one on have no mark of their own, as far as a look at its group or at
+    /// itself tells.
+    pub fn bare(&self, block: u64) -> u64
+        ensures { (b : ℕ) → block ≤ b → b < block + result →
+            get_or self.now.places (b % 1028) false ≡ false }
+    {
+        let place = (block % PLACES) as usize;
+        if !self.group(place) {
+            return rest_of_group(block);
+        }
+        if !self.at_place(place) {
+            return 1;
+        }
+        0
+    }
+
+    /// How many blocks from one on aren't marked, as far as that look tells.
+    pub fn quiet(&self, block: u64) -> u64
+        ensures { (b : ℕ) → block ≤ b → b < block + result → marked_at self.now b ≡ false }
+    {
+        if self.all {
+            return 0;
+        }
+        self.bare(block)
     }
 
     /// Makes the places, where there is a limit of resends.
@@ -69,7 +125,9 @@ impl Marks {
             return Ok(());
         }
         let alloc = *self.places.allocator();
+        let groups = unmarked(alloc, GROUPS as usize)?;
         self.places = unmarked(alloc, PLACES as usize)?;
+        self.groups = groups;
         Ok(())
     }
 
@@ -84,6 +142,7 @@ impl Marks {
             return;
         }
         self.places[place] = true;
+        self.groups[group_of(place)] = true;
     }
 
     /// Marks all blocks.
@@ -99,9 +158,12 @@ impl Marks {
             marked_at self.new b ≡ true }
     {
         let place = (block % PLACES) as usize;
-        if place < self.places.len() {
-            self.places[place] = false;
+        if !self.at_place(place) {
+            return;
         }
+        let group = self.any_beside(place);
+        self.places[place] = false;
+        self.groups[group_of(place)] = group;
     }
 
     /// All blocks are no longer marked at once.

@@ -1,18 +1,19 @@
-use Rattle.std.proofs.Common.{◌≡◌, ◌≤◌, ℕ, false, arith, inl, inr, sym, ◌∙◌, subst}
+use Rattle.std.proofs.Common.{◌≡◌, ◌+◌, ◌<◌, ◌≤◌, ℕ, false, arith, inl, inr}
 use Rattle.std.proofs.lemmas.Bool.{cases_lt}
-use Rattle.flow_send.specs.Lows.{low_at}
-use Rattle.flow_send.specs.Marks.{marked_at}
 use Rattle.flow_send.proofs.lows.Lows.first_block.Goals as goal
 
 pub loop-block-init : goal.loop-block-init
-loop-block-init c = λ b lo hi. absurd (omega (arith, lo, hi))
+loop-block-init c = record { from = omega arith; passed = λ b lo hi. absurd (omega (arith, lo, hi)) }
 
 pub loop-block-preserved : goal.loop-block-preserved
-loop-block-preserved c = λ b lo hi. elim (cases_lt b c.loop-block.block) [
-  | inl lt ↦ c.loop-block.invariant b lo lt
-  | inr ge ↦
-      let e : c.loop-block.block ≡ b = omega (arith, hi, ge) in
-      let low : c.args.moment ≤ low_at c.args.self.now c.loop-block.block = omega (arith, c.at.ensures, c.if-at-moment.false) in
-      let mark : marked_at c.args.marks.now c.loop-block.block ≡ false = sym c.at-in-loop-block.ensures ∙ c.if-at.false in
-      subst (λ (k : ℕ). (c.args.moment ≤ low_at c.args.self.now k) × (marked_at c.args.marks.now k ≡ false)) e (low, mark)
-]
+loop-block-preserved c =
+    let i = c.loop-block.invariant in
+    record {
+      from = omega (arith, i.from, c.saturating_add-block.ensures);
+      passed = λ b lo hi. elim (cases_lt b c.loop-block.block) [
+        | inl lt ↦ i.passed b lo lt
+        | inr ge ↦
+            let in_both : b < c.loop-block.block + c.min-quiet.result = omega (arith, hi, c.saturating_add-block.ensures) in
+            (c.quiet.ensures b ge (omega (arith, in_both, c.min-quiet.ensures)), c.quiet-in-loop-block.ensures b ge (omega (arith, in_both, c.min-quiet.ensures)))
+      ];
+    }
