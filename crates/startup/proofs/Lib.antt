@@ -17,3 +17,4 @@ pub mod Walked
 pub mod Indices
 pub mod Marking
 pub mod Widths
+pub mod Rising

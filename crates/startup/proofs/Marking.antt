@@ -1,7 +1,8 @@
 -- Marks in their order, those of attempts, and how one is found.
-use Rattle.std.proofs.Common.{ℕ, ◌≡◌, ◌<◌, ◌≤◌, ◌+◌, ◌-◌, Bool, true, false, List, length, Option, Some, None, refl, sym, ap, ◌∙◌, arith, inl, inr, ⊎_elim}
+use Rattle.std.proofs.Common.{ℕ, ◌≡◌, ◌<◌, ◌≤◌, ◌+◌, ◌-◌, ◌&&◌, Bool, true, false, nat_lt, List, length, Option, Some, None, refl, sym, ap, ◌∙◌, subst, arith, inl, inr, ⊎_elim}
 use Rattle.std.specs.FinMap.{get, insert, remove}
 use Rattle.std.proofs.lemmas.Bool.{cases_Bool, cases_lt}
+use Rattle.std.proofs.lemmas.Bool.Decides.{nat_tests}
 use Rattle.rtmfp_base.proofs.Maps.{found_inserted, found_left}
 use Rattle.rtmfp_base.proofs.Lowest.{lowest_is_first, none_is_first}
 use Rattle.startup.specs.declared.marks.Mark.{Mark}
@@ -12,7 +13,7 @@ use Rattle.startup.specs.declared.attempt.Stage.TheVariants.{Hello, Keying}
 use Rattle.startup.specs.Attempts.{lowest, has_cookie, is_cookie_of}
 use Rattle.startup.specs.Sought.{IsChosenAt}
 use Rattle.startup.specs.Table.{with_changed, in_attempt}
-use Rattle.startup.specs.Marks.{Marked, IsUpTo, IsAscending, IsPlace, Stands, mark_at, mark_in, mark_of, cookie_word, IsMarked, IsMarkedBut, passes_in, AreFrom}
+use Rattle.startup.specs.Marks.{Marked, is_whole_then, IsUpTo, IsAscending, IsPlace, Stands, mark_at, mark_in, mark_of, cookie_word, IsMarked, IsMarkedBut, passes_in, AreFrom}
 
 -- ---- another mark comes
 
@@ -28,6 +29,17 @@ module _ (old new : List Mark) (at : ℕ) (longer : length new ≡ length old + 
       here = above (was.at + 1) (omega arith) ∙ ap (mark_at old) (omega arith) ∙ was.here;
     }
   ]
+
+-- there is no room for it
+pub full_is_not_whole : (m : Marked) → m.room ≤ length m.marks → false ≡ is_whole_then m
+full_is_not_whole m full = go m.whole
+  where
+    no_more : nat_lt (length m.marks) m.room ≡ false
+    no_more = grind (arith, nat_tests)
+
+    go : (b : Bool) → false ≡ (b && nat_lt (length m.marks) m.room)
+    go true = sym no_more
+    go false = refl
 
 -- ---- the marks of attempts
 
@@ -62,6 +74,10 @@ module _ (marked : Marked) (attempts : Attempts) (near : ℕ) where
           | inl here ↦ is whole q a mark (ap (get attempts) here.0 ∙ e) (sym (keeps a q) ∙ ap (λ x. mark_of x q) here.1 ∙ has)
           | inr other ↦ is whole q b mark other.1 has
         ]
+
+-- there is more room
+pub marked_is : (old new : Marked) (attempts : Attempts) → new.marks ≡ old.marks → new.whole ≡ old.whole → IsMarked old attempts → IsMarked new attempts
+marked_is old new attempts same still is whole near a mark there has = subst (λ l. Stands l mark) (sym same) (is (sym still ∙ whole) near a mark there has)
 
 -- while there was room, those with a cookie stand under its word
 pub found_by_cookie : (marked : Marked) (attempts : Attempts) (cookie : List ℕ) → IsMarked marked attempts → marked.whole ≡ true → AreFrom (has_cookie cookie) marked.marks 0 (cookie_word cookie) attempts

@@ -8,15 +8,18 @@ use Rattle.startup.specs.declared.attempt.Stage.{Stage}
 use Rattle.startup.specs.declared.attempt.Stage.TheVariants.{Hello, Keying}
 use Rattle.startup.specs.State.{AttemptState, Attempts}
 
--- the near ids by words, and whether no two attempts have had one word
+-- the near ids by words, whether no two attempts have had one word, and how many more words there is
+-- room for
 pub record Words : Type 0 where
   pub nears : FinMap nat_cmp ℕ
   pub whole : Bool
+  pub spare : ℕ
 
 abbrev pub words_code : Coded Words
 words_code =
-    code_by (FinMap nat_cmp ℕ × Bool) (coded× (code coded_ℕ coded_ℕ) coded_bool)
-    (λ w. (w.nears, w.whole)) (λ p. record { nears = p.0; whole = p.1 }) (λ _. refl)
+    code_by (FinMap nat_cmp ℕ × (Bool × ℕ)) (coded× (code coded_ℕ coded_ℕ) (coded× coded_bool coded_ℕ))
+    (λ w. (w.nears, (w.whole, w.spare))) (λ p. record { nears = p.0; whole = p.1.0; spare = p.1.1 })
+    (λ _. refl)
 
 -- the front of a tag
 abbrev pub word_of : List ℕ → ℕ

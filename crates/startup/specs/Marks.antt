@@ -1,7 +1,7 @@
 -- The marks of attempts, each the word of a cookie and a near id, and their order.
-use Rattle.std.specs.Prelude.{ℕ, ◌≡◌, ◌<◌, ◌≤◌, Bool, true, false, List, take, length, slice_index_or, Option, Some, None, refl}
+use Rattle.std.specs.Prelude.{ℕ, ◌≡◌, ◌<◌, ◌≤◌, ◌&&◌, Bool, true, false, nat_lt, List, take, length, slice_index_or, Option, Some, None, refl}
 use Rattle.std.specs.Int.{w64, from_be_bytes}
-use Rattle.std.specs.Coded.{Coded, code_by, coded×, coded_list, coded_bool}
+use Rattle.std.specs.Coded.{Coded, code_by, coded×, coded_list, coded_bool, coded_ℕ}
 use Rattle.std.specs.FinMap.{get}
 use Rattle.sha2.specs.Sha256.{sha256}
 use Rattle.startup.specs.declared.marks.Mark.{Mark}
@@ -11,15 +11,21 @@ use Rattle.startup.specs.declared.attempt.Change.{Change}
 use Rattle.startup.specs.State.{AttemptState, Attempts}
 use Rattle.startup.specs.Sought.{change_of}
 
--- the marks, and whether there was room for each
+-- the marks, whether there was room for each, and for how many there is room
 pub record Marked : Type 0 where
   pub marks : List Mark
   pub whole : Bool
+  pub room : ℕ
 
 abbrev pub marked_code : Coded Mark → Coded Marked
 marked_code mark =
-    code_by (List Mark × Bool) (coded× (coded_list mark) coded_bool) (λ m. (m.marks, m.whole))
-    (λ p. record { marks = p.0; whole = p.1 }) (λ _. refl)
+    code_by (List Mark × (Bool × ℕ)) (coded× (coded_list mark) (coded× coded_bool coded_ℕ))
+    (λ m. (m.marks, (m.whole, m.room))) (λ p. record { marks = p.0; whole = p.1.0; room = p.1.1 })
+    (λ _. refl)
+
+-- whether they are whole still when one more comes: while there is room for it
+abbrev pub is_whole_then : Marked → Bool
+is_whole_then m = m.whole && nat_lt (length m.marks) m.room
 
 -- ---- their order: by words, and under one word by near ids
 
@@ -39,6 +45,10 @@ mark_at marks k = slice_index_or marks k no_mark
 
 abbrev pub IsAscending : List Mark → Type 0
 IsAscending marks = (j k : ℕ) → j ≤ k → k < length marks → IsUpTo (mark_at marks j) (mark_at marks k)
+
+-- The same, and no mark stands twice.
+abbrev pub IsRising : List Mark → Type 0
+IsRising marks = (j k : ℕ) → j < k → k < length marks → IsBefore (mark_at marks j) (mark_at marks k)
 
 -- A mark has its place behind those before it.
 pub record IsPlace (marks : List Mark) (mark : Mark) (at : ℕ) : Type 0 where

@@ -141,7 +141,8 @@ fn mark_of(attempt: &Attempt, near: u32) -> Option<Mark>
 /// The mark of the attempt under this near id, where it has one, is put with the others.
 fn mark(table: &AttemptTable, marks: &mut Marks, near: u32)
     requires { IsMarkedBut near marks.old table.now.attempts }
-    ensures { IsMarked marks.new table.now.attempts }
+    ensures marked { IsMarked marks.new table.now.attempts }
+    ensures whole { length marks.old.marks < marks.old.room → marks.new.whole ≡ marks.old.whole }
 {
     let Some(attempt) = table.get(near) else {
         return;
@@ -155,7 +156,8 @@ fn mark(table: &AttemptTable, marks: &mut Marks, near: u32)
 /// The mark of the attempt under this near id, where it has one, is taken from the others.
 fn unmark(table: &AttemptTable, marks: &mut Marks, near: u32)
     requires { IsMarked marks.old table.now.attempts }
-    ensures { IsMarkedBut near marks.new table.now.attempts }
+    ensures marked { IsMarkedBut near marks.new table.now.attempts }
+    ensures whole { marks.new.whole ≡ marks.old.whole }
 {
     let Some(attempt) = table.get(near) else {
         return;

@@ -1,8 +1,8 @@
 //! Which attempts have a cookie: marks in order, where one is sought by halves.
 
-ghost use Rattle.std.specs.Prelude.{◌≡◌, ◌<◌, ◌≤◌, true, false, List, [], length};
+ghost use Rattle.std.specs.Prelude.{◌≡◌, ◌<◌, ◌≤◌, ◌⊎◌, true, false, List, [], OnOk, length};
 ghost use Rattle.startup.specs.declared.marks.Mark.{Mark};
-ghost use Rattle.startup.specs.Marks.{IsBefore, IsUpTo, IsAscending, IsPlace, Stands};
+ghost use Rattle.startup.specs.Marks.{IsBefore, IsUpTo, IsAscending, IsPlace, Stands, is_whole_then, mark_at};
 
 use rtmfp_base::Memory;
 use std::alloc::Global;
@@ -29,15 +29,20 @@ pub(crate) struct Marks {
 
 impl Model for Marks {
     ghost use Rattle.startup.specs.contracts.marks.Mark as mark_type;
-    ghost use Rattle.startup.specs.Marks.{IsAscending, Marked, marked_code};
+    ghost use Rattle.std.specs.Prelude.{vec_capacity};
+    ghost use Rattle.startup.specs.Marks.{IsRising, Marked, marked_code};
 
     ghost Value = { Marked };
 
     ghost coded = { marked_code mark_type.the_row.coded };
 
-    ghost view = { λ m. record { marks = m.marks.items; whole = m.whole } };
+    ghost view = { λ m. record {
+      marks = m.marks.items;
+      whole = m.whole;
+      room = vec_capacity m.marks;
+    } };
 
-    ghost invariant = { λ m. IsAscending m.marks.items };
+    ghost invariant = { λ m. IsRising m.marks.items };
 }
 
 /// Whether a mark stands before another.
@@ -56,7 +61,8 @@ fn is_before(one: Mark, other: Mark) -> bool
 
 /// Whether two marks are one.
 fn is_same(one: Mark, other: Mark) -> bool
-    ensures { result ≡ true → one ≡ other }
+    ensures yes { result ≡ true → one ≡ other }
+    ensures no { result ≡ false → one ≡ other → ⊥ }
 {
     if one.word != other.word {
         return false;
@@ -82,10 +88,23 @@ pub(crate) fn place(marks: &[Mark], mark: Mark) -> usize
     low
 }
 
+/// Whether this mark stands at this place.
+fn stands_at(marks: &[Mark], at: usize, mark: Mark) -> bool
+    ensures there { result ≡ true → at < length marks.now }
+    ensures yes { result ≡ true → mark_at marks.now at ≡ mark }
+    ensures no { result ≡ false → at < length marks.now → mark_at marks.now at ≡ mark → ⊥ }
+{
+    if at >= marks.len() {
+        return false;
+    }
+    is_same(marks[at], mark)
+}
+
 impl Marks {
     /// No marks. It takes no memory.
     pub(crate) fn new(alloc: Global) -> Marks
-        ensures { result.marks ≡ [] }
+        ensures marks { result.marks ≡ [] }
+        ensures whole { result.whole ≡ true }
     {
         Marks {
             marks: Vec::new(alloc),
@@ -110,7 +129,10 @@ impl Marks {
 
     /// Finds memory for this many marks in all.
     pub(crate) fn reserve(&mut self, room: usize) -> Result<(), Memory>
-        ensures { self.new ≡ self.old }
+        ensures ok { OnOk result (room ≤ self.new.room) }
+        ensures room { self.old.room ≤ self.new.room }
+        ensures marks { self.new.marks ≡ self.old.marks }
+        ensures whole { self.new.whole ≡ self.old.whole }
     {
         let more = room.saturating_sub(self.marks.len());
         match self.marks.reserve(more) {
@@ -119,35 +141,41 @@ impl Marks {
         }
     }
 
-    /// Puts a mark in its place. It takes no memory.
+    /// Puts a mark in its place, where it isn't one of them. They are whole no longer exactly where
+    /// there is no room for one more. It takes no memory.
     pub(crate) fn put(&mut self, mark: Mark)
-        ensures whole { self.new.whole ≡ true → self.old.whole ≡ true }
+        ensures whole { self.new.whole ≡ is_whole_then self.old }
         ensures there { self.new.whole ≡ true → Stands self.new.marks mark }
-        ensures rest { self.new.whole ≡ true → (other : Mark) → Stands self.old.marks other →
-            Stands self.new.marks other }
+        ensures rest { (other : Mark) → Stands self.old.marks other → Stands self.new.marks other }
+        ensures only { (other : Mark) → Stands self.new.marks other → (other ≡ mark)
+            ⊎ Stands self.old.marks other }
+        ensures room { self.new.room ≡ self.old.room }
     {
-        if self.marks.len() == self.marks.capacity() {
+        if self.marks.len() >= self.marks.capacity() {
             self.whole = false;
             return;
         }
         let at = place(self.marks.as_slice(), mark);
+        if stands_at(self.marks.as_slice(), at, mark) {
+            return;
+        }
         match self.marks.insert(at, mark) {
             Ok(()) => {}
-            Err(_) => self.whole = false,
+            Err(_) => unreachable!(),
         }
     }
 
     /// Takes a mark out, where it is one of them. It takes no memory.
     pub(crate) fn take(&mut self, mark: Mark)
-        ensures whole { self.new.whole ≡ self.old.whole }
+        ensures gone { Stands self.new.marks mark → ⊥ }
+        ensures only { (other : Mark) → Stands self.new.marks other → Stands self.old.marks other }
         ensures rest { (other : Mark) → (other ≡ mark → ⊥) → Stands self.old.marks other →
             Stands self.new.marks other }
+        ensures whole { self.new.whole ≡ self.old.whole }
+        ensures room { self.new.room ≡ self.old.room }
     {
         let at = place(self.marks.as_slice(), mark);
-        if at >= self.marks.len() {
-            return;
-        }
-        if is_same(self.marks[at], mark) {
+        if stands_at(self.marks.as_slice(), at, mark) {
             let _gone = self.marks.remove(at);
         }
     }

@@ -23,7 +23,7 @@ invariant_of-self c =
 pub mark-requires : goal.mark-requires
 mark-requires c =
     subst (IsMarkedBut c.args.near c.unmark.new.marks) (sym c.change-2.ensures)
-    (but_changed c.unmark.new.marks c.self.inside.table.attempts c.args.near (change_of c.args.change.now c.args.moment) c.unmark.ensures)
+    (but_changed c.unmark.new.marks c.self.inside.table.attempts c.args.near (change_of c.args.change.now c.args.moment) c.unmark.ensures.marked)
 
 pub invariant_of-self-2 : goal.invariant_of-self-2
 invariant_of-self-2 c =
@@ -31,6 +31,6 @@ invariant_of-self-2 c =
     subst (λ (x : Attempts). IsIndexed number_word i.numbers x × IsIndexed tag_word i.tags x × IsMarked c.mark.new.marks x × AreSized x) (sym c.change-2.ensures) (
       changed_is_indexed number_word i.numbers i.table.attempts c.self.invariant.0 c.args.near (change_of c.args.change.now c.args.moment) (number_stays c.args.change.now c.args.moment),
       changed_is_indexed tag_word i.tags i.table.attempts c.self.invariant.1 c.args.near (change_of c.args.change.now c.args.moment) (tag_stays c.args.change.now c.args.moment),
-      subst (IsMarked c.mark.new.marks) c.change-2.ensures c.mark.ensures,
+      subst (IsMarked c.mark.new.marks) c.change-2.ensures c.mark.ensures.marked,
       changed_are_sized i.table.attempts c.args.near c.self.invariant.3 (change_of c.args.change.now c.args.moment) (λ a there. change_is_sized c.args.change.now c.args.moment a (c.requires a (ap (λ (t : Table). get t.attempts c.args.near) (sym c.self.view_is) ∙ there))),
     )

@@ -19,7 +19,7 @@ invariant_of-self c =
           (λ w. ap (get i.numbers.nears) (sym number) ∙ c.put.ensures.free w) (λ w. c.put.ensures.nears w ∙ ap (λ k. insert i.numbers.nears k c.args.near) number),
       put_is_indexed tag_word i.tags c.put-2.new.self i.table.attempts c.self.invariant.1 c.args.near a c.put-2.ensures.old
           (λ w. ap (get i.tags.nears) (sym tag) ∙ c.put-2.ensures.free w) (λ w. c.put-2.ensures.nears w ∙ ap (λ k. insert i.tags.nears k c.args.near) tag),
-      subst (IsMarked c.mark.new.marks) c.keep.ensures c.mark.ensures,
+      subst (IsMarked c.mark.new.marks) c.keep.ensures c.mark.ensures.marked,
       kept_are_sized i.table.attempts c.args.near c.self.invariant.3 a c.is_sized.ensures,
     )
 
