@@ -18,3 +18,4 @@ pub mod Indices
 pub mod Marking
 pub mod Widths
 pub mod Rising
+pub mod Owning

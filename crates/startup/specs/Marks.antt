@@ -75,7 +75,8 @@ Stands marks mark = StandsFrom marks 0 mark
 
 -- ---- the marks of attempts
 
--- the word of a cookie: the first 8 bytes of its SHA-256, so that cookies with one word are alike
+-- the word of a cookie: the first 8 bytes of its SHA-256. Cookies with one word may be two, where
+-- somebody looked long enough for them
 unfoldable pub cookie_word : List ℕ → ℕ
 cookie_word cookie = from_be_bytes w64 (take 8 (sha256 cookie))
 
@@ -97,6 +98,21 @@ abbrev pub IsMarkedBut : ℕ → Marked → Attempts → Type 0
 IsMarkedBut one marked attempts = marked.whole ≡ true → (near : ℕ) (a : AttemptState)
     (mark : Mark) → (near ≡ one → ⊥) → get attempts near ≡ Some a →
     mark_of a near ≡ Some mark → Stands marked.marks mark
+
+-- A mark is that of an attempt.
+pub record IsOf (attempts : Attempts) (mark : Mark) : Type 0 where
+  pub attempt : AttemptState
+  pub there : get attempts mark.near ≡ Some attempt
+  pub has : mark_of attempt mark.near ≡ Some mark
+
+-- Each mark is that of an attempt.
+abbrev pub AreOf : List Mark → Attempts → Type 0
+AreOf marks attempts = (mark : Mark) → Stands marks mark → IsOf attempts mark
+
+-- Each is that of an attempt, and none of this one's.
+abbrev pub AreOfOthers : ℕ → List Mark → Attempts → Type 0
+AreOfOthers one marks attempts = (mark : Mark) → Stands marks mark →
+    (mark.near ≡ one → ⊥) × IsOf attempts mark
 
 -- An attempt has the mark that it had after such a change.
 abbrev pub KeepsMarks : Change → Type 0

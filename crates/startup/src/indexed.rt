@@ -10,7 +10,7 @@ ghost use Rattle.startup.specs.Sought.{fits, IsChosen, change_of, Allows};
 ghost use Rattle.startup.specs.Table.{in_attempt};
 ghost use Rattle.startup.specs.Indexed.{word_of, cookie_length, IsFoundBy, IsSized};
 ghost use Rattle.startup.specs.declared.marks.Mark.{Mark};
-ghost use Rattle.startup.specs.Marks.{cookie_word, mark_of, passes_in, AreFrom, IsAscending, IsMarked, IsMarkedBut, KeepsMarks};
+ghost use Rattle.startup.specs.Marks.{cookie_word, mark_of, passes_in, AreFrom, AreOf, AreOfOthers, IsAscending, IsMarked, IsMarkedBut, KeepsMarks};
 
 use crate::attempt::{Attempt, COOKIE_LIMIT, Change, Stage};
 use crate::index::Index;
@@ -54,11 +54,11 @@ impl Model for IndexedAttempts {
 
     ghost view = { λ t. t.table };
 
-    ghost use Rattle.startup.specs.Marks.{IsMarked};
+    ghost use Rattle.startup.specs.Marks.{IsMarked, AreOf};
 
     ghost invariant = { λ t. IsIndexed number_word t.numbers t.table.attempts
         × IsIndexed tag_word t.tags t.table.attempts × IsMarked t.cookies t.table.attempts
-        × AreSized t.table.attempts };
+        × AreSized t.table.attempts × AreOf t.cookies.marks t.table.attempts };
 }
 
 /// The word of a tag: its first 8 bytes.
@@ -140,8 +140,10 @@ fn mark_of(attempt: &Attempt, near: u32) -> Option<Mark>
 
 /// The mark of the attempt under this near id, where it has one, is put with the others.
 fn mark(table: &AttemptTable, marks: &mut Marks, near: u32)
-    requires { IsMarkedBut near marks.old table.now.attempts }
+    requires marked { IsMarkedBut near marks.old table.now.attempts }
+    requires others { AreOfOthers near marks.old.marks table.now.attempts }
     ensures marked { IsMarked marks.new table.now.attempts }
+    ensures own { AreOf marks.new.marks table.now.attempts }
     ensures whole { length marks.old.marks < marks.old.room → marks.new.whole ≡ marks.old.whole }
 {
     let Some(attempt) = table.get(near) else {
@@ -155,8 +157,10 @@ fn mark(table: &AttemptTable, marks: &mut Marks, near: u32)
 
 /// The mark of the attempt under this near id, where it has one, is taken from the others.
 fn unmark(table: &AttemptTable, marks: &mut Marks, near: u32)
-    requires { IsMarked marks.old table.now.attempts }
+    requires marked { IsMarked marks.old table.now.attempts }
+    requires own { AreOf marks.old.marks table.now.attempts }
     ensures marked { IsMarkedBut near marks.new table.now.attempts }
+    ensures others { AreOfOthers near marks.new.marks table.now.attempts }
     ensures whole { marks.new.whole ≡ marks.old.whole }
 {
     let Some(attempt) = table.get(near) else {

@@ -1,10 +1,12 @@
 use Rattle.std.proofs.Common.{◌∙◌, sym, subst, ap}
 use Rattle.std.specs.FinMap.{get, insert}
 use Rattle.startup.specs.State.{Attempts}
+use Rattle.startup.specs.Table.{Table}
 use Rattle.startup.specs.Indexed.{IsIndexed, AreSized, number_word, tag_word}
 use Rattle.startup.proofs.Indices.{put_is_indexed}
-use Rattle.startup.specs.Marks.{IsMarked, IsMarkedBut}
+use Rattle.startup.specs.Marks.{IsMarked, IsMarkedBut, AreOf, AreOfOthers}
 use Rattle.startup.proofs.Marking.{but_kept}
+use Rattle.startup.proofs.Owning.{kept_others}
 use Rattle.startup.proofs.Widths.{kept_are_sized}
 use Rattle.startup.proofs.indexed.IndexedAttempts.keep.Goals as goal
 
@@ -14,14 +16,21 @@ invariant_of-self c =
     let a = c.args.attempt in
     let number = ap number_word c.attempt.view_is in
     let tag = c.word_of.ensures ∙ ap tag_word c.attempt.view_is in
-    subst (λ (x : Attempts). IsIndexed number_word c.put.new.self x × IsIndexed tag_word c.put-2.new.self x × IsMarked c.mark.new.marks x × AreSized x) (sym c.keep.ensures) (
+    subst (λ (x : Attempts). IsIndexed number_word c.put.new.self x × IsIndexed tag_word c.put-2.new.self x × IsMarked c.mark.new.marks x × AreSized x × AreOf c.mark.new.marks.marks x) (sym c.keep.ensures) (
       put_is_indexed number_word i.numbers c.put.new.self i.table.attempts c.self.invariant.0 c.args.near a c.put.ensures.old
           (λ w. ap (get i.numbers.nears) (sym number) ∙ c.put.ensures.free w) (λ w. c.put.ensures.nears w ∙ ap (λ k. insert i.numbers.nears k c.args.near) number),
       put_is_indexed tag_word i.tags c.put-2.new.self i.table.attempts c.self.invariant.1 c.args.near a c.put-2.ensures.old
           (λ w. ap (get i.tags.nears) (sym tag) ∙ c.put-2.ensures.free w) (λ w. c.put-2.ensures.nears w ∙ ap (λ k. insert i.tags.nears k c.args.near) tag),
       subst (IsMarked c.mark.new.marks) c.keep.ensures c.mark.ensures.marked,
       kept_are_sized i.table.attempts c.args.near c.self.invariant.3 a c.is_sized.ensures,
+      subst (AreOf c.mark.new.marks.marks) c.keep.ensures c.mark.ensures.own,
     )
 
-pub mark-requires : goal.mark-requires
-mark-requires c = let i = c.self.inside in subst (IsMarkedBut c.args.near i.cookies) (sym c.keep.ensures) (but_kept i.cookies i.table.attempts c.args.near c.args.attempt c.self.invariant.2)
+pub mark-requires-clause-marked : goal.mark-requires-clause-marked
+mark-requires-clause-marked c = let i = c.self.inside in subst (IsMarkedBut c.args.near i.cookies) (sym c.keep.ensures) (but_kept i.cookies i.table.attempts c.args.near c.args.attempt c.self.invariant.2)
+
+pub mark-requires-clause-others : goal.mark-requires-clause-others
+mark-requires-clause-others c =
+    let i = c.self.inside in
+    subst (AreOfOthers c.args.near i.cookies.marks) (sym c.keep.ensures)
+    (kept_others i.cookies.marks i.table.attempts c.args.near c.args.attempt (ap (λ (t : Table). get t.attempts c.args.near) c.self.view_is ∙ c.requires.free) c.self.invariant.4)
