@@ -1,7 +1,7 @@
 -- The first message that is to be abandoned at a tick.
-use Rattle.std.proofs.Common.{◌≡◌, ℕ, ◌+◌, ◌<◌, ◌≤◌, Bool, true, false, cond, ◌||◌, nat_lt, List, [], ◌∷◌, Option, Some, None, length, refl, sym, ap, ◌∙◌, subst, arith}
+use Rattle.std.proofs.Common.{◌≡◌, ℕ, ◌+◌, ◌<◌, ◌≤◌, Bool, true, false, cond, nat_lt, List, [], ◌∷◌, Option, Some, None, length, refl, ap, ◌∙◌, subst, arith}
 use Rattle.std.specs.Prelude.{slice_get, is_some, ◌==◌}
-use Rattle.std.specs.List.{find, list_any, position, position_or_len}
+use Rattle.std.specs.List.{find, position, position_or_len}
 use Rattle.std.proofs.lemmas.List.Folds.{find_at}
 use Rattle.std.proofs.lemmas.Option.{slice_get_past}
 use Rattle.std.proofs.lemmas.Bool.{ltb-false, ltb-true}
@@ -19,27 +19,10 @@ use Rattle.session_flows.specs.Laws.{AreNumbered}
 use Rattle.session_flows.specs.Timing.{has_overdue, numbered, overdue_of, first_overdue, overdue_in}
 use Rattle.session_flows.proofs.Sounds.{numbered_at}
 
-some_numbered : (id : ℕ) (o : Option ℕ) → is_some (numbered id o) ≡ is_some o
-some_numbered id None = refl
-some_numbered id (Some seq) = refl
-
-any_by : (moment : ℕ) (x : Flow) (later : List Flow) (b : Bool) → has_overdue moment x ≡ b →
-    is_some (overdue_of moment (find (has_overdue moment) later)) ≡ list_any (has_overdue moment) later →
-    is_some (overdue_of moment (cond b (Some x) (find (has_overdue moment) later))) ≡ (b || list_any (has_overdue moment) later)
-any_by moment x later true e ih = some_numbered x.id (overdue moment x.sender) ∙ e
-any_by moment x later false e ih = ih
-
-any_of : (moment : ℕ) (fs : List Flow) → is_some (overdue_of moment (find (has_overdue moment) fs)) ≡ list_any (has_overdue moment) fs
-any_of moment [] = refl
-any_of moment (x ∷ later) = any_by moment x later (has_overdue moment x) refl (any_of moment later)
-
 -- of a held session
 held_by : (b : Bool) (o : Option (ℕ × ℕ)) → b ≡ true → cond b o None ≡ o
 held_by true o e = refl
 held_by false o e = absurd cc
-
-pub any_overdue_is : (session : SessionState) (s : FlowsState) (moment : ℕ) → is_held session.stage ≡ true → list_any (has_overdue moment) s.sending ≡ is_some (overdue_in session s moment)
-any_overdue_is session s moment held = sym (ap (λ (o : Option (ℕ × ℕ)). is_some o) (held_by (is_held session.stage) (first_overdue moment s) held) ∙ any_of moment s.sending)
 
 -- ---- the flow that has it
 

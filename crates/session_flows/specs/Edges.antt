@@ -72,6 +72,12 @@ in_stage stage session = record session { stage = stage }
 abbrev pub untimed : SessionState → SessionState
 untimed session = record session { stage = Open; trip = None }
 
+-- a session with a window below its first threshold
+abbrev pub with_window : ℕ → SessionState → SessionState
+with_window window session = record session {
+  congestion = record { window = window; threshold = 1048576 };
+}
+
 -- neither a deadline nor a limit of resends
 abbrev pub no_limits : MessageOptions
 no_limits = record { deadline = None; resends = None }

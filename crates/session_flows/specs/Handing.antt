@@ -1,12 +1,8 @@
 -- Messages that receiving flows hand over.
 use Prim.Native.Nat.{zero, suc}
-use Rattle.std.specs.Prelude.{ℕ, if◌then◌else◌, is_some, Bool, List, [], ◌∷◌, Option, Some, None}
-use Rattle.std.specs.Prelude.{length}
-use Rattle.std.specs.List.{find}
+use Rattle.std.specs.Prelude.{ℕ, List, [], ◌∷◌, Option, Some, None, length}
 use Rattle.rtmfp_data_chunks.specs.Runs.{Run}
 use Rattle.flow_recv.specs.Receiver.{Receiver, next_run, handed_next}
-use Rattle.session_core.specs.Session.{SessionState}
-use Rattle.session_core.specs.Closing.{is_held}
 use Rattle.session_flows.specs.declared.taking.TakingFlow.{TakingFlow}
 use Rattle.session_flows.specs.Keeping.{FlowsState, taking_at, with_changed, Stated, Handed}
 use Rattle.session_flows.specs.Keeping.{Did, nothing, then_do}
@@ -49,20 +45,3 @@ most_by (Some t) = length t.receiver.runs
 
 abbrev pub hands_all : FlowsState → ℕ → Did
 hands_all s id = hands (most_by (taking_at s id)) id s
-
--- ---- what a call that was stopped left ready
-
-abbrev pub is_ready : TakingFlow → Bool
-is_ready t = is_some (next_run t.receiver)
-
--- the first flow, by rising IDs, that has a message ready
-abbrev pub ready_flow : FlowsState → Option TakingFlow
-ready_flow s = find is_ready s.taking
-
-abbrev pub ready_id : Option TakingFlow → Option ℕ
-ready_id None = None
-ready_id (Some t) = Some t.id
-
--- A session that has ended hands nothing over.
-abbrev pub ready_in : SessionState → FlowsState → Option ℕ
-ready_in session s = if is_held session.stage then ready_id (ready_flow s) else None

@@ -236,7 +236,14 @@ fn tell(session: &mut Session, acked: Acked)
     ensures { session.new ≡ lost_if acked.lost (with_acknowledged acked.bytes session.old) }
 {
     session.acknowledged(acked.bytes);
-    if acked.lost {
+    lost_if(session, acked.lost);
+}
+
+/// Closes a session's window, where an ack made a number lost.
+fn lost_if(session: &mut Session, lost: bool)
+    ensures { session.new ≡ lost_if lost session.old }
+{
+    if lost {
         session.lost(false);
     }
 }

@@ -1,16 +1,14 @@
 //! The rules at their edges: what small sessions and flows do at each limit and beside it. Each is
 //! a function that does nothing, whose contract tells the values.
 
-ghost use Rattle.std.specs.Prelude.{◌≡◌, ◌∷◌, ℕ, List, [], Bool, true, false, Some, None, length};
-ghost use Rattle.std.specs.Prelude.{is_none};
+ghost use Rattle.std.specs.Prelude.{◌≡◌, ◌∷◌, ℕ, List, [], true, false, Some, None, length};
 ghost use Rattle.session_core.specs.declared.stage.Stage.TheVariants.{Opening, Open, NearClose};
 ghost use Rattle.session_core.specs.declared.stage.Stage.TheVariants.{FarLinger, Closed};
 ghost use Rattle.session_core.specs.Session.{SessionState};
 ghost use Rattle.flow_recv.specs.Receiver.{fresh};
 ghost use Rattle.flow_send.specs.declared.outcome.QueueRefusal.{QueueRefusal};
 ghost use Rattle.flow_send.specs.Acks.{told};
-ghost use Rattle.flow_send.specs.Edges.{numbers, unsent, flying, lost, acked, given_up};
-ghost use Rattle.flow_send.specs.Edges.{with_blocks, acked_up_to, three};
+ghost use Rattle.flow_send.specs.Edges.{numbers, unsent, flying, three, with_blocks};
 ghost use Rattle.session_flows.specs.declared.taking.TakingFlow.{TakingFlow};
 ghost use Rattle.session_flows.specs.Keeping.{FlowsState, no_flows, in_taking, Opened, Queued};
 ghost use Rattle.session_flows.specs.Keeping.{Abandoned, Finished, Handed};
@@ -22,8 +20,7 @@ ghost use Rattle.session_flows.specs.Told.{begins_with_a};
 ghost use Rattle.session_flows.specs.Causes.{data_cause, ack_cause, probe_cause, exception_cause};
 ghost use Rattle.session_flows.specs.Causes.{chunk_cause};
 ghost use Rattle.rtmfp_data_chunks.specs.Chunk.{Data, Next, Probe, Exception};
-ghost use Rattle.session_flows.specs.Chunks.{rejecting, chunk_done, session_after, data_taken};
-ghost use Rattle.session_flows.specs.Handing.{ready_in};
+ghost use Rattle.session_flows.specs.Chunks.{rejecting, chunk_done, session_after, session_heard};
 ghost use Rattle.session_flows.specs.Owing.{acks_put, is_full_for, owes};
 ghost use Rattle.session_flows.specs.Packing.{first_to_send, goes, follows, packing, packs};
 ghost use Rattle.session_flows.specs.Packing.{is_data_due};
@@ -32,7 +29,7 @@ ghost use Rattle.session_flows.specs.Edges.{taking_with, fresh_at, owed_at, flow
 ghost use Rattle.session_flows.specs.Edges.{in_stage, no_limits, one_flow, one_message};
 ghost use Rattle.session_flows.specs.Edges.{two_messages, finished_flow, metadata, answering};
 ghost use Rattle.session_flows.specs.Edges.{made_answering, sending_some, sending_none, numbers_of};
-ghost use Rattle.session_flows.specs.Edges.{untimed, with_deadline};
+ghost use Rattle.session_flows.specs.Edges.{untimed, with_deadline, with_window};
 ghost use Rattle.session_flows.specs.Timing.{overdue_in, overdue_done, session_late};
 ghost use Rattle.session_core.specs.Congestion.{shrunk};
 
@@ -159,6 +156,14 @@ pub fn causes_of_acks_probes_and_exceptions()
         (flows_of [] (fresh_at 0 ∷ [])) 0 ≡ Some FlowCause.UnknownFlow }
 {}
 
+/// An ack of 2 bytes that makes a number lost opens a window of 10,000 bytes first: half of 10,002
+/// is left, and not half of 10,000, from which on 2 bytes would add nothing.
+pub fn an_ack_that_makes_a_number_lost()
+    ensures { (session : SessionState) → (session_heard (with_window 10000 session)
+        (flows_of (flow_with 0 4 (numbers (flying 1 2 (7 ∷ []) ∷ flying 2 0 (7 ∷ 8 ∷ []) ∷ [])) ∷ [])
+        []) 0 (told 64 0 ((2, 2) ∷ []))).congestion ≡ record { window = 5001; threshold = 5001 } }
+{}
+
 /// An exception abandons all messages that wait, by rising numbers, and finishes the flow.
 pub fn an_exception()
     ensures all { (rejecting two_messages 0).stated
@@ -263,16 +268,6 @@ pub fn chunks()
         (Exception 0 7) ≡ Some FlowCause.UnknownFlow }
     ensures closing { (session : SessionState) → chunk_cause (in_stage NearClose session) no_flows
         (Next (chunk_of_flow 5 1 metadata)) ≡ Some FlowCause.WrongState }
-{}
-
-/// A session that has ended hands over nothing that a stopped call left ready.
-pub fn what_was_left_ready()
-    ensures held { (session : SessionState) → ready_in (in_stage Open session)
-        (data_taken no_flows (chunk_of_flow 5 1 metadata)) ≡ Some 5 }
-    ensures ended { (session : SessionState) → ready_in (in_stage NearClose session)
-        (data_taken no_flows (chunk_of_flow 5 1 metadata)) ≡ None }
-    ensures none { (session : SessionState) → ready_in (in_stage Open session)
-        (data_taken no_flows (chunk_of_flow 5 2 metadata)) ≡ None }
 {}
 
 /// A message is abandoned at a tick above its deadline, also in a half-open session, and not in

@@ -1,6 +1,6 @@
 //! What a tick makes lost, and which messages it abandons.
 
-ghost use Rattle.std.specs.Prelude.{◌≡◌, map, is_some, IfSome, None};
+ghost use Rattle.std.specs.Prelude.{◌≡◌, map, IfSome, None};
 ghost use Rattle.std.specs.List.{list_any, position};
 ghost use Rattle.session_flows.specs.Timing.{after_late, session_late, overdue_in, overdue_done};
 ghost use Rattle.session_flows.specs.Timing.{has_late, losing, has_overdue};
@@ -25,13 +25,6 @@ impl Flows {
         if lose(&mut self.sending, moment, session.resend_after()) {
             session.lost(true);
         }
-    }
-
-    /// Whether a message is to be abandoned at a tick. It takes no memory.
-    pub fn any_overdue(&self, session: &Session, moment: u64) -> bool
-        ensures { result ≡ is_some (overdue_in session.now self.now moment) }
-    {
-        is_held(session.stage()) && any_overdue(&self.sending, moment)
     }
 
     /// The first message that is to be abandoned at a tick: its flow and its number. It takes no
@@ -65,12 +58,6 @@ impl Flows {
         let seq = sender.overdue(moment)?;
         Some((at as u64, seq))
     }
-}
-
-fn any_overdue(sending: &[FlowSender], moment: u64) -> bool
-    ensures { result ≡ list_any (has_overdue moment) sending.now }
-{
-    sending.iter().any(|f| f.any_overdue(moment))
 }
 
 /// The index of the first flow that has a message to be abandoned.
