@@ -1,10 +1,13 @@
-use Rattle.std.proofs.Common.{◌≡◌, ◌<◌, ◌+◌, ◌∙◌, ℕ, List, Some, None, length, get_or, slice_set, refl, sym, ap}
+use Rattle.std.proofs.Common.{rules, ◌≡◌, ◌<◌, ◌+◌, ◌∙◌, ℕ, List, Some, None, length, get_or, slice_set, refl, sym, ap}
 use Rattle.std.proofs.lemmas.List.{length-set, get_or-set_same, get_or-set_other, get_or_default}
 use Rattle.keyed_slab.specs.KeyedSlab.{generation_in}
 use Rattle.keyed_slab.specs.Inside.{place_in}
 use Rattle.keyed_slab.specs.declared.keyed_slab.Place.TheVariants.{Spent}
 use Rattle.keyed_slab.proofs.Placing.{covered, is_removed}
 use Rattle.keyed_slab.proofs.keyed_slab.KeyedSlab.remove.Goals as goal
+
+pub overflow_add-generation : goal.overflow_add-generation
+overflow_add-generation g c = search rules
 
 -- what is read there is what is kept
 kept_there : (generations : List ℕ) (slot read : ℕ) → slot < length generations → read ≡ get_or generations slot read → read ≡ generation_in generations slot
