@@ -20,9 +20,6 @@ use Rattle.session_table.specs.declared.sealing.Sealed.{Sealed}
 abbrev pub near_of : Row → ℕ
 near_of row = row.session.joined.near
 
-abbrev pub itself : Row → Row
-itself row = row
-
 abbrev pub entry_of : Row → ℕ × Row
 entry_of row = (near_of row, row)
 
