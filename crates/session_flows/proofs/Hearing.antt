@@ -8,16 +8,16 @@ use Rattle.flow_send.specs.declared.outcome.AckFault.{AckFault}
 use Rattle.flow_send.specs.declared.outcome.AckFault.TheVariants.{AckBeyond as BeyondSent}
 use Rattle.flow_send.specs.declared.waiting.Waiting.{Waiting}
 use Rattle.flow_send.specs.Sender.{Sender, next_of, message_at, abandoned, abandoned_with, finish_by}
-use Rattle.flow_send.specs.Acks.{Told, new_bytes, makes_lost, told_by}
+use Rattle.flow_send.specs.Acks.{Told, told_by}
 use Rattle.flow_send.specs.Flow.{Flow, with_sender, is_finished}
 use Rattle.glare_core.specs.Calls.{where_true, first_that_stands}
 use Rattle.session_core.specs.Session.{SessionState}
-use Rattle.session_core.specs.Closing.{is_held, with_acknowledged}
+use Rattle.session_core.specs.Closing.{is_held}
 use Rattle.session_flows.specs.declared.cause.FlowCause.{FlowCause}
 use Rattle.session_flows.specs.declared.cause.FlowCause.TheVariants.{WrongState, UnknownFlow, FlowsFull}
 use Rattle.session_flows.specs.Keeping.{FlowsState, sending_at, with_flow, with_sending, Abandoned}
 use Rattle.session_flows.specs.Causes.{early_cause, is_there, is_unknown, is_one_too_many, flow_cause}
-use Rattle.session_flows.specs.Chunks.{heard, heard_by, session_heard, opened_by, lost_if, all_abandoned, without_messages, rejecting, rejecting_by, waiting_at, waiting_by, numbers_of, last_by, finished_at}
+use Rattle.session_flows.specs.Chunks.{heard, heard_by, session_heard, opened_by, all_abandoned, without_messages, rejecting, rejecting_by, waiting_at, waiting_by, numbers_of, last_by, finished_at}
 use Rattle.session_flows.proofs.Calls.{flow_put}
 
 -- ---- an ack
@@ -26,12 +26,8 @@ pub heard_put : (s : FlowsState) (id at : ℕ) (a : Told) (f g : Flow) → at �
 heard_put s id at a f g place there e =
     sym (ap (λ (o : Option Flow). heard_by s id a o) there ∙ ap (λ (x : Flow). with_flow s id x) (sym e) ∙ flow_put s id at g place)
 
-pub heard_session : (session : SessionState) (s : FlowsState) (id : ℕ) (a : Told) (f : Flow) (acked : Acked) → sending_at s id ≡ Some f → acked.bytes ≡ new_bytes a (f.sender.forward + 1) f.sender.rows → acked.lost ≡ makes_lost a f.sender →
-    lost_if acked.lost (with_acknowledged acked.bytes session) ≡ session_heard session s id a
-heard_session session s id a f acked there bytes lost =
-    ap (λ (n : ℕ). lost_if acked.lost (with_acknowledged n session)) bytes
-    ∙ ap (λ (b : Bool). lost_if b (with_acknowledged (new_bytes a (f.sender.forward + 1) f.sender.rows) session)) lost
-    ∙ sym (ap (λ (o : Option Flow). opened_by session a o) there)
+pub heard_session : (session : SessionState) (s : FlowsState) (id : ℕ) (a : Told) (f : Flow) → sending_at s id ≡ Some f → opened_by session a (Some f) ≡ session_heard session s id a
+heard_session session s id a f there = sym (ap (λ (o : Option Flow). opened_by session a o) there)
 
 answers : {acked : Acked} {e : AckFault} → ◌≡◌ {A = Result Acked AckFault} (Ok acked) (Err e) → ⊥
 answers e = absurd cc

@@ -6,7 +6,7 @@ use Rattle.flow_send.specs.Flow.{Flow, with_sender}
 use Rattle.session_core.specs.Closing.{is_held}
 use Rattle.session_flows.specs.Keeping.{FlowsState, sending_at}
 use Rattle.session_flows.specs.Causes.{ack_cause}
-use Rattle.session_flows.specs.Chunks.{heard, session_heard}
+use Rattle.session_flows.specs.Chunks.{heard, session_heard, opened_by}
 use Rattle.session_flows.proofs.Sounds.{sound_set}
 use Rattle.session_flows.proofs.Calls.{flow_there}
 use Rattle.session_flows.proofs.Takes.{ack_taken, no_cause}
@@ -36,8 +36,9 @@ returns-clause-session c =
     let before : FlowsState = record { sending = c.self.inside.sending.items; taking = c.self.inside.taking.items } in
     let within : c.in-Some.at < length c.self.inside.sending.items = subst (λ (s : FlowsState). c.in-Some.at < length s.sending) (sym c.self.view_is) c.in-Some.ensures.1 in
     let there : sending_at before c.args.flow ≡ Some c.index_mut-sender.result.now = flow_there before c.args.flow c.in-Some.at c.index_mut-sender.result.now c.in-Some.ensures.0 within c.index_mut-sender.ensures.value in
+    let opened : c.tell.new.session ≡ opened_by c.args.session.now (told c.args.blocks c.args.upto c.args.spans) (Some c.index_mut-sender.result.now) = search rules in
     subst (λ (s : FlowsState). c.tell.new.session ≡ session_heard c.args.session.now s c.args.flow (told c.args.blocks c.args.upto c.args.spans)) c.self.view_is
-    (c.tell.ensures ∙ heard_session c.args.session.now before c.args.flow (told c.args.blocks c.args.upto c.args.spans) c.index_mut-sender.result.now c.in-Ok.acked there c.in-Ok.ensures.bytes c.in-Ok.ensures.lost)
+    (opened ∙ heard_session c.args.session.now before c.args.flow (told c.args.blocks c.args.upto c.args.spans) c.index_mut-sender.result.now there)
 
 pub returns-clause-cause : goal.returns-clause-cause
 returns-clause-cause c =
