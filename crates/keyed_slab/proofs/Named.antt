@@ -1,20 +1,18 @@
 -- What is found in the slots under a near id.
-use Rattle.std.proofs.Common.{ℕ, zero, suc, ◌≡◌, ◌≢◌, ◌<◌, List, [], ◌∷◌, map, length, get_or, set, cond, Bool, true, false, Option, Some, None, is_some, refl, sym, ap, subst, ◌∙◌, inl, inr, ⊎_elim, T, ◌&&◌}
+use Rattle.std.proofs.Common.{ℕ, zero, suc, ◌≡◌, List, [], ◌∷◌, map, length, cond, Bool, true, false, Option, Some, None, is_some, refl, sym, ap, subst, ◌∙◌, inl, inr, T, ◌&&◌}
 use Rattle.std.specs.Option.{option_map}
 use Rattle.std.specs.Ordering.{nat_cmp, eq_by_cmp, is_lt}
 use Rattle.std.specs.Cmp.{nat_cmp_total}
-use Rattle.std.specs.FinMap.{FinMap, get, insert, remove, len, entries, from_sorted, from_entries, get-from_entries, get-from_sorted, get-entries, len-entries, entries-from_sorted, entries_sorted, is_sorted}
+use Rattle.std.specs.FinMap.{FinMap, get, len, entries, from_sorted, get-from_entries, get-from_sorted, get-entries, len-entries, entries-from_sorted, entries_sorted, is_sorted}
 use Rattle.std.specs.FinMap as fin
 use Rattle.std.specs.FinMap.Entries.{below_all}
-use Rattle.std.proofs.lemmas.Bool.{cases_eq}
-use Rattle.std.proofs.lemmas.List.{length-map, get_or-set_same, get_or-set_other}
+use Rattle.std.proofs.lemmas.List.{length-map}
 use Rattle.std.proofs.lemmas.Option.{none-some, same_Some}
-use Rattle.rtmfp_base.proofs.Maps.{same_tables, same_or_not, get_inserted, get_beside, get_removed, get_left}
+use Rattle.rtmfp_base.proofs.Maps.{same_tables, same_or_not}
 use Rattle.keyed_slab.specs.declared.keys.Key.{Key}
 use Rattle.keyed_slab.specs.Keys.{KeyTable}
-use Rattle.keyed_slab.specs.KeyedSlab.{generation_in, thing_in, IsChangedAt}
-use Rattle.keyed_slab.specs.Seating.{present, keyed_by, key_to, table_in, IsSeat, IsNamed}
-use Rattle.keyed_slab.proofs.Placing.{within}
+use Rattle.keyed_slab.specs.KeyedSlab.{thing_in}
+use Rattle.keyed_slab.specs.Seating.{present, keyed_by, key_to, table_in, IsNamed}
 
 -- ---- maps with the same keys are as long as one another
 

@@ -1,5 +1,5 @@
 -- Keys, deadlines and set still name the same things once a thing comes, changes or goes.
-use Rattle.std.proofs.Common.{ℕ, ◌≡◌, ◌≢◌, ◌<◌, ◌≤◌, List, [], length, get_or, set, Bool, true, false, Option, Some, None, refl, sym, ap, subst, ◌∙◌, arith, ⊎_elim}
+use Rattle.std.proofs.Common.{ℕ, ◌≡◌, ◌≢◌, ◌<◌, ◌≤◌, List, [], length, set, Bool, false, Option, Some, None, refl, sym, ap, subst, ◌∙◌, arith, ⊎_elim}
 use Rattle.std.specs.Option.{option_map}
 use Rattle.std.specs.Ordering.{nat_cmp}
 use Rattle.std.specs.FinMap.{empty, get, get-empty, insert, remove}
@@ -12,7 +12,7 @@ use Rattle.keyed_slab.specs.declared.keys.Key.{Key}
 use Rattle.keyed_slab.specs.Keys.{KeyTable}
 use Rattle.keyed_slab.specs.KeyedSlab.{generation_in, thing_in, IsChangedAt}
 use Rattle.keyed_slab.specs.SlotSet.{Flags, flag_of}
-use Rattle.keyed_slab.specs.Seating.{keyed_by, key_to, table_in, deadline_in, busy_in, IsTimedAt, IsMarkedAt, IsSeat, IsNamed, IsKept, IsLoose}
+use Rattle.keyed_slab.specs.Seating.{keyed_by, key_to, table_in, deadline_in, busy_in, IsSeat, IsNamed, IsKept, IsLoose}
 use Rattle.keyed_slab.proofs.Placing.{within}
 use Rattle.keyed_slab.proofs.Named.{found_by, in_slot, one_slot}
 

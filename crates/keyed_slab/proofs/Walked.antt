@@ -25,9 +25,6 @@ at_most n m t = grind (arith, nat_tests)
 above : (n m : ℕ) → nat_le n m ≡ false → m < n
 above n m t = grind (arith, nat_tests)
 
-is_at_most : (n m : ℕ) → n ≤ m → nat_le n m ≡ true
-is_at_most n m l = grind (arith, nat_tests)
-
 -- one more is among the first
 pub one_more : (slots : List ℕ) (count slot k : ℕ) → slot_at slots count ≡ slot → IsWithin slots (count + 1) k → IsWithin slots count k ⊎ (k ≡ slot)
 one_more slots count slot k is w = ⊎_elim

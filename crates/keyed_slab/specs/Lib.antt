@@ -1,5 +1,6 @@
 pub mod KeyedSlab
 pub mod Calls
+pub mod Edges
 pub mod Keys
 pub mod Lends
 pub mod Inside

@@ -3,6 +3,7 @@
 //! Only what is called `reserve` takes memory.
 #![tactic(auto)]
 
+pub mod edges;
 mod keyed_slab;
 mod keys;
 pub mod laws;
