@@ -1,6 +1,6 @@
 //! Tests of a node on a network, through public items alone: each link, clock, random source and
-//! spawner in memory by its rows, each that is over the machine with the real thing, and the words
-//! of `serve` and `meet`.
+//! spawner in memory by its rows, each that is over the machine with the real thing, the words of
+//! `serve` and `meet`, and the faults of what is outside, through the top call.
 #![tactic(auto)]
 
 #[cfg(test)]
@@ -9,6 +9,8 @@ mod machine;
 mod meeting;
 #[cfg(test)]
 mod memory;
+#[cfg(test)]
+mod outside;
 #[cfg(test)]
 mod serving;
 #[cfg(test)]

@@ -127,7 +127,7 @@ fn blocks(alloc: Global) -> Result<Vec<[u8; 64]>, AllocError> {
 }
 
 /// The words of a line, in which P stands for 64 digits.
-fn words_of(alloc: Global, line: &str) -> Result<Vec<String>, Fail> {
+pub(crate) fn words_of(alloc: Global, line: &str) -> Result<Vec<String>, Fail> {
     let mut words = Vec::new(alloc);
     for word in line.split(' ') {
         let mut owned = String::new(alloc);

@@ -119,7 +119,7 @@ fn sink_of(alloc: Global, row: &str) -> Result<FaultySink, AllocError> {
 }
 
 /// The words of a command, which stand in a text with blanks between them.
-pub(crate) fn words_of(alloc: Global, text: &str) -> Result<Vec<String>, AllocError> {
+fn words_of(alloc: Global, text: &str) -> Result<Vec<String>, AllocError> {
     let mut words = Vec::new(alloc);
     for word in text.split(' ') {
         words.push(String::from_str(alloc, word)?)?;

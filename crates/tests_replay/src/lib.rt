@@ -11,8 +11,6 @@ mod host;
 #[cfg(test)]
 mod introductions;
 #[cfg(test)]
-mod outside;
-#[cfg(test)]
 mod report;
 #[cfg(test)]
 mod running;

@@ -3,7 +3,7 @@
 ghost use Rattle.std.specs.Prelude.{◌≡◌, None, IfOk};
 ghost use Rattle.rtmfp_host.specs.Children.{spawner_status};
 
-use crate::cli::words_of;
+use crate::serving::words_of;
 use rtmfp_base::Message;
 use rtmfp_cli::{Status, run};
 use rtmfp_host::{
@@ -13,8 +13,8 @@ use rtmfp_host::{
 use std::alloc::{AllocError, Global};
 use std::test::Fail;
 
-const SERVE: &str = "serve 10.0.0.1:1935 \
-0000000000000000000000000000000000000000000000000000000000000000 node --turns 2";
+/// A node of two turns; P stands for 64 digits.
+const SERVE: &str = "serve 10.0.0.1:1935 P node --turns 2";
 
 const MEET: &str = "meet --port 40100 --turns 200";
 
@@ -38,7 +38,7 @@ fn children(alloc: Global, status: i32) -> Result<MemorySpawner, AllocError>
 
 /// How a run by these words ends where the first bind, draw or start fails, or the first child ends
 /// with a status.
-fn status_of(alloc: Global, words: &str, fails: &str, child: i32) -> Result<Status, AllocError> {
+fn status_of(alloc: Global, words: &str, fails: &str, child: i32) -> Result<Status, Fail> {
     let words = words_of(alloc, words)?;
     let binds = first(alloc, fails == "bind")?;
     let draws = first(alloc, fails == "draw")?;
