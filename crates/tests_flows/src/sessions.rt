@@ -153,7 +153,7 @@ fn goes_again(from: &mut Flows, to: &mut Flows) -> bool {
     let _lost = filled(from, &here, 0);
     let second = filled(from, &here, 0);
     let passed = delivers(&second, &[0x10, 0x11, 0x11], &mut there, to)
-        && to.ready(&there).is_none()
+        && to.hand_next(0).is_none()
         && delivers(&acks(to), &[0x51], &mut here, from);
     from.lose_late(&mut here, 999);
     let early = from.is_data_due(&here, 999);
