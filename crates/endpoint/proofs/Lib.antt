@@ -11,3 +11,5 @@ mod Falling
 mod Endings
 mod Walking
 mod Acking
+pub mod Reaching
+mod HeldThere

@@ -3,3 +3,5 @@ pub mod Kinds
 pub mod StreamKeys
 pub mod DueItems
 pub mod Walks
+pub mod Reached
+pub mod Holding

@@ -7,6 +7,7 @@ ghost use Rattle.endpoint_model.specs.Log.{Extends, cancel_event, open_event};
 ghost use Rattle.endpoint_model.specs.State.{Done, at_moment, nothing};
 
 use crate::endpoint::Endpoint;
+use crate::sizes::{are_sized, are_thirty_two};
 use end_state::{EndState, Outbox, blanks};
 use endpoint_model::{CallRefusal, Draws, Entry, OpenRefusal};
 use identity::Epd;
@@ -46,6 +47,8 @@ impl Endpoint {
             (open_event moment epd.now.print candidates.now draws.now result out.old.entries
             out.new.entries) }
     {
+        are_thirty_two(&epd.print);
+        are_sized(draws);
         self.end.advance(moment);
         if let Some(refusal) = open_refusal(&self.end, epd, candidates) {
             return Err(refusal);

@@ -3,6 +3,7 @@
 ghost use Rattle.std.specs.Prelude.{◌≡◌};
 ghost use Rattle.endpoint.specs.Keeps.{keeps};
 
+use crate::sizes::are_thirty_two;
 use end_state::EndState;
 use endpoint_model::Config;
 use glare_core::Held;
@@ -23,12 +24,16 @@ pub struct Endpoint {
 impl Model for Endpoint {
     ghost use Rattle.endpoint_model.specs.State.{State};
     ghost use Rattle.end_state.specs.contracts.end_state.EndState as end_type;
+    ghost use Rattle.endpoint.specs.Reached.{IsReached};
 
     ghost Value = { State };
 
     ghost coded = { end_type.the_row.coded };
 
     ghost view = { λ e. e.end };
+
+    // Some log leads to it, so what holds for all logs holds of each end.
+    ghost invariant = { λ e. IsReached e.end };
 }
 
 impl Endpoint {
@@ -62,6 +67,9 @@ impl Endpoint {
           cookie_secret = cookie_secret;
         }) [] result }
     {
+        let _form = cert.bytes();
+        are_thirty_two(&secret);
+        are_thirty_two(&cookie_secret);
         Endpoint {
             end: EndState::new(alloc, config, cert, secret, cookie_secret),
         }

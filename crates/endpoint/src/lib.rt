@@ -7,11 +7,13 @@ mod closing;
 mod contexts;
 mod endpoint;
 mod flow_calls;
+mod holding;
 mod introducing;
 mod kinds;
 pub mod laws;
 mod receiving;
 mod session_ticking;
+pub mod sizes;
 mod ticking;
 
 pub use end_state::Outbox;

@@ -21,6 +21,7 @@ ghost use Rattle.endpoint.specs.Walks.{walked_and_tested};
 
 use crate::admission::{fault_number, has_mode, mode_at, open_datagram};
 use crate::endpoint::Endpoint;
+use crate::sizes::{are_bytes, are_sized};
 use end_chunks::{take_chunk, test};
 use end_state::{EndState, Outbox, PLAIN_AT, blank};
 use endpoint_model::{Draws, Entry, Place, Stopped, Walk};
@@ -67,6 +68,8 @@ impl Endpoint {
             (receive_event from moment datagram.old draws.now result out.old.entries
             out.new.entries) }
     {
+        are_bytes(datagram);
+        are_sized(draws);
         self.end.advance(moment);
         self.end.look_up(datagram);
         match open_datagram(&self.end, datagram) {

@@ -4,6 +4,7 @@ use Rattle.introducer.specs.Directory.{row_refusal}
 use Rattle.endpoint_model.specs.State.{State}
 use Rattle.endpoint_model.specs.Introducing.{with_redirect}
 use Rattle.endpoint.proofs.Extending.{on_ok, on_err, row_extends}
+use Rattle.endpoint.proofs.Reaching.{reached_more}
 use Rattle.endpoint.proofs.endpoint.Endpoint.add_row.Goals as goal
 
 pub returns-clause-stands : goal.returns-clause-stands
@@ -14,3 +15,8 @@ returns-clause-stands c =
     (on_err r (λ e. e ∙ c.self.view_is) c.add_row.ensures.err)
     (subst (λ (s : State). IfSome (row_refusal s.redirects c.args.print (length c.args.addresses.now)) (λ refusal. r ≡ Err refusal)) c.self.view_is c.add_row.ensures.refused)
     (subst (λ (s : State). IfNone (row_refusal s.redirects c.args.print (length c.args.addresses.now)) (IfErr r (λ refusal. refusal ≡ NoMemory))) c.self.view_is c.add_row.ensures.memory)
+
+pub invariant_of-self : goal.invariant_of-self
+invariant_of-self c =
+    reached_more c.self.inside.end c.add_row.new.self _ c.self.invariant
+    (row_extends c.self.inside.end c.add_row.new.self c.args.print c.args.addresses.now c.add_row.result c.add_row.ensures.ok c.add_row.ensures.err c.add_row.ensures.refused c.add_row.ensures.memory) tt

@@ -5,6 +5,7 @@ use Rattle.endpoint_model.specs.OnFlows.{call_refusal, flow_called}
 use Rattle.endpoint_model.specs.Log.{not_called}
 use Rattle.endpoint_model.specs.State.{State, Done, nothing}
 use Rattle.endpoint.proofs.Extending.{called_extends, uncalled_extends, nothing_done}
+use Rattle.endpoint.proofs.Reaching.{reached_more}
 use Rattle.endpoint.proofs.endpoint.Endpoint.finish.Goals as goal
 
 pub returns-in-Some-clause-stands : goal.returns-in-Some-clause-stands
@@ -24,3 +25,13 @@ returns-in-Err-clause-stands c =
     uncalled_extends (Unit {0}) c.args.self.now c.finish_held.new.end c.args.near (Finish c.args.flow) NoMemory c.args.out.now c.finish_held.new.out
     (ap not_called (c.in_default.ensures ∙ ap (λ (s : State). call_refusal s c.args.near (Finish c.args.flow)) c.self.view_is))
     (subst (λ (s : State). Done (nothing s) c.finish_held.new.end c.args.out.now c.finish_held.new.out) c.self.view_is c.in-Err.ensures.err)
+
+pub invariant_of-self : goal.invariant_of-self
+invariant_of-self c =
+    reached_more c.self.inside.end c.finish_held.new.end _ c.self.invariant
+    (uncalled_extends (Unit {0}) c.self.inside.end c.finish_held.new.end c.args.near (Finish c.args.flow) NoMemory c.args.out.now c.finish_held.new.out (ap not_called c.in_default.ensures) c.in-Err.ensures.err) tt
+
+pub invariant_of-self-2 : goal.invariant_of-self-2
+invariant_of-self-2 c =
+    reached_more c.self.inside.end c.finish_held.new.end _ c.self.invariant
+    (called_extends {A = Unit {0}} c.self.inside.end c.finish_held.new.end c.args.near (Finish c.args.flow) tt c.args.out.now c.finish_held.new.out (sym c.in_default.ensures) c.in-Ok.ensures.ok) tt

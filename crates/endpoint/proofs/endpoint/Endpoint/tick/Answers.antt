@@ -3,6 +3,7 @@ use Rattle.endpoint_model.specs.State.{State, at_moment}
 use Rattle.endpoint_model.specs.FlowTimes.{all_late}
 use Rattle.endpoint.proofs.Begun.{SomeDone}
 use Rattle.endpoint.proofs.Extending.{tick_extends}
+use Rattle.endpoint.proofs.Reaching.{reached_more}
 use Rattle.endpoint.proofs.endpoint.Endpoint.tick.Goals as goal
 
 pub returns-clause-some : goal.returns-clause-some
@@ -16,3 +17,9 @@ returns-clause-stands c =
 -- so that a wrong body is refused fast
 pub returns-clause-left : goal.returns-clause-left
 returns-clause-left c = search rules
+
+pub invariant_of-self : goal.invariant_of-self
+invariant_of-self c =
+    reached_more c.self.inside.end c.do_due.new.end _ c.self.invariant
+    (tick_extends c.self.inside.end c.do_due.new.end c.args.moment c.args.draws.now c.do_due.result c.args.out.now c.do_due.new.out
+    (subst (λ (s : State). SomeDone s c.do_due.new.end c.args.out.now c.do_due.new.out) (c.lose_late.ensures ∙ ap (λ (s : State). all_late s) c.advance.ensures) c.do_due.ensures.some) c.do_due.ensures.all) tt
