@@ -48,9 +48,9 @@ impl Endpoint {
     /// from is tested where it is another one than the session's (RFC 7016 section 3.5.4.2).
     ///
     /// Where no memory is found the call stops: `Stopped` tells whether the datagram was taken, and
-    /// how many of its chunks were gone through: all of them, where the test found none. Where it
-    /// wasn't taken all is as before but for the moment. A datagram that adds discards alone, or
-    /// nothing, asks for no memory where the outbox has room for them.
+    /// how many of its chunks were gone through: all of them, where the test or a packet of acks
+    /// found none. Where it wasn't taken all is as before but for the moment. A datagram that adds
+    /// discards alone, or nothing, asks for no memory where the outbox has room for them.
     pub fn receive(
         &mut self,
         from: Address,
