@@ -21,6 +21,7 @@ use Rattle.endpoint_model.specs.Log.{Step as StepOf}
 use Rattle.endpoint_laws.specs.Laws.{AreBytes, IsCall, AreCalls}
 use Rattle.endpoint_laws.specs.History.{Happened, History, log_of, past_at, IsHonestCall, IsHonest, WasSent, nonces_in}
 use Rattle.endpoint_laws.proofs.Opened.{opens_in_found}
+use Rattle.endpoint.proofs.Reaching.{calls_more}
 use Rattle.rendezvous_world.specs.declared.journal.JournalLine.{JournalLine}
 use Rattle.rendezvous_world.specs.declared.step.Step.{Step}
 use Rattle.rendezvous_world.specs.declared.step.Step.TheVariants.{End, At, Introduce, Redirect, Open, Cancel, Close, Flow, Queue, Abandon, Finish, Deliver, Bent, Inject, Forge, Tick}
@@ -37,7 +38,7 @@ use Rattle.rendezvous_world.specs.Faults.{is_missing, lacks_end, lacks_datagram,
 use Rattle.rendezvous_world.specs.Kept.{IsGiven, name_of, print_of, HasPeer, IsLineIn, IsOfLine, IsWorld}
 use Rattle.endpoint_laws.proofs.Drawn.{Once, MayDraw, answers_draw, nonces_none, nonces_once}
 use Rattle.rendezvous_world.proofs.Ends.{tested, setup_is, below_length, setups_stay, length-with_state, changed_end, other_end, was_there, apart_with_state}
-use Rattle.rendezvous_world.proofs.Told.{SameSetups, same_happened, same_lines, one_more_line, all_more, rise_more, of_line_stays, of_line_new, number_below, log_same, log_other, calls_more, honest_same}
+use Rattle.rendezvous_world.proofs.Told.{SameSetups, same_happened, same_lines, one_more_line, all_more, rise_more, of_line_stays, of_line_new, number_below, log_same, log_other, honest_same}
 use Rattle.rendezvous_world.proofs.Forging.{was_sent}
 use Rattle.rendezvous_world.proofs.Noting.{IsGivenFrom, opens_noted, stands_more}
 

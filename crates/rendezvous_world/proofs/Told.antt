@@ -2,7 +2,6 @@
 use Rattle.std.proofs.Common.{◌≡◌, ◌≢◌, ℕ, ◌<◌, ◌≤◌, List, [], ◌∷◌, ◌++◌, Bool, if◌then◌else◌, Option, inl, inr, ◌⊎◌, refl, sym, ap, subst, ◌∙◌, arith}
 use Rattle.std.specs.List.{AllByRecursion}
 use Rattle.endpoint_model.specs.Event.{Setup, own_of, Call, AddRow, Open as OpenCall, Event}
-use Rattle.endpoint_laws.specs.Laws.{IsCall, AreCalls}
 use Rattle.endpoint_laws.specs.History.{Happened, History, log_of, past_at, IsHonestCall, IsHonest, TakesPart}
 use Rattle.rendezvous_world.specs.declared.journal.JournalLine.{JournalLine}
 use Rattle.rendezvous_world.specs.declared.step.Step.{Step}
@@ -128,10 +127,6 @@ log_other who h earlier other = elim (tested h.who who) [
 pub log_absent : (who : ℕ) (history : History) → (TakesPart who history → ⊥) → log_of who history ≡ []
 log_absent who [] absent = refl
 log_absent who (h ∷ earlier) absent = log_other who h earlier (λ is. absent (inl (sym is))) ∙ log_absent who earlier (λ later. absent (inr later))
-
-pub calls_more : (log : List Event) (e : Event) → AreCalls log → IsCall e.call → AreCalls (log ++ e ∷ [])
-calls_more [] e are is = (is, tt)
-calls_more (first ∷ log) e are is = (are.0, calls_more log e are.1 is)
 
 -- ---- honest by what its ends were given
 

@@ -1,11 +1,11 @@
 //! The calls of the end, each with its report.
-ghost use Rattle.std.specs.Prelude.{◌≡◌, ◌<◌, ◌≤◌, ◌^◌, ◌∷◌, [], OnOk, drop, length};
+ghost use Rattle.std.specs.Prelude.{◌≡◌, ◌≤◌, ◌∷◌, [], OnOk, drop, length};
 ghost use Rattle.endpoint_model.specs.Event.{Done, Receive, Tick};
-ghost use Rattle.endpoint_laws.specs.Laws.{AreBytes};
 ghost use Rattle.rtmfp_node.specs.Acting.{ActsIn, DidCall, DidOpen, added, noted_more};
 ghost use Rattle.rtmfp_node.specs.Events.{event_of, opens_flow, queues};
 
 use crate::notes::Notes;
+use endpoint::sizes::{are_bytes, are_sized, are_thirty_two};
 use endpoint::{Draws, Endpoint, MessageOptions, Outbox};
 use identity::Epd;
 use rtmfp_forms::Address;
@@ -17,38 +17,6 @@ const PRIORITY: u8 = 4;
 
 /// The metadata of that flow.
 const METADATA: &[u8] = b"m";
-
-/// The bytes of a datagram are bytes. This and the next ones do nothing: they tell what the types
-/// say.
-fn are_bytes(datagram: &[u8])
-    ensures { AreBytes datagram.now }
-{}
-
-/// A fingerprint has 32 bytes.
-fn is_print(print: &[u8; 32])
-    ensures { length print.now ≡ 32 }
-{}
-
-/// Draws have their sizes.
-fn are_sized(draws: &Draws)
-    ensures nonce { length draws.now.nonce ≡ 16 }
-    ensures tag { length draws.now.tag ≡ 16 }
-    ensures token { length draws.now.token ≡ 16 }
-    ensures word { draws.now.word < 2 ^ 32 }
-{
-    are_sixteen(&draws.nonce);
-    are_sixteen(&draws.tag);
-    are_sixteen(&draws.token);
-    is_word(draws.word);
-}
-
-fn are_sixteen(bytes: &[u8; 16])
-    ensures { length bytes.now ≡ 16 }
-{}
-
-fn is_word(word: u32)
-    ensures { word < 2 ^ 32 }
-{}
 
 /// Notes the entries behind the first ones.
 fn note(turn: u64, before: usize, out: &Outbox, notes: &mut Notes) -> Result<(), AllocError>
@@ -119,7 +87,7 @@ pub(crate) fn open(
     ensures { OnOk result (DidOpen opening.now moment draws.now end.old end.new out.old.entries
         out.new.entries notes.old notes.new) }
 {
-    is_print(&opening.print);
+    are_thirty_two(&opening.print);
     are_sized(draws);
     let before = out.entries().len();
     let epd = Epd {

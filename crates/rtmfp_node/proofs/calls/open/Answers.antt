@@ -23,6 +23,6 @@ returns c =
       event = event_of c.args.moment call answer (added before after);
       opened = (answer, added before after, c.in_ok-settle_open.ensures.settled, refl);
       acts =
-          did_call 0 c.args.moment call answer c.args.end.now c.open-answer.new.self before after grown.0 c.args.notes.now c.settle_open.new.self grown.1 c.open-answer.ensures.stands (c.is_print.ensures, c.are_sized.ensures.nonce, c.are_sized.ensures.word, c.are_sized.ensures.tag)
+          did_call 0 c.args.moment call answer c.args.end.now c.open-answer.new.self before after grown.0 c.args.notes.now c.settle_open.new.self grown.1 c.open-answer.ensures.stands (c.are_thirty_two.ensures, c.are_sized.ensures.nonce, c.are_sized.ensures.word, c.are_sized.ensures.tag)
           (settled 0 (added before after) (refused_text 0 answer) c.args.notes.now c.note.new.notes c.settle_open.new.self noted c.in_ok-settle_open.ensures.text);
     }
