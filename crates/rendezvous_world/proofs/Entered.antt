@@ -17,8 +17,9 @@ use Rattle.rendezvous_world.specs.declared.step.StepFault.TheVariants.{Memory}
 use Rattle.rendezvous_world.specs.declared.step.Step.{Step}
 use Rattle.rendezvous_world.specs.declared.step.Step.TheVariants.{End, At, Introduce, Redirect, Open, Cancel, Close, Flow, Queue, Abandon, Finish, Deliver, Bent, Inject, Forge, Tick}
 use Rattle.rendezvous_world.specs.Seen.{EndSeen, Seen, print_at}
-use Rattle.rendezvous_world.specs.Line.{IsOne}
+use Rattle.rendezvous_world.specs.Line.{IsOne, IsWith}
 use Rattle.rendezvous_world.specs.Sent.{Sent, sent_among, sent_in}
+use Rattle.rendezvous_world.specs.Datagrams.{datagram_of}
 use Rattle.rendezvous_world.specs.Keyed.{AreKeys}
 use Rattle.rendezvous_world.specs.History.{bytes_or_none, call_of, moment_given, answer_of}
 use Rattle.rendezvous_world.specs.Stepping.{in_state, with_state, HasItsAnswer, Called, Allows, Noted}
@@ -90,6 +91,11 @@ call_same ends print line bytes datagram (Bent number place end from) p b = ap (
 call_same ends print line bytes datagram (Inject end from plain) p b = ap (λ (x : List ℕ). call_by print line x (Inject end from plain)) b
 call_same ends print line bytes datagram (Forge end from plain) p b = ap (λ (x : List ℕ). call_by print line x (Forge end from plain)) b
 call_same ends print line bytes datagram (Tick end) p b = refl
+
+-- what a step injects is its datagram
+is_with : (sent : List Sent) (datagram : Option (List ℕ)) (step : Step) → datagram ≡ datagram_of sent step → IsWith datagram step
+is_with sent datagram (Inject end from bytes) is = is
+is_with sent datagram _ is = tt
 
 -- what a call leaves that found no memory
 undone_is : (ends : List EndSeen) (print : List ℕ) (moment : ℕ) (step : Step) (old new : State) → print ≡ print_at ends (peer_of step) → IsUndone print moment step old new →
@@ -186,6 +192,9 @@ line_of number end moment step datagram refused stopped out = record {
 
 module _ (moment : ℕ) (ends : List EndKept) (named : List Named) (lines : List JournalLine) (starts : List ℕ) (sent : ℕ) (keyed : List ℕ) (kept : IsKept moment ends named lines starts sent keyed)
     (number end : ℕ) (step : Step) (datagram : Option (List ℕ)) (bytes : List ℕ) (entering : IsEntering (world_seen moment ends lines) number end step datagram bytes) where
+  pub with_datagram : IsWith datagram step
+  with_datagram = is_with (sent_in lines) datagram step entering.datagram
+
   there_is : end < length ends
   there_is = omega (arith, entering.there, length-map {B = EndSeen} ends end_seen)
 

@@ -1,5 +1,6 @@
 -- What a line of the journal tells, and how it is kept.
-use Rattle.std.specs.Prelude.{ℕ, ◌≡◌, List, Option, Some, None}
+use Rattle.std.specs.Prelude.{ℕ, ◌≡◌, List, [], Option, Some, None}
+use Rattle.rtmfp_forms.specs.Address.{AddressParts}
 use Rattle.glare_core.specs.declared.answers.StartRefusal.TheVariants.{Opening as HasAttempt, Open as HasSession, PeersFull as FullOfPeers, AttemptsSpent as HasSpent, OwnPrint as IsItself, Memory as NoMemoryToStart}
 use Rattle.endpoint_model.specs.Added.{Added}
 use Rattle.endpoint_model.specs.declared.answers.OpenRefusal.{OpenRefusal}
@@ -47,22 +48,37 @@ flow_kept end kept = Flow end kept.near kept.priority kept.metadata kept.answers
 abbrev pub queue_kept : ℕ → QueueKept → Step
 queue_kept end kept = Queue end kept.near kept.flow kept.options kept.message
 
--- the step that called this end
-abbrev pub step_kept : ℕ → KeptStep → Step
-step_kept end (KeptOpen peer list) = Open end peer list
-step_kept end (KeptCancel n) = Cancel end n
-step_kept end (KeptClose near) = Close end near
-step_kept end (KeptFlow kept) = flow_kept end kept.value
-step_kept end (KeptQueue kept) = queue_kept end kept.value
-step_kept end (KeptAbandon near flow seq) = Abandon end near flow seq
-step_kept end (KeptFinish near flow) = Finish end near flow
-step_kept end KeptIntroduce = Introduce end
-step_kept end (KeptRedirect peer list) = Redirect end peer list
-step_kept end (KeptDeliver from number) = Deliver number end from
-step_kept end (KeptBent from place number) = Bent number place end from
-step_kept end (KeptInject from bytes) = Inject end from bytes.value
-step_kept end (KeptForge from plain) = Forge end from plain.value
-step_kept end KeptTick = Tick end
+-- bytes that were injected stand in the line once, as its datagram
+abbrev pub inject_kept : ℕ → AddressParts → Option (List ℕ) → Step
+inject_kept end from None = Inject end from []
+inject_kept end from (Some bytes) = Inject end from bytes
+
+-- the step that called this end, on a line with this datagram
+abbrev pub step_kept : ℕ → Option (List ℕ) → KeptStep → Step
+step_kept end datagram (KeptOpen peer list) = Open end peer list
+step_kept end datagram (KeptCancel n) = Cancel end n
+step_kept end datagram (KeptClose near) = Close end near
+step_kept end datagram (KeptFlow kept) = flow_kept end kept.value
+step_kept end datagram (KeptQueue kept) = queue_kept end kept.value
+step_kept end datagram (KeptAbandon near flow seq) = Abandon end near flow seq
+step_kept end datagram (KeptFinish near flow) = Finish end near flow
+step_kept end datagram KeptIntroduce = Introduce end
+step_kept end datagram (KeptRedirect peer list) = Redirect end peer list
+step_kept end datagram (KeptDeliver from number) = Deliver number end from
+step_kept end datagram (KeptBent from place number) = Bent number place end from
+step_kept end datagram (KeptInject from) = inject_kept end from datagram
+step_kept end datagram (KeptForge from plain) = Forge end from plain.value
+step_kept end datagram KeptTick = Tick end
+
+-- The datagram is the one that the step injects; of other steps it says nothing.
+abbrev pub IsWith : Option (List ℕ) → Step → Type 0
+IsWith datagram (Inject end from bytes) = datagram ≡ Some bytes
+IsWith datagram step = Unit {0}
+
+-- The step that called this end is kept so, on a line with its datagram.
+abbrev pub IsKeptAs : ℕ → Step → KeptStep → Type 0
+IsKeptAs end step kept = (datagram : Option (List ℕ)) → IsWith datagram step →
+    step_kept end datagram kept ≡ step
 
 abbrev pub refused_to_open : OpenRefusal → Option Refused
 refused_to_open refusal = Some (OpenRefused refusal)

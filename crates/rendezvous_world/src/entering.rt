@@ -2,7 +2,7 @@
 
 ghost use Rattle.std.specs.Prelude.{◌≡◌, ◌<◌, ◌^◌, ◌++◌, ◌∷◌, [], IfOk, OnOk, get_or, length, vec_capacity, vec_len};
 ghost use Rattle.rendezvous_world.specs.Entering.{CallsAnEnd, IsEntered, IsEntering, answered};
-ghost use Rattle.rendezvous_world.specs.Line.{IsOne, step_kept};
+ghost use Rattle.rendezvous_world.specs.Line.{IsKeptAs, IsOne, step_kept};
 ghost use Rattle.rendezvous_world.specs.Stepping.{called_by};
 
 use crate::calls::{Outcome, call_end};
@@ -35,7 +35,7 @@ pub(crate) fn put<T: Drop>(items: &mut Vec<T>, item: T)
 struct Ready {
     /// The end that is called.
     end: u32,
-    /// The step, for the journal.
+    /// The step, for the journal, without the datagram that it injects.
     step: KeptStep,
     /// For what the call adds.
     out: Outbox,
@@ -56,7 +56,7 @@ fn make_ready(
     ensures room { OnOk result (vec_len lines.new < vec_capacity lines.new) }
     ensures start_room { OnOk result (vec_len starts.new < vec_capacity starts.new) }
     ensures end { IfOk result (λ ready. ready.end ≡ end) }
-    ensures step { IfOk result (λ ready. step_kept end ready.step ≡ step.now) }
+    ensures step { IfOk result (λ ready. IsKeptAs end step.now ready.step) }
     ensures empty { IfOk result (λ ready. ready.out.entries ≡ []) }
 {
     lines.reserve(1)?;
@@ -109,7 +109,7 @@ fn line_of(
       line = line;
       end = end;
       moment = moment;
-      step = step_kept end step;
+      step = step_kept end datagram step;
       datagram = datagram;
       refused = outcome.now.refused;
       stopped = outcome.now.stopped;

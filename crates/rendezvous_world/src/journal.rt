@@ -44,7 +44,7 @@ impl Model for JournalLine {
       line = l.line;
       end = l.end;
       moment = l.moment;
-      step = step_kept l.end l.step;
+      step = step_kept l.end l.datagram l.step;
       datagram = l.datagram;
       refused = refused_kept l.answer;
       stopped = stopped_kept l.answer;
@@ -75,7 +75,7 @@ impl JournalLine {
     pub fn step(&self, alloc: Global) -> Result<Step, Memory>
         ensures { IfOk result (λ step. step ≡ self.now.step) }
     {
-        self.step.step(alloc, self.end())
+        self.step.step(alloc, self.end(), &self.datagram)
     }
 
     pub fn datagram(&self) -> &Option<Message>

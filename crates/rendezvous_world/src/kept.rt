@@ -2,7 +2,7 @@
 
 ghost use Rattle.std.specs.Prelude.{◌≡◌, ℕ, IfOk, None, Some};
 ghost use Rattle.rendezvous_world.specs.Entering.{CallsAnEnd};
-ghost use Rattle.rendezvous_world.specs.Line.{IsOne, flow_kept, queue_kept, refused_kept, step_kept, stopped_kept};
+ghost use Rattle.rendezvous_world.specs.Line.{IsKeptAs, IsOne, flow_kept, inject_kept, queue_kept, refused_kept, step_kept, stopped_kept};
 ghost use Rattle.rendezvous_world.specs.Stepping.{called_by};
 
 use crate::journal::Refused;
@@ -31,7 +31,8 @@ pub(crate) struct QueueKept {
     message: Message,
 }
 
-/// A step that called an end, without the number of that end.
+/// A step that called an end, without the number of that end and without the bytes that it injects:
+/// they are the datagram of its line.
 #[derive(Drop)]
 pub(crate) enum KeptStep {
     Open {
@@ -71,7 +72,6 @@ pub(crate) enum KeptStep {
     },
     Inject {
         from: Address,
-        bytes: Box<Message>,
     },
     Forge {
         from: Address,
@@ -100,6 +100,29 @@ fn in_16_bits(number: usize) -> Result<u16, Memory>
     }
 }
 
+/// The step that injected the datagram of a line; where there is none, it has no bytes.
+fn injected(
+    alloc: Global,
+    end: usize,
+    from: &Address,
+    datagram: &Option<Message>,
+) -> Result<Step, Memory>
+    ensures { IfOk result (λ step. step ≡ inject_kept end from.now datagram.now) }
+{
+    match datagram {
+        None => Ok(Step::Inject {
+            end,
+            from: *from,
+            bytes: Message::copy_of(alloc, &[])?,
+        }),
+        Some(datagram) => Ok(Step::Inject {
+            end,
+            from: *from,
+            bytes: Message::copy_of(alloc, datagram.bytes())?,
+        }),
+    }
+}
+
 /// A copy of bytes, in a box.
 fn boxed(alloc: Global, bytes: &Message) -> Result<Box<Message>, Memory>
     ensures { IfOk result (λ copy. copy.value ≡ bytes.now) }
@@ -115,7 +138,7 @@ impl KeptStep {
     /// A step that calls an end.
     pub(crate) fn of(alloc: Global, step: &Step) -> Result<KeptStep, Memory>
         requires { CallsAnEnd step.now }
-        ensures { IfOk result (λ kept. step_kept (called_by step.now) kept ≡ step.now) }
+        ensures { IfOk result (λ kept. IsKeptAs (called_by step.now) step.now kept) }
     {
         Ok(match step {
             Step::End { .. } => unreachable!(),
@@ -173,10 +196,7 @@ impl KeptStep {
                 place: in_16_bits(*place)?,
                 number: *number,
             },
-            Step::Inject { from, bytes, .. } => KeptStep::Inject {
-                from: *from,
-                bytes: boxed(alloc, bytes)?,
-            },
+            Step::Inject { from, .. } => KeptStep::Inject { from: *from },
             Step::Forge { from, plain, .. } => KeptStep::Forge {
                 from: *from,
                 plain: boxed(alloc, plain)?,
@@ -194,7 +214,7 @@ impl KeptStep {
         answers: Option<u64>,
     ) -> Result<KeptStep, Memory>
         ensures { IfOk result (λ kept. (end : ℕ) →
-            step_kept end kept ≡ Step.Flow end near priority metadata.now answers) }
+            IsKeptAs end (Step.Flow end near priority metadata.now answers) kept) }
     {
         let kept = FlowKept {
             near,
@@ -217,7 +237,7 @@ impl KeptStep {
         message: &Message,
     ) -> Result<KeptStep, Memory>
         ensures { IfOk result (λ kept. (end : ℕ) →
-            step_kept end kept ≡ Step.Queue end near flow options message.now) }
+            IsKeptAs end (Step.Queue end near flow options message.now) kept) }
     {
         let kept = QueueKept {
             near,
@@ -231,9 +251,14 @@ impl KeptStep {
         }
     }
 
-    /// The step, which called this end.
-    pub(crate) fn step(&self, alloc: Global, end: usize) -> Result<Step, Memory>
-        ensures { IfOk result (λ step. step ≡ step_kept end self.now) }
+    /// The step, which called this end, on a line with this datagram.
+    pub(crate) fn step(
+        &self,
+        alloc: Global,
+        end: usize,
+        datagram: &Option<Message>,
+    ) -> Result<Step, Memory>
+        ensures { IfOk result (λ step. step ≡ step_kept end datagram.now self.now) }
     {
         Ok(match self {
             KeptStep::Open { peer, list } => Step::Open {
@@ -277,11 +302,7 @@ impl KeptStep {
                 end,
                 from: *from,
             },
-            KeptStep::Inject { from, bytes } => Step::Inject {
-                end,
-                from: *from,
-                bytes: Message::copy_of(alloc, bytes.bytes())?,
-            },
+            KeptStep::Inject { from } => injected(alloc, end, from, datagram)?,
             KeptStep::Forge { from, plain } => Step::Forge {
                 end,
                 from: *from,

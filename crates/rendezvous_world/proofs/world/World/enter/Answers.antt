@@ -5,7 +5,7 @@ use Rattle.rendezvous_world.specs.Sent.{sent_among}
 use Rattle.endpoint_model.specs.Log.{Step as StepOf}
 use Rattle.rendezvous_world.specs.Entering.{IsEntering, peer_of, event_by}
 use Rattle.rendezvous_world.specs.Inside.{world_seen}
-use Rattle.rendezvous_world.proofs.Entered.{IsCalled, answered_one, entered_kept, entered_as, named_is, undone_kept, undone_entered}
+use Rattle.rendezvous_world.proofs.Entered.{IsCalled, answered_one, entered_kept, entered_as, with_datagram, named_is, undone_kept, undone_entered}
 use Rattle.rendezvous_world.proofs.world.World.enter.Goals as goal
 
 pub invariant_of-self-then-outcome : goal.invariant_of-self-then-outcome
@@ -43,9 +43,10 @@ invariant_of-self-2 c =
       event = subst (λ (es : List Entry). StepOf c.index_mut-there.result.now.endpoint (event_by c.named_at.result.now.print c.args.line i.moment c.args.step.now c.args.bytes.now o.result.refused o.result.stopped es) o.new.endpoint) (sym c.without_spare-out.ensures) o.ensures.event;
       answer = o.ensures.answer c.if-outcome.false;
     } in
+    let brings = with_datagram i.moment i.ends.items i.named i.journal i.starts.items i.sent i.keyed c.self.invariant c.args.line c.args.end c.args.step.now c.args.datagram c.args.bytes.now entering in
     let count = c.count_among-count.ensures.value ∙ ap (λ (es : List Entry). length (sent_among c.args.end es)) (c.entries.ensures.entries ∙ sym c.without_spare-out.ensures) in
     let fits : c.count_among-count.result < 2 ^ 64 = omega arith in
-    rw (c.put-2.ensures, c.line_of-told.ensures, c.in-Ok.ensures.end, c.in-Ok.ensures.step, c.put.ensures, c.make_ready.ensures.lines, c.make_ready.ensures.starts, c.journal.view_is)
+    rw (c.put-2.ensures, c.line_of-told.ensures, c.in-Ok.ensures.end, c.in-Ok.ensures.step c.args.datagram brings, c.put.ensures, c.make_ready.ensures.lines, c.make_ready.ensures.starts, c.journal.view_is)
     (entered_kept i.moment i.ends.items i.named i.journal i.starts.items i.sent i.keyed c.self.invariant c.args.line c.args.end c.args.step.now c.args.datagram c.args.bytes.now entering
     o.result.refused o.result.stopped c.without_spare-out.result c.index_mut-there.result.now o.new.endpoint did c.count_among-count.result count fits)
 
@@ -62,9 +63,10 @@ returns c =
       event = subst (λ (es : List Entry). StepOf c.index_mut-there.result.now.endpoint (event_by c.named_at.result.now.print c.args.line i.moment c.args.step.now c.args.bytes.now o.result.refused o.result.stopped es) o.new.endpoint) (sym c.without_spare-out.ensures) o.ensures.event;
       answer = o.ensures.answer c.if-outcome.false;
     } in
+    let brings = with_datagram i.moment i.ends.items i.named i.journal i.starts.items i.sent i.keyed c.self.invariant c.args.line c.args.end c.args.step.now c.args.datagram c.args.bytes.now entering in
     let entered = entered_as i.moment i.ends.items i.named i.journal i.starts.items i.sent i.keyed c.self.invariant c.args.line c.args.end c.args.step.now c.args.datagram c.args.bytes.now entering
     o.result.refused o.result.stopped c.without_spare-out.result c.index_mut-there.result.now o.new.endpoint did c.is_some-is_stopped.result c.is_some-is_stopped.ensures in
-    rw (c.answered.ensures, c.put-2.ensures, c.line_of-told.ensures, c.in-Ok.ensures.end, c.in-Ok.ensures.step, c.make_ready.ensures.lines, c.journal.view_is, ← c.self.view_is) entered
+    rw (c.answered.ensures, c.put-2.ensures, c.line_of-told.ensures, c.in-Ok.ensures.end, c.in-Ok.ensures.step c.args.datagram brings, c.make_ready.ensures.lines, c.journal.view_is, ← c.self.view_is) entered
 
 pub line_of-told-requires-clause-one : goal.line_of-told-requires-clause-one
 line_of-told-requires-clause-one c = answered_one c.args.step.now _ _ (c.call_end-outcome.ensures.answer c.if-outcome.false)
