@@ -11,6 +11,7 @@ pub mod Beside
 pub mod Sounds
 pub mod Pairs
 pub mod Laying
+pub mod Reaching
 pub mod Searching
 pub mod Telling
 pub mod Mapped

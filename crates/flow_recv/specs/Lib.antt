@@ -3,6 +3,7 @@ pub mod Outcome
 pub mod Acking
 pub mod Window
 pub mod Sound
+pub mod Reached
 pub mod Order
 pub mod Above
 pub mod Keyed

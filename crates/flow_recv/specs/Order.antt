@@ -4,6 +4,7 @@ use Rattle.flow_recv.specs.declared.spans.Span.{Span}
 use Rattle.rtmfp_data_chunks.specs.Runs.{Run}
 use Rattle.flow_recv.specs.Receiver.{Receiver, knows, held_in}
 use Rattle.flow_recv.specs.Sound.{Sound}
+use Rattle.flow_recv.specs.Reached.{IsReached}
 
 -- the runs go upward from a number on, and no two have a number
 abbrev pub InOrder : ℕ → List Run → Type 0
@@ -22,8 +23,9 @@ AllOpen through [] = Unit {0}
 AllOpen through (y ∷ later) = (y.front ≡ false → through < y.first) ×
     (y.rear ≡ false → through ≤ y.last) × AllOpen through later
 
--- a sound receiver whose runs lie so, and the bytes that they hold
+-- a sound receiver that calls lead to and whose runs lie so, and the bytes that they hold
 pub record Laid (r : Receiver) (held : ℕ) : Type 0 where
+  pub reached : IsReached r
   pub sound : Sound r
   pub order : InOrder 0 r.runs
   pub known : AllKnown r.spans r.runs

@@ -18,6 +18,7 @@ ghost use Rattle.rtmfp_forms.specs.Outgoing.{packet_limit};
 ghost use Rattle.flow_recv.specs.Outcome.{refusal, took, message};
 ghost use Rattle.flow_recv.specs.Sound.{AllAlive, Sound};
 ghost use Rattle.flow_recv.specs.Order.{InOrder, AllKnown};
+ghost use Rattle.flow_recv.specs.Reached.{IsReached};
 
 use crate::above::Above;
 use crate::acking::{pairs_len, put_pairs};
@@ -167,6 +168,15 @@ impl FlowReceiver {
         ensures known { AllKnown self.now.spans self.now.runs }
     {
         self.runs.len()
+    }
+
+    /// Some list of calls, each a chunk that it took or a message that it handed over, leads to it
+    /// from a receiver that has taken nothing. So what holds after every such list holds of each
+    /// receiver. It does nothing.
+    pub fn comes_of_its_calls(&self)
+        ensures { IsReached self.now }
+    {
+        let _highest = self.highest;
     }
 
     /// Whether a message is ready to be handed over.

@@ -8,6 +8,7 @@ use Rattle.flow_recv.proofs.Ready.{receiver, message_eq, held_handed, without_no
 use Rattle.flow_recv.proofs.Sounds.{sound_handed}
 use Rattle.flow_recv.proofs.Laying.{order_handed, known_handed}
 use Rattle.flow_recv.proofs.Searching.{all_open}
+use Rattle.flow_recv.proofs.Reaching.{reached_handed}
 use Rattle.flow_recv.proofs.receiver.FlowReceiver.next_message.Goals as goal
 
 pub take_ready-requires-clause-open : goal.take_ready-requires-clause-open
@@ -49,6 +50,7 @@ invariant_of-self-2 c =
     let run = c.in-Some.run' in
     let sum = held_handed (hands i.arriving i.through) i.runs run (sym c.in-Some.ensures.run) in
     let laid : Laid (handed_next (At c)) (i.held - c.len.result) = record {
+      reached = reached_handed (At c) run c.self.invariant.reached (sym c.in-Some.ensures.run);
       sound = sound_handed (At c) c.self.invariant.sound;
       order = order_handed (At c) c.self.invariant.order;
       known = known_handed (At c) c.self.invariant.known;

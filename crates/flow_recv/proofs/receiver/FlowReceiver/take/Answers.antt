@@ -13,6 +13,7 @@ use Rattle.flow_recv.proofs.Placing.{free_from}
 use Rattle.flow_recv.proofs.Sounds.{held_runs, runs_are, taken_is, sound_taken}
 use Rattle.flow_recv.proofs.Laying.{order_held, order_taken, known_taken, held_with}
 use Rattle.flow_recv.proofs.Telling.{top_taken}
+use Rattle.flow_recv.proofs.Reaching.{reached_taken}
 use Rattle.flow_recv.proofs.receiver.FlowReceiver.take.Goals as goal
 
 abbrev At : goal.After-took_by → Receiver
@@ -55,6 +56,7 @@ invariant_of-self-2 c =
     let with = held_with (At c) d i.held c.added_by.result c.self.invariant.sum added ∙ ap (λ (ys : List Run). held_in ys) (sym kept) in
     let after = ap (λ (r : Receiver). held_in r.runs) (is_taken c) in
     let laid : Laid (taken (At c) d) left = record {
+      reached = reached_taken (At c) d c.self.invariant.reached c.requires.low c.requires.below;
       sound = subst Sound (is_taken c) (is_sound c);
       order = order_taken (At c) d c.self.invariant.known c.self.invariant.order;
       known = known_taken (At c) d formed c.self.invariant.known;
