@@ -9,7 +9,8 @@ use Rattle.rtmfp_data_chunks.specs.Runs.{Chunk, Missing, GivenUp, is_missing, nu
 use Rattle.flow_recv.specs.Receiver.{Receiver, fresh, lacks, span, hands, may_hand, through_in, first_of, next_run}
 use Rattle.rtmfp_data_chunks.specs.HandsOver.{IsIn}
 use Rattle.flow_exchange.specs.Stands.{StandsFor}
-use Rattle.flow_exchange.specs.Receiving.{Call, Takes, Hands, Receiving, at_first, hands_over, calls, all_calls, IsProper, AllProper, HandsInOrder, AllHanded}
+use Rattle.flow_recv.specs.Reached.{Call, Takes, Hands, Receiving, at_first, hands_over, calls, all_calls, IsProper, AllProper}
+use Rattle.flow_exchange.specs.Receiving.{HandsInOrder, AllHanded}
 use Rattle.flow_exchange.proofs.Handing.{Begins, begins_trans, begins_push, handed_grows}
 use Rattle.flow_exchange.proofs.Spreading.{end_is_through}
 use Rattle.flow_exchange.proofs.Dropping.{Sorted}

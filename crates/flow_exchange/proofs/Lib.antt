@@ -13,6 +13,7 @@ pub mod Standing
 pub mod Handed
 pub mod Following
 pub mod Refusing
+pub mod Called
 pub mod Speaking
 pub mod Pairing
 pub mod Samples

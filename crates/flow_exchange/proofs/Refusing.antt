@@ -12,7 +12,8 @@ use Rattle.flow_recv.specs.Receiver.{Receiver, span, knows, covers, lacks, taken
 use Rattle.flow_recv.specs.Outcome.{beyond, after_or, refusal}
 use Rattle.flow_recv.proofs.Knowing.{knows_add, apart_formed, apart_add, add_known}
 use Rattle.flow_exchange.specs.Stands.{StandsFor, last_of}
-use Rattle.flow_exchange.specs.Receiving.{Call, Receiving, at_first, all_calls, AllProper, lowest_whole, HandsLowest, Counts, passes_last, forward_alone, own_bytes, is_full, full_by, refusal_with, refusal_by, RefusesBy}
+use Rattle.flow_recv.specs.Reached.{Call, Receiving, at_first, all_calls, AllProper}
+use Rattle.flow_exchange.specs.Receiving.{lowest_whole, HandsLowest, Counts, passes_last, forward_alone, own_bytes, is_full, full_by, refusal_with, refusal_by, RefusesBy}
 use Rattle.flow_exchange.proofs.Spreading.{end_is_through}
 use Rattle.flow_exchange.proofs.Standing.{Proper, Stood, stands_taken}
 use Rattle.flow_exchange.proofs.Following.{Sound, calls_sound, stood_first, dead_whole}

@@ -1,4 +1,4 @@
--- Any calls of a receiver, one after another.
+-- What a receiver hands over, counts and refuses after any calls, one after another.
 use Rattle.std.specs.Prelude.{ℕ, ◌≡◌, ◌+◌, ◌<◌, ◌≤◌, nat_lt, if◌then◌else◌, not, ◌&&◌, ◌||◌, ◌==◌}
 use Rattle.std.specs.Prelude.{Bool, true, false, List, [], ◌∷◌, ◌++◌, Option, Some, None, length}
 use Rattle.std.specs.Prelude.{slice_get}
@@ -11,53 +11,10 @@ use Rattle.rtmfp_data_chunks.specs.Runs.{through_of, runs_of, bytes_held, messag
 use Rattle.rtmfp_data_chunks.specs.Runs.{handed_in_order}
 use Rattle.flow_recv.specs.declared.outcome.FlowRefusal.{FlowRefusal}
 use Rattle.flow_recv.specs.declared.outcome.FlowRefusal.TheVariants.{AfterFinal, BeyondBuffer}
-use Rattle.flow_recv.specs.Receiver.{Receiver, fresh, taken, next_run, handed_next, held_in}
-use Rattle.flow_recv.specs.Receiver.{through_in}
+use Rattle.flow_recv.specs.Receiver.{next_run, held_in, through_in}
 use Rattle.flow_recv.specs.Outcome.{refusal}
+use Rattle.flow_recv.specs.Reached.{Receiving}
 use Rattle.flow_exchange.specs.Stands.{last_of}
-
-pub data Call : Type 0 where
-  Takes : (c : Chunk) → Call
-  Hands : Call
-
--- what a receiver keeps, the chunks that it took, the newest first, and the messages that it handed
--- over, in order
-pub record Receiving : Type 0 where
-  pub receiver : Receiver
-  pub chunks : List Chunk
-  pub handed : List Message
-
-abbrev pub at_first : Bool → Receiving
-at_first arriving = record { receiver = fresh arriving; chunks = []; handed = [] }
-
-abbrev pub hands_over : Receiving → Option Run → Receiving
-hands_over w None = w
-hands_over w (Some y) = record {
-  receiver = handed_next w.receiver;
-  chunks = w.chunks;
-  handed = w.handed ++ message_of y ∷ [];
-}
-
-abbrev pub calls : Receiving → Call → Receiving
-calls w (Takes c) = record {
-  receiver = taken w.receiver c;
-  chunks = c ∷ w.chunks;
-  handed = w.handed;
-}
-calls w Hands = hands_over w (next_run w.receiver)
-
-abbrev pub all_calls : Receiving → List Call → Receiving
-all_calls w [] = w
-all_calls w (e ∷ es) = all_calls (calls w e) es
-
--- a chunk's forward number is at most its number, and equals it only with abandon
-abbrev pub IsProper : Call → Type 0
-IsProper (Takes c) = (c.forward ≤ c.seq) × (c.abandon ≡ false → c.forward < c.seq)
-IsProper Hands = Unit {0}
-
-abbrev pub AllProper : List Call → Type 0
-AllProper [] = Unit {0}
-AllProper (e ∷ es) = IsProper e × AllProper es
 
 -- what was handed over is the beginning of what is to be, and the next message is the one that
 -- follows

@@ -3,13 +3,14 @@
 ghost use Rattle.std.specs.Prelude.{ℕ, List, Some, ◌≤◌, true, false, Bool};
 ghost use Rattle.rtmfp_data_chunks.specs.Runs.{Chunk};
 ghost use Rattle.rtmfp_data_chunks.specs.HandsOver.{IsIn, HandsOver, HandsOnce};
+ghost use Rattle.flow_recv.specs.Reached.{Call, AllProper, all_calls, at_first};
 ghost use Rattle.flow_exchange.specs.Exchange.{Ack};
 ghost use Rattle.flow_exchange.specs.Pair.{Happening, Pair, exchanged, happens, pair, takes, hears};
 ghost use Rattle.flow_exchange.specs.Related.{IsExchange};
 ghost use Rattle.flow_exchange.specs.Sending.{Act, all_acts, begun, SpeaksTrue};
 ghost use Rattle.flow_exchange.specs.Stands.{StandsFor};
-ghost use Rattle.flow_exchange.specs.Receiving.{Call, AllProper, all_calls, at_first, HandsInOrder};
-ghost use Rattle.flow_exchange.specs.Receiving.{AllHanded, HandsLowest, Counts, RefusesBy};
+ghost use Rattle.flow_exchange.specs.Receiving.{HandsInOrder, AllHanded, HandsLowest, Counts};
+ghost use Rattle.flow_exchange.specs.Receiving.{RefusesBy};
 
 /// Whatever chunks a receiver takes and however often it hands over, what it keeps stands for them.
 /// In queueing order it hands over what is to be handed over, one message after another. In arrival
