@@ -19,6 +19,7 @@ pub mod Holding
 pub mod Orders
 pub mod Followed
 pub mod Passing
+pub mod Finding
 pub mod Walking
 pub mod Slotting
 pub mod Foremost

@@ -1,13 +1,13 @@
 -- What is known of acknowledged rows, through each change of the rows.
-use Rattle.std.proofs.Common.{◌≡◌, ℕ, zero, suc, ◌+◌, ◌-◌, ◌<◌, ◌≤◌, nat_le, nat_lt, max, cond, Bool, true, false, ◌&&◌, List, [], ◌∷◌, ◌++◌, Some, Option, length, set, get_or, drop, refl, ap, sym, ◌∙◌, subst, arith}
+use Rattle.std.proofs.Common.{◌≡◌, ℕ, zero, suc, ◌+◌, ◌-◌, ◌<◌, ◌≤◌, nat_le, nat_lt, max, cond, Bool, true, false, ◌&&◌, List, [], ◌∷◌, ◌++◌, length, set, get_or, drop, refl, ap, sym, ◌∙◌, subst, arith}
 use Rattle.flow_send.specs.declared.state.State.{State}
 use Rattle.flow_send.specs.declared.state.State.TheVariants.{Unsent, Flying, Lost, Acknowledged, Abandoned}
 use Rattle.flow_send.specs.declared.totals.Totals.{Totals}
 use Rattle.flow_send.specs.Moved.{moved}
-use Rattle.flow_send.specs.Rows.{Row, row_at, end_row, is_acknowledged, is_flying, is_lost, first_index, let_go, totals_of, row_totals, between, most_between}
+use Rattle.flow_send.specs.Rows.{Row, row_at, end_row, is_acknowledged, is_flying, is_lost, let_go, totals_of, row_totals, between, most_between}
 use Rattle.flow_send.specs.Sender.{give_up_row, lost_if_late}
 use Rattle.flow_send.specs.Acks.{acknowledge_row, new_ordinal, count_ack}
-use Rattle.flow_send.specs.Passed.{AllAcked, ArePassed, NoneLost}
+use Rattle.flow_send.specs.Passed.{AllAcked, ArePassed}
 use Rattle.flow_send.proofs.Summing.{default_row, moved_at}
 
 -- ---- rows in a row
@@ -218,55 +218,7 @@ kept_at counts all before after result rows at x y e f g h lt m acked p = (
   passed_set counts at rows y (λ k. acked (ap (λ (r : Row). is_acknowledged r.state) (h ∙ default_row rows at x end_row lt) ∙ k)) p,
 )
 
--- ---- rows of which none is lost
-
-pub none_lost_less : (j k : ℕ) (rows : List Row) → j ≤ k → NoneLost k rows → NoneLost j rows
-none_lost_less zero k rows le h = tt
-none_lost_less (suc j) zero rows le h = absurd (omega arith)
-none_lost_less (suc j) (suc k) [] le h = absurd h
-none_lost_less (suc j) (suc k) (r ∷ rows) le h = (h.0, none_lost_less j k rows (omega arith) h.1)
-
-pub none_lost_more : (k : ℕ) (rows more : List Row) → NoneLost k rows → NoneLost k (rows ++ more)
-none_lost_more zero rows more h = tt
-none_lost_more (suc k) [] more h = absurd h
-none_lost_more (suc k) (r ∷ rows) more h = (h.0, none_lost_more k rows more h.1)
-
-pub none_lost_pop : (k : ℕ) (rows : List Row) → NoneLost k rows → NoneLost (k - 1) (drop 1 rows)
-none_lost_pop zero rows h = let e : zero - 1 ≡ 0 = omega arith in subst (λ (i : ℕ). NoneLost i (drop 1 rows)) (sym e) tt
-none_lost_pop (suc k) [] h = absurd h
-none_lost_pop (suc k) (r ∷ rows) h = let e : suc k - 1 ≡ k = omega arith in subst (λ (i : ℕ). NoneLost i rows) (sym e) h.1
-
-open_or : (t : Bool) → (t ≡ true → ⊥) → t ≡ false
-open_or true h = absurd (h refl)
-open_or false h = refl
-
-pub none_lost_set : (j k at : ℕ) (rows : List Row) (y : Row) → j ≤ k → (is_lost y.state ≡ true → j ≤ at) → NoneLost k rows → NoneLost j (set rows at y)
-none_lost_set zero k at rows y le f h = tt
-none_lost_set (suc j) zero at rows y le f h = absurd (omega arith)
-none_lost_set (suc j) (suc k) at [] y le f h = absurd h
-none_lost_set (suc j) (suc k) zero (r ∷ rows) y le f h = (open_or (is_lost y.state) (λ e. let g = f e in omega (arith, g)), none_lost_less j k rows (omega arith) h.1)
-none_lost_set (suc j) (suc k) (suc at) (r ∷ rows) y le f h = (h.0, none_lost_set j k at rows y (omega arith) (λ e. let g = f e in omega (arith, g)) h.1)
-
-pub none_lost_next : (at : ℕ) (rows : List Row) (y : Row) → at < length rows → is_lost y.state ≡ false → NoneLost at rows → NoneLost (suc at) (set rows at y)
-none_lost_next at [] y lt e h = absurd (omega arith)
-none_lost_next zero (r ∷ rows) y lt e h = (e, tt)
-none_lost_next (suc at) (r ∷ rows) y lt e h = (h.0, none_lost_next at rows y (omega arith) e h.1)
-
-skip_if : (t : Bool) (n : ℕ) (rest : Option ℕ) → t ≡ false → cond t (Some n) rest ≡ rest
-skip_if true n rest e = absurd cc
-skip_if false n rest e = refl
-
-lost_later : (k n : ℕ) (rows : List Row) → NoneLost k rows → first_index is_lost n rows ≡ first_index is_lost (n + k) (drop k rows)
-lost_later zero n [] h = refl
-lost_later zero n (r ∷ rows) h = let e : n + zero ≡ n = omega arith in ap (λ i. first_index is_lost i (r ∷ rows)) (sym e)
-lost_later (suc k) n [] h = absurd h
-lost_later (suc k) n (r ∷ rows) h =
-    let e : n + suc k ≡ n + 1 + k = omega arith in
-    skip_if (is_lost r.state) n (first_index is_lost (n + 1) rows) h.0 ∙ (lost_later k (n + 1) rows h.1 ∙ ap (λ i. first_index is_lost i (drop k rows)) (sym e))
-
--- the first lost row is looked for behind them
-pub lost_behind : (k : ℕ) (rows : List Row) → NoneLost k rows → first_index is_lost 0 rows ≡ first_index is_lost k (drop k rows)
-lost_behind k rows h = let e : 0 + k ≡ k = omega arith in lost_later k 0 rows h ∙ ap (λ i. first_index is_lost i (drop k rows)) e
+-- ---- a row that isn't lost any more
 
 acked_found : (r : Row) (t : Bool) → is_acknowledged r.state ≡ t → is_lost (cond t r (let_go Acknowledged r)).state ≡ false
 acked_found r true e = acked_lost r.state e
@@ -288,7 +240,3 @@ acked_unlost r = acked_found r (is_acknowledged r.state) refl
 
 pub given_unlost : (r : Row) → is_lost (give_up_row r).state ≡ false
 given_unlost r = given_found r (is_acknowledged r.state) refl
-
--- a row that is lost counts as one
-pub counts_lost : (y : Row) (t : Totals) → t ≡ row_totals y → is_lost y.state ≡ true → 0 < t.lost
-counts_lost y t e h = let n : t.lost ≡ 1 = ap (λ (x : Totals). x.lost) e ∙ ap (λ b. cond b 1 0) h in omega (arith, n)

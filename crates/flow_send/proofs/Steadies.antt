@@ -14,7 +14,6 @@ use Rattle.flow_send.specs.Rows.{Row, end_row, is_unsent, is_flying, is_lost, is
 use Rattle.flow_send.specs.Sender.{Sender, new_sender, next_of, with_rows, bytes_held, fragments_held, new_row, rows_of, waiting_of, queued, has_number, message_at, without_message, give_up, give_up_row, abandoned_with, finished, is_late, lost_if_late, lost_late}
 use Rattle.flow_send.specs.Choice.{Choice, Nothing, Send, Notify, first_in, or_else, is_quiet, next_choice, within_limit, choice_bytes, choice, count_up, sent_row, put_at, sent_after}
 use Rattle.flow_send.specs.Acks.{Told, in_span, tells, greatest, acknowledge, acknowledge_row, is_third, count_ack, last_ordinal, rows_acknowledged, rows_told, still_waits, told_by}
-use Rattle.flow_send.specs.Passed.{NoneLost}
 use Rattle.flow_send.specs.Steady.{is_fresh, RowOk, AllOk, Line, AllWait, line_end, end_of, IsLast, AllShort, IsBounded, Steady}
 use Rattle.flow_send.proofs.Fronts.{front_dropped, front_append, news_front, front_map, front_put}
 use Rattle.flow_send.proofs.Numbered.{map_length, map_is}
@@ -433,40 +432,6 @@ chosen_open s moment resend n r e = elim (chosen s moment resend n r e) [
   | inl f ↦ lost_unacked r.state ((found_low is_lost (s.forward + 1) n r s.rows f).2)
   | inr f ↦ unsent_unacked r.state ((found_low is_unsent (s.forward + 1) n r s.rows f).2)
 ]
-
--- none before it is lost
-lost_before : (n at : ℕ) (r : Row) (rows : List Row) → first_in is_lost n rows ≡ Send (n + at) r → NoneLost at rows
-lost_before n zero r rows e = tt
-lost_before n (suc at) r [] e = absurd cc
-lost_before n (suc at) r (x ∷ rows) e = before_if (is_lost x.state) refl e (λ f. lost_before (n + 1) at r rows (let k : n + suc at ≡ n + 1 + at = omega arith in f ∙ ap (λ i. Send i r) k))
-  where
-    before_if : (t : Bool) → is_lost x.state ≡ t → cond t (Send n x) (first_in is_lost (n + 1) rows) ≡ Send (n + suc at) r → (first_in is_lost (n + 1) rows ≡ Send (n + suc at) r → NoneLost at rows) → NoneLost (suc at) (x ∷ rows)
-    before_if true f e ih = let p = send_eq n (n + suc at) x r e in absurd (omega (arith, p.0))
-    before_if false f e ih = (f, ih e)
-
-lost_nowhere : (n at : ℕ) (rows : List Row) → first_in is_lost n rows ≡ Nothing → at ≤ length rows → NoneLost at rows
-lost_nowhere n zero rows e le = tt
-lost_nowhere n (suc at) [] e le = absurd (omega arith)
-lost_nowhere n (suc at) (x ∷ rows) e le = nowhere_if (is_lost x.state) refl e (λ f. lost_nowhere (n + 1) at rows f (omega arith))
-  where
-    nowhere_if : (t : Bool) → is_lost x.state ≡ t → cond t (Send n x) (first_in is_lost (n + 1) rows) ≡ Nothing → (first_in is_lost (n + 1) rows ≡ Nothing → NoneLost at rows) → NoneLost (suc at) (x ∷ rows)
-    nowhere_if true f e ih = absurd cc
-    nowhere_if false f e ih = (f, ih e)
-
-or_lost : (a b : Choice) (n : ℕ) (r : Row) → or_else a b ≡ Send n r → (a ≡ Send n r) ⊎ (a ≡ Nothing)
-or_lost Nothing b n r e = inr refl
-or_lost (Send k x) b n r e = inl e
-or_lost Notify b n r e = inl e
-
-pub chosen_first : (s : Sender) (moment resend at : ℕ) (r : Row) → at ≤ length s.rows → choice moment resend s ≡ Send (s.forward + 1 + at) r → NoneLost at s.rows
-chosen_first s moment resend at r le e =
-    let n = s.forward + 1 + at in
-    let next = next_choice moment resend s in
-    let rest = or_else (first_in is_unsent (s.forward + 1) s.rows) (Rattle.flow_send.specs.Choice.notice_due moment resend s) in
-    elim (or_lost (first_in is_lost (s.forward + 1) s.rows) rest n r (allowed_if next n r (within_limit s (choice_bytes next)) e)) [
-      | inl f ↦ lost_before (s.forward + 1) at r s.rows f
-      | inr f ↦ lost_nowhere (s.forward + 1) at s.rows f le
-    ]
 
 -- take_ack
 new_told : (upto n : ℕ) (spans : List (ℕ × ℕ)) → upto ≤ greatest upto spans

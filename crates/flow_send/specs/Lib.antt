@@ -12,6 +12,7 @@ pub mod Edges
 pub mod Calls
 pub mod Counted
 pub mod Passed
+pub mod Finder
 pub mod Messages
 pub mod Slots
 pub mod Lows

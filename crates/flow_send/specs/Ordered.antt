@@ -6,10 +6,15 @@ use Rattle.flow_send.specs.Rows.{Row, is_flying}
 use Rattle.flow_send.specs.Sender.{is_late, lost_if_late}
 use Rattle.flow_send.specs.Acks.{count_ack}
 
--- each with its ordinal, its number and its moment. whole: none that is asked for is left out
+-- each with its ordinal, its number and its moment. whole: none that is asked for is left out. room:
+-- for so many more
 pub record Ordered : Type 0 where
   pub whole : Bool
   pub queue : List (ℕ × ℕ × ℕ)
+  pub room : ℕ
+
+abbrev pub ordered : Bool → List (ℕ × ℕ × ℕ) → ℕ → Ordered
+ordered whole queue room = record { whole = whole; queue = queue; room = room }
 
 -- the ordinals rise
 abbrev pub Rising : List (ℕ × ℕ × ℕ) → Type 0

@@ -1,7 +1,7 @@
 -- What is known of rows that come one after another.
 use Prim.Native.Nat.{zero, suc}
-use Rattle.std.specs.Prelude.{ℕ, ◌≡◌, true, false, List, [], ◌∷◌, drop}
-use Rattle.flow_send.specs.Rows.{Row, is_acknowledged, is_lost}
+use Rattle.std.specs.Prelude.{ℕ, ◌≡◌, true, List, [], ◌∷◌, drop}
+use Rattle.flow_send.specs.Rows.{Row, is_acknowledged}
 
 -- the first so many rows are there and acknowledged
 abbrev pub AllAcked : ℕ → List Row → Type 0
@@ -14,8 +14,10 @@ abbrev pub ArePassed : List ℕ → List Row → Type 0
 ArePassed [] rows = Unit {0}
 ArePassed (k ∷ counts) rows = AllAcked k rows × ArePassed counts (drop 1 rows)
 
--- the first so many rows are there and not lost
-abbrev pub NoneLost : ℕ → List Row → Type 0
-NoneLost zero rows = Unit {0}
-NoneLost (suc k) [] = ⊥
-NoneLost (suc k) (r ∷ rows) = (is_lost r.state ≡ false) × NoneLost k rows
+-- such counts, and for how many more there is room
+pub record Known : Type 0 where
+  pub counts : List ℕ
+  pub room : ℕ
+
+abbrev pub known : List ℕ → ℕ → Known
+known counts room = record { counts = counts; room = room }

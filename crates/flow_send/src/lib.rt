@@ -4,6 +4,7 @@
 mod acking;
 mod backlog;
 pub mod edges;
+mod finder;
 mod fragments;
 pub mod laws;
 mod loss;

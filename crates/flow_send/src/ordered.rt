@@ -1,6 +1,6 @@
 //! The sendings of a flow in their order, by which an ack finds the numbers that it counts against.
 
-ghost use Rattle.std.specs.Prelude.{ℕ, ◌≡◌, ◌+◌, ◌<◌, ◌≤◌, [], length, true, false};
+ghost use Rattle.std.specs.Prelude.{ℕ, ◌≡◌, ◌+◌, ◌<◌, ◌≤◌, [], length, true, false, OnOk};
 ghost use Rattle.std.specs.Prelude.{map, slice_get};
 ghost use Rattle.std.specs.List.{list_any};
 ghost use Rattle.flow_send.specs.Rows.{map_rows, between, any_between, any_row};
@@ -30,16 +30,20 @@ pub struct Sendings {
 }
 
 impl Model for Sendings {
-    ghost use Rattle.flow_send.specs.Ordered.{Ordered};
+    ghost use Rattle.std.specs.Prelude.{◌-◌};
+    ghost use Rattle.std.specs.VecDeque.{deque_len, deque_capacity};
+    ghost use Rattle.flow_send.specs.Ordered.{Ordered, ordered};
 
     ghost Value = { Ordered };
 
-    ghost view = { λ s. record { whole = s.whole; queue = s.queue.items } };
+    ghost view = { λ s. ordered s.whole s.queue.items
+        (deque_capacity s.queue - deque_len s.queue) };
 }
 
 impl Sendings {
     pub fn new(alloc: Global) -> Sendings
-        ensures { result ≡ record { whole = true; queue = [] } }
+        ensures whole { result.whole ≡ true }
+        ensures queue { result.queue ≡ [] }
     {
         Sendings {
             whole: true,
@@ -49,7 +53,8 @@ impl Sendings {
 
     /// Makes room for so many in all.
     pub fn reserve(&mut self, most: usize) -> Result<(), AllocError>
-        ensures { self.new ≡ self.old }
+        ensures kept { self.new ≡ record self.old { room = self.new.room } }
+        ensures room { OnOk result (most ≤ length self.new.queue + self.new.room) }
     {
         self.queue.reserve(most.saturating_sub(self.queue.len()))
     }

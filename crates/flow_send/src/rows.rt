@@ -13,8 +13,9 @@ ghost use Rattle.flow_send.specs.Sender.{give_up_row, lost_if_late, is_late, is_
 ghost use Rattle.flow_send.specs.Choice.{sent_row};
 ghost use Rattle.flow_send.specs.Acks.{acknowledge_row, new_ordinal, count_ack, is_third};
 ghost use Rattle.flow_send.specs.Ordered.{count_sent};
-ghost use Rattle.flow_send.specs.Passed.{AllAcked, NoneLost};
+ghost use Rattle.flow_send.specs.Passed.{AllAcked};
 
+use crate::finder::{Finder, Pending};
 use crate::passed::Passed;
 use crate::row::HeldRow;
 use crate::state::State;
@@ -29,23 +30,28 @@ use std::marker::Model;
 pub struct Rows {
     rows: VecDeque<HeldRow>,
     passed: Passed,
-    /// No row before this index is lost.
-    lost_from: usize,
+    /// Where rows are lost, and where they were never sent.
+    lost_rows: Finder,
+    unsent_rows: Finder,
     totals: Totals,
 }
 
 impl Model for Rows {
-    ghost use Rattle.std.specs.Prelude.{◌≡◌, ◌-◌};
-    ghost use Rattle.flow_send.specs.Passed.{ArePassed, NoneLost};
+    ghost use Rattle.std.specs.Prelude.{◌≡◌, ◌-◌, min};
+    ghost use Rattle.flow_send.specs.Passed.{ArePassed};
+    ghost use Rattle.flow_send.specs.Finder.{Finds};
+    ghost use Rattle.flow_send.specs.declared.finder.Pending.TheVariants.{First, Again};
     ghost use Rattle.std.specs.VecDeque.{deque_len, deque_capacity};
     ghost use Rattle.flow_send.specs.Rows.{Roomy, roomy, totals_of};
 
     ghost Value = { Roomy };
 
-    ghost view = { λ q. roomy q.rows.items (deque_capacity q.rows - deque_len q.rows) };
+    ghost view = { λ q. roomy q.rows.items
+        (min (deque_capacity q.rows - deque_len q.rows) q.passed.room) };
 
-    ghost invariant = { λ q. (q.totals ≡ totals_of q.rows.items) × ArePassed q.passed q.rows.items
-        × NoneLost q.lost_from q.rows.items };
+    ghost invariant = { λ q. (q.totals ≡ totals_of q.rows.items)
+        × ArePassed q.passed.counts q.rows.items
+        × Finds Again q.lost_rows q.rows.items × Finds First q.unsent_rows q.rows.items };
 }
 
 impl Rows {
@@ -54,10 +60,13 @@ impl Rows {
         ensures none { IfOk result (λ q. q.rows ≡ []) }
         ensures room { IfOk result (λ q. 1 ≤ q.room) }
     {
+        let mut passed = Passed::new(alloc);
+        passed.reserve(1)?;
         Ok(Rows {
             rows: VecDeque::with_capacity(alloc, 1)?,
-            passed: Passed::new(alloc),
-            lost_from: 0,
+            passed,
+            lost_rows: Finder::new(),
+            unsent_rows: Finder::new(),
             totals: Totals::NONE,
         })
     }
@@ -100,6 +109,10 @@ impl Rows {
         ensures room { self.new.room + 1 ≡ self.old.room }
     {
         let added = row.totals();
+        let state = row.state();
+        let at = self.rows.len();
+        self.lost_rows.note(Pending::Again, at, state);
+        self.unsent_rows.note(Pending::First, at, state);
         self.rows.push_back_reserved(row);
         self.passed.push();
         self.totals = self.totals.moved(Totals::NONE, added);
@@ -124,10 +137,34 @@ impl Rows {
         ensures room { self.new.room ≡ self.old.room }
     {
         let row = &mut self.rows[at];
+        let state = row.state();
         let before = row.totals();
         row.give_up();
         let after = row.totals();
         self.totals = self.totals.moved(before, after);
+        self.clear_lost(at, state);
+        self.clear_unsent(at, state);
+    }
+
+    /// A row isn't lost any more: where it was, the mark of its block goes, unless another row of
+    /// it is.
+    fn clear_lost(&mut self, at: usize, before: State)
+        requires { at < length self.old.rows }
+        ensures { self.new ≡ self.old }
+    {
+        if before == State::Lost {
+            self.lost_rows.clear(&self.rows, Pending::Again, at);
+        }
+    }
+
+    /// So it is of one that was unsent.
+    fn clear_unsent(&mut self, at: usize, before: State)
+        requires { at < length self.old.rows }
+        ensures { self.new ≡ self.old }
+    {
+        if before == State::Unsent {
+            self.unsent_rows.clear(&self.rows, Pending::First, at);
+        }
     }
 
     /// Abandons the rows from one index to before another that aren't acknowledged.
@@ -152,10 +189,12 @@ impl Rows {
             return;
         }
         let row = &mut self.rows[at];
+        let state = row.state();
         let before = row.totals();
         row.acknowledge();
         let after = row.totals();
         self.totals = self.totals.moved(before, after);
+        self.clear_lost(at, state);
     }
 
     /// The ordinal of the last sending of a row that isn't acknowledged, else 0.
@@ -223,8 +262,9 @@ impl Rows {
         let before = row.totals();
         row.count_ack(ordinal);
         let after = row.totals();
+        let state = row.state();
         self.totals = self.totals.moved(before, after);
-        self.lost_from = lost_from(self.lost_from, at, after);
+        self.lost_rows.note(Pending::Again, at, state);
     }
 
     /// Counts it against a row whose last sending has this ordinal.
@@ -277,7 +317,7 @@ impl Rows {
         row.lose_if_late(moment, resend_after);
         let after = row.totals();
         self.totals = self.totals.moved(before, after);
-        self.lost_from = lost_from(self.lost_from, at, after);
+        self.lost_rows.note(Pending::Again, at, State::Lost);
     }
 
     pub fn is_late(&self, at: usize, moment: u64, resend_after: u64) -> bool
@@ -303,21 +343,22 @@ impl Rows {
         late
     }
 
-    /// A row that isn't acknowledged is sent, where none before it is lost.
+    /// A row that isn't acknowledged is sent. The mark of a block of unsent rows may stay: these
+    /// are looked for behind the last row that was sent.
     pub fn send(&mut self, at: usize, moment: u64, ordinal: u64)
         requires there { at < length self.old.rows }
-        requires first { NoneLost at self.old.rows }
         requires open { is_acknowledged (row_at self.old.rows at).state ≡ false }
         ensures rows { self.new.rows ≡ slice_set self.old.rows at
             (sent_row moment ordinal (row_at self.old.rows at)) }
         ensures room { self.new.room ≡ self.old.room }
     {
         let row = &mut self.rows[at];
+        let state = row.state();
         let before = row.totals();
         row.send(moment, ordinal);
         let after = row.totals();
         self.totals = self.totals.moved(before, after);
-        self.lost_from = at + 1;
+        self.clear_lost(at, state);
     }
 
     /// Whether a row is in flight.
@@ -387,12 +428,7 @@ impl Rows {
         if self.totals.lost == 0 {
             return None;
         }
-        for at in self.lost_from..self.rows.len() {
-            if self.rows[at].state() == State::Lost {
-                return Some(at);
-            }
-        }
-        None
+        self.lost_rows.first(&self.rows, Pending::Again, 0)
     }
 
     /// The index of the first unsent row, where none before an index is unsent.
@@ -401,12 +437,7 @@ impl Rows {
             ≡ first_index is_unsent from (drop from self.now.rows) }
         ensures { result ≡ first_index is_unsent 0 self.now.rows }
     {
-        for at in from..self.rows.len() {
-            if self.rows[at].state() == State::Unsent {
-                return Some(at);
-            }
-        }
-        None
+        self.unsent_rows.first(&self.rows, Pending::First, from)
     }
 
     fn front_settled(&self) -> bool
@@ -423,7 +454,8 @@ impl Rows {
         let before = self.rows[0].totals();
         let _ = self.rows.pop_front();
         self.passed.pop();
-        self.lost_from = self.lost_from.saturating_sub(1);
+        self.lost_rows.pop();
+        self.unsent_rows.pop();
         self.totals = self.totals.moved(before, Totals::NONE);
     }
 
@@ -441,15 +473,4 @@ impl Rows {
         }
         count as u64
     }
-}
-
-/// Where the lost rows may begin, after the row at an index gives these sums.
-fn lost_from(before: usize, at: usize, row: Totals) -> usize
-    ensures before { result ≤ before }
-    ensures row { 0 < row.lost → result ≤ at }
-{
-    if row.lost > 0 {
-        return before.min(at);
-    }
-    before
 }

@@ -4,7 +4,7 @@ use Rattle.flow_send.proofs.ordered.Sendings.prune.Goals as goal
 
 pub loop-sent-preserved : goal.loop-sent-preserved
 loop-sent-preserved c f =
-    pruned (record { whole = c.loop-sent.self-inside.whole; queue = c.loop-sent.self-inside.queue.items }) (record { whole = c.loop-sent.self-inside.whole; queue = c.pop_front.new.self.items }) (c.in-Some.sent, c.in-Some.number, c.in-Some.field-0-2) (c.args.forward + 1) c.args.rows.now.rows
+    pruned (record { whole = c.loop-sent.self-inside.whole; queue = c.loop-sent.self-inside.queue.items; room = 0 }) (record { whole = c.loop-sent.self-inside.whole; queue = c.pop_front.new.self.items; room = 0 }) (c.in-Some.sent, c.in-Some.number, c.in-Some.field-0-2) (c.args.forward + 1) c.args.rows.now.rows
     refl q (c.is_last.ensures c.if-is_last.false c.in-Some.field-0-2) (c.loop-sent.invariant f)
   where
     q : c.loop-sent.self-inside.queue.items ≡ (c.in-Some.sent, c.in-Some.number, c.in-Some.field-0-2) ∷ c.pop_front.new.self.items

@@ -1,10 +1,15 @@
-use Rattle.std.proofs.Common.{◌-◌, ◌≤◌, List, drop}
+use Rattle.std.proofs.Common.{◌≡◌, ◌-◌, ◌≤◌, List, drop}
+use Rattle.std.specs.VecDeque.{deque_len, deque_capacity}
 use Rattle.flow_send.specs.Rows.{Row}
 use Rattle.flow_send.specs.Passed.{AllAcked, ArePassed}
 use Rattle.flow_send.proofs.passed.Passed.note.Given as goal
 
 abbrev pub invariant-loop-at : goal.invariant-loop-at
-invariant-loop-at l = (l.from ≤ l.at) × ((rows : List Row) → AllAcked (l.to - l.from) (drop l.from rows) → ArePassed l.fn.self rows → ArePassed l.self-inside.counts.items rows)
+invariant-loop-at l = record {
+  from : l.from ≤ l.at;
+  counts : (rows : List Row) → AllAcked (l.to - l.from) (drop l.from rows) → ArePassed l.fn.self.counts rows → ArePassed l.self-inside.counts.items rows;
+  room : deque_capacity l.self-inside.counts - deque_len l.self-inside.counts ≡ l.fn.self.room;
+}
 
 abbrev pub decreases-loop-at : goal.decreases-loop-at
 decreases-loop-at l = l.to - l.at

@@ -1,7 +1,9 @@
-use Rattle.std.proofs.Common.{◌<◌, ◌^◌, length, ap, ◌∙◌, arith}
-use Rattle.flow_send.specs.Rows.{Row, Roomy, stored_of, is_acknowledged}
+use Rattle.std.proofs.Common.{◌<◌, ◌^◌, length, ap, sym, refl, ◌∙◌, arith}
+use Rattle.flow_send.specs.Rows.{Row, Roomy, stored_of, is_acknowledged, is_unsent}
 use Rattle.flow_send.proofs.Summing.{fits_at, lost_stored}
-use Rattle.flow_send.proofs.Passing.{none_lost_set, counts_lost, kept_at, lost_acked}
+use Rattle.flow_send.proofs.Passing.{kept_at, lost_acked}
+use Rattle.flow_send.proofs.Finding.{found_set, found_kept, late_unsent}
+use Rattle.flow_send.specs.declared.finder.Pending.TheVariants.{First, Again}
 use Rattle.flow_send.proofs.rows.Rows.lose_at.Goals as goal
 
 pub moved-self-inside-requires-clause-fits : goal.moved-self-inside-requires-clause-fits
@@ -20,6 +22,10 @@ invariant_of-self c =
     let x = c.index_mut-row.result.now in
     let y = c.lose_if_late.new.self in
     let lt : c.args.at < length i.rows.items = omega (arith, c.requires, ap (λ (p : Roomy). length p.rows) c.self.view_is) in
-    let k = kept_at i.passed i.totals c.totals-before.result c.totals-after.result c.moved-self-inside.result i.rows.items c.args.at x y c.self.invariant.0 c.totals-before.ensures c.totals-after.ensures c.index_mut-row.ensures.value lt
-    c.moved-self-inside.ensures (λ h. ap (λ (r : Row). is_acknowledged r.state) c.lose_if_late.ensures ∙ lost_acked c.args.moment c.args.resend_after x h) c.self.invariant.1 in
-    (k.0, k.1, none_lost_set c.lost_from-self-inside.result i.lost_from c.args.at i.rows.items y c.lost_from-self-inside.ensures.before (λ e. c.lost_from-self-inside.ensures.row (counts_lost y c.totals-after.result c.totals-after.ensures e)) c.self.invariant.2)
+    let k = kept_at i.passed.counts i.totals c.totals-before.result c.totals-after.result c.moved-self-inside.result i.rows.items c.args.at x y c.self.invariant.0 c.totals-before.ensures c.totals-after.ensures c.index_mut-row.ensures.value lt
+    c.moved-self-inside.ensures (λ h. ap (λ (r : Row). is_acknowledged r.state) c.lose_if_late.ensures ∙ lost_acked c.args.moment c.args.resend_after x h) c.self.invariant.1 in (
+      k.0,
+      k.1,
+      found_set Again i.lost_rows c.note.new.self i.rows.items c.args.at y c.note.ensures.base c.note.ensures.others (λ e. c.note.ensures.own refl) c.self.invariant.2,
+      found_kept First i.unsent_rows i.rows.items c.args.at x y c.index_mut-row.ensures.value lt (λ e. late_unsent c.args.moment c.args.resend_after x (sym (ap (λ (r : Row). is_unsent r.state) c.lose_if_late.ensures) ∙ e)) c.self.invariant.3,
+    )

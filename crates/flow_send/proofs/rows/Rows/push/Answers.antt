@@ -2,11 +2,14 @@ use Rattle.std.proofs.Common.{◌≡◌, List, [], ◌∷◌, ◌+◌, ◌<◌, 
 use Rattle.std.specs.List.{sum_by}
 use Rattle.flow_send.specs.declared.totals.Totals.{Totals}
 use Rattle.flow_send.specs.Moved.{moved, Fit}
-use Rattle.flow_send.specs.Passed.{ArePassed, NoneLost}
+use Rattle.flow_send.specs.Passed.{ArePassed}
+use Rattle.flow_send.specs.Finder.{Finds, is_pending}
+use Rattle.flow_send.specs.declared.finder.Pending.TheVariants.{First, Again}
 use Rattle.flow_send.specs.Rows.{Row, Roomy, stored_of, totals_of, row_totals}
 use Rattle.flow_send.proofs.Summing.{push_fits}
 use Rattle.std.proofs.lemmas.Grind.{common_steps}
-use Rattle.flow_send.proofs.Passing.{passed_more, none_lost_more}
+use Rattle.flow_send.proofs.Passing.{passed_more}
+use Rattle.flow_send.proofs.Finding.{found_push}
 use Rattle.flow_send.proofs.rows.Rows.push.Goals as goal
 
 pub moved-self-inside-requires-clause-fits : goal.moved-self-inside-requires-clause-fits
@@ -20,8 +23,11 @@ moved-self-inside-requires-clause-fits c =
 
 pub invariant_of-self : goal.invariant_of-self
 invariant_of-self c =
-    let i = c.self.inside in (
+    let i = c.self.inside in
+    let state : c.state-state.result ≡ c.args.row.state = c.state-state.ensures in
+    let at : c.len-at.result ≡ length i.rows.items = omega (arith, c.len-at.ensures, i.rows.ok) in (
       grind (arith, common_steps),
-      subst (λ (xs : List Row). ArePassed c.push.new.self xs) (sym c.push_back_reserved.ensures.items) (passed_more c.push.new.self i.rows.items (c.args.row ∷ []) (c.push.ensures i.rows.items c.self.invariant.1)),
-      subst (λ (xs : List Row). NoneLost i.lost_from xs) (sym c.push_back_reserved.ensures.items) (none_lost_more i.lost_from i.rows.items (c.args.row ∷ []) c.self.invariant.2),
+      subst (λ (xs : List Row). ArePassed c.push.new.self.counts xs) (sym c.push_back_reserved.ensures.items) (passed_more c.push.new.self.counts i.rows.items (c.args.row ∷ []) (c.push.ensures.counts i.rows.items c.self.invariant.1)),
+      subst (Finds Again c.note.new.self) (sym c.push_back_reserved.ensures.items) (found_push Again i.lost_rows c.note.new.self i.rows.items c.len-at.result c.args.row at c.note.ensures.base c.note.ensures.others (λ e. c.note.ensures.own (ap (is_pending Again) state ∙ e)) c.self.invariant.2),
+      subst (Finds First c.note-2.new.self) (sym c.push_back_reserved.ensures.items) (found_push First i.unsent_rows c.note-2.new.self i.rows.items c.len-at.result c.args.row at c.note-2.ensures.base c.note-2.ensures.others (λ e. c.note-2.ensures.own (ap (is_pending First) state ∙ e)) c.self.invariant.3),
     )

@@ -63,7 +63,7 @@ invariant_of-self-2 c =
       subst Steady (sym (after c)) (steady_queued s c.args.message.now c.args.options c.self.invariant.0 a.unfinished a.bytes a.fragments a.numbers),
       c.self.invariant.1,
       λ none. omega (arith, c.append.ensures.room, c.push-2.ensures.room, c.in_ok-reserve.ensures.room, c.len.ensures),
-      held c.self.inside.sendings c.reserve-2.new.self (c.self.inside.forward + 1) c.self.inside.rows.rows c.append.new.self.rows (next_message s c.args.message.now) (fragments_of_length (length c.args.message.now)) c.reserve-2.ensures (rows_after c) c.self.invariant.3,
+      held (record c.self.inside.sendings { room = c.reserve-2.new.self.room }) c.reserve-2.new.self (c.self.inside.forward + 1) c.self.inside.rows.rows c.append.new.self.rows (next_message s c.args.message.now) (fragments_of_length (length c.args.message.now)) c.reserve-2.ensures.kept (rows_after c) c.self.invariant.3,
       held_marks c.self.inside.marks c.make_for.new.self c.self.inside.waiting c.push.new.self (record { number = c.args.number; count = c.fragments_of-count.result; size = length c.args.message.now; options = c.args.options }) c.self.inside.sent (c.self.inside.forward + 1) c.self.inside.rows.rows c.append.new.self.rows (next_message s c.args.message.now) (fragments_of_length (length c.args.message.now))
           c.make_for.ensures c.in_ok-push.ensures.pushed (rows_after c) c.self.invariant.0.rows (let k = c.self.invariant.0.below in let n : c.args.number ≡ next_of s = c.requires.number ∙ ap (λ (f : Flow). next_of f.sender) (sym c.self.view_is) in omega (arith, k, n)) c.self.invariant.4,
     )
@@ -88,7 +88,7 @@ invariant_of-self-in_err-reserve-2 c =
       subst (λ (rs : List Row). Steady (sender_of i.forward rs i.waiting i.finish i.sent i.upto i.told i.notice i.order)) (sym e) c.self.invariant.0,
       c.self.invariant.1,
       λ none. let a = c.self.invariant.2 none in omega (arith, a, c.reserve.ensures.kept),
-      same_follows i.sendings c.reserve-2.new.self n i.rows.rows c.reserve.new.self.rows c.reserve-2.ensures e c.self.invariant.3,
+      same_follows (record i.sendings { room = c.reserve-2.new.self.room }) c.reserve-2.new.self n i.rows.rows c.reserve.new.self.rows c.reserve-2.ensures.kept e c.self.invariant.3,
       same_marks i.marks c.make_for.new.self i.waiting i.waiting n i.rows.rows c.reserve.new.self.rows c.make_for.ensures refl e c.self.invariant.4,
     )
 
@@ -100,7 +100,7 @@ invariant_of-self-in_err-push c =
       subst (λ (ws : List Waiting). Steady (sender_of i.forward c.reserve.new.self.rows ws i.finish i.sent i.upto i.told i.notice i.order)) (sym c.in_err-push.ensures.err) (subst (λ (rs : List Row). Steady (sender_of i.forward rs i.waiting i.finish i.sent i.upto i.told i.notice i.order)) (sym e) c.self.invariant.0),
       c.self.invariant.1,
       λ none. let a = c.self.invariant.2 none in omega (arith, a, c.reserve.ensures.kept),
-      same_follows i.sendings c.reserve-2.new.self n i.rows.rows c.reserve.new.self.rows c.reserve-2.ensures e c.self.invariant.3,
+      same_follows (record i.sendings { room = c.reserve-2.new.self.room }) c.reserve-2.new.self n i.rows.rows c.reserve.new.self.rows c.reserve-2.ensures.kept e c.self.invariant.3,
       same_marks i.marks c.make_for.new.self i.waiting c.push.new.self n i.rows.rows c.reserve.new.self.rows c.make_for.ensures c.in_err-push.ensures.err e c.self.invariant.4,
     )
 

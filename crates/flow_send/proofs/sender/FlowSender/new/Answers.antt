@@ -3,7 +3,6 @@ use Rattle.rtmfp_forms.specs.Options.{OptionParts, OptionsSpell, options_bytes}
 use Rattle.rtmfp_forms.specs.OptionReading.{options_in}
 use Rattle.rtmfp_forms.proofs.Lists.{options_in-spelled}
 use Rattle.flow_send.specs.declared.waiting.Waiting.{Waiting}
-use Rattle.flow_send.specs.Ordered.{Ordered}
 use Rattle.flow_send.specs.Rows.{Row}
 use Rattle.flow_send.specs.Sender.{sender_of, Sender, new_sender}
 use Rattle.flow_send.specs.Steady.{Steady}
@@ -33,7 +32,7 @@ invariant_of-result c = (
     subst (λ (os : List OptionParts). length (options_bytes os) ≤ 79) (sym (listed c)) (options_size c.args.metadata.now c.args.answers c.answer_len-answer.result c.requires.metadata c.answer_len-answer.ensures),
   ),
   λ none. c.in_ok-new.ensures.room,
-  begin c.new-2.result (c.args.first - 1 + 1) c.in_ok-new.field-0.rows (ap (λ (o : Ordered). o.queue) c.new-2.ensures) c.in_ok-new.ensures.none,
+  begin c.new-2.result (c.args.first - 1 + 1) c.in_ok-new.field-0.rows c.new-2.ensures.queue c.in_ok-new.ensures.none,
   begun_marks c.new-4.result c.new-3.result (c.args.first - 1 + 1) c.in_ok-new.field-0.rows c.in_ok-new.ensures.none,
 )
 

@@ -8,7 +8,7 @@ use Rattle.flow_send.specs.Steady.{Steady}
 use Rattle.flow_send.specs.Picked.{picked, IsOffered}
 use Rattle.flow_send.specs.Flow.{Flow, with_sender}
 use Rattle.flow_send.proofs.Chosen.{put_is}
-use Rattle.flow_send.proofs.Steadies.{steady_sent_at, chosen_open, chosen_first}
+use Rattle.flow_send.proofs.Steadies.{steady_sent_at, chosen_open}
 use Rattle.flow_send.proofs.Followed.{sent_on}
 use Rattle.flow_send.proofs.Keepings.{sent_marks}
 use Rattle.flow_send.proofs.sender.FlowSender.send_row.Goals as goal
@@ -37,13 +37,6 @@ send-requires-clause-open c =
     let s = sender_of i.forward i.rows.rows i.waiting i.finish i.sent i.upto i.told i.notice i.order in
     let o : IsOffered s (pick.Row c.args.at) = subst (λ (f : Flow). IsOffered f.sender (pick.Row c.args.at)) (sym c.self.view_is) c.requires in
     chosen_open s o.moment o.resend (i.forward + 1 + c.args.at) (row_at i.rows.rows c.args.at) o.chosen
-
-pub send-requires-clause-first : goal.send-requires-clause-first
-send-requires-clause-first c =
-    let i = c.self.inside in
-    let s = sender_of i.forward i.rows.rows i.waiting i.finish i.sent i.upto i.told i.notice i.order in
-    let o : IsOffered s (pick.Row c.args.at) = subst (λ (f : Flow). IsOffered f.sender (pick.Row c.args.at)) (sym c.self.view_is) c.requires in
-    chosen_first s o.moment o.resend c.args.at (row_at i.rows.rows c.args.at) (omega (arith, o.there)) o.chosen
 
 pub invariant_of-self : goal.invariant_of-self
 invariant_of-self c =
