@@ -14,10 +14,13 @@
 //! tell a number each. `abandons COUNT` has one abandon its messages from the middle on, and in
 //! `deadlines COUNT` they become overdue one after another, the last one first. `limits COUNT` has a
 //! sender lose so many messages by time twice, every second of which may be sent again once, and
-//! ask before each sending which message is overdue. `full COUNT` has a
-//! receiver with a full buffer refuse as many chunks as there are beginnings of messages that each
-//! of them would pass. The answer is the word, how many chunks there were, and how many messages
-//! were handed over, sent again, told, abandoned or refused.
+//! ask before each sending which message is overdue. `unsent COUNT` has a sender with one number in
+//! flight abandon the messages behind it, which were never sent, and look after each for the next
+//! chunk, and `early COUNT` has one lose the highest of so many numbers in flight, and then lose
+//! the lower ones in turn and send them again, and look as often. `full COUNT` has a receiver with a
+//! full buffer refuse as many chunks as there are beginnings of messages that each of them would
+//! pass. The answer is the word, how many chunks there were, and how many messages were handed
+//! over, sent again, told, abandoned, found or refused.
 #![tactic(auto)]
 
 ghost use Rattle.std.specs.Prelude.{◌≡◌, ◌+◌, ◌<◌, ◌≤◌, false, true, length};
@@ -133,6 +136,12 @@ fn moved_by(
     }
     if word == "full" {
         return full(rt, size);
+    }
+    if word == "unsent" {
+        return unsent(rt, size);
+    }
+    if word == "early" {
+        return early(rt, size);
     }
     let job = Job {
         size: size.min(1_048_576) as usize,
@@ -484,6 +493,59 @@ fn lose_and_send(from: &mut FlowSender, moment: u64) -> u64 {
         sent = sent.wrapping_add(1);
     }
     sent
+}
+
+/// One number is in flight and is never told. The messages behind it but the last one are
+/// abandoned, and after each the next chunk is looked for.
+fn unsent(rt: &impl AllocGlobal, count: u64) -> Result<Moved, Memory> {
+    let count = count.min(65_000);
+    let mut from = sender_of(rt, count)?;
+    let _ = from.next_chunk(false, 1164, 0, u64::MAX, 0, RESEND_AFTER);
+    let mut found: u64 = 0;
+    for seq in 2..count {
+        let _ = from.abandon(seq);
+        if from
+            .offers(false, 1164, 0, u64::MAX, 0, RESEND_AFTER)
+            .is_ok()
+        {
+            found = found.wrapping_add(1);
+        }
+    }
+    Ok(Moved {
+        queued: 0,
+        chunks: count,
+        handed: found,
+    })
+}
+
+/// The highest number in flight is lost. Then the lower ones are, one after another, and are sent
+/// again, and after each the next chunk is looked for.
+fn early(rt: &impl AllocGlobal, count: u64) -> Result<Moved, Memory> {
+    let count = count.min(65_000);
+    let mut from = sender_of(rt, count)?;
+    let chunks = send_all(&mut from, 0);
+    let _ = from.find_lost(RESEND_AFTER, RESEND_AFTER);
+    for at in 1..count {
+        let moment = RESEND_AFTER.saturating_add(at);
+        let _ = from.next_chunk(false, 1164, 0, u64::MAX, moment, RESEND_AFTER);
+    }
+    let mut again: u64 = 0;
+    for at in 1..count {
+        let moment = (2 * RESEND_AFTER).saturating_add(at);
+        let _ = from.find_lost(moment, RESEND_AFTER);
+        let _ = from.next_chunk(false, 1164, 0, u64::MAX, moment, RESEND_AFTER);
+        if from
+            .offers(false, 1164, 0, u64::MAX, moment, RESEND_AFTER)
+            .is_ok()
+        {
+            again = again.wrapping_add(1);
+        }
+    }
+    Ok(Moved {
+        queued: 0,
+        chunks,
+        handed: again,
+    })
 }
 
 /// A receiver whose buffer a whole message fills holds so many beginnings of others, and refuses as
