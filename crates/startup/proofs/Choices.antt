@@ -6,6 +6,9 @@ use Rattle.startup.specs.declared.cause.Cause.{Cause}
 use Rattle.startup.specs.State.{AttemptState, Attempts}
 use Rattle.startup.specs.Attempts.{has_cookie, if_cookie, changed, wide, none_to_change, change_cause_among}
 use Rattle.startup.specs.Sought.{IsChosen, IsChosenAt}
+use Rattle.startup.specs.declared.leaving.Found.{Found}
+use Rattle.startup.specs.State.{StartupState}
+use Rattle.startup.specs.Judging.{IsFound, found_in, with_near}
 
 -- an attempt that is there, and what was got
 pub got_is : (attempts : Attempts) (near : ℕ) (a b : AttemptState) → get attempts near ≡ Some a → get attempts near ≡ Some b → a ≡ b
@@ -35,3 +38,11 @@ change_stands attempts sid old new near narrow_old narrow_new chosen =
 pub chosen_or_none : (chosen : Option (ℕ × AttemptState)) (attempts : Attempts) (near : Option ℕ) → IsChosen chosen attempts near → is_some near ≡ is_some chosen
 chosen_or_none chosen attempts None is = sym (ap is_some is)
 chosen_or_none chosen attempts (Some near) is = sym (ap is_some is.chosen_is)
+
+-- what was found is what is chosen
+module _ (s : StartupState) (found : Found) (chosen : Option (ℕ × AttemptState)) (is : IsFound s found chosen) where
+  pub found_is : chosen ≡ found_in s found
+  found_is = is.chosen_is ∙ sym (ap (with_near found.near) is.there)
+
+  pub found_there : IsFound s found (found_in s found)
+  found_there = record { attempt = is.attempt; chosen_is = ap (with_near found.near) is.there; there = is.there }

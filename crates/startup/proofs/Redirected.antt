@@ -1,11 +1,13 @@
 -- Redirects: the addresses that join the candidates, and addresses that are spelled one after another.
-use Rattle.std.proofs.Common.{◌≡◌, ℕ, ◌≤◌, ◌<◌, Bool, true, false, if◌then◌else◌, List, [], ◌∷◌, ◌++◌, length, Some, None, refl, sym, ap, ◌∙◌, arith, append_assoc, append-nil, length-append}
+use Rattle.std.proofs.Common.{◌≡◌, ℕ, ◌≤◌, Bool, true, false, if◌then◌else◌, List, [], ◌∷◌, ◌++◌, length, Some, None, refl, sym, ap, ◌∙◌, arith, append_assoc, append-nil, length-append}
 use Rattle.std.specs.List.{fold, list_any}
 use Rattle.rtmfp_forms.specs.Address.{AddressParts, AddressSpells, address_bytes, is_same_place}
 use Rattle.rtmfp_chunks.specs.Fields.{AddressesSpell, AreAddresses}
 use Rattle.startup.specs.State.{AttemptState, StartupState}
-use Rattle.startup.specs.Attempts.{has_tag, lowest, with_attempt}
-use Rattle.startup.specs.Redirects.{joined_beside, new_candidates, addresses_bytes, redirect_cause_among, redirect_spread_of, sent_by_spread, added, extended, after_extension, after_redirect_of}
+use Rattle.startup.specs.Attempts.{has_tag, lowest}
+use Rattle.startup.specs.Redirects.{joined_beside, new_candidates, addresses_bytes, redirect_cause_among, redirect_spread_of, sent_by_spread, added, after_extension, after_redirect_of}
+use Rattle.startup.specs.Sought.{IsExtension}
+use Rattle.startup.specs.Judging.{IsFound, ExtensionParts, Extends, after_extension_of, extension_spread}
 
 -- ---- new candidates
 
@@ -24,10 +26,6 @@ beside_grows candidates new (a ∷ rest) =
       beside_grows candidates (joined_beside candidates new a) rest,
     )
 
-extension_is : (s : StartupState) (e : ℕ × AttemptState) (new : List AddressParts) (moment : ℕ) → 0 < length new → with_attempt s e.0 (extended e.1 new moment) ≡ after_extension s e new moment
-extension_is s e [] moment some = absurd (omega (arith, some))
-extension_is s e (first ∷ others) moment some = refl
-
 -- ---- what a redirect does to the attempt that it is for
 module _ (s : StartupState) (e : ℕ × AttemptState) (tag : List ℕ) (told new : List AddressParts) (chosen : lowest (has_tag tag) s.attempts ≡ Some e) (is : new ≡ new_candidates e.1.candidates told) where
   -- how many hellos it sends
@@ -35,9 +33,25 @@ module _ (s : StartupState) (e : ℕ × AttemptState) (tag : List ℕ) (told new
   count_is none =
       ap length is ∙ sym (ap (λ o. added o (redirect_spread_of (lowest (has_tag tag) s.attempts) told)) none ∙ ap (λ o. sent_by_spread (redirect_spread_of o told)) chosen)
 
-  -- what it leaves, where there is a new candidate
-  pub left_is : (moment : ℕ) → 0 < length new → with_attempt s e.0 (extended e.1 new moment) ≡ after_redirect_of s (lowest (has_tag tag) s.attempts) told moment
-  left_is moment some = extension_is s e new moment some ∙ ap (λ l. after_extension s e l moment) is ∙ sym (ap (λ o. after_redirect_of s o told moment) chosen)
+-- what a redirect adds that has this tag and tells these addresses
+module _ (s : StartupState) (tag : List ℕ) (told : List AddressParts) (e : ExtensionParts) (is : IsExtension s.attempts tag told e.found.near e.new) where
+  pub extends : Extends s e
+  extends = record { attempt = is.attempt; there = is.there; few = is.few }
+
+  pub is_found : IsFound s e.found (lowest (has_tag tag) s.attempts)
+  is_found = record { attempt = is.attempt; chosen_is = is.chosen_is; there = is.there }
+
+  -- the hellos that it sends
+  pub spread_is : extension_spread (lowest (has_tag tag) s.attempts) e.new ≡ redirect_spread_of (lowest (has_tag tag) s.attempts) told
+  spread_is =
+      ap (λ o. extension_spread o e.new) is.chosen_is ∙ ap (λ l. extension_spread (Some (e.found.near, is.attempt)) l) is.new_is
+      ∙ sym (ap (λ o. redirect_spread_of o told) is.chosen_is)
+
+  -- what it leaves
+  pub left_is : (moment : ℕ) → after_extension_of s (lowest (has_tag tag) s.attempts) e.new moment ≡ after_redirect_of s (lowest (has_tag tag) s.attempts) told moment
+  left_is moment =
+      ap (λ o. after_extension_of s o e.new moment) is.chosen_is ∙ ap (λ l. after_extension s (e.found.near, is.attempt) l moment) is.new_is
+      ∙ sym (ap (λ o. after_redirect_of s o told moment) is.chosen_is)
 
 -- ---- addresses that are spelled
 

@@ -1,6 +1,7 @@
 -- What a chunk that isn't discarded is found to be, before anything changes.
-use Rattle.std.specs.Prelude.{ℕ, List, ◌≡◌, Option, Some, None, Result, Ok, Err}
+use Rattle.std.specs.Prelude.{ℕ, ◌+◌, ◌≤◌, List, length, ◌≡◌, refl, Option, Some, None, Result, Ok, Err}
 use Rattle.std.specs.FinMap.{get}
+use Rattle.std.specs.Coded.{Coded, code_by, coded×, coded_list}
 use Rattle.sha2.specs.Sha256.{sha256}
 use Rattle.rtmfp_forms.specs.Address.{AddressParts}
 use Rattle.cookies.specs.declared.CookieTest.{CookieTest}
@@ -13,7 +14,9 @@ use Rattle.startup.specs.declared.cause.Cause.{Cause}
 use Rattle.startup.specs.declared.judging.Hearing.{Hearing}
 use Rattle.startup.specs.declared.judging.Hearing.TheVariants.{Change, Again, Birth}
 use Rattle.startup.specs.declared.leaving.Found.{Found}
-use Rattle.startup.specs.State.{AttemptState, StartupState}
+use Rattle.startup.specs.State.{AttemptState, StartupState, SpreadParts}
+use Rattle.startup.specs.Attempts.{hello_spread}
+use Rattle.startup.specs.Redirects.{after_extension}
 use Rattle.startup.specs.Keyings.{InitiatorKeying, keying_of, repeated_session, initiator_cause}
 
 -- what was found, where no cause stands
@@ -47,3 +50,40 @@ pub record IsFound (s : StartupState) (found : Found) (chosen : Option (ℕ × A
   pub attempt : AttemptState
   pub chosen_is : chosen ≡ Some (found.near, attempt)
   pub there : get s.attempts found.near ≡ Some attempt
+
+-- the attempt that was found, with its near id
+abbrev pub with_near : ℕ → Option AttemptState → Option (ℕ × AttemptState)
+with_near near None = None
+with_near near (Some a) = Some (near, a)
+
+abbrev pub found_in : StartupState → Found → Option (ℕ × AttemptState)
+found_in s found = with_near found.near (get s.attempts found.near)
+
+-- ---- redirects
+
+-- what a redirect adds: the attempt that was found, and its further candidates
+pub record ExtensionParts : Type 0 where
+  pub found : Found
+  pub new : List AddressParts
+
+-- The attempt is there, and takes the further candidates beside its own.
+pub record Extends (s : StartupState) (extension : ExtensionParts) : Type 0 where
+  pub attempt : AttemptState
+  pub there : get s.attempts extension.found.near ≡ Some attempt
+  pub few : length attempt.candidates + length extension.new ≤ 16
+
+-- what further candidates of the attempt that is chosen leave, and its hellos for them
+abbrev pub after_extension_of : StartupState → Option (ℕ × AttemptState) → List AddressParts → ℕ →
+    StartupState
+after_extension_of s None new moment = s
+after_extension_of s (Some e) new moment = after_extension s e new moment
+
+abbrev pub extension_spread : Option (ℕ × AttemptState) → List AddressParts → Option SpreadParts
+extension_spread None new = None
+extension_spread (Some e) new = Some (hello_spread e.1 new)
+
+-- how an extension is stored: as the pair of its fields
+abbrev pub extension_code : Coded Found → Coded AddressParts → Coded ExtensionParts
+extension_code found address =
+    code_by (Found × List AddressParts) (coded× found (coded_list address))
+    (λ e. (e.found, e.new)) (λ p. record { found = p.0; new = p.1 }) (λ _. refl)

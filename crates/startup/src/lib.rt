@@ -37,5 +37,5 @@ pub use judging::Hearing;
 pub use leaving::Found;
 pub use parts::{InitiatorPart, ResponderPart};
 pub use reading::{InitiatorFields, ResponderFields, read_initiator_keying, read_responder_keying};
-pub use redirecting::redirect_answer;
+pub use redirecting::{Extension, redirect_answer};
 pub use startup::Startup;

@@ -1,10 +1,14 @@
 //! Redirects, which tell further addresses of the peer that an attempt is towards.
 
-ghost use Rattle.std.specs.Prelude.{◌≡◌, ◌≤◌, ◌+◌, ◌<◌, length, take, IfErr, IfNone, IfOk, IfSome, IsOk, OnErr, OnOk, Err, Some, None};
-ghost use Rattle.startup.specs.Redirects.{adds, after_redirect, new_candidates, redirect_answer};
-ghost use Rattle.startup.specs.Redirects.{redirect_cause, redirect_cause_among, redirect_spread};
-ghost use Rattle.startup.specs.Redirects.{told_addresses};
+ghost use Rattle.std.specs.Prelude.{ℕ, ◌≡◌, ◌≤◌, ◌+◌, ◌<◌, length, take, Option};
+ghost use Rattle.std.specs.Prelude.{IfErr, IfNone, IfOk, IfSome, IsOk, OnErr, OnOk, Err, Some, None};
+ghost use Rattle.startup.specs.State.{AttemptState};
+ghost use Rattle.startup.specs.Attempts.{has_tag, lowest};
+ghost use Rattle.startup.specs.Redirects.{added, adds, after_redirect, new_candidates};
+ghost use Rattle.startup.specs.Redirects.{redirect_answer, redirect_cause, redirect_cause_among};
+ghost use Rattle.startup.specs.Redirects.{redirect_spread, redirect_spread_of, told_addresses};
 ghost use Rattle.startup.specs.Sought.{IsExtension};
+ghost use Rattle.startup.specs.Judging.{after_extension_of, extension_spread, Extends, IsFound};
 
 use crate::answer::{Answer, Spread};
 use crate::attempt::Change;
@@ -13,17 +17,47 @@ use crate::cause::Cause;
 use crate::choosing::wide;
 use crate::indexed::IndexedAttempts;
 use crate::judging::is_in_hello;
+use crate::leaving::Found;
 use crate::packets::redirect_packet;
 use crate::rows::Sought;
 use crate::sending::hello_to;
 use crate::startup::Startup;
 use rtmfp_forms::Address;
+use std::marker::Model;
 
-/// What a redirect adds: the near id of its attempt, and the new candidates.
+/// What a redirect adds: the attempt that was found, and its further candidates.
+///
+/// Contracts see the candidates as their list.
 #[derive(Drop)]
-struct Extension {
-    near: u32,
-    new: Candidates,
+pub struct Extension {
+    pub(crate) found: Found,
+    pub(crate) new: Candidates,
+}
+
+impl Model for Extension {
+    ghost use Rattle.std.specs.Prelude.{◌≡◌, length, take};
+    ghost use Rattle.startup.specs.Judging.{ExtensionParts, extension_code};
+    ghost use Rattle.rtmfp_forms.specs.contracts.address.Address as address_type;
+    ghost use Rattle.startup.specs.contracts.leaving.Found as found_type;
+
+    ghost Value = { ExtensionParts };
+
+    ghost coded = { extension_code found_type.the_row.coded address_type.the_row.coded };
+
+    ghost view = { λ e. record { found = e.found; new = take e.new.count e.new.to } };
+
+    ghost invariant = { λ e. length (take e.new.count e.new.to) ≡ e.new.count };
+}
+
+impl Extension {
+    ghost use Rattle.std.specs.Prelude.{◌≡◌, length};
+
+    /// How many hellos it sends: one to each of the further candidates.
+    pub fn count(&self) -> usize
+        ensures { result ≡ length self.now.new }
+    {
+        self.new.count
+    }
 }
 
 /// What a redirect with this tag and list adds that came from an address, or why it is discarded.
@@ -34,8 +68,11 @@ fn extension_by(
     from: &Address,
 ) -> Result<Extension, Cause>
     ensures chosen { IfOk result (λ e. IsExtension attempts.now.attempts tag.now
-        (told_addresses list.now from.now) e.near (take e.new.count e.new.to)) }
-    ensures counted { IfOk result (λ e. length (take e.new.count e.new.to) ≡ e.new.count) }
+        (told_addresses list.now from.now) e.found.near e.new) }
+    ensures counted { IfOk result (λ e. length e.new ≡ added
+        (redirect_cause_among attempts.now.attempts tag.now (told_addresses list.now from.now))
+        (redirect_spread_of (lowest (has_tag tag.now) attempts.now.attempts)
+        (told_addresses list.now from.now))) }
     ensures none { IfOk result (λ _. redirect_cause_among attempts.now.attempts tag.now
         (told_addresses list.now from.now) ≡ None) }
     ensures refused { IfErr result (λ cause. redirect_cause_among attempts.now.attempts tag.now
@@ -56,7 +93,10 @@ fn extension_by(
     }
     let held = attempt.addresses();
     match new_candidates(held, list, from) {
-        Some(new) => Ok(Extension { near, new }),
+        Some(new) => Ok(Extension {
+            found: Found { near },
+            new,
+        }),
         None => Err(Cause::CandidatesFull(held.len() as u64)),
     }
 }
@@ -76,20 +116,49 @@ pub fn redirect_answer(tag: &[u8], addresses: &[Address], to: &Address) -> Answe
 }
 
 impl Startup {
-    /// How many hellos a redirect sends, or why it is discarded.
+    /// What a redirect adds, or why it is discarded.
     ///
     /// The causes are those of `redirect`, in their order. It changes nothing and takes no memory.
-    pub fn judge_redirect(&self, tag: &[u8], list: &[u8], from: &Address) -> Result<usize, Cause>
-        ensures ok { IfOk result (λ count. count ≡ adds self.now tag.now list.now from.now) }
+    pub fn judge_redirect(
+        &self,
+        tag: &[u8],
+        list: &[u8],
+        from: &Address,
+    ) -> Result<Extension, Cause>
+        ensures extension { IfOk result (λ e. IsExtension self.now.attempts tag.now
+            (told_addresses list.now from.now) e.found.near e.new) }
+        ensures ok { IfOk result (λ e. length e.new ≡ adds self.now tag.now list.now from.now) }
         ensures none { IfOk result (λ _. redirect_cause self.now tag.now list.now from.now
             ≡ None) }
         ensures refused { IfErr result (λ cause. redirect_cause self.now tag.now list.now from.now
             ≡ Some cause) }
     {
-        match extension_by(&self.attempts, tag, list, from) {
-            Ok(found) => Ok(found.new.count),
-            Err(cause) => Err(cause),
+        extension_by(&self.attempts, tag, list, from)
+    }
+
+    /// An attempt that was found has what a redirect adds as candidates, and its hello for them is
+    /// given; where nothing is added, all is as before. It takes no memory.
+    pub fn apply_redirect(&mut self, extension: &Extension, moment: u64) -> Spread
+        requires { Extends self.old extension.now }
+        ensures spread { (chosen : Option (ℕ × AttemptState)) →
+            IsFound self.old extension.now.found chosen →
+            extension_spread chosen extension.now.new ≡ Some result }
+        ensures after { (chosen : Option (ℕ × AttemptState)) →
+            IsFound self.old extension.now.found chosen →
+            self.new ≡ after_extension_of self.old chosen extension.now.new moment }
+    {
+        let near = extension.found.near;
+        let new = &extension.new;
+        let spread = match self.attempts.get(near) {
+            Some(attempt) => hello_to(attempt, &new.to, new.count),
+            None => unreachable!(),
+        };
+        if new.count == 0 {
+            return spread;
         }
+        self.attempts
+            .change(near, &Change::Extended(&new.to[..new.count]), moment);
+        spread
     }
 
     /// How many hellos `redirect` would send for this redirect; 0 where it would give a cause. It
@@ -98,7 +167,7 @@ impl Startup {
         ensures { result ≡ adds self.now tag.now list.now from.now }
     {
         match self.judge_redirect(tag, list, from) {
-            Ok(count) => count,
+            Ok(extension) => extension.count(),
             Err(_) => 0,
         }
     }
@@ -127,19 +196,9 @@ impl Startup {
         ensures heard { IfNone (redirect_cause self.old tag.now list.now from.now) (IsOk result) }
         ensures err { OnErr result (self.new ≡ self.old) }
     {
-        let Extension { near, new } = match extension_by(&self.attempts, tag, list, from) {
-            Ok(found) => found,
-            Err(cause) => return Err(cause),
-        };
-        let spread = match self.attempts.get(near) {
-            Some(attempt) => hello_to(attempt, &new.to, new.count),
-            None => unreachable!(),
-        };
-        if new.count == 0 {
-            return Ok(spread);
+        match self.judge_redirect(tag, list, from) {
+            Ok(extension) => Ok(self.apply_redirect(&extension, moment)),
+            Err(cause) => Err(cause),
         }
-        self.attempts
-            .change(near, &Change::Extended(&new.to[..new.count]), moment);
-        Ok(spread)
     }
 }
