@@ -70,7 +70,7 @@ use Rattle.endpoint_handing.proofs.Kept.{hands_after, does_after, does_then, doe
 use Rattle.endpoint_handing.proofs.Silent.{AreSilent, AllHad, had_it, had_left, does_silent}
 use Rattle.endpoint_handing.proofs.Silent.{does_from}
 use Rattle.endpoint_handing.proofs.Begun.{does_begin}
-use Rattle.endpoint_handing.proofs.Kin.{IsKin, kin_keying}
+use Rattle.endpoint_laws.proofs.Kin.{IsKin, kin_keying}
 use Rattle.endpoint_handing.proofs.Plain.{ping_none}
 use Rattle.endpoint_handing.proofs.Sent.{does_answer, does_in_session}
 use Rattle.endpoint_handing.proofs.Items.{ended_silent, does_discarded, does_told, does_read}

@@ -75,9 +75,9 @@ use Rattle.endpoint_handing.proofs.Silent.{IsAlike, does_silent, does_from}
 use Rattle.endpoint_handing.proofs.Bodies.{body_pieces}
 use Rattle.endpoint_handing.proofs.Plain.{close_none, close_ack_none, ping_none, reply_none}
 use Rattle.endpoint_handing.proofs.Plain.{hello_none}
-use Rattle.endpoint_handing.proofs.Kin.{IsKin, kin_ended, kin_confirm, kin_end, kin_rhello}
-use Rattle.endpoint_handing.proofs.Kin.{kin_change}
-use Rattle.endpoint_handing.proofs.Kin.{kin_redirect, kin_due}
+use Rattle.endpoint_laws.proofs.Kin.{IsKin, kin_ended, kin_confirm, kin_end, kin_rhello}
+use Rattle.endpoint_laws.proofs.Kin.{kin_change}
+use Rattle.endpoint_laws.proofs.Kin.{kin_redirect, kin_due}
 use Rattle.endpoint_handing.proofs.Sent.{does_answer, does_answered, does_spread, does_in_session}
 use Rattle.endpoint_handing.proofs.Sent.{does_home}
 

@@ -87,7 +87,8 @@ use Rattle.endpoint_laws.proofs.OutSends.{Sent}
 use Rattle.endpoint_laws.proofs.Orderly.{Orderly, chunks_orderly}
 use Rattle.endpoint_laws.proofs.Logged.{LogIs, log_is}
 use Rattle.endpoint_laws.proofs.OutBirths.{small_free}
-use Rattle.endpoint_laws.proofs.Few.{outs_append}
+use Rattle.endpoint_laws.proofs.Few.{outs_append, few_law, few_begins}
+use Rattle.endpoint_laws.proofs.Made.{chunks_made}
 use Rattle.endpoint_laws.proofs.OutPackets.{one_whole, session_reads}
 use Rattle.endpoint_laws.proofs.ReadsBack.{none_all, less_is_other, IsBearing, read_as, is_bearing}
 use Rattle.endpoint_laws.proofs.AnswerCarried.{keying_answers}
@@ -337,7 +338,7 @@ module _ (setup : Setup) (past : List Stamped) (s : State) (tied : Tied setup pa
   u = first.state
 
   front_orderly : Orderly setup (Receive from datagram draws) past s first
-  front_orderly = chunks_orderly setup is from datagram draws fits a.packet Startup came outset [] cut.front (a.chunk ∷ (cut.back ++ rest)) s past (record { whole = in_all; keyed = λ e c none is. none }) tied sent_so well tt
+  front_orderly = chunks_orderly setup is from datagram draws fits a.packet Startup came outset [] cut.front (a.chunk ∷ (cut.back ++ rest)) s past (record { whole = in_all; keyed = λ e c none is. none; small = tt }) tied sent_so well tt
 
   abbrev after_front : Goes setup (Receive from datagram draws) past s first
   after_front = front_orderly.goes
@@ -386,7 +387,7 @@ module _ (setup : Setup) (past : List Stamped) (s : State) (tied : Tied setup pa
 
   few_so : u.sealed ≤ s.sealed + outs_in (chunks_did Startup from draws outset s gone).entries
   few_so =
-      omega (arith, front_orderly.few, ap outs_in in_two, outs_append first.entries ((chunk_did Startup from draws walk u a.chunk).entries ++ later))
+      omega (arith, chunks_made few_law few_begins Startup from draws outset s cut.front tt, ap outs_in in_two, outs_append first.entries ((chunk_did Startup from draws walk u a.chunk).entries ++ later))
 
   bears : (u.sealed == last_count) ≡ false → count (facts_of past) < 2 ^ 64 → (x : Joined) × IsOfOffer offer draws.nonce (facts_of past) x × IsBornAndTold setup from x (chunks_did Startup from draws outset s gone).entries
   bears some counted =

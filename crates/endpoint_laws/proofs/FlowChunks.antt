@@ -16,7 +16,6 @@ use Rattle.endpoint_model.specs.declared.entry.Entry.{Entry}
 use Rattle.endpoint_model.specs.Event.{Setup, Call}
 use Rattle.endpoint_model.specs.State.{State, nothing}
 use Rattle.endpoint_model.specs.Sending.{packet_head}
-use Rattle.endpoint_model.specs.InSessions.{sent_home}
 use Rattle.endpoint_model.specs.OnFlows.{flow_entry, with_flows}
 use Rattle.endpoint_model.specs.FlowChunks.{flow_taken_by, flow_taken, acks_body, acked_by, unowed_by}
 use Rattle.endpoint_laws.specs.Past.{Stamped}
@@ -27,9 +26,7 @@ use Rattle.endpoint_laws.proofs.InSessions.{goes_and_home}
 use Rattle.endpoint_laws.proofs.OutSends.{Sent, Meets, meets_nothing}
 use Rattle.endpoint_laws.proofs.OutSessions.{and_home}
 use Rattle.endpoint_laws.proofs.OutAcks.{acks_are_modest}
-use Rattle.endpoint_laws.proofs.Hearing.{Follows, follows_nothing, follows_then}
-use Rattle.endpoint_laws.proofs.Following.{follows_home}
-use Rattle.endpoint_laws.proofs.OnFlows.{IsLike, like_itself, goes_unseen, meets_unseen, follows_unseen}
+use Rattle.endpoint_laws.proofs.OnFlows.{IsLike, like_itself, goes_unseen, meets_unseen}
 
 -- ---- what a chunk leaves of its session: only the window of its flows changes
 
@@ -49,7 +46,7 @@ like_opened : (moment : ℕ) (session : SessionState) (a : Told) (o : Option Flo
 like_opened moment session a None = like_itself moment session
 like_opened moment session a (Some f) = like_lost moment (new_bytes a (f.sender.forward + 1) f.sender.rows) session (makes_lost a f.sender)
 
-like_after : (moment : ℕ) (session : SessionState) (flows : FlowsState) (chunk : DataChunk) → IsLike moment session (session_after session flows chunk)
+pub like_after : (moment : ℕ) (session : SessionState) (flows : FlowsState) (chunk : DataChunk) → IsLike moment session (session_after session flows chunk)
 like_after moment session flows (Data user) = like_itself moment session
 like_after moment session flows (Next user) = like_itself moment session
 like_after moment session flows (AckBitmap flow blocks upto bits) = like_opened moment session (told blocks upto (numbers_acked (AckBitmap flow blocks upto bits))) (sending_at flows flow)
@@ -76,10 +73,6 @@ module _ (s : State) (near : ℕ) (chunk : DataChunk) where
   meets_by setup call past sent (Some row) is =
       meets_unseen s near row (left row) is (like_after s.moment row.session row.flows chunk) (added row) (flows_unseen near (chunk_done row.flows chunk).stated) setup call past sent
 
-  follows_by : (o : Option Row) → get s.sessions near ≡ o → Follows s (flow_taken_by s near chunk o)
-  follows_by None is = follows_nothing s
-  follows_by (Some row) is = follows_unseen s near row (left row) is (like_after s.moment row.session row.flows chunk) (added row) (flows_unseen near (chunk_done row.flows chunk).stated)
-
 pub goes_flow_taken : (setup : Setup) (call : Call) (s : State) (near : ℕ) (read : Result DataChunk DataFault) → Keeps setup call s (flow_taken s near read)
 goes_flow_taken setup call s near (Ok chunk) = goes_by s near chunk setup call (get s.sessions near) refl
 goes_flow_taken setup call s near (Err fault) = goes_nothing setup call s
@@ -87,10 +80,6 @@ goes_flow_taken setup call s near (Err fault) = goes_nothing setup call s
 pub meets_flow_taken : (setup : Setup) (call : Call) (past : List Stamped) (s : State) → Sent setup past s → (near : ℕ) (read : Result DataChunk DataFault) → Meets setup s.moment call past (flow_taken s near read)
 meets_flow_taken setup call past s sent near (Ok chunk) = meets_by s near chunk setup call past sent (get s.sessions near) refl
 meets_flow_taken setup call past s sent near (Err fault) = meets_nothing setup s.moment call past s sent
-
-pub follows_flow_taken : (s : State) (near : ℕ) (read : Result DataChunk DataFault) → Follows s (flow_taken s near read)
-follows_flow_taken s near (Ok chunk) = follows_by s near chunk (get s.sessions near) refl
-follows_flow_taken s near (Err fault) = follows_nothing s
 
 -- ---- a packet of acks, and acks that aren't sent any more
 
@@ -125,16 +114,3 @@ module _ (s : State) (near : ℕ) where
     pub meets_unowed_by : Sent setup past s → (o : Option Row) → get s.sessions near ≡ o → Meets setup s.moment call past (nothing (unowed_by s near o))
     meets_unowed_by sent None is = meets_nothing setup s.moment call past s sent
     meets_unowed_by sent (Some row) is = meets_these sent row (owing_none row.flows) is
-
-  follows_these : (row : Row) (flows : FlowsState) → get s.sessions near ≡ Some row → Follows s (nothing (with_flows s near row flows))
-  follows_these row flows is = follows_unseen s near row (with_these row flows) is (like_itself s.moment row.session) [] tt
-
-  pub follows_acked_by : (o : Option Row) → get s.sessions near ≡ o → Follows s (acked_by s near o)
-  follows_acked_by None is = follows_nothing s
-  follows_acked_by (Some row) is =
-      let t : State = with_flows s near row (paid_flows row) in
-      follows_then s (nothing t) (λ u. sent_home u near (acks_body row s.moment)) (follows_these row (paid_flows row) is) (follows_home t near (acks_body row s.moment))
-
-  pub follows_unowed_by : (o : Option Row) → get s.sessions near ≡ o → Follows s (nothing (unowed_by s near o))
-  follows_unowed_by None is = follows_nothing s
-  follows_unowed_by (Some row) is = follows_these row (owing_none row.flows) is

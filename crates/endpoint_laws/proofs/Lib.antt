@@ -1,3 +1,6 @@
+pub mod Kin
+pub mod Small
+pub mod Made
 mod Matching
 mod Tied
 mod Agrees

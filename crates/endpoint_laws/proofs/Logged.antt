@@ -33,14 +33,16 @@ use Rattle.endpoint_laws.proofs.Starting.{goes_opening}
 use Rattle.endpoint_laws.proofs.Ending.{goes_cancelling}
 use Rattle.endpoint_laws.proofs.SessionChunks.{goes_closing}
 use Rattle.endpoint_laws.proofs.OutSessions.{meets_closing}
-use Rattle.endpoint_laws.proofs.Hearing.{HeardWell}
-use Rattle.endpoint_laws.proofs.OnFlows.{goes_flow_called, meets_flow_called, few_flow_called, heard_flow_called}
-use Rattle.endpoint_laws.proofs.Following.{heard_opening, heard_cancelling, heard_closing}
+use Rattle.endpoint_laws.proofs.Hearing.{HeardWell, heard_follows}
+use Rattle.endpoint_laws.proofs.OnFlows.{goes_flow_called, meets_flow_called}
+use Rattle.endpoint_laws.proofs.Made.{opening_made, cancelling_made, closing_made, called_made}
+use Rattle.endpoint_laws.proofs.Following.{follows_law}
+use Rattle.endpoint_laws.proofs.HeardChunks.{heard_begins}
 use Rattle.endpoint_laws.proofs.HeardEvents.{AreNamed, are_named, heard_fresh, heard_begun, no_datagram, not_gone_through, gone_through_is, AdmissionHeard}
 use Rattle.endpoint_laws.proofs.HeardAdmission.{heard_admission}
 use Rattle.endpoint_laws.proofs.Admitting.{admission_is}
 use Rattle.endpoint_laws.proofs.Counts.{few_after, answers_counted}
-use Rattle.endpoint_laws.proofs.Few.{few_same, few_opening, few_closing, few_does, onto_outs}
+use Rattle.endpoint_laws.proofs.Few.{few_answers, onto_outs}
 use Rattle.endpoint_laws.proofs.OutNumbers.{numbered_new, numbered_begun}
 use Rattle.endpoint_laws.proofs.OutSends.{AreFew, Sent}
 use Rattle.endpoint_laws.proofs.OutBirths.{small_free}
@@ -78,21 +80,20 @@ module _ (setup : Setup) (is : IsSetup setup) (past : List Stamped) (s t : State
     orderly = record {
       goes = goes_opening setup past s peer candidates draws is.sessions fits.2 h.0 tied;
       meets = meets_opening setup s.moment (Open peer candidates draws) past s sent tied peer candidates draws fits.0 fits.1 fits.3 (small_free s draws.word fits.2);
-      few = few_opening s peer candidates draws;
-      heard = heard_opening s peer candidates draws past well;
+      heard = opening_made follows_law heard_begins s peer candidates draws past well;
     };
     does = h.2;
   }
   answers_orderly (Open peer candidates draws) (NotOpened refusal) entries fits well h = record { did = nothing s; orderly = orderly_nothing setup (Open peer candidates draws) past s tied sent well; does = h.1 }
   answers_orderly (Cancel n) Done entries fits well h = record {
     did = cancelling s n;
-    orderly = record { goes = goes_cancelling setup s n past tied; meets = meets_cancelling setup s.moment (Cancel n) past s n sent; few = few_same s (cancelling s n) refl; heard = heard_cancelling s n past well };
+    orderly = record { goes = goes_cancelling setup s n past tied; meets = meets_cancelling setup s.moment (Cancel n) past s n sent; heard = heard_follows s (cancelling s n) (cancelling_made follows_law.quiet s n) past well };
     does = h.1;
   }
   answers_orderly (Cancel n) (Refused refusal) entries fits well h = record { did = nothing s; orderly = orderly_nothing setup (Cancel n) past s tied sent well; does = h.2 }
   answers_orderly (Close near) Done entries fits well h = record {
     did = closing s near;
-    orderly = record { goes = goes_closing setup s near past tied; meets = meets_closing setup past s sent tied near; few = few_closing s near; heard = heard_closing s near past well };
+    orderly = record { goes = goes_closing setup s near past tied; meets = meets_closing setup past s sent tied near; heard = heard_follows s (closing s near) (closing_made follows_law.quiet s near) past well };
     does = h.1;
   }
   answers_orderly (Close near) (Refused refusal) entries fits well h = record { did = nothing s; orderly = orderly_nothing setup (Close near) past s tied sent well; does = h.2 }
@@ -115,8 +116,7 @@ module _ (setup : Setup) (is : IsSetup setup) (past : List Stamped) (s t : State
     orderly = record {
       goes = goes_flow_called s near call setup (OnFlows near call) past tied;
       meets = meets_flow_called s near call setup (OnFlows near call) past sent;
-      few = few_flow_called s near call;
-      heard = heard_flow_called s near call past well;
+      heard = heard_follows s (flow_called s near call) (called_made follows_law s near call h.0) past well;
     };
     does = h.1;
   }
@@ -180,7 +180,7 @@ answers_went setup is past s t call answer entries begun fits h =
         well = subst (λ (u : State). HeardWell (onto s.moment entries past) u) left (subst (λ (es : List Entry). HeardWell (onto s.moment es past) d.state) added o.orderly.heard.well);
       };
       moment = ap (λ (u : State). u.moment) o.does.state ∙ o.orderly.goes.moment;
-      few = few_does s t entries d o.orderly.few o.does;
+      few = few_answers s t call answer entries h;
     }
 
 -- the rows' session IDs

@@ -21,9 +21,7 @@ use Rattle.endpoint_laws.proofs.OutNumbers.{numbered_quiet}
 use Rattle.endpoint_laws.proofs.OutHeld.{AreSized}
 use Rattle.endpoint_laws.proofs.OutSends.{Sent, Meets, meets_nothing}
 use Rattle.endpoint_laws.proofs.OutItems.{sent_session_changed}
-use Rattle.endpoint_laws.proofs.Few.{Few, few_nothing, few_same}
-use Rattle.endpoint_laws.proofs.Hearing.{Descends, descends_same, Follows, KeepsHeard, heard_follows}
-use Rattle.endpoint_laws.proofs.Following.{none_begin, follows_row, heard_nothing}
+use Rattle.endpoint_laws.proofs.Hearing.{Descends, descends_same}
 use Rattle.endpoint_laws.proofs.SessionChunks.{held_is_there}
 
 -- ---- entries that are unseen
@@ -84,12 +82,6 @@ module _ (s : State) (near : ℕ) (old new : Row) (there : get s.sessions near �
     sent = sent_session_changed setup (onto s.moment entries past) s near old new (sent_unseen setup call s entries past are sent) there like.alike.joined like.alike.own like.alike.role like.sealed;
   }
 
-  pub follows_unseen : Follows s changed
-  follows_unseen = follows_row s s near old new entries there like.descends (none_begin entries are) refl refl
-
-  pub heard_unseen : KeepsHeard s changed
-  heard_unseen = heard_follows s changed follows_unseen
-
 -- ---- something that is done with the flows of a row
 
 module _ (s : State) (near : ℕ) (row : Row) (there : get s.sessions near ≡ Some row) (d : FlowsDid) where
@@ -101,9 +93,6 @@ module _ (s : State) (near : ℕ) (row : Row) (there : get s.sessions near ≡ S
 
   pub meets_done : (setup : Setup) (call : Call) (past : List Stamped) → Sent setup past s → Meets setup s.moment call past did
   meets_done = meets_unseen s near row (record row { flows = d.flows }) there (like_itself s.moment row.session) (map (flow_entry near) d.stated) (flows_unseen near d.stated)
-
-  pub heard_done : KeepsHeard s did
-  heard_done = heard_unseen s near row (record row { flows = d.flows }) there (like_itself s.moment row.session) (map (flow_entry near) d.stated) (flows_unseen near d.stated)
 
 -- ---- a call
 
@@ -122,17 +111,3 @@ module _ (s : State) (near : ℕ) (c : FlowCall) where
 
     pub meets_flow_called : Sent setup past s → Meets setup s.moment call past (flow_called s near c)
     meets_flow_called sent = meets_by (held_row s near) refl sent
-
-  few_by : (o : Option Row) → Few s (flow_called_by s near c o)
-  few_by None = few_nothing s
-  few_by (Some row) = few_same s (flow_called_by s near c (Some row)) refl
-
-  pub few_flow_called : Few s (flow_called s near c)
-  few_flow_called = few_by (held_row s near)
-
-  heard_by : (o : Option Row) → held_row s near ≡ o → KeepsHeard s (flow_called_by s near c o)
-  heard_by None is = heard_nothing s
-  heard_by (Some row) is = heard_done s near row (held_is_there (get s.sessions near) row is).0 (flow_did row.flows c)
-
-  pub heard_flow_called : KeepsHeard s (flow_called s near c)
-  heard_flow_called = heard_by (held_row s near) refl

@@ -1,5 +1,5 @@
 -- What every thing that an end does keeps and adds. A thing after an orderly one is orderly, so the chunks of a datagram and the things of a tick are gone through once, for all that is said of them.
-use Rattle.std.proofs.Common.{◌≡◌, ℕ, zero, suc, ◌==◌, List, [], ◌∷◌, ◌++◌, take, drop, Bool, true, false, ◌||◌, if◌then◌else◌, Option, Some, None, inl, inr, ◌⊎◌, refl, sym, ap, subst, ◌∙◌, append_assoc, arith}
+use Rattle.std.proofs.Common.{◌≡◌, ℕ, zero, suc, ◌==◌, List, [], ◌∷◌, ◌++◌, take, drop, Bool, true, false, ◌||◌, if◌then◌else◌, Option, Some, None, inl, inr, ◌⊎◌, refl, sym, ap, subst, ◌∙◌, append_assoc}
 use Rattle.std.proofs.lemmas.List.{take-append-drop, append-nil}
 use Rattle.std.specs.FinMap.{get, keys}
 use Rattle.rtmfp_forms.specs.Address.{AddressParts}
@@ -27,6 +27,8 @@ use Rattle.endpoint_model.specs.FlowChunks.{acked_by, owes_by, acked_if, acked_i
 use Rattle.endpoint_model.specs.FlowTimes.{late_marked, late_at, late_each, all_late, row_due, is_row_due, due_row}
 use Rattle.endpoint_model.specs.Log.{stopped}
 use Rattle.endpoint_model.proofs.Members.{tested}
+use Rattle.rtmfp_data_chunks.specs.Fitting.{AreSmall}
+use Rattle.rtmfp_data_chunks.proofs.Fitting.{small_next}
 use Rattle.endpoint_laws.specs.Past.{Stamped, onto}
 use Rattle.endpoint_laws.specs.Lawful.{IsTick}
 use Rattle.endpoint_laws.specs.Laws.{IsSetup, IsCall}
@@ -37,15 +39,15 @@ use Rattle.endpoint_laws.proofs.OutSends.{Sent, Meets, meets_nothing, meets_then
 use Rattle.endpoint_laws.proofs.OutItems.{meets_item, meets_confirming, meets_discarded}
 use Rattle.endpoint_laws.proofs.OutSessions.{meets_tested}
 use Rattle.endpoint_laws.proofs.Replies.{SameCounts}
-use Rattle.endpoint_laws.proofs.Few.{Few, few_nothing, few_then, few_from, few_chunk, few_acked_by, few_unowed_by, few_confirming, few_tested, few_tick_once, few_same}
 use Rattle.endpoint_laws.proofs.Ending.{item_left, item_is, tick_by}
 use Rattle.endpoint_laws.proofs.SessionChunks.{goes_tested}
 use Rattle.endpoint_laws.proofs.Hearing.{HeardWell, Heard, heard_then, heard_from, heard_follows}
-use Rattle.endpoint_laws.proofs.FlowChunks.{goes_acked_by, meets_acked_by, follows_acked_by, goes_unowed_by, meets_unowed_by, follows_unowed_by}
-use Rattle.endpoint_laws.proofs.OnFlows.{goes_unseen, meets_unseen, heard_unseen}
+use Rattle.endpoint_laws.proofs.FlowChunks.{goes_acked_by, meets_acked_by, goes_unowed_by, meets_unowed_by}
+use Rattle.endpoint_laws.proofs.OnFlows.{goes_unseen, meets_unseen}
 use Rattle.endpoint_laws.proofs.FlowTimes.{late_like, goes_row_due, meets_row_due}
-use Rattle.endpoint_laws.proofs.Following.{heard_nothing, heard_discarded, heard_confirming, heard_tested, heard_tick_once}
-use Rattle.endpoint_laws.proofs.HeardChunks.{heard_chunk}
+use Rattle.endpoint_laws.proofs.Made.{confirming_made, tested_made, acked_by_made, unowed_by_made, late_made, tick_made, chunk_made}
+use Rattle.endpoint_laws.proofs.Following.{follows_law}
+use Rattle.endpoint_laws.proofs.HeardChunks.{heard_begins}
 use Rattle.endpoint_laws.proofs.Passing.{PassedAt}
 use Rattle.endpoint_laws.proofs.Taking.{passed_confirming, passed_chunk}
 use Rattle.endpoint_laws.proofs.HeardEvents.{AdmissionHeard}
@@ -54,15 +56,14 @@ use Rattle.endpoint_laws.proofs.Admitting.{Came, AdmissionIs, IsTaken, IsRejecte
 use Rattle.endpoint_laws.proofs.Chunked.{chunk_goes}
 use Rattle.endpoint_laws.proofs.OutChunks.{meets_chunk}
 
--- The facts of the thing meet their lines, and the state after it agrees with what was done; its datagrams meet theirs, and what went out is counted; no more startup packets were sealed than datagrams go out; and what is known of the sessions stays true.
+-- The facts of the thing meet their lines, and the state after it agrees with what was done; its datagrams meet theirs, and what went out is counted; and what is known of the sessions stays true.
 pub record Orderly (setup : Setup) (call : Call) (past : List Stamped) (s : State) (d : Did) : Type 0 where
   pub goes : Goes setup call past s d
   pub meets : Meets setup s.moment call past d
-  pub few : Few s d
   pub heard : Heard past s d
 
 pub orderly_nothing : (setup : Setup) (call : Call) (past : List Stamped) (s : State) → Tied setup past s → Sent setup past s → HeardWell past s → Orderly setup call past s (nothing s)
-orderly_nothing setup call past s tied sent well = record { goes = goes_nothing setup call s past tied; meets = meets_nothing setup s.moment call past s sent; few = few_nothing s; heard = heard_nothing s past well }
+orderly_nothing setup call past s tied sent well = record { goes = goes_nothing setup call s past tied; meets = meets_nothing setup s.moment call past s sent; heard = heard_follows s (nothing s) (follows_law.quiet.sends.does_nothing s) past well }
 
 orderly_then : (setup : Setup) (call : Call) (past : List Stamped) (s : State) (d : Did) (next : State → Did) → Orderly setup call past s d →
     Orderly setup call (onto s.moment d.entries past) d.state (next d.state) → Orderly setup call past s (then_do d next)
@@ -71,7 +72,6 @@ orderly_then setup call past s d next first later =
     record {
       goes = goes_then setup call past s d next first.goes later.goes;
       meets = meets_then setup s.moment call past d next first.meets (subst P first.goes.moment later.meets);
-      few = few_then s d next first.few later.few;
       heard = heard_then past s d next first.heard later.heard;
     }
 
@@ -84,7 +84,6 @@ orderly_from setup call past s t d same orderly =
     record {
       goes = record { meets = subst P same.moment orderly.goes.meets; tied = subst Q same.moment orderly.goes.tied; moment = orderly.goes.moment ∙ same.moment };
       meets = subst R same.moment orderly.meets;
-      few = few_from s t d same.sealed orderly.few;
       heard = heard_from past s t d same.moment orderly.heard;
     }
 
@@ -120,8 +119,7 @@ module _ (setup : Setup) (call : Call) (is : IsSetup setup) (is_tick : IsTick ca
         goes = subst (λ d. Goes setup call past s d) (item_is s (first_due s)) (tick_by setup call is_tick s past tied (lowest (is_due s.moment) s.startup.attempts) refl (row_goes left (due_row s) refl));
         meets = subst (λ d. Meets setup s.moment call past d) (item_is s (first_due s))
             (meets_item setup past s sent tied s.moment call is.cert.short_named (lowest (is_due s.moment) s.startup.attempts) refl (row_meets left (due_row s) refl));
-        few = few_tick_once s;
-        heard = heard_tick_once s past well;
+        heard = heard_follows s (tick_once s) (tick_made follows_law s) past well;
       }
 
 ticks_orderly : (setup : Setup) (call : Call) → IsSetup setup → IsTick call → (count : ℕ) (past : List Stamped) (s : State) → Tied setup past s → Sent setup past s → HeardWell past s → Orderly setup call past s (ticks count s)
@@ -142,8 +140,7 @@ module _ (setup : Setup) (call : Call) where
       record {
         goes = goes_unseen s near row new is like [] tt setup call past tied;
         meets = meets_unseen s near row new is like [] tt setup call past sent;
-        few = few_same s (nothing (late_at s near (Some row))) refl;
-        heard = heard_unseen s near row new is like [] tt past well;
+        heard = heard_follows s (nothing (late_at s near (Some row))) (late_made follows_law s near (Some row) is) past well;
       }
 
   each_orderly : (ids : List ℕ) (past : List Stamped) (s : State) → Tied setup past s → Sent setup past s → HeardWell past s → Orderly setup call past s (nothing (late_each ids s))
@@ -161,10 +158,11 @@ tick_all_orderly setup call is is_tick count past s tied sent well =
 
 -- ---- the chunks of a datagram
 
--- these chunks come after some, of which one is a keying where one was before
+-- these chunks come after some, of which one is a keying where one was before, and the numbers that they stand behind are of 64 bits
 pub record IsNext (packet : Whole) (walk : Walk) (before cs : List Placed) : Type 0 where
   pub whole : chunks_of packet ≡ before ++ cs
   pub keyed : walk.keyed ≡ false → (c : Placed) → IsAmong c before → c.kind ≡ 0x38 → ⊥
+  pub small : AreSmall walk.cursor
 
 among_back : (before : List Placed) (c : Placed) (cs : List Placed) → IsAmong c (before ++ c ∷ cs)
 among_back [] c cs = inl refl
@@ -193,14 +191,15 @@ one_next packet walk before c rest next = record {
         | inl there ↦ next.keyed both.0 b there kind
         | inr is ↦ elim (tested c.kind 0x38) [ inl same ↦ (let clash : true ≡ false = sym same.1 ∙ both.1 in cc) | inr other ↦ other.0 (ap (λ (p : Placed). p.kind) (sym is) ∙ kind) ]
       ];
+  small = small_next walk.cursor c.kind c.payload next.small;
 }
 
 -- a session's datagram still passes after a chunk
-passed_on : (place : Place) (from : AddressParts) (datagram : List ℕ) (draws : Draws) (packet : Whole) (walk : Walk) (past : List Stamped) (s : State) (c : Placed) → PassedAt past place datagram packet s →
+passed_on : (place : Place) (from : AddressParts) (datagram : List ℕ) (draws : Draws) (packet : Whole) (walk : Walk) (past : List Stamped) (s : State) (c : Placed) → AreSmall walk.cursor → PassedAt past place datagram packet s →
     PassedAt (onto s.moment (chunk_did place from draws walk s c).entries past) place datagram packet (chunk_did place from draws walk s c).state
-passed_on Startup from datagram draws packet walk past s c passed = tt
-passed_on (Attempt near) from datagram draws packet walk past s c passed = tt
-passed_on (Session near) from datagram draws packet walk past s c passed = passed_chunk past near datagram packet from draws walk s c passed
+passed_on Startup from datagram draws packet walk past s c small passed = tt
+passed_on (Attempt near) from datagram draws packet walk past s c small passed = tt
+passed_on (Session near) from datagram draws packet walk past s c small passed = passed_chunk past near datagram packet from draws walk s c small passed
 
 -- and after it is confirmed
 passed_in : (place : Place) (datagram : List ℕ) (packet : Whole) (past : List Stamped) (s : State) → PassedAt past place datagram packet s →
@@ -223,12 +222,11 @@ module _ (setup : Setup) (is : IsSetup setup) (from : AddressParts) (datagram : 
       let one : Orderly setup call past s d = record {
         goes = chunk_goes setup from datagram draws is.sessions fits.2 packet s past place walk c tied came passed among first;
         meets = meets_chunk setup from datagram draws packet past s sent tied is.cert.short_named place passed fits.2 fits.1 walk c among;
-        few = few_chunk place from draws walk s c;
-        heard = heard_chunk place from draws walk s c past well;
+        heard = chunk_made follows_law heard_begins place from draws walk s c next.small past well;
       } in
       orderly_then setup call past s d (λ t. chunks_did place from draws (walked walk c) t cs) one
       (chunks_orderly place came (walked walk c) (before ++ c ∷ []) cs rest d.state (onto s.moment d.entries past) (one_next packet walk before c (cs ++ rest) next) one.goes.tied one.meets.sent one.heard.well
-      (passed_on place from datagram draws packet walk past s c passed))
+      (passed_on place from datagram draws packet walk past s c next.small passed))
 
 -- ---- the acks after them
 
@@ -237,8 +235,7 @@ module _ (setup : Setup) (call : Call) where
   one_acked_orderly near past s tied sent well o is = record {
     goes = goes_acked_by s near setup call past tied o is;
     meets = meets_acked_by s near setup call past tied sent o is;
-    few = few_acked_by s near o;
-    heard = heard_follows s (acked_by s near o) (follows_acked_by s near o is) past well;
+    heard = heard_follows s (acked_by s near o) (acked_by_made follows_law s near o is) past well;
   }
 
   if_acked_orderly : (near : ℕ) (past : List Stamped) (s : State) → Tied setup past s → Sent setup past s → HeardWell past s → (b : Bool) (next : State → Did) →
@@ -264,8 +261,7 @@ module _ (setup : Setup) (call : Call) where
   unowed_by_orderly near past s tied sent well o is = record {
     goes = goes_unowed_by s near setup call past tied o is;
     meets = meets_unowed_by s near setup call past tied sent o is;
-    few = few_unowed_by s near o;
-    heard = heard_follows s (nothing (unowed_by s near o)) (follows_unowed_by s near o is) past well;
+    heard = heard_follows s (nothing (unowed_by s near o)) (unowed_by_made follows_law s near o is) past well;
   }
 
   unowed_orderly : (place : Place) (past : List Stamped) (s : State) → Tied setup past s → Sent setup past s → HeardWell past s → Orderly setup call past s (nothing (unowed s place))
@@ -292,11 +288,10 @@ module _ (setup : Setup) (is : IsSetup setup) (from : AddressParts) (datagram : 
       let one : Orderly setup this past t d = record {
         goes = goes_confirming setup from datagram draws t place taken.leaves.heard past taken.leaves.tied;
         meets = meets_confirming setup t.moment this past t place taken.leaves.sent;
-        few = few_confirming t place;
-        heard = heard_confirming t place past well;
+        heard = heard_follows t d (confirming_made follows_law.quiet t place) past well;
       } in
       orderly_then setup this past t d (λ u. chunks_did place from draws outset u cs) one
-      (chunks_orderly setup is from datagram draws fits packet place taken.came outset [] cs rest d.state (onto t.moment d.entries past) (record { whole = whole; keyed = λ e c none kind. none }) one.goes.tied one.meets.sent one.heard.well
+      (chunks_orderly setup is from datagram draws fits packet place taken.came outset [] cs rest d.state (onto t.moment d.entries past) (record { whole = whole; keyed = λ e c none kind. none; small = tt }) one.goes.tied one.meets.sent one.heard.well
       (passed_in place datagram packet past t passed))
 
   -- and then so many packets of acks
@@ -317,8 +312,7 @@ module _ (setup : Setup) (is : IsSetup setup) (from : AddressParts) (datagram : 
       orderly_then setup this past t d (λ u. tested_at u place from draws) one (record {
         goes = goes_tested setup this d.state from draws place middle one.goes.tied;
         meets = meets_tested setup this middle d.state one.meets.sent one.goes.tied from draws fits.3 place;
-        few = few_tested d.state place from draws;
-        heard = heard_tested d.state place from draws middle one.heard.well;
+        heard = heard_follows d.state (tested_at d.state place from draws) (tested_made follows_law.quiet d.state place from draws tt) middle one.heard.well;
       })
 
   -- or the acks that are owed yet are given up
@@ -330,7 +324,7 @@ module _ (setup : Setup) (is : IsSetup setup) (from : AddressParts) (datagram : 
       orderly_then setup this past t d (λ u. nothing (unowed u place)) one (unowed_orderly setup this place (onto t.moment d.entries past) d.state one.goes.tied one.meets.sent one.heard.well)
 
   rejected_orderly : (t : State) (cause : Cause) → IsRejected setup past s t → HeardWell past t → Orderly setup this past t (discarded t 0 cause)
-  rejected_orderly t cause so well = record { goes = goes_discarded setup this t 0 cause past so.tied; meets = meets_discarded setup t.moment this past t 0 cause so.sent; few = omega arith; heard = heard_discarded t 0 cause past well }
+  rejected_orderly t cause so well = record { goes = goes_discarded setup this t 0 cause past so.tied; meets = meets_discarded setup t.moment this past t 0 cause so.sent; heard = heard_follows t (discarded t 0 cause) (follows_law.quiet.discards t 0 cause) past well }
 
   pub received_orderly : (a : Admission) → AdmissionIs setup past s datagram a → AdmissionHeard past s.moment datagram a → Orderly setup this past s (received from draws a)
   received_orderly (Rejected t cause) so heard = orderly_from setup this past s t (discarded t 0 cause) so.same (rejected_orderly t cause so heard.well)

@@ -16,8 +16,9 @@ use Rattle.endpoint_laws.specs.Contexts.{OpensUnder}
 use Rattle.endpoint_laws.specs.Taken.{Taken, count_in, IsNewAfter, PassesIn}
 use Rattle.endpoint_laws.proofs.Numbers.{room_after, refused_after, err_not_ok}
 use Rattle.endpoint_laws.proofs.Hearing.{Lasting, inward_of, mode_in, Counts}
-use Rattle.endpoint_laws.proofs.Following.{follows_confirming}
-use Rattle.endpoint_laws.proofs.HeardChunks.{follows_chunk}
+use Rattle.rtmfp_data_chunks.specs.Fitting.{AreSmall}
+use Rattle.endpoint_laws.proofs.Following.{follows_law}
+use Rattle.endpoint_laws.proofs.Made.{confirming_made, session_chunk_made}
 use Rattle.endpoint_laws.proofs.Passing.{PassedIn, passed_follows}
 
 module _ (near : ℕ) (l : Lasting) (t : Taken) (taken : List Taken) (k : Counts taken near l) where
@@ -74,8 +75,8 @@ module _ (near : ℕ) (l : Lasting) (t : Taken) (taken : List Taken) (k : Counts
 
 pub passed_confirming : (past : List Stamped) (near : ℕ) (datagram : List ℕ) (packet : Whole) (s : State) → PassedIn past near datagram packet s →
     PassedIn (onto s.moment (confirming s (Session near)).entries past) near datagram packet (confirming s (Session near)).state
-passed_confirming past near datagram packet s passed = passed_follows past near datagram packet s (confirming s (Session near)) (follows_confirming s (Session near)) passed
+passed_confirming past near datagram packet s passed = passed_follows past near datagram packet s (confirming s (Session near)) (confirming_made follows_law.quiet s (Session near)) passed
 
-pub passed_chunk : (past : List Stamped) (near : ℕ) (datagram : List ℕ) (packet : Whole) (from : AddressParts) (draws : Draws) (walk : Walk) (s : State) (c : Placed) → PassedIn past near datagram packet s →
+pub passed_chunk : (past : List Stamped) (near : ℕ) (datagram : List ℕ) (packet : Whole) (from : AddressParts) (draws : Draws) (walk : Walk) (s : State) (c : Placed) → AreSmall walk.cursor → PassedIn past near datagram packet s →
     PassedIn (onto s.moment (chunk_did (Session near) from draws walk s c).entries past) near datagram packet (chunk_did (Session near) from draws walk s c).state
-passed_chunk past near datagram packet from draws walk s c passed = passed_follows past near datagram packet s (chunk_did (Session near) from draws walk s c) (follows_chunk near from draws walk s c) passed
+passed_chunk past near datagram packet from draws walk s c small passed = passed_follows past near datagram packet s (chunk_did (Session near) from draws walk s c) (session_chunk_made follows_law near from draws walk s c small) passed

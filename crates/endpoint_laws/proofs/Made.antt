@@ -1,0 +1,640 @@
+-- All that an end does is made of small things: the structure of what goes out, of chunks, of datagrams, of timers and of calls is gone through here, once, for every law.
+use Rattle.endpoint_model.specs.declared.row_due.RowDue.TheVariants.{Abandon, Data, Keepalive, Session as SessionOf}
+use Rattle.endpoint_model.specs.Event.{AddRow, Answer as CallAnswer, Began, Call, Cancel, Close, Done, Introduce, NotAdded, NotOpened, OnFlows, Open, OutOfMemory, Receive, Refused, Stopped, Tick}
+use Rattle.rtmfp_forms.specs.Address.{AddressParts}
+use Rattle.endpoint_model.specs.Admission.{Admission, Admitted, Rejected, admission, admitted, admitted_packet, confirming, confirming_by, counted_at, counted_by, has_mode, mode_at, opened_datagram, packet_in, sid_at, timed_at, timed_by}
+use Rattle.startup.specs.declared.answer.Answer.{Answer}
+use Rattle.endpoint_model.specs.Log.{Answers, stopped}
+use Rattle.rtmfp_data_chunks.specs.Fitting.{AreSmall, FitsIn}
+use Rattle.endpoint_model.specs.declared.place.Place.TheVariants.{Attempt, Session, Startup}
+use Rattle.startup.specs.declared.attempt.Stage.{Stage as AttemptStage}
+use Rattle.startup.specs.State.{AttemptState, SpreadParts, StartupState}
+use Rattle.cookies.specs.declared.CookieTest.TheVariants.{Bad, Moved as CookieMoved, Expired as Stale, Current}
+use Rattle.std.proofs.Common.{drop, ◌≡◌, ℕ, ◌∷◌, ◌==◌, if◌then◌else◌, ◌||◌, ◌∙◌, [], Bool, Err, List, None, Ok, Option, Result, Some, ap, arith, false, not, refl, suc, sym, take, true, zero}
+use Rattle.glare_core.specs.declared.facts.Why.TheVariants.{Cancelled, Expired, Far, Idle as WasIdle, Near, Unconfirmed as NotConfirmed}
+use Rattle.startup.specs.declared.cause.Cause.{Cause}
+use Rattle.rtmfp_chunks.specs.Chunk.{Chunk, Close as CloseChunk, CloseAck, CookieChange, Ping, RHello, Redirect}
+use Rattle.rtmfp_chunks.specs.declared.reading.ChunkFault.{ChunkFault}
+use Rattle.session_core.specs.declared.stage.Stage.TheVariants.{Opening, Open as OpenStage, NearClose, FarLinger, Closed}
+use Rattle.cookies.specs.declared.CookieTest.{CookieTest}
+use Rattle.rtmfp_data_chunks.specs.Chunk.{DataChunk}
+use Rattle.rtmfp_data_chunks.specs.declared.view.DataFault.{DataFault}
+use Rattle.endpoint_model.specs.State.{Did, Does, State, without_row, fact_entries, free_from, nothing, then_do, with_row, with_session, with_startup}
+use Rattle.endpoint_model.specs.declared.config.Draws.{Draws}
+use Rattle.startup.specs.declared.answer.Due.TheVariants.{Ended as EndDue}
+use Rattle.endpoint_model.specs.declared.entry.Entry.{Entry}
+use Rattle.glare_core.specs.declared.facts.Fact.{Fact}
+use Rattle.endpoint_model.specs.declared.entry.Entry.TheVariants.{Fact as FactEntry}
+use Rattle.endpoint_model.specs.FlowCall.{FlowCall, flow_refusal}
+use Rattle.session_flows.specs.declared.cause.FlowCause.{FlowCause}
+use Rattle.session_flows.specs.declared.refusal.CallRefusal.{CallRefusal as FlowRefusal}
+use Rattle.glare_core.specs.declared.facts.Held.TheVariants.{HalfOpen, KeptAsInitiator, KeptAsResponder, Opening as OpeningHeld}
+use Rattle.glare_core.specs.declared.facts.Held.{Held}
+use Rattle.startup.specs.declared.attempt.Stage.TheVariants.{Hello, Keying}
+use Rattle.endpoint_model.specs.Effects.{Hellos, InSession, InStartup, Introduction, Reply, Silence, attempt_item, cancelling, chunk_did, chunks_did, discarded_or, due_done, effect, forwarded, gone_through, gone_through_and_acked, initiator_keyed, is_told_in_session, item_done, keying_done, most_acks, opening, opening_done, outset, part_received, read_done, read_left, read_reply, received, replied, responder_keyed, row_item, session_item, tick_once, ticks, walked, with_opened}
+use Rattle.session_core.specs.declared.stage.SessionDue.TheVariants.{Idle, Over, RepeatClose, Unconfirmed}
+use Rattle.startup.specs.Keyings.{InitiatorKeying, ResponderKeying, after_keying, after_opening, again_or_birth, born_session, change_answer, initiator_keying_in, keyed_reading, keyed_with, keying_of, opened_reading, opened_with, repeated_session, responder_keying_in, session_answer}
+use Rattle.glare_core.specs.declared.facts.Joined.{Joined}
+use Rattle.rtmfp_packet.specs.declared.head.PacketFault.{PacketFault}
+use Rattle.rtmfp_packet.specs.declared.head.PacketHead.{PacketHead}
+use Rattle.endpoint_model.specs.declared.place.Place.{Place}
+use Rattle.rtmfp_packet.specs.Walk.{Placed}
+use Rattle.endpoint_model.specs.declared.row.Row.{Row}
+use Rattle.endpoint_model.specs.declared.row_due.RowDue.{RowDue}
+use Rattle.session_core.specs.declared.stage.SessionDue.{SessionDue}
+use Rattle.session_core.specs.Session.{SessionState, confirmed, confirmed_stage, is_opening, moved_to}
+use Rattle.session_core.specs.declared.stage.Stage.{Stage}
+use Rattle.endpoint_model.specs.declared.answers.Stopped.{Stopped as Stop}
+use Rattle.mobility.specs.declared.pending.Test.{Test}
+use Rattle.endpoint_model.specs.declared.walk.Walk.{Walk}
+use Rattle.rtmfp_packet.specs.Whole.{Whole}
+use Rattle.glare_core.specs.declared.facts.Why.{Why}
+use Rattle.startup.specs.declared.cause.Cause.TheVariants.{WrongPlace, WrongState}
+use Rattle.endpoint_model.specs.FlowChunks.{acked, acked_by, acked_if, acked_in, acks_body, flow_cause, flow_taken, flow_taken_by, is_of_flows, owes_by, taking_cause, told_cause, unowed, unowed_by}
+use Rattle.mobility.specs.Tests.{address_for, after_reply, after_seen, asks}
+use Rattle.startup.specs.Attempts.{after_end_of, after_begin, after_confirm, after_end, begin_spread, end_fact, end_of, ended_attempt, has_number, hello_spread, keying_signed, lowest, session_in}
+use Rattle.startup.specs.Due.{after_due, due_of, is_due, is_over, repeat_of, repeat_signed}
+use Rattle.session_core.specs.Closing.{after_due as after_due_in, asked_to_close, closed_near, is_held, is_near_close, kept_alive, needs_keepalive}
+use Rattle.endpoint_model.specs.FlowTimes.{all_late, data_body, data_sent, due_row, is_row_due, late_at, late_each, row_due, row_due_done}
+use Rattle.endpoint_laws.proofs.Facts.{all_none, test_fails}
+use Rattle.endpoint_model.specs.OnFlows.{call_refusal, call_refusal_by, flow_called, flow_called_by, flow_refused}
+use Rattle.endpoint_laws.proofs.Chunked.{causes, last_none}
+use Rattle.rtmfp_chunks.specs.Writing.{chunk_bytes}
+use Rattle.endpoint_model.specs.Causes.{chunk_cause, has_state_for, initiator_keying_cause, read_cause, responder_keying_cause, takes}
+use Rattle.rtmfp_chunks.specs.FieldReading.{chunk_reading}
+use Rattle.endpoint_model.specs.Keying.{chunks_of}
+use Rattle.endpoint_model.specs.InSessions.{close_taken_by, closing, closing_by, dropped, ended_as, held_row, if_held, kept_alive_by, lingering, moved_by, moved_where, sent_home, sent_home_by, session_due_done, tested as tested_at, tested_by, told_in_session}
+use Rattle.glare_core.specs.Calls.{confirmed_fact, ended_fact, first_that_stands, started_fact, way_made, where_true}
+use Rattle.cookies.specs.Cookie.{cookie_test}
+use Rattle.rtmfp_data_chunks.specs.Reader.{data_reading}
+use Rattle.endpoint_laws.proofs.Hearing.{descends_same}
+use Rattle.rtmfp_base.proofs.Lowest.{first_is_there}
+use Rattle.session_flows.specs.Causes.{chunk_cause as flows_cause}
+use Rattle.std.specs.FinMap.{get, insert, keys}
+use Rattle.glare_core.specs.Ledger.{held_with}
+use Rattle.endpoint_model.specs.Sending.{last_count, sent_answer, sent_by, sent_each, sent_if, sent_in_session, sent_spread, sent_startup}
+use Rattle.std.proofs.lemmas.Bool.Decides.{nat_tests}
+use Rattle.std.specs.Option.{option_map}
+use Rattle.sha2.specs.Sha256.{sha256}
+use Rattle.rtmfp_data_chunks.proofs.Fitting.{small_next, what_is_read_fits}
+use Rattle.endpoint_laws.proofs.Small.{GoesOn, Called, Came, Acked, Unowed, Late, Overdue, Packed, on_flows, birth, stated, Sends, Quiet, All, Begins, Enters}
+use Rattle.endpoint_laws.proofs.Kin.{IsKin, kin_ended, kin_confirm, kin_end, kin_rhello, kin_redirect, kin_change, kin_due, kin_keying}
+
+-- ---- what goes out
+
+module _ {Body : List ℕ → Type 0} {P : State → Did → Type 0} (l : Sends Body P) where
+  pub either_made : (s : State) (b : Bool) (d e : Did) → P s d → P s e → P s (if b then d else e)
+  either_made s true d e p q = p
+  either_made s false d e p q = q
+
+  pub startup_made : (s : State) (to : AddressParts) (sid : ℕ) (plain : List ℕ) → P s (sent_startup s to sid plain)
+  startup_made s to sid plain = either_made s (s.sealed == last_count) (nothing s) _ (l.does_nothing s) (l.out s to sid plain)
+
+  pub answer_made : (s : State) (answer : Answer) → P s (sent_answer s answer)
+  answer_made s answer = startup_made s answer.to answer.sid answer.plain
+
+  pub answered_made : (s : State) (answer : Option Answer) → P s (sent_if s answer)
+  answered_made s None = l.does_nothing s
+  answered_made s (Some answer) = answer_made s answer
+
+  pub each_made : (plain : List ℕ) (to : List AddressParts) (s : State) → P s (sent_each s plain to)
+  each_made plain [] s = l.does_nothing s
+  each_made plain (to ∷ rest) s =
+      let d : Did = sent_startup s to 0 plain in
+      l.and_then s d (sent_each d.state plain rest) (startup_made s to 0 plain) (each_made plain rest d.state)
+
+  pub spread_made : (s : State) (spread : SpreadParts) → P s (sent_spread s spread)
+  spread_made s spread = each_made spread.plain spread.to s
+
+  pub by_made : (s : State) (near : ℕ) (to : AddressParts) (body : List ℕ) (o : Option Row) → get s.sessions near ≡ o → Body body → P s (sent_by s near to body o)
+  by_made s near to body None is carries = l.does_nothing s
+  by_made s near to body (Some row) is carries = either_made s (row.session.sealed == last_count) (nothing s) _ (l.does_nothing s) (l.out_in s near row to body is carries)
+
+  pub in_session_made : (s : State) (near : ℕ) (to : AddressParts) (body : List ℕ) → Body body → P s (sent_in_session s near to body)
+  in_session_made s near to body carries = by_made s near to body (get s.sessions near) refl carries
+
+  pub home_made : (s : State) (near : ℕ) (body : List ℕ) → Body body → P s (sent_home s near body)
+  home_made s near body carries = by (get s.sessions near) refl
+    where
+      by : (o : Option Row) → get s.sessions near ≡ o → P s (sent_home_by s near body o)
+      by None is = l.does_nothing s
+      by (Some row) is = by_made s near row.session.address body (Some row) is carries
+
+  and_home_made : (s : State) (near : ℕ) (body : List ℕ) (d : Did) → P s d → Body body → P s (then_do d (λ t. sent_home t near body))
+  and_home_made s near body d made carries = l.and_then s d (sent_home d.state near body) made (home_made d.state near body carries)
+
+  -- ---- hellos, redirects, changes of cookies, and pings
+
+  -- what an answer carries in sessions
+  abbrev pub Carries : Reply → Type 0
+  Carries Silence = Unit {0}
+  Carries (InStartup answer) = Unit {0}
+  Carries (Hellos spread) = Unit {0}
+  Carries (InSession body) = Body body
+  Carries (Introduction to body redirect) = Body body
+
+  carries_any : ((body : List ℕ) → Body body) → (reply : Reply) → Carries reply
+  carries_any any Silence = tt
+  carries_any any (InStartup answer) = tt
+  carries_any any (Hellos spread) = tt
+  carries_any any (InSession body) = any body
+  carries_any any (Introduction to body redirect) = any body
+
+  forwarded_made : (s : State) (to : Option ℕ) (body : List ℕ) → Body body → P s (forwarded s to body)
+  forwarded_made s None body carries = l.does_nothing s
+  forwarded_made s (Some near) body carries = home_made s near body carries
+
+  replied_made : (s : State) (place : Place) (from : AddressParts) (reply : Reply) → Carries reply → P s (replied s place from reply)
+  replied_made s place from Silence carries = l.does_nothing s
+  replied_made s place from (InStartup answer) carries = answered_made s answer
+  replied_made s place from (Hellos None) carries = l.does_nothing s
+  replied_made s place from (Hellos (Some spread)) carries = spread_made s spread
+  replied_made s place from (InSession body) carries = in_session_made s (sid_at place) from body carries
+  replied_made s place from (Introduction to body redirect) carries =
+      let d : Did = forwarded s to body in
+      l.and_then s d (sent_if d.state redirect) (forwarded_made s to body carries) (answered_made d.state redirect)
+
+  left_made : (s : State) (place : Place) (from : AddressParts) (read : Result Chunk ChunkFault) → P s (nothing (read_left s place from read))
+  left_made s place from (Ok (RHello tag cookie cert)) = l.attempts s _ (kin_rhello s.startup tag cookie from s.moment)
+  left_made s place from (Ok (Redirect tag list)) = l.attempts s _ (kin_redirect s.startup tag list from s.moment)
+  left_made s place from (Ok (CookieChange old new)) = l.attempts s _ (kin_change s.startup (sid_at place) old new s.moment)
+  left_made s place from (Ok _) = l.does_nothing s
+  left_made s place from (Err fault) = l.does_nothing s
+
+  pub read_made : (s : State) (place : Place) (from : AddressParts) (read : Result Chunk ChunkFault) → Carries (read_reply s place from read) → P s (read_done s place from read)
+  read_made s place from read carries =
+      let t : State = read_left s place from read in
+      l.and_then s (nothing t) (replied t place from (read_reply s place from read)) (left_made s place from read) (replied_made t place from (read_reply s place from read) carries)
+
+-- ---- sessions that go on
+
+same_goes : (row : Row) → GoesOn row row
+same_goes row = record { descends = descends_same row.session; flows = refl }
+
+not_opening : (stage : Stage) → is_opening (confirmed_stage stage) ≡ true → ⊥
+not_opening Opening e = cc
+not_opening OpenStage e = cc
+not_opening NearClose e = cc
+not_opening FarLinger e = cc
+not_opening Closed e = cc
+
+confirmed_goes : (row : Row) → GoesOn row (record row { session = confirmed row.session })
+confirmed_goes row = record { descends = record { same = refl; opening = λ e. absurd (not_opening row.session.stage e) }; flows = refl }
+
+closed_goes : (b : Bool) (moment : ℕ) (row : Row) → GoesOn row (record row { session = if b then record row.session { stage = NearClose; since = moment; close_sent = Some moment } else row.session })
+closed_goes true moment row = record { descends = record { same = refl; opening = λ e. absurd (cc) }; flows = refl }
+closed_goes false moment row = same_goes row
+
+lingering_goes : (b : Bool) (moment : ℕ) (row : Row) → GoesOn row (record row { session = if b then record row.session { stage = FarLinger; since = moment } else row.session })
+lingering_goes true moment row = record { descends = record { same = refl; opening = λ e. absurd (cc) }; flows = refl }
+lingering_goes false moment row = same_goes row
+
+alive_goes : (b : Bool) (moment : ℕ) (row : Row) → GoesOn row (record row { session = if b then record row.session { keepalive = Some moment } else row.session })
+alive_goes true moment row = record { descends = record { same = refl; opening = λ e. (e, refl) }; flows = refl }
+alive_goes false moment row = same_goes row
+
+held_is_there : (o : Option Row) (row : Row) → if_held o ≡ Some row → o ≡ Some row
+held_is_there None row e = absurd (cc)
+held_is_there (Some old) row e = by (is_held old.session.stage) e
+  where
+    by : (b : Bool) → (if b then Some old else None) ≡ Some row → Some old ≡ Some row
+    by true e = e
+    by false e = absurd (cc)
+
+module _ {Body : List ℕ → Type 0} {P : State → Did → Type 0} (q : Quiet Body P) where
+  -- ---- facts
+
+  ended_fact_made : (s : State) (startup : StartupState) → IsKin s.startup startup → (o : Option Held) (peer : List ℕ) (why : Why) → P s (record { state = with_startup s startup; entries = fact_entries (ended_fact o peer why) })
+  ended_fact_made s startup kin None peer why = q.sends.attempts s startup kin
+  ended_fact_made s startup kin (Some thing) peer why = q.ends s startup peer _ why kin
+
+  confirmed_fact_made : (s : State) (startup : StartupState) → IsKin s.startup startup → (o : Option Held) (peer : List ℕ) → P s (record { state = with_startup s startup; entries = fact_entries (confirmed_fact o peer) })
+  confirmed_fact_made s startup kin None peer = q.sends.attempts s startup kin
+  confirmed_fact_made s startup kin (Some (OpeningHeld n near ni)) peer = q.sends.attempts s startup kin
+  confirmed_fact_made s startup kin (Some (HalfOpen j)) peer = q.confirms s startup peer j.near kin
+  confirmed_fact_made s startup kin (Some (KeptAsResponder j)) peer = q.sends.attempts s startup kin
+  confirmed_fact_made s startup kin (Some (KeptAsInitiator j)) peer = q.sends.attempts s startup kin
+
+  pub cancelling_made : (s : State) (n : ℕ) → P s (cancelling s n)
+  cancelling_made s n = by (lowest (has_number n) s.startup.attempts)
+    where
+      by : (o : Option (ℕ × AttemptState)) → P s (record { state = with_startup s (after_end_of s.startup o Cancelled); entries = fact_entries (end_of o Cancelled) })
+      by None = q.sends.does_nothing s
+      by (Some e) = q.ends s _ e.1.peer e.0 Cancelled (kin_ended s.startup (Some e) Cancelled)
+
+  -- ---- the ends of sessions
+
+  end_made : (s : State) (peer : List ℕ) (why : Why) → P s (record { state = with_startup s (after_end s.startup peer why); entries = fact_entries (end_fact s.startup peer why) })
+  end_made s peer why = ended_fact_made s (after_end s.startup peer why) (kin_end s.startup peer why) (session_in (held_with s.startup.ledger peer)) peer why
+
+  ended_made : (s : State) (near : ℕ) (row : Row) (why : Why) (left : SessionState) → get s.sessions near ≡ Some row → GoesOn row (record row { session = left }) → P s (ended_as s near row why left)
+  ended_made s near row why left is goes =
+      let t : State = with_session s near row left in
+      q.sends.and_then s (nothing t) _ (q.goes_on s near row (record row { session = left }) is goes) (end_made t row.session.joined.peer why)
+
+  dropped_made : (s : State) (near : ℕ) (row : Row) (why : Why) → P s (dropped s near row why)
+  dropped_made s near row why = let t : State = without_row s near in q.sends.and_then s (nothing t) _ (q.forgets s near) (end_made t row.session.joined.peer why)
+
+  pub closing_made : (s : State) (near : ℕ) → P s (closing s near)
+  closing_made s near = by (held_row s near) refl
+    where
+      by : (o : Option Row) → held_row s near ≡ o → P s (closing_by s near o)
+      by None is = q.sends.does_nothing s
+      by (Some row) is = and_home_made q.sends s near (chunk_bytes CloseChunk) (ended_as s near row Near (closed_near s.moment row.session))
+          (ended_made s near row Near (closed_near s.moment row.session) (held_is_there (get s.sessions near) row is) (closed_goes (is_held row.session.stage) s.moment row)) q.close
+
+  -- ---- closes, their answers, and answers to pings
+
+  lingering_made : (s : State) (near : ℕ) (row : Row) → get s.sessions near ≡ Some row → P s (lingering s near row)
+  lingering_made s near row is =
+      let goes = lingering_goes (is_held row.session.stage || is_near_close row.session.stage) s.moment row in
+      either_made q.sends s (is_held row.session.stage) _ _ (ended_made s near row Far (asked_to_close s.moment row.session) is goes) (q.goes_on s near row (record row { session = asked_to_close s.moment row.session }) is goes)
+
+  close_taken_made : (s : State) (near : ℕ) (o : Option Row) → get s.sessions near ≡ o → P s (close_taken_by s near o)
+  close_taken_made s near None is = q.sends.does_nothing s
+  close_taken_made s near (Some row) is = and_home_made q.sends s near (chunk_bytes CloseAck) (lingering s near row) (lingering_made s near row is) q.close_ack
+
+  moved_made : (s : State) (near : ℕ) (from : AddressParts) (bytes : List ℕ) (o : Option Row) → get s.sessions near ≡ o → P s (moved_by s near from bytes o)
+  moved_made s near from bytes None is = q.sends.does_nothing s
+  moved_made s near from bytes (Some row) is = by (after_reply row.moves from bytes) (address_for row.moves from bytes)
+    where
+      by : (moves : Option Test) (to : Option AddressParts) → P s (moved_where s near row moves to)
+      by moves None = q.sends.does_nothing s
+      by moves (Some to) =
+          let new : Row = record row { session = moved_to to row.session; moves = moves } in
+          let t : State = with_row s near new in
+          q.sends.and_then s (nothing t) _ (q.goes_on s near row new is (record { descends = record { same = refl; opening = λ e. (e, refl) }; flows = refl })) (q.moves t near to)
+
+  pub told_made : (s : State) (near : ℕ) (from : AddressParts) (c : Placed) → P s (told_in_session s near from c)
+  told_made s near from c =
+      either_made q.sends s (c.kind == 0x0c) _ _ (close_taken_made s near (get s.sessions near) refl) (either_made q.sends s (c.kind == 0x4c) _ _ (q.closes s near) (moved_made s near from c.payload (get s.sessions near) refl))
+
+  -- ---- tests of addresses, and confirming
+
+  tested_by_made : (s : State) (near : ℕ) (from : AddressParts) (token : List ℕ) → Body (chunk_bytes (Ping token)) → (o : Option Row) → held_row s near ≡ o → P s (tested_by s near from token o)
+  tested_by_made s near from token carries None is = q.sends.does_nothing s
+  tested_by_made s near from token carries (Some row) is =
+      let new : Row = record row { moves = after_seen row.moves row.session.address from token s.moment } in
+      let t : State = with_row s near new in
+      either_made q.sends s (asks row.moves row.session.address from s.moment) _ _
+      (q.sends.and_then s (nothing t) _ (q.goes_on s near row new (held_is_there (get s.sessions near) row is) (record { descends = descends_same row.session; flows = refl })) (in_session_made q.sends t near from (chunk_bytes (Ping token)) carries))
+      (q.sends.does_nothing s)
+
+  pub tested_made : (s : State) (place : Place) (from : AddressParts) (draws : Draws) → Body (chunk_bytes (Ping draws.token)) → P s (tested_at s place from draws)
+  tested_made s Startup from draws carries = q.sends.does_nothing s
+  tested_made s (Attempt near) from draws carries = q.sends.does_nothing s
+  tested_made s (Session near) from draws carries = tested_by_made s near from draws.token carries (held_row s near) refl
+
+  confirming_by_made : (s : State) (near : ℕ) (o : Option Row) → get s.sessions near ≡ o → P s (confirming_by s near o)
+  confirming_by_made s near None is = q.sends.does_nothing s
+  confirming_by_made s near (Some row) is =
+      let new : Row = record row { session = confirmed row.session } in
+      let peer : List ℕ = row.session.joined.peer in
+      let t : State = with_row s near new in
+      either_made q.sends s (is_opening row.session.stage) _ (nothing s)
+      (q.sends.and_then s (nothing t) _ (q.goes_on s near row new is (confirmed_goes row)) (confirmed_fact_made t (after_confirm s.startup peer) (kin_confirm s.startup peer) (held_with s.startup.ledger peer) peer))
+      (q.sends.does_nothing s)
+
+  pub confirming_made : (s : State) (place : Place) → P s (confirming s place)
+  confirming_made s Startup = q.sends.does_nothing s
+  confirming_made s (Attempt near) = q.sends.does_nothing s
+  confirming_made s (Session near) = confirming_by_made s near (get s.sessions near) refl
+
+  -- ---- time
+
+  repeated_made : (s : State) (startup : StartupState) (near : ℕ) (a : AttemptState) (key cert : List ℕ) (stage : AttemptStage) → P s (due_done s (repeat_signed key cert near a stage))
+  repeated_made s startup near a key cert Hello = spread_made q.sends s (hello_spread a a.candidates)
+  repeated_made s startup near a key cert (Keying at cookie) = answer_made q.sends s (keying_signed key cert near a at cookie)
+
+  -- what is due of an attempt
+  pub attempt_made : (s : State) (e : ℕ × AttemptState) → P s (due_done (with_startup s (after_due s.startup s.moment)) (if is_over s.moment e.1 then EndDue (ended_attempt e Expired) else repeat_of s.startup e.0 e.1))
+  attempt_made s e = by (is_over s.moment e.1)
+    where
+      startup : StartupState
+      startup = after_due s.startup s.moment
+
+      by : (b : Bool) → P s (due_done (with_startup s startup) (if b then EndDue (ended_attempt e Expired) else repeat_of s.startup e.0 e.1))
+      by true = q.ends s startup e.1.peer e.0 Expired (kin_due s.startup s.moment)
+      by false =
+          let t : State = with_startup s startup in
+          q.sends.and_then s (nothing t) (due_done t (repeat_of s.startup e.0 e.1)) (q.sends.attempts s startup (kin_due s.startup s.moment)) (repeated_made t startup e.0 e.1 _ _ e.1.stage)
+
+  kept_alive_made : (s : State) (near : ℕ) (row : Row) → get s.sessions near ≡ Some row → P s (kept_alive_by s near row)
+  kept_alive_made s near row is =
+      let new : Row = record row { session = kept_alive s.moment row.session } in
+      and_home_made q.sends s near (chunk_bytes (Ping [])) (nothing (with_row s near new)) (q.goes_on s near row new is (alive_goes (needs_keepalive row.session s.moment) s.moment row)) q.empty_ping
+
+  session_due_made : (s : State) (near : ℕ) (row : Row) (due : SessionDue) → get s.sessions near ≡ Some row → P s (session_due_done s near row due)
+  session_due_made s near row Unconfirmed is = dropped_made s near row NotConfirmed
+  session_due_made s near row Idle is = dropped_made s near row WasIdle
+  session_due_made s near row Over is = q.closes s near
+  session_due_made s near row RepeatClose is =
+      let new : Row = record row { session = after_due_in (Some RepeatClose) s.moment row.session } in
+      and_home_made q.sends s near (chunk_bytes CloseChunk) (nothing (with_row s near new)) (q.goes_on s near row new is (record { descends = record { same = refl; opening = λ e. (e, refl) }; flows = refl })) q.close
+
+  -- by what is done with flows
+  row_due_made : (s : State) (near : ℕ) (row : Row) (due : RowDue) → get s.sessions near ≡ Some row → ((flow seq : ℕ) → due ≡ Abandon flow seq → P s (row_due_done s near row (Abandon flow seq))) → (due ≡ Data → P s (data_sent s near row)) →
+      P s (row_due_done s near row due)
+  row_due_made s near row (SessionOf due) is abandoned sent = session_due_made s near row due is
+  row_due_made s near row (Abandon flow seq) is abandoned sent = abandoned flow seq refl
+  row_due_made s near row Data is abandoned sent = sent refl
+  row_due_made s near row Keepalive is abandoned sent = kept_alive_made s near row is
+
+  pub tick_once_made : (s : State) →
+      ((near : ℕ) (row : Row) (flow seq : ℕ) → get s.sessions near ≡ Some row → row_due s.moment row ≡ Some (Abandon flow seq) → P s (row_due_done s near row (Abandon flow seq))) →
+      ((near : ℕ) (row : Row) → get s.sessions near ≡ Some row → P s (data_sent s near row)) → P s (tick_once s)
+  tick_once_made s abandoned sent = by (lowest (is_due s.moment) s.startup.attempts)
+    where
+      row_item_made : (near : ℕ) (row : Row) (o : Option RowDue) → get s.sessions near ≡ Some row → row_due s.moment row ≡ o → P s (item_done s (first_that_stands (row_item near row o ∷ [])))
+      row_item_made near row None there is = q.sends.does_nothing s
+      row_item_made near row (Some due) there is =
+          row_due_made s near row due there (λ flow seq e. abandoned near row flow seq there (is ∙ ap (λ (d : RowDue). Some d) e)) (λ e. sent near row there)
+
+      session_item_made : (o : Option (ℕ × Row)) → due_row s ≡ o → P s (item_done s (first_that_stands (session_item s.moment o ∷ [])))
+      session_item_made None is = q.sends.does_nothing s
+      session_item_made (Some e) is = row_item_made e.0 e.1 (row_due s.moment e.1) (first_is_there (is_row_due s.moment) s.sessions e is).0 refl
+
+      by : (o : Option (ℕ × AttemptState)) → P s (item_done s (first_that_stands (attempt_item (due_of s.startup s.moment o) ∷ session_item s.moment (due_row s) ∷ [])))
+      by None = session_item_made (due_row s) refl
+      by (Some e) = attempt_made s e
+
+-- ---- flows
+
+none_told : (o : Option FlowCause) → option_map told_cause o ≡ None → o ≡ None
+none_told None e = refl
+none_told (Some cause) e = absurd (cc)
+
+none_refused : (o : Option FlowRefusal) → option_map flow_refused o ≡ None → o ≡ None
+none_refused None e = refl
+none_refused (Some refusal) e = absurd (cc)
+
+not_false : (b : Bool) → not b ≡ false → b ≡ true
+not_false true e = refl
+not_false false e = absurd (cc)
+
+takes_it : (s : State) (place : Place) (walk : Walk) (from : AddressParts) (c : Placed) → chunk_cause s place walk from c ≡ None → takes place c.kind ≡ true
+takes_it s place walk from c none = let all = all_none (causes s place walk from c) none in not_false (takes place c.kind) (test_fails (not (takes place c.kind)) WrongPlace all.1.1.1.0)
+
+is_kind : (kind n : ℕ) → (kind == n) ≡ true → kind ≡ n
+is_kind kind n e = grind (arith, nat_tests)
+
+no_keying : (near kind n : ℕ) → takes (Session near) n ≡ false → takes (Session near) kind ≡ true → (kind == n) ≡ true → ⊥
+no_keying near kind n not_here here e = let clash : false ≡ true = sym not_here ∙ ap (takes (Session near)) (sym (is_kind kind n e)) ∙ here in cc
+
+module _ {Body : List ℕ → Type 0} {P : State → Did → Type 0} (a : All Body P) where
+  called_by_made : (s : State) (near : ℕ) (c : FlowCall) (o : Option Row) → held_row s near ≡ o → call_refusal_by c o ≡ None → P s (flow_called_by s near c o)
+  called_by_made s near c None is none = absurd (cc)
+  called_by_made s near c (Some row) is none = a.flows s near row (Called c) (held_is_there (get s.sessions near) row is) (none_refused (flow_refusal row.flows c) none)
+
+  pub called_made : (s : State) (near : ℕ) (c : FlowCall) → call_refusal s near c ≡ None → P s (flow_called s near c)
+  called_made s near c none = called_by_made s near c (held_row s near) refl none
+
+  taken_by_made : (s : State) (near : ℕ) (chunk : DataChunk) → FitsIn chunk → (o : Option Row) → get s.sessions near ≡ o → taking_cause o chunk ≡ None → P s (flow_taken_by s near chunk o)
+  taken_by_made s near chunk fits None is none = absurd (cc)
+  taken_by_made s near chunk fits (Some row) is none = a.flows s near row (Came chunk) is (fits, none_told (flows_cause row.session row.flows chunk) none)
+
+  flow_taken_made : (s : State) (near : ℕ) (read : Result DataChunk DataFault) → ((chunk : DataChunk) → read ≡ Ok chunk → FitsIn chunk) → flow_cause (get s.sessions near) read ≡ None → P s (flow_taken s near read)
+  flow_taken_made s near (Ok chunk) fits none = taken_by_made s near chunk (fits chunk refl) (get s.sessions near) refl none
+  flow_taken_made s near (Err fault) fits none = a.quiet.sends.does_nothing s
+
+  -- ---- acks
+
+  pub acked_by_made : (s : State) (near : ℕ) (o : Option Row) → get s.sessions near ≡ o → P s (acked_by s near o)
+  acked_by_made s near None is = a.quiet.sends.does_nothing s
+  acked_by_made s near (Some row) is = and_home_made a.quiet.sends s near (acks_body row s.moment) (on_flows s near row Acked) (a.flows s near row Acked is tt) (a.bodies (acks_body row s.moment))
+
+  acked_if_made : (s : State) (near : ℕ) (b : Bool) (next : State → Did) → ((t : State) → P t (next t)) → P s (acked_if s near b next)
+  acked_if_made s near false next later = a.quiet.sends.does_nothing s
+  acked_if_made s near true next later =
+      let d : Did = acked_by s near (get s.sessions near) in
+      a.quiet.sends.and_then s d (next d.state) (acked_by_made s near (get s.sessions near) refl) (later d.state)
+
+  acked_in_made : (count : ℕ) (s : State) (near : ℕ) → P s (acked_in count s near)
+  acked_in_made zero s near = a.quiet.sends.does_nothing s
+  acked_in_made (suc count) s near = acked_if_made s near (owes_by (get s.sessions near)) (λ t. acked_in count t near) (λ t. acked_in_made count t near)
+
+  pub acked_made : (count : ℕ) (s : State) (place : Place) → P s (acked count s place)
+  acked_made count s Startup = a.quiet.sends.does_nothing s
+  acked_made count s (Attempt near) = a.quiet.sends.does_nothing s
+  acked_made count s (Session near) = acked_in_made count s near
+
+  pub unowed_by_made : (s : State) (near : ℕ) (o : Option Row) → get s.sessions near ≡ o → P s (nothing (unowed_by s near o))
+  unowed_by_made s near None is = a.quiet.sends.does_nothing s
+  unowed_by_made s near (Some row) is = a.flows s near row Unowed is tt
+
+  pub unowed_made : (s : State) (place : Place) → P s (nothing (unowed s place))
+  unowed_made s Startup = a.quiet.sends.does_nothing s
+  unowed_made s (Attempt near) = a.quiet.sends.does_nothing s
+  unowed_made s (Session near) = unowed_by_made s near (get s.sessions near) refl
+
+  -- ---- a tick
+
+  pub late_made : (s : State) (near : ℕ) (o : Option Row) → get s.sessions near ≡ o → P s (nothing (late_at s near o))
+  late_made s near None is = a.quiet.sends.does_nothing s
+  late_made s near (Some row) is = a.flows s near row Late is tt
+
+  late_each_made : (ids : List ℕ) (s : State) → P s (nothing (late_each ids s))
+  late_each_made [] s = a.quiet.sends.does_nothing s
+  late_each_made (near ∷ rest) s =
+      let t : State = late_at s near (get s.sessions near) in
+      a.quiet.sends.and_then s (nothing t) (nothing (late_each rest t)) (late_made s near (get s.sessions near) refl) (late_each_made rest t)
+
+  pub tick_made : (s : State) → P s (tick_once s)
+  tick_made s = tick_once_made a.quiet s (λ near row flow seq there due. a.flows s near row (Overdue flow seq) there tt)
+      (λ near row there. and_home_made a.quiet.sends s near (data_body row s.moment) (on_flows s near row Packed) (a.flows s near row Packed there tt) (a.bodies (data_body row s.moment)))
+
+  ticks_made : (count : ℕ) (s : State) → P s (ticks count s)
+  ticks_made zero s = a.quiet.sends.does_nothing s
+  ticks_made (suc count) s = a.quiet.sends.and_then s (tick_once s) (ticks count (tick_once s).state) (tick_made s) (ticks_made count (tick_once s).state)
+
+  pub tick_all_made : (count : ℕ) (s : State) → P s (ticks count (all_late s))
+  tick_all_made count s = a.quiet.sends.and_then s (nothing (all_late s)) (ticks count (all_late s)) (late_each_made (keys s.sessions) s) (ticks_made count (all_late s))
+
+  -- ---- a chunk
+
+  -- by what is so of keyings
+  pub chunk_by : (R : Did → Type 0) (place : Place) (from : AddressParts) (draws : Draws) (walk : Walk) (s : State) (c : Placed) → AreSmall walk.cursor → ((d : Did) → P s d → R d) →
+      (chunk_cause s place walk from c ≡ None → (c.kind == 0x38) ≡ true → R (initiator_keyed s from draws c.payload)) →
+      (chunk_cause s place walk from c ≡ None → (c.kind == 0x78) ≡ true → R (responder_keyed s (sid_at place) from c.payload)) → R (chunk_did place from draws walk s c)
+  chunk_by R place from draws walk s c small up initiator responder = by_cause (chunk_cause s place walk from c) refl
+    where
+      by_kind : (i r t f : Bool) (read : Result Chunk ChunkFault) (data_read : Result DataChunk DataFault) → ((chunk : DataChunk) → data_read ≡ Ok chunk → FitsIn chunk) →
+          (i ≡ true → R (initiator_keyed s from draws c.payload)) → (r ≡ true → R (responder_keyed s (sid_at place) from c.payload)) →
+          (if i then initiator_keying_cause s walk from c.payload else (if r then responder_keying_cause s (sid_at place) c.payload
+          else (if f then flow_cause (get s.sessions (sid_at place)) data_read else first_that_stands (where_true (not (has_state_for s place c.kind)) WrongState ∷ read_cause s place from read ∷ [])))) ≡ None →
+          R
+          (if i then initiator_keyed s from draws c.payload else (if r then responder_keyed s (sid_at place) from c.payload
+          else (if t then told_in_session s (sid_at place) from c else (if f then flow_taken s (sid_at place) data_read else read_done s place from read))))
+      by_kind true r t f read data_read fits one other none = one refl
+      by_kind false true t f read data_read fits one other none = other refl
+      by_kind false false true f read data_read fits one other none = up _ (told_made a.quiet s (sid_at place) from c)
+      by_kind false false false true read data_read fits one other none = up _ (flow_taken_made s (sid_at place) data_read fits none)
+      by_kind false false false false read data_read fits one other none = up _ (read_made a.quiet.sends s place from read (carries_any a.quiet.sends a.bodies (read_reply s place from read)))
+
+      by_cause : (o : Option Cause) → chunk_cause s place walk from c ≡ o → R (discarded_or s c.at o (effect s place walk from draws c))
+      by_cause (Some cause) e = up _ (a.quiet.discards s c.at cause)
+      by_cause None e = by_kind (c.kind == 0x38) (c.kind == 0x78) (is_told_in_session c.kind) (is_of_flows c.kind) (chunk_reading c.kind c.payload) (data_reading walk.cursor c.kind c.payload)
+          (λ chunk is. (what_is_read_fits walk.cursor c.kind c.payload chunk small is).0) (initiator e) (responder e) (last_none s place walk from c e)
+
+  -- one that came in a session begins none
+  pub session_chunk_made : (near : ℕ) (from : AddressParts) (draws : Draws) (walk : Walk) (s : State) (c : Placed) → AreSmall walk.cursor → P s (chunk_did (Session near) from draws walk s c)
+  session_chunk_made near from draws walk s c small =
+      chunk_by (P s) (Session near) from draws walk s c small (λ d made. made) (λ none is. absurd (no_keying near c.kind 0x38 refl (takes_it s (Session near) walk from c none) is))
+      (λ none is. absurd (no_keying near c.kind 0x78 refl (takes_it s (Session near) walk from c none) is))
+
+-- ---- sessions and attempts that begin
+
+-- what a call did
+pub record WasMade (P : State → Did → Type 0) (s t : State) (entries : List Entry) : Type 0 where
+  pub did : Did
+  pub made : P s did
+  pub does : Does did t [] entries
+
+module _ {Body : List ℕ → Type 0} {Q P : State → Did → Type 0} (a : All Body Q) (b : Begins Q P) where
+  nothing_made : (s : State) → P s (nothing s)
+  nothing_made s = b.quiet s (nothing s) (a.quiet.sends.does_nothing s)
+
+  pub opening_made : (s : State) (peer : List ℕ) (candidates : List AddressParts) (draws : Draws) → P s (opening s peer candidates draws)
+  opening_made s peer candidates draws =
+      let startup : StartupState = after_begin s.startup peer candidates (free_from s draws.word) draws.nonce draws.tag s.moment in
+      let spread : SpreadParts = begin_spread s.startup peer candidates draws.nonce draws.tag s.moment in
+      b.and_then s (stated s startup (started_fact s.startup.ledger peer (free_from s draws.word) draws.nonce)) (sent_spread (with_startup s startup) spread) (b.starts s startup peer _ (free_from s draws.word) draws.nonce)
+      (b.quiet (with_startup s startup) _ (spread_made a.quiet.sends (with_startup s startup) spread))
+
+  keyed_with_made : (s : State) (startup : StartupState) (from : AddressParts) (now near : ℕ) (nr : List ℕ) (keying : InitiatorKeying) (t : CookieTest) → P s (keying_done s from (Some (keyed_with startup from now near nr keying t)))
+  keyed_with_made s startup from now near nr keying Current = by (repeated_session (held_with startup.ledger (sha256 keying.cert)) (keying_of keying))
+    where
+      by : (o : Option Joined) → P s (keying_done s from (Some (again_or_birth startup (keying_of keying) from near nr o)))
+      by (Some j) = b.quiet s _ (answer_made a.quiet.sends s (session_answer startup j from))
+      by None =
+          let j : Joined = born_session startup.ledger (keying_of keying) near nr in
+          let o : Option Held = held_with startup.ledger (sha256 keying.cert) in
+          let d : Did = birth s (way_made (sha256 keying.cert) o) j from in
+          b.and_then s d (sent_answer d.state (session_answer startup j from)) (b.bears s (sha256 keying.cert) o j from) (b.quiet d.state _ (answer_made a.quiet.sends d.state (session_answer startup j from)))
+  keyed_with_made s startup from now near nr keying Bad = b.quiet s _ (answer_made a.quiet.sends s (change_answer startup keying from now))
+  keyed_with_made s startup from now near nr keying CookieMoved = b.quiet s _ (answer_made a.quiet.sends s (change_answer startup keying from now))
+  keyed_with_made s startup from now near nr keying Stale = b.quiet s _ (answer_made a.quiet.sends s (change_answer startup keying from now))
+
+  keyed_made : (s : State) (startup : StartupState) (from : AddressParts) (now near : ℕ) (nr : List ℕ) (r : Result InitiatorKeying Cause) → P s (keying_done s from (keyed_reading startup from now near nr r))
+  keyed_made s startup from now near nr (Ok keying) = keyed_with_made s startup from now near nr keying (cookie_test startup.cookie_secret keying.cookie from now)
+  keyed_made s startup from now near nr (Err cause) = nothing_made s
+
+  initiator_made : (s : State) (from : AddressParts) (draws : Draws) (payload : List ℕ) → P s (initiator_keyed s from draws payload)
+  initiator_made s from draws payload =
+      let t : State = with_startup s (after_keying s.startup payload from s.moment (free_from s draws.word) draws.nonce) in
+      b.and_then s (nothing t) _ (b.quiet s (nothing t) (a.quiet.sends.attempts s t.startup (kin_keying s.startup payload from s.moment (free_from s draws.word) draws.nonce)))
+      (keyed_made t s.startup from s.moment (free_from s draws.word) draws.nonce (initiator_keying_in payload))
+
+  opened_made : (s : State) (near : ℕ) (from : AddressParts) (o : Option AttemptState) (r : Result ResponderKeying Cause) → P s (opening_done s near from (opened_reading near o r))
+  opened_made s near from (Some e) (Ok keying) =
+      let fact : Fact = opened_with near keying e in
+      let t : State = with_opened (with_startup s (after_opening s.startup near fact)) fact from in
+      b.and_then s (record { state = t; entries = FactEntry fact ∷ [] }) (sent_in_session t near from (chunk_bytes (Ping []))) (b.opens s (after_opening s.startup near fact) _ from)
+      (b.quiet t _ (in_session_made a.quiet.sends t near from (chunk_bytes (Ping [])) a.quiet.empty_ping))
+  opened_made s near from (Some e) (Err cause) = nothing_made s
+  opened_made s near from None r = nothing_made s
+
+  -- ---- the chunks of a datagram
+
+  pub chunk_made : (place : Place) (from : AddressParts) (draws : Draws) (walk : Walk) (s : State) (c : Placed) → AreSmall walk.cursor → P s (chunk_did place from draws walk s c)
+  chunk_made place from draws walk s c small =
+      chunk_by a (P s) place from draws walk s c small (b.quiet s) (λ none is. initiator_made s from draws c.payload) (λ none is. opened_made s (sid_at place) from (get s.startup.attempts (sid_at place)) (responder_keying_in c.payload))
+
+  pub chunks_made : (place : Place) (from : AddressParts) (draws : Draws) (walk : Walk) (s : State) (cs : List Placed) → AreSmall walk.cursor → P s (chunks_did place from draws walk s cs)
+  chunks_made place from draws walk s [] small = nothing_made s
+  chunks_made place from draws walk s (c ∷ cs) small =
+      let d : Did = chunk_did place from draws walk s c in
+      b.and_then s d _ (chunk_made place from draws walk s c small) (chunks_made place from draws (walked walk c) d.state cs (small_next walk.cursor c.kind c.payload small))
+
+  acked_after_made : (from : AddressParts) (draws : Draws) (s : State) (place : Place) (cs : List Placed) (count : ℕ) → P s (gone_through_and_acked from draws s place cs count)
+  acked_after_made from draws s place cs count =
+      let first : Did = confirming s place in
+      let went : Did = gone_through from draws s place cs in
+      b.and_then s went (acked count went.state place) (b.and_then s first _ (b.quiet s first (confirming_made a.quiet s place)) (chunks_made place from draws outset first.state cs tt))
+      (b.quiet went.state _ (acked_made a count went.state place))
+
+  -- ---- a datagram, and a call
+
+  module _ (e : Enters P) where
+    counted_made : (s : State) (place : Place) (part : List ℕ) → P s (nothing (counted_at s place part))
+    counted_made s Startup part = nothing_made s
+    counted_made s (Attempt near) part = nothing_made s
+    counted_made s (Session near) part = by (get s.sessions near) refl
+      where
+        by : (o : Option Row) → get s.sessions near ≡ o → P s (nothing (counted_by s near part o))
+        by None is = nothing_made s
+        by (Some row) is = e.counts s near row _ is
+
+    timed_made : (s : State) (place : Place) (head : PacketHead) → P s (nothing (timed_at s place head))
+    timed_made s Startup head = nothing_made s
+    timed_made s (Attempt near) head = nothing_made s
+    timed_made s (Session near) head = by (get s.sessions near) refl
+      where
+        by : (o : Option Row) → get s.sessions near ≡ o → P s (nothing (timed_by s near head o))
+        by None is = nothing_made s
+        by (Some row) is = e.counts s near row _ is
+
+    -- what an admission leaves
+    abbrev left_by : Admission → State
+    left_by (Rejected s cause) = s
+    left_by (Admitted s place packet) = s
+
+    admission_made : (s : State) (datagram : List ℕ) → P s (nothing (left_by (admission s datagram)))
+    admission_made s datagram = by (opened_datagram s datagram)
+      where
+        packed : (t : State) (place : Place) (r : Result Whole PacketFault) → P t (nothing (left_by (admitted_packet t place r)))
+        packed t place (Err fault) = nothing_made t
+        packed t place (Ok packet) = moded (has_mode packet.head (mode_at t place))
+          where
+            moded : (m : Bool) → P t (nothing (left_by (if m then Admitted (timed_at t place packet.head) place packet else Rejected t WrongPlace)))
+            moded true = timed_made t place packet.head
+            moded false = nothing_made t
+
+        by : (r : Result (Place × List ℕ) Cause) → P s (nothing (left_by (admitted s datagram r)))
+        by (Err cause) = nothing_made s
+        by (Ok found) =
+            let t : State = counted_at s found.0 (drop 4 datagram) in
+            b.and_then s (nothing t) (nothing (left_by (admitted_packet t found.0 (packet_in found.1)))) (counted_made s found.0 (drop 4 datagram)) (packed t found.0 (packet_in found.1))
+
+    received_made : (s : State) (from : AddressParts) (draws : Draws) (d : Admission) → P s (nothing (left_by d)) → P s (received from draws d)
+    received_made s from draws (Rejected t cause) entered = b.and_then s (nothing t) _ entered (b.quiet t _ (a.quiet.discards t 0 cause))
+    received_made s from draws (Admitted t place packet) entered =
+        let went : Did = gone_through_and_acked from draws t place (chunks_of packet) most_acks in
+        b.and_then s (nothing t) (received from draws (Admitted t place packet)) entered
+        (b.and_then t went (tested_at went.state place from draws) (acked_after_made from draws t place (chunks_of packet) most_acks)
+        (b.quiet went.state _ (tested_made a.quiet went.state place from draws (a.bodies (chunk_bytes (Ping draws.token))))))
+
+    part_made : (s : State) (from : AddressParts) (draws : Draws) (d : Admission) (count acks : ℕ) → P s (nothing (left_by d)) → P s (part_received from draws d count acks)
+    part_made s from draws (Rejected t cause) count acks entered = entered
+    part_made s from draws (Admitted t place packet) count acks entered =
+        let went : Did = gone_through_and_acked from draws t place (take count (chunks_of packet)) acks in
+        b.and_then s (nothing t) (part_received from draws (Admitted t place packet) count acks) entered
+        (b.and_then t went (nothing (unowed went.state place)) (acked_after_made from draws t place (take count (chunks_of packet)) acks) (b.quiet went.state _ (unowed_made a went.state place)))
+
+    stopped_made : (s : State) (from : AddressParts) (draws : Draws) (d : Admission) (stop : Stop) (acks : ℕ) → P s (nothing (left_by d)) → P s (stopped s from draws d stop acks)
+    stopped_made s from draws d stop acks entered = by stop.taken
+      where
+        by : (t : Bool) → P s (if t then part_received from draws d stop.chunks acks else nothing s)
+        by true = part_made s from draws d stop.chunks acks entered
+        by false = nothing_made s
+
+    answer_is : (s t : State) (entries : List Entry) (d : Did) → P s d → Does d t [] entries → WasMade P s t entries
+    answer_is s t entries d made does = record { did = d; made = made; does = does }
+
+    pub answers_made : (s t : State) (call : Call) (answer : CallAnswer) (entries : List Entry) → Answers s call answer entries t → WasMade P s t entries
+    answers_made s t (Open peer candidates draws) (Began n) entries h = answer_is s t entries _ (opening_made s peer candidates draws) h.2
+    answers_made s t (Open peer candidates draws) (NotOpened refusal) entries h = answer_is s t entries _ (nothing_made s) h.1
+    answers_made s t (Cancel n) Done entries h = answer_is s t entries _ (b.quiet s _ (cancelling_made a.quiet s n)) h.1
+    answers_made s t (Cancel n) (Refused refusal) entries h = answer_is s t entries _ (nothing_made s) h.2
+    answers_made s t (Close near) Done entries h = answer_is s t entries _ (b.quiet s _ (closing_made a.quiet s near)) h.1
+    answers_made s t (Close near) (Refused refusal) entries h = answer_is s t entries _ (nothing_made s) h.2
+    answers_made s t (AddRow print addresses) Done entries h = answer_is s t entries _ (e.unseen s s.introduces (insert s.redirects print addresses)) h.1
+    answers_made s t (AddRow print addresses) (NotAdded refusal) entries h = answer_is s t entries _ (nothing_made s) h.1
+    answers_made s t Introduce Done entries h = answer_is s t entries _ (e.unseen s true s.redirects) h
+    answers_made s t (OnFlows near call) Done entries h = answer_is s t entries _ (b.quiet s _ (called_made a s near call h.0)) h.1
+    answers_made s t (OnFlows near call) (Refused refusal) entries h = answer_is s t entries _ (nothing_made s) h.1
+    answers_made s t (Receive from datagram draws) Done entries h = answer_is s t entries _ (received_made s from draws (admission s datagram) (admission_made s datagram)) h
+    answers_made s t (Receive from datagram draws) (Stopped stop) entries h = answer_is s t entries _ (stopped_made s from draws (admission s datagram) stop h.acks (admission_made s datagram)) h.left
+    answers_made s t (Tick draws) Done entries h = answer_is s t entries _ (b.quiet s _ (tick_all_made a h.0.0 s)) h.0.1
+    answers_made s t (Tick draws) OutOfMemory entries h = answer_is s t entries _ (b.quiet s _ (tick_all_made a h.0 s)) h.1
+    answers_made s t call answer entries h = absurd h

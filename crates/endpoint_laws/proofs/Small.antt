@@ -1,0 +1,142 @@
+-- The small things of which all is made that an end does, and what a law has to say of each of them.
+use Rattle.std.proofs.Common.{◌≡◌, ℕ, ◌+◌, List, [], ◌∷◌, ◌++◌, map, Bool, true, Option, Some, None}
+use Rattle.std.specs.FinMap.{get}
+use Rattle.rtmfp_forms.specs.Address.{AddressParts}
+use Rattle.rtmfp_chunks.specs.Chunk.{Ping, Close as CloseChunk, CloseAck}
+use Rattle.rtmfp_chunks.specs.Writing.{chunk_bytes}
+use Rattle.rtmfp_data_chunks.specs.Chunk.{DataChunk}
+use Rattle.rtmfp_data_chunks.specs.Fitting.{FitsIn}
+use Rattle.crypto_profile.specs.declared.keys.Context.TheVariants.{Startup as StartupContext}
+use Rattle.glare_core.specs.declared.facts.Fact.{Fact}
+use Rattle.glare_core.specs.declared.facts.Fact.TheVariants.{Started, Born, Opened, Confirmed, Ended}
+use Rattle.glare_core.specs.declared.facts.Held.{Held}
+use Rattle.glare_core.specs.declared.facts.Joined.{Joined}
+use Rattle.glare_core.specs.declared.facts.Why.{Why}
+use Rattle.glare_core.specs.Calls.{way_made}
+use Rattle.startup.specs.declared.cause.Cause.{Cause}
+use Rattle.startup.specs.State.{StartupState}
+use Rattle.session_core.specs.Session.{SessionState, context_of}
+use Rattle.session_core.specs.Sealed.{after_seal}
+use Rattle.session_flows.specs.Keeping.{Stated, with_sending}
+use Rattle.session_flows.specs.Causes.{chunk_cause as flows_cause}
+use Rattle.session_flows.specs.Chunks.{chunk_done, session_after}
+use Rattle.session_flows.specs.Owing.{after_acks, owing_none}
+use Rattle.session_flows.specs.Timing.{overdue_done}
+use Rattle.introducer.specs.Directory.{AddressRows}
+use Rattle.endpoint_model.specs.declared.row.Row.{Row}
+use Rattle.endpoint_model.specs.declared.entry.Entry.TheVariants.{Fact as FactEntry, Moved, Out}
+use Rattle.endpoint_model.specs.State.{State, Did, nothing, after_entries, fact_entries, with_startup, with_row, with_session, without_row, with_sealed}
+use Rattle.endpoint_model.specs.Sending.{packet_head, startup_datagram, session_datagram}
+use Rattle.endpoint_model.specs.InSessions.{closed}
+use Rattle.endpoint_model.specs.FlowCall.{FlowCall, flow_refusal, flow_did}
+use Rattle.endpoint_model.specs.OnFlows.{flow_entry}
+use Rattle.endpoint_model.specs.FlowTimes.{late_marked, data_packed}
+use Rattle.endpoint_model.specs.Effects.{discarded, with_born, with_opened}
+use Rattle.endpoint_laws.proofs.Kin.{IsKin}
+use Rattle.endpoint_laws.proofs.Hearing.{Descends}
+
+-- ---- the row of a session
+
+-- The session goes on, and its flows are the same.
+pub record GoesOn (old new : Row) : Type 0 where
+  pub descends : Descends old.session new.session
+  pub flows : new.flows ≡ old.flows
+
+-- what is done with the flows of a session: a call, a chunk that came, a packet of acks, acks that
+-- are given up, numbers that are lost by time, a message that is sent no longer, a packet of data
+pub data FlowThing : Type 0 where
+  Called : (call : FlowCall) → FlowThing
+  Came : (chunk : DataChunk) → FlowThing
+  Acked : FlowThing
+  Unowed : FlowThing
+  Late : FlowThing
+  Overdue : (flow seq : ℕ) → FlowThing
+  Packed : FlowThing
+
+-- the row that it leaves
+abbrev pub row_after : ℕ → Row → FlowThing → Row
+row_after moment row (Called call) = record row { flows = (flow_did row.flows call).flows }
+row_after moment row (Came chunk) = record row { session = session_after row.session row.flows chunk; flows = (chunk_done row.flows chunk).flows }
+row_after moment row Acked = record row { flows = after_acks row.flows (packet_head row.session moment) }
+row_after moment row Unowed = record row { flows = owing_none row.flows }
+row_after moment row Late = late_marked moment row
+row_after moment row (Overdue flow seq) = record row { flows = (overdue_done row.flows (Some (flow, seq))).flows }
+row_after moment row Packed = record row { flows = with_sending row.flows (data_packed row moment).sending }
+
+-- what it states
+abbrev pub stated_of : Row → FlowThing → List Stated
+stated_of row (Called call) = (flow_did row.flows call).stated
+stated_of row (Came chunk) = (chunk_done row.flows chunk).stated
+stated_of row Acked = []
+stated_of row Unowed = []
+stated_of row Late = []
+stated_of row (Overdue flow seq) = (overdue_done row.flows (Some (flow, seq))).stated
+stated_of row Packed = []
+
+-- A call isn't refused, and a chunk was read and isn't discarded.
+abbrev pub MayBe : Row → FlowThing → Type 0
+MayBe row (Called call) = flow_refusal row.flows call ≡ None
+MayBe row (Came chunk) = FitsIn chunk × (flows_cause row.session row.flows chunk ≡ None)
+MayBe row thing = Unit {0}
+
+abbrev pub on_flows : State → ℕ → Row → FlowThing → Did
+on_flows s near row thing = record { state = with_row s near (row_after s.moment row thing); entries = map (flow_entry near) (stated_of row thing) }
+
+-- a session is born, and this makes way for it
+abbrev pub birth : State → Option Fact → Joined → AddressParts → Did
+birth s ended j from = record { state = with_born s ended (Born j) from; entries = fact_entries ended ++ FactEntry (Born j) ∷ [] }
+
+abbrev pub stated : State → StartupState → Fact → Did
+stated s startup fact = record { state = with_startup s startup; entries = FactEntry fact ∷ [] }
+
+-- ---- what a law says
+
+-- Of nothing, of one thing after another, of a change of the attempts alone, and of a datagram, in
+-- the startup context and in a session. Of the bodies that go out in sessions something may be
+-- known.
+pub record Sends (Body : List ℕ → Type 0) (P : State → Did → Type 0) : Type 0 where
+  pub does_nothing : (s : State) → P s (nothing s)
+  pub and_then : (s : State) (d e : Did) → P s d → P d.state e → P s (after_entries d.entries e)
+  pub attempts : (s : State) (startup : StartupState) → IsKin s.startup startup → P s (nothing (with_startup s startup))
+  pub out : (s : State) (to : AddressParts) (sid : ℕ) (plain : List ℕ) →
+      P s (record { state = with_sealed s (s.sealed + 1); entries = Out to (startup_datagram s sid plain) StartupContext ∷ [] })
+  pub out_in : (s : State) (near : ℕ) (row : Row) (to : AddressParts) (body : List ℕ) → get s.sessions near ≡ Some row → Body body →
+      P s (record { state = with_session s near row (after_seal row.session); entries = Out to (session_datagram row.session s.moment body) (context_of row.session true) ∷ [] })
+
+-- And of what begins no session, but for what is done with flows.
+pub record Quiet (Body : List ℕ → Type 0) (P : State → Did → Type 0) : Type 0 where
+  pub sends : Sends Body P
+  pub close : Body (chunk_bytes CloseChunk)
+  pub close_ack : Body (chunk_bytes CloseAck)
+  pub empty_ping : Body (chunk_bytes (Ping []))
+  pub discards : (s : State) (at : ℕ) (cause : Cause) → P s (discarded s at cause)
+  pub ends : (s : State) (startup : StartupState) (peer : List ℕ) (near : ℕ) (why : Why) → IsKin s.startup startup → P s (stated s startup (Ended peer near why))
+  pub confirms : (s : State) (startup : StartupState) (peer : List ℕ) (near : ℕ) → IsKin s.startup startup → P s (stated s startup (Confirmed peer near))
+  pub closes : (s : State) (near : ℕ) → P s (closed s near)
+  pub forgets : (s : State) (near : ℕ) → P s (nothing (without_row s near))
+  pub moves : (s : State) (near : ℕ) (to : AddressParts) → P s (record { state = s; entries = Moved near to ∷ [] })
+  pub goes_on : (s : State) (near : ℕ) (old new : Row) → get s.sessions near ≡ Some old → GoesOn old new → P s (nothing (with_row s near new))
+
+-- And of what is done with flows, whatever body goes out.
+pub record All (Body : List ℕ → Type 0) (P : State → Did → Type 0) : Type 0 where
+  pub quiet : Quiet Body P
+  pub bodies : (body : List ℕ) → Body body
+  pub flows : (s : State) (near : ℕ) (row : Row) (thing : FlowThing) → get s.sessions near ≡ Some row → MayBe row thing → P s (on_flows s near row thing)
+
+-- And of attempts and sessions that begin, by a law of which the one before is a part.
+pub record Begins (Q P : State → Did → Type 0) : Type 0 where
+  pub quiet : (s : State) (d : Did) → Q s d → P s d
+  pub and_then : (s : State) (d e : Did) → P s d → P d.state e → P s (after_entries d.entries e)
+  pub starts : (s : State) (startup : StartupState) (peer : List ℕ) (n near : ℕ) (ni : List ℕ) → P s (stated s startup (Started peer n near ni))
+  pub bears : (s : State) (peer : List ℕ) (o : Option Held) (j : Joined) (from : AddressParts) → P s (birth s (way_made peer o) j from)
+  pub opens : (s : State) (startup : StartupState) (j : Joined) (from : AddressParts) → P s (record { state = with_opened (with_startup s startup) (Opened j) from; entries = FactEntry (Opened j) ∷ [] })
+
+-- And of what a datagram leaves of its session before its chunks, and of what no other thing sees.
+pub record Enters (P : State → Did → Type 0) : Type 0 where
+  pub counts : (s : State) (near : ℕ) (row : Row) (session : SessionState) → get s.sessions near ≡ Some row → P s (nothing (with_session s near row session))
+  pub unseen : (s : State) (introduces : Bool) (rows : AddressRows) → P s (nothing (record s { introduces = introduces; redirects = rows }))
+
+-- ---- bodies of which nothing is known
+
+abbrev pub Any : List ℕ → Type 0
+Any body = Unit {0}
