@@ -46,7 +46,7 @@ use Rattle.session_core.specs.Sealed.{number_bytes}
 use Rattle.glare_core.specs.Tells.{as_initiator}
 use Rattle.rtmfp_chunks.specs.Writing.{chunk_bytes}
 use Rattle.endpoint_laws.proofs.Unseen.{AreUnseen, taken_unseen}
-use Rattle.endpoint_laws.proofs.NoFacts.{NoFactAnd, NoFacts, facts_stay, none_in_both, none_read, NoneOver, none_over_both, ids_stay, over_read}
+use Rattle.endpoint_laws.proofs.NoFacts.{NoFactAnd, NoFacts, facts_stay, StatesNone, none_sends, ids_stay}
 use Rattle.endpoint_laws.specs.Contexts.{session_context}
 use Rattle.session_core.specs.declared.stage.Role.TheVariants.{Initiator}
 use Rattle.endpoint_model.specs.declared.row.Row.{Row}
@@ -68,7 +68,7 @@ use Rattle.endpoint_model.specs.Causes.{form_cause, takes, initiator_keying_caus
 use Rattle.endpoint_model.specs.InSessions.{told_in_session, tested as tested_at}
 use Rattle.endpoint_model.specs.FlowChunks.{is_of_flows, flow_taken, acked, unowed}
 use Rattle.endpoint_laws.proofs.Hearing.{HeardWell, known_more}
-use Rattle.endpoint_model.specs.Effects.{with_born, keying_done, initiator_keyed, responder_keyed, with_opened, opening_done, read_done, effect, discarded_or, chunk_did, walked, chunks_did, received, part_received, outset, is_told_in_session, gone_through, most_acks, gone_through_and_acked}
+use Rattle.endpoint_model.specs.Effects.{read_reply, with_born, keying_done, initiator_keyed, responder_keyed, with_opened, opening_done, read_done, effect, discarded_or, chunk_did, walked, chunks_did, received, part_received, outset, is_told_in_session, gone_through, most_acks, gone_through_and_acked}
 use Rattle.endpoint_model.specs.Log.{Answers}
 use Rattle.endpoint_laws.specs.Laws.{IsSetup, IsCall}
 use Rattle.endpoint_laws.specs.Complete.{WentThrough, IsPing, outs_in, at_initiator, IsOfOffer, IsBornAndTold, AdmissibleKeyingsBear, OpensItsSession, KeyingsWithoutCauseOpen}
@@ -88,7 +88,7 @@ use Rattle.endpoint_laws.proofs.Orderly.{Orderly, chunks_orderly}
 use Rattle.endpoint_laws.proofs.Logged.{LogIs, log_is}
 use Rattle.endpoint_laws.proofs.OutBirths.{small_free}
 use Rattle.endpoint_laws.proofs.Few.{outs_append, few_law, few_begins}
-use Rattle.endpoint_laws.proofs.Made.{chunks_made}
+use Rattle.endpoint_laws.proofs.Made.{carries_any, read_made, chunks_made}
 use Rattle.endpoint_laws.proofs.OutPackets.{one_whole, session_reads}
 use Rattle.endpoint_laws.proofs.ReadsBack.{none_all, less_is_other, IsBearing, read_as, is_bearing}
 use Rattle.endpoint_laws.proofs.AnswerCarried.{keying_answers}
@@ -128,11 +128,7 @@ true_is : {A : Type 0} (b : Bool) (x y : A) → b ≡ true → (if b then x else
 true_is true x y e = refl
 true_is false x y e = absurd (cc)
 
--- no fact, and no end of a closing
-abbrev Quiet : List Entry → Type 0
-Quiet entries = NoFacts entries × NoneOver entries
-
-quiet_unseen : (entries : List Entry) → AreUnseen entries → Quiet entries
+quiet_unseen : (entries : List Entry) → AreUnseen entries → StatesNone entries
 quiet_unseen [] are = (tt, tt)
 quiet_unseen (x ∷ xs) are =
     let rest = quiet_unseen xs are.1 in
@@ -146,26 +142,28 @@ module _ (from : AddressParts) (draws : Draws) where
   abbrev not_keyed : State → Walk → Placed → Did
   not_keyed s walk c = if is_told_in_session c.kind then told_in_session s 0 from c else least s walk c (is_of_flows c.kind)
 
-  none_least : (s : State) (walk : Walk) (c : Placed) (flows : Bool) → Quiet (least s walk c flows).entries
+  none_least : (s : State) (walk : Walk) (c : Placed) (flows : Bool) → StatesNone (least s walk c flows).entries
   none_least s walk c true = let read = data_reading walk.cursor c.kind c.payload in quiet_unseen (flow_taken s 0 read).entries (taken_unseen s 0 read)
-  none_least s walk c false = (none_read s Startup from (chunk_reading c.kind c.payload), over_read s Startup from (chunk_reading c.kind c.payload))
+  none_least s walk c false =
+      let read = chunk_reading c.kind c.payload in
+      read_made none_sends s Startup from read (carries_any none_sends (λ body. tt) (read_reply s Startup from read))
 
   -- another chunk at the place of startup states nothing, and ends no closing
-  none_other : (s : State) (walk : Walk) (c : Placed) → c.kind ≢ 0x38 → Quiet (chunk_did Startup from draws walk s c).entries
+  none_other : (s : State) (walk : Walk) (c : Placed) → c.kind ≢ 0x38 → StatesNone (chunk_did Startup from draws walk s c).entries
   none_other s walk c other = by (chunk_cause s Startup walk from c) refl
     where
       first : (c.kind == 0x38) ≡ false
       first = elim (tested c.kind 0x38) [ inl is ↦ absurd (other is.0) | inr is ↦ is.1 ]
 
       last : (t : Bool) → is_told_in_session c.kind ≡ t → chunk_cause s Startup walk from c ≡ None →
-          Quiet (if t then told_in_session s 0 from c else least s walk c (is_of_flows c.kind)).entries
+          StatesNone (if t then told_in_session s 0 from c else least s walk c (is_of_flows c.kind)).entries
       last true is none =
           let all = all_none (causes s Startup walk from c) none in
           absurd (not_at_startup c.kind (told_kinds c.kind is) (not_false (takes Startup c.kind) (test_fails (not (takes Startup c.kind)) WrongPlace all.1.1.1.0)))
       last false is none = none_least s walk c (is_of_flows c.kind)
 
       inner : (b : Bool) → (c.kind == 0x78) ≡ b → chunk_cause s Startup walk from c ≡ None →
-          Quiet (if b then responder_keyed s 0 from c.payload else not_keyed s walk c).entries
+          StatesNone (if b then responder_keyed s 0 from c.payload else not_keyed s walk c).entries
       inner true is none =
           let all = all_none (causes s Startup walk from c) none in
           let taken : not (takes Startup c.kind) ≡ false = test_fails (not (takes Startup c.kind)) WrongPlace all.1.1.1.0 in
@@ -174,22 +172,19 @@ module _ (from : AddressParts) (draws : Draws) where
           absurd (cc)
       inner false is none = last (is_told_in_session c.kind) refl none
 
-      by : (o : Option Cause) → chunk_cause s Startup walk from c ≡ o → Quiet (discarded_or s c.at o (effect s Startup walk from draws c)).entries
+      by : (o : Option Cause) → chunk_cause s Startup walk from c ≡ o → StatesNone (discarded_or s c.at o (effect s Startup walk from draws c)).entries
       by (Some cause) e = (tt, (refl, tt))
       by None e =
-          subst (λ (d : Did). Quiet d.entries)
+          subst (λ (d : Did). StatesNone d.entries)
           (sym (false_is (c.kind == 0x38) (initiator_keyed s from draws c.payload)
           (if c.kind == 0x78 then responder_keyed s 0 from c.payload else not_keyed s walk c) first))
           (inner (c.kind == 0x78) refl e)
 
-  none_front : (front : List Placed) → AreOthers front → (walk : Walk) (s : State) → Quiet (chunks_did Startup from draws walk s front).entries
+  none_front : (front : List Placed) → AreOthers front → (walk : Walk) (s : State) → StatesNone (chunks_did Startup from draws walk s front).entries
   none_front [] others walk s = (tt, tt)
   none_front (c ∷ front) others walk s =
       let d : Did = chunk_did Startup from draws walk s c in
-      let one = none_other s walk c others.0 in
-      let rest = none_front front others.1 (walked walk c) d.state in
-      let next : List Entry = (chunks_did Startup from draws (walked walk c) d.state front).entries in
-      (none_in_both d.entries next one.0 rest.0, none_over_both d.entries next one.1 rest.1)
+      none_sends.and_then s d (chunks_did Startup from draws (walked walk c) d.state front) (none_other s walk c others.0) (none_front front others.1 (walked walk c) d.state)
 
 -- chunks one after another add what each of them adds
 gone_in_two : (place : Place) (from : AddressParts) (draws : Draws) (walk : Walk) (front : List Placed) (c : Placed) (back : List Placed) (s : State) →

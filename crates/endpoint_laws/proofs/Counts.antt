@@ -13,7 +13,8 @@ use Rattle.glare_core.proofs.Accounts.{reads_started}
 use Rattle.startup.specs.Attempts.{begin_spread, after_begin}
 use Rattle.endpoint_model.proofs.Apart.{opens_alone}
 use Rattle.endpoint_model.specs.Views.{fact_in}
-use Rattle.endpoint_laws.proofs.NoFacts.{NoFactAnd, NoFacts, the_rest, none_each}
+use Rattle.endpoint_laws.proofs.NoFacts.{NoFactAnd, NoFacts, the_rest, none_sends}
+use Rattle.endpoint_laws.proofs.Made.{spread_made}
 use Rattle.endpoint_model.specs.declared.config.Draws.{Draws}
 use Rattle.endpoint_model.specs.declared.entry.Entry.{Entry}
 use Rattle.endpoint_model.specs.declared.entry.Entry.TheVariants.{Fact as FactEntry}
@@ -99,7 +100,7 @@ opening_counted setup now past s peer candidates draws entries tied few none is 
     let spread = begin_spread s.startup peer candidates draws.nonce draws.tag s.moment in
     subst (λ (es : List Entry). EntriesMeet CountPart setup now (Open peer candidates draws) past es) (sym is) (
       next_fits s.startup.ledger.started (omega (arith, started, few)) (not_last s peer candidates none),
-      no_facts_counted setup now (Open peer candidates draws) (stamped now (FactEntry fact) ∷ past) (sent_each t spread.plain spread.to).entries (none_each t spread.plain spread.to),
+      no_facts_counted setup now (Open peer candidates draws) (stamped now (FactEntry fact) ∷ past) (sent_each t spread.plain spread.to).entries (spread_made none_sends t spread).0,
     )
 
 -- ---- a call

@@ -133,7 +133,7 @@ module _ {Body : List ℕ → Type 0} {P : State → Did → Type 0} (l : Sends 
   Carries (InSession body) = Body body
   Carries (Introduction to body redirect) = Body body
 
-  carries_any : ((body : List ℕ) → Body body) → (reply : Reply) → Carries reply
+  pub carries_any : ((body : List ℕ) → Body body) → (reply : Reply) → Carries reply
   carries_any any Silence = tt
   carries_any any (InStartup answer) = tt
   carries_any any (Hellos spread) = tt
