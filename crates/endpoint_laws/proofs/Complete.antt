@@ -1,5 +1,5 @@
 -- Admissible keyings bear, and responders' keyings that nothing discards open.
-use Rattle.std.proofs.Common.{◌≡◌, ◌≢◌, ℕ, ◌+◌, ◌^◌, ◌<◌, ◌≤◌, ◌==◌, max, List, [], ◌∷◌, ◌++◌, length, take, drop, length-drop, nat_lt, Bool, true, false, not, ◌||◌, if◌then◌else◌, Option, Some, None, Result, Ok, Err, inl, inr, refl, sym, ap, subst, ◌∙◌, arith, append_assoc, length-append}
+use Rattle.std.proofs.Common.{◌≡◌, ◌≢◌, ℕ, ◌+◌, ◌^◌, ◌<◌, ◌≤◌, ◌==◌, max, List, [], ◌∷◌, ◌++◌, length, take, drop, length-drop, nat_lt, Bool, true, false, ◌||◌, if◌then◌else◌, Option, Some, None, Result, Ok, Err, inl, inr, refl, sym, ap, subst, ◌∙◌, arith, append_assoc, length-append}
 use Rattle.std.specs.Int.{w64, to_be_bytes}
 use Rattle.std.proofs.lemmas.Bool.Decides.{nat_tests}
 use Rattle.std.proofs.lemmas.List.{length-take-le, take-append-drop, append-nil}
@@ -64,17 +64,17 @@ use Rattle.endpoint_laws.specs.Lawful.{AnswersAttempt}
 use Rattle.endpoint_model.specs.State.{State, full, new_row, Did, nothing, then_do, fact_entries, with_startup, free_from, fresh, at_moment}
 use Rattle.endpoint_model.specs.Sending.{last_count, startup_number, startup_datagram, session_packet, session_datagram, sent_by}
 use Rattle.endpoint_model.specs.Admission.{Admission, Rejected, Admitted, place_of, opened_by, placed, opened_found, opened_datagram, admission, admitted, admitted_packet, packet_in, has_mode, confirming}
-use Rattle.endpoint_model.specs.Causes.{form_cause, takes, initiator_keying_cause, last_cause, chunk_cause}
-use Rattle.endpoint_model.specs.InSessions.{told_in_session, tested as tested_at}
-use Rattle.endpoint_model.specs.FlowChunks.{is_of_flows, flow_taken, acked, unowed}
+use Rattle.endpoint_model.specs.Causes.{form_cause, initiator_keying_cause, last_cause, chunk_cause}
+use Rattle.endpoint_model.specs.InSessions.{tested as tested_at}
+use Rattle.endpoint_model.specs.FlowChunks.{flow_taken, acked, unowed}
 use Rattle.endpoint_laws.proofs.Hearing.{HeardWell, known_more}
-use Rattle.endpoint_model.specs.Effects.{read_reply, with_born, keying_done, initiator_keyed, responder_keyed, with_opened, opening_done, read_done, effect, discarded_or, chunk_did, walked, chunks_did, received, part_received, outset, is_told_in_session, gone_through, most_acks, gone_through_and_acked}
+use Rattle.endpoint_model.specs.Effects.{read_reply, with_born, keying_done, initiator_keyed, responder_keyed, with_opened, opening_done, discarded_or, chunk_did, walked, chunks_did, received, part_received, outset, gone_through, most_acks, gone_through_and_acked}
 use Rattle.endpoint_model.specs.Log.{Answers}
 use Rattle.endpoint_laws.specs.Laws.{IsSetup, IsCall}
 use Rattle.endpoint_laws.specs.Complete.{WentThrough, IsPing, outs_in, at_initiator, IsOfOffer, IsBornAndTold, AdmissibleKeyingsBear, OpensItsSession, KeyingsWithoutCauseOpen}
 use Rattle.endpoint_laws.proofs.Bytes.{of_bytes, plain_is}
 use Rattle.endpoint_model.proofs.Reading.{packet_reads}
-use Rattle.endpoint_laws.proofs.Facts.{all_none, test_fails}
+use Rattle.endpoint_laws.proofs.Facts.{all_none}
 use Rattle.endpoint_model.proofs.Members.{tested}
 use Rattle.endpoint_laws.proofs.Tied.{Tied}
 use Rattle.endpoint_laws.proofs.Moving.{tied_alike}
@@ -82,7 +82,8 @@ use Rattle.endpoint_laws.proofs.Going.{Goes}
 use Rattle.endpoint_model.proofs.Steps.{walk_through, then_nothing}
 use Rattle.endpoint_laws.proofs.Admitting.{Came, AdmissionIs, admission_is}
 use Rattle.endpoint_laws.proofs.Answering.{OpensAttempt}
-use Rattle.endpoint_laws.proofs.Chunked.{causes, read_ok, opening_of, told_kinds, not_at_startup, not_false}
+use Rattle.endpoint_laws.proofs.ByKind.{causes, told_kinds, chunk_by_kind}
+use Rattle.endpoint_laws.proofs.Chunked.{read_ok, opening_of, not_at_startup}
 use Rattle.endpoint_laws.proofs.OutSends.{Sent}
 use Rattle.endpoint_laws.proofs.Orderly.{Orderly, chunks_orderly}
 use Rattle.endpoint_laws.proofs.Logged.{LogIs, log_is}
@@ -128,57 +129,23 @@ true_is : {A : Type 0} (b : Bool) (x y : A) → b ≡ true → (if b then x else
 true_is true x y e = refl
 true_is false x y e = absurd (cc)
 
-quiet_unseen : (entries : List Entry) → AreUnseen entries → StatesNone entries
-quiet_unseen [] are = (tt, tt)
-quiet_unseen (x ∷ xs) are =
-    let rest = quiet_unseen xs are.1 in
+none_unseen : (entries : List Entry) → AreUnseen entries → StatesNone entries
+none_unseen [] are = (tt, tt)
+none_unseen (x ∷ xs) are =
+    let rest = none_unseen xs are.1 in
     (subst (λ (o : Option Fact). NoFactAnd o (NoFacts xs)) (sym are.0.no_fact) rest.0, (are.0.no_closed, rest.1))
 
 module _ (from : AddressParts) (draws : Draws) where
-  -- what is neither a keying nor told in a session
-  abbrev least : State → Walk → Placed → Bool → Did
-  least s walk c flows = if flows then flow_taken s 0 (data_reading walk.cursor c.kind c.payload) else read_done s Startup from (chunk_reading c.kind c.payload)
-
-  abbrev not_keyed : State → Walk → Placed → Did
-  not_keyed s walk c = if is_told_in_session c.kind then told_in_session s 0 from c else least s walk c (is_of_flows c.kind)
-
-  none_least : (s : State) (walk : Walk) (c : Placed) (flows : Bool) → StatesNone (least s walk c flows).entries
-  none_least s walk c true = let read = data_reading walk.cursor c.kind c.payload in quiet_unseen (flow_taken s 0 read).entries (taken_unseen s 0 read)
-  none_least s walk c false =
-      let read = chunk_reading c.kind c.payload in
-      read_made none_sends s Startup from read (carries_any none_sends (λ body. tt) (read_reply s Startup from read))
-
   -- another chunk at the place of startup states nothing, and ends no closing
   none_other : (s : State) (walk : Walk) (c : Placed) → c.kind ≢ 0x38 → StatesNone (chunk_did Startup from draws walk s c).entries
-  none_other s walk c other = by (chunk_cause s Startup walk from c) refl
-    where
-      first : (c.kind == 0x38) ≡ false
-      first = elim (tested c.kind 0x38) [ inl is ↦ absurd (other is.0) | inr is ↦ is.1 ]
-
-      last : (t : Bool) → is_told_in_session c.kind ≡ t → chunk_cause s Startup walk from c ≡ None →
-          StatesNone (if t then told_in_session s 0 from c else least s walk c (is_of_flows c.kind)).entries
-      last true is none =
-          let all = all_none (causes s Startup walk from c) none in
-          absurd (not_at_startup c.kind (told_kinds c.kind is) (not_false (takes Startup c.kind) (test_fails (not (takes Startup c.kind)) WrongPlace all.1.1.1.0)))
-      last false is none = none_least s walk c (is_of_flows c.kind)
-
-      inner : (b : Bool) → (c.kind == 0x78) ≡ b → chunk_cause s Startup walk from c ≡ None →
-          StatesNone (if b then responder_keyed s 0 from c.payload else not_keyed s walk c).entries
-      inner true is none =
-          let all = all_none (causes s Startup walk from c) none in
-          let taken : not (takes Startup c.kind) ≡ false = test_fails (not (takes Startup c.kind)) WrongPlace all.1.1.1.0 in
-          let kind : c.kind ≡ 0x78 = elim (tested c.kind 0x78) [ inl same ↦ same.0 | inr apart ↦ (let clash : true ≡ false = sym is ∙ apart.1 in absurd (cc)) ] in
-          let clash : true ≡ false = ap (λ (k : ℕ). not (takes Startup k)) (sym kind) ∙ taken in
-          absurd (cc)
-      inner false is none = last (is_told_in_session c.kind) refl none
-
-      by : (o : Option Cause) → chunk_cause s Startup walk from c ≡ o → StatesNone (discarded_or s c.at o (effect s Startup walk from draws c)).entries
-      by (Some cause) e = (tt, (refl, tt))
-      by None e =
-          subst (λ (d : Did). StatesNone d.entries)
-          (sym (false_is (c.kind == 0x38) (initiator_keyed s from draws c.payload)
-          (if c.kind == 0x78 then responder_keyed s 0 from c.payload else not_keyed s walk c) first))
-          (inner (c.kind == 0x78) refl e)
+  none_other s walk c other = chunk_by_kind (λ d. StatesNone d.entries) Startup from draws walk s c (record {
+    discarded = λ cause. (tt, (refl, tt));
+    initiator = λ kind taken none formed. absurd (other kind);
+    responder = λ kind taken none formed. absurd (cc);
+    told = λ told taken has. absurd (not_at_startup c.kind (told_kinds c.kind told) taken);
+    flows = λ is taken none. (let read = data_reading walk.cursor c.kind c.payload in none_unseen (flow_taken s 0 read).entries (taken_unseen s 0 read));
+    reads = λ none. (let read = chunk_reading c.kind c.payload in read_made none_sends s Startup from read (carries_any none_sends (λ body. tt) (read_reply s Startup from read)));
+  })
 
   none_front : (front : List Placed) → AreOthers front → (walk : Walk) (s : State) → StatesNone (chunks_did Startup from draws walk s front).entries
   none_front [] others walk s = (tt, tt)

@@ -1,12 +1,10 @@
 -- The nonces that a call draws: none, or that of its draws, once.
-use Rattle.std.proofs.Common.{◌≡◌, ℕ, List, [], ◌∷◌, ◌++◌, take, map, Bool, true, false, not, ◌||◌, if◌then◌else◌, Option, Some, None, Result, Ok, Err, inl, inr, ◌⊎◌, refl, sym, ap, ◌∙◌}
+use Rattle.std.proofs.Common.{◌≡◌, ℕ, List, [], ◌∷◌, ◌++◌, take, map, Bool, true, false, ◌||◌, if◌then◌else◌, Option, Some, None, Result, Ok, Err, inl, inr, ◌⊎◌, refl, sym, ap, ◌∙◌}
 use Rattle.std.specs.Prelude.{◌==◌}
 use Rattle.std.specs.FinMap.{get}
 use Rattle.rtmfp_forms.specs.Address.{AddressParts}
 use Rattle.rtmfp_packet.specs.Walk.{Placed}
 use Rattle.rtmfp_chunks.specs.Chunk.{Ping}
-use Rattle.rtmfp_chunks.specs.FieldReading.{chunk_reading}
-use Rattle.rtmfp_data_chunks.specs.Reader.{data_reading}
 use Rattle.cookies.specs.declared.CookieTest.{CookieTest}
 use Rattle.cookies.specs.declared.CookieTest.TheVariants.{Bad, Moved, Expired as Late, Current}
 use Rattle.cookies.specs.Cookie.{cookie_test}
@@ -16,9 +14,9 @@ use Rattle.glare_core.specs.declared.facts.Held.{Held}
 use Rattle.glare_core.specs.declared.facts.Held.TheVariants.{Opening as OpeningHeld, HalfOpen, KeptAsResponder, KeptAsInitiator}
 use Rattle.glare_core.specs.declared.answers.Keying.{Keying}
 use Rattle.glare_core.specs.Ledger.{held_with}
-use Rattle.glare_core.specs.Calls.{where_true, first_that_stands, way_made, born_fact}
+use Rattle.glare_core.specs.Calls.{way_made, born_fact}
 use Rattle.startup.specs.declared.cause.Cause.{Cause}
-use Rattle.startup.specs.declared.cause.Cause.TheVariants.{SecondKeying, WrongState}
+use Rattle.startup.specs.declared.cause.Cause.TheVariants.{SecondKeying}
 use Rattle.startup.specs.declared.answer.Answer.{Answer}
 use Rattle.startup.specs.State.{AttemptState, StartupState, SpreadParts}
 use Rattle.startup.specs.Attempts.{begin_spread, after_begin}
@@ -36,7 +34,7 @@ use Rattle.endpoint_model.specs.declared.answers.Stopped.{Stopped as Stop}
 use Rattle.endpoint_model.specs.Event.{Call, Open, Cancel, Close, AddRow, Introduce, OnFlows, Receive, Tick, Answer as CallAnswer, Began, Done, NotOpened, Refused, NotAdded, Stopped, OutOfMemory}
 use Rattle.endpoint_model.specs.Introducing.{with_redirect, introducing}
 use Rattle.endpoint_model.specs.OnFlows.{flow_entry, flow_called}
-use Rattle.endpoint_model.specs.FlowChunks.{is_of_flows, flow_cause, acked}
+use Rattle.endpoint_model.specs.FlowChunks.{acked}
 use Rattle.endpoint_model.specs.FlowTimes.{all_late}
 use Rattle.endpoint_laws.specs.Past.{Stamped, stamped, onto, facts_of, fact_and}
 use Rattle.endpoint_model.specs.State.{State, full, Did, Does, nothing, fact_entries, with_startup, free_from}
@@ -44,10 +42,9 @@ use Rattle.endpoint_model.specs.Sending.{sent_answer}
 use Rattle.endpoint_model.specs.Admission.{Admission, Rejected, Admitted, admission, sid_at, confirming}
 use Rattle.endpoint_model.specs.Keying.{chunks_of}
 use Rattle.endpoint_model.specs.Effects.{opening, cancelling, ticks, keying_done, initiator_keyed, opening_done, responder_keyed, with_born, chunk_did, chunks_did, walked, received, part_received, outset, gone_through, most_acks, gone_through_and_acked}
-use Rattle.endpoint_model.specs.Causes.{initiator_keying_cause, responder_keying_cause, has_state_for, read_cause, last_cause, chunk_cause}
+use Rattle.endpoint_model.specs.Causes.{initiator_keying_cause}
 use Rattle.endpoint_laws.specs.Lawful.{nonces_of}
 use Rattle.endpoint_laws.proofs.Unseen.{AreUnseen, flows_unseen}
-use Rattle.endpoint_laws.proofs.Chunked.{last_none}
 use Rattle.endpoint_model.specs.Log.{stopped, Answers}
 use Rattle.rtmfp_data_chunks.specs.Fitting.{AreSmall}
 use Rattle.rtmfp_data_chunks.proofs.Fitting.{small_next}
@@ -181,17 +178,9 @@ none_responder : (s : State) (near : ℕ) (from : AddressParts) (payload : List 
 none_responder s near from payload = none_opening s near from (get s.startup.attempts near) (responder_keying_in payload)
 
 -- a keying after another one isn't without a cause
-not_second : (s : State) (place : Place) (walk : Walk) (from : AddressParts) (c : Placed) → walk.keyed ≡ true → (c.kind == 0x38) ≡ true → chunk_cause s place walk from c ≡ None → ⊥
-not_second s place walk from c keyed is none =
-    let last : last_cause s place walk from c ≡ None =
-    last_none s place walk from c none in
-    let clash : Some SecondKeying ≡ None =
-    sym (ap (λ (b : Bool). if b then Some SecondKeying else iikeying_cause s.startup c.payload from s.moment (full s)) keyed)
-    ∙ sym (ap (λ (b : Bool). if b then initiator_keying_cause s walk from c.payload
-    else if c.kind == 0x78 then responder_keying_cause s (sid_at place) c.payload
-    else if is_of_flows c.kind then flow_cause (get s.sessions (sid_at place)) (data_reading walk.cursor c.kind c.payload)
-    else first_that_stands (where_true (not (has_state_for s place c.kind)) WrongState ∷ read_cause s place from (chunk_reading c.kind c.payload) ∷ [])) is) ∙ last in
-    cc
+not_second : (s : State) (walk : Walk) (from : AddressParts) (payload : List ℕ) → walk.keyed ≡ true → initiator_keying_cause s walk from payload ≡ None → ⊥
+not_second s walk from payload keyed none =
+    let clash : Some SecondKeying ≡ None = sym (ap (λ (b : Bool). if b then Some SecondKeying else iikeying_cause s.startup payload from s.moment (full s)) keyed) ∙ none in cc
 
 or_either : (a b : Bool) → (a ≡ true) ⊎ (b ≡ true) → (a || b) ≡ true
 or_either true b e = refl
@@ -200,19 +189,19 @@ or_either false b (inr e) = e
 
 module _ (place : Place) (from : AddressParts) (draws : Draws) where
   -- a chunk that is no keying, or comes after one
-  none_chunk : (s : State) (walk : Walk) (c : Placed) → AreSmall walk.cursor → (chunk_cause s place walk from c ≡ None → (c.kind == 0x38) ≡ true → ⊥) → drawn (chunk_did place from draws walk s c).entries ≡ []
+  none_chunk : (s : State) (walk : Walk) (c : Placed) → AreSmall walk.cursor → (c.kind ≡ 0x38 → initiator_keying_cause s walk from c.payload ≡ None → ⊥) → drawn (chunk_did place from draws walk s c).entries ≡ []
   none_chunk s walk c small other =
-      chunk_by none_law (λ d. drawn d.entries ≡ []) place from draws walk s c small (λ d none. none) (λ none is. absurd (other none is)) (λ none is. none_responder s (sid_at place) from c.payload)
+      chunk_by none_law (λ d. drawn d.entries ≡ []) place from draws walk s c small (λ d none. none) (λ kind taken none. absurd (other kind none)) (λ taken. none_responder s (sid_at place) from c.payload)
 
   none_later : (s : State) (walk : Walk) (c : Placed) → AreSmall walk.cursor → walk.keyed ≡ true → drawn (chunk_did place from draws walk s c).entries ≡ []
-  none_later s walk c small keyed = none_chunk s walk c small (λ none is. not_second s place walk from c keyed is none)
+  none_later s walk c small keyed = none_chunk s walk c small (λ kind none. not_second s walk from c.payload keyed none)
 
   none_other : (s : State) (walk : Walk) (c : Placed) → AreSmall walk.cursor → (c.kind == 0x38) ≡ false → drawn (chunk_did place from draws walk s c).entries ≡ []
-  none_other s walk c small other = none_chunk s walk c small (λ none is. let clash : true ≡ false = sym is ∙ other in cc)
+  none_other s walk c small other = none_chunk s walk c small (λ kind none. let clash : true ≡ false = ap (λ (k : ℕ). k == 0x38) (sym kind) ∙ other in cc)
 
   once_chunk : (s : State) (walk : Walk) (c : Placed) → AreSmall walk.cursor → Once draws.nonce (chunk_did place from draws walk s c).entries
   once_chunk s walk c small =
-      chunk_by none_law (λ d. Once draws.nonce d.entries) place from draws walk s c small (λ d none. inl none) (λ none is. once_keyed s from draws c.payload) (λ none is. inl (none_responder s (sid_at place) from c.payload))
+      chunk_by none_law (λ d. Once draws.nonce d.entries) place from draws walk s c small (λ d none. inl none) (λ kind taken none. once_keyed s from draws c.payload) (λ taken. inl (none_responder s (sid_at place) from c.payload))
 
   -- ---- the chunks of a datagram
 

@@ -1,5 +1,6 @@
 pub mod Kin
 pub mod Small
+pub mod ByKind
 pub mod Made
 mod Matching
 mod Tied

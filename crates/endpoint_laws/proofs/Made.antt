@@ -10,7 +10,7 @@ use Rattle.endpoint_model.specs.declared.place.Place.TheVariants.{Attempt, Sessi
 use Rattle.startup.specs.declared.attempt.Stage.{Stage as AttemptStage}
 use Rattle.startup.specs.State.{AttemptState, SpreadParts, StartupState}
 use Rattle.cookies.specs.declared.CookieTest.TheVariants.{Bad, Moved as CookieMoved, Expired as Stale, Current}
-use Rattle.std.proofs.Common.{drop, ◌≡◌, ℕ, ◌∷◌, ◌==◌, if◌then◌else◌, ◌||◌, ◌∙◌, [], Bool, Err, List, None, Ok, Option, Result, Some, ap, arith, false, not, refl, suc, sym, take, true, zero}
+use Rattle.std.proofs.Common.{drop, ◌≡◌, ℕ, ◌∷◌, ◌==◌, if◌then◌else◌, ◌||◌, ◌∙◌, [], Bool, Err, List, None, Ok, Option, Result, Some, ap, false, refl, suc, take, true, zero}
 use Rattle.glare_core.specs.declared.facts.Why.TheVariants.{Cancelled, Expired, Far, Idle as WasIdle, Near, Unconfirmed as NotConfirmed}
 use Rattle.startup.specs.declared.cause.Cause.{Cause}
 use Rattle.rtmfp_chunks.specs.Chunk.{Chunk, Close as CloseChunk, CloseAck, CookieChange, Ping, RHello, Redirect}
@@ -31,7 +31,7 @@ use Rattle.session_flows.specs.declared.refusal.CallRefusal.{CallRefusal as Flow
 use Rattle.glare_core.specs.declared.facts.Held.TheVariants.{HalfOpen, KeptAsInitiator, KeptAsResponder, Opening as OpeningHeld}
 use Rattle.glare_core.specs.declared.facts.Held.{Held}
 use Rattle.startup.specs.declared.attempt.Stage.TheVariants.{Hello, Keying}
-use Rattle.endpoint_model.specs.Effects.{Hellos, InSession, InStartup, Introduction, Reply, Silence, attempt_item, cancelling, chunk_did, chunks_did, discarded_or, due_done, effect, forwarded, gone_through, gone_through_and_acked, initiator_keyed, is_told_in_session, item_done, keying_done, most_acks, opening, opening_done, outset, part_received, read_done, read_left, read_reply, received, replied, responder_keyed, row_item, session_item, tick_once, ticks, walked, with_opened}
+use Rattle.endpoint_model.specs.Effects.{Hellos, InSession, InStartup, Introduction, Reply, Silence, attempt_item, cancelling, chunk_did, chunks_did, due_done, forwarded, gone_through, gone_through_and_acked, initiator_keyed, item_done, keying_done, most_acks, opening, opening_done, outset, part_received, read_done, read_left, read_reply, received, replied, responder_keyed, row_item, session_item, tick_once, ticks, walked, with_opened}
 use Rattle.session_core.specs.declared.stage.SessionDue.TheVariants.{Idle, Over, RepeatClose, Unconfirmed}
 use Rattle.startup.specs.Keyings.{InitiatorKeying, ResponderKeying, after_keying, after_opening, again_or_birth, born_session, change_answer, initiator_keying_in, keyed_reading, keyed_with, keying_of, opened_reading, opened_with, repeated_session, responder_keying_in, session_answer}
 use Rattle.glare_core.specs.declared.facts.Joined.{Joined}
@@ -49,22 +49,21 @@ use Rattle.mobility.specs.declared.pending.Test.{Test}
 use Rattle.endpoint_model.specs.declared.walk.Walk.{Walk}
 use Rattle.rtmfp_packet.specs.Whole.{Whole}
 use Rattle.glare_core.specs.declared.facts.Why.{Why}
-use Rattle.startup.specs.declared.cause.Cause.TheVariants.{WrongPlace, WrongState}
-use Rattle.endpoint_model.specs.FlowChunks.{acked, acked_by, acked_if, acked_in, acks_body, flow_cause, flow_taken, flow_taken_by, is_of_flows, owes_by, taking_cause, told_cause, unowed, unowed_by}
+use Rattle.startup.specs.declared.cause.Cause.TheVariants.{WrongPlace}
+use Rattle.endpoint_model.specs.FlowChunks.{acked, acked_by, acked_if, acked_in, acks_body, flow_cause, flow_taken, flow_taken_by, owes_by, taking_cause, told_cause, unowed, unowed_by}
 use Rattle.mobility.specs.Tests.{address_for, after_reply, after_seen, asks}
 use Rattle.startup.specs.Attempts.{after_end_of, after_begin, after_confirm, after_end, begin_spread, end_fact, end_of, ended_attempt, has_number, hello_spread, keying_signed, lowest, session_in}
 use Rattle.startup.specs.Due.{after_due, due_of, is_due, is_over, repeat_of, repeat_signed}
 use Rattle.session_core.specs.Closing.{after_due as after_due_in, asked_to_close, closed_near, is_held, is_near_close, kept_alive, needs_keepalive}
 use Rattle.endpoint_model.specs.FlowTimes.{all_late, data_body, data_sent, due_row, is_row_due, late_at, late_each, row_due, row_due_done}
-use Rattle.endpoint_laws.proofs.Facts.{all_none, test_fails}
 use Rattle.endpoint_model.specs.OnFlows.{call_refusal, call_refusal_by, flow_called, flow_called_by, flow_refused}
-use Rattle.endpoint_laws.proofs.Chunked.{causes, last_none}
+use Rattle.endpoint_laws.proofs.ByKind.{chunk_by_kind}
 use Rattle.rtmfp_chunks.specs.Writing.{chunk_bytes}
-use Rattle.endpoint_model.specs.Causes.{chunk_cause, has_state_for, initiator_keying_cause, read_cause, responder_keying_cause, takes}
+use Rattle.endpoint_model.specs.Causes.{initiator_keying_cause, takes}
 use Rattle.rtmfp_chunks.specs.FieldReading.{chunk_reading}
 use Rattle.endpoint_model.specs.Keying.{chunks_of}
 use Rattle.endpoint_model.specs.InSessions.{close_taken_by, closing, closing_by, dropped, ended_as, held_row, if_held, kept_alive_by, lingering, moved_by, moved_where, sent_home, sent_home_by, session_due_done, tested as tested_at, tested_by, told_in_session}
-use Rattle.glare_core.specs.Calls.{confirmed_fact, ended_fact, first_that_stands, started_fact, way_made, where_true}
+use Rattle.glare_core.specs.Calls.{confirmed_fact, ended_fact, first_that_stands, started_fact, way_made}
 use Rattle.cookies.specs.Cookie.{cookie_test}
 use Rattle.rtmfp_data_chunks.specs.Reader.{data_reading}
 use Rattle.endpoint_laws.proofs.Hearing.{descends_same}
@@ -73,7 +72,6 @@ use Rattle.session_flows.specs.Causes.{chunk_cause as flows_cause}
 use Rattle.std.specs.FinMap.{get, insert, keys}
 use Rattle.glare_core.specs.Ledger.{held_with}
 use Rattle.endpoint_model.specs.Sending.{last_count, sent_answer, sent_by, sent_each, sent_if, sent_in_session, sent_spread, sent_startup}
-use Rattle.std.proofs.lemmas.Bool.Decides.{nat_tests}
 use Rattle.std.specs.Option.{option_map}
 use Rattle.sha2.specs.Sha256.{sha256}
 use Rattle.rtmfp_data_chunks.proofs.Fitting.{small_next, what_is_read_fits}
@@ -368,19 +366,6 @@ none_refused : (o : Option FlowRefusal) → option_map flow_refused o ≡ None �
 none_refused None e = refl
 none_refused (Some refusal) e = absurd (cc)
 
-not_false : (b : Bool) → not b ≡ false → b ≡ true
-not_false true e = refl
-not_false false e = absurd (cc)
-
-takes_it : (s : State) (place : Place) (walk : Walk) (from : AddressParts) (c : Placed) → chunk_cause s place walk from c ≡ None → takes place c.kind ≡ true
-takes_it s place walk from c none = let all = all_none (causes s place walk from c) none in not_false (takes place c.kind) (test_fails (not (takes place c.kind)) WrongPlace all.1.1.1.0)
-
-is_kind : (kind n : ℕ) → (kind == n) ≡ true → kind ≡ n
-is_kind kind n e = grind (arith, nat_tests)
-
-no_keying : (near kind n : ℕ) → takes (Session near) n ≡ false → takes (Session near) kind ≡ true → (kind == n) ≡ true → ⊥
-no_keying near kind n not_here here e = let clash : false ≡ true = sym not_here ∙ ap (takes (Session near)) (sym (is_kind kind n e)) ∙ here in cc
-
 module _ {Body : List ℕ → Type 0} {P : State → Did → Type 0} (a : All Body P) where
   called_by_made : (s : State) (near : ℕ) (c : FlowCall) (o : Option Row) → held_row s near ≡ o → call_refusal_by c o ≡ None → P s (flow_called_by s near c o)
   called_by_made s near c None is none = absurd (cc)
@@ -454,33 +439,20 @@ module _ {Body : List ℕ → Type 0} {P : State → Did → Type 0} (a : All Bo
 
   -- by what is so of keyings
   pub chunk_by : (R : Did → Type 0) (place : Place) (from : AddressParts) (draws : Draws) (walk : Walk) (s : State) (c : Placed) → AreSmall walk.cursor → ((d : Did) → P s d → R d) →
-      (chunk_cause s place walk from c ≡ None → (c.kind == 0x38) ≡ true → R (initiator_keyed s from draws c.payload)) →
-      (chunk_cause s place walk from c ≡ None → (c.kind == 0x78) ≡ true → R (responder_keyed s (sid_at place) from c.payload)) → R (chunk_did place from draws walk s c)
-  chunk_by R place from draws walk s c small up initiator responder = by_cause (chunk_cause s place walk from c) refl
-    where
-      by_kind : (i r t f : Bool) (read : Result Chunk ChunkFault) (data_read : Result DataChunk DataFault) → ((chunk : DataChunk) → data_read ≡ Ok chunk → FitsIn chunk) →
-          (i ≡ true → R (initiator_keyed s from draws c.payload)) → (r ≡ true → R (responder_keyed s (sid_at place) from c.payload)) →
-          (if i then initiator_keying_cause s walk from c.payload else (if r then responder_keying_cause s (sid_at place) c.payload
-          else (if f then flow_cause (get s.sessions (sid_at place)) data_read else first_that_stands (where_true (not (has_state_for s place c.kind)) WrongState ∷ read_cause s place from read ∷ [])))) ≡ None →
-          R
-          (if i then initiator_keyed s from draws c.payload else (if r then responder_keyed s (sid_at place) from c.payload
-          else (if t then told_in_session s (sid_at place) from c else (if f then flow_taken s (sid_at place) data_read else read_done s place from read))))
-      by_kind true r t f read data_read fits one other none = one refl
-      by_kind false true t f read data_read fits one other none = other refl
-      by_kind false false true f read data_read fits one other none = up _ (told_made a.quiet s (sid_at place) from c)
-      by_kind false false false true read data_read fits one other none = up _ (flow_taken_made s (sid_at place) data_read fits none)
-      by_kind false false false false read data_read fits one other none = up _ (read_made a.quiet.sends s place from read (carries_any a.quiet.sends a.bodies (read_reply s place from read)))
-
-      by_cause : (o : Option Cause) → chunk_cause s place walk from c ≡ o → R (discarded_or s c.at o (effect s place walk from draws c))
-      by_cause (Some cause) e = up _ (a.quiet.discards s c.at cause)
-      by_cause None e = by_kind (c.kind == 0x38) (c.kind == 0x78) (is_told_in_session c.kind) (is_of_flows c.kind) (chunk_reading c.kind c.payload) (data_reading walk.cursor c.kind c.payload)
-          (λ chunk is. (what_is_read_fits walk.cursor c.kind c.payload chunk small is).0) (initiator e) (responder e) (last_none s place walk from c e)
+      (c.kind ≡ 0x38 → takes place 0x38 ≡ true → initiator_keying_cause s walk from c.payload ≡ None → R (initiator_keyed s from draws c.payload)) → (takes place 0x78 ≡ true → R (responder_keyed s (sid_at place) from c.payload)) →
+      R (chunk_did place from draws walk s c)
+  chunk_by R place from draws walk s c small up initiator responder = chunk_by_kind R place from draws walk s c (record {
+    discarded = λ cause. up _ (a.quiet.discards s c.at cause);
+    initiator = λ kind taken none formed. initiator kind taken none;
+    responder = λ kind taken none formed. responder taken;
+    told = λ told taken has. up _ (told_made a.quiet s (sid_at place) from c);
+    flows = λ is taken none. up _ (flow_taken_made s (sid_at place) (data_reading walk.cursor c.kind c.payload) (λ chunk read. (what_is_read_fits walk.cursor c.kind c.payload chunk small read).0) none);
+    reads = λ none. up _ (read_made a.quiet.sends s place from (chunk_reading c.kind c.payload) (carries_any a.quiet.sends a.bodies (read_reply s place from (chunk_reading c.kind c.payload))));
+  })
 
   -- one that came in a session begins none
   pub session_chunk_made : (near : ℕ) (from : AddressParts) (draws : Draws) (walk : Walk) (s : State) (c : Placed) → AreSmall walk.cursor → P s (chunk_did (Session near) from draws walk s c)
-  session_chunk_made near from draws walk s c small =
-      chunk_by (P s) (Session near) from draws walk s c small (λ d made. made) (λ none is. absurd (no_keying near c.kind 0x38 refl (takes_it s (Session near) walk from c none) is))
-      (λ none is. absurd (no_keying near c.kind 0x78 refl (takes_it s (Session near) walk from c none) is))
+  session_chunk_made near from draws walk s c small = chunk_by (P s) (Session near) from draws walk s c small (λ d made. made) (λ kind taken none. absurd (cc)) (λ taken. absurd (cc))
 
 -- ---- sessions and attempts that begin
 
@@ -538,7 +510,7 @@ module _ {Body : List ℕ → Type 0} {Q P : State → Did → Type 0} (a : All 
 
   pub chunk_made : (place : Place) (from : AddressParts) (draws : Draws) (walk : Walk) (s : State) (c : Placed) → AreSmall walk.cursor → P s (chunk_did place from draws walk s c)
   chunk_made place from draws walk s c small =
-      chunk_by a (P s) place from draws walk s c small (b.quiet s) (λ none is. initiator_made s from draws c.payload) (λ none is. opened_made s (sid_at place) from (get s.startup.attempts (sid_at place)) (responder_keying_in c.payload))
+      chunk_by a (P s) place from draws walk s c small (b.quiet s) (λ kind taken none. initiator_made s from draws c.payload) (λ taken. opened_made s (sid_at place) from (get s.startup.attempts (sid_at place)) (responder_keying_in c.payload))
 
   pub chunks_made : (place : Place) (from : AddressParts) (draws : Draws) (walk : Walk) (s : State) (cs : List Placed) → AreSmall walk.cursor → P s (chunks_did place from draws walk s cs)
   chunks_made place from draws walk s [] small = nothing_made s
