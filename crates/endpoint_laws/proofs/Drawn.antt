@@ -48,8 +48,8 @@ use Rattle.endpoint_laws.proofs.Unseen.{AreUnseen, flows_unseen}
 use Rattle.endpoint_model.specs.Log.{stopped, Answers}
 use Rattle.rtmfp_data_chunks.specs.Fitting.{AreSmall}
 use Rattle.rtmfp_data_chunks.proofs.Fitting.{small_next}
-use Rattle.endpoint_laws.proofs.Small.{stated_of, Any, All}
-use Rattle.endpoint_laws.proofs.Made.{answer_made, spread_made, in_session_made, confirming_made, tested_made, acked_made, cancelling_made, closing_made, called_made, tick_all_made, chunk_by}
+use Rattle.endpoint_laws.proofs.Small.{Quiet, stated_of, Any, All}
+use Rattle.endpoint_laws.proofs.Made.{all_law, answer_made, spread_made, in_session_made, confirming_made, tested_made, acked_made, cancelling_made, closing_made, called_made, tick_all_made, chunk_by}
 
 -- ---- the nonces among entries, in their order
 
@@ -103,33 +103,32 @@ none_unseen [] are = refl
 none_unseen (entry ∷ rest) are = ap (λ (o : Option Fact). drawn_and o (drawn rest)) are.0.no_fact ∙ none_unseen rest are.1
 
 -- neither does what begins no session
-none_law : All Any DrawsNone
-none_law = record {
-  quiet = record {
-    sends = record {
-      does_nothing = λ s. refl;
-      and_then = λ s d e first later. none_after d.entries e.entries [] first later;
-      attempts = λ s startup kin. refl;
-      out = λ s to sid plain. refl;
-      out_in = λ s near row to body is carries. refl;
-    };
-    close = tt;
-    close_ack = tt;
-    empty_ping = tt;
-    discards = λ s at cause. refl;
-    ends = λ s startup peer near why kin. refl;
-    confirms = λ s startup peer near kin. refl;
-    closes = λ s near. refl;
-    forgets = λ s near. refl;
-    moves = λ s near to. refl;
-    goes_on = λ s near old new is goes. refl;
+none_quiet : Quiet Any DrawsNone
+none_quiet = record {
+  sends = record {
+    does_nothing = λ s. refl;
+    and_then = λ s d e first later. none_after d.entries e.entries [] first later;
+    attempts = λ s startup kin. refl;
+    out = λ s to sid plain. refl;
+    out_in = λ s near row to body is carries. refl;
   };
-  bodies = λ body. tt;
-  flows = λ s near row thing is may. none_unseen (map (flow_entry near) (stated_of row thing)) (flows_unseen near (stated_of row thing));
+  close = tt;
+  close_ack = tt;
+  empty_ping = tt;
+  discards = λ s at cause. refl;
+  ends = λ s startup peer near why kin. refl;
+  confirms = λ s startup peer near kin. refl;
+  closes = λ s near. refl;
+  forgets = λ s near. refl;
+  moves = λ s near to. refl;
+  goes_on = λ s near old new is goes. refl;
 }
 
+none_law : All Any DrawsNone
+none_law = all_law none_quiet (λ s near row thing is may. none_unseen (map (flow_entry near) (stated_of row thing)) (flows_unseen near (stated_of row thing)))
+
 none_answer : (s : State) (answer : Answer) → drawn (sent_answer s answer).entries ≡ []
-none_answer s answer = answer_made none_law.quiet.sends s answer
+none_answer s answer = answer_made none_quiet.sends s answer
 
 none_way : (peer : List ℕ) (h : Option Held) → drawn (fact_entries (way_made peer h)) ≡ []
 none_way peer None = refl
@@ -172,7 +171,7 @@ once_keyed s from draws payload =
 none_opening : (s : State) (near : ℕ) (from : AddressParts) (o : Option AttemptState) (r : Result ResponderKeying Cause) → drawn (opening_done s near from (opened_reading near o r)).entries ≡ []
 none_opening s near from None r = refl
 none_opening s near from (Some a) (Err cause) = refl
-none_opening s near from (Some a) (Ok keying) = in_session_made none_law.quiet.sends _ near from (chunk_bytes (Ping [])) tt
+none_opening s near from (Some a) (Ok keying) = in_session_made none_quiet.sends _ near from (chunk_bytes (Ping [])) tt
 
 none_responder : (s : State) (near : ℕ) (from : AddressParts) (payload : List ℕ) → drawn (responder_keyed s near from payload).entries ≡ []
 none_responder s near from payload = none_opening s near from (get s.startup.attempts near) (responder_keying_in payload)
@@ -228,18 +227,18 @@ module _ (place : Place) (from : AddressParts) (draws : Draws) where
 
 once_some : (from : AddressParts) (draws : Draws) (s : State) (place : Place) (cs : List Placed) → Once draws.nonce ((confirming s place).entries ++ (chunks_did place from draws outset (confirming s place).state cs).entries)
 once_some from draws s place cs =
-    once_after draws.nonce (confirming s place).entries (chunks_did place from draws outset (confirming s place).state cs).entries (confirming_made none_law.quiet s place) (once_chunks place from draws cs outset (confirming s place).state tt)
+    once_after draws.nonce (confirming s place).entries (chunks_did place from draws outset (confirming s place).state cs).entries (confirming_made none_quiet s place) (once_chunks place from draws cs outset (confirming s place).state tt)
 
 once_acked : (from : AddressParts) (draws : Draws) (s : State) (place : Place) (cs : List Placed) (count : ℕ) → Once draws.nonce (gone_through_and_acked from draws s place cs count).entries
 once_acked from draws s place cs count =
     let d : Did = gone_through from draws s place cs in
-    once_before draws.nonce d.entries (acked count d.state place).entries (once_some from draws s place cs) (acked_made none_law count d.state place)
+    once_before draws.nonce d.entries (acked count d.state place).entries (once_some from draws s place cs) (acked_made none_law.timed count d.state place)
 
 once_received : (from : AddressParts) (draws : Draws) (a : Admission) → Once draws.nonce (received from draws a).entries
 once_received from draws (Rejected s cause) = inl refl
 once_received from draws (Admitted s place packet) =
     let d : Did = gone_through_and_acked from draws s place (chunks_of packet) most_acks in
-    once_before draws.nonce d.entries (tested_at d.state place from draws).entries (once_acked from draws s place (chunks_of packet) most_acks) (tested_made none_law.quiet d.state place from draws tt)
+    once_before draws.nonce d.entries (tested_at d.state place from draws).entries (once_acked from draws s place (chunks_of packet) most_acks) (tested_made none_quiet d.state place from draws tt)
 
 once_part : (from : AddressParts) (draws : Draws) (a : Admission) (count acks : ℕ) → Once draws.nonce (part_received from draws a count acks).entries
 once_part from draws (Rejected s cause) count acks = inl refl
@@ -276,11 +275,11 @@ pub answers_draw : (s t : State) (call : Call) (answer : CallAnswer) (entries : 
 answers_draw s t (Open peer candidates draws) (Began n) entries h =
     let begun : State = with_startup s (after_begin s.startup peer candidates (free_from s draws.word) draws.nonce draws.tag s.moment) in
     let spread : SpreadParts = begin_spread s.startup peer candidates draws.nonce draws.tag s.moment in
-    once_of draws.nonce (opening s peer candidates draws) t entries h.2 (inr (ap (λ (l : List (List ℕ)). draws.nonce ∷ l) (spread_made none_law.quiet.sends begun spread)))
+    once_of draws.nonce (opening s peer candidates draws) t entries h.2 (inr (ap (λ (l : List (List ℕ)). draws.nonce ∷ l) (spread_made none_quiet.sends begun spread)))
 answers_draw s t (Open peer candidates draws) (NotOpened refusal) entries h = inl (none_of (nothing s) t entries h.1 refl)
-answers_draw s t (Cancel n) Done entries h = none_of (cancelling s n) t entries h.1 (cancelling_made none_law.quiet s n)
+answers_draw s t (Cancel n) Done entries h = none_of (cancelling s n) t entries h.1 (cancelling_made none_quiet s n)
 answers_draw s t (Cancel n) (Refused refusal) entries h = none_of (nothing s) t entries h.2 refl
-answers_draw s t (Close near) Done entries h = none_of (closing s near) t entries h.1 (closing_made none_law.quiet s near)
+answers_draw s t (Close near) Done entries h = none_of (closing s near) t entries h.1 (closing_made none_quiet s near)
 answers_draw s t (Close near) (Refused refusal) entries h = none_of (nothing s) t entries h.2 refl
 answers_draw s t (AddRow print addresses) Done entries h = none_of (nothing (with_redirect s print addresses)) t entries h.1 refl
 answers_draw s t (AddRow print addresses) (NotAdded refusal) entries h = none_of (nothing s) t entries h.1 refl
@@ -290,8 +289,8 @@ answers_draw s t (OnFlows near call) (Refused refusal) entries h = none_of (noth
 answers_draw s t (Receive from datagram draws) Done entries h = once_of draws.nonce (received from draws (admission s datagram)) t entries h (once_received from draws (admission s datagram))
 answers_draw s t (Receive from datagram draws) (Stopped stop) entries h =
     once_of draws.nonce (stopped s from draws (admission s datagram) stop h.acks) t entries h.left (once_stopped s from draws (admission s datagram) stop h.acks)
-answers_draw s t (Tick draws) Done entries h = none_of (ticks h.0.0 (all_late s)) t entries h.0.1 (tick_all_made none_law h.0.0 s)
-answers_draw s t (Tick draws) OutOfMemory entries h = none_of (ticks h.0 (all_late s)) t entries h.1 (tick_all_made none_law h.0 s)
+answers_draw s t (Tick draws) Done entries h = none_of (ticks h.0.0 (all_late s)) t entries h.0.1 (tick_all_made none_law.timed h.0.0 s)
+answers_draw s t (Tick draws) OutOfMemory entries h = none_of (ticks h.0 (all_late s)) t entries h.1 (tick_all_made none_law.timed h.0 s)
 answers_draw s t call answer entries h = absurd h
 
 -- ---- the nonces of the facts of an event

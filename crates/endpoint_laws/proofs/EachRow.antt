@@ -23,8 +23,8 @@ use Rattle.endpoint_model.specs.FlowCall.{FlowCall, flow_refusal, flow_did}
 use Rattle.endpoint_model.specs.Effects.{without_ended}
 use Rattle.endpoint_model.specs.Event.{Setup, Event}
 use Rattle.endpoint_model.specs.Log.{Leads, StandsFor}
-use Rattle.endpoint_laws.proofs.Small.{FlowThing, Called, Came, Acked, Unowed, Late, Overdue, Packed, row_after, MayBe, Any, All, Begins, Enters}
-use Rattle.endpoint_laws.proofs.Made.{answers_made}
+use Rattle.endpoint_laws.proofs.Small.{Quiet, FlowThing, Called, Came, Acked, Unowed, Late, Overdue, Packed, row_after, MayBe, Any, All, Begins, Enters}
+use Rattle.endpoint_laws.proofs.Made.{all_law, answers_made}
 use Rattle.glare_core.specs.Calls.{way_made}
 
 module _ (P : FlowsState → Type 0) where
@@ -84,38 +84,37 @@ module _ (P : FlowsState → Type 0) where
     flows_kept moment row (Overdue flow seq) may p = kept.overdue row.flows flow seq p
     flows_kept moment row Packed may p = kept.sent (pace_of row.session moment) row.flows (packet_head row.session moment) p
 
-    each_law : All Any Keeps
-    each_law = record {
-      quiet = record {
-        sends = record {
-          does_nothing = λ s each. each;
-          and_then = λ s d e first later each. later (first each);
-          attempts = λ s startup kin each. each;
-          out = λ s to sid plain each. each;
-          out_in = λ s near row to body is carries. keeps_put s near row (record row { session = after_seal row.session }) is refl;
-        };
-        close = tt;
-        close_ack = tt;
-        empty_ping = tt;
-        discards = λ s at cause each. each;
-        ends = λ s startup peer near why kin each. each;
-        confirms = λ s startup peer near kin each. each;
-        closes = λ s near. left s.sessions near;
-        forgets = λ s near. left s.sessions near;
-        moves = λ s near to each. each;
-        goes_on = λ s near old new is goes. keeps_put s near old new is goes.flows;
+    each_quiet : Quiet Any Keeps
+    each_quiet = record {
+      sends = record {
+        does_nothing = λ s each. each;
+        and_then = λ s d e first later each. later (first each);
+        attempts = λ s startup kin each. each;
+        out = λ s to sid plain each. each;
+        out_in = λ s near row to body is carries. keeps_put s near row (record row { session = after_seal row.session }) is refl;
       };
-      bodies = λ body. tt;
-      flows = λ s near row thing is may each. put s.sessions near _ (flows_kept s.moment row thing may (each near row is)) each;
+      close = tt;
+      close_ack = tt;
+      empty_ping = tt;
+      discards = λ s at cause each. each;
+      ends = λ s startup peer near why kin each. each;
+      confirms = λ s startup peer near kin each. each;
+      closes = λ s near. left s.sessions near;
+      forgets = λ s near. left s.sessions near;
+      moves = λ s near to each. each;
+      goes_on = λ s near old new is goes. keeps_put s near old new is goes.flows;
     }
+
+    each_law : All Any Keeps
+    each_law = all_law each_quiet (λ s near row thing is may each. put s.sessions near _ (flows_kept s.moment row thing may (each near row is)) each)
 
     each_begins : Begins Keeps Keeps
     each_begins = record {
       quiet = λ s d keeps. keeps;
-      and_then = each_law.quiet.sends.and_then;
-      starts = λ s startup peer n near ni each. each;
+      and_then = each_quiet.sends.and_then;
+      starts = λ s startup peer n near ni kin each. each;
       bears = λ s peer o j from each. put (without_ended s.sessions (way_made peer o)) j.near _ kept.none (ended_left s.sessions (way_made peer o) each);
-      opens = λ s startup j from each. put s.sessions j.near _ kept.none each;
+      opens = λ s startup j from kin each. put s.sessions j.near _ kept.none each;
     }
 
     each_enters : Enters Keeps

@@ -6,8 +6,8 @@ use Rattle.endpoint_model.specs.Event.{Call, Answer}
 use Rattle.endpoint_model.specs.Log.{Answers}
 use Rattle.endpoint_laws.specs.Past.{Stamped, stamped, onto}
 use Rattle.endpoint_laws.specs.Complete.{outs_in, outs_of}
-use Rattle.endpoint_laws.proofs.Small.{Any, All, Begins, Enters}
-use Rattle.endpoint_laws.proofs.Made.{answers_made}
+use Rattle.endpoint_laws.proofs.Small.{Quiet, Any, All, Begins, Enters}
+use Rattle.endpoint_laws.proofs.Made.{all_law, answers_made}
 
 -- how many datagrams went out, of two lists one after the other
 pub outs_append : (xs ys : List Entry) → outs_in (xs ++ ys) ≡ outs_in xs + outs_in ys
@@ -18,38 +18,37 @@ outs_append (x ∷ xs) ys = omega (arith, outs_append xs ys)
 abbrev Few : State → Did → Type 0
 Few s d = d.state.sealed ≤ s.sealed + outs_in d.entries
 
-pub few_law : All Any Few
-few_law = record {
-  quiet = record {
-    sends = record {
-      does_nothing = λ s. omega arith;
-      and_then = λ s d e p q. omega (arith, p, q, outs_append d.entries e.entries);
-      attempts = λ s startup kin. omega arith;
-      out = λ s to sid plain. omega arith;
-      out_in = λ s near row to body is carries. omega arith;
-    };
-    close = tt;
-    close_ack = tt;
-    empty_ping = tt;
-    discards = λ s at cause. omega arith;
-    ends = λ s startup peer near why kin. omega arith;
-    confirms = λ s startup peer near kin. omega arith;
-    closes = λ s near. omega arith;
-    forgets = λ s near. omega arith;
-    moves = λ s near to. omega arith;
-    goes_on = λ s near old new is goes. omega arith;
+pub few_quiet : Quiet Any Few
+few_quiet = record {
+  sends = record {
+    does_nothing = λ s. omega arith;
+    and_then = λ s d e p q. omega (arith, p, q, outs_append d.entries e.entries);
+    attempts = λ s startup kin. omega arith;
+    out = λ s to sid plain. omega arith;
+    out_in = λ s near row to body is carries. omega arith;
   };
-  bodies = λ body. tt;
-  flows = λ s near row thing is may. omega arith;
+  close = tt;
+  close_ack = tt;
+  empty_ping = tt;
+  discards = λ s at cause. omega arith;
+  ends = λ s startup peer near why kin. omega arith;
+  confirms = λ s startup peer near kin. omega arith;
+  closes = λ s near. omega arith;
+  forgets = λ s near. omega arith;
+  moves = λ s near to. omega arith;
+  goes_on = λ s near old new is goes. omega arith;
 }
+
+pub few_law : All Any Few
+few_law = all_law few_quiet (λ s near row thing is may. omega arith)
 
 pub few_begins : Begins Few Few
 few_begins = record {
   quiet = λ s d few. few;
-  and_then = few_law.quiet.sends.and_then;
-  starts = λ s startup peer n near ni. omega arith;
+  and_then = few_quiet.sends.and_then;
+  starts = λ s startup peer n near ni kin. omega arith;
   bears = λ s peer o j from. omega arith;
-  opens = λ s startup j from. omega arith;
+  opens = λ s startup j from kin. omega arith;
 }
 
 few_enters : Enters Few

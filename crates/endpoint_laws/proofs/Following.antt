@@ -11,7 +11,8 @@ use Rattle.endpoint_laws.proofs.Unseen.{AreUnseen, flows_unseen}
 use Rattle.endpoint_laws.proofs.Hearing.{BeginsNone, NoneBegin, Descends, descends_same, had_it, had_inserted, had_left, Follows, follows_nothing, follows_then}
 use Rattle.endpoint_laws.proofs.FlowChunks.{like_after}
 use Rattle.endpoint_laws.proofs.FlowTimes.{late_like}
-use Rattle.endpoint_laws.proofs.Small.{FlowThing, Called, Came, Acked, Unowed, Late, Overdue, Packed, row_after, stated_of, Any, All}
+use Rattle.endpoint_laws.proofs.Made.{all_law}
+use Rattle.endpoint_laws.proofs.Small.{Quiet, FlowThing, Called, Came, Acked, Unowed, Late, Overdue, Packed, row_after, stated_of, Any, All}
 
 -- entries that are unseen
 none_begin : (entries : List Entry) → AreUnseen entries → NoneBegin entries
@@ -44,27 +45,26 @@ after_descends moment row Late = (late_like moment row).descends
 after_descends moment row (Overdue flow seq) = descends_same row.session
 after_descends moment row Packed = descends_same row.session
 
-pub follows_law : All Any Follows
-follows_law = record {
-  quiet = record {
-    sends = record {
-      does_nothing = follows_nothing;
-      and_then = λ s d e first later. follows_then s d (λ t. e) first later;
-      attempts = λ s startup kin. follows_still s _ [] tt refl refl;
-      out = λ s to sid plain. follows_still s _ _ ((λ near. refl), tt) refl refl;
-      out_in = λ s near row to body is carries. follows_row s s near row (record row { session = after_seal row.session }) _ is (sealed_by (is_spent row.session) row.session) ((λ q. refl), tt) refl refl;
-    };
-    close = tt;
-    close_ack = tt;
-    empty_ping = tt;
-    discards = λ s at cause. follows_still s s _ ((λ near. refl), tt) refl refl;
-    ends = λ s startup peer near why kin. follows_still s _ _ ((λ q. refl), tt) refl refl;
-    confirms = λ s startup peer near kin. follows_still s _ _ ((λ q. refl), tt) refl refl;
-    closes = λ s near. record { none = ((λ q. refl), tt); had = λ q row e. had_left s.sessions near q row e; moment = refl };
-    forgets = λ s near. record { none = tt; had = λ q row e. had_left s.sessions near q row e; moment = refl };
-    moves = λ s near to. follows_still s s _ ((λ q. refl), tt) refl refl;
-    goes_on = λ s near old new is goes. follows_row s s near old new [] is goes.descends tt refl refl;
+pub follows_quiet : Quiet Any Follows
+follows_quiet = record {
+  sends = record {
+    does_nothing = follows_nothing;
+    and_then = λ s d e first later. follows_then s d (λ t. e) first later;
+    attempts = λ s startup kin. follows_still s _ [] tt refl refl;
+    out = λ s to sid plain. follows_still s _ _ ((λ near. refl), tt) refl refl;
+    out_in = λ s near row to body is carries. follows_row s s near row (record row { session = after_seal row.session }) _ is (sealed_by (is_spent row.session) row.session) ((λ q. refl), tt) refl refl;
   };
-  bodies = λ body. tt;
-  flows = λ s near row thing is may. follows_row s s near row (row_after s.moment row thing) _ is (after_descends s.moment row thing) (none_begin (map (flow_entry near) (stated_of row thing)) (flows_unseen near (stated_of row thing))) refl refl;
+  close = tt;
+  close_ack = tt;
+  empty_ping = tt;
+  discards = λ s at cause. follows_still s s _ ((λ near. refl), tt) refl refl;
+  ends = λ s startup peer near why kin. follows_still s _ _ ((λ q. refl), tt) refl refl;
+  confirms = λ s startup peer near kin. follows_still s _ _ ((λ q. refl), tt) refl refl;
+  closes = λ s near. record { none = ((λ q. refl), tt); had = λ q row e. had_left s.sessions near q row e; moment = refl };
+  forgets = λ s near. record { none = tt; had = λ q row e. had_left s.sessions near q row e; moment = refl };
+  moves = λ s near to. follows_still s s _ ((λ q. refl), tt) refl refl;
+  goes_on = λ s near old new is goes. follows_row s s near old new [] is goes.descends tt refl refl;
 }
+
+pub follows_law : All Any Follows
+follows_law = all_law follows_quiet (λ s near row thing is may. follows_row s s near row (row_after s.moment row thing) _ is (after_descends s.moment row thing) (none_begin (map (flow_entry near) (stated_of row thing)) (flows_unseen near (stated_of row thing))) refl refl)

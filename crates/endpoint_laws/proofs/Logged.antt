@@ -36,7 +36,7 @@ use Rattle.endpoint_laws.proofs.OutSessions.{meets_closing}
 use Rattle.endpoint_laws.proofs.Hearing.{HeardWell, heard_follows}
 use Rattle.endpoint_laws.proofs.OnFlows.{goes_flow_called, meets_flow_called}
 use Rattle.endpoint_laws.proofs.Made.{opening_made, cancelling_made, closing_made, called_made}
-use Rattle.endpoint_laws.proofs.Following.{follows_law}
+use Rattle.endpoint_laws.proofs.Following.{follows_quiet, follows_law}
 use Rattle.endpoint_laws.proofs.HeardChunks.{heard_begins}
 use Rattle.endpoint_laws.proofs.HeardEvents.{AreNamed, are_named, heard_fresh, heard_begun, no_datagram, not_gone_through, gone_through_is, AdmissionHeard}
 use Rattle.endpoint_laws.proofs.HeardAdmission.{heard_admission}
@@ -80,20 +80,20 @@ module _ (setup : Setup) (is : IsSetup setup) (past : List Stamped) (s t : State
     orderly = record {
       goes = goes_opening setup past s peer candidates draws is.sessions fits.2 h.0 tied;
       meets = meets_opening setup s.moment (Open peer candidates draws) past s sent tied peer candidates draws fits.0 fits.1 fits.3 (small_free s draws.word fits.2);
-      heard = opening_made follows_law heard_begins s peer candidates draws past well;
+      heard = opening_made follows_quiet heard_begins s peer candidates draws past well;
     };
     does = h.2;
   }
   answers_orderly (Open peer candidates draws) (NotOpened refusal) entries fits well h = record { did = nothing s; orderly = orderly_nothing setup (Open peer candidates draws) past s tied sent well; does = h.1 }
   answers_orderly (Cancel n) Done entries fits well h = record {
     did = cancelling s n;
-    orderly = record { goes = goes_cancelling setup s n past tied; meets = meets_cancelling setup s.moment (Cancel n) past s n sent; heard = heard_follows s (cancelling s n) (cancelling_made follows_law.quiet s n) past well };
+    orderly = record { goes = goes_cancelling setup s n past tied; meets = meets_cancelling setup s.moment (Cancel n) past s n sent; heard = heard_follows s (cancelling s n) (cancelling_made follows_quiet s n) past well };
     does = h.1;
   }
   answers_orderly (Cancel n) (Refused refusal) entries fits well h = record { did = nothing s; orderly = orderly_nothing setup (Cancel n) past s tied sent well; does = h.2 }
   answers_orderly (Close near) Done entries fits well h = record {
     did = closing s near;
-    orderly = record { goes = goes_closing setup s near past tied; meets = meets_closing setup past s sent tied near; heard = heard_follows s (closing s near) (closing_made follows_law.quiet s near) past well };
+    orderly = record { goes = goes_closing setup s near past tied; meets = meets_closing setup past s sent tied near; heard = heard_follows s (closing s near) (closing_made follows_quiet s near) past well };
     does = h.1;
   }
   answers_orderly (Close near) (Refused refusal) entries fits well h = record { did = nothing s; orderly = orderly_nothing setup (Close near) past s tied sent well; does = h.2 }

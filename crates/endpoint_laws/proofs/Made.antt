@@ -54,8 +54,8 @@ use Rattle.endpoint_model.specs.FlowChunks.{acked, acked_by, acked_if, acked_in,
 use Rattle.mobility.specs.Tests.{address_for, after_reply, after_seen, asks}
 use Rattle.startup.specs.Attempts.{after_end_of, after_begin, after_confirm, after_end, begin_spread, end_fact, end_of, ended_attempt, has_number, hello_spread, keying_signed, lowest, session_in}
 use Rattle.startup.specs.Due.{after_due, due_of, is_due, is_over, repeat_of, repeat_signed}
-use Rattle.session_core.specs.Closing.{after_due as after_due_in, asked_to_close, closed_near, is_held, is_near_close, kept_alive, needs_keepalive}
-use Rattle.endpoint_model.specs.FlowTimes.{all_late, data_body, data_sent, due_row, is_row_due, late_at, late_each, row_due, row_due_done}
+use Rattle.session_core.specs.Closing.{first_due as session_first_due, after_due as after_due_in, asked_to_close, closed_near, is_held, is_near_close, kept_alive, needs_keepalive}
+use Rattle.endpoint_model.specs.FlowTimes.{end_due, abandon_due, all_late, data_body, due_row, is_row_due, late_at, late_each, row_due, row_due_done}
 use Rattle.endpoint_model.specs.OnFlows.{call_refusal, call_refusal_by, flow_called, flow_called_by, flow_refused}
 use Rattle.endpoint_laws.proofs.ByKind.{chunk_by_kind}
 use Rattle.rtmfp_chunks.specs.Writing.{chunk_bytes}
@@ -63,9 +63,11 @@ use Rattle.endpoint_model.specs.Causes.{initiator_keying_cause, takes}
 use Rattle.rtmfp_chunks.specs.FieldReading.{chunk_reading}
 use Rattle.endpoint_model.specs.Keying.{chunks_of}
 use Rattle.endpoint_model.specs.InSessions.{close_taken_by, closing, closing_by, dropped, ended_as, held_row, if_held, kept_alive_by, lingering, moved_by, moved_where, sent_home, sent_home_by, session_due_done, tested as tested_at, tested_by, told_in_session}
-use Rattle.glare_core.specs.Calls.{confirmed_fact, ended_fact, first_that_stands, started_fact, way_made}
+use Rattle.glare_core.specs.Calls.{where_true, confirmed_fact, ended_fact, first_that_stands, started_fact, way_made}
 use Rattle.cookies.specs.Cookie.{cookie_test}
 use Rattle.rtmfp_data_chunks.specs.Reader.{data_reading}
+use Rattle.session_flows.specs.Timing.{overdue_in}
+use Rattle.session_flows.specs.Packing.{is_data_due}
 use Rattle.endpoint_laws.proofs.Hearing.{descends_same}
 use Rattle.rtmfp_base.proofs.Lowest.{first_is_there}
 use Rattle.session_flows.specs.Causes.{chunk_cause as flows_cause}
@@ -75,7 +77,7 @@ use Rattle.endpoint_model.specs.Sending.{last_count, sent_answer, sent_by, sent_
 use Rattle.std.specs.Option.{option_map}
 use Rattle.sha2.specs.Sha256.{sha256}
 use Rattle.rtmfp_data_chunks.proofs.Fitting.{small_next, what_is_read_fits}
-use Rattle.endpoint_laws.proofs.Small.{GoesOn, Called, Came, Acked, Unowed, Late, Overdue, Packed, on_flows, birth, stated, Sends, Quiet, All, Begins, Enters}
+use Rattle.endpoint_laws.proofs.Small.{FlowThing, GoesOn, Called, Came, Acked, Unowed, Late, Overdue, Packed, on_flows, birth, stated, MayBe, Any, Sends, Quiet, Timed, All, Begins, Enters}
 use Rattle.endpoint_laws.proofs.Kin.{IsKin, kin_ended, kin_confirm, kin_end, kin_rhello, kin_redirect, kin_change, kin_due, kin_keying}
 
 -- ---- what goes out
@@ -191,7 +193,7 @@ alive_goes : (b : Bool) (moment : ℕ) (row : Row) → GoesOn row (record row { 
 alive_goes true moment row = record { descends = record { same = refl; opening = λ e. (e, refl) }; flows = refl }
 alive_goes false moment row = same_goes row
 
-held_is_there : (o : Option Row) (row : Row) → if_held o ≡ Some row → o ≡ Some row
+pub held_is_there : (o : Option Row) (row : Row) → if_held o ≡ Some row → o ≡ Some row
 held_is_there None row e = absurd (cc)
 held_is_there (Some old) row e = by (is_held old.session.stage) e
   where
@@ -330,32 +332,6 @@ module _ {Body : List ℕ → Type 0} {P : State → Did → Type 0} (q : Quiet 
       let new : Row = record row { session = after_due_in (Some RepeatClose) s.moment row.session } in
       and_home_made q.sends s near (chunk_bytes CloseChunk) (nothing (with_row s near new)) (q.goes_on s near row new is (record { descends = record { same = refl; opening = λ e. (e, refl) }; flows = refl })) q.close
 
-  -- by what is done with flows
-  row_due_made : (s : State) (near : ℕ) (row : Row) (due : RowDue) → get s.sessions near ≡ Some row → ((flow seq : ℕ) → due ≡ Abandon flow seq → P s (row_due_done s near row (Abandon flow seq))) → (due ≡ Data → P s (data_sent s near row)) →
-      P s (row_due_done s near row due)
-  row_due_made s near row (SessionOf due) is abandoned sent = session_due_made s near row due is
-  row_due_made s near row (Abandon flow seq) is abandoned sent = abandoned flow seq refl
-  row_due_made s near row Data is abandoned sent = sent refl
-  row_due_made s near row Keepalive is abandoned sent = kept_alive_made s near row is
-
-  pub tick_once_made : (s : State) →
-      ((near : ℕ) (row : Row) (flow seq : ℕ) → get s.sessions near ≡ Some row → row_due s.moment row ≡ Some (Abandon flow seq) → P s (row_due_done s near row (Abandon flow seq))) →
-      ((near : ℕ) (row : Row) → get s.sessions near ≡ Some row → P s (data_sent s near row)) → P s (tick_once s)
-  tick_once_made s abandoned sent = by (lowest (is_due s.moment) s.startup.attempts)
-    where
-      row_item_made : (near : ℕ) (row : Row) (o : Option RowDue) → get s.sessions near ≡ Some row → row_due s.moment row ≡ o → P s (item_done s (first_that_stands (row_item near row o ∷ [])))
-      row_item_made near row None there is = q.sends.does_nothing s
-      row_item_made near row (Some due) there is =
-          row_due_made s near row due there (λ flow seq e. abandoned near row flow seq there (is ∙ ap (λ (d : RowDue). Some d) e)) (λ e. sent near row there)
-
-      session_item_made : (o : Option (ℕ × Row)) → due_row s ≡ o → P s (item_done s (first_that_stands (session_item s.moment o ∷ [])))
-      session_item_made None is = q.sends.does_nothing s
-      session_item_made (Some e) is = row_item_made e.0 e.1 (row_due s.moment e.1) (first_is_there (is_row_due s.moment) s.sessions e is).0 refl
-
-      by : (o : Option (ℕ × AttemptState)) → P s (item_done s (first_that_stands (attempt_item (due_of s.startup s.moment o) ∷ session_item s.moment (due_row s) ∷ [])))
-      by None = session_item_made (due_row s) refl
-      by (Some e) = attempt_made s e
-
 -- ---- flows
 
 none_told : (o : Option FlowCause) → option_map told_cause o ≡ None → o ≡ None
@@ -366,74 +342,122 @@ none_refused : (o : Option FlowRefusal) → option_map flow_refused o ≡ None �
 none_refused None e = refl
 none_refused (Some refusal) e = absurd (cc)
 
+-- a message that is due to be abandoned is the first that is overdue
+abandon_is : (a : Option SessionDue) (b : Option (ℕ × ℕ)) (c d : Bool) (flow seq : ℕ) → first_that_stands (end_due a ∷ abandon_due b ∷ where_true c Data ∷ where_true d Keepalive ∷ []) ≡ Some (Abandon flow seq) → b ≡ Some (flow, seq)
+abandon_is (Some first) b c d flow seq e = absurd (cc)
+abandon_is None (Some found) c d flow seq e =
+    let same : Abandon found.0 found.1 ≡ Abandon flow seq = cc in
+    let one : found.0 ≡ flow = cc in
+    let two : found.1 ≡ seq = cc in
+    ap (λ (n : ℕ). Some (n, found.1)) one ∙ ap (λ (n : ℕ). Some (flow, n)) two
+abandon_is None None true d flow seq e = absurd (cc)
+abandon_is None None false true flow seq e = absurd (cc)
+abandon_is None None false false flow seq e = absurd (cc)
+
+module _ {Body : List ℕ → Type 0} {P : State → Did → Type 0} (k : Timed Body P) where
+  -- ---- acks
+
+  pub acked_by_made : (s : State) (near : ℕ) (o : Option Row) → get s.sessions near ≡ o → owes_by o ≡ true → P s (acked_by s near o)
+  acked_by_made s near None is owed = k.quiet.sends.does_nothing s
+  acked_by_made s near (Some row) is owed = k.acks s near row is owed
+
+  acked_if_made : (s : State) (near : ℕ) (next : State → Did) → ((t : State) → P t (next t)) → (b : Bool) → owes_by (get s.sessions near) ≡ b → P s (acked_if s near b next)
+  acked_if_made s near next later false is = k.quiet.sends.does_nothing s
+  acked_if_made s near next later true is =
+      let d : Did = acked_by s near (get s.sessions near) in
+      k.quiet.sends.and_then s d (next d.state) (acked_by_made s near (get s.sessions near) refl is) (later d.state)
+
+  acked_in_made : (count : ℕ) (s : State) (near : ℕ) → P s (acked_in count s near)
+  acked_in_made zero s near = k.quiet.sends.does_nothing s
+  acked_in_made (suc count) s near = acked_if_made s near (λ t. acked_in count t near) (λ t. acked_in_made count t near) (owes_by (get s.sessions near)) refl
+
+  pub acked_made : (count : ℕ) (s : State) (place : Place) → P s (acked count s place)
+  acked_made count s Startup = k.quiet.sends.does_nothing s
+  acked_made count s (Attempt near) = k.quiet.sends.does_nothing s
+  acked_made count s (Session near) = acked_in_made count s near
+
+  pub unowed_by_made : (s : State) (near : ℕ) (o : Option Row) → get s.sessions near ≡ o → P s (nothing (unowed_by s near o))
+  unowed_by_made s near None is = k.quiet.sends.does_nothing s
+  unowed_by_made s near (Some row) is = k.owes_none s near row is
+
+  pub unowed_made : (s : State) (place : Place) → P s (nothing (unowed s place))
+  unowed_made s Startup = k.quiet.sends.does_nothing s
+  unowed_made s (Attempt near) = k.quiet.sends.does_nothing s
+  unowed_made s (Session near) = unowed_by_made s near (get s.sessions near) refl
+
+  -- ---- a tick
+
+  pub late_made : (s : State) (near : ℕ) (o : Option Row) → get s.sessions near ≡ o → P s (nothing (late_at s near o))
+  late_made s near None is = k.quiet.sends.does_nothing s
+  late_made s near (Some row) is = k.loses s near row is
+
+  late_each_made : (ids : List ℕ) (s : State) → P s (nothing (late_each ids s))
+  late_each_made [] s = k.quiet.sends.does_nothing s
+  late_each_made (near ∷ rest) s =
+      let t : State = late_at s near (get s.sessions near) in
+      k.quiet.sends.and_then s (nothing t) (nothing (late_each rest t)) (late_made s near (get s.sessions near) refl) (late_each_made rest t)
+
+  row_due_made : (s : State) (near : ℕ) (row : Row) (due : RowDue) → get s.sessions near ≡ Some row → row_due s.moment row ≡ Some due → P s (row_due_done s near row due)
+  row_due_made s near row (SessionOf due) there is = session_due_made k.quiet s near row due there
+  row_due_made s near row (Abandon flow seq) there is =
+      k.abandons s near row flow seq there
+      (abandon_is (session_first_due row.session s.moment) (overdue_in row.session row.flows s.moment) (is_data_due row.session row.flows s.moment) (needs_keepalive row.session s.moment) flow seq is)
+  row_due_made s near row Data there is = k.packs s near row there
+  row_due_made s near row Keepalive there is = kept_alive_made k.quiet s near row there
+
+  row_item_made : (s : State) (near : ℕ) (row : Row) (o : Option RowDue) → get s.sessions near ≡ Some row → row_due s.moment row ≡ o → P s (item_done s (first_that_stands (row_item near row o ∷ [])))
+  row_item_made s near row None there is = k.quiet.sends.does_nothing s
+  row_item_made s near row (Some due) there is = row_due_made s near row due there is
+
+  session_item_made : (s : State) (o : Option (ℕ × Row)) → due_row s ≡ o → P s (item_done s (first_that_stands (session_item s.moment o ∷ [])))
+  session_item_made s None is = k.quiet.sends.does_nothing s
+  session_item_made s (Some e) is = row_item_made s e.0 e.1 (row_due s.moment e.1) (first_is_there (is_row_due s.moment) s.sessions e is).0 refl
+
+  item_made : (s : State) (o : Option (ℕ × AttemptState)) → P s (item_done s (first_that_stands (attempt_item (due_of s.startup s.moment o) ∷ session_item s.moment (due_row s) ∷ [])))
+  item_made s None = session_item_made s (due_row s) refl
+  item_made s (Some e) = attempt_made k.quiet s e
+
+  pub tick_made : (s : State) → P s (tick_once s)
+  tick_made s = item_made s (lowest (is_due s.moment) s.startup.attempts)
+
+  ticks_made : (count : ℕ) (s : State) → P s (ticks count s)
+  ticks_made zero s = k.quiet.sends.does_nothing s
+  ticks_made (suc count) s = k.quiet.sends.and_then s (tick_once s) (ticks count (tick_once s).state) (tick_made s) (ticks_made count (tick_once s).state)
+
+  pub tick_all_made : (count : ℕ) (s : State) → P s (ticks count (all_late s))
+  tick_all_made count s = k.quiet.sends.and_then s (nothing (all_late s)) (ticks count (all_late s)) (late_each_made (keys s.sessions) s) (ticks_made count (all_late s))
+
+-- where any body may go out, what is done with flows is one thing and the datagram another
+pub all_law : {P : State → Did → Type 0} → Quiet Any P → ((s : State) (near : ℕ) (row : Row) (thing : FlowThing) → get s.sessions near ≡ Some row → MayBe row thing → P s (on_flows s near row thing)) → All Any P
+all_law q flows = record {
+  timed = record {
+    quiet = q;
+    acks = λ s near row is owed. and_home_made q.sends s near (acks_body row s.moment) (on_flows s near row Acked) (flows s near row Acked is tt) tt;
+    owes_none = λ s near row is. flows s near row Unowed is tt;
+    loses = λ s near row is. flows s near row Late is tt;
+    abandons = λ s near row flow seq is due. flows s near row (Overdue flow seq) is tt;
+    packs = λ s near row is. and_home_made q.sends s near (data_body row s.moment) (on_flows s near row Packed) (flows s near row Packed is tt) tt;
+  };
+  bodies = λ body. tt;
+  calls = λ s near row call is none. flows s near row (Called call) is none;
+  takes = λ s near row chunk is fits none. flows s near row (Came chunk) is (fits, none);
+}
+
 module _ {Body : List ℕ → Type 0} {P : State → Did → Type 0} (a : All Body P) where
   called_by_made : (s : State) (near : ℕ) (c : FlowCall) (o : Option Row) → held_row s near ≡ o → call_refusal_by c o ≡ None → P s (flow_called_by s near c o)
   called_by_made s near c None is none = absurd (cc)
-  called_by_made s near c (Some row) is none = a.flows s near row (Called c) (held_is_there (get s.sessions near) row is) (none_refused (flow_refusal row.flows c) none)
+  called_by_made s near c (Some row) is none = a.calls s near row c (held_is_there (get s.sessions near) row is) (none_refused (flow_refusal row.flows c) none)
 
   pub called_made : (s : State) (near : ℕ) (c : FlowCall) → call_refusal s near c ≡ None → P s (flow_called s near c)
   called_made s near c none = called_by_made s near c (held_row s near) refl none
 
   taken_by_made : (s : State) (near : ℕ) (chunk : DataChunk) → FitsIn chunk → (o : Option Row) → get s.sessions near ≡ o → taking_cause o chunk ≡ None → P s (flow_taken_by s near chunk o)
   taken_by_made s near chunk fits None is none = absurd (cc)
-  taken_by_made s near chunk fits (Some row) is none = a.flows s near row (Came chunk) is (fits, none_told (flows_cause row.session row.flows chunk) none)
+  taken_by_made s near chunk fits (Some row) is none = a.takes s near row chunk is fits (none_told (flows_cause row.session row.flows chunk) none)
 
   flow_taken_made : (s : State) (near : ℕ) (read : Result DataChunk DataFault) → ((chunk : DataChunk) → read ≡ Ok chunk → FitsIn chunk) → flow_cause (get s.sessions near) read ≡ None → P s (flow_taken s near read)
   flow_taken_made s near (Ok chunk) fits none = taken_by_made s near chunk (fits chunk refl) (get s.sessions near) refl none
-  flow_taken_made s near (Err fault) fits none = a.quiet.sends.does_nothing s
-
-  -- ---- acks
-
-  pub acked_by_made : (s : State) (near : ℕ) (o : Option Row) → get s.sessions near ≡ o → P s (acked_by s near o)
-  acked_by_made s near None is = a.quiet.sends.does_nothing s
-  acked_by_made s near (Some row) is = and_home_made a.quiet.sends s near (acks_body row s.moment) (on_flows s near row Acked) (a.flows s near row Acked is tt) (a.bodies (acks_body row s.moment))
-
-  acked_if_made : (s : State) (near : ℕ) (b : Bool) (next : State → Did) → ((t : State) → P t (next t)) → P s (acked_if s near b next)
-  acked_if_made s near false next later = a.quiet.sends.does_nothing s
-  acked_if_made s near true next later =
-      let d : Did = acked_by s near (get s.sessions near) in
-      a.quiet.sends.and_then s d (next d.state) (acked_by_made s near (get s.sessions near) refl) (later d.state)
-
-  acked_in_made : (count : ℕ) (s : State) (near : ℕ) → P s (acked_in count s near)
-  acked_in_made zero s near = a.quiet.sends.does_nothing s
-  acked_in_made (suc count) s near = acked_if_made s near (owes_by (get s.sessions near)) (λ t. acked_in count t near) (λ t. acked_in_made count t near)
-
-  pub acked_made : (count : ℕ) (s : State) (place : Place) → P s (acked count s place)
-  acked_made count s Startup = a.quiet.sends.does_nothing s
-  acked_made count s (Attempt near) = a.quiet.sends.does_nothing s
-  acked_made count s (Session near) = acked_in_made count s near
-
-  pub unowed_by_made : (s : State) (near : ℕ) (o : Option Row) → get s.sessions near ≡ o → P s (nothing (unowed_by s near o))
-  unowed_by_made s near None is = a.quiet.sends.does_nothing s
-  unowed_by_made s near (Some row) is = a.flows s near row Unowed is tt
-
-  pub unowed_made : (s : State) (place : Place) → P s (nothing (unowed s place))
-  unowed_made s Startup = a.quiet.sends.does_nothing s
-  unowed_made s (Attempt near) = a.quiet.sends.does_nothing s
-  unowed_made s (Session near) = unowed_by_made s near (get s.sessions near) refl
-
-  -- ---- a tick
-
-  pub late_made : (s : State) (near : ℕ) (o : Option Row) → get s.sessions near ≡ o → P s (nothing (late_at s near o))
-  late_made s near None is = a.quiet.sends.does_nothing s
-  late_made s near (Some row) is = a.flows s near row Late is tt
-
-  late_each_made : (ids : List ℕ) (s : State) → P s (nothing (late_each ids s))
-  late_each_made [] s = a.quiet.sends.does_nothing s
-  late_each_made (near ∷ rest) s =
-      let t : State = late_at s near (get s.sessions near) in
-      a.quiet.sends.and_then s (nothing t) (nothing (late_each rest t)) (late_made s near (get s.sessions near) refl) (late_each_made rest t)
-
-  pub tick_made : (s : State) → P s (tick_once s)
-  tick_made s = tick_once_made a.quiet s (λ near row flow seq there due. a.flows s near row (Overdue flow seq) there tt)
-      (λ near row there. and_home_made a.quiet.sends s near (data_body row s.moment) (on_flows s near row Packed) (a.flows s near row Packed there tt) (a.bodies (data_body row s.moment)))
-
-  ticks_made : (count : ℕ) (s : State) → P s (ticks count s)
-  ticks_made zero s = a.quiet.sends.does_nothing s
-  ticks_made (suc count) s = a.quiet.sends.and_then s (tick_once s) (ticks count (tick_once s).state) (tick_made s) (ticks_made count (tick_once s).state)
-
-  pub tick_all_made : (count : ℕ) (s : State) → P s (ticks count (all_late s))
-  tick_all_made count s = a.quiet.sends.and_then s (nothing (all_late s)) (ticks count (all_late s)) (late_each_made (keys s.sessions) s) (ticks_made count (all_late s))
+  flow_taken_made s near (Err fault) fits none = a.timed.quiet.sends.does_nothing s
 
   -- ---- a chunk
 
@@ -442,12 +466,12 @@ module _ {Body : List ℕ → Type 0} {P : State → Did → Type 0} (a : All Bo
       (c.kind ≡ 0x38 → takes place 0x38 ≡ true → initiator_keying_cause s walk from c.payload ≡ None → R (initiator_keyed s from draws c.payload)) → (takes place 0x78 ≡ true → R (responder_keyed s (sid_at place) from c.payload)) →
       R (chunk_did place from draws walk s c)
   chunk_by R place from draws walk s c small up initiator responder = chunk_by_kind R place from draws walk s c (record {
-    discarded = λ cause. up _ (a.quiet.discards s c.at cause);
+    discarded = λ cause. up _ (a.timed.quiet.discards s c.at cause);
     initiator = λ kind taken none formed. initiator kind taken none;
     responder = λ kind taken none formed. responder taken;
-    told = λ told taken has. up _ (told_made a.quiet s (sid_at place) from c);
+    told = λ told taken has. up _ (told_made a.timed.quiet s (sid_at place) from c);
     flows = λ is taken none. up _ (flow_taken_made s (sid_at place) (data_reading walk.cursor c.kind c.payload) (λ chunk read. (what_is_read_fits walk.cursor c.kind c.payload chunk small read).0) none);
-    reads = λ none. up _ (read_made a.quiet.sends s place from (chunk_reading c.kind c.payload) (carries_any a.quiet.sends a.bodies (read_reply s place from (chunk_reading c.kind c.payload))));
+    reads = λ none. up _ (read_made a.timed.quiet.sends s place from (chunk_reading c.kind c.payload) (carries_any a.timed.quiet.sends a.bodies (read_reply s place from (chunk_reading c.kind c.payload))));
   })
 
   -- one that came in a session begins none
@@ -462,58 +486,62 @@ pub record WasMade (P : State → Did → Type 0) (s t : State) (entries : List 
   pub made : P s did
   pub does : Does did t [] entries
 
-module _ {Body : List ℕ → Type 0} {Q P : State → Did → Type 0} (a : All Body Q) (b : Begins Q P) where
-  nothing_made : (s : State) → P s (nothing s)
-  nothing_made s = b.quiet s (nothing s) (a.quiet.sends.does_nothing s)
+module _ {Body : List ℕ → Type 0} {Q P : State → Did → Type 0} (q : Quiet Body Q) (b : Begins Q P) where
+  pub nothing_made : (s : State) → P s (nothing s)
+  nothing_made s = b.quiet s (nothing s) (q.sends.does_nothing s)
 
   pub opening_made : (s : State) (peer : List ℕ) (candidates : List AddressParts) (draws : Draws) → P s (opening s peer candidates draws)
   opening_made s peer candidates draws =
       let startup : StartupState = after_begin s.startup peer candidates (free_from s draws.word) draws.nonce draws.tag s.moment in
       let spread : SpreadParts = begin_spread s.startup peer candidates draws.nonce draws.tag s.moment in
-      b.and_then s (stated s startup (started_fact s.startup.ledger peer (free_from s draws.word) draws.nonce)) (sent_spread (with_startup s startup) spread) (b.starts s startup peer _ (free_from s draws.word) draws.nonce)
-      (b.quiet (with_startup s startup) _ (spread_made a.quiet.sends (with_startup s startup) spread))
+      b.and_then s (stated s startup (started_fact s.startup.ledger peer (free_from s draws.word) draws.nonce)) (sent_spread (with_startup s startup) spread) (b.starts s startup peer _ (free_from s draws.word) draws.nonce (record { own = refl; secret = refl }))
+      (b.quiet (with_startup s startup) _ (spread_made q.sends (with_startup s startup) spread))
 
   keyed_with_made : (s : State) (startup : StartupState) (from : AddressParts) (now near : ℕ) (nr : List ℕ) (keying : InitiatorKeying) (t : CookieTest) → P s (keying_done s from (Some (keyed_with startup from now near nr keying t)))
   keyed_with_made s startup from now near nr keying Current = by (repeated_session (held_with startup.ledger (sha256 keying.cert)) (keying_of keying))
     where
       by : (o : Option Joined) → P s (keying_done s from (Some (again_or_birth startup (keying_of keying) from near nr o)))
-      by (Some j) = b.quiet s _ (answer_made a.quiet.sends s (session_answer startup j from))
+      by (Some j) = b.quiet s _ (answer_made q.sends s (session_answer startup j from))
       by None =
           let j : Joined = born_session startup.ledger (keying_of keying) near nr in
           let o : Option Held = held_with startup.ledger (sha256 keying.cert) in
           let d : Did = birth s (way_made (sha256 keying.cert) o) j from in
-          b.and_then s d (sent_answer d.state (session_answer startup j from)) (b.bears s (sha256 keying.cert) o j from) (b.quiet d.state _ (answer_made a.quiet.sends d.state (session_answer startup j from)))
-  keyed_with_made s startup from now near nr keying Bad = b.quiet s _ (answer_made a.quiet.sends s (change_answer startup keying from now))
-  keyed_with_made s startup from now near nr keying CookieMoved = b.quiet s _ (answer_made a.quiet.sends s (change_answer startup keying from now))
-  keyed_with_made s startup from now near nr keying Stale = b.quiet s _ (answer_made a.quiet.sends s (change_answer startup keying from now))
+          b.and_then s d (sent_answer d.state (session_answer startup j from)) (b.bears s (sha256 keying.cert) o j from) (b.quiet d.state _ (answer_made q.sends d.state (session_answer startup j from)))
+  keyed_with_made s startup from now near nr keying Bad = b.quiet s _ (answer_made q.sends s (change_answer startup keying from now))
+  keyed_with_made s startup from now near nr keying CookieMoved = b.quiet s _ (answer_made q.sends s (change_answer startup keying from now))
+  keyed_with_made s startup from now near nr keying Stale = b.quiet s _ (answer_made q.sends s (change_answer startup keying from now))
 
   keyed_made : (s : State) (startup : StartupState) (from : AddressParts) (now near : ℕ) (nr : List ℕ) (r : Result InitiatorKeying Cause) → P s (keying_done s from (keyed_reading startup from now near nr r))
   keyed_made s startup from now near nr (Ok keying) = keyed_with_made s startup from now near nr keying (cookie_test startup.cookie_secret keying.cookie from now)
   keyed_made s startup from now near nr (Err cause) = nothing_made s
 
-  initiator_made : (s : State) (from : AddressParts) (draws : Draws) (payload : List ℕ) → P s (initiator_keyed s from draws payload)
+  pub initiator_made : (s : State) (from : AddressParts) (draws : Draws) (payload : List ℕ) → P s (initiator_keyed s from draws payload)
   initiator_made s from draws payload =
       let t : State = with_startup s (after_keying s.startup payload from s.moment (free_from s draws.word) draws.nonce) in
-      b.and_then s (nothing t) _ (b.quiet s (nothing t) (a.quiet.sends.attempts s t.startup (kin_keying s.startup payload from s.moment (free_from s draws.word) draws.nonce)))
+      b.and_then s (nothing t) _ (b.quiet s (nothing t) (q.sends.attempts s t.startup (kin_keying s.startup payload from s.moment (free_from s draws.word) draws.nonce)))
       (keyed_made t s.startup from s.moment (free_from s draws.word) draws.nonce (initiator_keying_in payload))
 
   opened_made : (s : State) (near : ℕ) (from : AddressParts) (o : Option AttemptState) (r : Result ResponderKeying Cause) → P s (opening_done s near from (opened_reading near o r))
   opened_made s near from (Some e) (Ok keying) =
       let fact : Fact = opened_with near keying e in
       let t : State = with_opened (with_startup s (after_opening s.startup near fact)) fact from in
-      b.and_then s (record { state = t; entries = FactEntry fact ∷ [] }) (sent_in_session t near from (chunk_bytes (Ping []))) (b.opens s (after_opening s.startup near fact) _ from)
-      (b.quiet t _ (in_session_made a.quiet.sends t near from (chunk_bytes (Ping [])) a.quiet.empty_ping))
+      b.and_then s (record { state = t; entries = FactEntry fact ∷ [] }) (sent_in_session t near from (chunk_bytes (Ping []))) (b.opens s (after_opening s.startup near fact) _ from (record { own = refl; secret = refl }))
+      (b.quiet t _ (in_session_made q.sends t near from (chunk_bytes (Ping [])) q.empty_ping))
   opened_made s near from (Some e) (Err cause) = nothing_made s
   opened_made s near from None r = nothing_made s
 
+  pub responder_made : (s : State) (near : ℕ) (from : AddressParts) (payload : List ℕ) → P s (responder_keyed s near from payload)
+  responder_made s near from payload = opened_made s near from (get s.startup.attempts near) (responder_keying_in payload)
+
+module _ {Body : List ℕ → Type 0} {Q P : State → Did → Type 0} (a : All Body Q) (b : Begins Q P) where
   -- ---- the chunks of a datagram
 
   pub chunk_made : (place : Place) (from : AddressParts) (draws : Draws) (walk : Walk) (s : State) (c : Placed) → AreSmall walk.cursor → P s (chunk_did place from draws walk s c)
   chunk_made place from draws walk s c small =
-      chunk_by a (P s) place from draws walk s c small (b.quiet s) (λ kind taken none. initiator_made s from draws c.payload) (λ taken. opened_made s (sid_at place) from (get s.startup.attempts (sid_at place)) (responder_keying_in c.payload))
+      chunk_by a (P s) place from draws walk s c small (b.quiet s) (λ kind taken none. initiator_made a.timed.quiet b s from draws c.payload) (λ taken. responder_made a.timed.quiet b s (sid_at place) from c.payload)
 
   pub chunks_made : (place : Place) (from : AddressParts) (draws : Draws) (walk : Walk) (s : State) (cs : List Placed) → AreSmall walk.cursor → P s (chunks_did place from draws walk s cs)
-  chunks_made place from draws walk s [] small = nothing_made s
+  chunks_made place from draws walk s [] small = nothing_made a.timed.quiet b s
   chunks_made place from draws walk s (c ∷ cs) small =
       let d : Did = chunk_did place from draws walk s c in
       b.and_then s d _ (chunk_made place from draws walk s c small) (chunks_made place from draws (walked walk c) d.state cs (small_next walk.cursor c.kind c.payload small))
@@ -522,28 +550,28 @@ module _ {Body : List ℕ → Type 0} {Q P : State → Did → Type 0} (a : All 
   acked_after_made from draws s place cs count =
       let first : Did = confirming s place in
       let went : Did = gone_through from draws s place cs in
-      b.and_then s went (acked count went.state place) (b.and_then s first _ (b.quiet s first (confirming_made a.quiet s place)) (chunks_made place from draws outset first.state cs tt))
-      (b.quiet went.state _ (acked_made a count went.state place))
+      b.and_then s went (acked count went.state place) (b.and_then s first _ (b.quiet s first (confirming_made a.timed.quiet s place)) (chunks_made place from draws outset first.state cs tt))
+      (b.quiet went.state _ (acked_made a.timed count went.state place))
 
   -- ---- a datagram, and a call
 
   module _ (e : Enters P) where
     counted_made : (s : State) (place : Place) (part : List ℕ) → P s (nothing (counted_at s place part))
-    counted_made s Startup part = nothing_made s
-    counted_made s (Attempt near) part = nothing_made s
+    counted_made s Startup part = nothing_made a.timed.quiet b s
+    counted_made s (Attempt near) part = nothing_made a.timed.quiet b s
     counted_made s (Session near) part = by (get s.sessions near) refl
       where
         by : (o : Option Row) → get s.sessions near ≡ o → P s (nothing (counted_by s near part o))
-        by None is = nothing_made s
+        by None is = nothing_made a.timed.quiet b s
         by (Some row) is = e.counts s near row _ is
 
     timed_made : (s : State) (place : Place) (head : PacketHead) → P s (nothing (timed_at s place head))
-    timed_made s Startup head = nothing_made s
-    timed_made s (Attempt near) head = nothing_made s
+    timed_made s Startup head = nothing_made a.timed.quiet b s
+    timed_made s (Attempt near) head = nothing_made a.timed.quiet b s
     timed_made s (Session near) head = by (get s.sessions near) refl
       where
         by : (o : Option Row) → get s.sessions near ≡ o → P s (nothing (timed_by s near head o))
-        by None is = nothing_made s
+        by None is = nothing_made a.timed.quiet b s
         by (Some row) is = e.counts s near row _ is
 
     -- what an admission leaves
@@ -555,58 +583,58 @@ module _ {Body : List ℕ → Type 0} {Q P : State → Did → Type 0} (a : All 
     admission_made s datagram = by (opened_datagram s datagram)
       where
         packed : (t : State) (place : Place) (r : Result Whole PacketFault) → P t (nothing (left_by (admitted_packet t place r)))
-        packed t place (Err fault) = nothing_made t
+        packed t place (Err fault) = nothing_made a.timed.quiet b t
         packed t place (Ok packet) = moded (has_mode packet.head (mode_at t place))
           where
             moded : (m : Bool) → P t (nothing (left_by (if m then Admitted (timed_at t place packet.head) place packet else Rejected t WrongPlace)))
             moded true = timed_made t place packet.head
-            moded false = nothing_made t
+            moded false = nothing_made a.timed.quiet b t
 
         by : (r : Result (Place × List ℕ) Cause) → P s (nothing (left_by (admitted s datagram r)))
-        by (Err cause) = nothing_made s
+        by (Err cause) = nothing_made a.timed.quiet b s
         by (Ok found) =
             let t : State = counted_at s found.0 (drop 4 datagram) in
             b.and_then s (nothing t) (nothing (left_by (admitted_packet t found.0 (packet_in found.1)))) (counted_made s found.0 (drop 4 datagram)) (packed t found.0 (packet_in found.1))
 
     received_made : (s : State) (from : AddressParts) (draws : Draws) (d : Admission) → P s (nothing (left_by d)) → P s (received from draws d)
-    received_made s from draws (Rejected t cause) entered = b.and_then s (nothing t) _ entered (b.quiet t _ (a.quiet.discards t 0 cause))
+    received_made s from draws (Rejected t cause) entered = b.and_then s (nothing t) _ entered (b.quiet t _ (a.timed.quiet.discards t 0 cause))
     received_made s from draws (Admitted t place packet) entered =
         let went : Did = gone_through_and_acked from draws t place (chunks_of packet) most_acks in
         b.and_then s (nothing t) (received from draws (Admitted t place packet)) entered
         (b.and_then t went (tested_at went.state place from draws) (acked_after_made from draws t place (chunks_of packet) most_acks)
-        (b.quiet went.state _ (tested_made a.quiet went.state place from draws (a.bodies (chunk_bytes (Ping draws.token))))))
+        (b.quiet went.state _ (tested_made a.timed.quiet went.state place from draws (a.bodies (chunk_bytes (Ping draws.token))))))
 
     part_made : (s : State) (from : AddressParts) (draws : Draws) (d : Admission) (count acks : ℕ) → P s (nothing (left_by d)) → P s (part_received from draws d count acks)
     part_made s from draws (Rejected t cause) count acks entered = entered
     part_made s from draws (Admitted t place packet) count acks entered =
         let went : Did = gone_through_and_acked from draws t place (take count (chunks_of packet)) acks in
         b.and_then s (nothing t) (part_received from draws (Admitted t place packet) count acks) entered
-        (b.and_then t went (nothing (unowed went.state place)) (acked_after_made from draws t place (take count (chunks_of packet)) acks) (b.quiet went.state _ (unowed_made a went.state place)))
+        (b.and_then t went (nothing (unowed went.state place)) (acked_after_made from draws t place (take count (chunks_of packet)) acks) (b.quiet went.state _ (unowed_made a.timed went.state place)))
 
     stopped_made : (s : State) (from : AddressParts) (draws : Draws) (d : Admission) (stop : Stop) (acks : ℕ) → P s (nothing (left_by d)) → P s (stopped s from draws d stop acks)
     stopped_made s from draws d stop acks entered = by stop.taken
       where
         by : (t : Bool) → P s (if t then part_received from draws d stop.chunks acks else nothing s)
         by true = part_made s from draws d stop.chunks acks entered
-        by false = nothing_made s
+        by false = nothing_made a.timed.quiet b s
 
     answer_is : (s t : State) (entries : List Entry) (d : Did) → P s d → Does d t [] entries → WasMade P s t entries
     answer_is s t entries d made does = record { did = d; made = made; does = does }
 
     pub answers_made : (s t : State) (call : Call) (answer : CallAnswer) (entries : List Entry) → Answers s call answer entries t → WasMade P s t entries
-    answers_made s t (Open peer candidates draws) (Began n) entries h = answer_is s t entries _ (opening_made s peer candidates draws) h.2
-    answers_made s t (Open peer candidates draws) (NotOpened refusal) entries h = answer_is s t entries _ (nothing_made s) h.1
-    answers_made s t (Cancel n) Done entries h = answer_is s t entries _ (b.quiet s _ (cancelling_made a.quiet s n)) h.1
-    answers_made s t (Cancel n) (Refused refusal) entries h = answer_is s t entries _ (nothing_made s) h.2
-    answers_made s t (Close near) Done entries h = answer_is s t entries _ (b.quiet s _ (closing_made a.quiet s near)) h.1
-    answers_made s t (Close near) (Refused refusal) entries h = answer_is s t entries _ (nothing_made s) h.2
+    answers_made s t (Open peer candidates draws) (Began n) entries h = answer_is s t entries _ (opening_made a.timed.quiet b s peer candidates draws) h.2
+    answers_made s t (Open peer candidates draws) (NotOpened refusal) entries h = answer_is s t entries _ (nothing_made a.timed.quiet b s) h.1
+    answers_made s t (Cancel n) Done entries h = answer_is s t entries _ (b.quiet s _ (cancelling_made a.timed.quiet s n)) h.1
+    answers_made s t (Cancel n) (Refused refusal) entries h = answer_is s t entries _ (nothing_made a.timed.quiet b s) h.2
+    answers_made s t (Close near) Done entries h = answer_is s t entries _ (b.quiet s _ (closing_made a.timed.quiet s near)) h.1
+    answers_made s t (Close near) (Refused refusal) entries h = answer_is s t entries _ (nothing_made a.timed.quiet b s) h.2
     answers_made s t (AddRow print addresses) Done entries h = answer_is s t entries _ (e.unseen s s.introduces (insert s.redirects print addresses)) h.1
-    answers_made s t (AddRow print addresses) (NotAdded refusal) entries h = answer_is s t entries _ (nothing_made s) h.1
+    answers_made s t (AddRow print addresses) (NotAdded refusal) entries h = answer_is s t entries _ (nothing_made a.timed.quiet b s) h.1
     answers_made s t Introduce Done entries h = answer_is s t entries _ (e.unseen s true s.redirects) h
     answers_made s t (OnFlows near call) Done entries h = answer_is s t entries _ (b.quiet s _ (called_made a s near call h.0)) h.1
-    answers_made s t (OnFlows near call) (Refused refusal) entries h = answer_is s t entries _ (nothing_made s) h.1
+    answers_made s t (OnFlows near call) (Refused refusal) entries h = answer_is s t entries _ (nothing_made a.timed.quiet b s) h.1
     answers_made s t (Receive from datagram draws) Done entries h = answer_is s t entries _ (received_made s from draws (admission s datagram) (admission_made s datagram)) h
     answers_made s t (Receive from datagram draws) (Stopped stop) entries h = answer_is s t entries _ (stopped_made s from draws (admission s datagram) stop h.acks (admission_made s datagram)) h.left
-    answers_made s t (Tick draws) Done entries h = answer_is s t entries _ (b.quiet s _ (tick_all_made a h.0.0 s)) h.0.1
-    answers_made s t (Tick draws) OutOfMemory entries h = answer_is s t entries _ (b.quiet s _ (tick_all_made a h.0 s)) h.1
+    answers_made s t (Tick draws) Done entries h = answer_is s t entries _ (b.quiet s _ (tick_all_made a.timed h.0.0 s)) h.0.1
+    answers_made s t (Tick draws) OutOfMemory entries h = answer_is s t entries _ (b.quiet s _ (tick_all_made a.timed h.0 s)) h.1
     answers_made s t call answer entries h = absurd h

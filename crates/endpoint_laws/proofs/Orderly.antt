@@ -46,7 +46,7 @@ use Rattle.endpoint_laws.proofs.FlowChunks.{goes_acked_by, meets_acked_by, goes_
 use Rattle.endpoint_laws.proofs.OnFlows.{goes_unseen, meets_unseen}
 use Rattle.endpoint_laws.proofs.FlowTimes.{late_like, goes_row_due, meets_row_due}
 use Rattle.endpoint_laws.proofs.Made.{confirming_made, tested_made, acked_by_made, unowed_by_made, late_made, tick_made, chunk_made}
-use Rattle.endpoint_laws.proofs.Following.{follows_law}
+use Rattle.endpoint_laws.proofs.Following.{follows_quiet, follows_law}
 use Rattle.endpoint_laws.proofs.HeardChunks.{heard_begins}
 use Rattle.endpoint_laws.proofs.Passing.{PassedAt}
 use Rattle.endpoint_laws.proofs.Taking.{passed_confirming, passed_chunk}
@@ -63,7 +63,7 @@ pub record Orderly (setup : Setup) (call : Call) (past : List Stamped) (s : Stat
   pub heard : Heard past s d
 
 pub orderly_nothing : (setup : Setup) (call : Call) (past : List Stamped) (s : State) → Tied setup past s → Sent setup past s → HeardWell past s → Orderly setup call past s (nothing s)
-orderly_nothing setup call past s tied sent well = record { goes = goes_nothing setup call s past tied; meets = meets_nothing setup s.moment call past s sent; heard = heard_follows s (nothing s) (follows_law.quiet.sends.does_nothing s) past well }
+orderly_nothing setup call past s tied sent well = record { goes = goes_nothing setup call s past tied; meets = meets_nothing setup s.moment call past s sent; heard = heard_follows s (nothing s) (follows_quiet.sends.does_nothing s) past well }
 
 orderly_then : (setup : Setup) (call : Call) (past : List Stamped) (s : State) (d : Did) (next : State → Did) → Orderly setup call past s d →
     Orderly setup call (onto s.moment d.entries past) d.state (next d.state) → Orderly setup call past s (then_do d next)
@@ -119,7 +119,7 @@ module _ (setup : Setup) (call : Call) (is : IsSetup setup) (is_tick : IsTick ca
         goes = subst (λ d. Goes setup call past s d) (item_is s (first_due s)) (tick_by setup call is_tick s past tied (lowest (is_due s.moment) s.startup.attempts) refl (row_goes left (due_row s) refl));
         meets = subst (λ d. Meets setup s.moment call past d) (item_is s (first_due s))
             (meets_item setup past s sent tied s.moment call is.cert.short_named (lowest (is_due s.moment) s.startup.attempts) refl (row_meets left (due_row s) refl));
-        heard = heard_follows s (tick_once s) (tick_made follows_law s) past well;
+        heard = heard_follows s (tick_once s) (tick_made follows_law.timed s) past well;
       }
 
 ticks_orderly : (setup : Setup) (call : Call) → IsSetup setup → IsTick call → (count : ℕ) (past : List Stamped) (s : State) → Tied setup past s → Sent setup past s → HeardWell past s → Orderly setup call past s (ticks count s)
@@ -140,7 +140,7 @@ module _ (setup : Setup) (call : Call) where
       record {
         goes = goes_unseen s near row new is like [] tt setup call past tied;
         meets = meets_unseen s near row new is like [] tt setup call past sent;
-        heard = heard_follows s (nothing (late_at s near (Some row))) (late_made follows_law s near (Some row) is) past well;
+        heard = heard_follows s (nothing (late_at s near (Some row))) (late_made follows_law.timed s near (Some row) is) past well;
       }
 
   each_orderly : (ids : List ℕ) (past : List Stamped) (s : State) → Tied setup past s → Sent setup past s → HeardWell past s → Orderly setup call past s (nothing (late_each ids s))
@@ -231,25 +231,25 @@ module _ (setup : Setup) (is : IsSetup setup) (from : AddressParts) (datagram : 
 -- ---- the acks after them
 
 module _ (setup : Setup) (call : Call) where
-  one_acked_orderly : (near : ℕ) (past : List Stamped) (s : State) → Tied setup past s → Sent setup past s → HeardWell past s → (o : Option Row) → get s.sessions near ≡ o → Orderly setup call past s (acked_by s near o)
-  one_acked_orderly near past s tied sent well o is = record {
+  one_acked_orderly : (near : ℕ) (past : List Stamped) (s : State) → Tied setup past s → Sent setup past s → HeardWell past s → (o : Option Row) → get s.sessions near ≡ o → owes_by o ≡ true → Orderly setup call past s (acked_by s near o)
+  one_acked_orderly near past s tied sent well o is owed = record {
     goes = goes_acked_by s near setup call past tied o is;
     meets = meets_acked_by s near setup call past tied sent o is;
-    heard = heard_follows s (acked_by s near o) (acked_by_made follows_law s near o is) past well;
+    heard = heard_follows s (acked_by s near o) (acked_by_made follows_law.timed s near o is owed) past well;
   }
 
-  if_acked_orderly : (near : ℕ) (past : List Stamped) (s : State) → Tied setup past s → Sent setup past s → HeardWell past s → (b : Bool) (next : State → Did) →
+  if_acked_orderly : (near : ℕ) (past : List Stamped) (s : State) → Tied setup past s → Sent setup past s → HeardWell past s → (b : Bool) → owes_by (get s.sessions near) ≡ b → (next : State → Did) →
       ((more : List Stamped) (t : State) → Tied setup more t → Sent setup more t → HeardWell more t → Orderly setup call more t (next t)) → Orderly setup call past s (acked_if s near b next)
-  if_acked_orderly near past s tied sent well false next later = orderly_nothing setup call past s tied sent well
-  if_acked_orderly near past s tied sent well true next later =
+  if_acked_orderly near past s tied sent well false is next later = orderly_nothing setup call past s tied sent well
+  if_acked_orderly near past s tied sent well true is next later =
       let d : Did = acked_by s near (get s.sessions near) in
-      let one : Orderly setup call past s d = one_acked_orderly near past s tied sent well (get s.sessions near) refl in
+      let one : Orderly setup call past s d = one_acked_orderly near past s tied sent well (get s.sessions near) refl is in
       orderly_then setup call past s d next one (later (onto s.moment d.entries past) d.state one.goes.tied one.meets.sent one.heard.well)
 
   acked_in_orderly : (near count : ℕ) (past : List Stamped) (s : State) → Tied setup past s → Sent setup past s → HeardWell past s → Orderly setup call past s (acked_in count s near)
   acked_in_orderly near zero past s tied sent well = orderly_nothing setup call past s tied sent well
   acked_in_orderly near (suc count) past s tied sent well =
-      if_acked_orderly near past s tied sent well (owes_by (get s.sessions near)) (λ t. acked_in count t near) (λ more t tied sent well. acked_in_orderly near count more t tied sent well)
+      if_acked_orderly near past s tied sent well (owes_by (get s.sessions near)) refl (λ t. acked_in count t near) (λ more t tied sent well. acked_in_orderly near count more t tied sent well)
 
   acked_orderly : (count : ℕ) (place : Place) (past : List Stamped) (s : State) → Tied setup past s → Sent setup past s → HeardWell past s → Orderly setup call past s (acked count s place)
   acked_orderly count Startup past s tied sent well = orderly_nothing setup call past s tied sent well
@@ -261,7 +261,7 @@ module _ (setup : Setup) (call : Call) where
   unowed_by_orderly near past s tied sent well o is = record {
     goes = goes_unowed_by s near setup call past tied o is;
     meets = meets_unowed_by s near setup call past tied sent o is;
-    heard = heard_follows s (nothing (unowed_by s near o)) (unowed_by_made follows_law s near o is) past well;
+    heard = heard_follows s (nothing (unowed_by s near o)) (unowed_by_made follows_law.timed s near o is) past well;
   }
 
   unowed_orderly : (place : Place) (past : List Stamped) (s : State) → Tied setup past s → Sent setup past s → HeardWell past s → Orderly setup call past s (nothing (unowed s place))
@@ -288,7 +288,7 @@ module _ (setup : Setup) (is : IsSetup setup) (from : AddressParts) (datagram : 
       let one : Orderly setup this past t d = record {
         goes = goes_confirming setup from datagram draws t place taken.leaves.heard past taken.leaves.tied;
         meets = meets_confirming setup t.moment this past t place taken.leaves.sent;
-        heard = heard_follows t d (confirming_made follows_law.quiet t place) past well;
+        heard = heard_follows t d (confirming_made follows_quiet t place) past well;
       } in
       orderly_then setup this past t d (λ u. chunks_did place from draws outset u cs) one
       (chunks_orderly setup is from datagram draws fits packet place taken.came outset [] cs rest d.state (onto t.moment d.entries past) (record { whole = whole; keyed = λ e c none kind. none; small = tt }) one.goes.tied one.meets.sent one.heard.well
@@ -312,7 +312,7 @@ module _ (setup : Setup) (is : IsSetup setup) (from : AddressParts) (datagram : 
       orderly_then setup this past t d (λ u. tested_at u place from draws) one (record {
         goes = goes_tested setup this d.state from draws place middle one.goes.tied;
         meets = meets_tested setup this middle d.state one.meets.sent one.goes.tied from draws fits.3 place;
-        heard = heard_follows d.state (tested_at d.state place from draws) (tested_made follows_law.quiet d.state place from draws tt) middle one.heard.well;
+        heard = heard_follows d.state (tested_at d.state place from draws) (tested_made follows_quiet d.state place from draws tt) middle one.heard.well;
       })
 
   -- or the acks that are owed yet are given up
@@ -324,7 +324,7 @@ module _ (setup : Setup) (is : IsSetup setup) (from : AddressParts) (datagram : 
       orderly_then setup this past t d (λ u. nothing (unowed u place)) one (unowed_orderly setup this place (onto t.moment d.entries past) d.state one.goes.tied one.meets.sent one.heard.well)
 
   rejected_orderly : (t : State) (cause : Cause) → IsRejected setup past s t → HeardWell past t → Orderly setup this past t (discarded t 0 cause)
-  rejected_orderly t cause so well = record { goes = goes_discarded setup this t 0 cause past so.tied; meets = meets_discarded setup t.moment this past t 0 cause so.sent; heard = heard_follows t (discarded t 0 cause) (follows_law.quiet.discards t 0 cause) past well }
+  rejected_orderly t cause so well = record { goes = goes_discarded setup this t 0 cause past so.tied; meets = meets_discarded setup t.moment this past t 0 cause so.sent; heard = heard_follows t (discarded t 0 cause) (follows_quiet.discards t 0 cause) past well }
 
   pub received_orderly : (a : Admission) → AdmissionIs setup past s datagram a → AdmissionHeard past s.moment datagram a → Orderly setup this past s (received from draws a)
   received_orderly (Rejected t cause) so heard = orderly_from setup this past s t (discarded t 0 cause) so.same (rejected_orderly t cause so heard.well)

@@ -20,8 +20,8 @@ use Rattle.session_core.specs.Sealed.{after_seal}
 use Rattle.session_flows.specs.Keeping.{Stated, with_sending}
 use Rattle.session_flows.specs.Causes.{chunk_cause as flows_cause}
 use Rattle.session_flows.specs.Chunks.{chunk_done, session_after}
-use Rattle.session_flows.specs.Owing.{after_acks, owing_none}
-use Rattle.session_flows.specs.Timing.{overdue_done}
+use Rattle.session_flows.specs.Owing.{after_acks, owing_none, owes}
+use Rattle.session_flows.specs.Timing.{overdue_in, overdue_done}
 use Rattle.introducer.specs.Directory.{AddressRows}
 use Rattle.endpoint_model.specs.declared.row.Row.{Row}
 use Rattle.endpoint_model.specs.declared.entry.Entry.TheVariants.{Fact as FactEntry, Moved, Out}
@@ -29,8 +29,9 @@ use Rattle.endpoint_model.specs.State.{State, Did, nothing, after_entries, fact_
 use Rattle.endpoint_model.specs.Sending.{packet_head, startup_datagram, session_datagram}
 use Rattle.endpoint_model.specs.InSessions.{closed}
 use Rattle.endpoint_model.specs.FlowCall.{FlowCall, flow_refusal, flow_did}
-use Rattle.endpoint_model.specs.OnFlows.{flow_entry}
-use Rattle.endpoint_model.specs.FlowTimes.{late_marked, data_packed}
+use Rattle.endpoint_model.specs.OnFlows.{flow_entry, flows_done}
+use Rattle.endpoint_model.specs.FlowChunks.{flow_taken_by, acked_by, unowed_by}
+use Rattle.endpoint_model.specs.FlowTimes.{late_marked, late_at, data_packed, data_sent}
 use Rattle.endpoint_model.specs.Effects.{discarded, with_born, with_opened}
 use Rattle.endpoint_laws.proofs.Kin.{IsKin}
 use Rattle.endpoint_laws.proofs.Hearing.{Descends}
@@ -117,19 +118,29 @@ pub record Quiet (Body : List ℕ → Type 0) (P : State → Did → Type 0) : T
   pub moves : (s : State) (near : ℕ) (to : AddressParts) → P s (record { state = s; entries = Moved near to ∷ [] })
   pub goes_on : (s : State) (near : ℕ) (old new : Row) → get s.sessions near ≡ Some old → GoesOn old new → P s (nothing (with_row s near new))
 
--- And of what is done with flows, whatever body goes out.
-pub record All (Body : List ℕ → Type 0) (P : State → Did → Type 0) : Type 0 where
+-- And of what an end does with the flows of a session of its own accord.
+pub record Timed (Body : List ℕ → Type 0) (P : State → Did → Type 0) : Type 0 where
   pub quiet : Quiet Body P
+  pub acks : (s : State) (near : ℕ) (row : Row) → get s.sessions near ≡ Some row → owes row.flows ≡ true → P s (acked_by s near (Some row))
+  pub owes_none : (s : State) (near : ℕ) (row : Row) → get s.sessions near ≡ Some row → P s (nothing (unowed_by s near (Some row)))
+  pub loses : (s : State) (near : ℕ) (row : Row) → get s.sessions near ≡ Some row → P s (nothing (late_at s near (Some row)))
+  pub abandons : (s : State) (near : ℕ) (row : Row) (flow seq : ℕ) → get s.sessions near ≡ Some row → overdue_in row.session row.flows s.moment ≡ Some (flow, seq) → P s (flows_done s near row (overdue_done row.flows (Some (flow, seq))))
+  pub packs : (s : State) (near : ℕ) (row : Row) → get s.sessions near ≡ Some row → P s (data_sent s near row)
+
+-- And of calls on flows and of their chunks, whatever body goes out.
+pub record All (Body : List ℕ → Type 0) (P : State → Did → Type 0) : Type 0 where
+  pub timed : Timed Body P
   pub bodies : (body : List ℕ) → Body body
-  pub flows : (s : State) (near : ℕ) (row : Row) (thing : FlowThing) → get s.sessions near ≡ Some row → MayBe row thing → P s (on_flows s near row thing)
+  pub calls : (s : State) (near : ℕ) (row : Row) (call : FlowCall) → get s.sessions near ≡ Some row → flow_refusal row.flows call ≡ None → P s (flows_done s near row (flow_did row.flows call))
+  pub takes : (s : State) (near : ℕ) (row : Row) (chunk : DataChunk) → get s.sessions near ≡ Some row → FitsIn chunk → flows_cause row.session row.flows chunk ≡ None → P s (flow_taken_by s near chunk (Some row))
 
 -- And of attempts and sessions that begin, by a law of which the one before is a part.
 pub record Begins (Q P : State → Did → Type 0) : Type 0 where
   pub quiet : (s : State) (d : Did) → Q s d → P s d
   pub and_then : (s : State) (d e : Did) → P s d → P d.state e → P s (after_entries d.entries e)
-  pub starts : (s : State) (startup : StartupState) (peer : List ℕ) (n near : ℕ) (ni : List ℕ) → P s (stated s startup (Started peer n near ni))
+  pub starts : (s : State) (startup : StartupState) (peer : List ℕ) (n near : ℕ) (ni : List ℕ) → IsKin s.startup startup → P s (stated s startup (Started peer n near ni))
   pub bears : (s : State) (peer : List ℕ) (o : Option Held) (j : Joined) (from : AddressParts) → P s (birth s (way_made peer o) j from)
-  pub opens : (s : State) (startup : StartupState) (j : Joined) (from : AddressParts) → P s (record { state = with_opened (with_startup s startup) (Opened j) from; entries = FactEntry (Opened j) ∷ [] })
+  pub opens : (s : State) (startup : StartupState) (j : Joined) (from : AddressParts) → IsKin s.startup startup → P s (record { state = with_opened (with_startup s startup) (Opened j) from; entries = FactEntry (Opened j) ∷ [] })
 
 -- And of what a datagram leaves of its session before its chunks, and of what no other thing sees.
 pub record Enters (P : State → Did → Type 0) : Type 0 where

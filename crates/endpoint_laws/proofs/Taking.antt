@@ -17,7 +17,7 @@ use Rattle.endpoint_laws.specs.Taken.{Taken, count_in, IsNewAfter, PassesIn}
 use Rattle.endpoint_laws.proofs.Numbers.{room_after, refused_after, err_not_ok}
 use Rattle.endpoint_laws.proofs.Hearing.{Lasting, inward_of, mode_in, Counts}
 use Rattle.rtmfp_data_chunks.specs.Fitting.{AreSmall}
-use Rattle.endpoint_laws.proofs.Following.{follows_law}
+use Rattle.endpoint_laws.proofs.Following.{follows_quiet, follows_law}
 use Rattle.endpoint_laws.proofs.Made.{confirming_made, session_chunk_made}
 use Rattle.endpoint_laws.proofs.Passing.{PassedIn, passed_follows}
 
@@ -75,7 +75,7 @@ module _ (near : ℕ) (l : Lasting) (t : Taken) (taken : List Taken) (k : Counts
 
 pub passed_confirming : (past : List Stamped) (near : ℕ) (datagram : List ℕ) (packet : Whole) (s : State) → PassedIn past near datagram packet s →
     PassedIn (onto s.moment (confirming s (Session near)).entries past) near datagram packet (confirming s (Session near)).state
-passed_confirming past near datagram packet s passed = passed_follows past near datagram packet s (confirming s (Session near)) (confirming_made follows_law.quiet s (Session near)) passed
+passed_confirming past near datagram packet s passed = passed_follows past near datagram packet s (confirming s (Session near)) (confirming_made follows_quiet s (Session near)) passed
 
 pub passed_chunk : (past : List Stamped) (near : ℕ) (datagram : List ℕ) (packet : Whole) (from : AddressParts) (draws : Draws) (walk : Walk) (s : State) (c : Placed) → AreSmall walk.cursor → PassedIn past near datagram packet s →
     PassedIn (onto s.moment (chunk_did (Session near) from draws walk s c).entries past) near datagram packet (chunk_did (Session near) from draws walk s c).state
