@@ -60,7 +60,7 @@ use Rattle.session_deeds.proofs.Hearing.{forgetting_goes}
 use Rattle.session_deeds.proofs.Packing.{filling_goes}
 use Rattle.session_deeds.proofs.Acking.{acking_goes}
 use Rattle.endpoint_handing.proofs.Kept.{End, away, RowKept, Stands, Hands, Does}
-use Rattle.endpoint_handing.proofs.Items.{held_is_there}
+use Rattle.endpoint_laws.proofs.Made.{held_is_there}
 use Rattle.endpoint_handing.proofs.Owed.{OpensAsAsked, HasCome, FlowsHand}
 use Rattle.endpoint_handing.proofs.Running.{AllOpenAs, open_as}
 use Rattle.endpoint_handing.proofs.OfFlows.{OpensNone, IsOfIt, its_flows, none_came, went}

@@ -1,25 +1,17 @@
 -- What the chunks of a datagram do.
-use Rattle.std.proofs.Common.{◌≡◌, ℕ, ◌==◌, List, [], ◌∷◌, ◌++◌, Bool, true, false, ◌||◌, not}
-use Rattle.std.proofs.Common.{if◌then◌else◌}
+use Rattle.std.proofs.Common.{◌≡◌, ℕ, ◌==◌, List, [], ◌∷◌, ◌++◌, Bool, true, false, ◌||◌}
 use Rattle.std.proofs.Common.{Option, Some, None, Result, Ok, Err, inl, inr, ◌⊎◌, refl, sym, ap}
-use Rattle.std.proofs.Common.{subst, ◌∙◌, arith}
-use Rattle.std.proofs.lemmas.Bool.Decides.{nat_tests}
+use Rattle.std.proofs.Common.{subst, ◌∙◌}
 use Rattle.std.specs.FinMap.{get}
 use Rattle.rtmfp_forms.specs.Address.{AddressParts}
 use Rattle.rtmfp_packet.specs.Walk.{Placed}
-use Rattle.rtmfp_chunks.specs.Chunk.{Ping}
 use Rattle.rtmfp_chunks.specs.FieldReading.{chunk_reading}
-use Rattle.rtmfp_chunks.specs.Writing.{chunk_bytes}
 use Rattle.rtmfp_data_chunks.specs.HandsOver.{IsIn}
 use Rattle.rtmfp_data_chunks.specs.declared.user_data.Numbers.{Numbers}
 use Rattle.rtmfp_data_chunks.specs.declared.view.DataFault.{DataFault}
 use Rattle.rtmfp_data_chunks.specs.Chunk.{DataChunk}
 use Rattle.rtmfp_data_chunks.specs.Spelling.{before_next}
 use Rattle.rtmfp_data_chunks.specs.Reader.{data_reading}
-use Rattle.cookies.specs.declared.CookieTest.{CookieTest}
-use Rattle.cookies.specs.declared.CookieTest.TheVariants.{Bad, Moved, Expired, Current}
-use Rattle.cookies.specs.Cookie.{cookie_test}
-use Rattle.sha2.specs.Sha256.{sha256}
 use Rattle.glare_core.specs.declared.facts.Why.TheVariants.{Glare, Override}
 use Rattle.glare_core.specs.declared.facts.Fact.{Fact}
 use Rattle.glare_core.specs.declared.facts.Fact.TheVariants.{Born}
@@ -27,17 +19,7 @@ use Rattle.glare_core.specs.declared.facts.Held.{Held}
 use Rattle.glare_core.specs.declared.facts.Held.TheVariants.{Opening, HalfOpen, KeptAsResponder}
 use Rattle.glare_core.specs.declared.facts.Held.TheVariants.{KeptAsInitiator}
 use Rattle.glare_core.specs.declared.facts.Joined.{Joined}
-use Rattle.glare_core.specs.Ledger.{held_with}
-use Rattle.glare_core.specs.Calls.{where_true, first_that_stands, way_made}
-use Rattle.startup.specs.declared.cause.Cause.{Cause}
-use Rattle.startup.specs.declared.cause.Cause.TheVariants.{UnknownChunk, WrongPlace, WrongState}
-use Rattle.startup.specs.declared.cause.Cause.TheVariants.{Fragment as FragmentCause}
-use Rattle.startup.specs.State.{StartupState, AttemptState}
-use Rattle.startup.specs.Keyings.{InitiatorKeying, ResponderKeying, keying_of, initiator_keying_in}
-use Rattle.startup.specs.Keyings.{responder_keying_in, repeated_session, again_or_birth, keyed_with}
-use Rattle.startup.specs.Keyings.{keyed_reading, after_keying, session_answer, change_answer}
-use Rattle.startup.specs.Keyings.{born_session}
-use Rattle.startup.specs.Keyings.{opened_with, opened_reading, after_opening}
+use Rattle.glare_core.specs.Calls.{way_made}
 use Rattle.session_core.specs.declared.stage.Role.TheVariants.{Initiator, Responder}
 use Rattle.endpoint_model.specs.declared.config.Draws.{Draws}
 use Rattle.endpoint_model.specs.declared.place.Place.{Place}
@@ -45,20 +27,14 @@ use Rattle.endpoint_model.specs.declared.place.Place.TheVariants.{Startup, Attem
 use Rattle.endpoint_model.specs.declared.walk.Walk.{Walk}
 use Rattle.endpoint_model.specs.declared.row.Row.{Row}
 use Rattle.endpoint_model.specs.declared.entry.Entry.TheVariants.{Fact as FactEntry}
-use Rattle.endpoint_model.specs.State.{Sessions, State, Did, fact_entries, with_startup}
-use Rattle.endpoint_model.specs.State.{with_sessions, free_from}
-use Rattle.endpoint_model.specs.Sending.{sent_answer, sent_in_session}
+use Rattle.endpoint_model.specs.State.{Sessions, State, Did, fact_entries}
+use Rattle.endpoint_model.specs.State.{with_sessions}
 use Rattle.endpoint_model.specs.Admission.{sid_at}
 use Rattle.endpoint_model.specs.FlowChunks.{is_of_flows, taking_cause, flow_cause, flow_taken_by}
 use Rattle.endpoint_model.specs.FlowChunks.{flow_taken}
-use Rattle.endpoint_model.specs.Causes.{is_known, form_cause, takes, has_state_for, read_cause}
-use Rattle.endpoint_model.specs.Causes.{initiator_keying_cause}
-use Rattle.endpoint_model.specs.Causes.{responder_keying_cause, last_cause, chunk_cause}
-use Rattle.endpoint_model.specs.Effects.{without_ended, with_born, keying_done, initiator_keyed}
-use Rattle.endpoint_model.specs.Effects.{with_opened}
-use Rattle.endpoint_model.specs.Effects.{opening_done, responder_keyed, is_told_in_session, effect}
-use Rattle.endpoint_model.specs.Effects.{discarded_or, chunk_did, walked, chunks_did, read_done}
-use Rattle.endpoint_model.specs.InSessions.{told_in_session}
+use Rattle.endpoint_model.specs.Causes.{takes}
+use Rattle.endpoint_model.specs.Effects.{without_ended, with_born}
+use Rattle.endpoint_model.specs.Effects.{chunk_did, walked, chunks_did}
 use Rattle.flow_history.specs.Deeds.{Context, back, Piece, History}
 use Rattle.flow_history.specs.Lawful.{CameIn}
 use Rattle.endpoint_handing.specs.Told.{sending_context, facts_onto}
@@ -66,14 +42,13 @@ use Rattle.rtmfp_data_chunks.proofs.Fitting.{what_is_read_fits, small_next}
 use Rattle.rtmfp_data_chunks.specs.Fitting.{FitsIn, AreSmall}
 use Rattle.session_deeds.specs.Pieces.{pieces_read, pieces_behind}
 use Rattle.endpoint_handing.proofs.Kept.{End, away, Stands, AreNew, new_split, IsStill, Hands, Does}
-use Rattle.endpoint_handing.proofs.Kept.{hands_after, does_after, does_then, does_nothing}
+use Rattle.endpoint_handing.proofs.Kept.{hands_after, does_after, does_nothing}
 use Rattle.endpoint_handing.proofs.Silent.{AreSilent, AllHad, had_it, had_left, does_silent}
-use Rattle.endpoint_handing.proofs.Silent.{does_from}
 use Rattle.endpoint_handing.proofs.Begun.{does_begin}
-use Rattle.endpoint_laws.proofs.Kin.{IsKin, kin_keying}
-use Rattle.endpoint_handing.proofs.Plain.{ping_none}
-use Rattle.endpoint_handing.proofs.Sent.{does_answer, does_in_session}
-use Rattle.endpoint_handing.proofs.Items.{ended_silent, does_discarded, does_told, does_read}
+use Rattle.endpoint_laws.proofs.Small.{birth, Begins}
+use Rattle.endpoint_laws.proofs.Made.{told_made, read_made, initiator_made, responder_made}
+use Rattle.endpoint_laws.proofs.ByKind.{is_kind, chunk_by_kind}
+use Rattle.endpoint_handing.proofs.Items.{ended_silent, DoesAlways, quiet_does, does_started, reply_bare}
 use Rattle.endpoint_handing.proofs.Owed.{FlowsHand}
 
 -- ---- a session is born
@@ -92,9 +67,6 @@ way_had m peer (Some (HalfOpen j)) = had_left m j.near
 way_had m peer (Some (KeptAsResponder j)) = had_left m j.near
 way_had m peer (Some (KeptAsInitiator j)) = had_left m j.near
 
-abbrev birth : State → Option Fact → Joined → AddressParts → Did
-birth s ended j from = record { state = with_born s ended (Born j) from; entries = fact_entries ended ++ FactEntry (Born j) ∷ [] }
-
 module _ (e : End) (may : e.begins) (facts : List Fact) where
   does_birth : (s : State) (peer : List ℕ) (o : Option Held) (j : Joined) (from : AddressParts) → Does e facts s (birth s (way_made peer o) j from)
   does_birth s peer o j from =
@@ -106,88 +78,17 @@ module _ (e : End) (may : e.begins) (facts : List Fact) where
       (does_silent e facts s middle (fact_entries ended) (way_silent peer o) (record { own = refl; secret = refl; rows = way_had s.sessions peer o }))
       (does_begin e (facts_onto (fact_entries ended) facts) middle born Responder j from s.moment rest may refl refl (had_it rest) refl)
 
-  does_keyed_with : (s : State) (startup : StartupState) (from : AddressParts) (now near : ℕ) (nr : List ℕ) (keying : InitiatorKeying) (t : CookieTest) → Does e facts s (keying_done s from (Some (keyed_with startup from now near nr keying t)))
-  does_keyed_with s startup from now near nr keying Current = by (repeated_session (held_with startup.ledger (sha256 keying.cert)) (keying_of keying))
-    where
-      by : (o : Option Joined) → Does e facts s (keying_done s from (Some (again_or_birth startup (keying_of keying) from near nr o)))
-      by (Some j) = does_answer e facts s (session_answer startup j from)
-      by None =
-          let j : Joined = born_session startup.ledger (keying_of keying) near nr in
-          let o : Option Held = held_with startup.ledger (sha256 keying.cert) in
-          does_then e facts s (birth s (way_made (sha256 keying.cert) o) j from) (λ t. sent_answer t (session_answer startup j from)) (does_birth s (sha256 keying.cert) o j from)
-          (does_answer e _ _ (session_answer startup j from))
-  does_keyed_with s startup from now near nr keying Bad = does_answer e facts s (change_answer startup keying from now)
-  does_keyed_with s startup from now near nr keying Moved = does_answer e facts s (change_answer startup keying from now)
-  does_keyed_with s startup from now near nr keying Expired = does_answer e facts s (change_answer startup keying from now)
-
-  does_keyed : (s : State) (startup : StartupState) (from : AddressParts) (now near : ℕ) (nr : List ℕ) (r : Result InitiatorKeying Cause) → Does e facts s (keying_done s from (keyed_reading startup from now near nr r))
-  does_keyed s startup from now near nr (Ok keying) = does_keyed_with s startup from now near nr keying (cookie_test startup.cookie_secret keying.cookie from now)
-  does_keyed s startup from now near nr (Err cause) = does_nothing e facts s
-
-  does_initiator_keyed : (s : State) (from : AddressParts) (draws : Draws) (payload : List ℕ) → Does e facts s (initiator_keyed s from draws payload)
-  does_initiator_keyed s from draws payload =
-      let left : StartupState = after_keying s.startup payload from s.moment (free_from s draws.word) draws.nonce in
-      let kin : IsKin s.startup left = kin_keying s.startup payload from s.moment (free_from s draws.word) draws.nonce in
-      does_from e facts s (with_startup s left) (initiator_keyed s from draws payload) (record { own = kin.own; secret = kin.secret; rows = had_it s.sessions })
-      (does_keyed (with_startup s left) s.startup from s.moment (free_from s draws.word) draws.nonce (initiator_keying_in payload))
-
-  -- ---- a session is opened
-
-  does_opened : (s : State) (near at : ℕ) (from : AddressParts) (a : AttemptState) (keying : ResponderKeying) → Does e facts s (opening_done s near from (Some (opened_with at keying a)))
-  does_opened s near at from a keying =
-      let fact : Fact = opened_with at keying a in
-      let j : Joined = record { peer = a.peer; n = a.n; near = at; far = keying.near; ni = a.ni; nr = keying.part.nr; k = keying.part.k } in
-      let opened : State = with_opened (with_startup s (after_opening s.startup near fact)) fact from in
-      let d : Did = record { state = opened; entries = FactEntry fact ∷ [] } in
-      does_then e facts s d (λ u. sent_in_session u near from (chunk_bytes (Ping [])))
-      (does_begin e facts s opened Initiator j from s.moment s.sessions may refl refl (had_it s.sessions) refl)
-      (does_in_session e _ opened near from (chunk_bytes (Ping [])) (ping_none [] (omega arith)))
-
-  does_opening_done : (s : State) (near : ℕ) (from : AddressParts) (o : Option AttemptState) (r : Result ResponderKeying Cause) → Does e facts s (opening_done s near from (opened_reading near o r))
-  does_opening_done s near from (Some a) (Ok keying) = does_opened s near near from a keying
-  does_opening_done s near from (Some a) (Err cause) = does_nothing e facts s
-  does_opening_done s near from None r = does_nothing e facts s
-
-  does_responder_keyed : (s : State) (near : ℕ) (from : AddressParts) (payload : List ℕ) → Does e facts s (responder_keyed s near from payload)
-  does_responder_keyed s near from payload = does_opening_done s near from (get s.startup.attempts near) (responder_keying_in payload)
-
--- ---- what there being no cause says
-
-second_none : (b : Option Cause) → first_that_stands (b ∷ []) ≡ None → b ≡ None
-second_none None is = refl
-second_none (Some x) is = absurd cc
-
-first_none : (a b : Option Cause) → first_that_stands (a ∷ b ∷ []) ≡ None → b ≡ None
-first_none None b is = second_none b is
-first_none (Some x) b is = absurd cc
-
-pub record Uncaused (s : State) (place : Place) (walk : Walk) (from : AddressParts) (c : Placed) : Type 0 where
-  pub form : form_cause walk.cursor c.kind c.payload ≡ None
-  pub here : takes place c.kind ≡ true
-  pub last : last_cause s place walk from c ≡ None
-
-taken_true : (b : Bool) (cause : Cause) → where_true (not b) cause ≡ None → b ≡ true
-taken_true true cause is = refl
-taken_true false cause is = absurd cc
-
-five_none : (a b c d f : Option Cause) → first_that_stands (a ∷ b ∷ c ∷ d ∷ f ∷ []) ≡ None → (b ≡ None) × (d ≡ None) × (f ≡ None)
-five_none None None None None None is = (refl, refl, refl)
-five_none (Some x) b c d f is = absurd cc
-five_none None (Some x) c d f is = absurd cc
-five_none None None (Some x) d f is = absurd cc
-five_none None None None (Some x) f is = absurd cc
-five_none None None None None (Some x) is = absurd cc
-
-uncaused : (s : State) (place : Place) (walk : Walk) (from : AddressParts) (c : Placed) → chunk_cause s place walk from c ≡ None → Uncaused s place walk from c
-uncaused s place walk from c is =
-    let all = five_none (where_true (not (is_known c.kind)) (UnknownChunk c.kind)) (form_cause walk.cursor c.kind c.payload) (where_true (c.kind == 0x7f) FragmentCause)
-    (where_true (not (takes place c.kind)) WrongPlace) (last_cause s place walk from c) is in
-    record { form = all.0; here = taken_true (takes place c.kind) WrongPlace all.1; last = all.2 }
+-- so it is of all that begins
+pub begins_does : (e : End) → e.begins → Begins (DoesAlways e) (DoesAlways e)
+begins_does e may = record {
+  quiet = λ s d does. does;
+  and_then = (quiet_does e).sends.and_then;
+  starts = does_started e;
+  bears = λ s peer o j from facts. does_birth e may facts s peer o j from;
+  opens = λ s startup j from kin facts. does_begin e facts s _ Initiator j from s.moment s.sessions may kin.own kin.secret (had_it s.sessions) refl;
+}
 
 -- ---- which place takes which chunk
-
-is_kind : (kind n : ℕ) → (kind == n) ≡ true → kind ≡ n
-is_kind kind n e = grind (arith, nat_tests)
 
 not_taken : (place : Place) (kind n : ℕ) → takes place n ≡ false → takes place kind ≡ true → (kind == n) ≡ true → ⊥
 not_taken place kind n outside here e = let clash : false ≡ true = sym outside ∙ ap (takes place) (sym (is_kind kind n e)) ∙ here in cc
@@ -220,10 +121,10 @@ BeginsAt e Startup = e.begins
 BeginsAt e (Attempt near) = e.begins
 BeginsAt e (Session near) = e.begins → ⊥
 
-may_begin : (e : End) (place : Place) (kind n : ℕ) → ((near : ℕ) → takes (Session near) n ≡ false) → BeginsAt e place → takes place kind ≡ true → (kind == n) ≡ true → e.begins
-may_begin e Startup kind n outside at here is = at
-may_begin e (Attempt near) kind n outside at here is = at
-may_begin e (Session near) kind n outside at here is = absurd (not_taken (Session near) kind n (outside near) here is)
+may_begin : (e : End) (place : Place) (n : ℕ) → ((near : ℕ) → takes (Session near) n ≡ false) → BeginsAt e place → takes place n ≡ true → e.begins
+may_begin e Startup n outside at here = at
+may_begin e (Attempt near) n outside at here = at
+may_begin e (Session near) n outside at here = let clash : false ≡ true = sym (outside near) ∙ here in absurd (cc)
 
 -- In a session, what the chunk has of flows came towards it.
 abbrev CameTo : End → Place → State → List Piece → History → Type 0
@@ -247,31 +148,15 @@ module _ (e : End) (owed : FlowsHand e) (facts : List Fact) (s : State) (h : His
   taken_at (Session near) kind read fits here is none came = taken_read near read fits none came
 
   module _ (place : Place) (walk : Walk) (from : AddressParts) (draws : Draws) (c : Placed) (at : BeginsAt e place) (small : AreSmall walk.cursor) (came : CameTo e place s (pieces_read (data_reading walk.cursor c.kind c.payload)) h) where
-    hands_effect : Uncaused s place walk from c → AreNew e facts (effect s place walk from draws c).entries → Hands e facts (effect s place walk from draws c) h
-    hands_effect u new = by (c.kind == 0x38) (c.kind == 0x78) (is_told_in_session c.kind) (is_of_flows c.kind) refl refl refl u.last new
-      where
-        near : ℕ
-        near = sid_at place
-
-        by : (i r t f : Bool) → (c.kind == 0x38) ≡ i → (c.kind == 0x78) ≡ r → is_of_flows c.kind ≡ f →
-            (if i then initiator_keying_cause s walk from c.payload else if r then responder_keying_cause s near c.payload else if f then flow_cause (get s.sessions near) (data_reading walk.cursor c.kind c.payload)
-            else first_that_stands (where_true (not (has_state_for s place c.kind)) WrongState ∷ read_cause s place from (chunk_reading c.kind c.payload) ∷ [])) ≡ None →
-            AreNew e facts (if i then initiator_keyed s from draws c.payload else if r then responder_keyed s near from c.payload else if t then told_in_session s near from c
-            else if f then flow_taken s near (data_reading walk.cursor c.kind c.payload) else read_done s place from (chunk_reading c.kind c.payload)).entries →
-            Hands e facts (if i then initiator_keyed s from draws c.payload else if r then responder_keyed s near from c.payload else if t then told_in_session s near from c
-            else if f then flow_taken s near (data_reading walk.cursor c.kind c.payload) else read_done s place from (chunk_reading c.kind c.payload)) h
-        by true r t f is_i is_r is_f none new = does_initiator_keyed e (may_begin e place c.kind 0x38 (λ q. refl) at u.here is_i) facts s from draws c.payload h stands new
-        by false true t f is_i is_r is_f none new = does_responder_keyed e (may_begin e place c.kind 0x78 (λ q. refl) at u.here is_r) facts s near from c.payload h stands new
-        by false false true f is_i is_r is_f none new = does_told e facts s near from c h stands new
-        by false false false true is_i is_r is_f none new = taken_at place c.kind (data_reading walk.cursor c.kind c.payload) (λ chunk read. (what_is_read_fits walk.cursor c.kind c.payload chunk small read).0) u.here is_f none came
-        by false false false false is_i is_r is_f none new = does_read e facts s place from (chunk_reading c.kind c.payload) (first_none _ _ none) h stands new
-
     pub hands_chunk : AreNew e facts (chunk_did place from draws walk s c).entries → Hands e facts (chunk_did place from draws walk s c) h
-    hands_chunk new = by (chunk_cause s place walk from c) refl new
-      where
-        by : (o : Option Cause) → chunk_cause s place walk from c ≡ o → AreNew e facts (discarded_or s c.at o (effect s place walk from draws c)).entries → Hands e facts (discarded_or s c.at o (effect s place walk from draws c)) h
-        by None is new = hands_effect (uncaused s place walk from c is) new
-        by (Some cause) is new = does_discarded e facts s c.at cause h stands new
+    hands_chunk = chunk_by_kind (λ d. AreNew e facts d.entries → Hands e facts d h) place from draws walk s c (record {
+      discarded = λ cause. (quiet_does e).discards s c.at cause facts h stands;
+      initiator = λ kind taken none formed. initiator_made (quiet_does e) (begins_does e (may_begin e place 0x38 (λ q. refl) at taken)) s from draws c.payload facts h stands;
+      responder = λ kind taken none formed. responder_made (quiet_does e) (begins_does e (may_begin e place 0x78 (λ q. refl) at taken)) s (sid_at place) from c.payload facts h stands;
+      told = λ told taken has. told_made (quiet_does e) s (sid_at place) from c facts h stands;
+      flows = λ is taken none new. taken_at place c.kind (data_reading walk.cursor c.kind c.payload) (λ chunk read. (what_is_read_fits walk.cursor c.kind c.payload chunk small read).0) taken is none came;
+      reads = λ none. read_made (quiet_does e).sends s place from (chunk_reading c.kind c.payload) (reply_bare s place from (chunk_reading c.kind c.payload) none) facts h stands;
+    })
 
 -- ---- one chunk after another
 

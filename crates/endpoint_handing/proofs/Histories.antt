@@ -46,7 +46,7 @@ use Rattle.endpoint_handing.proofs.Kept.{End, away, FlowsKept, RowKept, StateKep
 use Rattle.endpoint_handing.proofs.Kept.{Stands, IsNew, AreNew}
 use Rattle.endpoint_handing.proofs.Kept.{Grows, OutWent, OutsWent, Hands}
 use Rattle.endpoint_handing.proofs.Deeding.{kept_beside}
-use Rattle.endpoint_handing.proofs.Items.{held_is_there}
+use Rattle.endpoint_laws.proofs.Made.{held_is_there}
 use Rattle.endpoint_handing.proofs.Owed.{FlowsHand, OpensAsAsked}
 use Rattle.endpoint_handing.proofs.Receiving.{with_begins, sealed_back, Arrives}
 use Rattle.endpoint_handing.proofs.Stepping.{GivenWith, answers_hand}

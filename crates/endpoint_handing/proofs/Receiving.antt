@@ -1,5 +1,5 @@
 -- What an end does of a datagram.
-use Rattle.std.proofs.Common.{◌≡◌, ℕ, zero, suc, ◌^◌, ◌<◌, List, [], ◌∷◌, ◌++◌, length, drop, take}
+use Rattle.std.proofs.Common.{◌≡◌, ℕ, ◌^◌, ◌<◌, List, [], ◌∷◌, ◌++◌, length, drop, take}
 use Rattle.std.proofs.Common.{Bool, true, false}
 use Rattle.std.proofs.Common.{not, nat_lt, if◌then◌else◌, Option, Some, None, Result, Ok, Err, inl}
 use Rattle.std.proofs.Common.{inr}
@@ -47,7 +47,7 @@ use Rattle.endpoint_model.specs.Admission.{counted_by, counted_at, timed_by, tim
 use Rattle.endpoint_model.specs.Admission.{mode_at, has_mode, Admission, Rejected, Admitted}
 use Rattle.endpoint_model.specs.Admission.{admitted_packet, admitted, admission}
 use Rattle.endpoint_model.specs.InSessions.{tested}
-use Rattle.endpoint_model.specs.FlowChunks.{acked_by, owes_by, acked_if, acked_in, acked, unowed_by}
+use Rattle.endpoint_model.specs.FlowChunks.{acked}
 use Rattle.endpoint_model.specs.FlowChunks.{unowed}
 use Rattle.endpoint_model.specs.Effects.{outset, chunks_did, gone_through, most_acks}
 use Rattle.endpoint_model.specs.Effects.{gone_through_and_acked}
@@ -61,11 +61,14 @@ use Rattle.endpoint_handing.specs.Told.{sends_in, facts_onto}
 use Rattle.session_deeds.specs.Pieces.{pieces_read, pieces_behind, pieces_of}
 use Rattle.endpoint_handing.proofs.Pieces.{pieces_whole, sealed_for, pieces_in}
 use Rattle.endpoint_handing.proofs.Kept.{End, away, HasStarted, Stands, IsNew, AreNew, new_split}
-use Rattle.endpoint_handing.proofs.Kept.{grows_then, Hands, Does, hands_after, does_then}
+use Rattle.endpoint_handing.proofs.Kept.{grows_then, Hands, Does, hands_after}
 use Rattle.endpoint_handing.proofs.Kept.{does_nothing}
 use Rattle.endpoint_handing.proofs.Deeding.{grows_by, kept_by}
 use Rattle.endpoint_handing.proofs.Silent.{stands_silent, same_then, had_it, had_row, IsAlike}
-use Rattle.endpoint_handing.proofs.Items.{does_discarded, does_confirming, does_tested}
+use Rattle.endpoint_laws.proofs.Made.{tested_made, confirming_made, acked_made, unowed_made}
+use Rattle.endpoint_handing.proofs.Plain.{ping_none}
+use Rattle.endpoint_handing.proofs.Items.{quiet_does}
+use Rattle.endpoint_handing.proofs.Ticks.{timed_does}
 use Rattle.endpoint_handing.proofs.Owed.{FlowsHand}
 use Rattle.endpoint_handing.proofs.Chunks.{BeginsAt, AllCame, AllCameAt, stays, hands_chunks}
 
@@ -217,35 +220,6 @@ hands_as e A facts d h k = record {
   order = k.order;
 }
 
--- ---- acks
-
-module _ (e : End) (owed : FlowsHand e) where
-  acked_row : (facts : List Fact) (s : State) (near : ℕ) (o : Option Row) → get s.sessions near ≡ o → owes_by o ≡ true → Does e facts s (acked_by s near o)
-  acked_row facts s near None is some = does_nothing e facts s
-  acked_row facts s near (Some row) is some = owed.acks facts s near row is some
-
-  acked_where : (facts : List Fact) (s : State) (near : ℕ) (next : State → Did) → ((more : List Fact) (t : State) → Does e more t (next t)) → (b : Bool) → owes_by (get s.sessions near) ≡ b → Does e facts s (acked_if s near b next)
-  acked_where facts s near next does false is = does_nothing e facts s
-  acked_where facts s near next does true is = does_then e facts s (acked_by s near (get s.sessions near)) next (acked_row facts s near (get s.sessions near) refl is) (does _ _)
-
-  does_acked_in : (count : ℕ) (facts : List Fact) (s : State) (near : ℕ) → Does e facts s (acked_in count s near)
-  does_acked_in zero facts s near = does_nothing e facts s
-  does_acked_in (suc count) facts s near = acked_where facts s near (λ t. acked_in count t near) (λ more t. does_acked_in count more t near) (owes_by (get s.sessions near)) refl
-
-  pub does_acked : (count : ℕ) (facts : List Fact) (s : State) (place : Place) → Does e facts s (acked count s place)
-  does_acked count facts s Startup = does_nothing e facts s
-  does_acked count facts s (Attempt near) = does_nothing e facts s
-  does_acked count facts s (Session near) = does_acked_in count facts s near
-
-  unowed_row : (facts : List Fact) (s : State) (near : ℕ) (o : Option Row) → get s.sessions near ≡ o → Does e facts s (nothing (unowed_by s near o))
-  unowed_row facts s near None is = does_nothing e facts s
-  unowed_row facts s near (Some row) is = owed.unowed facts s near row is
-
-  pub does_unowed : (facts : List Fact) (s : State) (place : Place) → Does e facts s (nothing (unowed s place))
-  does_unowed facts s Startup = does_nothing e facts s
-  does_unowed facts s (Attempt near) = does_nothing e facts s
-  does_unowed facts s (Session near) = unowed_row facts s near (get s.sessions near) refl
-
 -- ---- what was admitted
 
 came_after : (e : End) (place : Place) (facts : List Fact) (before : Option Numbers) (cs : List Placed) (h : History) (d : Did) → BeginsAt e place → (one : Hands e facts d h) → AllCameAt e place facts before cs h →
@@ -264,7 +238,7 @@ module _ (e : End) (owed : FlowsHand e) (place : Place) (from : AddressParts) (d
       let d : Did = confirming s place in
       let later : Did = chunks_did place from draws outset d.state cs in
       let parts = new_split e d.entries later.entries facts new in
-      let one : Hands e facts d h = does_confirming e facts s place h stands parts.0 in
+      let one : Hands e facts d h = confirming_made (quiet_does e) s place facts h stands parts.0 in
       hands_after e facts d.state d.entries later h one
       (hands_chunks e owed place from draws at cs (facts_onto d.entries facts) outset d.state one.after one.stands tt (came_after e place facts None cs h d at one all) parts.1)
 
@@ -282,7 +256,7 @@ module _ (e : End) (owed : FlowsHand e) (place : Place) (from : AddressParts) (d
   hands_acked_and cs count next all does new =
       let d : Did = gone_through_and_acked from draws s place cs count in
       let parts = new_split e d.entries (next d.state).entries facts new in
-      let one : Hands e facts d h = hands_gone_and cs (λ t. acked count t place) all (λ more t. does_acked e owed count more t place) parts.0 in
+      let one : Hands e facts d h = hands_gone_and cs (λ t. acked count t place) all (λ more t. acked_made (timed_does e owed) count t place more) parts.0 in
       hands_after e facts d.state d.entries (next d.state) h one (does (facts_onto d.entries facts) d.state one.after one.stands parts.1)
 
 -- ---- the datagram came
@@ -397,15 +371,15 @@ module _ (e : End) (owed : (A : Type 0) → FlowsHand (with_begins e A)) (from :
 
   module _ (short : length draws.token < 2 ^ 16) (arrives : Arrives open_end s datagram h) (stands : Stands open_end facts s h) where
     received_by : (a : Admission) → AdmissionIs s datagram a → AreNew open_end facts (received from draws a).entries → Hands open_end facts (received from draws a) h
-    received_by (Rejected t cause) alike new = does_discarded open_end facts t 0 cause h (stands_silent open_end facts s t [] tt alike h stands) new
+    received_by (Rejected t cause) alike new = (quiet_does open_end).discards t 0 cause facts h (stands_silent open_end facts s t [] tt alike h stands) new
     received_by (Admitted t place packet) so new =
-        hands_admitted t packet (chunks_of packet) [] (sym (append-nil (chunks_of packet))) most_acks (λ u. tested u place from draws) (λ A more u. does_tested (with_begins e A) more u place from draws short)
+        hands_admitted t packet (chunks_of packet) [] (sym (append-nil (chunks_of packet))) most_acks (λ u. tested u place from draws) (λ A more u. tested_made (quiet_does (with_begins e A)) u place from draws (ping_none draws.token short) more)
         place so.0 so.1 arrives stands new
 
     part_by : (count acks : ℕ) (a : Admission) → AdmissionIs s datagram a → AreNew open_end facts (part_received from draws a count acks).entries → Hands open_end facts (part_received from draws a count acks) h
     part_by count acks (Rejected t cause) alike new = does_nothing open_end facts t h (stands_silent open_end facts s t [] tt alike h stands) tt
     part_by count acks (Admitted t place packet) so new =
-        hands_admitted t packet (take count (chunks_of packet)) (drop count (chunks_of packet)) (sym (take-append-drop count (chunks_of packet))) acks (λ u. nothing (unowed u place)) (λ A more u. does_unowed (with_begins e A) (owed A) more u place)
+        hands_admitted t packet (take count (chunks_of packet)) (drop count (chunks_of packet)) (sym (take-append-drop count (chunks_of packet))) acks (λ u. nothing (unowed u place)) (λ A more u. unowed_made (timed_does (with_begins e A) (owed A)) u place more)
         place so.0 so.1 arrives stands new
 
     pub hands_received : AreNew open_end facts (received from draws (admission s datagram)).entries → Hands open_end facts (received from draws (admission s datagram)) h

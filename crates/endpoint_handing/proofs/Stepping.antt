@@ -18,10 +18,12 @@ use Rattle.endpoint_model.specs.Log.{Answers, stopped}
 use Rattle.flow_history.specs.Deeds.{History}
 use Rattle.endpoint_handing.proofs.Kept.{End, Stands, AreNew, Hands, does_nothing}
 use Rattle.endpoint_handing.proofs.Silent.{had_it, IsAlike, does_from}
-use Rattle.endpoint_handing.proofs.Items.{does_opening, does_cancelling, does_closing}
+use Rattle.endpoint_laws.proofs.Made.{cancelling_made, closing_made, opening_made, tick_all_made}
+use Rattle.endpoint_handing.proofs.Items.{quiet_does}
+use Rattle.endpoint_handing.proofs.Chunks.{begins_does}
 use Rattle.endpoint_handing.proofs.Owed.{FlowsHand, OpensAsAsked}
 use Rattle.endpoint_handing.proofs.Receiving.{with_begins, Arrives, hands_received, hands_stopped}
-use Rattle.endpoint_handing.proofs.Ticks.{does_tick}
+use Rattle.endpoint_handing.proofs.Ticks.{timed_does}
 
 abbrev same_did : (d : Did) (t : State) (entries : List Entry) → DoesSo d t [] entries → d ≡ record { state = t; entries = entries }
 same_did d t entries is = λ i. record { state = sym is.state i; entries = sym is.entries i }
@@ -51,11 +53,11 @@ module _ (e : End) (owed : (A : Type 0) → FlowsHand (with_begins e A)) (facts 
     changed u alike is = by_did (nothing u) is new (does_from it facts s u (nothing u) alike (does_nothing it facts u) h stands)
 
     pub answers_hand : (call : Call) (answer : Answer) → GivenWith call → Answers s call answer entries t → Result
-    answers_hand (Open peer candidates draws) (Began n) given is = by_did (opening s peer candidates draws) is.2 new (does_opening it facts s peer candidates draws h stands)
+    answers_hand (Open peer candidates draws) (Began n) given is = by_did (opening s peer candidates draws) is.2 new (opening_made (quiet_does it) (begins_does it tt) s peer candidates draws facts h stands)
     answers_hand (Open peer candidates draws) (NotOpened refusal) given is = none is.1
-    answers_hand (Cancel n) Done given is = by_did (cancelling s n) is.1 new (does_cancelling it facts s n h stands)
+    answers_hand (Cancel n) Done given is = by_did (cancelling s n) is.1 new (cancelling_made (quiet_does it) s n facts h stands)
     answers_hand (Cancel n) (Refused refusal) given is = none is.2
-    answers_hand (Close near) Done given is = by_did (closing s near) is.1 new (does_closing it facts s near h stands)
+    answers_hand (Close near) Done given is = by_did (closing s near) is.1 new (closing_made (quiet_does it) s near facts h stands)
     answers_hand (Close near) (Refused refusal) given is = none is.2
     answers_hand (AddRow print addresses) Done given is = changed (with_redirect s print addresses) (record { own = refl; secret = refl; rows = had_it s.sessions }) is.1
     answers_hand (AddRow print addresses) (NotAdded refusal) given is = none is.1
@@ -66,6 +68,6 @@ module _ (e : End) (owed : (A : Type 0) → FlowsHand (with_begins e A)) (facts 
     answers_hand (Receive from datagram draws) Done given is = by_did (received from draws (admission s datagram)) is new (hands_received e owed from draws facts s datagram h given.1 given.0 stands)
     answers_hand (Receive from datagram draws) (Stopped stop) given is =
         by_did (stopped s from draws (admission s datagram) stop is.acks) is.left new (hands_stopped e owed from draws facts s datagram h given.1 given.0 stands stop is.acks)
-    answers_hand (Tick draws) Done given is = by_did (ticks is.0.0 (all_late s)) is.0.1 new (does_tick it (owed (Unit {0})) is.0.0 facts s h stands)
-    answers_hand (Tick draws) OutOfMemory given is = by_did (ticks is.0 (all_late s)) is.1 new (does_tick it (owed (Unit {0})) is.0 facts s h stands)
+    answers_hand (Tick draws) Done given is = by_did (ticks is.0.0 (all_late s)) is.0.1 new (tick_all_made (timed_does it (owed (Unit {0}))) is.0.0 s facts h stands)
+    answers_hand (Tick draws) OutOfMemory given is = by_did (ticks is.0 (all_late s)) is.1 new (tick_all_made (timed_does it (owed (Unit {0}))) is.0 s facts h stands)
     answers_hand _ _ given is = absurd is

@@ -27,7 +27,7 @@ pub not_false : (b : Bool) → not b ≡ false → b ≡ true
 not_false true e = refl
 not_false false e = absurd (cc)
 
-is_kind : (kind n : ℕ) → (kind == n) ≡ true → kind ≡ n
+pub is_kind : (kind n : ℕ) → (kind == n) ≡ true → kind ≡ n
 is_kind kind n e = grind (arith, nat_tests)
 
 -- ---- chunks that are told in a session

@@ -32,7 +32,7 @@ mod Answering
 mod Bearing
 mod Keyed
 mod Numbers
-mod Hearing
+pub mod Hearing
 mod Unseen
 mod Following
 mod HeardChunks

@@ -80,6 +80,21 @@ use Rattle.rtmfp_data_chunks.proofs.Fitting.{small_next, what_is_read_fits}
 use Rattle.endpoint_laws.proofs.Small.{FlowThing, GoesOn, Called, Came, Acked, Unowed, Late, Overdue, Packed, on_flows, birth, stated, MayBe, Any, Sends, Quiet, Timed, All, Begins, Enters}
 use Rattle.endpoint_laws.proofs.Kin.{IsKin, kin_ended, kin_confirm, kin_end, kin_rhello, kin_redirect, kin_change, kin_due, kin_keying}
 
+-- what an answer carries in sessions
+abbrev pub Carries : (List ℕ → Type 0) → Reply → Type 0
+Carries Body Silence = Unit {0}
+Carries Body (InStartup answer) = Unit {0}
+Carries Body (Hellos spread) = Unit {0}
+Carries Body (InSession body) = Body body
+Carries Body (Introduction to body redirect) = Body body
+
+pub carries_any : (Body : List ℕ → Type 0) → ((body : List ℕ) → Body body) → (reply : Reply) → Carries Body reply
+carries_any Body any Silence = tt
+carries_any Body any (InStartup answer) = tt
+carries_any Body any (Hellos spread) = tt
+carries_any Body any (InSession body) = any body
+carries_any Body any (Introduction to body redirect) = any body
+
 -- ---- what goes out
 
 module _ {Body : List ℕ → Type 0} {P : State → Did → Type 0} (l : Sends Body P) where
@@ -125,26 +140,11 @@ module _ {Body : List ℕ → Type 0} {P : State → Did → Type 0} (l : Sends 
 
   -- ---- hellos, redirects, changes of cookies, and pings
 
-  -- what an answer carries in sessions
-  abbrev pub Carries : Reply → Type 0
-  Carries Silence = Unit {0}
-  Carries (InStartup answer) = Unit {0}
-  Carries (Hellos spread) = Unit {0}
-  Carries (InSession body) = Body body
-  Carries (Introduction to body redirect) = Body body
-
-  pub carries_any : ((body : List ℕ) → Body body) → (reply : Reply) → Carries reply
-  carries_any any Silence = tt
-  carries_any any (InStartup answer) = tt
-  carries_any any (Hellos spread) = tt
-  carries_any any (InSession body) = any body
-  carries_any any (Introduction to body redirect) = any body
-
   forwarded_made : (s : State) (to : Option ℕ) (body : List ℕ) → Body body → P s (forwarded s to body)
   forwarded_made s None body carries = l.does_nothing s
   forwarded_made s (Some near) body carries = home_made s near body carries
 
-  replied_made : (s : State) (place : Place) (from : AddressParts) (reply : Reply) → Carries reply → P s (replied s place from reply)
+  replied_made : (s : State) (place : Place) (from : AddressParts) (reply : Reply) → Carries Body reply → P s (replied s place from reply)
   replied_made s place from Silence carries = l.does_nothing s
   replied_made s place from (InStartup answer) carries = answered_made s answer
   replied_made s place from (Hellos None) carries = l.does_nothing s
@@ -161,7 +161,7 @@ module _ {Body : List ℕ → Type 0} {P : State → Did → Type 0} (l : Sends 
   left_made s place from (Ok _) = l.does_nothing s
   left_made s place from (Err fault) = l.does_nothing s
 
-  pub read_made : (s : State) (place : Place) (from : AddressParts) (read : Result Chunk ChunkFault) → Carries (read_reply s place from read) → P s (read_done s place from read)
+  pub read_made : (s : State) (place : Place) (from : AddressParts) (read : Result Chunk ChunkFault) → Carries Body (read_reply s place from read) → P s (read_done s place from read)
   read_made s place from read carries =
       let t : State = read_left s place from read in
       l.and_then s (nothing t) (replied t place from (read_reply s place from read)) (left_made s place from read) (replied_made t place from (read_reply s place from read) carries)
@@ -471,7 +471,7 @@ module _ {Body : List ℕ → Type 0} {P : State → Did → Type 0} (a : All Bo
     responder = λ kind taken none formed. responder taken;
     told = λ told taken has. up _ (told_made a.timed.quiet s (sid_at place) from c);
     flows = λ is taken none. up _ (flow_taken_made s (sid_at place) (data_reading walk.cursor c.kind c.payload) (λ chunk read. (what_is_read_fits walk.cursor c.kind c.payload chunk small read).0) none);
-    reads = λ none. up _ (read_made a.timed.quiet.sends s place from (chunk_reading c.kind c.payload) (carries_any a.timed.quiet.sends a.bodies (read_reply s place from (chunk_reading c.kind c.payload))));
+    reads = λ none. up _ (read_made a.timed.quiet.sends s place from (chunk_reading c.kind c.payload) (carries_any Body a.bodies (read_reply s place from (chunk_reading c.kind c.payload))));
   })
 
   -- one that came in a session begins none
