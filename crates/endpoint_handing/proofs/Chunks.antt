@@ -82,7 +82,7 @@ module _ (e : End) (may : e.begins) (facts : List Fact) where
 pub begins_does : (e : End) → e.begins → Begins (DoesAlways e) (DoesAlways e)
 begins_does e may = record {
   quiet = λ s d does. does;
-  and_then = (quiet_does e).sends.and_then;
+  steps = (quiet_does e).sends.steps;
   starts = does_started e;
   bears = λ s peer o j from facts. does_birth e may facts s peer o j from;
   opens = λ s startup j from kin facts. does_begin e facts s _ Initiator j from s.moment s.sessions may kin.own kin.secret (had_it s.sessions) refl;

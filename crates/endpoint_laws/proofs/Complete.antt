@@ -152,7 +152,7 @@ module _ (from : AddressParts) (draws : Draws) where
   none_front [] others walk s = (tt, tt)
   none_front (c ∷ front) others walk s =
       let d : Did = chunk_did Startup from draws walk s c in
-      none_sends.and_then s d (chunks_did Startup from draws (walked walk c) d.state front) (none_other s walk c others.0) (none_front front others.1 (walked walk c) d.state)
+      none_sends.steps.and_then s d (chunks_did Startup from draws (walked walk c) d.state front) (none_other s walk c others.0) (none_front front others.1 (walked walk c) d.state)
 
 -- chunks one after another add what each of them adds
 gone_in_two : (place : Place) (from : AddressParts) (draws : Draws) (walk : Walk) (front : List Placed) (c : Placed) (back : List Placed) (s : State) →

@@ -106,8 +106,7 @@ none_unseen (entry ∷ rest) are = ap (λ (o : Option Fact). drawn_and o (drawn 
 none_quiet : Quiet Any DrawsNone
 none_quiet = record {
   sends = record {
-    does_nothing = λ s. refl;
-    and_then = λ s d e first later. none_after d.entries e.entries [] first later;
+    steps = record { does_nothing = λ s. refl; and_then = λ s d e first later. none_after d.entries e.entries [] first later };
     attempts = λ s startup kin. refl;
     out = λ s to sid plain. refl;
     out_in = λ s near row to body is carries. refl;

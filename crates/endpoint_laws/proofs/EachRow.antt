@@ -87,8 +87,7 @@ module _ (P : FlowsState → Type 0) where
     each_quiet : Quiet Any Keeps
     each_quiet = record {
       sends = record {
-        does_nothing = λ s each. each;
-        and_then = λ s d e first later each. later (first each);
+        steps = record { does_nothing = λ s each. each; and_then = λ s d e first later each. later (first each) };
         attempts = λ s startup kin each. each;
         out = λ s to sid plain each. each;
         out_in = λ s near row to body is carries. keeps_put s near row (record row { session = after_seal row.session }) is refl;
@@ -111,7 +110,7 @@ module _ (P : FlowsState → Type 0) where
     each_begins : Begins Keeps Keeps
     each_begins = record {
       quiet = λ s d keeps. keeps;
-      and_then = each_quiet.sends.and_then;
+      steps = each_quiet.sends.steps;
       starts = λ s startup peer n near ni kin each. each;
       bears = λ s peer o j from each. put (without_ended s.sessions (way_made peer o)) j.near _ kept.none (ended_left s.sessions (way_made peer o) each);
       opens = λ s startup j from kin each. put s.sessions j.near _ kept.none each;

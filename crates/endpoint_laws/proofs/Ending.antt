@@ -14,26 +14,25 @@ use Rattle.glare_core.specs.declared.facts.Held.{Held}
 use Rattle.glare_core.specs.declared.facts.Held.TheVariants.{Opening}
 use Rattle.glare_core.specs.Things.{near_of}
 use Rattle.glare_core.specs.Ledger.{Ledger, held_with, noted, noted_if}
-use Rattle.glare_core.specs.Calls.{first_that_stands, ended_fact, MayEnd}
+use Rattle.glare_core.specs.Calls.{ended_fact, MayEnd}
 use Rattle.glare_core.specs.Account.{Gave}
 use Rattle.glare_core.proofs.Accounts.{reads_held}
 use Rattle.glare_core.proofs.Giving.{gave_ended}
-use Rattle.startup.specs.State.{AttemptState, StartupState}
+use Rattle.startup.specs.State.{AttemptState}
 use Rattle.startup.specs.Attempts.{lowest, has_number, with_attempt, without_attempt, ended_attempt, end_of, after_end_of}
 use Rattle.startup.specs.declared.answer.Due.{Due}
 use Rattle.startup.specs.declared.answer.Due.TheVariants.{Ended as EndDue, Hello as HelloDue, Keying as KeyingDue}
 use Rattle.startup.specs.declared.attempt.Stage.{Stage}
 use Rattle.startup.specs.declared.attempt.Stage.TheVariants.{Hello, Keying}
 use Rattle.crypto_profile.specs.Keys.{sign_key_of}
-use Rattle.startup.specs.Due.{repeat_signed, repeat_of, is_over, is_due, repeated, due_of, after_due, after_due_of}
+use Rattle.startup.specs.Due.{repeat_signed, repeat_of, is_over, repeated}
 use Rattle.endpoint_model.specs.declared.row.Row.{Row}
 use Rattle.endpoint_model.specs.declared.entry.Entry.TheVariants.{Fact as FactEntry}
 use Rattle.endpoint_model.specs.Event.{Setup, Call, Cancel, own_of}
 use Rattle.endpoint_laws.specs.Past.{Stamped, stamped, is_close, facts_of, ids_in_use}
 use Rattle.endpoint_laws.specs.Lawful.{IsTick}
-use Rattle.endpoint_model.specs.State.{State, Did, nothing, fact_entries, with_startup}
-use Rattle.endpoint_model.specs.Effects.{Item, OfAttempt, OfSession, cancelling, due_done, item_done, attempt_item, session_item}
-use Rattle.endpoint_model.specs.FlowTimes.{due_row, row_due_done}
+use Rattle.endpoint_model.specs.State.{State, Did, fact_entries, with_startup}
+use Rattle.endpoint_model.specs.Effects.{cancelling, due_done}
 use Rattle.endpoint_model.proofs.Members.{has, without}
 use Rattle.endpoint_model.proofs.Ids.{has_keys, count_keys}
 use Rattle.endpoint_laws.proofs.Matching.{of_peer, Ids, ids_less}
@@ -41,7 +40,7 @@ use Rattle.endpoint_laws.proofs.Tied.{Tied}
 use Rattle.endpoint_laws.proofs.Agrees.{IsAt, found_of_attempt, used_here, used_elsewhere, agrees_changed, agrees_of, tied_of}
 use Rattle.endpoint_laws.proofs.Moving.{beside_fact, still_none, noted_matches, rows_after_known, knows_held, tied_attempt}
 use Rattle.endpoint_laws.proofs.Facts.{stands_of}
-use Rattle.endpoint_laws.proofs.Going.{Goes, Keeps, goes_nothing, goes_then, goes_spread, goes_answer}
+use Rattle.endpoint_laws.proofs.Going.{Keeps, goes_nothing, goes_then, goes_spread, goes_answer}
 
 -- what the end of what is held gives
 pub gave_end : (l : Ledger) (peer : List ℕ) (thing : Held) (why : Why) → held_with l peer ≡ Some thing → MayEnd why thing → Gave l (Ended peer (near_of thing) why ∷ []) (noted l (Ended peer (near_of thing) why))
@@ -147,21 +146,6 @@ goes_cancelling setup s n = cancel_by setup s n (lowest (has_number n) s.startup
 over_is : (start moment : ℕ) → nat_le (start + 95000) moment ≡ true → start + 95000 ≤ moment
 over_is start moment e = grind (arith, nat_tests)
 
--- what a thing leaves and adds, by what it leaves of the attempts
-abbrev pub item_left : State → StartupState → Option Item → Did
-item_left s startup None = nothing s
-item_left s startup (Some (OfAttempt due)) = due_done (with_startup s startup) due
-item_left s startup (Some (OfSession near row due)) = row_due_done s near row due
-
-pub item_is : (s : State) (item : Option Item) → item_left s (after_due s.startup s.moment) item ≡ item_done s item
-item_is s None = refl
-item_is s (Some (OfAttempt due)) = refl
-item_is s (Some (OfSession near row due)) = refl
-
-pub one_stands : {A : Type 0} (o : Option A) → first_that_stands (o ∷ []) ≡ o
-one_stands None = refl
-one_stands (Some a) = refl
-
 -- hellos or a keying
 abbrev IsSending : Due → Type 0
 IsSending (EndDue fact) = ⊥
@@ -169,7 +153,7 @@ IsSending (HelloDue spread) = Unit {0}
 IsSending (KeyingDue answer) = Unit {0}
 
 module _ (setup : Setup) (call : Call) (is_tick : IsTick call) (s : State) where
-  tick_end : (e : ℕ × AttemptState) → get s.startup.attempts e.0 ≡ Some e.1 → is_over s.moment e.1 ≡ true →
+  pub tick_end : (e : ℕ × AttemptState) → get s.startup.attempts e.0 ≡ Some e.1 → is_over s.moment e.1 ≡ true →
       Keeps setup call s (record { state = with_startup s (without_attempt s.startup e.0 (ended_attempt e Expired)); entries = FactEntry (ended_attempt e Expired) ∷ [] })
   tick_end e there over past tied =
       let after = end_tied setup past s tied e.0 e.1 there Expired tt in
@@ -213,21 +197,9 @@ module _ (setup : Setup) (call : Call) (is_tick : IsTick call) (s : State) where
   repeat_sends key near a Hello = tt
   repeat_sends key near a (Keying at cookie) = tt
 
-  tick_repeat : (e : ℕ × AttemptState) → get s.startup.attempts e.0 ≡ Some e.1 →
+  pub tick_repeat : (e : ℕ × AttemptState) → get s.startup.attempts e.0 ≡ Some e.1 →
       Keeps setup call s (due_done (with_startup s (with_attempt s.startup e.0 (repeated e.1 s.moment))) (repeat_of s.startup e.0 e.1))
   tick_repeat e there =
       let due : Due = repeat_of s.startup e.0 e.1 in
       let t : State = with_startup s (with_attempt s.startup e.0 (repeated e.1 s.moment)) in
       from (λ u. due_done u due) t refl (λ past tied. tied_attempt setup past s e.0 e.1 (repeated e.1 s.moment) tied there refl (λ w. w)) (repeat_keeps due t (repeat_sends (sign_key_of s.startup.secret) e.0 e.1 e.1.stage))
-
-  tick_over : (e : ℕ × AttemptState) (b : Bool) → get s.startup.attempts e.0 ≡ Some e.1 → is_over s.moment e.1 ≡ b →
-      Keeps setup call s (due_done (with_startup s (if b then without_attempt s.startup e.0 (ended_attempt e Expired) else with_attempt s.startup e.0 (repeated e.1 s.moment)))
-      (if b then EndDue (ended_attempt e Expired) else repeat_of s.startup e.0 e.1))
-  tick_over e true there is = tick_end e there is
-  tick_over e false there is = tick_repeat e there
-
-  -- by the first attempt of which something is due; where there is none, this holds of a session's thing
-  pub tick_by : (past : List Stamped) → Tied setup past s → (e : Option (ℕ × AttemptState)) → lowest (is_due s.moment) s.startup.attempts ≡ e → Goes setup call past s (item_left s (after_due_of s.startup s.moment None) (session_item s.moment (due_row s))) →
-      Goes setup call past s (item_left s (after_due_of s.startup s.moment e) (first_that_stands (attempt_item (due_of s.startup s.moment e) ∷ session_item s.moment (due_row s) ∷ [])))
-  tick_by past tied None is later = subst (λ (x : Option Item). Goes setup call past s (item_left s (after_due_of s.startup s.moment None) x)) (sym (one_stands (session_item s.moment (due_row s)))) later
-  tick_by past tied (Some e) is later = tick_over e (is_over s.moment e.1) (first_is_there (is_due s.moment) s.startup.attempts e is).0 refl past tied

@@ -21,8 +21,7 @@ Few s d = d.state.sealed ≤ s.sealed + outs_in d.entries
 pub few_quiet : Quiet Any Few
 few_quiet = record {
   sends = record {
-    does_nothing = λ s. omega arith;
-    and_then = λ s d e p q. omega (arith, p, q, outs_append d.entries e.entries);
+    steps = record { does_nothing = λ s. omega arith; and_then = λ s d e p q. omega (arith, p, q, outs_append d.entries e.entries) };
     attempts = λ s startup kin. omega arith;
     out = λ s to sid plain. omega arith;
     out_in = λ s near row to body is carries. omega arith;
@@ -45,7 +44,7 @@ few_law = all_law few_quiet (λ s near row thing is may. omega arith)
 pub few_begins : Begins Few Few
 few_begins = record {
   quiet = λ s d few. few;
-  and_then = few_quiet.sends.and_then;
+  steps = few_quiet.sends.steps;
   starts = λ s startup peer n near ni kin. omega arith;
   bears = λ s peer o j from. omega arith;
   opens = λ s startup j from kin. omega arith;

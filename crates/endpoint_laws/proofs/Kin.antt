@@ -1,5 +1,5 @@
 -- What happens to the attempts of an end keeps its fingerprint and its secret.
-use Rattle.std.proofs.Common.{◌≡◌, ℕ, List, [], ◌∷◌, Bool, true, false, if◌then◌else◌}
+use Rattle.std.proofs.Common.{◌≡◌, ℕ, List, [], ◌∷◌}
 use Rattle.std.proofs.Common.{Option, Some, None, Result, Ok, Err, refl}
 use Rattle.rtmfp_forms.specs.Address.{AddressParts}
 use Rattle.cookies.specs.declared.CookieTest.{CookieTest}
@@ -9,7 +9,6 @@ use Rattle.sha2.specs.Sha256.{sha256}
 use Rattle.glare_core.specs.declared.facts.Fact.{Fact}
 use Rattle.glare_core.specs.declared.facts.Joined.{Joined}
 use Rattle.glare_core.specs.declared.facts.Why.{Why}
-use Rattle.glare_core.specs.declared.facts.Why.TheVariants.{Expired as Stale}
 use Rattle.glare_core.specs.declared.answers.Heard.{Heard}
 use Rattle.glare_core.specs.declared.answers.Heard.TheVariants.{Again, Birth}
 use Rattle.glare_core.specs.Ledger.{Ledger, held_with, noted_if}
@@ -18,14 +17,13 @@ use Rattle.startup.specs.declared.cause.Cause.{Cause}
 use Rattle.startup.specs.State.{StartupState, AttemptState}
 use Rattle.startup.specs.Attempts.{lowest, has_tag, changed, after_end_of, confirm_fact}
 use Rattle.startup.specs.Attempts.{after_confirm, end_fact, after_end, after_answer, after_rhello}
-use Rattle.startup.specs.Attempts.{with_attempt, without_attempt, ended_attempt, after_change}
+use Rattle.startup.specs.Attempts.{after_change}
 use Rattle.startup.specs.Attempts.{after_cookie_change}
 use Rattle.startup.specs.Keyings.{InitiatorKeying, initiator_keying_in, keying_of, repeated_session}
 use Rattle.startup.specs.Keyings.{after_again_or_birth, after_keyed_with, after_keyed_reading}
 use Rattle.startup.specs.Keyings.{after_keying}
 use Rattle.startup.specs.Redirects.{told_addresses, new_candidates, after_extension}
 use Rattle.startup.specs.Redirects.{after_redirect_of, after_redirect}
-use Rattle.startup.specs.Due.{is_over, repeated, is_due, after_due_of, after_due}
 
 pub record IsKin (old new : StartupState) : Type 0 where
   pub own : new.ledger.own ≡ old.ledger.own
@@ -74,22 +72,6 @@ redirected_kin s (Some e) addresses moment = extended_kin s e (new_candidates e.
 
 pub kin_redirect : (s : StartupState) (tag list : List ℕ) (from : AddressParts) (moment : ℕ) → IsKin s (after_redirect s tag list from moment)
 kin_redirect s tag list from moment = redirected_kin s (lowest (has_tag tag) s.attempts) (told_addresses list from) moment
-
--- ---- time
-
-over_kin : (s : StartupState) (moment : ℕ) (e : ℕ × AttemptState) → IsKin s (after_due_of s moment (Some e))
-over_kin s moment e = by (is_over moment e.1)
-  where
-    by : (b : Bool) → IsKin s (if b then without_attempt s e.0 (ended_attempt e Stale) else with_attempt s e.0 (repeated e.1 moment))
-    by true = record { own = refl; secret = refl }
-    by false = record { own = refl; secret = refl }
-
-due_kin : (s : StartupState) (moment : ℕ) (o : Option (ℕ × AttemptState)) → IsKin s (after_due_of s moment o)
-due_kin s moment None = kin_itself s
-due_kin s moment (Some e) = over_kin s moment e
-
-pub kin_due : (s : StartupState) (moment : ℕ) → IsKin s (after_due s moment)
-kin_due s moment = due_kin s moment (lowest (is_due moment) s.attempts)
 
 -- ---- keyings
 

@@ -1,4 +1,5 @@
 pub mod Kin
+pub mod Walks
 pub mod Small
 pub mod ByKind
 pub mod Made

@@ -131,8 +131,8 @@ module _ (setup : Setup) (is : IsSetup setup) (past : List Stamped) (s t : State
     orderly = stopped_orderly setup is from datagram draws fits past s stop h.acks (admission s datagram) tied sent (admission_is setup past s datagram tied sent (of_bytes datagram fits.0)) well;
     does = h.left;
   }
-  answers_orderly (Tick draws) Done entries fits well h = record { did = ticks h.0.0 (all_late s); orderly = tick_all_orderly setup (Tick draws) is tt h.0.0 past s tied sent well; does = h.0.1 }
-  answers_orderly (Tick draws) OutOfMemory entries fits well h = record { did = ticks h.0 (all_late s); orderly = tick_all_orderly setup (Tick draws) is tt h.0 past s tied sent well; does = h.1 }
+  answers_orderly (Tick draws) Done entries fits well h = record { did = ticks h.0.0 (all_late s); orderly = tick_all_orderly setup (Tick draws) is tt h.0.0 s past tied sent well; does = h.0.1 }
+  answers_orderly (Tick draws) OutOfMemory entries fits well h = record { did = ticks h.0 (all_late s); orderly = tick_all_orderly setup (Tick draws) is tt h.0 s past tied sent well; does = h.1 }
   answers_orderly _ _ entries fits well h = absurd h
 
 -- ---- logs

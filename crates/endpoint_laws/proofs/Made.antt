@@ -10,7 +10,7 @@ use Rattle.endpoint_model.specs.declared.place.Place.TheVariants.{Attempt, Sessi
 use Rattle.startup.specs.declared.attempt.Stage.{Stage as AttemptStage}
 use Rattle.startup.specs.State.{AttemptState, SpreadParts, StartupState}
 use Rattle.cookies.specs.declared.CookieTest.TheVariants.{Bad, Moved as CookieMoved, Expired as Stale, Current}
-use Rattle.std.proofs.Common.{drop, ◌≡◌, ℕ, ◌∷◌, ◌==◌, if◌then◌else◌, ◌||◌, ◌∙◌, [], Bool, Err, List, None, Ok, Option, Result, Some, ap, false, refl, suc, take, true, zero}
+use Rattle.std.proofs.Common.{drop, ◌≡◌, ℕ, ◌∷◌, ◌==◌, if◌then◌else◌, ◌||◌, ◌∙◌, [], Bool, Err, List, None, Ok, Option, Result, Some, ap, false, refl, take, true}
 use Rattle.glare_core.specs.declared.facts.Why.TheVariants.{Cancelled, Expired, Far, Idle as WasIdle, Near, Unconfirmed as NotConfirmed}
 use Rattle.startup.specs.declared.cause.Cause.{Cause}
 use Rattle.rtmfp_chunks.specs.Chunk.{Chunk, Close as CloseChunk, CloseAck, CookieChange, Ping, RHello, Redirect}
@@ -21,7 +21,6 @@ use Rattle.rtmfp_data_chunks.specs.Chunk.{DataChunk}
 use Rattle.rtmfp_data_chunks.specs.declared.view.DataFault.{DataFault}
 use Rattle.endpoint_model.specs.State.{Did, Does, State, without_row, fact_entries, free_from, nothing, then_do, with_row, with_session, with_startup}
 use Rattle.endpoint_model.specs.declared.config.Draws.{Draws}
-use Rattle.startup.specs.declared.answer.Due.TheVariants.{Ended as EndDue}
 use Rattle.endpoint_model.specs.declared.entry.Entry.{Entry}
 use Rattle.glare_core.specs.declared.facts.Fact.{Fact}
 use Rattle.endpoint_model.specs.declared.entry.Entry.TheVariants.{Fact as FactEntry}
@@ -31,7 +30,7 @@ use Rattle.session_flows.specs.declared.refusal.CallRefusal.{CallRefusal as Flow
 use Rattle.glare_core.specs.declared.facts.Held.TheVariants.{HalfOpen, KeptAsInitiator, KeptAsResponder, Opening as OpeningHeld}
 use Rattle.glare_core.specs.declared.facts.Held.{Held}
 use Rattle.startup.specs.declared.attempt.Stage.TheVariants.{Hello, Keying}
-use Rattle.endpoint_model.specs.Effects.{Hellos, InSession, InStartup, Introduction, Reply, Silence, attempt_item, cancelling, chunk_did, chunks_did, due_done, forwarded, gone_through, gone_through_and_acked, initiator_keyed, item_done, keying_done, most_acks, opening, opening_done, outset, part_received, read_done, read_left, read_reply, received, replied, responder_keyed, row_item, session_item, tick_once, ticks, walked, with_opened}
+use Rattle.endpoint_model.specs.Effects.{Hellos, InSession, InStartup, Introduction, Reply, Silence, cancelling, chunk_did, chunks_did, due_done, forwarded, gone_through, gone_through_and_acked, initiator_keyed, keying_done, most_acks, opening, opening_done, outset, part_received, read_done, read_left, read_reply, received, replied, responder_keyed, tick_once, ticks, walked, with_opened}
 use Rattle.session_core.specs.declared.stage.SessionDue.TheVariants.{Idle, Over, RepeatClose, Unconfirmed}
 use Rattle.startup.specs.Keyings.{InitiatorKeying, ResponderKeying, after_keying, after_opening, again_or_birth, born_session, change_answer, initiator_keying_in, keyed_reading, keyed_with, keying_of, opened_reading, opened_with, repeated_session, responder_keying_in, session_answer}
 use Rattle.glare_core.specs.declared.facts.Joined.{Joined}
@@ -50,12 +49,12 @@ use Rattle.endpoint_model.specs.declared.walk.Walk.{Walk}
 use Rattle.rtmfp_packet.specs.Whole.{Whole}
 use Rattle.glare_core.specs.declared.facts.Why.{Why}
 use Rattle.startup.specs.declared.cause.Cause.TheVariants.{WrongPlace}
-use Rattle.endpoint_model.specs.FlowChunks.{acked, acked_by, acked_if, acked_in, acks_body, flow_cause, flow_taken, flow_taken_by, owes_by, taking_cause, told_cause, unowed, unowed_by}
+use Rattle.endpoint_model.specs.FlowChunks.{acked, acks_body, flow_cause, flow_taken, flow_taken_by, taking_cause, told_cause, unowed}
 use Rattle.mobility.specs.Tests.{address_for, after_reply, after_seen, asks}
-use Rattle.startup.specs.Attempts.{after_end_of, after_begin, after_confirm, after_end, begin_spread, end_fact, end_of, ended_attempt, has_number, hello_spread, keying_signed, lowest, session_in}
-use Rattle.startup.specs.Due.{after_due, due_of, is_due, is_over, repeat_of, repeat_signed}
+use Rattle.startup.specs.Attempts.{after_end_of, after_begin, after_confirm, after_end, begin_spread, end_fact, end_of, has_number, hello_spread, keying_signed, lowest, session_in}
+use Rattle.startup.specs.Due.{repeat_of, repeat_signed}
 use Rattle.session_core.specs.Closing.{first_due as session_first_due, after_due as after_due_in, asked_to_close, closed_near, is_held, is_near_close, kept_alive, needs_keepalive}
-use Rattle.endpoint_model.specs.FlowTimes.{end_due, abandon_due, all_late, data_body, due_row, is_row_due, late_at, late_each, row_due, row_due_done}
+use Rattle.endpoint_model.specs.FlowTimes.{end_due, abandon_due, all_late, data_body, row_due, row_due_done}
 use Rattle.endpoint_model.specs.OnFlows.{call_refusal, call_refusal_by, flow_called, flow_called_by, flow_refused}
 use Rattle.endpoint_laws.proofs.ByKind.{chunk_by_kind}
 use Rattle.rtmfp_chunks.specs.Writing.{chunk_bytes}
@@ -69,16 +68,18 @@ use Rattle.rtmfp_data_chunks.specs.Reader.{data_reading}
 use Rattle.session_flows.specs.Timing.{overdue_in}
 use Rattle.session_flows.specs.Packing.{is_data_due}
 use Rattle.endpoint_laws.proofs.Hearing.{descends_same}
-use Rattle.rtmfp_base.proofs.Lowest.{first_is_there}
 use Rattle.session_flows.specs.Causes.{chunk_cause as flows_cause}
-use Rattle.std.specs.FinMap.{get, insert, keys}
+use Rattle.std.specs.FinMap.{get, insert}
 use Rattle.glare_core.specs.Ledger.{held_with}
 use Rattle.endpoint_model.specs.Sending.{last_count, sent_answer, sent_by, sent_each, sent_if, sent_in_session, sent_spread, sent_startup}
 use Rattle.std.specs.Option.{option_map}
 use Rattle.sha2.specs.Sha256.{sha256}
 use Rattle.rtmfp_data_chunks.proofs.Fitting.{small_next, what_is_read_fits}
 use Rattle.endpoint_laws.proofs.Small.{FlowThing, GoesOn, Called, Came, Acked, Unowed, Late, Overdue, Packed, on_flows, birth, stated, MayBe, Any, Sends, Quiet, Timed, All, Begins, Enters}
-use Rattle.endpoint_laws.proofs.Kin.{IsKin, kin_ended, kin_confirm, kin_end, kin_rhello, kin_redirect, kin_change, kin_due, kin_keying}
+use Rattle.startup.specs.Due.{repeated}
+use Rattle.startup.specs.Attempts.{with_attempt}
+use Rattle.endpoint_laws.proofs.Walks.{tick_walked, acked_walked, unowed_walked, tick_all_walked}
+use Rattle.endpoint_laws.proofs.Kin.{IsKin, kin_ended, kin_confirm, kin_end, kin_rhello, kin_redirect, kin_change, kin_keying}
 
 -- what an answer carries in sessions
 abbrev pub Carries : (List ℕ → Type 0) → Reply → Type 0
@@ -103,27 +104,27 @@ module _ {Body : List ℕ → Type 0} {P : State → Did → Type 0} (l : Sends 
   either_made s false d e p q = q
 
   pub startup_made : (s : State) (to : AddressParts) (sid : ℕ) (plain : List ℕ) → P s (sent_startup s to sid plain)
-  startup_made s to sid plain = either_made s (s.sealed == last_count) (nothing s) _ (l.does_nothing s) (l.out s to sid plain)
+  startup_made s to sid plain = either_made s (s.sealed == last_count) (nothing s) _ (l.steps.does_nothing s) (l.out s to sid plain)
 
   pub answer_made : (s : State) (answer : Answer) → P s (sent_answer s answer)
   answer_made s answer = startup_made s answer.to answer.sid answer.plain
 
   pub answered_made : (s : State) (answer : Option Answer) → P s (sent_if s answer)
-  answered_made s None = l.does_nothing s
+  answered_made s None = l.steps.does_nothing s
   answered_made s (Some answer) = answer_made s answer
 
   pub each_made : (plain : List ℕ) (to : List AddressParts) (s : State) → P s (sent_each s plain to)
-  each_made plain [] s = l.does_nothing s
+  each_made plain [] s = l.steps.does_nothing s
   each_made plain (to ∷ rest) s =
       let d : Did = sent_startup s to 0 plain in
-      l.and_then s d (sent_each d.state plain rest) (startup_made s to 0 plain) (each_made plain rest d.state)
+      l.steps.and_then s d (sent_each d.state plain rest) (startup_made s to 0 plain) (each_made plain rest d.state)
 
   pub spread_made : (s : State) (spread : SpreadParts) → P s (sent_spread s spread)
   spread_made s spread = each_made spread.plain spread.to s
 
   pub by_made : (s : State) (near : ℕ) (to : AddressParts) (body : List ℕ) (o : Option Row) → get s.sessions near ≡ o → Body body → P s (sent_by s near to body o)
-  by_made s near to body None is carries = l.does_nothing s
-  by_made s near to body (Some row) is carries = either_made s (row.session.sealed == last_count) (nothing s) _ (l.does_nothing s) (l.out_in s near row to body is carries)
+  by_made s near to body None is carries = l.steps.does_nothing s
+  by_made s near to body (Some row) is carries = either_made s (row.session.sealed == last_count) (nothing s) _ (l.steps.does_nothing s) (l.out_in s near row to body is carries)
 
   pub in_session_made : (s : State) (near : ℕ) (to : AddressParts) (body : List ℕ) → Body body → P s (sent_in_session s near to body)
   in_session_made s near to body carries = by_made s near to body (get s.sessions near) refl carries
@@ -132,39 +133,39 @@ module _ {Body : List ℕ → Type 0} {P : State → Did → Type 0} (l : Sends 
   home_made s near body carries = by (get s.sessions near) refl
     where
       by : (o : Option Row) → get s.sessions near ≡ o → P s (sent_home_by s near body o)
-      by None is = l.does_nothing s
+      by None is = l.steps.does_nothing s
       by (Some row) is = by_made s near row.session.address body (Some row) is carries
 
   and_home_made : (s : State) (near : ℕ) (body : List ℕ) (d : Did) → P s d → Body body → P s (then_do d (λ t. sent_home t near body))
-  and_home_made s near body d made carries = l.and_then s d (sent_home d.state near body) made (home_made d.state near body carries)
+  and_home_made s near body d made carries = l.steps.and_then s d (sent_home d.state near body) made (home_made d.state near body carries)
 
   -- ---- hellos, redirects, changes of cookies, and pings
 
   forwarded_made : (s : State) (to : Option ℕ) (body : List ℕ) → Body body → P s (forwarded s to body)
-  forwarded_made s None body carries = l.does_nothing s
+  forwarded_made s None body carries = l.steps.does_nothing s
   forwarded_made s (Some near) body carries = home_made s near body carries
 
   replied_made : (s : State) (place : Place) (from : AddressParts) (reply : Reply) → Carries Body reply → P s (replied s place from reply)
-  replied_made s place from Silence carries = l.does_nothing s
+  replied_made s place from Silence carries = l.steps.does_nothing s
   replied_made s place from (InStartup answer) carries = answered_made s answer
-  replied_made s place from (Hellos None) carries = l.does_nothing s
+  replied_made s place from (Hellos None) carries = l.steps.does_nothing s
   replied_made s place from (Hellos (Some spread)) carries = spread_made s spread
   replied_made s place from (InSession body) carries = in_session_made s (sid_at place) from body carries
   replied_made s place from (Introduction to body redirect) carries =
       let d : Did = forwarded s to body in
-      l.and_then s d (sent_if d.state redirect) (forwarded_made s to body carries) (answered_made d.state redirect)
+      l.steps.and_then s d (sent_if d.state redirect) (forwarded_made s to body carries) (answered_made d.state redirect)
 
   left_made : (s : State) (place : Place) (from : AddressParts) (read : Result Chunk ChunkFault) → P s (nothing (read_left s place from read))
   left_made s place from (Ok (RHello tag cookie cert)) = l.attempts s _ (kin_rhello s.startup tag cookie from s.moment)
   left_made s place from (Ok (Redirect tag list)) = l.attempts s _ (kin_redirect s.startup tag list from s.moment)
   left_made s place from (Ok (CookieChange old new)) = l.attempts s _ (kin_change s.startup (sid_at place) old new s.moment)
-  left_made s place from (Ok _) = l.does_nothing s
-  left_made s place from (Err fault) = l.does_nothing s
+  left_made s place from (Ok _) = l.steps.does_nothing s
+  left_made s place from (Err fault) = l.steps.does_nothing s
 
   pub read_made : (s : State) (place : Place) (from : AddressParts) (read : Result Chunk ChunkFault) → Carries Body (read_reply s place from read) → P s (read_done s place from read)
   read_made s place from read carries =
       let t : State = read_left s place from read in
-      l.and_then s (nothing t) (replied t place from (read_reply s place from read)) (left_made s place from read) (replied_made t place from (read_reply s place from read) carries)
+      l.steps.and_then s (nothing t) (replied t place from (read_reply s place from read)) (left_made s place from read) (replied_made t place from (read_reply s place from read) carries)
 
 -- ---- sessions that go on
 
@@ -219,7 +220,7 @@ module _ {Body : List ℕ → Type 0} {P : State → Did → Type 0} (q : Quiet 
   cancelling_made s n = by (lowest (has_number n) s.startup.attempts)
     where
       by : (o : Option (ℕ × AttemptState)) → P s (record { state = with_startup s (after_end_of s.startup o Cancelled); entries = fact_entries (end_of o Cancelled) })
-      by None = q.sends.does_nothing s
+      by None = q.sends.steps.does_nothing s
       by (Some e) = q.ends s _ e.1.peer e.0 Cancelled (kin_ended s.startup (Some e) Cancelled)
 
   -- ---- the ends of sessions
@@ -230,16 +231,16 @@ module _ {Body : List ℕ → Type 0} {P : State → Did → Type 0} (q : Quiet 
   ended_made : (s : State) (near : ℕ) (row : Row) (why : Why) (left : SessionState) → get s.sessions near ≡ Some row → GoesOn row (record row { session = left }) → P s (ended_as s near row why left)
   ended_made s near row why left is goes =
       let t : State = with_session s near row left in
-      q.sends.and_then s (nothing t) _ (q.goes_on s near row (record row { session = left }) is goes) (end_made t row.session.joined.peer why)
+      q.sends.steps.and_then s (nothing t) _ (q.goes_on s near row (record row { session = left }) is goes) (end_made t row.session.joined.peer why)
 
   dropped_made : (s : State) (near : ℕ) (row : Row) (why : Why) → P s (dropped s near row why)
-  dropped_made s near row why = let t : State = without_row s near in q.sends.and_then s (nothing t) _ (q.forgets s near) (end_made t row.session.joined.peer why)
+  dropped_made s near row why = let t : State = without_row s near in q.sends.steps.and_then s (nothing t) _ (q.forgets s near) (end_made t row.session.joined.peer why)
 
   pub closing_made : (s : State) (near : ℕ) → P s (closing s near)
   closing_made s near = by (held_row s near) refl
     where
       by : (o : Option Row) → held_row s near ≡ o → P s (closing_by s near o)
-      by None is = q.sends.does_nothing s
+      by None is = q.sends.steps.does_nothing s
       by (Some row) is = and_home_made q.sends s near (chunk_bytes CloseChunk) (ended_as s near row Near (closed_near s.moment row.session))
           (ended_made s near row Near (closed_near s.moment row.session) (held_is_there (get s.sessions near) row is) (closed_goes (is_held row.session.stage) s.moment row)) q.close
 
@@ -251,19 +252,19 @@ module _ {Body : List ℕ → Type 0} {P : State → Did → Type 0} (q : Quiet 
       either_made q.sends s (is_held row.session.stage) _ _ (ended_made s near row Far (asked_to_close s.moment row.session) is goes) (q.goes_on s near row (record row { session = asked_to_close s.moment row.session }) is goes)
 
   close_taken_made : (s : State) (near : ℕ) (o : Option Row) → get s.sessions near ≡ o → P s (close_taken_by s near o)
-  close_taken_made s near None is = q.sends.does_nothing s
+  close_taken_made s near None is = q.sends.steps.does_nothing s
   close_taken_made s near (Some row) is = and_home_made q.sends s near (chunk_bytes CloseAck) (lingering s near row) (lingering_made s near row is) q.close_ack
 
   moved_made : (s : State) (near : ℕ) (from : AddressParts) (bytes : List ℕ) (o : Option Row) → get s.sessions near ≡ o → P s (moved_by s near from bytes o)
-  moved_made s near from bytes None is = q.sends.does_nothing s
+  moved_made s near from bytes None is = q.sends.steps.does_nothing s
   moved_made s near from bytes (Some row) is = by (after_reply row.moves from bytes) (address_for row.moves from bytes)
     where
       by : (moves : Option Test) (to : Option AddressParts) → P s (moved_where s near row moves to)
-      by moves None = q.sends.does_nothing s
+      by moves None = q.sends.steps.does_nothing s
       by moves (Some to) =
           let new : Row = record row { session = moved_to to row.session; moves = moves } in
           let t : State = with_row s near new in
-          q.sends.and_then s (nothing t) _ (q.goes_on s near row new is (record { descends = record { same = refl; opening = λ e. (e, refl) }; flows = refl })) (q.moves t near to)
+          q.sends.steps.and_then s (nothing t) _ (q.goes_on s near row new is (record { descends = record { same = refl; opening = λ e. (e, refl) }; flows = refl })) (q.moves t near to)
 
   pub told_made : (s : State) (near : ℕ) (from : AddressParts) (c : Placed) → P s (told_in_session s near from c)
   told_made s near from c =
@@ -272,52 +273,39 @@ module _ {Body : List ℕ → Type 0} {P : State → Did → Type 0} (q : Quiet 
   -- ---- tests of addresses, and confirming
 
   tested_by_made : (s : State) (near : ℕ) (from : AddressParts) (token : List ℕ) → Body (chunk_bytes (Ping token)) → (o : Option Row) → held_row s near ≡ o → P s (tested_by s near from token o)
-  tested_by_made s near from token carries None is = q.sends.does_nothing s
+  tested_by_made s near from token carries None is = q.sends.steps.does_nothing s
   tested_by_made s near from token carries (Some row) is =
       let new : Row = record row { moves = after_seen row.moves row.session.address from token s.moment } in
       let t : State = with_row s near new in
       either_made q.sends s (asks row.moves row.session.address from s.moment) _ _
-      (q.sends.and_then s (nothing t) _ (q.goes_on s near row new (held_is_there (get s.sessions near) row is) (record { descends = descends_same row.session; flows = refl })) (in_session_made q.sends t near from (chunk_bytes (Ping token)) carries))
-      (q.sends.does_nothing s)
+      (q.sends.steps.and_then s (nothing t) _ (q.goes_on s near row new (held_is_there (get s.sessions near) row is) (record { descends = descends_same row.session; flows = refl })) (in_session_made q.sends t near from (chunk_bytes (Ping token)) carries))
+      (q.sends.steps.does_nothing s)
 
   pub tested_made : (s : State) (place : Place) (from : AddressParts) (draws : Draws) → Body (chunk_bytes (Ping draws.token)) → P s (tested_at s place from draws)
-  tested_made s Startup from draws carries = q.sends.does_nothing s
-  tested_made s (Attempt near) from draws carries = q.sends.does_nothing s
+  tested_made s Startup from draws carries = q.sends.steps.does_nothing s
+  tested_made s (Attempt near) from draws carries = q.sends.steps.does_nothing s
   tested_made s (Session near) from draws carries = tested_by_made s near from draws.token carries (held_row s near) refl
 
   confirming_by_made : (s : State) (near : ℕ) (o : Option Row) → get s.sessions near ≡ o → P s (confirming_by s near o)
-  confirming_by_made s near None is = q.sends.does_nothing s
+  confirming_by_made s near None is = q.sends.steps.does_nothing s
   confirming_by_made s near (Some row) is =
       let new : Row = record row { session = confirmed row.session } in
       let peer : List ℕ = row.session.joined.peer in
       let t : State = with_row s near new in
       either_made q.sends s (is_opening row.session.stage) _ (nothing s)
-      (q.sends.and_then s (nothing t) _ (q.goes_on s near row new is (confirmed_goes row)) (confirmed_fact_made t (after_confirm s.startup peer) (kin_confirm s.startup peer) (held_with s.startup.ledger peer) peer))
-      (q.sends.does_nothing s)
+      (q.sends.steps.and_then s (nothing t) _ (q.goes_on s near row new is (confirmed_goes row)) (confirmed_fact_made t (after_confirm s.startup peer) (kin_confirm s.startup peer) (held_with s.startup.ledger peer) peer))
+      (q.sends.steps.does_nothing s)
 
   pub confirming_made : (s : State) (place : Place) → P s (confirming s place)
-  confirming_made s Startup = q.sends.does_nothing s
-  confirming_made s (Attempt near) = q.sends.does_nothing s
+  confirming_made s Startup = q.sends.steps.does_nothing s
+  confirming_made s (Attempt near) = q.sends.steps.does_nothing s
   confirming_made s (Session near) = confirming_by_made s near (get s.sessions near) refl
 
   -- ---- time
 
-  repeated_made : (s : State) (startup : StartupState) (near : ℕ) (a : AttemptState) (key cert : List ℕ) (stage : AttemptStage) → P s (due_done s (repeat_signed key cert near a stage))
-  repeated_made s startup near a key cert Hello = spread_made q.sends s (hello_spread a a.candidates)
-  repeated_made s startup near a key cert (Keying at cookie) = answer_made q.sends s (keying_signed key cert near a at cookie)
-
-  -- what is due of an attempt
-  pub attempt_made : (s : State) (e : ℕ × AttemptState) → P s (due_done (with_startup s (after_due s.startup s.moment)) (if is_over s.moment e.1 then EndDue (ended_attempt e Expired) else repeat_of s.startup e.0 e.1))
-  attempt_made s e = by (is_over s.moment e.1)
-    where
-      startup : StartupState
-      startup = after_due s.startup s.moment
-
-      by : (b : Bool) → P s (due_done (with_startup s startup) (if b then EndDue (ended_attempt e Expired) else repeat_of s.startup e.0 e.1))
-      by true = q.ends s startup e.1.peer e.0 Expired (kin_due s.startup s.moment)
-      by false =
-          let t : State = with_startup s startup in
-          q.sends.and_then s (nothing t) (due_done t (repeat_of s.startup e.0 e.1)) (q.sends.attempts s startup (kin_due s.startup s.moment)) (repeated_made t startup e.0 e.1 _ _ e.1.stage)
+  repeated_made : (s : State) (near : ℕ) (a : AttemptState) (key cert : List ℕ) (stage : AttemptStage) → P s (due_done s (repeat_signed key cert near a stage))
+  repeated_made s near a key cert Hello = spread_made q.sends s (hello_spread a a.candidates)
+  repeated_made s near a key cert (Keying at cookie) = answer_made q.sends s (keying_signed key cert near a at cookie)
 
   kept_alive_made : (s : State) (near : ℕ) (row : Row) → get s.sessions near ≡ Some row → P s (kept_alive_by s near row)
   kept_alive_made s near row is =
@@ -355,47 +343,11 @@ abandon_is None None false true flow seq e = absurd (cc)
 abandon_is None None false false flow seq e = absurd (cc)
 
 module _ {Body : List ℕ → Type 0} {P : State → Did → Type 0} (k : Timed Body P) where
-  -- ---- acks
-
-  pub acked_by_made : (s : State) (near : ℕ) (o : Option Row) → get s.sessions near ≡ o → owes_by o ≡ true → P s (acked_by s near o)
-  acked_by_made s near None is owed = k.quiet.sends.does_nothing s
-  acked_by_made s near (Some row) is owed = k.acks s near row is owed
-
-  acked_if_made : (s : State) (near : ℕ) (next : State → Did) → ((t : State) → P t (next t)) → (b : Bool) → owes_by (get s.sessions near) ≡ b → P s (acked_if s near b next)
-  acked_if_made s near next later false is = k.quiet.sends.does_nothing s
-  acked_if_made s near next later true is =
-      let d : Did = acked_by s near (get s.sessions near) in
-      k.quiet.sends.and_then s d (next d.state) (acked_by_made s near (get s.sessions near) refl is) (later d.state)
-
-  acked_in_made : (count : ℕ) (s : State) (near : ℕ) → P s (acked_in count s near)
-  acked_in_made zero s near = k.quiet.sends.does_nothing s
-  acked_in_made (suc count) s near = acked_if_made s near (λ t. acked_in count t near) (λ t. acked_in_made count t near) (owes_by (get s.sessions near)) refl
-
   pub acked_made : (count : ℕ) (s : State) (place : Place) → P s (acked count s place)
-  acked_made count s Startup = k.quiet.sends.does_nothing s
-  acked_made count s (Attempt near) = k.quiet.sends.does_nothing s
-  acked_made count s (Session near) = acked_in_made count s near
-
-  pub unowed_by_made : (s : State) (near : ℕ) (o : Option Row) → get s.sessions near ≡ o → P s (nothing (unowed_by s near o))
-  unowed_by_made s near None is = k.quiet.sends.does_nothing s
-  unowed_by_made s near (Some row) is = k.owes_none s near row is
+  acked_made = acked_walked k.quiet.sends.steps k.acks
 
   pub unowed_made : (s : State) (place : Place) → P s (nothing (unowed s place))
-  unowed_made s Startup = k.quiet.sends.does_nothing s
-  unowed_made s (Attempt near) = k.quiet.sends.does_nothing s
-  unowed_made s (Session near) = unowed_by_made s near (get s.sessions near) refl
-
-  -- ---- a tick
-
-  pub late_made : (s : State) (near : ℕ) (o : Option Row) → get s.sessions near ≡ o → P s (nothing (late_at s near o))
-  late_made s near None is = k.quiet.sends.does_nothing s
-  late_made s near (Some row) is = k.loses s near row is
-
-  late_each_made : (ids : List ℕ) (s : State) → P s (nothing (late_each ids s))
-  late_each_made [] s = k.quiet.sends.does_nothing s
-  late_each_made (near ∷ rest) s =
-      let t : State = late_at s near (get s.sessions near) in
-      k.quiet.sends.and_then s (nothing t) (nothing (late_each rest t)) (late_made s near (get s.sessions near) refl) (late_each_made rest t)
+  unowed_made = unowed_walked k.quiet.sends.steps k.owes_none
 
   row_due_made : (s : State) (near : ℕ) (row : Row) (due : RowDue) → get s.sessions near ≡ Some row → row_due s.moment row ≡ Some due → P s (row_due_done s near row due)
   row_due_made s near row (SessionOf due) there is = session_due_made k.quiet s near row due there
@@ -405,27 +357,18 @@ module _ {Body : List ℕ → Type 0} {P : State → Did → Type 0} (k : Timed 
   row_due_made s near row Data there is = k.packs s near row there
   row_due_made s near row Keepalive there is = kept_alive_made k.quiet s near row there
 
-  row_item_made : (s : State) (near : ℕ) (row : Row) (o : Option RowDue) → get s.sessions near ≡ Some row → row_due s.moment row ≡ o → P s (item_done s (first_that_stands (row_item near row o ∷ [])))
-  row_item_made s near row None there is = k.quiet.sends.does_nothing s
-  row_item_made s near row (Some due) there is = row_due_made s near row due there is
-
-  session_item_made : (s : State) (o : Option (ℕ × Row)) → due_row s ≡ o → P s (item_done s (first_that_stands (session_item s.moment o ∷ [])))
-  session_item_made s None is = k.quiet.sends.does_nothing s
-  session_item_made s (Some e) is = row_item_made s e.0 e.1 (row_due s.moment e.1) (first_is_there (is_row_due s.moment) s.sessions e is).0 refl
-
-  item_made : (s : State) (o : Option (ℕ × AttemptState)) → P s (item_done s (first_that_stands (attempt_item (due_of s.startup s.moment o) ∷ session_item s.moment (due_row s) ∷ [])))
-  item_made s None = session_item_made s (due_row s) refl
-  item_made s (Some e) = attempt_made k.quiet s e
-
   pub tick_made : (s : State) → P s (tick_once s)
-  tick_made s = item_made s (lowest (is_due s.moment) s.startup.attempts)
-
-  ticks_made : (count : ℕ) (s : State) → P s (ticks count s)
-  ticks_made zero s = k.quiet.sends.does_nothing s
-  ticks_made (suc count) s = k.quiet.sends.and_then s (tick_once s) (ticks count (tick_once s).state) (tick_made s) (ticks_made count (tick_once s).state)
+  tick_made s = tick_walked (P s) s (record {
+    none = k.quiet.sends.steps.does_nothing s;
+    ends = λ e there over. k.quiet.ends s _ e.1.peer e.0 Expired (record { own = refl; secret = refl });
+    repeats = λ e there. (let startup : StartupState = with_attempt s.startup e.0 (repeated e.1 s.moment) in
+        let t : State = with_startup s startup in
+        k.quiet.sends.steps.and_then s (nothing t) (due_done t (repeat_of s.startup e.0 e.1)) (k.quiet.sends.attempts s startup (record { own = refl; secret = refl })) (repeated_made k.quiet t e.0 e.1 _ _ e.1.stage));
+    row = λ near row due there is. row_due_made s near row due there is;
+  })
 
   pub tick_all_made : (count : ℕ) (s : State) → P s (ticks count (all_late s))
-  tick_all_made count s = k.quiet.sends.and_then s (nothing (all_late s)) (ticks count (all_late s)) (late_each_made (keys s.sessions) s) (ticks_made count (all_late s))
+  tick_all_made = tick_all_walked k.quiet.sends.steps k.loses tick_made
 
 -- where any body may go out, what is done with flows is one thing and the datagram another
 pub all_law : {P : State → Did → Type 0} → Quiet Any P → ((s : State) (near : ℕ) (row : Row) (thing : FlowThing) → get s.sessions near ≡ Some row → MayBe row thing → P s (on_flows s near row thing)) → All Any P
@@ -457,7 +400,7 @@ module _ {Body : List ℕ → Type 0} {P : State → Did → Type 0} (a : All Bo
 
   flow_taken_made : (s : State) (near : ℕ) (read : Result DataChunk DataFault) → ((chunk : DataChunk) → read ≡ Ok chunk → FitsIn chunk) → flow_cause (get s.sessions near) read ≡ None → P s (flow_taken s near read)
   flow_taken_made s near (Ok chunk) fits none = taken_by_made s near chunk (fits chunk refl) (get s.sessions near) refl none
-  flow_taken_made s near (Err fault) fits none = a.timed.quiet.sends.does_nothing s
+  flow_taken_made s near (Err fault) fits none = a.timed.quiet.sends.steps.does_nothing s
 
   -- ---- a chunk
 
@@ -487,14 +430,11 @@ pub record WasMade (P : State → Did → Type 0) (s t : State) (entries : List 
   pub does : Does did t [] entries
 
 module _ {Body : List ℕ → Type 0} {Q P : State → Did → Type 0} (q : Quiet Body Q) (b : Begins Q P) where
-  pub nothing_made : (s : State) → P s (nothing s)
-  nothing_made s = b.quiet s (nothing s) (q.sends.does_nothing s)
-
   pub opening_made : (s : State) (peer : List ℕ) (candidates : List AddressParts) (draws : Draws) → P s (opening s peer candidates draws)
   opening_made s peer candidates draws =
       let startup : StartupState = after_begin s.startup peer candidates (free_from s draws.word) draws.nonce draws.tag s.moment in
       let spread : SpreadParts = begin_spread s.startup peer candidates draws.nonce draws.tag s.moment in
-      b.and_then s (stated s startup (started_fact s.startup.ledger peer (free_from s draws.word) draws.nonce)) (sent_spread (with_startup s startup) spread) (b.starts s startup peer _ (free_from s draws.word) draws.nonce (record { own = refl; secret = refl }))
+      b.steps.and_then s (stated s startup (started_fact s.startup.ledger peer (free_from s draws.word) draws.nonce)) (sent_spread (with_startup s startup) spread) (b.starts s startup peer _ (free_from s draws.word) draws.nonce (record { own = refl; secret = refl }))
       (b.quiet (with_startup s startup) _ (spread_made q.sends (with_startup s startup) spread))
 
   keyed_with_made : (s : State) (startup : StartupState) (from : AddressParts) (now near : ℕ) (nr : List ℕ) (keying : InitiatorKeying) (t : CookieTest) → P s (keying_done s from (Some (keyed_with startup from now near nr keying t)))
@@ -506,29 +446,29 @@ module _ {Body : List ℕ → Type 0} {Q P : State → Did → Type 0} (q : Quie
           let j : Joined = born_session startup.ledger (keying_of keying) near nr in
           let o : Option Held = held_with startup.ledger (sha256 keying.cert) in
           let d : Did = birth s (way_made (sha256 keying.cert) o) j from in
-          b.and_then s d (sent_answer d.state (session_answer startup j from)) (b.bears s (sha256 keying.cert) o j from) (b.quiet d.state _ (answer_made q.sends d.state (session_answer startup j from)))
+          b.steps.and_then s d (sent_answer d.state (session_answer startup j from)) (b.bears s (sha256 keying.cert) o j from) (b.quiet d.state _ (answer_made q.sends d.state (session_answer startup j from)))
   keyed_with_made s startup from now near nr keying Bad = b.quiet s _ (answer_made q.sends s (change_answer startup keying from now))
   keyed_with_made s startup from now near nr keying CookieMoved = b.quiet s _ (answer_made q.sends s (change_answer startup keying from now))
   keyed_with_made s startup from now near nr keying Stale = b.quiet s _ (answer_made q.sends s (change_answer startup keying from now))
 
   keyed_made : (s : State) (startup : StartupState) (from : AddressParts) (now near : ℕ) (nr : List ℕ) (r : Result InitiatorKeying Cause) → P s (keying_done s from (keyed_reading startup from now near nr r))
   keyed_made s startup from now near nr (Ok keying) = keyed_with_made s startup from now near nr keying (cookie_test startup.cookie_secret keying.cookie from now)
-  keyed_made s startup from now near nr (Err cause) = nothing_made s
+  keyed_made s startup from now near nr (Err cause) = b.steps.does_nothing s
 
   pub initiator_made : (s : State) (from : AddressParts) (draws : Draws) (payload : List ℕ) → P s (initiator_keyed s from draws payload)
   initiator_made s from draws payload =
       let t : State = with_startup s (after_keying s.startup payload from s.moment (free_from s draws.word) draws.nonce) in
-      b.and_then s (nothing t) _ (b.quiet s (nothing t) (q.sends.attempts s t.startup (kin_keying s.startup payload from s.moment (free_from s draws.word) draws.nonce)))
+      b.steps.and_then s (nothing t) _ (b.quiet s (nothing t) (q.sends.attempts s t.startup (kin_keying s.startup payload from s.moment (free_from s draws.word) draws.nonce)))
       (keyed_made t s.startup from s.moment (free_from s draws.word) draws.nonce (initiator_keying_in payload))
 
   opened_made : (s : State) (near : ℕ) (from : AddressParts) (o : Option AttemptState) (r : Result ResponderKeying Cause) → P s (opening_done s near from (opened_reading near o r))
   opened_made s near from (Some e) (Ok keying) =
       let fact : Fact = opened_with near keying e in
       let t : State = with_opened (with_startup s (after_opening s.startup near fact)) fact from in
-      b.and_then s (record { state = t; entries = FactEntry fact ∷ [] }) (sent_in_session t near from (chunk_bytes (Ping []))) (b.opens s (after_opening s.startup near fact) _ from (record { own = refl; secret = refl }))
+      b.steps.and_then s (record { state = t; entries = FactEntry fact ∷ [] }) (sent_in_session t near from (chunk_bytes (Ping []))) (b.opens s (after_opening s.startup near fact) _ from (record { own = refl; secret = refl }))
       (b.quiet t _ (in_session_made q.sends t near from (chunk_bytes (Ping [])) q.empty_ping))
-  opened_made s near from (Some e) (Err cause) = nothing_made s
-  opened_made s near from None r = nothing_made s
+  opened_made s near from (Some e) (Err cause) = b.steps.does_nothing s
+  opened_made s near from None r = b.steps.does_nothing s
 
   pub responder_made : (s : State) (near : ℕ) (from : AddressParts) (payload : List ℕ) → P s (responder_keyed s near from payload)
   responder_made s near from payload = opened_made s near from (get s.startup.attempts near) (responder_keying_in payload)
@@ -541,37 +481,37 @@ module _ {Body : List ℕ → Type 0} {Q P : State → Did → Type 0} (a : All 
       chunk_by a (P s) place from draws walk s c small (b.quiet s) (λ kind taken none. initiator_made a.timed.quiet b s from draws c.payload) (λ taken. responder_made a.timed.quiet b s (sid_at place) from c.payload)
 
   pub chunks_made : (place : Place) (from : AddressParts) (draws : Draws) (walk : Walk) (s : State) (cs : List Placed) → AreSmall walk.cursor → P s (chunks_did place from draws walk s cs)
-  chunks_made place from draws walk s [] small = nothing_made a.timed.quiet b s
+  chunks_made place from draws walk s [] small = b.steps.does_nothing s
   chunks_made place from draws walk s (c ∷ cs) small =
       let d : Did = chunk_did place from draws walk s c in
-      b.and_then s d _ (chunk_made place from draws walk s c small) (chunks_made place from draws (walked walk c) d.state cs (small_next walk.cursor c.kind c.payload small))
+      b.steps.and_then s d _ (chunk_made place from draws walk s c small) (chunks_made place from draws (walked walk c) d.state cs (small_next walk.cursor c.kind c.payload small))
 
   acked_after_made : (from : AddressParts) (draws : Draws) (s : State) (place : Place) (cs : List Placed) (count : ℕ) → P s (gone_through_and_acked from draws s place cs count)
   acked_after_made from draws s place cs count =
       let first : Did = confirming s place in
       let went : Did = gone_through from draws s place cs in
-      b.and_then s went (acked count went.state place) (b.and_then s first _ (b.quiet s first (confirming_made a.timed.quiet s place)) (chunks_made place from draws outset first.state cs tt))
+      b.steps.and_then s went (acked count went.state place) (b.steps.and_then s first _ (b.quiet s first (confirming_made a.timed.quiet s place)) (chunks_made place from draws outset first.state cs tt))
       (b.quiet went.state _ (acked_made a.timed count went.state place))
 
   -- ---- a datagram, and a call
 
   module _ (e : Enters P) where
     counted_made : (s : State) (place : Place) (part : List ℕ) → P s (nothing (counted_at s place part))
-    counted_made s Startup part = nothing_made a.timed.quiet b s
-    counted_made s (Attempt near) part = nothing_made a.timed.quiet b s
+    counted_made s Startup part = b.steps.does_nothing s
+    counted_made s (Attempt near) part = b.steps.does_nothing s
     counted_made s (Session near) part = by (get s.sessions near) refl
       where
         by : (o : Option Row) → get s.sessions near ≡ o → P s (nothing (counted_by s near part o))
-        by None is = nothing_made a.timed.quiet b s
+        by None is = b.steps.does_nothing s
         by (Some row) is = e.counts s near row _ is
 
     timed_made : (s : State) (place : Place) (head : PacketHead) → P s (nothing (timed_at s place head))
-    timed_made s Startup head = nothing_made a.timed.quiet b s
-    timed_made s (Attempt near) head = nothing_made a.timed.quiet b s
+    timed_made s Startup head = b.steps.does_nothing s
+    timed_made s (Attempt near) head = b.steps.does_nothing s
     timed_made s (Session near) head = by (get s.sessions near) refl
       where
         by : (o : Option Row) → get s.sessions near ≡ o → P s (nothing (timed_by s near head o))
-        by None is = nothing_made a.timed.quiet b s
+        by None is = b.steps.does_nothing s
         by (Some row) is = e.counts s near row _ is
 
     -- what an admission leaves
@@ -583,56 +523,56 @@ module _ {Body : List ℕ → Type 0} {Q P : State → Did → Type 0} (a : All 
     admission_made s datagram = by (opened_datagram s datagram)
       where
         packed : (t : State) (place : Place) (r : Result Whole PacketFault) → P t (nothing (left_by (admitted_packet t place r)))
-        packed t place (Err fault) = nothing_made a.timed.quiet b t
+        packed t place (Err fault) = b.steps.does_nothing t
         packed t place (Ok packet) = moded (has_mode packet.head (mode_at t place))
           where
             moded : (m : Bool) → P t (nothing (left_by (if m then Admitted (timed_at t place packet.head) place packet else Rejected t WrongPlace)))
             moded true = timed_made t place packet.head
-            moded false = nothing_made a.timed.quiet b t
+            moded false = b.steps.does_nothing t
 
         by : (r : Result (Place × List ℕ) Cause) → P s (nothing (left_by (admitted s datagram r)))
-        by (Err cause) = nothing_made a.timed.quiet b s
+        by (Err cause) = b.steps.does_nothing s
         by (Ok found) =
             let t : State = counted_at s found.0 (drop 4 datagram) in
-            b.and_then s (nothing t) (nothing (left_by (admitted_packet t found.0 (packet_in found.1)))) (counted_made s found.0 (drop 4 datagram)) (packed t found.0 (packet_in found.1))
+            b.steps.and_then s (nothing t) (nothing (left_by (admitted_packet t found.0 (packet_in found.1)))) (counted_made s found.0 (drop 4 datagram)) (packed t found.0 (packet_in found.1))
 
     received_made : (s : State) (from : AddressParts) (draws : Draws) (d : Admission) → P s (nothing (left_by d)) → P s (received from draws d)
-    received_made s from draws (Rejected t cause) entered = b.and_then s (nothing t) _ entered (b.quiet t _ (a.timed.quiet.discards t 0 cause))
+    received_made s from draws (Rejected t cause) entered = b.steps.and_then s (nothing t) _ entered (b.quiet t _ (a.timed.quiet.discards t 0 cause))
     received_made s from draws (Admitted t place packet) entered =
         let went : Did = gone_through_and_acked from draws t place (chunks_of packet) most_acks in
-        b.and_then s (nothing t) (received from draws (Admitted t place packet)) entered
-        (b.and_then t went (tested_at went.state place from draws) (acked_after_made from draws t place (chunks_of packet) most_acks)
+        b.steps.and_then s (nothing t) (received from draws (Admitted t place packet)) entered
+        (b.steps.and_then t went (tested_at went.state place from draws) (acked_after_made from draws t place (chunks_of packet) most_acks)
         (b.quiet went.state _ (tested_made a.timed.quiet went.state place from draws (a.bodies (chunk_bytes (Ping draws.token))))))
 
     part_made : (s : State) (from : AddressParts) (draws : Draws) (d : Admission) (count acks : ℕ) → P s (nothing (left_by d)) → P s (part_received from draws d count acks)
     part_made s from draws (Rejected t cause) count acks entered = entered
     part_made s from draws (Admitted t place packet) count acks entered =
         let went : Did = gone_through_and_acked from draws t place (take count (chunks_of packet)) acks in
-        b.and_then s (nothing t) (part_received from draws (Admitted t place packet) count acks) entered
-        (b.and_then t went (nothing (unowed went.state place)) (acked_after_made from draws t place (take count (chunks_of packet)) acks) (b.quiet went.state _ (unowed_made a.timed went.state place)))
+        b.steps.and_then s (nothing t) (part_received from draws (Admitted t place packet) count acks) entered
+        (b.steps.and_then t went (nothing (unowed went.state place)) (acked_after_made from draws t place (take count (chunks_of packet)) acks) (b.quiet went.state _ (unowed_made a.timed went.state place)))
 
     stopped_made : (s : State) (from : AddressParts) (draws : Draws) (d : Admission) (stop : Stop) (acks : ℕ) → P s (nothing (left_by d)) → P s (stopped s from draws d stop acks)
     stopped_made s from draws d stop acks entered = by stop.taken
       where
         by : (t : Bool) → P s (if t then part_received from draws d stop.chunks acks else nothing s)
         by true = part_made s from draws d stop.chunks acks entered
-        by false = nothing_made a.timed.quiet b s
+        by false = b.steps.does_nothing s
 
     answer_is : (s t : State) (entries : List Entry) (d : Did) → P s d → Does d t [] entries → WasMade P s t entries
     answer_is s t entries d made does = record { did = d; made = made; does = does }
 
     pub answers_made : (s t : State) (call : Call) (answer : CallAnswer) (entries : List Entry) → Answers s call answer entries t → WasMade P s t entries
     answers_made s t (Open peer candidates draws) (Began n) entries h = answer_is s t entries _ (opening_made a.timed.quiet b s peer candidates draws) h.2
-    answers_made s t (Open peer candidates draws) (NotOpened refusal) entries h = answer_is s t entries _ (nothing_made a.timed.quiet b s) h.1
+    answers_made s t (Open peer candidates draws) (NotOpened refusal) entries h = answer_is s t entries _ (b.steps.does_nothing s) h.1
     answers_made s t (Cancel n) Done entries h = answer_is s t entries _ (b.quiet s _ (cancelling_made a.timed.quiet s n)) h.1
-    answers_made s t (Cancel n) (Refused refusal) entries h = answer_is s t entries _ (nothing_made a.timed.quiet b s) h.2
+    answers_made s t (Cancel n) (Refused refusal) entries h = answer_is s t entries _ (b.steps.does_nothing s) h.2
     answers_made s t (Close near) Done entries h = answer_is s t entries _ (b.quiet s _ (closing_made a.timed.quiet s near)) h.1
-    answers_made s t (Close near) (Refused refusal) entries h = answer_is s t entries _ (nothing_made a.timed.quiet b s) h.2
+    answers_made s t (Close near) (Refused refusal) entries h = answer_is s t entries _ (b.steps.does_nothing s) h.2
     answers_made s t (AddRow print addresses) Done entries h = answer_is s t entries _ (e.unseen s s.introduces (insert s.redirects print addresses)) h.1
-    answers_made s t (AddRow print addresses) (NotAdded refusal) entries h = answer_is s t entries _ (nothing_made a.timed.quiet b s) h.1
+    answers_made s t (AddRow print addresses) (NotAdded refusal) entries h = answer_is s t entries _ (b.steps.does_nothing s) h.1
     answers_made s t Introduce Done entries h = answer_is s t entries _ (e.unseen s true s.redirects) h
     answers_made s t (OnFlows near call) Done entries h = answer_is s t entries _ (b.quiet s _ (called_made a s near call h.0)) h.1
-    answers_made s t (OnFlows near call) (Refused refusal) entries h = answer_is s t entries _ (nothing_made a.timed.quiet b s) h.1
+    answers_made s t (OnFlows near call) (Refused refusal) entries h = answer_is s t entries _ (b.steps.does_nothing s) h.1
     answers_made s t (Receive from datagram draws) Done entries h = answer_is s t entries _ (received_made s from draws (admission s datagram) (admission_made s datagram)) h
     answers_made s t (Receive from datagram draws) (Stopped stop) entries h = answer_is s t entries _ (stopped_made s from draws (admission s datagram) stop h.acks (admission_made s datagram)) h.left
     answers_made s t (Tick draws) Done entries h = answer_is s t entries _ (b.quiet s _ (tick_all_made a.timed h.0.0 s)) h.0.1

@@ -1,7 +1,7 @@
 -- What every thing that an end does keeps and adds. A thing after an orderly one is orderly, so the chunks of a datagram and the things of a tick are gone through once, for all that is said of them.
-use Rattle.std.proofs.Common.{◌≡◌, ℕ, zero, suc, ◌==◌, List, [], ◌∷◌, ◌++◌, take, drop, Bool, true, false, ◌||◌, if◌then◌else◌, Option, Some, None, inl, inr, ◌⊎◌, refl, sym, ap, subst, ◌∙◌, append_assoc}
+use Rattle.std.proofs.Common.{◌≡◌, ℕ, ◌==◌, List, [], ◌∷◌, ◌++◌, take, drop, Bool, true, false, ◌||◌, if◌then◌else◌, Some, inl, inr, ◌⊎◌, refl, sym, ap, subst, ◌∙◌, append_assoc}
 use Rattle.std.proofs.lemmas.List.{take-append-drop, append-nil}
-use Rattle.std.specs.FinMap.{get, keys}
+use Rattle.std.specs.FinMap.{get}
 use Rattle.rtmfp_forms.specs.Address.{AddressParts}
 use Rattle.rtmfp_packet.specs.Walk.{Placed}
 use Rattle.rtmfp_packet.specs.Whole.{Whole}
@@ -10,21 +10,16 @@ use Rattle.endpoint_model.specs.declared.config.Draws.{Draws}
 use Rattle.endpoint_model.specs.declared.place.Place.{Place}
 use Rattle.endpoint_model.specs.declared.place.Place.TheVariants.{Startup, Attempt, Session}
 use Rattle.endpoint_model.specs.declared.row.Row.{Row}
-use Rattle.endpoint_model.specs.declared.row_due.RowDue.{RowDue}
-use Rattle.rtmfp_base.proofs.Lowest.{first_is_there}
 use Rattle.startup.specs.declared.cause.Cause.{Cause}
-use Rattle.startup.specs.State.{StartupState}
-use Rattle.startup.specs.Attempts.{lowest}
-use Rattle.startup.specs.Due.{is_due, after_due_of}
 use Rattle.endpoint_model.specs.declared.answers.Stopped.{Stopped as Stop}
 use Rattle.endpoint_model.specs.Event.{Setup, Call, Receive}
 use Rattle.endpoint_model.specs.Keying.{IsAmong, IsFirst, chunks_of}
 use Rattle.endpoint_model.specs.State.{State, Did, nothing, then_do}
 use Rattle.endpoint_model.specs.Admission.{Admission, Rejected, Admitted, confirming}
-use Rattle.endpoint_model.specs.Effects.{first_due, session_item, tick_once, ticks, discarded, chunk_did, walked, chunks_did, gone_through, most_acks, gone_through_and_acked, received, part_received, outset, row_item}
+use Rattle.endpoint_model.specs.Effects.{tick_once, ticks, discarded, chunk_did, walked, chunks_did, gone_through, most_acks, gone_through_and_acked, received, part_received, outset}
 use Rattle.endpoint_model.specs.InSessions.{tested as tested_at}
-use Rattle.endpoint_model.specs.FlowChunks.{acked_by, owes_by, acked_if, acked_in, acked, unowed_by, unowed}
-use Rattle.endpoint_model.specs.FlowTimes.{late_marked, late_at, late_each, all_late, row_due, is_row_due, due_row}
+use Rattle.endpoint_model.specs.FlowChunks.{acked_by, owes_by, acked, unowed_by, unowed}
+use Rattle.endpoint_model.specs.FlowTimes.{late_marked, late_at, all_late}
 use Rattle.endpoint_model.specs.Log.{stopped}
 use Rattle.endpoint_model.proofs.Members.{tested}
 use Rattle.rtmfp_data_chunks.specs.Fitting.{AreSmall}
@@ -36,16 +31,17 @@ use Rattle.endpoint_laws.proofs.Lines.{FactPart, EntriesMeet}
 use Rattle.endpoint_laws.proofs.Tied.{Tied}
 use Rattle.endpoint_laws.proofs.Going.{Goes, goes_nothing, goes_then, goes_discarded}
 use Rattle.endpoint_laws.proofs.OutSends.{Sent, Meets, meets_nothing, meets_then}
-use Rattle.endpoint_laws.proofs.OutItems.{meets_item, meets_confirming, meets_discarded}
+use Rattle.endpoint_laws.proofs.OutItems.{meets_end, meets_repeat, meets_confirming, meets_discarded}
 use Rattle.endpoint_laws.proofs.OutSessions.{meets_tested}
 use Rattle.endpoint_laws.proofs.Replies.{SameCounts}
-use Rattle.endpoint_laws.proofs.Ending.{item_left, item_is, tick_by}
+use Rattle.endpoint_laws.proofs.Walks.{Steps, tick_walked, acked_walked, unowed_walked, tick_all_walked}
+use Rattle.endpoint_laws.proofs.Ending.{tick_end, tick_repeat}
 use Rattle.endpoint_laws.proofs.SessionChunks.{goes_tested}
-use Rattle.endpoint_laws.proofs.Hearing.{HeardWell, Heard, heard_then, heard_from, heard_follows}
+use Rattle.endpoint_laws.proofs.Hearing.{follows_nothing, HeardWell, Heard, heard_then, heard_from, heard_follows}
 use Rattle.endpoint_laws.proofs.FlowChunks.{goes_acked_by, meets_acked_by, goes_unowed_by, meets_unowed_by}
 use Rattle.endpoint_laws.proofs.OnFlows.{goes_unseen, meets_unseen}
 use Rattle.endpoint_laws.proofs.FlowTimes.{late_like, goes_row_due, meets_row_due}
-use Rattle.endpoint_laws.proofs.Made.{confirming_made, tested_made, acked_by_made, unowed_by_made, late_made, tick_made, chunk_made}
+use Rattle.endpoint_laws.proofs.Made.{confirming_made, tested_made, tick_made, chunk_made}
 use Rattle.endpoint_laws.proofs.Following.{follows_quiet, follows_law}
 use Rattle.endpoint_laws.proofs.HeardChunks.{heard_begins}
 use Rattle.endpoint_laws.proofs.Passing.{PassedAt}
@@ -63,7 +59,7 @@ pub record Orderly (setup : Setup) (call : Call) (past : List Stamped) (s : Stat
   pub heard : Heard past s d
 
 pub orderly_nothing : (setup : Setup) (call : Call) (past : List Stamped) (s : State) → Tied setup past s → Sent setup past s → HeardWell past s → Orderly setup call past s (nothing s)
-orderly_nothing setup call past s tied sent well = record { goes = goes_nothing setup call s past tied; meets = meets_nothing setup s.moment call past s sent; heard = heard_follows s (nothing s) (follows_quiet.sends.does_nothing s) past well }
+orderly_nothing setup call past s tied sent well = record { goes = goes_nothing setup call s past tied; meets = meets_nothing setup s.moment call past s sent; heard = heard_follows s (nothing s) (follows_nothing s) past well }
 
 orderly_then : (setup : Setup) (call : Call) (past : List Stamped) (s : State) (d : Did) (next : State → Did) → Orderly setup call past s d →
     Orderly setup call (onto s.moment d.entries past) d.state (next d.state) → Orderly setup call past s (then_do d next)
@@ -87,74 +83,51 @@ orderly_from setup call past s t d same orderly =
       heard = heard_from past s t d same.moment orderly.heard;
     }
 
+-- whatever was done before
+abbrev KeepsOrderly : Setup → Call → State → Did → Type 0
+KeepsOrderly setup call s d = (past : List Stamped) → Tied setup past s → Sent setup past s → HeardWell past s → Orderly setup call past s d
+
+orderly_steps : (setup : Setup) (call : Call) → Steps (KeepsOrderly setup call)
+orderly_steps setup call = record {
+  does_nothing = λ s past tied sent well. orderly_nothing setup call past s tied sent well;
+  and_then = λ s d e first later past tied sent well.
+      let one = first past tied sent well in
+      orderly_then setup call past s d (λ t. e) one (later (onto s.moment d.entries past) one.goes.tied one.meets.sent one.heard.well);
+}
+
 -- ---- the things of a tick
 
-module _ (setup : Setup) (call : Call) (is : IsSetup setup) (is_tick : IsTick call) (past : List Stamped) (s : State) (tied : Tied setup past s) (sent : Sent setup past s) (well : HeardWell past s) where
-  -- what is due of a session
-  row_item_goes : (left : StartupState) (near : ℕ) (row : Row) → get s.sessions near ≡ Some row → (o : Option RowDue) → row_due s.moment row ≡ o → Goes setup call past s (item_left s left (row_item near row o))
-  row_item_goes left near row there None e = goes_nothing setup call s past tied
-  row_item_goes left near row there (Some due) e = goes_row_due setup call is_tick past s tied near row there (well near row there) due e
+tick_orderly : (setup : Setup) (call : Call) → IsSetup setup → IsTick call → (s : State) → KeepsOrderly setup call s (tick_once s)
+tick_orderly setup call is is_tick s past tied sent well = record {
+  goes = tick_walked (λ d. Goes setup call past s d) s (record {
+    none = goes_nothing setup call s past tied;
+    ends = λ e there over. tick_end setup call is_tick s e there over past tied;
+    repeats = λ e there. tick_repeat setup call is_tick s e there past tied;
+    row = λ near row due there due_is. goes_row_due setup call is_tick past s tied near row there (well near row there) due due_is;
+  });
+  meets = tick_walked (λ d. Meets setup s.moment call past d) s (record {
+    none = meets_nothing setup s.moment call past s sent;
+    ends = λ e there over. meets_end setup past s sent tied s.moment call is.cert.short_named e;
+    repeats = λ e there. meets_repeat setup past s sent tied s.moment call is.cert.short_named e there;
+    row = λ near row due there due_is. meets_row_due setup call is_tick past s tied near row there (well near row there) sent due;
+  });
+  heard = heard_follows s (tick_once s) (tick_made follows_law.timed s) past well;
+}
 
-  row_item_meets : (left : StartupState) (near : ℕ) (row : Row) → get s.sessions near ≡ Some row → (o : Option RowDue) → Meets setup s.moment call past (item_left s left (row_item near row o))
-  row_item_meets left near row there None = meets_nothing setup s.moment call past s sent
-  row_item_meets left near row there (Some due) = meets_row_due setup call is_tick past s tied near row there (well near row there) sent due
-
-  row_goes : (left : StartupState) (o : Option (ℕ × Row)) → due_row s ≡ o → Goes setup call past s (item_left s left (session_item s.moment o))
-  row_goes left None e = goes_nothing setup call s past tied
-  row_goes left (Some x) e =
-      let there = (first_is_there (is_row_due s.moment) s.sessions x e).0 in
-      row_item_goes left x.0 x.1 there (row_due s.moment x.1) refl
-
-  row_meets : (left : StartupState) (o : Option (ℕ × Row)) → due_row s ≡ o → Meets setup s.moment call past (item_left s left (session_item s.moment o))
-  row_meets left None e = meets_nothing setup s.moment call past s sent
-  row_meets left (Some x) e =
-      let there = (first_is_there (is_row_due s.moment) s.sessions x e).0 in
-      row_item_meets left x.0 x.1 there (row_due s.moment x.1)
-
-  -- the first thing that is due
-  tick_orderly : Orderly setup call past s (tick_once s)
-  tick_orderly =
-      let left : StartupState = after_due_of s.startup s.moment None in
-      record {
-        goes = subst (λ d. Goes setup call past s d) (item_is s (first_due s)) (tick_by setup call is_tick s past tied (lowest (is_due s.moment) s.startup.attempts) refl (row_goes left (due_row s) refl));
-        meets = subst (λ d. Meets setup s.moment call past d) (item_is s (first_due s))
-            (meets_item setup past s sent tied s.moment call is.cert.short_named (lowest (is_due s.moment) s.startup.attempts) refl (row_meets left (due_row s) refl));
-        heard = heard_follows s (tick_once s) (tick_made follows_law.timed s) past well;
-      }
-
-ticks_orderly : (setup : Setup) (call : Call) → IsSetup setup → IsTick call → (count : ℕ) (past : List Stamped) (s : State) → Tied setup past s → Sent setup past s → HeardWell past s → Orderly setup call past s (ticks count s)
-ticks_orderly setup call is is_tick zero past s tied sent well = orderly_nothing setup call past s tied sent well
-ticks_orderly setup call is is_tick (suc count) past s tied sent well =
-    let d : Did = tick_once s in
-    let one : Orderly setup call past s d = tick_orderly setup call is is_tick past s tied sent well in
-    orderly_then setup call past s d (ticks count) one (ticks_orderly setup call is is_tick count (onto s.moment d.entries past) d.state one.goes.tied one.meets.sent one.heard.well)
-
--- ---- numbers that are lost by time
-
-module _ (setup : Setup) (call : Call) where
-  late_orderly : (past : List Stamped) (s : State) → Tied setup past s → Sent setup past s → HeardWell past s → (near : ℕ) (o : Option Row) → get s.sessions near ≡ o → Orderly setup call past s (nothing (late_at s near o))
-  late_orderly past s tied sent well near None is = orderly_nothing setup call past s tied sent well
-  late_orderly past s tied sent well near (Some row) is =
-      let new : Row = late_marked s.moment row in
-      let like = late_like s.moment row in
-      record {
-        goes = goes_unseen s near row new is like [] tt setup call past tied;
-        meets = meets_unseen s near row new is like [] tt setup call past sent;
-        heard = heard_follows s (nothing (late_at s near (Some row))) (late_made follows_law.timed s near (Some row) is) past well;
-      }
-
-  each_orderly : (ids : List ℕ) (past : List Stamped) (s : State) → Tied setup past s → Sent setup past s → HeardWell past s → Orderly setup call past s (nothing (late_each ids s))
-  each_orderly [] past s tied sent well = orderly_nothing setup call past s tied sent well
-  each_orderly (near ∷ rest) past s tied sent well =
-      let d : Did = nothing (late_at s near (get s.sessions near)) in
-      let one : Orderly setup call past s d = late_orderly past s tied sent well near (get s.sessions near) refl in
-      orderly_then setup call past s d (λ t. nothing (late_each rest t)) one (each_orderly rest past d.state one.goes.tied one.meets.sent one.heard.well)
+-- numbers that are lost by time
+late_orderly : (setup : Setup) (call : Call) (s : State) (near : ℕ) (row : Row) → get s.sessions near ≡ Some row → KeepsOrderly setup call s (nothing (late_at s near (Some row)))
+late_orderly setup call s near row is past tied sent well =
+    let new : Row = late_marked s.moment row in
+    let like = late_like s.moment row in
+    record {
+      goes = goes_unseen s near row new is like [] tt setup call past tied;
+      meets = meets_unseen s near row new is like [] tt setup call past sent;
+      heard = heard_follows s (nothing (late_at s near (Some row))) (follows_law.timed.loses s near row is) past well;
+    }
 
 -- they are marked, and then come the things of the tick
-pub tick_all_orderly : (setup : Setup) (call : Call) → IsSetup setup → IsTick call → (count : ℕ) (past : List Stamped) (s : State) → Tied setup past s → Sent setup past s → HeardWell past s → Orderly setup call past s (ticks count (all_late s))
-tick_all_orderly setup call is is_tick count past s tied sent well =
-    let one : Orderly setup call past s (nothing (all_late s)) = each_orderly setup call (keys s.sessions) past s tied sent well in
-    orderly_then setup call past s (nothing (all_late s)) (ticks count) one (ticks_orderly setup call is is_tick count past (all_late s) one.goes.tied one.meets.sent one.heard.well)
+pub tick_all_orderly : (setup : Setup) (call : Call) → IsSetup setup → IsTick call → (count : ℕ) (s : State) → KeepsOrderly setup call s (ticks count (all_late s))
+tick_all_orderly setup call is is_tick = tick_all_walked (orderly_steps setup call) (late_orderly setup call) (tick_orderly setup call is is_tick)
 
 -- ---- the chunks of a datagram
 
@@ -231,43 +204,26 @@ module _ (setup : Setup) (is : IsSetup setup) (from : AddressParts) (datagram : 
 -- ---- the acks after them
 
 module _ (setup : Setup) (call : Call) where
-  one_acked_orderly : (near : ℕ) (past : List Stamped) (s : State) → Tied setup past s → Sent setup past s → HeardWell past s → (o : Option Row) → get s.sessions near ≡ o → owes_by o ≡ true → Orderly setup call past s (acked_by s near o)
-  one_acked_orderly near past s tied sent well o is owed = record {
-    goes = goes_acked_by s near setup call past tied o is;
-    meets = meets_acked_by s near setup call past tied sent o is;
-    heard = heard_follows s (acked_by s near o) (acked_by_made follows_law.timed s near o is owed) past well;
+  one_acked_orderly : (s : State) (near : ℕ) (row : Row) → get s.sessions near ≡ Some row → owes_by (Some row) ≡ true → KeepsOrderly setup call s (acked_by s near (Some row))
+  one_acked_orderly s near row is owed past tied sent well = record {
+    goes = goes_acked_by s near setup call past tied (Some row) is;
+    meets = meets_acked_by s near setup call past tied sent (Some row) is;
+    heard = heard_follows s (acked_by s near (Some row)) (follows_law.timed.acks s near row is owed) past well;
   }
 
-  if_acked_orderly : (near : ℕ) (past : List Stamped) (s : State) → Tied setup past s → Sent setup past s → HeardWell past s → (b : Bool) → owes_by (get s.sessions near) ≡ b → (next : State → Did) →
-      ((more : List Stamped) (t : State) → Tied setup more t → Sent setup more t → HeardWell more t → Orderly setup call more t (next t)) → Orderly setup call past s (acked_if s near b next)
-  if_acked_orderly near past s tied sent well false is next later = orderly_nothing setup call past s tied sent well
-  if_acked_orderly near past s tied sent well true is next later =
-      let d : Did = acked_by s near (get s.sessions near) in
-      let one : Orderly setup call past s d = one_acked_orderly near past s tied sent well (get s.sessions near) refl is in
-      orderly_then setup call past s d next one (later (onto s.moment d.entries past) d.state one.goes.tied one.meets.sent one.heard.well)
-
-  acked_in_orderly : (near count : ℕ) (past : List Stamped) (s : State) → Tied setup past s → Sent setup past s → HeardWell past s → Orderly setup call past s (acked_in count s near)
-  acked_in_orderly near zero past s tied sent well = orderly_nothing setup call past s tied sent well
-  acked_in_orderly near (suc count) past s tied sent well =
-      if_acked_orderly near past s tied sent well (owes_by (get s.sessions near)) refl (λ t. acked_in count t near) (λ more t tied sent well. acked_in_orderly near count more t tied sent well)
-
-  acked_orderly : (count : ℕ) (place : Place) (past : List Stamped) (s : State) → Tied setup past s → Sent setup past s → HeardWell past s → Orderly setup call past s (acked count s place)
-  acked_orderly count Startup past s tied sent well = orderly_nothing setup call past s tied sent well
-  acked_orderly count (Attempt near) past s tied sent well = orderly_nothing setup call past s tied sent well
-  acked_orderly count (Session near) past s tied sent well = acked_in_orderly near count past s tied sent well
+  acked_orderly : (count : ℕ) (s : State) (place : Place) → KeepsOrderly setup call s (acked count s place)
+  acked_orderly = acked_walked (orderly_steps setup call) one_acked_orderly
 
   -- and those that aren't sent any more
-  unowed_by_orderly : (near : ℕ) (past : List Stamped) (s : State) → Tied setup past s → Sent setup past s → HeardWell past s → (o : Option Row) → get s.sessions near ≡ o → Orderly setup call past s (nothing (unowed_by s near o))
-  unowed_by_orderly near past s tied sent well o is = record {
-    goes = goes_unowed_by s near setup call past tied o is;
-    meets = meets_unowed_by s near setup call past tied sent o is;
-    heard = heard_follows s (nothing (unowed_by s near o)) (unowed_by_made follows_law.timed s near o is) past well;
+  one_unowed_orderly : (s : State) (near : ℕ) (row : Row) → get s.sessions near ≡ Some row → KeepsOrderly setup call s (nothing (unowed_by s near (Some row)))
+  one_unowed_orderly s near row is past tied sent well = record {
+    goes = goes_unowed_by s near setup call past tied (Some row) is;
+    meets = meets_unowed_by s near setup call past tied sent (Some row) is;
+    heard = heard_follows s (nothing (unowed_by s near (Some row))) (follows_law.timed.owes_none s near row is) past well;
   }
 
-  unowed_orderly : (place : Place) (past : List Stamped) (s : State) → Tied setup past s → Sent setup past s → HeardWell past s → Orderly setup call past s (nothing (unowed s place))
-  unowed_orderly Startup past s tied sent well = orderly_nothing setup call past s tied sent well
-  unowed_orderly (Attempt near) past s tied sent well = orderly_nothing setup call past s tied sent well
-  unowed_orderly (Session near) past s tied sent well = unowed_by_orderly near past s tied sent well (get s.sessions near) refl
+  unowed_orderly : (s : State) (place : Place) → KeepsOrderly setup call s (nothing (unowed s place))
+  unowed_orderly = unowed_walked (orderly_steps setup call) one_unowed_orderly
 
 -- ---- a datagram
 
@@ -300,7 +256,7 @@ module _ (setup : Setup) (is : IsSetup setup) (from : AddressParts) (datagram : 
   acked_after_orderly t place packet cs rest count whole taken well passed =
       let d : Did = gone_through from draws t place cs in
       let one : Orderly setup this past t d = first_orderly t place packet cs rest whole taken well passed in
-      orderly_then setup this past t d (λ u. acked count u place) one (acked_orderly setup this count place (onto t.moment d.entries past) d.state one.goes.tied one.meets.sent one.heard.well)
+      orderly_then setup this past t d (λ u. acked count u place) one (acked_orderly setup this count d.state place (onto t.moment d.entries past) one.goes.tied one.meets.sent one.heard.well)
 
   -- and then the test of its address
   whole_orderly : (t : State) (place : Place) (packet : Whole) → IsTaken setup past s datagram t place packet → HeardWell past t → PassedAt past place datagram packet t →
@@ -321,7 +277,7 @@ module _ (setup : Setup) (is : IsSetup setup) (from : AddressParts) (datagram : 
   given_up_orderly t place packet cs rest count whole taken well passed =
       let d : Did = gone_through_and_acked from draws t place cs count in
       let one : Orderly setup this past t d = acked_after_orderly t place packet cs rest count whole taken well passed in
-      orderly_then setup this past t d (λ u. nothing (unowed u place)) one (unowed_orderly setup this place (onto t.moment d.entries past) d.state one.goes.tied one.meets.sent one.heard.well)
+      orderly_then setup this past t d (λ u. nothing (unowed u place)) one (unowed_orderly setup this d.state place (onto t.moment d.entries past) one.goes.tied one.meets.sent one.heard.well)
 
   rejected_orderly : (t : State) (cause : Cause) → IsRejected setup past s t → HeardWell past t → Orderly setup this past t (discarded t 0 cause)
   rejected_orderly t cause so well = record { goes = goes_discarded setup this t 0 cause past so.tied; meets = meets_discarded setup t.moment this past t 0 cause so.sent; heard = heard_follows t (discarded t 0 cause) (follows_quiet.discards t 0 cause) past well }

@@ -1,7 +1,6 @@
 -- What calls do but for the chunks of datagrams: each datagram that goes out meets its line.
 use Rattle.std.proofs.Common.{◌≡◌, ◌==◌, ℕ, ◌+◌, ◌^◌, ◌<◌, ◌≤◌, List, [], ◌∷◌, length, Option, Some, None, inl, inr, refl, sym, ap, subst, ◌∙◌, Bool, true, false, if◌then◌else◌, arith}
 use Rattle.std.specs.FinMap.{get, insert, remove}
-use Rattle.rtmfp_base.proofs.Lowest.{first_is_there}
 use Rattle.rtmfp_base.proofs.Maps.{found_inserted, found_left}
 use Rattle.rtmfp_forms.specs.Address.{AddressParts}
 use Rattle.glare_core.specs.declared.facts.Fact.{Fact}
@@ -10,7 +9,7 @@ use Rattle.glare_core.specs.declared.facts.Held.{Held}
 use Rattle.glare_core.specs.declared.facts.Held.TheVariants.{Opening as OpeningHeld, HalfOpen, KeptAsResponder, KeptAsInitiator}
 use Rattle.glare_core.specs.Standing.{held}
 use Rattle.glare_core.specs.Ledger.{held_with}
-use Rattle.glare_core.specs.Calls.{first_that_stands, confirmed_fact, started_fact}
+use Rattle.glare_core.specs.Calls.{confirmed_fact, started_fact}
 use Rattle.glare_core.proofs.Accounts.{reads_held}
 use Rattle.startup.specs.declared.answer.Answer.{Answer}
 use Rattle.startup.specs.declared.answer.Due.TheVariants.{Ended as EndDue}
@@ -21,7 +20,7 @@ use Rattle.startup.specs.Packets.{ihello_packet}
 use Rattle.startup.specs.State.{AttemptState, Attempts, StartupState}
 use Rattle.startup.specs.Attempts.{lowest, has_number, with_attempt, without_attempt, ended_attempt, end_of, after_end_of, keying_answer, begun_attempt, distinct_candidates, confirm_fact, after_confirm}
 use Rattle.crypto_profile.specs.Keys.{sign_key_of}
-use Rattle.startup.specs.Due.{repeat_signed, is_due, is_over, repeated, repeat_of, due_of, after_due_of}
+use Rattle.startup.specs.Due.{repeat_signed, repeated, repeat_of}
 use Rattle.session_core.specs.Session.{is_opening, confirmed}
 use Rattle.endpoint_model.specs.declared.row.Row.{Row}
 use Rattle.endpoint_model.specs.declared.config.Draws.{Draws}
@@ -34,10 +33,8 @@ use Rattle.endpoint_laws.specs.Past.{Stamped, stamped, onto, facts_of}
 use Rattle.endpoint_model.specs.State.{State, Did, nothing, fact_entries, with_startup, with_row, with_session, with_sealed, free_from}
 use Rattle.endpoint_model.specs.Sending.{last_count, sent_startup, sent_answer, sent_each}
 use Rattle.endpoint_model.specs.Admission.{confirming, confirming_by}
-use Rattle.endpoint_model.specs.Effects.{Item, opening, cancelling, due_done, discarded, attempt_item, session_item}
-use Rattle.endpoint_model.specs.FlowTimes.{due_row}
+use Rattle.endpoint_model.specs.Effects.{opening, cancelling, due_done, discarded}
 use Rattle.endpoint_laws.proofs.Lines.{EntriesMeet, OutPart}
-use Rattle.endpoint_laws.proofs.Ending.{item_left, one_stands}
 use Rattle.endpoint_laws.proofs.Tied.{Tied}
 use Rattle.endpoint_laws.proofs.OutNumbers.{numbered_fact, numbered_quiet, numbered_changed}
 use Rattle.endpoint_laws.proofs.OutHeld.{IsSized, HasSizes, held_sized}
@@ -183,22 +180,17 @@ module _ (setup : Setup) (past : List Stamped) (s : State) (sent : Sent setup pa
         meets_answer setup now call past (with_startup s t) (sent_startup_changed setup past s t sent after) (secret ∙ tied.secret) (own ∙ tied.own) (keying_answer s.startup e.0 e.1 at cookie)
         (attempt_may e.0 e.1 at cookie there narrow short)
 
-    by_over : (b : Bool) (e : ℕ × AttemptState) → get s.startup.attempts e.0 ≡ Some e.1 →
-        Meets setup now call past (due_done (with_startup s (if b then without_attempt s.startup e.0 (ended_attempt e Expired) else with_attempt s.startup e.0 (repeated e.1 s.moment)))
-        (if b then EndDue (ended_attempt e Expired) else repeat_of s.startup e.0 e.1))
-    by_over true e there =
+    -- an attempt ends, or sends again
+    pub meets_end : (e : ℕ × AttemptState) → Meets setup now call past (due_done (with_startup s (without_attempt s.startup e.0 (ended_attempt e Expired))) (EndDue (ended_attempt e Expired)))
+    meets_end e =
         let after = sent_fact setup past s now (ended_attempt e Expired) sent tt in
         record { lines = (tt, tt); sent = record { numbered = after.numbered; sized = after.sized; short = short_left s.startup.attempts e.0 sent.short; rows = sent.rows } }
-    by_over false e there =
+
+    pub meets_repeat : (e : ℕ × AttemptState) → get s.startup.attempts e.0 ≡ Some e.1 → Meets setup now call past (due_done (with_startup s (with_attempt s.startup e.0 (repeated e.1 s.moment))) (repeat_of s.startup e.0 e.1))
+    meets_repeat e there =
         let kept : IsShort e.1 = sent.short e.0 e.1 there in
         by_stage e e.1.stage there refl (with_attempt s.startup e.0 (repeated e.1 s.moment))
         (short_put s.startup.attempts e.0 (repeated e.1 s.moment) sent.short (record { tag = kept.tag; cookie = kept.cookie })) refl refl
-
-    -- by the first attempt of which something is due; where there is none, this holds of a session's thing
-    pub meets_item : (o : Option (ℕ × AttemptState)) → lowest (is_due s.moment) s.startup.attempts ≡ o → Meets setup now call past (item_left s (after_due_of s.startup s.moment None) (session_item s.moment (due_row s))) →
-        Meets setup now call past (item_left s (after_due_of s.startup s.moment o) (first_that_stands (attempt_item (due_of s.startup s.moment o) ∷ session_item s.moment (due_row s) ∷ [])))
-    meets_item None is later = subst (λ (x : Option Item). Meets setup now call past (item_left s (after_due_of s.startup s.moment None) x)) (sym (one_stands (session_item s.moment (due_row s)))) later
-    meets_item (Some e) is later = by_over (is_over s.moment e.1) e (first_is_there (is_due s.moment) s.startup.attempts e is).0
 
 -- ---- a session is confirmed
 

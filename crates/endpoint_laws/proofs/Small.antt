@@ -25,7 +25,7 @@ use Rattle.session_flows.specs.Timing.{overdue_in, overdue_done}
 use Rattle.introducer.specs.Directory.{AddressRows}
 use Rattle.endpoint_model.specs.declared.row.Row.{Row}
 use Rattle.endpoint_model.specs.declared.entry.Entry.TheVariants.{Fact as FactEntry, Moved, Out}
-use Rattle.endpoint_model.specs.State.{State, Did, nothing, after_entries, fact_entries, with_startup, with_row, with_session, without_row, with_sealed}
+use Rattle.endpoint_model.specs.State.{State, Did, nothing, fact_entries, with_startup, with_row, with_session, without_row, with_sealed}
 use Rattle.endpoint_model.specs.Sending.{packet_head, startup_datagram, session_datagram}
 use Rattle.endpoint_model.specs.InSessions.{closed}
 use Rattle.endpoint_model.specs.FlowCall.{FlowCall, flow_refusal, flow_did}
@@ -33,6 +33,7 @@ use Rattle.endpoint_model.specs.OnFlows.{flow_entry, flows_done}
 use Rattle.endpoint_model.specs.FlowChunks.{flow_taken_by, acked_by, unowed_by}
 use Rattle.endpoint_model.specs.FlowTimes.{late_marked, late_at, data_packed, data_sent}
 use Rattle.endpoint_model.specs.Effects.{discarded, with_born, with_opened}
+use Rattle.endpoint_laws.proofs.Walks.{Steps}
 use Rattle.endpoint_laws.proofs.Kin.{IsKin}
 use Rattle.endpoint_laws.proofs.Hearing.{Descends}
 
@@ -96,8 +97,7 @@ stated s startup fact = record { state = with_startup s startup; entries = FactE
 -- the startup context and in a session. Of the bodies that go out in sessions something may be
 -- known.
 pub record Sends (Body : List ℕ → Type 0) (P : State → Did → Type 0) : Type 0 where
-  pub does_nothing : (s : State) → P s (nothing s)
-  pub and_then : (s : State) (d e : Did) → P s d → P d.state e → P s (after_entries d.entries e)
+  pub steps : Steps P
   pub attempts : (s : State) (startup : StartupState) → IsKin s.startup startup → P s (nothing (with_startup s startup))
   pub out : (s : State) (to : AddressParts) (sid : ℕ) (plain : List ℕ) →
       P s (record { state = with_sealed s (s.sealed + 1); entries = Out to (startup_datagram s sid plain) StartupContext ∷ [] })
@@ -137,7 +137,7 @@ pub record All (Body : List ℕ → Type 0) (P : State → Did → Type 0) : Typ
 -- And of attempts and sessions that begin, by a law of which the one before is a part.
 pub record Begins (Q P : State → Did → Type 0) : Type 0 where
   pub quiet : (s : State) (d : Did) → Q s d → P s d
-  pub and_then : (s : State) (d e : Did) → P s d → P d.state e → P s (after_entries d.entries e)
+  pub steps : Steps P
   pub starts : (s : State) (startup : StartupState) (peer : List ℕ) (n near : ℕ) (ni : List ℕ) → IsKin s.startup startup → P s (stated s startup (Started peer n near ni))
   pub bears : (s : State) (peer : List ℕ) (o : Option Held) (j : Joined) (from : AddressParts) → P s (birth s (way_made peer o) j from)
   pub opens : (s : State) (startup : StartupState) (j : Joined) (from : AddressParts) → IsKin s.startup startup → P s (record { state = with_opened (with_startup s startup) (Opened j) from; entries = FactEntry (Opened j) ∷ [] })
