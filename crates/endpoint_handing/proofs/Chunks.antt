@@ -155,7 +155,7 @@ module _ (e : End) (owed : FlowsHand e) (facts : List Fact) (s : State) (h : His
       responder = λ kind taken none formed. responder_made (quiet_does e) (begins_does e (may_begin e place 0x78 (λ q. refl) at taken)) s (sid_at place) from c.payload facts h stands;
       told = λ told taken has. told_made (quiet_does e) s (sid_at place) from c facts h stands;
       flows = λ is taken none new. taken_at place c.kind (data_reading walk.cursor c.kind c.payload) (λ chunk read. (what_is_read_fits walk.cursor c.kind c.payload chunk small read).0) taken is none came;
-      reads = λ none. read_made (quiet_does e).sends s place from (chunk_reading c.kind c.payload) (reply_bare s place from (chunk_reading c.kind c.payload) none) facts h stands;
+      reads = λ none. read_made (quiet_does e) s place from (chunk_reading c.kind c.payload) (reply_bare s place from (chunk_reading c.kind c.payload) none) facts h stands;
     })
 
 -- ---- one chunk after another

@@ -104,10 +104,10 @@ module _ (e : End) where
   quiet_does = record {
     sends = record {
       steps = record { does_nothing = λ s facts. does_nothing e facts s; and_then = λ s d f first later facts. does_then e facts s d (λ t. f) (first facts) (later (facts_onto d.entries facts)) };
-      attempts = λ s startup kin. does_change s (with_startup s startup) (alike_startup s startup kin);
       out = λ s to sid plain. does_one s (with_sealed s (s.sealed + 1)) _ (startup_silent to (startup_datagram s sid plain)) (record { own = refl; secret = refl; rows = had_it s.sessions });
       out_in = λ s near row to body is bare facts. does_out e facts s near to body row is bare;
     };
+    attempts = λ s startup kin. does_change s (with_startup s startup) (alike_startup s startup kin);
     close = close_none;
     close_ack = close_ack_none;
     empty_ping = ping_none [] (omega arith);

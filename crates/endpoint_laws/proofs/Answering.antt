@@ -38,7 +38,8 @@ use Rattle.endpoint_laws.proofs.Tied.{Tied}
 use Rattle.endpoint_laws.proofs.Agrees.{IsAt, found_of_attempt, used_here, used_elsewhere, agrees_changed, agrees_of, tied_of}
 use Rattle.endpoint_laws.proofs.Moving.{beside_fact, still_none, noted_matches, rows_after_known, knows_held}
 use Rattle.endpoint_laws.proofs.Facts.{stands_of}
-use Rattle.endpoint_laws.proofs.Going.{Goes, goes_then, goes_in_session}
+use Rattle.endpoint_laws.proofs.Made.{in_session_made}
+use Rattle.endpoint_laws.proofs.Going.{Goes, goes_then, goes_sends}
 use Rattle.endpoint_laws.proofs.Ending.{some_entry}
 use Rattle.endpoint_laws.proofs.Spelled.{responder_signed}
 use Rattle.endpoint_laws.proofs.Says.{responder_says}
@@ -146,4 +147,4 @@ module _ (setup : Setup) (from : AddressParts) (datagram : List ℕ) (draws : Dr
         moment = refl;
       } in
       subst (λ o. Goes setup (Receive from datagram draws) past s (opening_done s near from o)) (sym told)
-      (goes_then setup (Receive from datagram draws) past s first (λ u. sent_in_session u near from (chunk_bytes (Ping []))) one (goes_in_session setup (Receive from datagram draws) t near from (chunk_bytes (Ping [])) now opened_tied))
+      (goes_then setup (Receive from datagram draws) past s first (λ u. sent_in_session u near from (chunk_bytes (Ping []))) one (in_session_made (goes_sends setup (Receive from datagram draws)) t near from (chunk_bytes (Ping [])) tt now opened_tied))

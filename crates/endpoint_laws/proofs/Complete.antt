@@ -90,7 +90,7 @@ use Rattle.endpoint_laws.proofs.Logged.{LogIs, log_is}
 use Rattle.endpoint_laws.proofs.OutBirths.{small_free}
 use Rattle.endpoint_laws.proofs.Few.{outs_append, few_law, few_begins}
 use Rattle.endpoint_laws.proofs.Small.{Any}
-use Rattle.endpoint_laws.proofs.Made.{carries_any, read_made, chunks_made}
+use Rattle.endpoint_laws.proofs.Made.{carries_any, read_by, chunks_made}
 use Rattle.endpoint_laws.proofs.OutPackets.{one_whole, session_reads}
 use Rattle.endpoint_laws.proofs.ReadsBack.{none_all, less_is_other, IsBearing, read_as, is_bearing}
 use Rattle.endpoint_laws.proofs.AnswerCarried.{keying_answers}
@@ -145,7 +145,7 @@ module _ (from : AddressParts) (draws : Draws) where
     responder = λ kind taken none formed. absurd (cc);
     told = λ told taken has. absurd (not_at_startup c.kind (told_kinds c.kind told) taken);
     flows = λ is taken none. (let read = data_reading walk.cursor c.kind c.payload in none_unseen (flow_taken s 0 read).entries (taken_unseen s 0 read));
-    reads = λ none. (let read = chunk_reading c.kind c.payload in read_made none_sends s Startup from read (carries_any Any (λ body. tt) (read_reply s Startup from read)));
+    reads = λ none. (let read = chunk_reading c.kind c.payload in read_by none_sends s Startup from read (tt, tt) (carries_any Any (λ body. tt) (read_reply s Startup from read)));
   })
 
   none_front : (front : List Placed) → AreOthers front → (walk : Walk) (s : State) → StatesNone (chunks_did Startup from draws walk s front).entries

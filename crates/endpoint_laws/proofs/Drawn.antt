@@ -107,10 +107,10 @@ none_quiet : Quiet Any DrawsNone
 none_quiet = record {
   sends = record {
     steps = record { does_nothing = λ s. refl; and_then = λ s d e first later. none_after d.entries e.entries [] first later };
-    attempts = λ s startup kin. refl;
     out = λ s to sid plain. refl;
     out_in = λ s near row to body is carries. refl;
   };
+  attempts = λ s startup kin. refl;
   close = tt;
   close_ack = tt;
   empty_ping = tt;

@@ -88,10 +88,10 @@ module _ (P : FlowsState → Type 0) where
     each_quiet = record {
       sends = record {
         steps = record { does_nothing = λ s each. each; and_then = λ s d e first later each. later (first each) };
-        attempts = λ s startup kin each. each;
         out = λ s to sid plain each. each;
         out_in = λ s near row to body is carries. keeps_put s near row (record row { session = after_seal row.session }) is refl;
       };
+      attempts = λ s startup kin each. each;
       close = tt;
       close_ack = tt;
       empty_ping = tt;

@@ -40,7 +40,8 @@ use Rattle.endpoint_laws.proofs.Tied.{Tied}
 use Rattle.endpoint_laws.proofs.Agrees.{IsAt, found_of_attempt, used_here, used_elsewhere, agrees_changed, agrees_of, tied_of}
 use Rattle.endpoint_laws.proofs.Moving.{beside_fact, still_none, noted_matches, rows_after_known, knows_held, tied_attempt}
 use Rattle.endpoint_laws.proofs.Facts.{stands_of}
-use Rattle.endpoint_laws.proofs.Going.{Keeps, goes_nothing, goes_then, goes_spread, goes_answer}
+use Rattle.endpoint_laws.proofs.Made.{answer_made, spread_made}
+use Rattle.endpoint_laws.proofs.Going.{Keeps, goes_nothing, goes_then, goes_sends}
 
 -- what the end of what is held gives
 pub gave_end : (l : Ledger) (peer : List ℕ) (thing : Held) (why : Why) → held_with l peer ≡ Some thing → MayEnd why thing → Gave l (Ended peer (near_of thing) why ∷ []) (noted l (Ended peer (near_of thing) why))
@@ -190,8 +191,8 @@ module _ (setup : Setup) (call : Call) (is_tick : IsTick call) (s : State) where
 
   repeat_keeps : (due : Due) (t : State) → IsSending due → Keeps setup call t (due_done t due)
   repeat_keeps (EndDue fact) t sends = absurd sends
-  repeat_keeps (HelloDue spread) t sends = goes_spread setup call t spread
-  repeat_keeps (KeyingDue answer) t sends = goes_answer setup call t answer
+  repeat_keeps (HelloDue spread) t sends = spread_made (goes_sends setup call) t spread
+  repeat_keeps (KeyingDue answer) t sends = answer_made (goes_sends setup call) t answer
 
   repeat_sends : (key : List ℕ) (near : ℕ) (a : AttemptState) (stage : Stage) → IsSending (repeat_signed key s.startup.cert near a stage)
   repeat_sends key near a Hello = tt

@@ -22,10 +22,10 @@ pub few_quiet : Quiet Any Few
 few_quiet = record {
   sends = record {
     steps = record { does_nothing = λ s. omega arith; and_then = λ s d e p q. omega (arith, p, q, outs_append d.entries e.entries) };
-    attempts = λ s startup kin. omega arith;
     out = λ s to sid plain. omega arith;
     out_in = λ s near row to body is carries. omega arith;
   };
+  attempts = λ s startup kin. omega arith;
   close = tt;
   close_ack = tt;
   empty_ping = tt;

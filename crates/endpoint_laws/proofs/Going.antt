@@ -1,18 +1,12 @@
 -- A thing that an end does keeps the agreement, and its facts meet their lines.
 use Rattle.std.proofs.Common.{◌≡◌, ℕ, ◌+◌, List, [], ◌∷◌, ◌++◌, Bool, true, false, if◌then◌else◌, Option, Some, None, inl, refl, sym, subst, ◌∙◌, arith}
-use Rattle.std.specs.Prelude.{◌==◌}
-use Rattle.std.specs.FinMap.{get}
-use Rattle.rtmfp_forms.specs.Address.{AddressParts}
 use Rattle.glare_core.specs.declared.facts.Why.{Why}
 use Rattle.glare_core.specs.declared.facts.Why.TheVariants.{Cancelled, Expired, Glare, Override, Unconfirmed, Near, Far, Idle}
 use Rattle.glare_core.specs.declared.facts.Fact.{Fact}
 use Rattle.glare_core.specs.declared.facts.Fact.TheVariants.{Started, Born, Opened, Confirmed, Ended}
-use Rattle.startup.specs.declared.answer.Answer.{Answer}
 use Rattle.startup.specs.declared.cause.Cause.{Cause}
-use Rattle.startup.specs.State.{SpreadParts}
 use Rattle.session_core.specs.Session.{SessionState}
 use Rattle.session_core.specs.Sealed.{after_seal, is_spent}
-use Rattle.endpoint_model.specs.declared.row.Row.{Row}
 use Rattle.endpoint_model.specs.Views.{fact_in}
 use Rattle.endpoint_model.specs.declared.entry.Entry.{Entry}
 use Rattle.endpoint_model.specs.declared.entry.Entry.TheVariants.{Discard}
@@ -20,10 +14,10 @@ use Rattle.endpoint_model.specs.Event.{Setup, Call}
 use Rattle.endpoint_laws.specs.Past.{Stamped, stamped, onto}
 use Rattle.endpoint_laws.specs.Lawful.{FactLine, EndedLine, BornFollows}
 use Rattle.endpoint_model.specs.State.{State, Did, nothing, then_do}
-use Rattle.endpoint_model.specs.Sending.{last_count, sent_startup, sent_answer, sent_if, sent_each, sent_spread, sent_by, sent_in_session}
 use Rattle.endpoint_model.specs.Effects.{discarded}
 use Rattle.endpoint_laws.proofs.Lines.{FactPart, FactMeets, EntriesMeet}
 use Rattle.endpoint_laws.proofs.Tied.{sealed_once, Tied}
+use Rattle.endpoint_laws.proofs.Small.{Any, Sends}
 use Rattle.endpoint_laws.proofs.Moving.{IsAlike, alike_itself, tied_session, tied_more, tied_alike}
 
 -- ---- entries one after another
@@ -101,40 +95,25 @@ keeps_if setup call s false d e f g = g refl
 pub goes_discarded : (setup : Setup) (call : Call) (s : State) (at : ℕ) (cause : Cause) → Keeps setup call s (discarded s at cause)
 goes_discarded setup call s at cause past t = record { meets = ((tt, tt), tt); tied = tied_more setup past s (stamped s.moment (Discard at cause)) (omega arith) refl refl t; moment = refl }
 
-pub goes_startup : (setup : Setup) (call : Call) (s : State) (to : AddressParts) (sid : ℕ) (plain : List ℕ) → Keeps setup call s (sent_startup s to sid plain)
-goes_startup setup call s to sid plain = keeps_if setup call s (s.sealed == last_count) (nothing s) _ (λ e. goes_nothing setup call s) (λ e past t. record {
-  meets = ((tt, tt), tt);
-  tied = tied_alike setup _ s s.moment (s.sealed + 1) (omega arith) (tied_more setup past s _ (omega arith) refl refl t);
-  moment = refl;
-})
-
-pub goes_answer : (setup : Setup) (call : Call) (s : State) (answer : Answer) → Keeps setup call s (sent_answer s answer)
-goes_answer setup call s answer = goes_startup setup call s answer.to answer.sid answer.plain
-
-pub goes_if : (setup : Setup) (call : Call) (s : State) (answer : Option Answer) → Keeps setup call s (sent_if s answer)
-goes_if setup call s None = goes_nothing setup call s
-goes_if setup call s (Some answer) = goes_answer setup call s answer
-
-pub goes_each : (setup : Setup) (call : Call) (plain : List ℕ) (to : List AddressParts) (s : State) → Keeps setup call s (sent_each s plain to)
-goes_each setup call plain [] s = goes_nothing setup call s
-goes_each setup call plain (to ∷ rest) s = λ past t.
-    let first = goes_startup setup call s to 0 plain past t in
-    goes_then setup call past s (sent_startup s to 0 plain) (λ u. sent_each u plain rest) first (goes_each setup call plain rest (sent_startup s to 0 plain).state (onto s.moment (sent_startup s to 0 plain).entries past) first.tied)
-
-pub goes_spread : (setup : Setup) (call : Call) (s : State) (spread : SpreadParts) → Keeps setup call s (sent_spread s spread)
-goes_spread setup call s spread = goes_each setup call spread.plain spread.to s
-
 seal_alike : (b : Bool) (moment : ℕ) (session : SessionState) → IsAlike moment session (if b then session else sealed_once session)
 seal_alike true moment session = alike_itself moment session
 seal_alike false moment session = record { joined = refl; own = refl; secret = refl; role = refl; held = refl; thing = λ e. refl; stage = λ f. f; since = λ e. inl refl }
 
-pub goes_by : (setup : Setup) (call : Call) (s : State) (near : ℕ) (to : AddressParts) (body : List ℕ) (o : Option Row) → get s.sessions near ≡ o → Keeps setup call s (sent_by s near to body o)
-goes_by setup call s near to body None is = goes_nothing setup call s
-goes_by setup call s near to body (Some row) is = keeps_if setup call s (row.session.sealed == last_count) (nothing s) _ (λ e. goes_nothing setup call s) (λ e past t. record {
-  meets = ((tt, tt), tt);
-  tied = tied_session setup _ s near row (record row { session = after_seal row.session }) (tied_more setup past s _ (omega arith) refl refl t) is (seal_alike (is_spent row.session) s.moment row.session);
-  moment = refl;
-})
-
-pub goes_in_session : (setup : Setup) (call : Call) (s : State) (near : ℕ) (to : AddressParts) (body : List ℕ) → Keeps setup call s (sent_in_session s near to body)
-goes_in_session setup call s near to body = goes_by setup call s near to body (get s.sessions near) refl
+-- what goes out
+pub goes_sends : (setup : Setup) (call : Call) → Sends Any (Keeps setup call)
+goes_sends setup call = record {
+  steps = record {
+    does_nothing = goes_nothing setup call;
+    and_then = λ s d e first later past t. let one = first past t in goes_then setup call past s d (λ u. e) one (later (onto s.moment d.entries past) one.tied);
+  };
+  out = λ s to sid plain past t. record {
+    meets = ((tt, tt), tt);
+    tied = tied_alike setup _ s s.moment (s.sealed + 1) (omega arith) (tied_more setup past s _ (omega arith) refl refl t);
+    moment = refl;
+  };
+  out_in = λ s near row to body is carries past t. record {
+    meets = ((tt, tt), tt);
+    tied = tied_session setup _ s near row (record row { session = after_seal row.session }) (tied_more setup past s _ (omega arith) refl refl t) is (seal_alike (is_spent row.session) s.moment row.session);
+    moment = refl;
+  };
+}

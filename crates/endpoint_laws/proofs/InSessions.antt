@@ -25,7 +25,7 @@ use Rattle.endpoint_model.specs.declared.row.Row.{Row}
 use Rattle.endpoint_model.specs.declared.entry.Entry.TheVariants.{Fact as FactEntry, Closed as ClosedEntry, Moved}
 use Rattle.endpoint_model.specs.Event.{Setup, own_of, Call}
 use Rattle.endpoint_model.specs.State.{State, Did, nothing, then_do, fact_entries, is_used, with_startup, with_row, with_session, without_row}
-use Rattle.endpoint_model.specs.InSessions.{sent_home_by, sent_home, ended_as, dropped, closed}
+use Rattle.endpoint_model.specs.InSessions.{sent_home, ended_as, dropped, closed}
 use Rattle.endpoint_model.proofs.Members.{tested, without}
 use Rattle.endpoint_laws.specs.Past.{Stamped, stamped, onto, facts_of, is_close, ids_in_use}
 use Rattle.endpoint_laws.specs.OfTheLog.{WasThing}
@@ -37,7 +37,8 @@ use Rattle.endpoint_laws.proofs.Moving.{IsAlike, beside_fact, beside_closed, sam
 use Rattle.endpoint_laws.proofs.Facts.{stands_of}
 use Rattle.endpoint_laws.proofs.Ending.{gave_end, some_entry}
 use Rattle.endpoint_laws.proofs.Birth.{agrees_end}
-use Rattle.endpoint_laws.proofs.Going.{Goes, Keeps, goes_nothing, goes_then, goes_by}
+use Rattle.endpoint_laws.proofs.Made.{home_made}
+use Rattle.endpoint_laws.proofs.Going.{Goes, Keeps, goes_then, goes_sends}
 
 -- ---- what a session is and was
 
@@ -252,13 +253,5 @@ module _ (setup : Setup) (call : Call) where
     moment = refl;
   }
 
-  home_by : (s : State) (near : ℕ) (body : List ℕ) (o : Option Row) → get s.sessions near ≡ o → Keeps setup call s (sent_home_by s near body o)
-  home_by s near body None is = goes_nothing setup call s
-  home_by s near body (Some row) is = goes_by setup call s near row.session.address body (Some row) is
-
-  pub goes_home : (s : State) (near : ℕ) (body : List ℕ) → Keeps setup call s (sent_home s near body)
-  goes_home s near body = home_by s near body (get s.sessions near) refl
-
-  -- something, and then a body to the session's address
   pub goes_and_home : (s : State) (near : ℕ) (body : List ℕ) (past : List Stamped) (d : Did) → Goes setup call past s d → Goes setup call past s (then_do d (λ t. sent_home t near body))
-  goes_and_home s near body past d goes = goes_then setup call past s d (λ t. sent_home t near body) goes (goes_home d.state near body (onto s.moment d.entries past) goes.tied)
+  goes_and_home s near body past d goes = goes_then setup call past s d (λ t. sent_home t near body) goes (home_made (goes_sends setup call) d.state near body tt (onto s.moment d.entries past) goes.tied)

@@ -52,7 +52,8 @@ use Rattle.startup.proofs.Stepping.{held_after_own}
 use Rattle.endpoint_laws.proofs.Moving.{rows_after_known, knows_held}
 use Rattle.endpoint_laws.proofs.Facts.{stands_of}
 use Rattle.endpoint_laws.proofs.Starting.{IsNew, new_id, is_free_of, room_left, row_left, rows_after_either}
-use Rattle.endpoint_laws.proofs.Going.{Goes, goes_then, goes_answer}
+use Rattle.endpoint_laws.proofs.Made.{answer_made}
+use Rattle.endpoint_laws.proofs.Going.{Goes, goes_then, goes_sends}
 use Rattle.endpoint_laws.proofs.Admitting.{IsRead}
 use Rattle.endpoint_laws.proofs.Bearing.{IsHeard, IsNamed, named_of, not_again, MayBear, may_bear, offer_of, admissible}
 use Rattle.endpoint_laws.proofs.Birth.{held_used, agrees_end, agrees_born, attempt_id, without_id, without_thing, without_thing_is}
@@ -245,7 +246,7 @@ module _ (setup : Setup) (from : AddressParts) (datagram : List ℕ) (draws : Dr
   gave_by o = Gave l (heard_facts (Birth (way_made k.peer o) (Born j))) (heard_noted l (Birth (way_made k.peer o) (Born j)))
 
   then_answer : (d : Did) → Goes setup call past s d → Goes setup call past s (then_do d (λ t. sent_answer t answer))
-  then_answer d goes = goes_then setup call past s d (λ t. sent_answer t answer) goes (goes_answer setup call d.state answer (onto s.moment d.entries past) goes.tied)
+  then_answer d goes = goes_then setup call past s d (λ t. sent_answer t answer) goes (answer_made (goes_sends setup call) d.state answer (onto s.moment d.entries past) goes.tied)
 
   born_goes : Admissible setup past s.moment from datagram (offer_of keying) → MayBear s k → (o : Option Held) → held_with l k.peer ≡ o → gave_by o → Goes setup call past s (born_by o)
   born_goes admitted may None is gave = then_answer alone (alone_goes admitted may is gave)
@@ -264,7 +265,7 @@ module _ (setup : Setup) (from : AddressParts) (datagram : List ℕ) (draws : Dr
 
   module _ (packet : Whole) (c : Placed) (read : IsRead setup.secret 0 datagram packet) (mode : packet.head.mode ≡ StartupMode) (among : IsAmong c (chunks_of packet)) (first : IsFirst c (chunks_of packet)) (kind : c.kind ≡ 0x38) (is_heard : IsHeard s from c.payload keying) where
     repeated_goes : cookie_test s.startup.cookie_secret keying.cookie from s.moment ≡ Current → IsNamed s keying → (o : Option Joined) → repeated_session (held_with l k.peer) k ≡ o → Goes setup call past s (repeated_by o)
-    repeated_goes current named (Some h) is = goes_answer setup call s (session_answer s.startup h from) past tied
+    repeated_goes current named (Some h) is = answer_made (goes_sends setup call) s (session_answer s.startup h from) past tied
     repeated_goes current named None is =
         let again : again_of (held_with l k.peer) k ≡ None = not_again (held_with l k.peer) k is in
         let may = may_bear s k again named.refusal in
@@ -279,9 +280,9 @@ module _ (setup : Setup) (from : AddressParts) (datagram : List ℕ) (draws : Dr
         (subst (λ h. Gave l (heard_facts h) (heard_noted l h)) same gave))
 
     tested_goes : (test : CookieTest) → cookie_test s.startup.cookie_secret keying.cookie from s.moment ≡ test → Goes setup call past s (tested_by test)
-    tested_goes Bad is = goes_answer setup call s (change_answer s.startup keying from s.moment) past tied
-    tested_goes Moved is = goes_answer setup call s (change_answer s.startup keying from s.moment) past tied
-    tested_goes Expired is = goes_answer setup call s (change_answer s.startup keying from s.moment) past tied
+    tested_goes Bad is = answer_made (goes_sends setup call) s (change_answer s.startup keying from s.moment) past tied
+    tested_goes Moved is = answer_made (goes_sends setup call) s (change_answer s.startup keying from s.moment) past tied
+    tested_goes Expired is = answer_made (goes_sends setup call) s (change_answer s.startup keying from s.moment) past tied
     tested_goes Current is =
         repeated_goes is (named_of s keying (cookie_test s.startup.cookie_secret keying.cookie from s.moment) is is_heard.cause) (repeated_session (held_with l k.peer) k) refl
 

@@ -155,17 +155,11 @@ module _ {Body : List ℕ → Type 0} {P : State → Did → Type 0} (l : Sends 
       let d : Did = forwarded s to body in
       l.steps.and_then s d (sent_if d.state redirect) (forwarded_made s to body carries) (answered_made d.state redirect)
 
-  left_made : (s : State) (place : Place) (from : AddressParts) (read : Result Chunk ChunkFault) → P s (nothing (read_left s place from read))
-  left_made s place from (Ok (RHello tag cookie cert)) = l.attempts s _ (kin_rhello s.startup tag cookie from s.moment)
-  left_made s place from (Ok (Redirect tag list)) = l.attempts s _ (kin_redirect s.startup tag list from s.moment)
-  left_made s place from (Ok (CookieChange old new)) = l.attempts s _ (kin_change s.startup (sid_at place) old new s.moment)
-  left_made s place from (Ok _) = l.steps.does_nothing s
-  left_made s place from (Err fault) = l.steps.does_nothing s
-
-  pub read_made : (s : State) (place : Place) (from : AddressParts) (read : Result Chunk ChunkFault) → Carries Body (read_reply s place from read) → P s (read_done s place from read)
-  read_made s place from read carries =
+  -- after what it leaves
+  pub read_by : (s : State) (place : Place) (from : AddressParts) (read : Result Chunk ChunkFault) → P s (nothing (read_left s place from read)) → Carries Body (read_reply s place from read) → P s (read_done s place from read)
+  read_by s place from read left carries =
       let t : State = read_left s place from read in
-      l.steps.and_then s (nothing t) (replied t place from (read_reply s place from read)) (left_made s place from read) (replied_made t place from (read_reply s place from read) carries)
+      l.steps.and_then s (nothing t) (replied t place from (read_reply s place from read)) left (replied_made t place from (read_reply s place from read) carries)
 
 -- ---- sessions that go on
 
@@ -203,18 +197,28 @@ held_is_there (Some old) row e = by (is_held old.session.stage) e
     by false e = absurd (cc)
 
 module _ {Body : List ℕ → Type 0} {P : State → Did → Type 0} (q : Quiet Body P) where
+  left_made : (s : State) (place : Place) (from : AddressParts) (read : Result Chunk ChunkFault) → P s (nothing (read_left s place from read))
+  left_made s place from (Ok (RHello tag cookie cert)) = q.attempts s _ (kin_rhello s.startup tag cookie from s.moment)
+  left_made s place from (Ok (Redirect tag list)) = q.attempts s _ (kin_redirect s.startup tag list from s.moment)
+  left_made s place from (Ok (CookieChange old new)) = q.attempts s _ (kin_change s.startup (sid_at place) old new s.moment)
+  left_made s place from (Ok _) = q.sends.steps.does_nothing s
+  left_made s place from (Err fault) = q.sends.steps.does_nothing s
+
+  pub read_made : (s : State) (place : Place) (from : AddressParts) (read : Result Chunk ChunkFault) → Carries Body (read_reply s place from read) → P s (read_done s place from read)
+  read_made s place from read carries = read_by q.sends s place from read (left_made s place from read) carries
+
   -- ---- facts
 
   ended_fact_made : (s : State) (startup : StartupState) → IsKin s.startup startup → (o : Option Held) (peer : List ℕ) (why : Why) → P s (record { state = with_startup s startup; entries = fact_entries (ended_fact o peer why) })
-  ended_fact_made s startup kin None peer why = q.sends.attempts s startup kin
+  ended_fact_made s startup kin None peer why = q.attempts s startup kin
   ended_fact_made s startup kin (Some thing) peer why = q.ends s startup peer _ why kin
 
   confirmed_fact_made : (s : State) (startup : StartupState) → IsKin s.startup startup → (o : Option Held) (peer : List ℕ) → P s (record { state = with_startup s startup; entries = fact_entries (confirmed_fact o peer) })
-  confirmed_fact_made s startup kin None peer = q.sends.attempts s startup kin
-  confirmed_fact_made s startup kin (Some (OpeningHeld n near ni)) peer = q.sends.attempts s startup kin
+  confirmed_fact_made s startup kin None peer = q.attempts s startup kin
+  confirmed_fact_made s startup kin (Some (OpeningHeld n near ni)) peer = q.attempts s startup kin
   confirmed_fact_made s startup kin (Some (HalfOpen j)) peer = q.confirms s startup peer j.near kin
-  confirmed_fact_made s startup kin (Some (KeptAsResponder j)) peer = q.sends.attempts s startup kin
-  confirmed_fact_made s startup kin (Some (KeptAsInitiator j)) peer = q.sends.attempts s startup kin
+  confirmed_fact_made s startup kin (Some (KeptAsResponder j)) peer = q.attempts s startup kin
+  confirmed_fact_made s startup kin (Some (KeptAsInitiator j)) peer = q.attempts s startup kin
 
   pub cancelling_made : (s : State) (n : ℕ) → P s (cancelling s n)
   cancelling_made s n = by (lowest (has_number n) s.startup.attempts)
@@ -363,7 +367,7 @@ module _ {Body : List ℕ → Type 0} {P : State → Did → Type 0} (k : Timed 
     ends = λ e there over. k.quiet.ends s _ e.1.peer e.0 Expired (record { own = refl; secret = refl });
     repeats = λ e there. (let startup : StartupState = with_attempt s.startup e.0 (repeated e.1 s.moment) in
         let t : State = with_startup s startup in
-        k.quiet.sends.steps.and_then s (nothing t) (due_done t (repeat_of s.startup e.0 e.1)) (k.quiet.sends.attempts s startup (record { own = refl; secret = refl })) (repeated_made k.quiet t e.0 e.1 _ _ e.1.stage));
+        k.quiet.sends.steps.and_then s (nothing t) (due_done t (repeat_of s.startup e.0 e.1)) (k.quiet.attempts s startup (record { own = refl; secret = refl })) (repeated_made k.quiet t e.0 e.1 _ _ e.1.stage));
     row = λ near row due there is. row_due_made s near row due there is;
   })
 
@@ -414,7 +418,7 @@ module _ {Body : List ℕ → Type 0} {P : State → Did → Type 0} (a : All Bo
     responder = λ kind taken none formed. responder taken;
     told = λ told taken has. up _ (told_made a.timed.quiet s (sid_at place) from c);
     flows = λ is taken none. up _ (flow_taken_made s (sid_at place) (data_reading walk.cursor c.kind c.payload) (λ chunk read. (what_is_read_fits walk.cursor c.kind c.payload chunk small read).0) none);
-    reads = λ none. up _ (read_made a.timed.quiet.sends s place from (chunk_reading c.kind c.payload) (carries_any Body a.bodies (read_reply s place from (chunk_reading c.kind c.payload))));
+    reads = λ none. up _ (read_made a.timed.quiet s place from (chunk_reading c.kind c.payload) (carries_any Body a.bodies (read_reply s place from (chunk_reading c.kind c.payload))));
   })
 
   -- one that came in a session begins none
@@ -458,7 +462,7 @@ module _ {Body : List ℕ → Type 0} {Q P : State → Did → Type 0} (q : Quie
   pub initiator_made : (s : State) (from : AddressParts) (draws : Draws) (payload : List ℕ) → P s (initiator_keyed s from draws payload)
   initiator_made s from draws payload =
       let t : State = with_startup s (after_keying s.startup payload from s.moment (free_from s draws.word) draws.nonce) in
-      b.steps.and_then s (nothing t) _ (b.quiet s (nothing t) (q.sends.attempts s t.startup (kin_keying s.startup payload from s.moment (free_from s draws.word) draws.nonce)))
+      b.steps.and_then s (nothing t) _ (b.quiet s (nothing t) (q.attempts s t.startup (kin_keying s.startup payload from s.moment (free_from s draws.word) draws.nonce)))
       (keyed_made t s.startup from s.moment (free_from s draws.word) draws.nonce (initiator_keying_in payload))
 
   opened_made : (s : State) (near : ℕ) (from : AddressParts) (o : Option AttemptState) (r : Result ResponderKeying Cause) → P s (opening_done s near from (opened_reading near o r))

@@ -66,7 +66,6 @@ StatesNone entries = NoFacts entries × NoneOver entries
 pub none_sends : Sends Any (λ s d. StatesNone d.entries)
 none_sends = record {
   steps = record { does_nothing = λ s. (tt, tt); and_then = λ s d e first later. (none_in_both d.entries e.entries first.0 later.0, none_over_both d.entries e.entries first.1 later.1) };
-  attempts = λ s startup kin. (tt, tt);
   out = λ s to sid plain. (tt, (refl, tt));
   out_in = λ s near row to body is carries. (tt, (refl, tt));
 }

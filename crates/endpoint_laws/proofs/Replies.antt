@@ -41,8 +41,9 @@ use Rattle.endpoint_laws.specs.Past.{Stamped, onto}
 use Rattle.endpoint_laws.proofs.Tied.{Tied}
 use Rattle.endpoint_laws.proofs.Facts.{test_fails}
 use Rattle.endpoint_laws.proofs.Moving.{tied_attempt}
-use Rattle.endpoint_laws.proofs.Going.{Keeps, goes_nothing, goes_then, goes_if, goes_spread, goes_in_session}
-use Rattle.endpoint_laws.proofs.InSessions.{goes_home}
+use Rattle.endpoint_laws.proofs.Small.{Any}
+use Rattle.endpoint_laws.proofs.Made.{carries_any, read_by}
+use Rattle.endpoint_laws.proofs.Going.{Keeps, goes_sends}
 use Rattle.endpoint_laws.proofs.OutPackets.{IsModest, one_is_modest}
 use Rattle.endpoint_laws.proofs.OutHeld.{may_send}
 use Rattle.endpoint_laws.proofs.OutSends.{IsNarrow, Sent, Meets, MayGo, meets_nothing, meets_then, meets_session}
@@ -268,29 +269,8 @@ module _ (setup : Setup) (past : List Stamped) (s : State) (sent : Sent setup pa
 -- ---- whatever the chunk is
 
 module _ (setup : Setup) (call : Call) where
-  goes_forwarded : (s : State) (to : Option ℕ) (body : List ℕ) → Keeps setup call s (forwarded s to body)
-  goes_forwarded s None body = goes_nothing setup call s
-  goes_forwarded s (Some near) body = goes_home setup call s near body
-
-  goes_replied : (s : State) (place : Place) (from : AddressParts) (reply : Reply) → Keeps setup call s (replied s place from reply)
-  goes_replied s place from Silence = goes_nothing setup call s
-  goes_replied s place from (InStartup answer) = goes_if setup call s answer
-  goes_replied s place from (Hellos None) = goes_nothing setup call s
-  goes_replied s place from (Hellos (Some spread)) = goes_spread setup call s spread
-  goes_replied s place from (Introduction to body redirect) = λ past tied.
-      let d : Did = forwarded s to body in
-      let first = goes_forwarded s to body past tied in
-      goes_then setup call past s d (λ t. sent_if t redirect) first (goes_if setup call d.state redirect (onto s.moment d.entries past) first.tied)
-  goes_replied s place from (InSession body) = goes_in_session setup call s (sid_at place) from body
-
   pub goes_read : (s : State) (place : Place) (from : AddressParts) (read : Result Chunk ChunkFault) → Keeps setup call s (read_done s place from read)
-  goes_read s place from read past tied =
-      let left : State = read_left s place from read in
-      let first : Did = record { state = left; entries = [] } in
-      let kept : Tied setup past left = left_tied setup past s tied place from read in
-      goes_then setup call past s first (λ u. replied u place from (read_reply s place from read))
-      (record { meets = tt; tied = kept; moment = (left_same s place from read).moment })
-      (goes_replied left place from (read_reply s place from read) past kept)
+  goes_read s place from read = read_by (goes_sends setup call) s place from read (λ past tied. record { meets = tt; tied = left_tied setup past s tied place from read; moment = (left_same s place from read).moment }) (carries_any Any (λ body. tt) (read_reply s place from read))
 
 module _ (setup : Setup) (now : ℕ) (call : Call) (past : List Stamped) where
   pub says : (s : State) → Sent setup past s → Tied setup past s → (near : ℕ) (from : AddressParts) (body : List ℕ) → IsModest body → (o : Option Row) → get s.sessions near ≡ o → Meets setup now call past (sent_by s near from body o)

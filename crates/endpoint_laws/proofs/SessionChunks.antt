@@ -47,7 +47,8 @@ use Rattle.endpoint_laws.specs.Taken.{Taken, taken_since, count_in, IsNewAfter, 
 use Rattle.endpoint_laws.specs.Lawful.{IsTick, FarLine, BeganWith, IsIdle}
 use Rattle.endpoint_laws.proofs.Tied.{Tied, StageFits, thing_of}
 use Rattle.endpoint_laws.proofs.Moving.{IsAlike, alike_itself}
-use Rattle.endpoint_laws.proofs.Going.{Goes, Keeps, goes_nothing, goes_then, goes_in_session, keeps_if}
+use Rattle.endpoint_laws.proofs.Made.{in_session_made}
+use Rattle.endpoint_laws.proofs.Going.{Goes, Keeps, goes_nothing, goes_then, keeps_if, goes_sends}
 use Rattle.endpoint_laws.proofs.Hearing.{lasting, first_fact, IsKnown}
 use Rattle.endpoint_laws.proofs.Passing.{Passed, PassedIn}
 use Rattle.endpoint_laws.proofs.InSessions.{IsLeft, was_itself, held_facts, id, goes_ended, goes_dropped, goes_closed, goes_changed, goes_moved, goes_and_home}
@@ -270,7 +271,7 @@ module _ (setup : Setup) (call : Call) (s : State) (from : AddressParts) (draws 
       let new : Row = record row { moves = after_seen row.moves row.session.address from draws.token s.moment } in
       let first = goes_pending near row is past tied in
       goes_then setup call past s (nothing (with_row s near new)) (λ t. sent_in_session t near from (chunk_bytes (Ping draws.token))) first
-      (goes_in_session setup call (with_row s near new) near from (chunk_bytes (Ping draws.token)) past first.tied)
+      (in_session_made (goes_sends setup call) (with_row s near new) near from (chunk_bytes (Ping draws.token)) tt past first.tied)
 
   tested_found : (near : ℕ) (o : Option Row) → held_row s near ≡ o → Keeps setup call s (tested_by s near from draws.token o)
   tested_found near None is = goes_nothing setup call s

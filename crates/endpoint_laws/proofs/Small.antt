@@ -93,20 +93,18 @@ stated s startup fact = record { state = with_startup s startup; entries = FactE
 
 -- ---- what a law says
 
--- Of nothing, of one thing after another, of a change of the attempts alone, and of a datagram, in
--- the startup context and in a session. Of the bodies that go out in sessions something may be
--- known.
+-- Of nothing, of one thing after another, and of a datagram, in the startup context and in a session. Of the bodies that go out in sessions something may be known.
 pub record Sends (Body : List ℕ → Type 0) (P : State → Did → Type 0) : Type 0 where
   pub steps : Steps P
-  pub attempts : (s : State) (startup : StartupState) → IsKin s.startup startup → P s (nothing (with_startup s startup))
   pub out : (s : State) (to : AddressParts) (sid : ℕ) (plain : List ℕ) →
       P s (record { state = with_sealed s (s.sealed + 1); entries = Out to (startup_datagram s sid plain) StartupContext ∷ [] })
   pub out_in : (s : State) (near : ℕ) (row : Row) (to : AddressParts) (body : List ℕ) → get s.sessions near ≡ Some row → Body body →
       P s (record { state = with_session s near row (after_seal row.session); entries = Out to (session_datagram row.session s.moment body) (context_of row.session true) ∷ [] })
 
--- And of what begins no session, but for what is done with flows.
+-- And of what begins no session, but for what is done with flows: a change of the attempts alone, facts, and sessions that go on and end.
 pub record Quiet (Body : List ℕ → Type 0) (P : State → Did → Type 0) : Type 0 where
   pub sends : Sends Body P
+  pub attempts : (s : State) (startup : StartupState) → IsKin s.startup startup → P s (nothing (with_startup s startup))
   pub close : Body (chunk_bytes CloseChunk)
   pub close_ack : Body (chunk_bytes CloseAck)
   pub empty_ping : Body (chunk_bytes (Ping []))

@@ -32,7 +32,8 @@ use Rattle.endpoint_laws.proofs.Tied.{Tied}
 use Rattle.endpoint_laws.proofs.Agrees.{IsAt, combined, thing_at, used_here, used_elsewhere, agrees_changed, agrees_of, tied_of}
 use Rattle.endpoint_laws.proofs.Moving.{beside_fact, none_there_still, noted_matches, rows_after_known, rows_after_new}
 use Rattle.endpoint_laws.proofs.Facts.{all_none, test_fails, stands_of}
-use Rattle.endpoint_laws.proofs.Going.{Goes, goes_then, goes_spread}
+use Rattle.endpoint_laws.proofs.Made.{spread_made}
+use Rattle.endpoint_laws.proofs.Going.{Goes, goes_then, goes_sends}
 
 -- ---- a free session ID
 
@@ -179,4 +180,4 @@ goes_opening setup past s peer candidates draws most small none tied =
       tied = after;
       moment = refl;
     })
-    (goes_spread setup (Open peer candidates draws) t spread (stamped s.moment (FactEntry fact) ∷ past) after)
+    (spread_made (goes_sends setup (Open peer candidates draws)) t spread (stamped s.moment (FactEntry fact) ∷ past) after)
