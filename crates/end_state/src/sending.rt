@@ -1,6 +1,7 @@
 //! Datagrams of an end that go out.
 
-ghost use Rattle.std.specs.Prelude.{◌≡◌, ◌<◌, ◌≤◌, All, IfOk, length};
+ghost use Rattle.std.specs.Prelude.{◌≡◌, ◌<◌, ◌≤◌, All, IfOk, IfSome, length, option_to_list};
+ghost use Rattle.endpoint_model.specs.Added.{IsShort};
 ghost use Rattle.endpoint_model.specs.State.{Done};
 ghost use Rattle.endpoint_model.specs.Sending.{sent_answer, sent_each, sent_startup};
 ghost use Rattle.endpoint_model.specs.Sending.{startup_number};
@@ -27,40 +28,45 @@ fn startup_number(print: &[u8; 32], count: u64) -> [u8; 16]
 }
 
 impl EndState {
-    /// Sends a startup packet, for which memory and room were found. Where all counts are used
-    /// nothing is sent.
-    fn send_startup(
+    /// The entry of a startup packet that goes out, for which memory was found. There is none where
+    /// all counts are used.
+    fn startup_packet(
         &mut self,
         blank: Vec<u8>,
         to: &Address,
         sid: u32,
         plain: &Outgoing,
-        out: &mut Outbox,
-    )
-        requires blank { length blank.items ≡ 1200 }
-        requires room { 0 < out.old.free }
-        ensures { Done (sent_startup self.old to.now sid plain.now) self.new out.old out.new }
+    ) -> Option<Entry>
+        requires { length blank.items ≡ 1200 }
+        ensures state { self.new ≡ (sent_startup self.old to.now sid plain.now).state }
+        ensures entry { (sent_startup self.old to.now sid plain.now).entries
+            ≡ option_to_list result }
+        ensures short { IfSome result (λ entry. IsShort entry) }
     {
         if self.sealed == u64::MAX {
-            return;
+            return None;
         }
         self.sealed += 1;
         let number = startup_number(&self.print, self.sealed);
         let datagram = seal(blank, &self.keys, sid, number, plain);
-        out.add(Entry::Out {
+        Some(Entry::Out {
             to: *to,
             datagram,
             context: Context::Startup,
-        });
+        })
     }
 
-    /// Sends a startup packet that answers something.
+    /// Sends a startup packet that answers something, for which memory and room were found. Where
+    /// all counts are used nothing is sent.
     pub fn send_answer(&mut self, blank: Vec<u8>, answer: &Answer, out: &mut Outbox)
         requires blank { length blank.items ≡ 1200 }
         requires room { 0 < out.old.free }
         ensures { Done (sent_answer self.old answer.now) self.new out.old out.new }
     {
-        self.send_startup(blank, &answer.to, answer.sid, &answer.plain, out);
+        match self.startup_packet(blank, &answer.to, answer.sid, &answer.plain) {
+            Some(entry) => out.add(entry),
+            None => {}
+        }
     }
 
     /// Sends a startup packet to several addresses, under session ID 0.
@@ -80,7 +86,10 @@ impl EndState {
             let Some(blank) = blanks.pop() else {
                 return;
             };
-            self.send_startup(blank, to, 0, plain, out);
+            let Some(entry) = self.startup_packet(blank, to, 0, plain) else {
+                continue;
+            };
+            out.add(entry);
         }
     }
 }

@@ -1,26 +1,69 @@
-use Rattle.std.proofs.Common.{ℕ, ◌≡◌, ◌+◌, List, ◌++◌, ◌∷◌, [], length, take, Option, Some, Vec, Global, sym, ap, ◌∙◌, subst, arith, length-append}
+use Rattle.std.proofs.Common.{ℕ, ◌≡◌, ◌≤◌, ◌+◌, List, ◌++◌, ◌∷◌, [], length, take, Option, Some, None, Vec, Global, refl, sym, ap, ◌∙◌, subst, arith, length-append}
 use Rattle.std.specs.Prelude.{option_to_list}
-use Rattle.std.proofs.lemmas.List.{take_more}
+use Rattle.std.proofs.lemmas.List.{append-nil, take_more}
 use Rattle.std.proofs.lemmas.List.Elements.{All-pop}
-use Rattle.endpoint_model.specs.State.{Done, then_do}
+use Rattle.rtmfp_forms.specs.Address.{AddressParts}
+use Rattle.endpoint_model.specs.declared.entry.Entry.{Entry}
+use Rattle.endpoint_model.specs.Added.{Added}
+use Rattle.endpoint_model.specs.State.{State, Did, Done}
 use Rattle.endpoint_model.specs.Sending.{sent_each, sent_startup}
-use Rattle.endpoint_model.proofs.Steps.{joined, each_more, startup_entry}
+use Rattle.endpoint_model.proofs.Steps.{joined, each_more}
 use Rattle.end_state.proofs.end_state.EndState.send_each.Goals as goal
 
 popped : {A : Type 0} (xs ys : List A) (r : Option A) (x : A) → xs ≡ ys ++ option_to_list r → r ≡ Some x → length xs ≡ length ys + 1
 popped xs ys r x e is = ap length (e ∙ ap (λ o. ys ++ option_to_list o) is) ∙ length-append ys (x ∷ [])
 
+-- one address more
+each_so : (s t u : State) (plain : List ℕ) (places : List AddressParts) (i : ℕ) (to : AddressParts) (before between after : Added) → take (i + 1) places ≡ take i places ++ to ∷ [] →
+    Done (sent_each s plain (take i places)) t before between → Done (sent_startup t to 0 plain) u between after → Done (sent_each s plain (take (i + 1) places)) u before after
+each_so s t u plain places i to before between after taken so_far one =
+    subst (λ d. Done d u before after) (sym (ap (sent_each s plain) taken ∙ each_more s plain (take i places) to))
+    (joined (sent_each s plain (take i places)) (λ x. sent_startup x to 0 plain) t u before between after so_far one)
+
+-- a packet that is added, and one that isn't there
+added_so : (d : Did) (t : State) (r : Option Entry) (entry : Entry) (before after : Added) → t ≡ d.state → d.entries ≡ option_to_list r → r ≡ Some entry →
+    after.entries ≡ before.entries ++ entry ∷ [] → before.free ≤ after.free + 1 → after.room ≡ before.room → Done d t before after
+added_so d t r entry before after state entries is added free room =
+    let one : d.entries ≡ entry ∷ [] = entries ∙ ap option_to_list is in
+    record {
+      state = state;
+      entries = added ∙ ap (λ xs. before.entries ++ xs) (sym one);
+      free = omega (arith, free, ap length one);
+      room = room;
+    }
+
+none_so : (d : Did) (t : State) (r : Option Entry) (out : Added) → t ≡ d.state → d.entries ≡ option_to_list r → r ≡ None → Done d t out out
+none_so d t r out state entries is = record {
+  state = state;
+  entries = sym (append-nil out.entries) ∙ ap (λ xs. out.entries ++ xs) (sym (entries ∙ ap option_to_list is));
+  free = omega arith;
+  room = refl;
+}
+
 pub loop-to-preserved : goal.loop-to-preserved
 loop-to-preserved c =
-    let sent : sent_each c.args.self.now c.args.plain.now (take (c.loop-to.to-index + 1) c.args.addresses.now)
-    ≡ then_do (sent_each c.args.self.now c.args.plain.now (take c.loop-to.to-index c.args.addresses.now)) (λ t. sent_startup t c.to-item.result 0 c.args.plain.now) =
-    ap (sent_each c.args.self.now c.args.plain.now) (take_more c.args.addresses.now c.loop-to.to-index c.to-item.result c.loop-to-test.true ∙ ap (λ to. take c.loop-to.to-index c.args.addresses.now ++ to ∷ []) (sym c.to-item.is))
-    ∙ each_more c.args.self.now c.args.plain.now (take c.loop-to.to-index c.args.addresses.now) c.to-item.result in
+    let taken = take_more c.args.addresses.now c.loop-to.to-index c.to-item.result c.loop-to-test.true ∙ ap (λ to. take c.loop-to.to-index c.args.addresses.now ++ to ∷ []) (sym c.to-item.is) in
+    let once = added_so (sent_startup c.loop-to.self c.to-item.result 0 c.args.plain.now) c.startup_packet.new.self c.startup_packet.result c.in-Some-startup_packet.entry c.loop-to.out c.add.new.self
+    c.startup_packet.ensures.state c.startup_packet.ensures.entry c.in-Some-startup_packet.is c.add.ensures.entries c.add.ensures.free c.add.ensures.room in
     record {
       done =
-          subst (λ d. Done d c.send_startup.new.self c.args.out.now c.send_startup.new.out) (sym sent)
-          (joined (sent_each c.args.self.now c.args.plain.now (take c.loop-to.to-index c.args.addresses.now)) (λ t. sent_startup t c.to-item.result 0 c.args.plain.now) c.loop-to.self c.send_startup.new.self c.args.out.now c.loop-to.out c.send_startup.new.out c.loop-to.invariant.done c.send_startup.ensures);
+          each_so c.args.self.now c.loop-to.self c.startup_packet.new.self c.args.plain.now c.args.addresses.now c.loop-to.to-index c.to-item.result c.args.out.now c.loop-to.out c.add.new.self taken
+          c.loop-to.invariant.done once;
       each = (All-pop (λ (bytes : Vec ℕ Global). length bytes.items ≡ 1200) c.loop-to.blanks.items c.pop.new.self.items c.pop.result c.pop.ensures.items c.loop-to.invariant.each).0;
       enough = omega (arith, c.loop-to.invariant.enough, popped c.loop-to.blanks.items c.pop.new.self.items c.pop.result c.in-Some.blank c.pop.ensures.items c.in-Some.is);
-      room = omega (arith, c.loop-to.invariant.room, c.send_startup.ensures.free, startup_entry c.loop-to.self c.to-item.result 0 c.args.plain.now);
+      room = omega (arith, c.loop-to.invariant.room, c.add.ensures.free);
+    }
+
+pub loop-to-preserved-in_default-startup_packet : goal.loop-to-preserved-in_default-startup_packet
+loop-to-preserved-in_default-startup_packet c =
+    let taken = take_more c.args.addresses.now c.loop-to.to-index c.to-item.result c.loop-to-test.true ∙ ap (λ to. take c.loop-to.to-index c.args.addresses.now ++ to ∷ []) (sym c.to-item.is) in
+    let once = none_so (sent_startup c.loop-to.self c.to-item.result 0 c.args.plain.now) c.startup_packet.new.self c.startup_packet.result c.loop-to.out
+    c.startup_packet.ensures.state c.startup_packet.ensures.entry c.in_default-startup_packet.is in
+    record {
+      done =
+          each_so c.args.self.now c.loop-to.self c.startup_packet.new.self c.args.plain.now c.args.addresses.now c.loop-to.to-index c.to-item.result c.args.out.now c.loop-to.out c.loop-to.out taken
+          c.loop-to.invariant.done once;
+      each = (All-pop (λ (bytes : Vec ℕ Global). length bytes.items ≡ 1200) c.loop-to.blanks.items c.pop.new.self.items c.pop.result c.pop.ensures.items c.loop-to.invariant.each).0;
+      enough = omega (arith, c.loop-to.invariant.enough, popped c.loop-to.blanks.items c.pop.new.self.items c.pop.result c.in-Some.blank c.pop.ensures.items c.in-Some.is);
+      room = omega (arith, c.loop-to.invariant.room);
     }
