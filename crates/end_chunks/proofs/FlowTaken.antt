@@ -1,24 +1,20 @@
 -- What a chunk of flows does in its session, by the single steps of which it is made.
 use Rattle.std.specs.Prelude.{slice_get, slice_set, IfSome, MatchOption, ◌==◌, ◌||◌}
-use Rattle.std.specs.Option.{option_map}
 use Rattle.rtmfp_forms.specs.Address.{AddressParts}
 use Rattle.rtmfp_packet.specs.Walk.{Placed}
 use Rattle.rtmfp_data_chunks.specs.declared.view.DataFault.{DataFault}
 use Rattle.rtmfp_data_chunks.specs.Reader.{data_reading}
-use Rattle.glare_core.specs.Calls.{first_that_stands}
 use Rattle.startup.specs.declared.cause.Cause.{Cause}
-use Rattle.session_flows.specs.declared.cause.FlowCause.{FlowCause}
-use Rattle.session_flows.specs.declared.cause.Untaken.{Untaken}
-use Rattle.session_flows.specs.declared.cause.Untaken.TheVariants.{Cause as Discarded, Memory as NoMemory}
+use Rattle.end_chunks.specs.declared.flows.Untaken.{Untaken}
+use Rattle.end_chunks.specs.declared.flows.Untaken.TheVariants.{Cause as Discarded, Memory as NoMemory}
 use Rattle.endpoint_model.specs.declared.config.Draws.{Draws}
 use Rattle.endpoint_model.specs.declared.place.Place.{Place}
-use Rattle.endpoint_model.specs.declared.place.Place.TheVariants.{Session}
 use Rattle.endpoint_model.specs.declared.walk.Walk.{Walk}
 use Rattle.endpoint_model.specs.Admission.{sid_at}
 use Rattle.endpoint_model.specs.Causes.{chunk_cause}
-use Rattle.endpoint_model.specs.Effects.{IsQuiet, discarded, discarded_or, discards_for, is_idle, is_idle_after, walked}
-use Rattle.endpoint_model.proofs.FlowChunks.{flows_cause, none_behind}
-use Rattle.std.proofs.Common.{ℕ, zero, suc, inl, inr, ◌≡◌, ◌≤◌, ◌++◌, List, [], ◌∷◌, length, map, Option, Some, None, Result, Ok, Err, OnOk, IfErr, IsSome, Bool, true, false, if◌then◌else◌, ◌<◌, refl, sym, ap, ◌∙◌, subst, arith}
+use Rattle.endpoint_model.specs.Effects.{IsQuiet, chunk_did, discarded, discarded_or, discards_for, effect, is_idle, is_idle_after, walked}
+use Rattle.endpoint_model.proofs.FlowChunks.{flows_cause, flows_effect, none_behind}
+use Rattle.std.proofs.Common.{ℕ, zero, suc, inl, inr, ◌≡◌, ◌≤◌, ◌+◌, ◌++◌, List, [], ◌∷◌, length, map, Option, Some, None, Result, Ok, Err, OnOk, IfErr, IsOk, IsSome, Bool, true, false, if◌then◌else◌, ◌<◌, refl, sym, ap, ◌∙◌, subst, arith}
 use Rattle.std.proofs.lemmas.List.{append-nil}
 use Rattle.std.specs.FinMap.{get, insert}
 use Rattle.rtmfp_base.proofs.Maps.{get_inserted, insert_twice}
@@ -39,9 +35,9 @@ use Rattle.endpoint_model.specs.Added.{Added}
 use Rattle.endpoint_model.specs.State.{State, Did, Done, nothing, after_entries, then_do, with_sessions, Sessions}
 use Rattle.endpoint_model.specs.declared.entry.Entry.{Entry}
 use Rattle.endpoint_model.specs.OnFlows.{flow_entry, flows_done, with_flows}
-use Rattle.endpoint_model.specs.FlowChunks.{flow_cause, flow_taken, flow_taken_by, is_of_flows, states_nothing, told_cause}
+use Rattle.endpoint_model.specs.FlowChunks.{flow_taken, flow_taken_by, is_of_flows, states_nothing}
 use Rattle.endpoint_model.proofs.Steps.{done_nothing, joined}
-use Rattle.end_chunks.specs.FlowChunks.{ack_heard, probe_heard, rejected, rejected_by, data_kept, handed_by, handed_once_by, cause_in, read_cause_at, read_did}
+use Rattle.end_chunks.specs.FlowChunks.{ack_heard, probe_heard, rejected, rejected_by, data_kept, handed_by, handed_once_by, read_cause_at}
 
 -- ---- acks, buffer probes and exceptions
 
@@ -128,6 +124,27 @@ module _ (near flow : ℕ) where
       Done (handed_by s near flow count (get s.sessions near)) t before after
   hand_no_more count s t before after none once = subst (λ (d : Did). Done d t before after) (hand_none count s (get s.sessions near) none) once
 
+-- the entry of the next message is added
+pub handed_one : (near flow : ℕ) (s t : State) (entry : Entry) (before after : Added) → t ≡ (handed_once_by s near flow (get s.sessions near)).state →
+    (handed_once_by s near flow (get s.sessions near)).entries ≡ entry ∷ [] → after.entries ≡ before.entries ++ entry ∷ [] → before.free ≤ after.free + 1 → after.room ≡ before.room →
+    Done (handed_once_by s near flow (get s.sessions near)) t before after
+handed_one near flow s t entry before after state one entries free room = record {
+  state = state;
+  entries = entries ∙ ap (λ (xs : List Entry). before.entries ++ xs) (sym one);
+  free = subst (λ (xs : List Entry). before.free ≤ after.free + length xs) (sym one) free;
+  room = room;
+}
+
+-- none is added
+pub handed_none : (near flow : ℕ) (s t : State) (out : Added) → t ≡ (handed_once_by s near flow (get s.sessions near)).state →
+    (handed_once_by s near flow (get s.sessions near)).entries ≡ [] → Done (handed_once_by s near flow (get s.sessions near)) t out out
+handed_none near flow s t out state none = record {
+  state = state;
+  entries = sym (append-nil out.entries) ∙ ap (λ (xs : List Entry). out.entries ++ xs) (sym none);
+  free = omega arith;
+  room = refl;
+}
+
 -- and so many that are none
 pub hand_zero : (near flow count : ℕ) (s : State) (out : Added) → count ≡ 0 → Done (handed_by s near flow count (get s.sessions near)) s out out
 hand_zero near flow count s out none = subst (λ (n : ℕ). Done (handed_by s near flow n (get s.sessions near)) s out out) (sym none) (by (get s.sessions near) refl)
@@ -193,35 +210,13 @@ module _ (s : State) (place : Place) (walk : Walk) (from : AddressParts) (draws 
   cause_as : chunk_cause s place walk from c ≡ read_cause_at s place read
   cause_as = flows_cause s walk from draws c place kind ∙ sym (ap (read_cause_at s place) is)
 
-  pub enough_for : (P : Type 0) (free : ℕ) → IsQuiet s place walk from c → discards_for (chunk_cause s place walk from c) ≤ free → (IsSome (read_cause_at s place read) → 0 < free → P) →
-      (read_cause_at s place read ≡ None → states_nothing (get s.sessions (sid_at place)) read ≡ true → P) → P
-  enough_for P free quiet room refused idles = by (read_cause_at s place read) refl
-    where
-      idle : is_idle_after s place walk from c ≡ true → states_nothing (get s.sessions (sid_at place)) read ≡ true
-      idle e = ap (states_nothing (get s.sessions (sid_at place))) is
-          ∙ ap (λ (b : Bool). if b then states_nothing (get s.sessions (sid_at place)) (data_reading walk.cursor c.kind c.payload) else is_idle s place from c) (sym kind) ∙ e
-
-      none_told : read_cause_at s place read ≡ None → IsQuiet s place walk from c → P
-      none_told none (inl some) = absurd (none_is (chunk_cause s place walk from c) (cause_as ∙ none) some)
-      none_told none (inr e) = idles none (idle e)
-
-      by : (o : Option Cause) → read_cause_at s place read ≡ o → P
-      by None e = none_told e quiet
-      by (Some cause) e =
-          let one : discards_for (chunk_cause s place walk from c) ≡ 1 = ap discards_for (cause_as ∙ e) in
-          refused (subst IsSome (sym e) refl) (omega (arith, one, room))
+  states_of : is_idle_after s place walk from c ≡ true → states_nothing (get s.sessions (sid_at place)) read ≡ true
+  states_of e = ap (states_nothing (get s.sessions (sid_at place))) is
+      ∙ ap (λ (b : Bool). if b then states_nothing (get s.sessions (sid_at place)) (data_reading walk.cursor c.kind c.payload) else is_idle s place from c) (sym kind) ∙ e
 
 -- the walk behind a chunk that is none of flows
 pub gone_on : (walk new : Walk) (c : Placed) → is_of_flows c.kind ≡ false → new.keyed ≡ (walk.keyed || (c.kind == 0x38)) → new.cursor ≡ None → new ≡ walked walk c
 gone_on walk new c kind keyed cursor = λ i. record { keyed = keyed i; cursor = (cursor ∙ sym (none_behind walk.cursor c.kind c.payload kind)) i }
-
--- the cause of a chunk that was read, in its session
-pub cause_is : (s : State) (near : ℕ) (chunk : DataChunk) (cause : FlowCause) → cause_in (get s.sessions near) chunk ≡ Some cause → read_cause_at s (Session near) (Ok chunk) ≡ Some (told_cause cause)
-cause_is s near chunk cause is = flow_is (get s.sessions near) is
-  where
-    flow_is : (o : Option Row) → cause_in o chunk ≡ Some cause → first_that_stands (flow_cause o (Ok chunk) ∷ []) ≡ Some (told_cause cause)
-    flow_is None e = ap (λ (x : Option FlowCause). first_that_stands (option_map told_cause x ∷ [])) e
-    flow_is (Some row) e = ap (λ (x : Option FlowCause). first_that_stands (option_map told_cause x ∷ [])) e
 
 no_length : {A : Type 0} (xs : List A) → length xs ≡ 0 → xs ≡ []
 no_length [] e = refl
@@ -231,9 +226,22 @@ pub reject_done : (s : State) (near flow : ℕ) (out : Added) → length (reject
 reject_done s near flow out none =
     subst (λ (d : Did). Done d s out out) (sym (rejected_nothing s near flow (get s.sessions near) refl (no_length (rejected_by (get s.sessions near) flow) none))) (done_nothing s out)
 
-which : (o : Option FlowCause) (r : Result (Unit {0}) Untaken) (cause : FlowCause) → r ≡ Err (Discarded cause) → MatchOption o (IfErr r (λ e. e ≡ NoMemory)) (λ x. r ≡ Err (Discarded x)) → o ≡ Some cause
-which None r cause is m = let clash : Discarded cause ≡ NoMemory = subst (λ (q : Result (Unit {0}) Untaken). IfErr q (λ e. e ≡ NoMemory)) is m in absurd (cc)
-which (Some x) r cause is m = let both : ◌≡◌ {A = Result (Unit {0}) Untaken} (Err (Discarded x)) (Err (Discarded cause)) = sym m ∙ is in cc
+-- ---- why a chunk of flows isn't taken
+
+abbrev pub IsTold : Option Cause → Result (Unit {0}) Untaken → Type 0
+IsTold o r = MatchOption o (IfErr r (λ e. e ≡ NoMemory)) (λ c. r ≡ Err (Discarded c))
+
+told_cause_is : (o : Option Cause) (r : Result (Unit {0}) Untaken) (cause : Cause) → r ≡ Err (Discarded cause) → IsTold o r → o ≡ Some cause
+told_cause_is None r cause is m = let clash : Discarded cause ≡ NoMemory = subst (λ (q : Result (Unit {0}) Untaken). IfErr q (λ e. e ≡ NoMemory)) is m in absurd (cc)
+told_cause_is (Some x) r cause is m = let both : ◌≡◌ {A = Result (Unit {0}) Untaken} (Err (Discarded x)) (Err (Discarded cause)) = sym m ∙ is in cc
+
+no_cause_is : (o : Option Cause) (r : Result (Unit {0}) Untaken) → r ≡ Err NoMemory → IsTold o r → o ≡ None
+no_cause_is None r is m = refl
+no_cause_is (Some x) r is m = let both : ◌≡◌ {A = Result (Unit {0}) Untaken} (Err (Discarded x)) (Err NoMemory) = sym m ∙ is in absurd (cc)
+
+none_if_taken : (o : Option Cause) (r : Result (Unit {0}) Untaken) → IsOk r → IsTold o r → o ≡ None
+none_if_taken None r is m = refl
+none_if_taken (Some x) r is m = let clash : false ≡ true = subst IsOk m is in absurd (cc)
 
 -- a chunk is discarded once nothing was done
 pub discard_after : {A E : Type 0} (r : Result A E) (s t u : State) (at : ℕ) (cause : Cause) (d : Did) (before between after : Added) → d ≡ discarded s at cause → Done (nothing s) t before between →
@@ -241,9 +249,38 @@ pub discard_after : {A E : Type 0} (r : Result A E) (s t u : State) (at : ℕ) (
 discard_after (Ok x) s t u at cause d before between after is still done = subst (λ (x : Did). Done x u before after) (sym is) (joined (nothing s) (λ x. discarded x at cause) t u before between after still done)
 discard_after (Err x) s t u at cause d before between after is still done = tt
 
-pub read_discarded : (s : State) (place : Place) (near at : ℕ) (read : Result DataChunk DataFault) (chunk : DataChunk) (cause : FlowCause) (told : Cause) (r : Result (Unit {0}) Untaken) → place ≡ Session near → read ≡ Ok chunk →
-    r ≡ Err (Discarded cause) → MatchOption (cause_in (get s.sessions near) chunk) (IfErr r (λ e. e ≡ NoMemory)) (λ x. r ≡ Err (Discarded x)) → told ≡ told_cause cause → read_did s place at read ≡ discarded s at told
-read_discarded s place near at read chunk cause told r place_is read_is result m told_is =
-    (λ i. read_did s (place_is i) at (read_is i))
-    ∙ ap (λ (o : Option Cause). discarded_or s at o (flow_taken s near (Ok chunk))) (cause_is s near chunk cause (which (cause_in (get s.sessions near) chunk) r cause result m))
-    ∙ ap (discarded s at) (sym told_is)
+-- ---- a chunk of flows that was read, as the end takes it
+
+module _ (s : State) (place : Place) (walk : Walk) (from : AddressParts) (draws : Draws) (c : Placed) (read : Result DataChunk DataFault) (is : read ≡ data_reading walk.cursor c.kind c.payload) (kind : is_of_flows c.kind ≡ true) (r : Result (Unit {0}) Untaken) (told : IsTold (read_cause_at s place read) r) where
+  cause_of : (o : Option Cause) → read_cause_at s place read ≡ o → chunk_did place from draws walk s c ≡ discarded_or s c.at o (effect s place walk from draws c)
+  cause_of o e = ap (λ (x : Option Cause). discarded_or s c.at x (effect s place walk from draws c)) (cause_as s place walk from draws c read is kind ∙ e)
+
+  pub read_taken : (t : State) (before after : Added) → IsOk r → Done (flow_taken s (sid_at place) read) t before after → Done (chunk_did place from draws walk s c) t before after
+  read_taken t before after ok done =
+      let same : chunk_did place from draws walk s c ≡ flow_taken s (sid_at place) read =
+      cause_of None (none_if_taken (read_cause_at s place read) r ok told) ∙ flows_effect s walk from draws c place kind ∙ ap (flow_taken s (sid_at place)) (sym is) in
+      subst (λ (d : Did). Done d t before after) (sym same) done
+
+  pub read_discarded : {A E : Type 0} (q : Result A E) (cause : Cause) (t u : State) (before between after : Added) → r ≡ Err (Discarded cause) → Done (nothing s) t before between →
+      OnOk q (Done (discarded t c.at cause) u between after) → OnOk q (Done (chunk_did place from draws walk s c) u before after)
+  read_discarded q cause t u before between after e still done =
+      discard_after q s t u c.at cause (chunk_did place from draws walk s c) before between after (cause_of (Some cause) (told_cause_is (read_cause_at s place read) r cause e told)) still done
+
+  -- its discard wants no more than its room
+  pub room_to_discard : (P : Type 0) (cause : Cause) (t : State) (before between : Added) → r ≡ Err (Discarded cause) → Done (nothing s) t before between → IsQuiet s place walk from c →
+      discards_for (chunk_cause s place walk from c) ≤ before.free → (0 < between.free → P) → P
+  room_to_discard P cause t before between e still quiet room enough =
+      let cause_is : chunk_cause s place walk from c ≡ Some cause = cause_as s place walk from draws c read is kind ∙ told_cause_is (read_cause_at s place read) r cause e told in
+      enough (omega (arith, room, still.free, ap discards_for cause_is))
+
+  -- one that adds nothing wants no memory
+  pub not_for_memory : (P : Type 0) → r ≡ Err NoMemory → IsQuiet s place walk from c → (states_nothing (get s.sessions (sid_at place)) read ≡ true → IfErr r (λ e. IsSome (read_cause_at s place read))) → P
+  not_for_memory P e quiet told_only =
+      let none : read_cause_at s place read ≡ None = no_cause_is (read_cause_at s place read) r e told in
+      idle none quiet
+    where
+      idle : read_cause_at s place read ≡ None → IsQuiet s place walk from c → P
+      idle none (inl some) = absurd (none_is (chunk_cause s place walk from c) (cause_as s place walk from draws c read is kind ∙ none) some)
+      idle none (inr quiet) =
+          absurd (none_is (read_cause_at s place read) none
+          (subst (λ (q : Result (Unit {0}) Untaken). IfErr q (λ x. IsSome (read_cause_at s place read))) e (told_only (states_of s place walk from draws c read is kind quiet))))

@@ -19,8 +19,7 @@ use Rattle.endpoint_model.specs.declared.place.Place.{Place}
 use Rattle.endpoint_model.specs.State.{State, Did, nothing, with_row}
 use Rattle.endpoint_model.specs.Admission.{sid_at}
 use Rattle.endpoint_model.specs.OnFlows.{flows_done, with_flows}
-use Rattle.endpoint_model.specs.FlowChunks.{is_session, data_fault, flow_cause, flow_taken}
-use Rattle.endpoint_model.specs.Effects.{discarded_or}
+use Rattle.endpoint_model.specs.FlowChunks.{is_session, data_fault, flow_cause}
 
 -- why it is discarded: for its fields, its place, or what its session has
 abbrev pub read_cause_at : State → Place → Result DataChunk DataFault → Option Cause
@@ -28,11 +27,6 @@ read_cause_at s place read = first_that_stands (data_fault read
     ∷ where_true (not (is_session place)) WrongPlace
     ∷ flow_cause (get s.sessions (sid_at place)) read
     ∷ [])
-
--- it is discarded, or does what it does
-abbrev pub read_did : State → Place → ℕ → Result DataChunk DataFault → Did
-read_did s place at read =
-    discarded_or s at (read_cause_at s place read) (flow_taken s (sid_at place) read)
 
 -- the cause in its session: one that isn't there takes none
 abbrev pub cause_in : Option Row → DataChunk → Option FlowCause

@@ -15,7 +15,7 @@ ghost use Rattle.endpoint_model.specs.State.{Done, nothing, with_startup};
 ghost use Rattle.end_chunks.specs.Judging.{IsSo, verdict_did};
 
 use crate::closing::take_close;
-use crate::flows::{is_of_flows, take_read};
+use crate::flows::{Untaken, is_of_flows, take_read};
 use crate::introducing::{introduce_to, take_redirect};
 use crate::judging::{Verdict, judge, sid_at};
 use crate::keyings::{initiator_keyed, responder_keyed};
@@ -194,7 +194,11 @@ pub fn take_chunk(
 {
     if is_of_flows(chunk.kind) {
         let read = walk.cursor.read(chunk.kind, chunk.payload);
-        return take_read(end, place, chunk.at, read, out);
+        return match take_read(end, place, read, out) {
+            Ok(()) => Ok(()),
+            Err(Untaken::Cause(cause)) => end.discard(chunk.at, cause, out),
+            Err(Untaken::Memory) => Err(AllocError),
+        };
     }
     let verdict = judge(end, place, walk, from, chunk);
     go_on(walk, chunk.kind);

@@ -4,7 +4,8 @@
 
 ghost use Rattle.std.specs.Prelude.{◌≡◌, ◌<◌, ◌≤◌, ◌+◌, ◌^◌, ◌++◌, [], Err, IfErr, IfOk, IfSome};
 ghost use Rattle.std.specs.Prelude.{IsOk, IsSome, MatchOption, None, Ok, OnErr, OnOk, Some, false};
-ghost use Rattle.std.specs.Prelude.{length, map, true};
+ghost use Rattle.std.specs.Prelude.{length, map, option_to_list, true};
+ghost use Rattle.std.specs.Option.{option_map};
 ghost use Rattle.session_table.specs.Chunks.{handed_in, waiting_in};
 ghost use Rattle.std.specs.FinMap.{get};
 ghost use Rattle.rtmfp_data_chunks.specs.Chunk.{Data, Probe, data_chunk, user_parts};
@@ -13,21 +14,23 @@ ghost use Rattle.rtmfp_data_chunks.specs.Writing.{IsDataChunk};
 ghost use Rattle.flow_send.specs.Acks.{told};
 ghost use Rattle.session_flows.specs.Keeping.{Abandoned};
 ghost use Rattle.session_flows.specs.Chunks.{finished_at, most_ready};
+ghost use Rattle.endpoint_model.specs.Added.{IsShort};
 ghost use Rattle.endpoint_model.specs.OnFlows.{flow_entry};
-ghost use Rattle.endpoint_model.specs.FlowChunks.{data_fault, flow_taken_by, is_of_flows};
-ghost use Rattle.endpoint_model.specs.FlowChunks.{is_told_only, states_nothing, told_cause};
+ghost use Rattle.endpoint_model.specs.FlowChunks.{data_fault, flow_taken, flow_taken_by};
+ghost use Rattle.endpoint_model.specs.FlowChunks.{is_of_flows, states_nothing, taking_cause};
+ghost use Rattle.endpoint_model.specs.FlowChunks.{told_cause};
 ghost use Rattle.endpoint_model.specs.State.{Done, nothing};
 ghost use Rattle.endpoint_model.specs.Admission.{sid_at};
 ghost use Rattle.end_chunks.specs.FlowChunks.{ack_cause_in, ack_heard, cause_in};
-ghost use Rattle.end_chunks.specs.FlowChunks.{data_kept, exception_cause_in, handed_by};
+ghost use Rattle.end_chunks.specs.FlowChunks.{data_kept, exception_cause_in};
 ghost use Rattle.end_chunks.specs.FlowChunks.{handed_once_by, probe_heard};
-ghost use Rattle.end_chunks.specs.FlowChunks.{read_cause_at, read_did, rejected, rejected_by};
+ghost use Rattle.end_chunks.specs.FlowChunks.{read_cause_at, rejected, rejected_by};
 
 use end_state::{EndState, Outbox};
 use endpoint_model::{Entry, Place};
 use rtmfp_data_chunks::kinds::*;
 use rtmfp_data_chunks::{AckedSpans, DataFault, DataView, UserData};
-use session_flows::{FlowCause, Untaken};
+use session_flows::FlowCause;
 use startup::Cause;
 use std::alloc::AllocError;
 
@@ -68,56 +71,38 @@ fn told_cause(cause: FlowCause) -> Cause
     }
 }
 
-/// Takes a chunk of flows, as it was read: it is discarded for its cause, or does what it does.
+/// Why a chunk of flows isn't taken. All is as before.
+#[derive(Clone, Copy)]
+pub(crate) enum Untaken {
+    /// It is to be discarded for this.
+    Cause(Cause),
+    Memory,
+}
+
+/// Takes a chunk of flows, as it was read, or says why it is discarded.
 pub(crate) fn take_read(
     end: &mut EndState,
     place: Place,
-    at: usize,
     read: Result<DataView<'_>, DataFault>,
     out: &mut Outbox,
-) -> Result<(), AllocError>
-    requires at { at < 2 ^ 32 }
-    requires whole { IfOk read (λ view. IsDataChunk (data_chunk view)) }
-    ensures ok { OnOk result (Done (read_did end.old place at (shown read.entry)) end.new out.old
-        out.new) }
+) -> Result<(), Untaken>
+    requires { IfOk read (λ view. IsDataChunk (data_chunk view)) }
+    ensures ok { OnOk result (Done (flow_taken end.old (sid_at place) (shown read.entry)) end.new
+        out.old out.new) }
+    ensures cause { MatchOption (read_cause_at end.old place (shown read.entry))
+        (IfErr result (λ e. e ≡ Untaken.Memory)) (λ c. result ≡ Err (Untaken.Cause c)) }
     ensures err { OnErr result (Done (nothing end.old) end.new out.old out.new) }
-    ensures refused { IsSome (read_cause_at end.old place (shown read.entry)) →
-        0 < out.old.free → IsOk result }
-    ensures quiet { read_cause_at end.old place (shown read.entry) ≡ None →
-        states_nothing (get end.old.sessions (sid_at place)) (shown read.entry) ≡ true →
-        IsOk result }
+    ensures quiet { states_nothing (get end.old.sessions (sid_at place)) (shown read.entry) ≡ true →
+        IfErr result (λ e. IsSome (read_cause_at end.old place (shown read.entry))) }
 {
     let view = match read {
         Ok(view) => view,
-        Err(fault) => return end.discard(at, data_fault(fault), out),
+        Err(fault) => return Err(Untaken::Cause(data_fault(fault))),
     };
     let Place::Session(near) = place else {
-        return end.discard(at, Cause::WrongPlace, out);
+        return Err(Untaken::Cause(Cause::WrongPlace));
     };
-    match take_view(end, near, &view, out) {
-        Ok(()) => Ok(()),
-        Err(Untaken::Cause(cause)) => end.discard(at, told_cause(cause), out),
-        Err(Untaken::Memory) => Err(AllocError),
-    }
-}
-
-/// Takes a chunk of flows in the session with this session ID.
-fn take_view(
-    end: &mut EndState,
-    near: u32,
-    view: &DataView<'_>,
-    out: &mut Outbox,
-) -> Result<(), Untaken>
-    requires { IsDataChunk (data_chunk view.now) }
-    ensures ok { OnOk result (Done (flow_taken_by end.old near (data_chunk view.now)
-        (get end.old.sessions near)) end.new out.old out.new) }
-    ensures cause { MatchOption (cause_in (get end.old.sessions near) (data_chunk view.now))
-        (IfErr result (λ e. e ≡ Untaken.Memory)) (λ c. result ≡ Err (Untaken.Cause c)) }
-    ensures err { OnErr result (Done (nothing end.old) end.new out.old out.new) }
-    ensures quiet { is_told_only (get end.old.sessions near) (data_chunk view.now) ≡ true →
-        IfErr result (λ e. IsSome (cause_in (get end.old.sessions near) (data_chunk view.now))) }
-{
-    match view {
+    match &view {
         DataView::Data(user) => take_data(end, near, user, out),
         DataView::Next(user) => take_data(end, near, user, out),
         DataView::AckBitmap {
@@ -167,13 +152,14 @@ fn take_data(
     requires { IsBehind user.now.forward user.now.seq user.now.abandon }
     ensures ok { OnOk result (Done (flow_taken_by end.old near (Data (user_parts user.now))
         (get end.old.sessions near)) end.new out.old out.new) }
-    ensures cause { MatchOption (cause_in (get end.old.sessions near) (Data (user_parts user.now)))
-        (IfErr result (λ e. e ≡ Untaken.Memory)) (λ c. result ≡ Err (Untaken.Cause c)) }
+    ensures cause { MatchOption (taking_cause (get end.old.sessions near)
+        (Data (user_parts user.now))) (IfErr result (λ e. e ≡ Untaken.Memory))
+        (λ c. result ≡ Err (Untaken.Cause c)) }
     ensures err { OnErr result (Done (nothing end.old) end.new out.old out.new) }
 {
     let most = match judge_data(end, near, user) {
         Ok(most) => most,
-        Err(cause) => return Err(Untaken::Cause(cause)),
+        Err(cause) => return Err(Untaken::Cause(told_cause(cause))),
     };
     match out.make_room(most) {
         Ok(()) => {}
@@ -181,60 +167,49 @@ fn take_data(
     }
     match keep_data(end, near, user) {
         Ok(()) => {}
-        Err(untaken) => return Err(untaken),
+        Err(_) => return Err(Untaken::Memory),
     }
-    hand_over(end, near, user.flow, most, out);
+    for _ in 0..most {
+        let Some(handed) = hand_next(end, near, user.flow) else {
+            return Ok(());
+        };
+        out.add(handed);
+    }
     Ok(())
 }
 
-/// Takes a data or next chunk, and hands nothing over yet.
-fn keep_data(end: &mut EndState, near: u32, user: &UserData<'_>) -> Result<(), Untaken>
+/// Takes a data or next chunk that nothing refuses, and hands nothing over yet.
+fn keep_data(end: &mut EndState, near: u32, user: &UserData<'_>) -> Result<(), AllocError>
     requires low { user.now.forward ≤ user.now.seq }
     requires below { user.now.abandon ≡ false → user.now.forward < user.now.seq }
     ensures ok { OnOk result (end.new ≡ data_kept end.old near (user_parts user.now)
         (get end.old.sessions near)) }
-    ensures cause { MatchOption (cause_in (get end.old.sessions near) (Data (user_parts user.now)))
-        (IfErr result (λ e. e ≡ Untaken.Memory)) (λ c. result ≡ Err (Untaken.Cause c)) }
     ensures err { OnErr result (end.new ≡ end.old) }
 {
     match end.sessions.take_data(near, user) {
         Ok(()) => Ok(()),
-        Err(untaken) => Err(untaken),
+        Err(_) => Err(AllocError),
     }
 }
 
-/// Hands over the messages of a flow that are ready, so many at most, for which there is room.
-fn hand_over(end: &mut EndState, near: u32, flow: u64, most: usize, out: &mut Outbox)
-    requires { most ≤ out.old.free }
-    ensures { Done (handed_by end.old near flow most (get end.old.sessions near)) end.new out.old
-        out.new }
-{
-    for _ in 0..most {
-        if !hand_next(end, near, flow, out) {
-            return;
-        }
-    }
-}
-
-/// Hands over the next message of a flow, where one is ready; there is room for it.
-fn hand_next(end: &mut EndState, near: u32, flow: u64, out: &mut Outbox) -> bool
-    requires { 0 < out.old.free }
-    ensures done { Done (handed_once_by end.old near flow (get end.old.sessions near)) end.new
-        out.old out.new }
-    ensures none { result ≡ false → handed_in flow (get end.old.sessions near) ≡ [] }
-    ensures room { out.old.free ≤ out.new.free + 1 }
+/// The entry of the next message of a flow, which counts as handed over from now on; none where
+/// none is ready.
+fn hand_next(end: &mut EndState, near: u32, flow: u64) -> Option<Entry>
+    ensures state { end.new
+        ≡ (handed_once_by end.old near flow (get end.old.sessions near)).state }
+    ensures entry { (handed_once_by end.old near flow (get end.old.sessions near)).entries
+        ≡ option_to_list result }
+    ensures none { result ≡ None → handed_in flow (get end.old.sessions near) ≡ [] }
+    ensures short { IfSome result (λ entry. IsShort entry) }
 {
     match end.sessions.hand_next(near, flow) {
-        Some((seq, message)) => {
-            out.add(Entry::Handed {
-                near,
-                flow,
-                seq,
-                message,
-            });
-            true
-        }
-        None => false,
+        Some((seq, message)) => Some(Entry::Handed {
+            near,
+            flow,
+            seq,
+            message,
+        }),
+        None => None,
     }
 }
 
@@ -249,13 +224,14 @@ fn take_ack(
 ) -> Result<(), Untaken>
     ensures ok { OnOk result (end.new ≡ ack_heard end.old near flow (told blocks upto spans.entry)
         (get end.old.sessions near)) }
-    ensures cause { MatchOption (ack_cause_in (get end.old.sessions near) flow
-        (told blocks upto spans.entry)) (result ≡ Ok tt) (λ c. result ≡ Err (Untaken.Cause c)) }
+    ensures cause { MatchOption (option_map told_cause (ack_cause_in (get end.old.sessions near)
+        flow (told blocks upto spans.entry))) (result ≡ Ok tt)
+        (λ c. result ≡ Err (Untaken.Cause c)) }
     ensures err { OnErr result (end.new ≡ end.old) }
 {
     match end.sessions.take_ack(near, flow, blocks, upto, spans) {
         Ok(()) => Ok(()),
-        Err(cause) => Err(Untaken::Cause(cause)),
+        Err(cause) => Err(Untaken::Cause(told_cause(cause))),
     }
 }
 
@@ -263,13 +239,13 @@ fn take_ack(
 fn take_probe(end: &mut EndState, near: u32, flow: u64) -> Result<(), Untaken>
     ensures ok { OnOk result (end.new ≡ probe_heard end.old near flow
         (get end.old.sessions near)) }
-    ensures cause { MatchOption (cause_in (get end.old.sessions near) (Probe flow))
+    ensures cause { MatchOption (taking_cause (get end.old.sessions near) (Probe flow))
         (result ≡ Ok tt) (λ c. result ≡ Err (Untaken.Cause c)) }
     ensures err { OnErr result (end.new ≡ end.old) }
 {
     match end.sessions.take_probe(near, flow) {
         Ok(()) => Ok(()),
-        Err(cause) => Err(Untaken::Cause(cause)),
+        Err(cause) => Err(Untaken::Cause(told_cause(cause))),
     }
 }
 
@@ -297,7 +273,8 @@ fn judge_exception(end: &EndState, near: u32, flow: u64) -> Result<usize, FlowCa
 fn reject(end: &mut EndState, near: u32, flow: u64, out: &mut Outbox) -> Result<(), Untaken>
     ensures ok { OnOk result (Done (rejected end.old near flow (get end.old.sessions near)) end.new
         out.old out.new) }
-    ensures cause { MatchOption (exception_cause_in (get end.old.sessions near) flow)
+    ensures cause { MatchOption (option_map told_cause
+        (exception_cause_in (get end.old.sessions near) flow))
         (IfErr result (λ e. e ≡ Untaken.Memory)) (λ c. result ≡ Err (Untaken.Cause c)) }
     ensures err { OnErr result (Done (nothing end.old) end.new out.old out.new) }
     ensures quiet { rejected_by (get end.old.sessions near) flow ≡ [] →
@@ -305,7 +282,7 @@ fn reject(end: &mut EndState, near: u32, flow: u64, out: &mut Outbox) -> Result<
 {
     let count = match judge_exception(end, near, flow) {
         Ok(count) => count,
-        Err(cause) => return Err(Untaken::Cause(cause)),
+        Err(cause) => return Err(Untaken::Cause(told_cause(cause))),
     };
     if count == 0 {
         return Ok(());
@@ -317,18 +294,19 @@ fn reject(end: &mut EndState, near: u32, flow: u64, out: &mut Outbox) -> Result<
     let mut numbers = Vec::new(end.alloc);
     match take_exception(end, near, flow, &mut numbers) {
         Ok(last) => tell_rejected(near, flow, &numbers, last, out),
-        Err(untaken) => return Err(untaken),
+        Err(_) => return Err(Untaken::Memory),
     }
     Ok(())
 }
 
-/// Takes an exception, and puts the numbers of the messages that it abandons at the end of a list.
+/// Takes an exception that nothing refuses, and puts the numbers of the messages that it abandons
+/// at the end of a list.
 fn take_exception(
     end: &mut EndState,
     near: u32,
     flow: u64,
     numbers: &mut Vec<u64>,
-) -> Result<Option<u64>, Untaken>
+) -> Result<Option<u64>, AllocError>
     ensures state { OnOk result (end.new ≡ (rejected end.old near flow
         (get end.old.sessions near)).state) }
     ensures numbers { OnOk result (numbers.new.items ≡ numbers.old.items
@@ -336,11 +314,12 @@ fn take_exception(
     ensures stated { IfOk result (λ last. rejected_by (get end.old.sessions near) flow
         ≡ map (Abandoned flow) (waiting_in flow (get end.old.sessions near))
         ++ finished_at flow last) }
-    ensures cause { MatchOption (exception_cause_in (get end.old.sessions near) flow)
-        (IfErr result (λ e. e ≡ Untaken.Memory)) (λ c. result ≡ Err (Untaken.Cause c)) }
     ensures err { OnErr result (end.new ≡ end.old) }
 {
-    end.sessions.take_exception(near, flow, numbers)
+    let Ok(last) = end.sessions.take_exception(near, flow, numbers) else {
+        return Err(AllocError);
+    };
+    Ok(last)
 }
 
 /// Tells that the messages of a flow with these numbers are abandoned, and that it is finished, if
