@@ -1,11 +1,13 @@
 -- The chunks of a datagram that was taken, and the test after them.
-use Rattle.std.proofs.Common.{ℕ, ◌≡◌, ◌<◌, ◌⊎◌, List, length, take, Bool, true, false, if◌then◌else◌, Result, Ok, Err, OnOk, IfErr, sym, ◌∙◌, subst}
+use Rattle.std.proofs.Common.{ℕ, ◌≡◌, ◌+◌, ◌<◌, ◌⊎◌, inl, List, ◌∷◌, length, take, Bool, true, false, if◌then◌else◌, Result, Ok, Err, OnOk, IfErr, refl, sym, ap, ◌∙◌, subst, arith}
 use Rattle.rtmfp_forms.specs.Address.{AddressParts}
 use Rattle.rtmfp_packet.specs.Walk.{Placed}
 use Rattle.rtmfp_packet.specs.Whole.{Whole}
 use Rattle.endpoint_model.specs.declared.answers.Stopped.{Stopped}
 use Rattle.endpoint_model.specs.declared.config.Draws.{Draws}
 use Rattle.endpoint_model.specs.declared.place.Place.{Place}
+use Rattle.endpoint_model.specs.declared.place.Place.TheVariants.{Startup, Attempt, Session}
+use Rattle.endpoint_model.specs.declared.walk.Walk.{Walk}
 use Rattle.endpoint_model.specs.Added.{Added}
 use Rattle.endpoint_model.specs.State.{State, Did, Done, nothing, then_do}
 use Rattle.endpoint_model.specs.Admission.{confirming, counted_at, timed_at, taken_packet}
@@ -14,8 +16,8 @@ use Rattle.endpoint_model.specs.InSessions.{tested}
 use Rattle.endpoint_model.specs.FlowChunks.{acked, unowed}
 use Rattle.endpoint_model.specs.Effects.{chunks_did, outset, most_acks, received, part_received}
 use Rattle.endpoint_model.specs.Log.{StopsSo, WantsMore}
-use Rattle.endpoint_model.proofs.Steps.{joined, then_then}
-use Rattle.endpoint.specs.Walks.{walked_and_tested, walked_and_acked, StopsIn}
+use Rattle.endpoint_model.proofs.Steps.{IsGone, done_nothing, joined, then_then}
+use Rattle.endpoint.specs.Walks.{taken_upto, walked_and_tested, walked_and_acked, StopsIn}
 
 -- four things in a row, by the first and what comes after it
 in_a_row : (d : Did) (f g h : State → Did) → then_do (then_do (then_do d f) g) h ≡ then_do d (λ t. then_do (f t) (λ u. then_do (g u) h))
@@ -63,3 +65,40 @@ module _ (s : State) (place : Place) (part : List ℕ) (from : AddressParts) (dr
   stops_if (Ok done) cs t u before between after are enters stops = tt
   stops_if (Err stop) cs t u before between after are enters stops =
       stops_so t u stop before between after enters (subst (λ (xs : List Placed). StopsIn place from draws t xs u between after stop) are stops)
+
+-- ---- the chunks, the acks and the test, one after another
+
+no_acks : (t : State) (place : Place) → acked 0 t place ≡ nothing t
+no_acks t Startup = refl
+no_acks t (Attempt near) = refl
+no_acks t (Session near) = refl
+
+module _ (place : Place) (from : AddressParts) (draws : Draws) (s : State) (cs : List Placed) where
+  -- so many chunks and then so many packets of acks, and no memory for what comes then
+  stops_behind : (gone acks : ℕ) (t u w v : State) (stop : Stopped) (before between middle after : Added) → stop ≡ taken_upto gone →
+      Done (chunks_did place from draws outset s (take gone cs)) t before between → Done (acked acks t place) u between middle → Done (nothing u) w middle after → v ≡ unowed w place →
+      ((gone < length cs) × (acks ≡ 0)) ⊎ ((gone ≡ length cs) × WantsMore from place (walked_and_acked place from draws s cs acks).state) → StopsIn place from draws s cs v before after stop
+  stops_behind gone acks t u w v stop before between middle after stop_is chunks sent still none at =
+      let ended : Done (nothing (unowed u place)) v middle after = record {
+        state = none ∙ ap (λ (x : State). unowed x place) still.state;
+        entries = still.entries;
+        free = still.free;
+        room = still.room;
+      } in
+      let P : Stopped → Type 0 = λ x. StopsIn place from draws s cs v before after x in
+      subst P (sym stop_is) (record {
+        acks = acks;
+        taken = refl;
+        at = at;
+        left =
+            joined (walked_and_acked place from draws s (take gone cs) acks) (λ x. nothing (unowed x place)) u v before middle after
+            (joined (chunks_did place from draws outset s (take gone cs)) (λ x. acked acks x place) t u before between middle chunks sent) ended;
+      })
+
+  -- at a chunk
+  pub stops_at_chunk : (gone : ℕ) (walk : Walk) (one : Placed) (rest : List Placed) (t w v : State) (stop : Stopped) (before between after : Added) → stop ≡ taken_upto gone →
+      IsGone place from draws s cs before gone walk (one ∷ rest) t between → gone + length (one ∷ rest) ≡ length cs → Done (nothing t) w between after → v ≡ unowed w place →
+      StopsIn place from draws s cs v before after stop
+  stops_at_chunk gone walk one rest t w v stop before between after stop_is so fits still none =
+      stops_behind gone 0 t t w v stop before between between after stop_is so.done (subst (λ (d : Did). Done d t between between) (sym (no_acks t place)) (done_nothing t between)) still none
+      (inl (omega (arith, fits), refl))

@@ -1,16 +1,28 @@
--- The chunks of a datagram that was taken, the acks that they owe, and the test after them.
-use Rattle.std.specs.Prelude.{ℕ, ◌<◌, ◌≡◌, ◌⊎◌, true, List, length, take}
+-- The packet of a datagram, its chunks once it was taken, the acks that they owe, and the test after
+-- them.
+use Rattle.std.specs.Prelude.{ℕ, ◌<◌, ◌≡◌, ◌⊎◌, true, if◌then◌else◌, List, length, take, Result, Ok, Err}
 use Rattle.rtmfp_forms.specs.Address.{AddressParts}
+use Rattle.rtmfp_packet.specs.declared.head.PacketFault.{PacketFault}
 use Rattle.rtmfp_packet.specs.Walk.{Placed}
+use Rattle.rtmfp_packet.specs.Whole.{Whole}
+use Rattle.startup.specs.declared.cause.Cause.{Cause}
+use Rattle.startup.specs.declared.cause.Cause.TheVariants.{BadPacket, WrongPlace}
 use Rattle.endpoint_model.specs.declared.config.Draws.{Draws}
 use Rattle.endpoint_model.specs.declared.place.Place.{Place}
 use Rattle.endpoint_model.specs.declared.answers.Stopped.{Stopped as Stop}
 use Rattle.endpoint_model.specs.Added.{Added}
+use Rattle.endpoint_model.specs.Admission.{fault_number, has_mode, mode_at}
 use Rattle.endpoint_model.specs.State.{State, Did, Done, nothing, then_do}
 use Rattle.endpoint_model.specs.InSessions.{tested}
 use Rattle.endpoint_model.specs.FlowChunks.{acked, owes_at, unowed}
 use Rattle.endpoint_model.specs.Effects.{chunks_did, outset, most_acks}
 use Rattle.endpoint_model.specs.Log.{WantsMore}
+
+-- a plain packet that came at a place, by how it reads, or why it is refused
+abbrev pub packet_at : State → Place → Result Whole PacketFault → Result Whole Cause
+packet_at s place (Err fault) = Err (BadPacket (fault_number fault))
+packet_at s place (Ok packet) =
+    if has_mode packet.head (mode_at s place) then Ok packet else Err WrongPlace
 
 abbrev pub acked_and_tested : Place → AddressParts → Draws → State → Did
 acked_and_tested place from draws s =
@@ -26,12 +38,9 @@ pub record StopsOwing (place : Place) (s new : State) (before after : Added) : T
   pub done : Done (acked acks s place) new before after
   pub owes : owes_at new place ≡ true
 
--- Or none was found for the test after them.
-pub record StopsAcking (place : Place) (from : AddressParts) (s new : State)
-    (before after : Added) : Type 0 where
-  pub acks : ℕ
-  pub done : Done (acked acks s place) new before after
-  pub wants : WantsMore from place new
+-- what a call answers that found no memory behind so many chunks
+abbrev pub taken_upto : ℕ → Stop
+taken_upto chunks = record { taken = true; chunks = chunks }
 
 -- the chunks, and so many packets of the acks that they owe
 abbrev pub walked_and_acked : Place → AddressParts → Draws → State → List Placed → ℕ → Did

@@ -1,16 +1,19 @@
 //! How a datagram is taken, or refused as a whole (own rules over RFC 7016 section 3.5).
 
-ghost use Rattle.std.specs.Prelude.{◌≡◌, IfOk, IfErr, OnOk, Ok, Err, drop, length, take};
+ghost use Rattle.std.specs.Prelude.{◌≡◌, ◌≤◌, IfOk, IfErr, OnOk, Ok, Err, drop, length, take};
 ghost use Rattle.std.specs.FinMap.{get};
 ghost use Rattle.rtmfp_packet.specs.Head.{mode_number};
 ghost use Rattle.endpoint_model.specs.Admission.{fault_number, has_mode, heard_in, mode_at};
-ghost use Rattle.endpoint_model.specs.Admission.{opened_datagram, opened_in_startup, peers_mode};
+ghost use Rattle.endpoint_model.specs.Admission.{opened_datagram, opened_in_startup, packet_in};
+ghost use Rattle.endpoint_model.specs.Admission.{peers_mode};
+ghost use Rattle.endpoint_model.specs.Keying.{AreNear};
+ghost use Rattle.endpoint.specs.Walks.{packet_at};
 
 use crypto_profile::open_in_place;
 use end_state::{EndState, PLAIN_AT, word_of};
 use endpoint_model::Place;
 use packet_scramble::{SEALED_AT, unscramble};
-use rtmfp_packet::{Mode, PacketFault, PacketHead};
+use rtmfp_packet::{Mode, Packet, PacketFault, PacketHead, read_packet};
 use session_core::{Role, Unheard};
 use startup::Cause;
 
@@ -78,8 +81,33 @@ pub(crate) fn open_datagram(end: &EndState, datagram: &mut [u8]) -> Result<Place
     }
 }
 
+/// Reads a plain packet that came at a place, or says why it is refused.
+pub(crate) fn packet_at<'a>(
+    end: &EndState,
+    place: Place,
+    plain: &'a [u8],
+) -> Result<Packet<'a>, Cause>
+    requires { length plain.now ≤ 2048 }
+    ensures ok { IfOk result (λ packet. packet_at end.now place (packet_in plain.now)
+        ≡ Ok packet) }
+    ensures near { IfOk result (λ packet. AreNear packet) }
+    ensures err { IfErr result (λ cause. packet_at end.now place (packet_in plain.now)
+        ≡ Err cause) }
+{
+    match read_packet(plain) {
+        Ok(packet) => {
+            if has_mode(packet.head(), mode_at(end, place)) {
+                Ok(packet)
+            } else {
+                Err(Cause::WrongPlace)
+            }
+        }
+        Err(fault) => Err(Cause::BadPacket(fault_number(fault))),
+    }
+}
+
 /// The mode that packets have at a place.
-pub(crate) fn mode_at(end: &EndState, place: Place) -> Mode
+fn mode_at(end: &EndState, place: Place) -> Mode
     ensures { result ≡ mode_at end.now place }
 {
     match place {
@@ -103,7 +131,7 @@ fn peers_mode(role: Role) -> Mode
 }
 
 /// Whether a head has this mode.
-pub(crate) fn has_mode(head: &PacketHead, mode: Mode) -> bool
+fn has_mode(head: &PacketHead, mode: Mode) -> bool
     ensures { result ≡ has_mode head.now mode }
 {
     mode_number(head.mode) == mode_number(mode)
@@ -120,7 +148,7 @@ fn mode_number(mode: Mode) -> u8
 }
 
 /// The number that a fault of a packet has in the cause of its discard.
-pub(crate) fn fault_number(fault: PacketFault) -> u8
+fn fault_number(fault: PacketFault) -> u8
     ensures { result ≡ fault_number fault }
 {
     match fault {

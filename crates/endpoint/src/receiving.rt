@@ -1,25 +1,19 @@
 //! Datagrams that come in.
 
-ghost use Rattle.std.specs.Prelude.{◌≡◌, ◌+◌, ◌<◌, ◌≤◌, ◌^◌, IfErr, IfOk, IsOk, OnErr, OnOk, drop};
-ghost use Rattle.std.specs.Prelude.{false, length, take, true};
+ghost use Rattle.std.specs.Prelude.{◌≡◌, ◌+◌, ◌<◌, ◌≤◌, ◌^◌, IfErr, IsOk, OnErr, OnOk, drop};
+ghost use Rattle.std.specs.Prelude.{false, length, true};
 ghost use Rattle.std.specs.List.{AllByRecursion};
 ghost use Rattle.rtmfp_packet.specs.Chunks.{left};
-ghost use Rattle.std.specs.FinMap.{get};
-ghost use Rattle.endpoint_model.specs.declared.place.Place.TheVariants as Place;
-ghost use Rattle.endpoint_model.specs.Admission.{admission, admitted_packet, confirming, confirms};
-ghost use Rattle.endpoint_model.specs.Admission.{counted_at, packet_in, taken_packet, timed_at};
-ghost use Rattle.endpoint_model.specs.Effects.{AddsDiscards, AreQuiet, EndsQuietly, chunks_did};
-ghost use Rattle.endpoint_model.specs.Effects.{discarded, discards, discards_among, most_acks};
-ghost use Rattle.endpoint_model.specs.Effects.{outset, received};
-ghost use Rattle.endpoint_model.specs.FlowChunks.{acked, acked_by, acked_in, owes_at, owes_by};
-ghost use Rattle.endpoint_model.specs.FlowChunks.{unowed};
-ghost use Rattle.endpoint_model.specs.Keying.{AreNear};
-ghost use Rattle.endpoint_model.specs.Log.{Extends, IsTaken, StopsSo, not_taken, receive_event};
+ghost use Rattle.endpoint_model.specs.Admission.{admission, confirming, confirms, counted_at};
+ghost use Rattle.endpoint_model.specs.Admission.{timed_at};
+ghost use Rattle.endpoint_model.specs.Effects.{AreQuiet, EndsQuietly, chunks_did, discarded};
+ghost use Rattle.endpoint_model.specs.Effects.{discards_among, most_acks, outset};
+ghost use Rattle.endpoint_model.specs.FlowChunks.{acked, owes_at, unowed};
+ghost use Rattle.endpoint_model.specs.Log.{Extends, IsTaken, not_taken, receive_event};
 ghost use Rattle.endpoint_model.specs.State.{Done, at_moment, nothing};
-ghost use Rattle.endpoint.specs.Walks.{StopsAcking, StopsIn, StopsOwing, acked_and_tested};
-ghost use Rattle.endpoint.specs.Walks.{walked_and_tested};
+ghost use Rattle.endpoint.specs.Walks.{StopsIn, StopsOwing, taken_upto, walked_and_tested};
 
-use crate::admission::{fault_number, has_mode, mode_at, open_datagram};
+use crate::admission::{open_datagram, packet_at};
 use crate::endpoint::Endpoint;
 use crate::sizes::{are_bytes, are_sized};
 use end_chunks::{take_chunk, test};
@@ -28,7 +22,7 @@ use endpoint_model::{Draws, Entry, Place, Stopped, Walk};
 use packet_scramble::SEALED_AT;
 use rtmfp_data_chunks::DataCursor;
 use rtmfp_forms::Address;
-use rtmfp_packet::{Chunks, Packet, PacketHead, read_packet};
+use rtmfp_packet::{Chunks, PacketHead};
 use startup::Cause;
 use std::alloc::AllocError;
 
@@ -72,9 +66,19 @@ impl Endpoint {
         are_sized(draws);
         self.end.advance(moment);
         self.end.look_up(datagram);
-        match open_datagram(&self.end, datagram) {
-            Ok(place) => take_opened(&mut self.end, place, &from, datagram, draws, out),
-            Err(cause) => refuse_unopened(&mut self.end, cause, out),
+        let place = match open_datagram(&self.end, datagram) {
+            Ok(place) => place,
+            Err(cause) => return refuse_unopened(&mut self.end, cause, out),
+        };
+        let part = behind(datagram, SEALED_AT);
+        let plain = behind(datagram, PLAIN_AT);
+        let packet = match packet_at(&self.end, place, plain) {
+            Ok(packet) => packet,
+            Err(cause) => return refuse(&mut self.end, place, part, cause, out),
+        };
+        match enter(&mut self.end, place, part, packet.head(), out) {
+            Ok(()) => go_through(&mut self.end, place, &from, draws, packet.chunks(), out),
+            Err(_) => Err(NOT_TAKEN),
         }
     }
 }
@@ -89,54 +93,6 @@ fn refuse_unopened(end: &mut EndState, cause: Cause, out: &mut Outbox) -> Result
     match end.discard(0, cause, out) {
         Ok(()) => Ok(()),
         Err(_) => Err(NOT_TAKEN),
-    }
-}
-
-/// Takes a datagram that was opened at a place.
-fn take_opened(
-    end: &mut EndState,
-    place: Place,
-    from: &Address,
-    datagram: &[u8],
-    draws: &Draws,
-    out: &mut Outbox,
-) -> Result<(), Stopped>
-    requires long { 36 ≤ length datagram.now }
-    requires short { length datagram.now ≤ 2048 }
-    ensures { IsTaken end.old from.now draws.now
-        (admitted_packet (counted_at end.old place (drop 4 datagram.now)) place
-        (packet_in (drop 36 datagram.now))) result end.new out.old out.new }
-{
-    let part = behind(datagram, SEALED_AT);
-    let plain = behind(datagram, PLAIN_AT);
-    take_plain(end, place, from, part, plain, draws, out)
-}
-
-/// Takes a sealed part that was opened at a place, and its plain packet.
-fn take_plain(
-    end: &mut EndState,
-    place: Place,
-    from: &Address,
-    part: &[u8],
-    plain: &[u8],
-    draws: &Draws,
-    out: &mut Outbox,
-) -> Result<(), Stopped>
-    requires long { 32 ≤ length part.now }
-    requires short { length plain.now ≤ 2048 }
-    ensures { IsTaken end.old from.now draws.now
-        (admitted_packet (counted_at end.old place part.now) place (packet_in plain.now))
-        result end.new out.old out.new }
-{
-    match read_packet(plain) {
-        Ok(packet) => {
-            if has_mode(packet.head(), mode_at(end, place)) {
-                take_packet(end, place, from, part, &packet, draws, out)
-            } else {
-                refuse(end, place, part, Cause::WrongPlace, out)
-            }
-        }
-        Err(fault) => refuse(end, place, part, Cause::BadPacket(fault_number(fault)), out),
     }
 }
 
@@ -162,34 +118,6 @@ fn refuse(
     end.count(place, part);
     out.add(Entry::Discard { place: 0, cause });
     Ok(())
-}
-
-/// Takes a packet that came at a place.
-fn take_packet(
-    end: &mut EndState,
-    place: Place,
-    from: &Address,
-    part: &[u8],
-    packet: &Packet<'_>,
-    draws: &Draws,
-    out: &mut Outbox,
-) -> Result<(), Stopped>
-    requires part { 32 ≤ length part.now }
-    requires chunks { AreNear packet.now }
-    ensures ok { OnOk result
-        (Done (received from.now draws.now (taken_packet end.old place part.now packet.now))
-        end.new out.old out.new) }
-    ensures stop { IfErr result (StopsSo (λ d. Done d end.new out.old out.new) end.old from.now
-        draws.now (taken_packet end.old place part.now packet.now)) }
-    ensures enough { AddsDiscards from.now draws.now
-        (taken_packet end.old place part.now packet.now) →
-        discards from.now draws.now (taken_packet end.old place part.now packet.now)
-        ≤ out.old.free → IsOk result }
-{
-    match enter(end, place, part, packet.head(), out) {
-        Ok(()) => go_through(end, place, from, draws, packet.chunks(), out),
-        Err(_) => Err(NOT_TAKEN),
-    }
 }
 
 /// Finds room for the fact that confirms a session, where a datagram at a place does so.
@@ -236,7 +164,7 @@ fn go_through(
     place: Place,
     from: &Address,
     draws: &Draws,
-    chunks: Chunks<'_>,
+    mut chunks: Chunks<'_>,
     out: &mut Outbox,
 ) -> Result<(), Stopped>
     requires near { AllByRecursion (λ c. c.at < 2 ^ 32) (left chunks) }
@@ -252,81 +180,60 @@ fn go_through(
         discards_among place from.now draws.now outset end.old (left chunks.entry)
         ≤ out.old.free → IsOk result }
 {
-    let count = match walk(end, place, from, draws, chunks, out) {
-        Ok(count) => count,
-        Err(stop) => {
-            forget_acks(end, place);
-            return Err(stop);
-        }
+    let mut gone = 0u32;
+    let mut walk = Walk {
+        keyed: false,
+        cursor: DataCursor::new(),
     };
-    match send_acks_and_test(end, place, from, draws, out) {
-        Ok(()) => Ok(()),
-        Err(_) => {
-            forget_acks(end, place);
-            Err(Stopped {
-                taken: true,
-                chunks: count,
-            })
+    while let Some(chunk) = chunks.next() {
+        match take_chunk(end, place, from, draws, &mut walk, &chunk, out) {
+            Ok(()) => gone += 1,
+            Err(_) => return Err(stop(end, place, gone)),
         }
+    }
+    match send_acks(end, place, out) {
+        Ok(()) => {}
+        Err(_) => return Err(stop(end, place, gone)),
+    }
+    match test(end, place, from, draws, out) {
+        Ok(()) => Ok(()),
+        Err(_) => Err(stop(end, place, gone)),
     }
 }
 
-/// Sends the acks that the chunks of a datagram at a place owe, and tests the address that it came
-/// from then.
-fn send_acks_and_test(
-    end: &mut EndState,
-    place: Place,
-    from: &Address,
-    draws: &Draws,
-    out: &mut Outbox,
-) -> Result<(), AllocError>
-    ensures ok { OnOk result (Done (acked_and_tested place from.now draws.now end.old) end.new
-        out.old out.new) }
-    ensures err { OnErr result (StopsAcking place from.now end.old end.new out.old out.new) }
-    ensures enough { EndsQuietly from.now place end.old → IsOk result }
-{
-    send_acks(end, place, out)?;
-    test(end, place, from, draws, out)
-}
-
-/// Sends the acks that the chunks of a datagram at a place owe.
+/// Sends the acks that the chunks of a datagram at a place owe, packet after packet.
 fn send_acks(end: &mut EndState, place: Place, out: &mut Outbox) -> Result<(), AllocError>
     ensures ok { OnOk result (Done (acked most_acks end.old place) end.new out.old out.new) }
     ensures err { OnErr result (StopsOwing place end.old end.new out.old out.new) }
     ensures enough { owes_at end.old place ≡ false → IsOk result }
 {
-    match place {
-        Place::Startup => Ok(()),
-        Place::Attempt(_) => Ok(()),
-        Place::Session(near) => send_acks_in(end, near, out),
-    }
-}
-
-/// Sends the acks that a session owes, packet after packet.
-fn send_acks_in(end: &mut EndState, near: u32, out: &mut Outbox) -> Result<(), AllocError>
-    ensures ok { OnOk result (Done (acked_in most_acks end.old near) end.new out.old out.new) }
-    ensures err { OnErr result (StopsOwing (Place.Session near) end.old end.new out.old out.new) }
-    ensures enough { owes_by (get end.old.sessions near) ≡ false → IsOk result }
-{
+    let near = match place {
+        Place::Startup => return Ok(()),
+        Place::Attempt(_) => return Ok(()),
+        Place::Session(near) => near,
+    };
     for _ in 0..MOST_ACKS {
         if !end.owes_acks(near) {
             return Ok(());
         }
-        send_acks_once(end, near, out)?;
+        out.make_room(1)?;
+        let blank = blank(end.alloc)?;
+        end.send_acks(blank, near, out);
     }
     Ok(())
 }
 
-/// Sends one packet of the acks that a session owes.
-fn send_acks_once(end: &mut EndState, near: u32, out: &mut Outbox) -> Result<(), AllocError>
-    ensures ok { OnOk result (Done (acked_by end.old near (get end.old.sessions near)) end.new
-        out.old out.new) }
-    ensures err { OnErr result (Done (nothing end.old) end.new out.old out.new) }
+/// No memory was found behind so many chunks of a datagram that was taken at a place. The acks that
+/// are owed there aren't sent any more.
+fn stop(end: &mut EndState, place: Place, chunks: u32) -> Stopped
+    ensures state { end.new ≡ unowed end.old place }
+    ensures stop { result ≡ taken_upto chunks }
 {
-    out.make_room(1)?;
-    let blank = blank(end.alloc)?;
-    end.send_acks(blank, near, out);
-    Ok(())
+    forget_acks(end, place);
+    Stopped {
+        taken: true,
+        chunks,
+    }
 }
 
 /// The acks that are owed at a place aren't sent any more.
@@ -338,50 +245,6 @@ fn forget_acks(end: &mut EndState, place: Place)
         Place::Attempt(_) => {}
         Place::Session(near) => end.forget_acks(near),
     }
-}
-
-/// Goes through the chunks of a datagram, and tells how many there are.
-fn walk(
-    end: &mut EndState,
-    place: Place,
-    from: &Address,
-    draws: &Draws,
-    mut chunks: Chunks<'_>,
-    out: &mut Outbox,
-) -> Result<u32, Stopped>
-    requires near { AllByRecursion (λ c. c.at < 2 ^ 32) (left chunks) }
-    requires few { length (left chunks) < 2 ^ 32 }
-    ensures ok { OnOk result
-        (Done (chunks_did place from.now draws.now outset end.old (left chunks.entry)) end.new
-        out.old out.new) }
-    ensures count { IfOk result (λ count. count ≡ length (left chunks.entry)) }
-    ensures stop { IfErr result (λ stop. (stop.taken ≡ true) ×
-        (stop.chunks < length (left chunks.entry))) }
-    ensures stopped { IfErr result
-        (λ stop. Done (chunks_did place from.now draws.now outset end.old
-        (take stop.chunks (left chunks.entry))) end.new out.old out.new) }
-    ensures enough { AreQuiet place from.now draws.now outset end.old (left chunks.entry) →
-        discards_among place from.now draws.now outset end.old (left chunks.entry)
-        ≤ out.old.free → IsOk result }
-{
-    let mut gone = 0u32;
-    let mut walk = Walk {
-        keyed: false,
-        cursor: DataCursor::new(),
-    };
-    while let Some(chunk) = chunks.next() {
-        match take_chunk(end, place, from, draws, &mut walk, &chunk, out) {
-            Ok(()) => {}
-            Err(_) => {
-                return Err(Stopped {
-                    taken: true,
-                    chunks: gone,
-                });
-            }
-        }
-        gone += 1;
-    }
-    Ok(gone)
 }
 
 /// What stands behind so many bytes.

@@ -2,7 +2,7 @@ use Rattle.std.proofs.Common.{◌≡◌, ◌<◌, true}
 use Rattle.std.specs.FinMap.{get}
 use Rattle.endpoint_model.specs.State.{Done}
 use Rattle.endpoint_model.specs.FlowChunks.{acked_in, owes_by}
-use Rattle.endpoint.proofs.receiving.send_acks_in.Given as goal
+use Rattle.endpoint.proofs.receiving.send_acks.Given as goal
 
 abbrev pub invariant-loop : goal.invariant-loop
 invariant-loop l = record {

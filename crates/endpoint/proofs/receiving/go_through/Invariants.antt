@@ -4,7 +4,7 @@ use Rattle.rtmfp_packet.specs.Chunks.{left}
 use Rattle.endpoint_model.specs.Effects.{AreQuiet, discards_among, outset}
 use Rattle.endpoint_model.proofs.Steps.{IsGone}
 use Rattle.endpoint.proofs.Refusals.{IsRoomy}
-use Rattle.endpoint.proofs.receiving.walk.Given as goal
+use Rattle.endpoint.proofs.receiving.go_through.Given as goal
 
 abbrev pub invariant-loop-chunk : goal.invariant-loop-chunk
 invariant-loop-chunk l = record {

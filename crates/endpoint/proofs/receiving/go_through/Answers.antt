@@ -1,11 +1,12 @@
-use Rattle.std.proofs.Common.{List, ◌<◌, ◌+◌, ◌^◌, ◌∷◌, length, ap, sym, subst, arith}
+use Rattle.std.proofs.Common.{List, ◌≡◌, ◌<◌, ◌+◌, ◌^◌, ◌∷◌, length, ap, sym, subst, arith}
 use Rattle.std.specs.List.{AllByRecursion}
 use Rattle.rtmfp_packet.specs.Walk.{Placed}
 use Rattle.rtmfp_packet.specs.Chunks.{left, shown}
 use Rattle.endpoint_model.specs.declared.walk.Walk.{Walk}
 use Rattle.endpoint_model.proofs.Steps.{IsGone, one_gone}
 use Rattle.endpoint.proofs.Refusals.{IsRoomy, one_refused}
-use Rattle.endpoint.proofs.receiving.walk.Goals as goal
+use Rattle.endpoint.proofs.Walking.{stops_at_chunk}
+use Rattle.endpoint.proofs.receiving.go_through.Goals as goal
 
 pub loop-chunk-preserved : goal.loop-chunk-preserved
 loop-chunk-preserved c =
@@ -25,3 +26,14 @@ loop-chunk-preserved c =
           (one_refused c.args.place c.args.from.now c.args.draws.now c.loop-chunk.walk c.loop-chunk.end c.take_chunk.new.end one rest c.loop-chunk.out c.take_chunk.new.out
           (subst (λ (cs : List Placed). IsRoomy c.args.place c.args.from.now c.args.draws.now c.loop-chunk.walk c.loop-chunk.end cs c.loop-chunk.out.free) c.in-Some.ensures.steps (c.loop-chunk.invariant.roomy refused room)) c.in-Ok.ensures.ok);
     }
+
+pub returns-in-Err-clause-stop : goal.returns-in-Err-clause-stop
+returns-in-Err-clause-stop c =
+    let all : List Placed = left c.args.chunks in
+    let rest : List Placed = left c.next.new.self in
+    let one : Placed = shown c.in-Some.chunk in
+    let so_far : IsGone c.args.place c.args.from.now c.args.draws.now c.args.end.now all c.args.out.now c.loop-chunk.gone c.loop-chunk.walk (one ∷ rest) c.loop-chunk.end c.loop-chunk.out =
+    subst (λ (cs : List Placed). IsGone c.args.place c.args.from.now c.args.draws.now c.args.end.now all c.args.out.now c.loop-chunk.gone c.loop-chunk.walk cs c.loop-chunk.end c.loop-chunk.out) c.in-Some.ensures.steps c.loop-chunk.invariant.so_far in
+    let fits : c.loop-chunk.gone + length (one ∷ rest) ≡ length all = subst (λ (cs : List Placed). c.loop-chunk.gone + length cs ≡ length all) c.in-Some.ensures.steps c.loop-chunk.invariant.fits in
+    stops_at_chunk c.args.place c.args.from.now c.args.draws.now c.args.end.now all c.loop-chunk.gone c.loop-chunk.walk one rest c.loop-chunk.end c.take_chunk.new.end c.stop.new.end c.stop.result
+    c.args.out.now c.loop-chunk.out c.take_chunk.new.out c.stop.ensures.stop so_far fits c.in-Err.ensures.err c.stop.ensures.state
