@@ -1,5 +1,5 @@
 -- What no step of startup changes: the secret, and the fingerprint whose end the ledger is of.
-use Rattle.std.proofs.Common.{◌≡◌, ℕ, List, Bool, true, false, if◌then◌else◌, Option, Some, None, Result, Ok, Err, refl, sym, ap, ◌∙◌}
+use Rattle.std.proofs.Common.{◌≡◌, ℕ, List, [], ◌∷◌, Bool, true, false, if◌then◌else◌, Option, Some, None, Result, Ok, Err, refl, sym, ap, ◌∙◌}
 use Rattle.rtmfp_forms.specs.Address.{AddressParts}
 use Rattle.cookies.specs.declared.CookieTest.{CookieTest}
 use Rattle.cookies.specs.declared.CookieTest.TheVariants.{Bad, Moved, Expired as OldCookie, Current}
@@ -16,7 +16,8 @@ use Rattle.crypto_profile.specs.declared.keys.Context.TheVariants.{Startup}
 use Rattle.crypto_profile.specs.Keys.{Keys, keys_of}
 use Rattle.startup.specs.declared.cause.Cause.{Cause}
 use Rattle.startup.specs.State.{AttemptState, StartupState}
-use Rattle.startup.specs.Attempts.{with_ledger, after_end_of}
+use Rattle.startup.specs.Attempts.{with_ledger, after_end_of, after_answer, after_change}
+use Rattle.startup.specs.Judging.{after_extension_of}
 use Rattle.startup.specs.Keyings.{InitiatorKeying, initiator_keying_in, keying_of, after_again_or_birth, after_keyed_with, after_keyed_reading, after_keying, after_opening}
 use Rattle.end_state.specs.declared.settings.Settings.{Settings}
 use Rattle.end_state.specs.Stored.{IsEnd}
@@ -38,6 +39,19 @@ either false s t u p q = q
 ended : (s : StartupState) (found : Option (ℕ × AttemptState)) (why : Why) → IsSameEnd s (after_end_of s found why)
 ended s None why = same s
 ended s (Some e) why = record { secret_is = refl; own_is = refl }
+
+pub answer_keeps : (s : StartupState) (found : Option (ℕ × AttemptState)) (from : AddressParts) (cookie : List ℕ) (moment : ℕ) → IsSameEnd s (after_answer s found from cookie moment)
+answer_keeps s None from cookie moment = same s
+answer_keeps s (Some e) from cookie moment = record { secret_is = refl; own_is = refl }
+
+pub change_keeps : (s : StartupState) (found : Option (ℕ × AttemptState)) (cookie : List ℕ) (moment : ℕ) → IsSameEnd s (after_change s found cookie moment)
+change_keeps s None cookie moment = same s
+change_keeps s (Some e) cookie moment = record { secret_is = refl; own_is = refl }
+
+pub extension_keeps : (s : StartupState) (found : Option (ℕ × AttemptState)) (new : List AddressParts) (moment : ℕ) → IsSameEnd s (after_extension_of s found new moment)
+extension_keeps s None new moment = same s
+extension_keeps s (Some e) [] moment = same s
+extension_keeps s (Some e) (first ∷ others) moment = record { secret_is = refl; own_is = refl }
 
 noted_keeps : (s : StartupState) (fact : Option Fact) → IsSameEnd s (with_ledger s (noted_if s.ledger fact))
 noted_keeps s None = record { secret_is = refl; own_is = refl }

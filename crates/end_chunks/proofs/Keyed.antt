@@ -92,7 +92,7 @@ opened_so s t near from payload fact new before after is t_is done =
 
 -- ---- what an end keeps beside its state stays as it should be
 
-kept_end : (settings : Settings) (secret print : List ℕ) (keys : Keys) (s t left : StartupState) → IsEnd settings secret print keys s → IsSameEnd s left → t ≡ left → IsEnd settings secret print keys t
+pub kept_end : (settings : Settings) (secret print : List ℕ) (keys : Keys) (s t left : StartupState) → IsEnd settings secret print keys s → IsSameEnd s left → t ≡ left → IsEnd settings secret print keys t
 kept_end settings secret print keys s t left is same t_is =
     subst (λ (x : StartupState). IsEnd settings secret print keys x) (sym t_is) (end_stays settings secret print keys s left is same)
 

@@ -4,5 +4,6 @@ mod Lingering
 mod Reasons
 mod Told
 mod FlowTaken
+mod Found
 pub mod Introduced
 pub mod Relocating

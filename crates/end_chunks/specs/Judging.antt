@@ -1,5 +1,5 @@
 -- A chunk that isn't discarded, as it was read once and with what was found of it.
-use Rattle.std.specs.Prelude.{ℕ, ◌==◌, ◌≤◌, not, Bool, true, if◌then◌else◌, [], ◌∷◌, length, Option}
+use Rattle.std.specs.Prelude.{ℕ, ◌==◌, ◌≤◌, not, Bool, true, if◌then◌else◌, [], ◌∷◌, length, List, Option}
 use Rattle.std.specs.Prelude.{Some, None, Ok, ◌≡◌}
 use Rattle.std.specs.FinMap.{get}
 use Rattle.rtmfp_forms.specs.Address.{AddressParts}
@@ -15,13 +15,13 @@ use Rattle.glare_core.specs.Calls.{where_true, first_that_stands}
 use Rattle.startup.specs.declared.cause.Cause.{Cause}
 use Rattle.startup.specs.declared.cause.Cause.TheVariants.{WrongPlace, WrongState}
 use Rattle.startup.specs.declared.cause.Cause.TheVariants.{Fragment as FragmentCause}
-use Rattle.startup.specs.State.{peer_of_attempt}
-use Rattle.startup.specs.Attempts.{wide, rhello_cause, cookie_change_cause, after_rhello}
-use Rattle.startup.specs.Attempts.{rhello_keying, after_cookie_change, cookie_change_keying}
+use Rattle.startup.specs.State.{AttemptState, peer_of_attempt}
+use Rattle.startup.specs.Attempts.{wide, changed, after_answer, answer_keying, after_change}
+use Rattle.startup.specs.Attempts.{change_keying}
 use Rattle.startup.specs.Keyings.{initiator_keying_in, responder_keying_in, initiator_hello_answer}
-use Rattle.startup.specs.Redirects.{adds, after_redirect, redirect_cause, redirect_spread}
 use Rattle.startup.specs.Read.{initiator_of, responder_of}
-use Rattle.startup.specs.Judging.{judged_initiator}
+use Rattle.startup.specs.Judging.{judged_initiator, IsFound, found_in, Extends}
+use Rattle.startup.specs.Judging.{after_extension_of, extension_spread}
 use Rattle.endpoint_model.specs.declared.config.Draws.{Draws}
 use Rattle.endpoint_model.specs.declared.place.Place.{Place}
 use Rattle.endpoint_model.specs.State.{State, Did, nothing, with_startup, full}
@@ -87,18 +87,19 @@ does_nothing s place from chunk = adds_nothing s from (Ok chunk)
 abbrev pub verdict_did : State → Place → AddressParts → Draws → Verdict → Did
 verdict_did s place from draws (Hello tag to) =
     sent_answer s (initiator_hello_answer s.startup tag.now to s.moment)
-verdict_did s place from draws (ResponderHello tag cookie cert) =
-    sent_if (with_startup s (after_rhello s.startup tag.now cookie.now from s.moment))
-    (rhello_keying s.startup tag.now cookie.now from)
+verdict_did s place from draws (ResponderHello found cookie) =
+    sent_if (with_startup s
+    (after_answer s.startup (found_in s.startup found) from cookie.now s.moment))
+    (answer_keying s.startup (found_in s.startup found) from cookie.now)
 verdict_did s place from draws (Introduction epd tag selected) =
     replied s place from (introduction s (Some selected) epd.now tag.now from)
-verdict_did s place from draws (Redirect tag list count) =
-    sent_spread_if (with_startup s (after_redirect s.startup tag.now list.now from s.moment))
-    (redirect_spread s.startup tag.now list.now from)
-verdict_did s place from draws (CookieChange old new) =
-    sent_if (with_startup s
-    (after_cookie_change s.startup (sid_at place) old.now new.now s.moment))
-    (cookie_change_keying s.startup (sid_at place) old.now new.now)
+verdict_did s place from draws (Redirect extension) =
+    sent_spread_if (with_startup s
+    (after_extension_of s.startup (found_in s.startup extension.found) extension.new s.moment))
+    (extension_spread (found_in s.startup extension.found) extension.new)
+verdict_did s place from draws (CookieChange found new) =
+    sent_if (with_startup s (after_change s.startup (found_in s.startup found) new.now s.moment))
+    (change_keying s.startup (found_in s.startup found) new.now)
 verdict_did s place from draws (InitiatorKeying fields hearing) =
     initiator_keyed s from draws fields.payload.now
 verdict_did s place from draws (ResponderKeying fields peer) =
@@ -115,15 +116,15 @@ verdict_did s place from draws Quiet = nothing s
 -- what was found is so
 abbrev pub IsSo : State → Place → AddressParts → Verdict → Type 0
 IsSo s place from (Hello tag to) = wide tag.now ≡ None
-IsSo s place from (ResponderHello tag cookie cert) =
-    rhello_cause s.startup tag.now cookie.now cert.now ≡ None
+IsSo s place from (ResponderHello found cookie) =
+    ((chosen : Option (ℕ × AttemptState)) × IsFound s.startup found chosen)
+    × (length cookie.now ≤ 128)
 IsSo s place from (Introduction epd tag selected) = (wide tag.now ≡ None)
     × (discriminator_of epd.now ≡ Some selected)
-IsSo s place from (Redirect tag list count) =
-    (redirect_cause s.startup tag.now list.now from ≡ None)
-    × (count ≡ adds s.startup tag.now list.now from)
-IsSo s place from (CookieChange old new) =
-    cookie_change_cause s.startup (sid_at place) old.now new.now ≡ None
+IsSo s place from (Redirect extension) = Extends s.startup extension
+IsSo s place from (CookieChange found new) =
+    ((sid : ℕ) × ((old : List ℕ) × IsFound s.startup found (changed s.startup.attempts sid old)))
+    × (length new.now ≤ 128)
 IsSo s place from (InitiatorKeying fields hearing) =
     (initiator_keying_in fields.payload.now ≡ Ok (initiator_of fields))
     × (judged_initiator s.startup fields.payload.now from s.moment (full s) (initiator_of fields)

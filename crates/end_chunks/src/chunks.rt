@@ -1,12 +1,15 @@
 //! One chunk of a datagram: it is discarded for its cause, or does what it does.
 
-ghost use Rattle.std.specs.Prelude.{◌≡◌, ◌==◌, ◌||◌, ◌<◌, ◌≤◌, ◌^◌, IsOk, None, OnErr, OnOk, length};
+ghost use Rattle.std.specs.Prelude.{ℕ, ◌≡◌, ◌==◌, ◌||◌, ◌<◌, ◌≤◌, ◌^◌, IsOk, OnErr, OnOk};
+ghost use Rattle.std.specs.Prelude.{List, length, Option, None};
 ghost use Rattle.rtmfp_chunks.specs.Chunk.{chunk_of};
 ghost use Rattle.rtmfp_chunks.specs.Writing.{IsWritable, chunk_bytes};
 ghost use Rattle.rtmfp_packet.specs.Chunks.{shown};
-ghost use Rattle.startup.specs.Attempts.{after_cookie_change, after_rhello, cookie_change_cause};
-ghost use Rattle.startup.specs.Attempts.{cookie_change_keying, rhello_cause, rhello_keying, wide};
+ghost use Rattle.startup.specs.State.{AttemptState};
+ghost use Rattle.startup.specs.Attempts.{after_answer, after_change, answer_keying};
+ghost use Rattle.startup.specs.Attempts.{change_keying, changed, wide};
 ghost use Rattle.startup.specs.Keyings.{initiator_hello_answer};
+ghost use Rattle.startup.specs.Judging.{found_in, IsFound};
 ghost use Rattle.rtmfp_chunks.specs.declared.kinds.TheConstants.{IIKEYING};
 ghost use Rattle.endpoint_model.specs.Effects.{IsQuiet, chunk_did, discards_for, walked};
 ghost use Rattle.endpoint_model.specs.Causes.{chunk_cause};
@@ -26,6 +29,7 @@ use rtmfp_chunks::ChunkView;
 use rtmfp_chunks::kinds::IIKEYING;
 use rtmfp_forms::Address;
 use rtmfp_packet::RawChunk;
+use startup::Found;
 use std::alloc::AllocError;
 
 /// Does what a chunk does that isn't discarded.
@@ -48,13 +52,9 @@ fn apply(
         Verdict::Introduction { epd, tag, selected } => {
             introduce_to(end, selected, epd, tag, from, out)
         }
-        Verdict::Redirect { tag, list, count } => {
-            take_redirect(end, tag, list, *count, from, out)
-        }
-        Verdict::ResponderHello { tag, cookie, cert } => {
-            take_hello(end, tag, cookie, cert, from, out)
-        }
-        Verdict::CookieChange { old, new } => change_cookie(end, sid_at(place), old, new, out),
+        Verdict::Redirect { extension } => take_redirect(end, extension, out),
+        Verdict::ResponderHello { found, cookie } => take_hello(end, *found, cookie, from, out),
+        Verdict::CookieChange { found, new } => change_cookie(end, *found, new, out),
         Verdict::InitiatorKeying { fields, hearing } => {
             initiator_keyed(end, fields, hearing, from, draws, out)
         }
@@ -89,54 +89,55 @@ fn answer_hello(
     Ok(())
 }
 
-/// Takes a responder's hello that nothing refuses, from an address.
+/// Takes a responder's hello with this cookie, which came from an address and answers the attempt
+/// that was found.
 fn take_hello(
     end: &mut EndState,
-    tag: &[u8],
+    found: Found,
     cookie: &[u8],
-    cert: &[u8],
     from: &Address,
     out: &mut Outbox,
 ) -> Result<(), AllocError>
-    requires { rhello_cause end.old.startup tag.now cookie.now cert.now ≡ None }
+    requires found { (chosen : Option (ℕ × AttemptState)) × IsFound end.old.startup found chosen }
+    requires cookie { length cookie.now ≤ 128 }
     ensures ok { OnOk result
         (Done (sent_if (with_startup end.old
-        (after_rhello end.old.startup tag.now cookie.now from.now end.old.moment))
-        (rhello_keying end.old.startup tag.now cookie.now from.now)) end.new out.old
-        out.new) }
+        (after_answer end.old.startup (found_in end.old.startup found) from.now cookie.now
+        end.old.moment))
+        (answer_keying end.old.startup (found_in end.old.startup found) from.now cookie.now))
+        end.new out.old out.new) }
     ensures err { OnErr result (Done (nothing end.old) end.new out.old out.new) }
 {
     out.make_room(1)?;
     let blank = blank(end.alloc)?;
-    if let Ok(answer) = end
+    let answer = end
         .startup
-        .responder_hello(tag, cookie, cert, from, end.moment)
-    {
-        end.send_answer(blank, &answer, out);
-    }
+        .apply_responder_hello(found, cookie, from, end.moment);
+    end.send_answer(blank, &answer, out);
     Ok(())
 }
 
-/// Takes a change of a cookie that nothing refuses, under a session ID.
+/// Takes a change to this cookie, which is of the attempt that was found.
 fn change_cookie(
     end: &mut EndState,
-    sid: u32,
-    old: &[u8],
+    found: Found,
     new: &[u8],
     out: &mut Outbox,
 ) -> Result<(), AllocError>
-    requires { cookie_change_cause end.old.startup sid old.now new.now ≡ None }
+    requires found { (sid : ℕ) × ((old : List ℕ) × IsFound end.old.startup found
+        (changed end.old.startup.attempts sid old)) }
+    requires cookie { length new.now ≤ 128 }
     ensures ok { OnOk result
         (Done (sent_if (with_startup end.old
-        (after_cookie_change end.old.startup sid old.now new.now end.old.moment))
-        (cookie_change_keying end.old.startup sid old.now new.now)) end.new out.old out.new) }
+        (after_change end.old.startup (found_in end.old.startup found) new.now end.old.moment))
+        (change_keying end.old.startup (found_in end.old.startup found) new.now))
+        end.new out.old out.new) }
     ensures err { OnErr result (Done (nothing end.old) end.new out.old out.new) }
 {
     out.make_room(1)?;
     let blank = blank(end.alloc)?;
-    if let Ok(answer) = end.startup.cookie_change(sid, old, new, end.moment) {
-        end.send_answer(blank, &answer, out);
-    }
+    let answer = end.startup.apply_cookie_change(found, new, end.moment);
+    end.send_answer(blank, &answer, out);
     Ok(())
 }
 

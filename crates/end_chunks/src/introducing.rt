@@ -7,7 +7,8 @@ ghost use Rattle.cookies.specs.Cookie.{observed};
 ghost use Rattle.rtmfp_chunks.specs.Chunk.{FIHello, Redirect};
 ghost use Rattle.rtmfp_chunks.specs.Writing.{chunk_bytes};
 ghost use Rattle.startup.specs.Attempts.{wide};
-ghost use Rattle.startup.specs.Redirects.{adds, after_redirect, redirect_cause, redirect_spread};
+ghost use Rattle.startup.specs.Redirects.{adds, redirect_cause};
+ghost use Rattle.startup.specs.Judging.{after_extension_of, extension_spread, Extends, found_in};
 ghost use Rattle.endpoint_model.specs.Effects.{forwarded, hello_reply, read_done, replied};
 ghost use Rattle.endpoint_model.specs.Effects.{sent_spread_if};
 ghost use Rattle.endpoint_model.specs.Introducing.{forwarded_to, hello_cause};
@@ -22,7 +23,7 @@ use endpoint_model::Place;
 use identity::Epd;
 use rtmfp_chunks::ChunkView;
 use rtmfp_forms::Address;
-use startup::{Cause, wide};
+use startup::{Cause, Extension, wide};
 use std::alloc::AllocError;
 
 /// The origin of an address that an end observed.
@@ -77,8 +78,8 @@ pub(crate) fn judge_redirect<'a>(
     end: &EndState,
     place: Place,
     from: &Address,
-    tag: &'a [u8],
-    list: &'a [u8],
+    tag: &[u8],
+    list: &[u8],
 ) -> Result<Verdict<'a>, Cause>
     ensures ok { IfOk result (Stands end.now place from.now
         (λ _. read_done end.now place from.now (Ok (Redirect tag.now list.now)))) }
@@ -90,11 +91,11 @@ pub(crate) fn judge_redirect<'a>(
         IfOk result (λ verdict. verdict ≡ Verdict.Quiet) }
 {
     match end.startup.judge_redirect(tag, list, from) {
-        Ok(count) => {
-            if count == 0 {
+        Ok(extension) => {
+            if extension.count() == 0 {
                 Ok(Verdict::Quiet)
             } else {
-                Ok(Verdict::Redirect { tag, list, count })
+                Ok(Verdict::Redirect { extension })
             }
         }
         Err(cause) => Err(cause),
@@ -160,28 +161,25 @@ pub(crate) fn introduce_to(
     Ok(())
 }
 
-/// Takes a redirect that nothing refuses and that sends so many hellos, from an address.
+/// Takes a redirect, which adds this to the attempt that was found.
 pub(crate) fn take_redirect(
     end: &mut EndState,
-    tag: &[u8],
-    list: &[u8],
-    count: usize,
-    from: &Address,
+    extension: &Extension,
     out: &mut Outbox,
 ) -> Result<(), AllocError>
-    requires none { redirect_cause end.old.startup tag.now list.now from.now ≡ None }
-    requires count { count ≡ adds end.old.startup tag.now list.now from.now }
+    requires { Extends end.old.startup extension.now }
     ensures ok { OnOk result
         (Done (sent_spread_if (with_startup end.old
-        (after_redirect end.old.startup tag.now list.now from.now end.old.moment))
-        (redirect_spread end.old.startup tag.now list.now from.now)) end.new out.old
-        out.new) }
+        (after_extension_of end.old.startup (found_in end.old.startup extension.now.found)
+        extension.now.new end.old.moment))
+        (extension_spread (found_in end.old.startup extension.now.found) extension.now.new))
+        end.new out.old out.new) }
     ensures err { OnErr result (Done (nothing end.old) end.new out.old out.new) }
 {
+    let count = extension.count();
     out.make_room(count)?;
     let blanks = blanks(end.alloc, count)?;
-    if let Ok(spread) = end.startup.redirect(tag, list, from, end.moment) {
-        end.send_each(blanks, spread.addresses(), &spread.plain, out);
-    }
+    let spread = end.startup.apply_redirect(extension, end.moment);
+    end.send_each(blanks, spread.addresses(), &spread.plain, out);
     Ok(())
 }

@@ -32,7 +32,8 @@ use rtmfp_forms::Address;
 use rtmfp_packet::RawChunk;
 use session_core::{Session, Stage};
 use startup::{
-    Cause, Hearing, InitiatorFields, ResponderFields, read_initiator_keying, read_responder_keying,
+    Cause, Extension, Found, Hearing, InitiatorFields, ResponderFields, read_initiator_keying,
+    read_responder_keying,
 };
 
 /// The most bytes of a ping that is answered (own).
@@ -53,21 +54,18 @@ pub(crate) enum Verdict<'a> {
         tag: &'a [u8],
         selected: Epd,
     },
-    /// The redirect of an attempt, and how many hellos it sends.
+    /// A redirect, as what it adds to its attempt.
     Redirect {
-        tag: &'a [u8],
-        list: &'a [u8],
-        count: usize,
+        extension: Extension,
     },
-    /// The hello of a responder, which answers an attempt.
+    /// The hello of a responder, which has this cookie, and the attempt that it answers.
     ResponderHello {
-        tag: &'a [u8],
+        found: Found,
         cookie: &'a [u8],
-        cert: &'a [u8],
     },
-    /// A change of the cookie of an attempt.
+    /// A change of a cookie to this one, and the attempt whose cookie it is.
     CookieChange {
-        old: &'a [u8],
+        found: Found,
         new: &'a [u8],
     },
     /// The keying of an initiator, and what hearing it would be.
@@ -270,13 +268,13 @@ fn judge_view<'a>(
         }
         ChunkView::RHello { tag, cookie, cert } => {
             match end.startup.judge_responder_hello(tag, cookie, cert) {
-                Ok(_) => Ok(Verdict::ResponderHello { tag, cookie, cert }),
+                Ok(found) => Ok(Verdict::ResponderHello { found, cookie }),
                 Err(cause) => Err(cause),
             }
         }
         ChunkView::CookieChange { old, new } => {
             match end.startup.judge_cookie_change(sid_at(place), old, new) {
-                Ok(_) => Ok(Verdict::CookieChange { old, new }),
+                Ok(found) => Ok(Verdict::CookieChange { found, new }),
                 Err(cause) => Err(cause),
             }
         }

@@ -1,7 +1,7 @@
 //! Redirects, which tell further addresses of the peer that an attempt is towards.
 
-ghost use Rattle.std.specs.Prelude.{ℕ, ◌≡◌, ◌≤◌, ◌+◌, ◌<◌, length, take, Option};
-ghost use Rattle.std.specs.Prelude.{IfErr, IfNone, IfOk, IfSome, IsOk, OnErr, OnOk, Err, Some, None};
+ghost use Rattle.std.specs.Prelude.{ℕ, ◌≡◌, ◌≤◌, length, take, Option, Err, Some, None};
+ghost use Rattle.std.specs.Prelude.{IfErr, IfNone, IfOk, IfSome, IsOk, OnErr};
 ghost use Rattle.startup.specs.State.{AttemptState};
 ghost use Rattle.startup.specs.Attempts.{has_tag, lowest};
 ghost use Rattle.startup.specs.Redirects.{added, adds, after_redirect, new_candidates};
