@@ -8,16 +8,16 @@ use Rattle.crypto_profile.specs.declared.keys.Context.TheVariants.{Startup}
 use Rattle.crypto_profile.specs.Keys.{same_context}
 use Rattle.crypto_profile.proofs.Contexts.{same_itself}
 use Rattle.endpoint_model.specs.declared.entry.Entry.{Entry}
-use Rattle.endpoint_model.specs.declared.entry.Entry.TheVariants.{Fact, Closed, Moved, FlowOpened, Queued, Finished, Abandoned, Handed, Discard, Out}
+use Rattle.endpoint_model.specs.Views.{Sending, out_in}
 use Rattle.endpoint_model.specs.declared.config.Draws.{Draws}
 use Rattle.rtmfp_forms.specs.Address.{AddressParts}
 use Rattle.endpoint_model.specs.Event.{Setup, Receive}
-use Rattle.endpoint_laws.specs.History.{History, HasOut, WasSent, IsHonestCall, past_at, log_of}
+use Rattle.endpoint_laws.specs.History.{History, IsOut, HasOut, WasSent, IsHonestCall, past_at, log_of}
 use Rattle.endpoint_laws.specs.OpensIn.{opens_in, OpensAt}
 use Rattle.endpoint_laws.proofs.Opened.{opens_in_told}
 use Rattle.rendezvous_world.specs.declared.journal.JournalLine.{JournalLine}
 use Rattle.rendezvous_world.specs.Seen.{EndSeen, Seen, setup_at}
-use Rattle.rendezvous_world.specs.Sent.{Sent, sent_among, sent_in}
+use Rattle.rendezvous_world.specs.Sent.{Sent, sent_among, sent_from, sent_in, with_sent}
 use Rattle.rendezvous_world.specs.History.{happened, after_lines, history_of}
 use Rattle.rendezvous_world.specs.Faults.{is_sent, is_unsent_in}
 use Rattle.rendezvous_world.specs.Sound.{StandsUpTo}
@@ -31,10 +31,9 @@ same_list : (x : List ℕ) → bytes_eq x x ≡ true
 same_list x = (bytes_eq-Decides x x).1 refl
 
 module _ (bytes : List ℕ) (context : Context) where
-  sent_itself : (by : ℕ) (to : AddressParts) (datagram : List ℕ) (sealed_for : Context) → datagram ≡ bytes → sealed_for ≡ context →
-      is_sent bytes context (record { by = by; to = to; datagram = datagram; context = sealed_for }) ≡ true
-  sent_itself by to datagram sealed_for e f =
-      ap (λ (x : List ℕ). bytes_eq x bytes && same_context sealed_for context) e
+  sent_itself : (by : ℕ) (out : Sending) → IsOut bytes context (Some out) → is_sent bytes context (sent_from by out) ≡ true
+  sent_itself by out (e, f) =
+      ap (λ (x : List ℕ). bytes_eq x bytes && same_context out.context context) e
       ∙ ap (λ (c : Context). bytes_eq bytes bytes && same_context c context) f
       ∙ ap (λ (b : Bool). b && same_context context context) (same_list bytes) ∙ same_itself context
 
@@ -45,44 +44,26 @@ module _ (bytes : List ℕ) (context : Context) where
   or_second true b e = refl
   or_second false b e = e
 
+  -- an entry that is this datagram
+  sent_here : (by : ℕ) (o : Option Sending) (later rest : List Sent) → IsOut bytes context o → list_any (is_sent bytes context) (with_sent by o later ++ rest) ≡ true
+  sent_here by None later rest h = absurd h
+  sent_here by (Some out) later rest h =
+      or_first (is_sent bytes context (sent_from by out)) (list_any (is_sent bytes context) (later ++ rest)) (sent_itself by out h)
+
+  -- an entry before it
+  sent_later : (by : ℕ) (o : Option Sending) (later rest : List Sent) → list_any (is_sent bytes context) (later ++ rest) ≡ true → list_any (is_sent bytes context) (with_sent by o later ++ rest) ≡ true
+  sent_later by None later rest e = e
+  sent_later by (Some out) later rest e =
+      or_second (is_sent bytes context (sent_from by out)) (list_any (is_sent bytes context) (later ++ rest)) e
+
   in_entries : (by : ℕ) (entries : List Entry) (rest : List Sent) → HasOut bytes context entries → list_any (is_sent bytes context) (sent_among by entries ++ rest) ≡ true
   in_entries by [] rest h = absurd h
-  in_entries by (Fact fact ∷ entries) rest (inl h) = absurd h
-  in_entries by (Fact fact ∷ entries) rest (inr h) = in_entries by entries rest h
-  in_entries by (Closed near ∷ entries) rest (inl h) = absurd h
-  in_entries by (Closed near ∷ entries) rest (inr h) = in_entries by entries rest h
-  in_entries by (Moved near to ∷ entries) rest (inl h) = absurd h
-  in_entries by (Moved near to ∷ entries) rest (inr h) = in_entries by entries rest h
-  in_entries by (FlowOpened near flow ∷ entries) rest (inl h) = absurd h
-  in_entries by (FlowOpened near flow ∷ entries) rest (inr h) = in_entries by entries rest h
-  in_entries by (Queued near flow seq message ∷ entries) rest (inl h) = absurd h
-  in_entries by (Queued near flow seq message ∷ entries) rest (inr h) = in_entries by entries rest h
-  in_entries by (Finished near flow seq ∷ entries) rest (inl h) = absurd h
-  in_entries by (Finished near flow seq ∷ entries) rest (inr h) = in_entries by entries rest h
-  in_entries by (Abandoned near flow seq ∷ entries) rest (inl h) = absurd h
-  in_entries by (Abandoned near flow seq ∷ entries) rest (inr h) = in_entries by entries rest h
-  in_entries by (Handed near flow seq message ∷ entries) rest (inl h) = absurd h
-  in_entries by (Handed near flow seq message ∷ entries) rest (inr h) = in_entries by entries rest h
-  in_entries by (Discard place cause ∷ entries) rest (inl h) = absurd h
-  in_entries by (Discard place cause ∷ entries) rest (inr h) = in_entries by entries rest h
-  in_entries by (Out to datagram sealed_for ∷ entries) rest (inl h) =
-      or_first (is_sent bytes context (record { by = by; to = to; datagram = datagram; context = sealed_for })) (list_any (is_sent bytes context) (sent_among by entries ++ rest)) (sent_itself by to datagram sealed_for h.0 h.1)
-  in_entries by (Out to datagram sealed_for ∷ entries) rest (inr h) =
-      or_second (is_sent bytes context (record { by = by; to = to; datagram = datagram; context = sealed_for })) (list_any (is_sent bytes context) (sent_among by entries ++ rest)) (in_entries by entries rest h)
+  in_entries by (entry ∷ entries) rest (inl h) = sent_here by (out_in entry) (sent_among by entries) rest h
+  in_entries by (entry ∷ entries) rest (inr h) = sent_later by (out_in entry) (sent_among by entries) rest (in_entries by entries rest h)
 
   past_entries : (by : ℕ) (entries : List Entry) (rest : List Sent) → list_any (is_sent bytes context) rest ≡ true → list_any (is_sent bytes context) (sent_among by entries ++ rest) ≡ true
   past_entries by [] rest e = e
-  past_entries by (Fact fact ∷ entries) rest e = past_entries by entries rest e
-  past_entries by (Closed near ∷ entries) rest e = past_entries by entries rest e
-  past_entries by (Moved near to ∷ entries) rest e = past_entries by entries rest e
-  past_entries by (FlowOpened near flow ∷ entries) rest e = past_entries by entries rest e
-  past_entries by (Queued near flow seq message ∷ entries) rest e = past_entries by entries rest e
-  past_entries by (Finished near flow seq ∷ entries) rest e = past_entries by entries rest e
-  past_entries by (Abandoned near flow seq ∷ entries) rest e = past_entries by entries rest e
-  past_entries by (Handed near flow seq message ∷ entries) rest e = past_entries by entries rest e
-  past_entries by (Discard place cause ∷ entries) rest e = past_entries by entries rest e
-  past_entries by (Out to datagram sealed_for ∷ entries) rest e =
-      or_second (is_sent bytes context (record { by = by; to = to; datagram = datagram; context = sealed_for })) (list_any (is_sent bytes context) (sent_among by entries ++ rest)) (past_entries by entries rest e)
+  past_entries by (entry ∷ entries) rest e = sent_later by (out_in entry) (sent_among by entries) rest (past_entries by entries rest e)
 
   in_lines : (ends : List EndSeen) (lines : List JournalLine) (earlier : History) → WasSent bytes context (after_lines ends lines earlier) → WasSent bytes context earlier ⊎ (list_any (is_sent bytes context) (sent_in lines) ≡ true)
   in_lines ends [] earlier h = inl h

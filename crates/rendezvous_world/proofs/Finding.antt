@@ -6,13 +6,13 @@ use Rattle.std.proofs.lemmas.Bool.Decides.{nat_tests}
 use Rattle.std.proofs.lemmas.Bool.{ltb-true, ltb-false, lt-ltb}
 use Rattle.std.proofs.lemmas.List.{get_or_default}
 use Rattle.endpoint_model.specs.declared.entry.Entry.{Entry}
-use Rattle.endpoint_model.specs.declared.entry.Entry.TheVariants.{Fact, Closed, Moved, FlowOpened, Queued, Finished, Abandoned, Handed, Discard, Out}
+use Rattle.endpoint_model.specs.Views.{Sending, out_in}
 use Rattle.endpoint_model.specs.Added.{AreShort}
 use Rattle.rendezvous_world.specs.declared.journal.JournalLine.{JournalLine}
 use Rattle.rendezvous_world.specs.declared.sent.Letter.{Letter}
 use Rattle.rendezvous_world.specs.Datagrams.{nth}
 use Rattle.rendezvous_world.specs.Inside.{IsCut, count_in, sent_found, sent_of, starts_after}
-use Rattle.rendezvous_world.specs.Sent.{Sent, sent_among, sent_in}
+use Rattle.rendezvous_world.specs.Sent.{Sent, sent_among, sent_from, sent_in, with_sent}
 
 -- ---- the nth of a list
 
@@ -143,20 +143,16 @@ short_step false false x sent o e h more = more e
 others_short : (entry : Entry) (entries : List Entry) → AreShort (entry ∷ entries) → AreShort entries
 others_short entry entries h k d lt = h (suc k) d (omega arith)
 
+nth_with : (by : ℕ) (o : Option Sending) (later : List Sent) (n : ℕ) (sent : Sent) → IfSome o (λ out. length out.datagram ≤ 1200) → nth (with_sent by o later) n ≡ Some sent →
+    ((k : ℕ) → nth later k ≡ Some sent → length sent.datagram ≤ 1200) → length sent.datagram ≤ 1200
+nth_with by None later n sent h e more = more n e
+nth_with by (Some out) later n sent h e more =
+    short_step (n == 0) (n == 1) (sent_from by out) sent (nth later (n - 1)) e h (more (n - 1))
+
 nth_short : (by : ℕ) (entries : List Entry) (n : ℕ) (sent : Sent) → AreShort entries → nth (sent_among by entries) n ≡ Some sent → length sent.datagram ≤ 1200
 nth_short by [] n sent h e = absurd (cc)
-nth_short by (Fact fact ∷ rest) n sent h e = nth_short by rest n sent (others_short (Fact fact) rest h) e
-nth_short by (Closed near ∷ rest) n sent h e = nth_short by rest n sent (others_short (Closed near) rest h) e
-nth_short by (Moved near to ∷ rest) n sent h e = nth_short by rest n sent (others_short (Moved near to) rest h) e
-nth_short by (FlowOpened near flow ∷ rest) n sent h e = nth_short by rest n sent (others_short (FlowOpened near flow) rest h) e
-nth_short by (Queued near flow seq message ∷ rest) n sent h e = nth_short by rest n sent (others_short (Queued near flow seq message) rest h) e
-nth_short by (Finished near flow seq ∷ rest) n sent h e = nth_short by rest n sent (others_short (Finished near flow seq) rest h) e
-nth_short by (Abandoned near flow seq ∷ rest) n sent h e = nth_short by rest n sent (others_short (Abandoned near flow seq) rest h) e
-nth_short by (Handed near flow seq message ∷ rest) n sent h e = nth_short by rest n sent (others_short (Handed near flow seq message) rest h) e
-nth_short by (Discard place cause ∷ rest) n sent h e = nth_short by rest n sent (others_short (Discard place cause) rest h) e
-nth_short by (Out to datagram context ∷ rest) n sent h e =
-    short_step (n == 0) (n == 1) (record { by = by; to = to; datagram = datagram; context = context }) sent (nth (sent_among by rest) (n - 1)) e (h 0 (Out to datagram context) (omega arith))
-    (λ f. nth_short by rest (n - 1) sent (others_short (Out to datagram context) rest h) f)
+nth_short by (entry ∷ rest) n sent h e =
+    nth_with by (out_in entry) (sent_among by rest) n sent (h 0 entry (omega arith)) e (λ k f. nth_short by rest k sent (others_short entry rest h) f)
 
 pub found_short : (by : ℕ) (entries : List Entry) (n : ℕ) (found : Option Letter) → AreShort entries → sent_found found ≡ nth (sent_among by entries) n → IfSome found (λ letter. length letter.datagram.now ≤ 1200)
 found_short by entries n None h e = tt

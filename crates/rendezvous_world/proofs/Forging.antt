@@ -1,19 +1,18 @@
 -- A datagram that isn't forged was sent, where it opens.
-use Rattle.std.proofs.Common.{◌≡◌, ℕ, zero, suc, List, [], ◌∷◌, ◌++◌, slice_get, Bool, true, false, not, ◌&&◌, ◌||◌, Option, Some, inl, inr, ◌⊎◌, refl, sym, ap, ◌∙◌}
+use Rattle.std.proofs.Common.{◌≡◌, ℕ, zero, suc, List, [], ◌∷◌, ◌++◌, slice_get, Bool, true, false, not, ◌&&◌, ◌||◌, Option, Some, None, inl, inr, ◌⊎◌, refl, sym, ap, ◌∙◌}
 use Rattle.std.specs.Str.{bytes_eq}
 use Rattle.std.specs.List.{list_any}
 use Rattle.std.proofs.lemmas.Slice.Eq.{bytes_eq-Decides}
-use Rattle.rtmfp_forms.specs.Address.{AddressParts}
 use Rattle.crypto_profile.specs.declared.keys.Context.{Context}
 use Rattle.crypto_profile.specs.Keys.{same_context}
 use Rattle.crypto_profile.proofs.Contexts.{same_context_is}
 use Rattle.endpoint_model.specs.declared.entry.Entry.{Entry}
-use Rattle.endpoint_model.specs.declared.entry.Entry.TheVariants.{Fact, Closed, Moved, FlowOpened, Queued, Finished, Abandoned, Handed, Discard, Out}
-use Rattle.endpoint_laws.specs.History.{History, HasOut, WasSent}
+use Rattle.endpoint_model.specs.Views.{Sending, out_in}
+use Rattle.endpoint_laws.specs.History.{History, IsOut, HasOut, WasSent}
 use Rattle.endpoint_laws.specs.OpensIn.{opens_in}
 use Rattle.rendezvous_world.specs.declared.journal.JournalLine.{JournalLine}
 use Rattle.rendezvous_world.specs.Seen.{EndSeen}
-use Rattle.rendezvous_world.specs.Sent.{Sent, sent_among, sent_in}
+use Rattle.rendezvous_world.specs.Sent.{Sent, sent_among, sent_from, sent_in, with_sent}
 use Rattle.rendezvous_world.specs.History.{happened, after_lines}
 use Rattle.rendezvous_world.specs.Faults.{is_sent, is_unsent_in, is_forged_at}
 use Rattle.rendezvous_world.proofs.Ends.{at_suc}
@@ -30,30 +29,30 @@ same_bytes x y e = (bytes_eq-Decides x y).0 e
 -- ---- among what was sent
 
 module _ (bytes : List ℕ) (context : Context) where
-  out_is : (by : ℕ) (to : AddressParts) (datagram : List ℕ) (sealed_for : Context) → is_sent bytes context (record { by = by; to = to; datagram = datagram; context = sealed_for }) ≡ true → (datagram ≡ bytes) × (sealed_for ≡ context)
-  out_is by to datagram sealed_for e =
-      let both = and_is (bytes_eq datagram bytes) (same_context sealed_for context) e in
-      (same_bytes datagram bytes both.0, same_context_is sealed_for context both.1)
+  out_is : (by : ℕ) (out : Sending) → is_sent bytes context (sent_from by out) ≡ true → IsOut bytes context (Some out)
+  out_is by out e =
+      let both = and_is (bytes_eq out.datagram bytes) (same_context out.context context) e in
+      (same_bytes out.datagram bytes both.0, same_context_is out.context context both.1)
 
   or_either : (a b : Bool) → (a || b) ≡ true → (a ≡ true) ⊎ (b ≡ true)
   or_either true b e = inl refl
   or_either false b e = inr e
 
+  here_or_later : (by : ℕ) (o : Option Sending) (later rest : List Sent) → list_any (is_sent bytes context) (with_sent by o later ++ rest) ≡ true →
+      IsOut bytes context o ⊎ (list_any (is_sent bytes context) (later ++ rest) ≡ true)
+  here_or_later by None later rest e = inr e
+  here_or_later by (Some out) later rest e =
+      elim (or_either (is_sent bytes context (sent_from by out)) (list_any (is_sent bytes context) (later ++ rest)) e) [
+        | inl here ↦ inl (out_is by out here)
+        | inr behind ↦ inr behind
+      ]
+
   among_entries : (by : ℕ) (entries : List Entry) (rest : List Sent) → list_any (is_sent bytes context) (sent_among by entries ++ rest) ≡ true → HasOut bytes context entries ⊎ (list_any (is_sent bytes context) rest ≡ true)
   among_entries by [] rest e = inr e
-  among_entries by (Fact fact ∷ entries) rest e = elim (among_entries by entries rest e) [ inl h ↦ inl (inr h) | inr h ↦ inr h ]
-  among_entries by (Closed near ∷ entries) rest e = elim (among_entries by entries rest e) [ inl h ↦ inl (inr h) | inr h ↦ inr h ]
-  among_entries by (Moved near to ∷ entries) rest e = elim (among_entries by entries rest e) [ inl h ↦ inl (inr h) | inr h ↦ inr h ]
-  among_entries by (FlowOpened near flow ∷ entries) rest e = elim (among_entries by entries rest e) [ inl h ↦ inl (inr h) | inr h ↦ inr h ]
-  among_entries by (Queued near flow seq message ∷ entries) rest e = elim (among_entries by entries rest e) [ inl h ↦ inl (inr h) | inr h ↦ inr h ]
-  among_entries by (Finished near flow seq ∷ entries) rest e = elim (among_entries by entries rest e) [ inl h ↦ inl (inr h) | inr h ↦ inr h ]
-  among_entries by (Abandoned near flow seq ∷ entries) rest e = elim (among_entries by entries rest e) [ inl h ↦ inl (inr h) | inr h ↦ inr h ]
-  among_entries by (Handed near flow seq message ∷ entries) rest e = elim (among_entries by entries rest e) [ inl h ↦ inl (inr h) | inr h ↦ inr h ]
-  among_entries by (Discard place cause ∷ entries) rest e = elim (among_entries by entries rest e) [ inl h ↦ inl (inr h) | inr h ↦ inr h ]
-  among_entries by (Out to datagram sealed_for ∷ entries) rest e =
-      elim (or_either (is_sent bytes context (record { by = by; to = to; datagram = datagram; context = sealed_for })) (list_any (is_sent bytes context) (sent_among by entries ++ rest)) e) [
-        | inl here ↦ inl (inl (out_is by to datagram sealed_for here))
-        | inr later ↦ (elim (among_entries by entries rest later) [ inl h ↦ inl (inr h) | inr h ↦ inr h ])
+  among_entries by (entry ∷ entries) rest e =
+      elim (here_or_later by (out_in entry) (sent_among by entries) rest e) [
+        | inl here ↦ inl (inl here)
+        | inr behind ↦ (elim (among_entries by entries rest behind) [ inl h ↦ inl (inr h) | inr h ↦ inr h ])
       ]
 
   sent_before : (ends : List EndSeen) (lines : List JournalLine) (earlier : History) → WasSent bytes context earlier → WasSent bytes context (after_lines ends lines earlier)

@@ -35,25 +35,16 @@ fn is_sent_among(by: usize, entries: &[Entry], bytes: &[u8], context: &Context) 
     let mut rest = entries;
     while let [entry, others @ ..] = rest {
         rest = others;
-        match entry {
-            Entry::Fact(_) => continue,
-            Entry::Closed { .. } => continue,
-            Entry::Moved { .. } => continue,
-            Entry::FlowOpened { .. } => continue,
-            Entry::Queued { .. } => continue,
-            Entry::Finished { .. } => continue,
-            Entry::Abandoned { .. } => continue,
-            Entry::Handed { .. } => continue,
-            Entry::Discard { .. } => continue,
-            Entry::Out {
-                datagram,
-                context: sealed_for,
-                ..
-            } => {
-                if datagram.bytes() == bytes && sealed_for.is_same(context) {
-                    return true;
-                }
-            }
+        let Entry::Out {
+            datagram,
+            context: sealed_for,
+            ..
+        } = entry
+        else {
+            continue;
+        };
+        if datagram.bytes() == bytes && sealed_for.is_same(context) {
+            return true;
         }
     }
     false

@@ -32,18 +32,10 @@ pub(crate) fn count_among(by: usize, entries: &[Entry]) -> usize
     let mut rest = entries;
     while let [entry, others @ ..] = rest {
         rest = others;
-        match entry {
-            Entry::Fact(_) => continue,
-            Entry::Closed { .. } => continue,
-            Entry::Moved { .. } => continue,
-            Entry::FlowOpened { .. } => continue,
-            Entry::Queued { .. } => continue,
-            Entry::Finished { .. } => continue,
-            Entry::Abandoned { .. } => continue,
-            Entry::Handed { .. } => continue,
-            Entry::Discard { .. } => continue,
-            Entry::Out { .. } => count += 1,
-        }
+        let Entry::Out { .. } = entry else {
+            continue;
+        };
+        count += 1;
     }
     count
 }
@@ -56,35 +48,26 @@ fn find_among(by: usize, entries: &[Entry], number: u128) -> Option<Letter<'_>>
     let mut rest = entries;
     while let [entry, others @ ..] = rest {
         rest = others;
-        match entry {
-            Entry::Fact(_) => continue,
-            Entry::Closed { .. } => continue,
-            Entry::Moved { .. } => continue,
-            Entry::FlowOpened { .. } => continue,
-            Entry::Queued { .. } => continue,
-            Entry::Finished { .. } => continue,
-            Entry::Abandoned { .. } => continue,
-            Entry::Handed { .. } => continue,
-            Entry::Discard { .. } => continue,
-            Entry::Out {
+        let Entry::Out {
+            to,
+            datagram,
+            context,
+        } = entry
+        else {
+            continue;
+        };
+        if left == 1 {
+            return Some(Letter {
+                by,
                 to,
-                datagram,
+                datagram: datagram.bytes(),
                 context,
-            } => {
-                if left == 1 {
-                    return Some(Letter {
-                        by,
-                        to,
-                        datagram: datagram.bytes(),
-                        context,
-                    });
-                }
-                if left == 0 {
-                    return None;
-                }
-                left -= 1;
-            }
+            });
         }
+        if left == 0 {
+            return None;
+        }
+        left -= 1;
     }
     None
 }
