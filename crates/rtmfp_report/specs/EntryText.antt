@@ -1,8 +1,9 @@
 -- The lines of what ends did.
-use Rattle.std.specs.Prelude.{ℕ, ◌+◌, List, [], ◌∷◌, ◌++◌, codes, length}
+use Rattle.std.specs.Prelude.{ℕ, ◌+◌, List, [], ◌∷◌, ◌++◌, Option, Some, None, codes, length}
 use Rattle.startup.specs.declared.cause.Cause.{Cause}
 use Rattle.endpoint_model.specs.declared.entry.Entry.{Entry}
 use Rattle.endpoint_model.specs.declared.entry.Entry.TheVariants.{Fact as FactEntry, Closed, Moved, FlowOpened, Queued, Finished, Abandoned, Handed, Discard, Out}
+use Rattle.endpoint_model.specs.Views.{Sending, out_in}
 use Rattle.rtmfp_forms.specs.Address.{AddressParts}
 use Rattle.rtmfp_text.specs.AddressText.{address_text}
 use Rattle.rtmfp_text.specs.Words.{field_text, number_field_text, text_of}
@@ -47,18 +48,14 @@ unfoldable pub drop_text : ℕ → Cause → List ℕ
 drop_text place cause =
     text_of (number_field_text (codes "drop ") place ∷ codes " " ∷ cause_text cause ∷ [])
 
--- how many datagrams were sent after an entry, where so many were before: one that goes out counts
+-- one more where a datagram goes out
+abbrev pub counted_out : ℕ → Option Sending → ℕ
+counted_out sent None = sent
+counted_out sent (Some out) = sent + 1
+
+-- how many datagrams were sent after an entry, where so many were before
 abbrev pub counted_after : ℕ → Entry → ℕ
-counted_after sent (FactEntry fact) = sent
-counted_after sent (Closed near) = sent
-counted_after sent (Moved near to) = sent
-counted_after sent (FlowOpened near flow) = sent
-counted_after sent (Queued near flow seq message) = sent
-counted_after sent (Finished near flow seq) = sent
-counted_after sent (Abandoned near flow seq) = sent
-counted_after sent (Handed near flow seq message) = sent
-counted_after sent (Discard place cause) = sent
-counted_after sent (Out to datagram context) = sent + 1
+counted_after sent entry = counted_out sent (out_in entry)
 
 -- What an entry tells. A datagram that goes out has this number.
 abbrev pub told_text : List ℕ → List Named → ℕ → Entry → List ℕ

@@ -3,7 +3,7 @@ use Rattle.std.specs.Prelude.{ℕ, ◌+◌, List, [], ◌∷◌, codes}
 use Rattle.glare_core.specs.declared.facts.Fact.{Fact}
 use Rattle.glare_core.specs.declared.facts.Fact.TheVariants.{Started, Born, Opened, Confirmed, Ended}
 use Rattle.endpoint_model.specs.declared.entry.Entry.{Entry}
-use Rattle.endpoint_model.specs.declared.entry.Entry.TheVariants.{Fact as FactEntry, Closed, Moved, FlowOpened, Queued, Finished, Abandoned, Handed, Discard, Out}
+use Rattle.endpoint_model.specs.declared.entry.Entry.TheVariants.{Fact as FactEntry, Discard, Out}
 use Rattle.rtmfp_text.specs.Words.{number_field_text, text_of}
 use Rattle.rtmfp_report.specs.declared.tally.Tally.{Tally}
 
@@ -26,18 +26,12 @@ with_fact t (Opened joined) = record t { opened = t.opened + 1 }
 with_fact t (Confirmed peer near) = record t { confirmed = t.confirmed + 1 }
 with_fact t (Ended peer near why) = record t { ended = t.ended + 1 }
 
--- an entry counts one among those of its kind; that a session is over, or has moved, counts nothing
+-- an entry counts one among those of its kind; only facts, discards and datagrams are counted
 abbrev pub with_entry : Tally → Entry → Tally
 with_entry t (FactEntry fact) = with_fact t fact
-with_entry t (Closed near) = t
-with_entry t (Moved near to) = t
-with_entry t (FlowOpened near flow) = t
-with_entry t (Queued near flow seq message) = t
-with_entry t (Finished near flow seq) = t
-with_entry t (Abandoned near flow seq) = t
-with_entry t (Handed near flow seq message) = t
 with_entry t (Discard place cause) = record t { dropped = t.dropped + 1 }
 with_entry t (Out to datagram context) = record t { sent = t.sent + 1 }
+with_entry t entry = t
 
 abbrev pub with_entries : Tally → List Entry → Tally
 with_entries t [] = t

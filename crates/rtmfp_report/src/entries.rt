@@ -50,18 +50,10 @@ pub fn push_entries(
 fn count_after(sent: u64, entry: &Entry) -> Result<u64, AllocError>
     ensures { IfOk result (λ count. count ≡ counted_after sent entry.now) }
 {
-    match entry {
-        Entry::Fact(_) => Ok(sent),
-        Entry::Closed { .. } => Ok(sent),
-        Entry::Moved { .. } => Ok(sent),
-        Entry::FlowOpened { .. } => Ok(sent),
-        Entry::Queued { .. } => Ok(sent),
-        Entry::Finished { .. } => Ok(sent),
-        Entry::Abandoned { .. } => Ok(sent),
-        Entry::Handed { .. } => Ok(sent),
-        Entry::Discard { .. } => Ok(sent),
-        Entry::Out { .. } => sent.checked_add(1).ok_or(AllocError),
-    }
+    let Entry::Out { .. } = entry else {
+        return Ok(sent);
+    };
+    sent.checked_add(1).ok_or(AllocError)
 }
 
 /// Adds the line of an entry.

@@ -67,20 +67,9 @@ impl GroupKeys {
     pub(crate) fn learn(&mut self, entries: &[Entry])
         ensures { self.new ≡ self.old }
     {
-        let mut rest = entries;
-        while let [entry, others @ ..] = rest {
-            rest = others;
-            match entry {
-                Entry::Fact(_) => continue,
-                Entry::Closed { .. } => continue,
-                Entry::Moved { .. } => continue,
-                Entry::FlowOpened { .. } => continue,
-                Entry::Queued { .. } => continue,
-                Entry::Finished { .. } => continue,
-                Entry::Abandoned { .. } => continue,
-                Entry::Handed { .. } => continue,
-                Entry::Discard { .. } => continue,
-                Entry::Out { context, .. } => self.keep(context),
+        for entry in entries {
+            if let Entry::Out { context, .. } = entry {
+                self.keep(context);
             }
         }
     }

@@ -71,15 +71,9 @@ impl Tally {
     {
         match entry {
             Entry::Fact(fact) => self.count_fact(fact),
-            Entry::Closed { .. } => Ok(()),
-            Entry::Moved { .. } => Ok(()),
-            Entry::FlowOpened { .. } => Ok(()),
-            Entry::Queued { .. } => Ok(()),
-            Entry::Finished { .. } => Ok(()),
-            Entry::Abandoned { .. } => Ok(()),
-            Entry::Handed { .. } => Ok(()),
             Entry::Discard { .. } => add_one(&mut self.dropped),
             Entry::Out { .. } => add_one(&mut self.sent),
+            _ => Ok(()),
         }
     }
 
