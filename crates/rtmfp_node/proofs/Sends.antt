@@ -11,9 +11,9 @@ use Rattle.rtmfp_host.specs.Writing.{Appends}
 use Rattle.rtmfp_host.specs.declared.link.LinkCall.{LinkCall}
 use Rattle.rtmfp_host.specs.declared.link.LinkCall.TheVariants.{Send}
 use Rattle.endpoint_model.specs.declared.entry.Entry.{Entry}
-use Rattle.endpoint_model.specs.declared.entry.Entry.TheVariants.{Fact, Closed, Moved, FlowOpened, Queued, Finished, Abandoned, Handed, Discard, Out}
+use Rattle.endpoint_model.specs.declared.entry.Entry.TheVariants.{Out}
 use Rattle.endpoint_model.specs.Views.{Sending, out_in}
-use Rattle.rtmfp_report.specs.EntryText.{sent_after}
+use Rattle.rtmfp_report.specs.EntryText.{counted_after, counted_out, sent_after}
 use Rattle.rtmfp_node.specs.declared.served.Served.{Served}
 use Rattle.rtmfp_node.specs.declared.served.Served.TheVariants.{Done, Memory, LinkFault, SinkFault, EntropyFault}
 use Rattle.rtmfp_node.specs.Outside.{Counted, Outside, PassesOn, Stays}
@@ -85,19 +85,15 @@ counted_outs : ℕ → List Sending → ℕ
 counted_outs count [] = count
 counted_outs count (o ∷ os) = counted_outs (count + 1) os
 
+counted_out_of : (o : Option Sending) (count : ℕ) (os : List Sending) → counted_outs count (outs_by o ++ os) ≡ counted_outs (counted_out count o) os
+unfolding counted_outs
+counted_out_of None count os = refl
+counted_out_of (Some out) count os = refl
+
 sent_outs : (count : ℕ) (es : List Entry) → counted_outs count (outs_in es) ≡ sent_after count es
 unfolding counted_outs
 sent_outs count [] = refl
-sent_outs count (Fact fact ∷ es) = sent_outs count es
-sent_outs count (Closed near ∷ es) = sent_outs count es
-sent_outs count (Moved near to ∷ es) = sent_outs count es
-sent_outs count (FlowOpened near flow ∷ es) = sent_outs count es
-sent_outs count (Queued near flow seq message ∷ es) = sent_outs count es
-sent_outs count (Finished near flow seq ∷ es) = sent_outs count es
-sent_outs count (Abandoned near flow seq ∷ es) = sent_outs count es
-sent_outs count (Handed near flow seq message ∷ es) = sent_outs count es
-sent_outs count (Discard place cause ∷ es) = sent_outs count es
-sent_outs count (Out to datagram context ∷ es) = sent_outs (count + 1) es
+sent_outs count (e ∷ es) = counted_out_of (out_in e) count (outs_in es) ∙ sent_outs (counted_after count e) es
 
 unsent_one : (done : Bool) (turn count : ℕ) (o : Sending) (xs ys : List LinkCall) (rest : List ℕ) →
     unsent_text turn (count + 1) (xs ++ ys) ≡ unsent_text turn (count + 1) xs ++ rest →

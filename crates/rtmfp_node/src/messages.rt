@@ -93,18 +93,10 @@ fn opened_in(entry: &Entry) -> Option<u32>
     ensures some { IfSome result (λ near. opened_by (fact_in entry.now) ≡ near ∷ []) }
     ensures none { result ≡ None → opened_by (fact_in entry.now) ≡ [] }
 {
-    match entry {
-        Entry::Fact(fact) => opened_by(fact),
-        Entry::Closed { .. } => None,
-        Entry::Moved { .. } => None,
-        Entry::FlowOpened { .. } => None,
-        Entry::Queued { .. } => None,
-        Entry::Finished { .. } => None,
-        Entry::Abandoned { .. } => None,
-        Entry::Handed { .. } => None,
-        Entry::Discard { .. } => None,
-        Entry::Out { .. } => None,
-    }
+    let Entry::Fact(fact) = entry else {
+        return None;
+    };
+    opened_by(fact)
 }
 
 /// The session that a fact tells as opened.

@@ -122,20 +122,10 @@ fn send_one<L: Link, K: Sink>(
     ensures link { Stays (L.seen link.old).faults (L.seen link.new).faults }
     ensures sink { CountedAt result (K.seen sink.old).faults (K.seen sink.new).faults }
 {
-    match entry {
-        Entry::Fact(_) => Served::Done,
-        Entry::Closed { .. } => Served::Done,
-        Entry::Moved { .. } => Served::Done,
-        Entry::FlowOpened { .. } => Served::Done,
-        Entry::Queued { .. } => Served::Done,
-        Entry::Finished { .. } => Served::Done,
-        Entry::Abandoned { .. } => Served::Done,
-        Entry::Handed { .. } => Served::Done,
-        Entry::Discard { .. } => Served::Done,
-        Entry::Out { to, datagram, .. } => {
-            send(to, datagram.bytes(), turn, number, link, sink, lost)
-        }
-    }
+    let Entry::Out { to, datagram, .. } = entry else {
+        return Served::Done;
+    };
+    send(to, datagram.bytes(), turn, number, link, sink, lost)
 }
 
 /// Sends a datagram, which has the next number, and writes a line where it is lost.
