@@ -522,22 +522,21 @@ fn unsent(rt: &impl AllocGlobal, count: u64) -> Result<Moved, Memory> {
 /// again, and after each the next chunk is looked for.
 fn early(rt: &impl AllocGlobal, count: u64) -> Result<Moved, Memory> {
     let count = count.min(65_000);
+    // All are sent again before the first of them is lost again, and moments don't go back.
+    let wait = RESEND_AFTER.saturating_add(count);
     let mut from = sender_of(rt, count)?;
     let chunks = send_all(&mut from, 0);
-    let _ = from.find_lost(RESEND_AFTER, RESEND_AFTER);
+    let _ = from.find_lost(wait, wait);
     for at in 1..count {
-        let moment = RESEND_AFTER.saturating_add(at);
-        let _ = from.next_chunk(false, 1164, 0, u64::MAX, moment, RESEND_AFTER);
+        let moment = wait.saturating_add(at);
+        let _ = from.next_chunk(false, 1164, 0, u64::MAX, moment, wait);
     }
     let mut again: u64 = 0;
     for at in 1..count {
-        let moment = (2 * RESEND_AFTER).saturating_add(at);
-        let _ = from.find_lost(moment, RESEND_AFTER);
-        let _ = from.next_chunk(false, 1164, 0, u64::MAX, moment, RESEND_AFTER);
-        if from
-            .offers(false, 1164, 0, u64::MAX, moment, RESEND_AFTER)
-            .is_ok()
-        {
+        let moment = wait.saturating_add(wait).saturating_add(at);
+        let _ = from.find_lost(moment, wait);
+        let _ = from.next_chunk(false, 1164, 0, u64::MAX, moment, wait);
+        if from.offers(false, 1164, 0, u64::MAX, moment, wait).is_ok() {
             again = again.wrapping_add(1);
         }
     }
