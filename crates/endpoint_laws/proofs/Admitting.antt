@@ -42,7 +42,6 @@ use Rattle.endpoint_laws.proofs.Bytes.{front_are, back_are, plain_is}
 use Rattle.endpoint_model.proofs.Reading.{packet_reads}
 use Rattle.endpoint_laws.proofs.OutSends.{Sent}
 use Rattle.endpoint_laws.proofs.OutItems.{sent_session_changed}
-use Rattle.endpoint_laws.proofs.Replies.{SameCounts}
 use Rattle.endpoint_laws.proofs.Tied.{Tied}
 use Rattle.endpoint_laws.proofs.Moving.{tied_session}
 use Rattle.endpoint_laws.proofs.Confirming.{HeardIn, HeardAt}
@@ -195,41 +194,41 @@ heard_of setup past s datagram plain (Session near) tied opened =
 pub record Leaves (setup : Setup) (past : List Stamped) (s : State) (datagram : List ℕ) (place : Place) (t : State) : Type 0 where
   pub tied : Tied setup past t
   pub sent : Sent setup past t
-  pub same : SameCounts s t
+  pub same : t.moment ≡ s.moment
   pub heard : HeardAt t place datagram
 
 counted_leaves : (setup : Setup) (past : List Stamped) (s : State) (datagram part : List ℕ) (near : ℕ) (o : Option Row) → get s.sessions near ≡ o → Tied setup past s → Sent setup past s → HeardIn datagram near o →
     Leaves setup past s datagram (Session near) (counted_by s near part o)
-counted_leaves setup past s datagram part near None is tied sent heard = record { tied = tied; sent = sent; same = record { moment = refl; sealed = refl }; heard = subst (HeardIn datagram near) (sym is) heard }
+counted_leaves setup past s datagram part near None is tied sent heard = record { tied = tied; sent = sent; same = refl; heard = subst (HeardIn datagram near) (sym is) heard }
 counted_leaves setup past s datagram part near (Some row) is tied sent heard =
     let new : Row = record row { session = counted row.session part } in
     record {
       tied = tied_session setup past s near row new tied is (record { joined = refl; own = refl; secret = refl; role = refl; held = refl; thing = λ e. refl; stage = λ f. f; since = λ e. inl refl });
       sent = sent_session_changed setup past s near row new sent is refl refl refl refl;
-      same = record { moment = refl; sealed = refl };
+      same = refl;
       heard = subst (HeardIn datagram near) (sym (get_inserted s.sessions near new)) heard;
     }
 
 timed_leaves : (setup : Setup) (past : List Stamped) (s : State) (datagram : List ℕ) (head : PacketHead) (near : ℕ) (o : Option Row) → get s.sessions near ≡ o → Tied setup past s → Sent setup past s → HeardIn datagram near o →
     Leaves setup past s datagram (Session near) (timed_by s near head o)
-timed_leaves setup past s datagram head near None is tied sent heard = record { tied = tied; sent = sent; same = record { moment = refl; sealed = refl }; heard = subst (HeardIn datagram near) (sym is) heard }
+timed_leaves setup past s datagram head near None is tied sent heard = record { tied = tied; sent = sent; same = refl; heard = subst (HeardIn datagram near) (sym is) heard }
 timed_leaves setup past s datagram head near (Some row) is tied sent heard =
     let new : Row = record row { session = with_stamps head s.moment row.session } in
     record {
       tied = tied_session setup past s near row new tied is (record { joined = refl; own = refl; secret = refl; role = refl; held = refl; thing = λ e. refl; stage = λ f. f; since = λ e. inl refl });
       sent = sent_session_changed setup past s near row new sent is refl refl refl refl;
-      same = record { moment = refl; sealed = refl };
+      same = refl;
       heard = subst (HeardIn datagram near) (sym (get_inserted s.sessions near new)) heard;
     }
 
 counted_at_leaves : (setup : Setup) (past : List Stamped) (s : State) (datagram part : List ℕ) (place : Place) → Tied setup past s → Sent setup past s → HeardAt s place datagram → Leaves setup past s datagram place (counted_at s place part)
-counted_at_leaves setup past s datagram part Startup tied sent heard = record { tied = tied; sent = sent; same = record { moment = refl; sealed = refl }; heard = heard }
-counted_at_leaves setup past s datagram part (Attempt near) tied sent heard = record { tied = tied; sent = sent; same = record { moment = refl; sealed = refl }; heard = heard }
+counted_at_leaves setup past s datagram part Startup tied sent heard = record { tied = tied; sent = sent; same = refl; heard = heard }
+counted_at_leaves setup past s datagram part (Attempt near) tied sent heard = record { tied = tied; sent = sent; same = refl; heard = heard }
 counted_at_leaves setup past s datagram part (Session near) tied sent heard = counted_leaves setup past s datagram part near (get s.sessions near) refl tied sent heard
 
 timed_at_leaves : (setup : Setup) (past : List Stamped) (s : State) (datagram : List ℕ) (head : PacketHead) (place : Place) → Tied setup past s → Sent setup past s → HeardAt s place datagram → Leaves setup past s datagram place (timed_at s place head)
-timed_at_leaves setup past s datagram head Startup tied sent heard = record { tied = tied; sent = sent; same = record { moment = refl; sealed = refl }; heard = heard }
-timed_at_leaves setup past s datagram head (Attempt near) tied sent heard = record { tied = tied; sent = sent; same = record { moment = refl; sealed = refl }; heard = heard }
+timed_at_leaves setup past s datagram head Startup tied sent heard = record { tied = tied; sent = sent; same = refl; heard = heard }
+timed_at_leaves setup past s datagram head (Attempt near) tied sent heard = record { tied = tied; sent = sent; same = refl; heard = heard }
 timed_at_leaves setup past s datagram head (Session near) tied sent heard = timed_leaves setup past s datagram head near (get s.sessions near) refl tied sent heard
 
 -- What an admission says: the state that it leaves agrees, and a datagram that is taken is what it has to be.
@@ -240,7 +239,7 @@ pub record IsTaken (setup : Setup) (past : List Stamped) (s : State) (datagram :
 pub record IsRejected (setup : Setup) (past : List Stamped) (s t : State) : Type 0 where
   pub tied : Tied setup past t
   pub sent : Sent setup past t
-  pub same : SameCounts s t
+  pub same : t.moment ≡ s.moment
 
 abbrev pub AdmissionIs : Setup → List Stamped → State → List ℕ → Admission → Type 0
 AdmissionIs setup past s datagram (Rejected t cause) = IsRejected setup past s t
@@ -255,12 +254,12 @@ packet_admitted setup past s t datagram place (Ok packet) leaves came = by_mode 
         AdmissionIs setup past s datagram (if b then Admitted (timed_at t place packet.head) place packet else Rejected t WrongPlace)
     by_mode true is =
         let timed = timed_at_leaves setup past t datagram packet.head place leaves.tied leaves.sent leaves.heard in
-        record { leaves = record { tied = timed.tied; sent = timed.sent; same = record { moment = timed.same.moment ∙ leaves.same.moment; sealed = timed.same.sealed ∙ leaves.same.sealed }; heard = timed.heard }; came = is refl }
+        record { leaves = record { tied = timed.tied; sent = timed.sent; same = timed.same ∙ leaves.same; heard = timed.heard }; came = is refl }
     by_mode false is = record { tied = leaves.tied; sent = leaves.sent; same = leaves.same }
 
 admitted_is : (setup : Setup) (past : List Stamped) (s : State) (datagram : List ℕ) (r : Result (Place × List ℕ) Cause) → Tied setup past s → Sent setup past s → IsBytes datagram →
     ((found : Place × List ℕ) → r ≡ Ok found → IsOpened s datagram found.0 found.1) → AdmissionIs setup past s datagram (admitted s datagram r)
-admitted_is setup past s datagram (Err cause) tied sent are opened = record { tied = tied; sent = sent; same = record { moment = refl; sealed = refl } }
+admitted_is setup past s datagram (Err cause) tied sent are opened = record { tied = tied; sent = sent; same = refl }
 admitted_is setup past s datagram (Ok found) tied sent are opened =
     let is = opened found refl in
     let t : State = counted_at s found.0 (drop 4 datagram) in

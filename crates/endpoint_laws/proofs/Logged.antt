@@ -99,7 +99,7 @@ module _ (setup : Setup) (is : IsSetup setup) (past : List Stamped) (s t : State
   answers_orderly (Close near) (Refused refusal) entries fits well h = record { did = nothing s; orderly = orderly_nothing setup (Close near) past s tied sent well; does = h.2 }
   answers_orderly (AddRow print addresses) Done entries fits well h = record {
     did = nothing (with_redirect s print addresses);
-    orderly = orderly_from setup (AddRow print addresses) past s (with_redirect s print addresses) (nothing (with_redirect s print addresses)) (record { moment = refl; sealed = refl })
+    orderly = orderly_from setup (AddRow print addresses) past s (with_redirect s print addresses) (nothing (with_redirect s print addresses)) refl
         (orderly_nothing setup (AddRow print addresses) past (with_redirect s print addresses) (tied_unseen setup past s s.introduces (insert s.redirects print addresses) tied)
         (record { numbered = sent.numbered; sized = sent.sized; short = sent.short; rows = few_inserted s.redirects print addresses (few_addresses s.redirects print (length addresses) (sym h.0)) sent.rows }) well);
     does = h.1;
@@ -107,7 +107,7 @@ module _ (setup : Setup) (is : IsSetup setup) (past : List Stamped) (s t : State
   answers_orderly (AddRow print addresses) (NotAdded refusal) entries fits well h = record { did = nothing s; orderly = orderly_nothing setup (AddRow print addresses) past s tied sent well; does = h.1 }
   answers_orderly Introduce Done entries fits well h = record {
     did = nothing (introducing s);
-    orderly = orderly_from setup Introduce past s (introducing s) (nothing (introducing s)) (record { moment = refl; sealed = refl })
+    orderly = orderly_from setup Introduce past s (introducing s) (nothing (introducing s)) refl
         (orderly_nothing setup Introduce past (introducing s) (tied_unseen setup past s true s.redirects tied) (record { numbered = sent.numbered; sized = sent.sized; short = sent.short; rows = sent.rows }) well);
     does = h;
   }

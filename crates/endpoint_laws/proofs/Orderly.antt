@@ -33,7 +33,6 @@ use Rattle.endpoint_laws.proofs.Going.{Goes, goes_nothing, goes_then, goes_disca
 use Rattle.endpoint_laws.proofs.OutSends.{Sent, Meets, meets_nothing, meets_then}
 use Rattle.endpoint_laws.proofs.OutItems.{meets_end, meets_repeat, meets_confirming, meets_discarded}
 use Rattle.endpoint_laws.proofs.OutSessions.{meets_tested}
-use Rattle.endpoint_laws.proofs.Replies.{SameCounts}
 use Rattle.endpoint_laws.proofs.Walks.{Steps, tick_walked, acked_walked, unowed_walked, tick_all_walked}
 use Rattle.endpoint_laws.proofs.Ending.{tick_end, tick_repeat}
 use Rattle.endpoint_laws.proofs.SessionChunks.{goes_tested}
@@ -72,15 +71,15 @@ orderly_then setup call past s d next first later =
     }
 
 -- in a state that was reached without entries
-pub orderly_from : (setup : Setup) (call : Call) (past : List Stamped) (s t : State) (d : Did) → SameCounts s t → Orderly setup call past t d → Orderly setup call past s d
+pub orderly_from : (setup : Setup) (call : Call) (past : List Stamped) (s t : State) (d : Did) → t.moment ≡ s.moment → Orderly setup call past t d → Orderly setup call past s d
 orderly_from setup call past s t d same orderly =
     let P : ℕ → Type 0 = λ m. EntriesMeet FactPart setup m call past d.entries in
     let Q : ℕ → Type 0 = λ m. Tied setup (onto m d.entries past) d.state in
     let R : ℕ → Type 0 = λ m. Meets setup m call past d in
     record {
-      goes = record { meets = subst P same.moment orderly.goes.meets; tied = subst Q same.moment orderly.goes.tied; moment = orderly.goes.moment ∙ same.moment };
-      meets = subst R same.moment orderly.meets;
-      heard = heard_from past s t d same.moment orderly.heard;
+      goes = record { meets = subst P same orderly.goes.meets; tied = subst Q same orderly.goes.tied; moment = orderly.goes.moment ∙ same };
+      meets = subst R same orderly.meets;
+      heard = heard_from past s t d same orderly.heard;
     }
 
 -- whatever was done before

@@ -90,16 +90,11 @@ changed_there attempts sid old e is = by (sid == 0) is
 
 -- ---- what such a chunk leaves
 
--- the moment is the same, and as many startup packets were sealed
-pub record SameCounts (s t : State) : Type 0 where
-  pub moment : t.moment ≡ s.moment
-  pub sealed : t.sealed ≡ s.sealed
-
-pub left_same : (s : State) (place : Place) (from : AddressParts) (read : Result Chunk ChunkFault) → SameCounts s (read_left s place from read)
-left_same s place from (Ok (RHello tag cookie cert)) = record { moment = refl; sealed = refl }
-left_same s place from (Ok (Redirect tag list)) = record { moment = refl; sealed = refl }
-left_same s place from (Ok (CookieChange old new)) = record { moment = refl; sealed = refl }
-left_same s place from _ = record { moment = refl; sealed = refl }
+left_moment : (s : State) (place : Place) (from : AddressParts) (read : Result Chunk ChunkFault) → (read_left s place from read).moment ≡ s.moment
+left_moment s place from (Ok (RHello tag cookie cert)) = refl
+left_moment s place from (Ok (Redirect tag list)) = refl
+left_moment s place from (Ok (CookieChange old new)) = refl
+left_moment s place from _ = refl
 
 module _ (setup : Setup) (past : List Stamped) (s : State) (tied : Tied setup past s) where
   answered_tied : (o : Option (ℕ × AttemptState)) (from : AddressParts) (cookie : List ℕ) → ((e : ℕ × AttemptState) → o ≡ Some e → get s.startup.attempts e.0 ≡ Some e.1) →
@@ -270,7 +265,7 @@ module _ (setup : Setup) (past : List Stamped) (s : State) (sent : Sent setup pa
 
 module _ (setup : Setup) (call : Call) where
   pub goes_read : (s : State) (place : Place) (from : AddressParts) (read : Result Chunk ChunkFault) → Keeps setup call s (read_done s place from read)
-  goes_read s place from read = read_by (goes_sends setup call) s place from read (λ past tied. record { meets = tt; tied = left_tied setup past s tied place from read; moment = (left_same s place from read).moment }) (carries_any Any (λ body. tt) (read_reply s place from read))
+  goes_read s place from read = read_by (goes_sends setup call) s place from read (λ past tied. record { meets = tt; tied = left_tied setup past s tied place from read; moment = left_moment s place from read }) (carries_any Any (λ body. tt) (read_reply s place from read))
 
 module _ (setup : Setup) (now : ℕ) (call : Call) (past : List Stamped) where
   pub says : (s : State) → Sent setup past s → Tied setup past s → (near : ℕ) (from : AddressParts) (body : List ℕ) → IsModest body → (o : Option Row) → get s.sessions near ≡ o → Meets setup now call past (sent_by s near from body o)
