@@ -1,5 +1,5 @@
 -- The chunks of a datagram that was taken, and the test after them.
-use Rattle.std.proofs.Common.{ℕ, ◌≡◌, ◌+◌, ◌<◌, ◌⊎◌, inl, List, ◌∷◌, length, take, Bool, true, false, if◌then◌else◌, Result, Ok, Err, OnOk, IfErr, refl, sym, ap, ◌∙◌, subst, arith}
+use Rattle.std.proofs.Common.{ℕ, ◌≡◌, ◌+◌, ◌<◌, ◌⊎◌, inl, List, [], ◌∷◌, length, take, Bool, true, false, if◌then◌else◌, Result, Ok, Err, OnOk, IfErr, refl, sym, ap, ◌∙◌, subst, arith}
 use Rattle.rtmfp_forms.specs.Address.{AddressParts}
 use Rattle.rtmfp_packet.specs.Walk.{Placed}
 use Rattle.rtmfp_packet.specs.Whole.{Whole}
@@ -16,8 +16,8 @@ use Rattle.endpoint_model.specs.InSessions.{tested}
 use Rattle.endpoint_model.specs.FlowChunks.{acked, unowed}
 use Rattle.endpoint_model.specs.Effects.{chunks_did, outset, most_acks, received, part_received}
 use Rattle.endpoint_model.specs.Log.{StopsSo, WantsMore}
-use Rattle.endpoint_model.proofs.Steps.{IsGone, done_nothing, joined, then_then}
-use Rattle.endpoint.specs.Walks.{taken_upto, walked_and_tested, walked_and_acked, StopsIn}
+use Rattle.endpoint_model.proofs.Steps.{IsGone, done_nothing, joined, take_whole, then_then}
+use Rattle.endpoint.specs.Walks.{acked_and_tested, taken_upto, walked_and_tested, walked_and_acked, StopsIn}
 
 -- four things in a row, by the first and what comes after it
 in_a_row : (d : Did) (f g h : State → Did) → then_do (then_do (then_do d f) g) h ≡ then_do d (λ t. then_do (f t) (λ u. then_do (g u) h))
@@ -74,6 +74,17 @@ no_acks t (Attempt near) = refl
 no_acks t (Session near) = refl
 
 module _ (place : Place) (from : AddressParts) (draws : Draws) (s : State) (cs : List Placed) where
+  -- all chunks were gone through
+  pub through : (gone : ℕ) (walk : Walk) (rest : List Placed) (t : State) (before after : Added) → IsGone place from draws s cs before gone walk rest t after → rest ≡ [] →
+      Done (chunks_did place from draws outset s cs) t before after
+  through gone walk rest t before after so none = subst (λ (xs : List Placed). Done (chunks_did place from draws outset s xs) t before after) (take_whole gone cs (so.left_are ∙ none)) so.done
+
+  pub walked_so : (t u v : State) (before between middle after : Added) → Done (chunks_did place from draws outset s cs) t before between → Done (acked most_acks t place) u between middle →
+      Done (tested u place from draws) v middle after → Done (walked_and_tested place from draws s cs) v before after
+  walked_so t u v before between middle after chunks acks test =
+      joined (chunks_did place from draws outset s cs) (acked_and_tested place from draws) t v before between after chunks
+      (joined (acked most_acks t place) (λ x. tested x place from draws) u v between middle after acks test)
+
   -- so many chunks and then so many packets of acks, and no memory for what comes then
   stops_behind : (gone acks : ℕ) (t u w v : State) (stop : Stopped) (before between middle after : Added) → stop ≡ taken_upto gone →
       Done (chunks_did place from draws outset s (take gone cs)) t before between → Done (acked acks t place) u between middle → Done (nothing u) w middle after → v ≡ unowed w place →

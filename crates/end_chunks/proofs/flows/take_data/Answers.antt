@@ -1,4 +1,4 @@
-use Rattle.std.proofs.Common.{ℕ, suc, ◌≡◌, ◌+◌, ◌-◌, ◌∙◌, ap, subst, arith}
+use Rattle.std.proofs.Common.{ℕ, suc, ◌≡◌, ◌+◌, ◌-◌, ◌∙◌, ap, subst, arith, rules}
 use Rattle.std.specs.Prelude.{option_to_list}
 use Rattle.std.specs.FinMap.{get}
 use Rattle.rtmfp_data_chunks.specs.Chunk.{Data, user_parts}
@@ -47,3 +47,7 @@ pub returns-clause-ok : goal.returns-clause-ok
 returns-clause-ok c =
     c.loop.invariant.rest c.loop.end c.loop.out
     (hand_zero c.args.near c.args.user.now.flow (c.in-Ok.most - c.loop.counter) c.loop.end c.loop.out (omega (arith, c.loop-test.false)))
+
+-- so that a wrong body is refused fast
+pub returns-in-Err-make_room-clause-err : goal.returns-in-Err-make_room-clause-err
+returns-in-Err-make_room-clause-err c = search rules

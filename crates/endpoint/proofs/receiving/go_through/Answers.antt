@@ -5,7 +5,7 @@ use Rattle.rtmfp_packet.specs.Chunks.{left, shown}
 use Rattle.endpoint_model.specs.declared.walk.Walk.{Walk}
 use Rattle.endpoint_model.proofs.Steps.{IsGone, one_gone}
 use Rattle.endpoint.proofs.Refusals.{IsRoomy, one_refused}
-use Rattle.endpoint.proofs.Walking.{stops_at_chunk}
+use Rattle.endpoint.proofs.Walking.{stops_at_chunk, through, walked_so}
 use Rattle.endpoint.proofs.receiving.go_through.Goals as goal
 
 pub loop-chunk-preserved : goal.loop-chunk-preserved
@@ -37,3 +37,9 @@ returns-in-Err-clause-stop c =
     let fits : c.loop-chunk.gone + length (one ∷ rest) ≡ length all = subst (λ (cs : List Placed). c.loop-chunk.gone + length cs ≡ length all) c.in-Some.ensures.steps c.loop-chunk.invariant.fits in
     stops_at_chunk c.args.place c.args.from.now c.args.draws.now c.args.end.now all c.loop-chunk.gone c.loop-chunk.walk one rest c.loop-chunk.end c.take_chunk.new.end c.stop.new.end c.stop.result
     c.args.out.now c.loop-chunk.out c.take_chunk.new.out c.stop.ensures.stop so_far fits c.in-Err.ensures.err c.stop.ensures.state
+
+pub returns-in-Ok-test-clause-ok : goal.returns-in-Ok-test-clause-ok
+returns-in-Ok-test-clause-ok c =
+    walked_so c.args.place c.args.from.now c.args.draws.now c.args.end.now (left c.args.chunks) c.loop-chunk.end c.send_acks.new.end c.test.new.end c.args.out.now c.loop-chunk.out c.send_acks.new.out c.test.new.out
+    (through c.args.place c.args.from.now c.args.draws.now c.args.end.now (left c.args.chunks) c.loop-chunk.gone c.loop-chunk.walk (left c.loop-chunk.chunks) c.loop-chunk.end c.args.out.now c.loop-chunk.out c.loop-chunk.invariant.so_far c.in_default.ensures.steps.0)
+    c.in-Ok-send_acks.ensures.ok c.in-Ok-test.ensures.ok
