@@ -31,14 +31,8 @@ fn counted(out: &Outbox, address: Address) -> Result<(u8, u8, u8), Fail> {
                 sent = sent.saturating_add(1);
             }
             Entry::Fact(_) => told = told.saturating_add(1),
-            Entry::Closed { .. } => {}
-            Entry::Moved { .. } => {}
-            Entry::FlowOpened { .. } => {}
-            Entry::Queued { .. } => {}
-            Entry::Finished { .. } => {}
-            Entry::Abandoned { .. } => {}
-            Entry::Handed { .. } => {}
             Entry::Discard { .. } => dropped = dropped.saturating_add(1),
+            _ => {}
         }
     }
     Ok((sent, told, dropped))
