@@ -3,3 +3,4 @@ pub mod Payloads
 pub mod Texts
 pub mod Lists
 pub mod Naming
+pub mod Pieces

@@ -1,6 +1,7 @@
 //! The texts of packets, as `show` prints them.
 #![tactic(auto)]
 
+mod digits;
 pub mod laws;
 mod show;
 mod show_chunk;

@@ -7,6 +7,7 @@ ghost use Rattle.rtmfp_show.specs.ShowText.{FieldsText, FlowText, PacketText, Wh
 ghost use Rattle.rtmfp_show.specs.ShowLine.{IsNoPacket, ShowsLine};
 ghost use Rattle.rtmfp_show.specs.Adding.{Adds, AddsChunk};
 
+use crate::digits::decode;
 use crate::show_chunk::show_view;
 use crate::show_data::show_data_view;
 use rtmfp_chunks::{ChunkFault, read_chunk};
@@ -31,7 +32,7 @@ pub fn show_line(line: &[u8], text: &mut Text) -> Result<bool, AllocError>
     text.clear();
     let mut packet = [0; PACKET];
     let packet = &mut packet[..line.len() / 2];
-    if hex::decode_to_slice(line, packet).is_err() {
+    if !decode(line, packet) {
         return Ok(false);
     }
     show_packet(packet, text)?;
