@@ -25,6 +25,7 @@ use Rattle.glare_core.specs.Steps.{Step}
 use Rattle.glare_core.specs.Told.{WasSent}
 use Rattle.endpoint_model.specs.Event.{Setup, own_of}
 use Rattle.endpoint_laws.specs.Past.{Stamped, facts_of, IsClosing}
+use Rattle.endpoint_laws.specs.Agreed.{no_generation}
 use Rattle.endpoint_laws.specs.Contexts.{session_context, outward, OpensUnder, StandsUnder}
 use Rattle.endpoint_model.specs.Keying.{chunks_of, IsAmong, initiator_part, responder_part}
 use Rattle.endpoint_laws.specs.Lawful.{OutLine}
@@ -74,12 +75,12 @@ id_is sid part sent small all e =
 
 -- ---- keyings
 
-keying_same : (a a' b b' : List ℕ) (n n' : ℕ) (ni ni' : List ℕ) (near : ℕ) → a ≡ a' → b ≡ b' → n ≡ n' → ni ≡ ni' → Keying a b n ni near 0 ≡ Keying a' b' n' ni' near 0
-keying_same a a' b b' n n' ni ni' near p q r s = λ i. Keying (p i) (q i) (r i) (s i) near 0
+keying_same : (a a' b b' : List ℕ) (n n' : ℕ) (ni ni' : List ℕ) (near : ℕ) → a ≡ a' → b ≡ b' → n ≡ n' → ni ≡ ni' → Keying a b n ni near no_generation ≡ Keying a' b' n' ni' near no_generation
+keying_same a a' b b' n n' ni ni' near p q r s = λ i. Keying (p i) (q i) (r i) (s i) near no_generation
 
 answer_same : (i i' : ℕ) (p p' : List ℕ) (r r' : ℕ) (nr nr' : List ℕ) (k k' : ℕ) (ni ni' : List ℕ) → i ≡ i' → p ≡ p' → r ≡ r' → nr ≡ nr' → k ≡ k' → ni ≡ ni' →
-    Answer i p r nr k ni 0 ≡ Answer i' p' r' nr' k' ni' 0
-answer_same i i' p p' r r' nr nr' k k' ni ni' a b c d e f = λ x. Answer (a x) (b x) (c x) (d x) (e x) (f x) 0
+    Answer i p r nr k ni no_generation ≡ Answer i' p' r' nr' k' ni' no_generation
+answer_same i i' p p' r r' nr nr' k k' ni ni' a b c d e f = λ x. Answer (a x) (b x) (c x) (d x) (e x) (f x) no_generation
 
 module _ (secret sent : List ℕ) (steps : List Step) (there : Carried secret sent Startup steps) (sid : ℕ) (plain : List ℕ) (opens : OpensUnder secret Startup sid sent plain) (packet : Whole) (reads : PacketReading plain (Ok packet)) where
   reads_there : PacketReading there.line.plain (Ok packet)
@@ -89,29 +90,29 @@ module _ (secret sent : List ℕ) (steps : List Step) (there : Carried secret se
       subst (λ (b : List ℕ). PacketReading b (Ok packet)) (plain_is secret Startup there.line.sid sid there.line.number there.line.plain plain sent there.line.numbered made opens) reads
 
   pub keying_carried : (c : Placed) (near : ℕ) (cookie cert ni : List ℕ) (n : ℕ) (own sign : List ℕ) → IsAmong c (chunks_of packet) → Spells (IIKeying near cookie cert (initiator_part ni n own) sign) c.kind c.payload →
-      length ni ≡ 16 → n < 2 ^ 64 → WasSent (Keying (sha256 cert) own n ni near 0) steps
+      length ni ≡ 16 → n < 2 ^ 64 → WasSent (Keying (sha256 cert) own n ni near no_generation) steps
   keying_carried c near cookie cert ni n own sign among spells size fits =
       let k = (there.line.keyings packet reads_there).initiators c near cookie cert (initiator_part ni n own) sign among spells in
       let told = there.told k.peer (Opening k.n near k.ni) k.is_held in
       let same = one_initiator_part ni k.ni n k.n own k.peer size told.sizes.1 fits told.sizes.2 k.values in
-      let is : Keying (own_of there.setup) k.peer k.n k.ni near 0 ≡ Keying (sha256 cert) own n ni near 0 =
+      let is : Keying (own_of there.setup) k.peer k.n k.ni near no_generation ≡ Keying (sha256 cert) own n ni near no_generation =
       keying_same (own_of there.setup) (sha256 cert) k.peer own k.n n k.ni ni near (sym (ap sha256 k.own)) (sym same.responder_is) (sym same.n_is) (sym same.ni_is) in
       subst (λ (t : Tell). WasSent t steps) is told.sent
 
   -- of a session that was born at the sender
-  born_carried : (j : Joined) (near : ℕ) (nr : List ℕ) (k : ℕ) (peer ni : List ℕ) → WasSent (Answer j.far (own_of there.setup) j.near j.nr j.k j.ni 0) steps → BornSizes j → AreBytes sent → there.line.sid ≡ j.far → near ≡ j.near →
-      length peer ≡ 32 → length ni ≡ 16 → k < 2 ^ 64 → responder_part nr k peer ni ≡ responder_part j.nr j.k (own_of there.setup) j.ni → WasSent (Answer sid peer near nr k ni 0) steps
+  born_carried : (j : Joined) (near : ℕ) (nr : List ℕ) (k : ℕ) (peer ni : List ℕ) → WasSent (Answer j.far (own_of there.setup) j.near j.nr j.k j.ni no_generation) steps → BornSizes j → AreBytes sent → there.line.sid ≡ j.far → near ≡ j.near →
+      length peer ≡ 32 → length ni ≡ 16 → k < 2 ^ 64 → responder_part nr k peer ni ≡ responder_part j.nr j.k (own_of there.setup) j.ni → WasSent (Answer sid peer near nr k ni no_generation) steps
   born_carried j near nr k peer ni told sizes all sid_is near_is peer_size ni_size fits values =
       let part : List ℕ = sealed_in there.setup.secret Startup there.line.sid there.line.number there.line.plain in
       let small : there.line.sid < 2 ^ 32 = subst (λ (x : ℕ). x < 2 ^ 32) (sym sid_is) sizes.far in
       let id : sid ≡ j.far = sym opens.id ∙ id_is there.line.sid part sent small all there.line.is ∙ sid_is in
       let same = one_responder_part nr j.nr k j.k peer (own_of there.setup) ni j.ni sizes.nr fits sizes.k peer_size (length-sha256 there.setup.cert) ni_size sizes.ni values in
-      let is : Answer j.far (own_of there.setup) j.near j.nr j.k j.ni 0 ≡ Answer sid peer near nr k ni 0 =
+      let is : Answer j.far (own_of there.setup) j.near j.nr j.k j.ni no_generation ≡ Answer sid peer near nr k ni no_generation =
       answer_same j.far sid (own_of there.setup) peer j.near near j.nr nr j.k k j.ni ni (sym id) (sym same.responder_is) (sym near_is) (sym same.nr_is) (sym same.k_is) (sym same.ni_is) in
       subst (λ (t : Tell). WasSent t steps) is told
 
   pub answer_carried : (c : Placed) (near : ℕ) (nr : List ℕ) (k : ℕ) (peer ni sign : List ℕ) → IsAmong c (chunks_of packet) → Spells (RIKeying near (responder_part nr k peer ni) sign) c.kind c.payload → AreBytes sent →
-      length peer ≡ 32 → length ni ≡ 16 → k < 2 ^ 64 → WasSent (Answer sid peer near nr k ni 0) steps
+      length peer ≡ 32 → length ni ≡ 16 → k < 2 ^ 64 → WasSent (Answer sid peer near nr k ni no_generation) steps
   answer_carried c near nr k peer ni sign among spells all peer_size ni_size fits =
       let b = (there.line.keyings packet reads_there).responders c near (responder_part nr k peer ni) sign among spells in
       elim b.is_held [
@@ -132,14 +133,14 @@ direction_of (Session ni nr fp_i fp_r sid_i sid_r to_responder) = to_responder
 other_way : false ≡ true → ⊥
 other_way e = absurd (cc)
 
-initiators : (own peer : List ℕ) (thing : Held) (v : Values) (steps : List Step) → session_context v true ≡ outward own thing → WasSent (tell_of own peer thing) steps → WasSent (Under v true 0) steps
+initiators : (own peer : List ℕ) (thing : Held) (v : Values) (steps : List Step) → session_context v true ≡ outward own thing → WasSent (tell_of own peer thing) steps → WasSent (Under v true no_generation) steps
 unfolding values_of direction_of
 initiators own peer (Opening n near ni) v steps e w = absurd (other_way (sym (ap direction_of e)))
 initiators own peer (HalfOpen j) v steps e w = absurd (other_way (sym (ap direction_of e)))
 initiators own peer (KeptAsResponder j) v steps e w = absurd (other_way (sym (ap direction_of e)))
-initiators own peer (KeptAsInitiator j) v steps e w = subst (λ (x : Values). WasSent (Under x true 0) steps) (sym (ap (values_of v) e)) w
+initiators own peer (KeptAsInitiator j) v steps e w = subst (λ (x : Values). WasSent (Under x true no_generation) steps) (sym (ap (values_of v) e)) w
 
-pub under_carried : (secret sent : List ℕ) (v : Values) (steps : List Step) → Carried secret sent (session_context v true) steps → WasSent (Under v true 0) steps
+pub under_carried : (secret sent : List ℕ) (v : Values) (steps : List Step) → Carried secret sent (session_context v true) steps → WasSent (Under v true no_generation) steps
 under_carried secret sent v steps there =
     let s = there.line.session in
     stands s.0 s.1 s.2 s.3
@@ -147,6 +148,6 @@ under_carried secret sent v steps there =
     own : List ℕ
     own = own_of there.setup
 
-    stands : (thing : Held) (near : ℕ) → StandsUnder there.past near thing → session_context v true ≡ outward own thing → WasSent (Under v true 0) steps
+    stands : (thing : Held) (near : ℕ) → StandsUnder there.past near thing → session_context v true ≡ outward own thing → WasSent (Under v true no_generation) steps
     stands thing near (inl h) e = initiators own h.peer thing v steps e (there.told h.peer thing h.is_held).sent
     stands thing near (inr c) e = let told = there.closing near thing c.0 c.1 in initiators own told.0 thing v steps e told.1

@@ -49,7 +49,7 @@ WasCarried setup begin steps call = CarriedIn setup begin steps (receive_in call
 
 -- what the table and the cause Override ask to have been told
 abbrev pub IsHeardBy : List ℕ → List Item → Fact → Type 0
-IsHeardBy own log fact = HasHeard own log fact 0 × IsCalledFor own log fact
+IsHeardBy own log fact = HasHeard own log fact no_generation × IsCalledFor own log fact
 
 -- It was told before, or a tell that was sent is all that it asks for more.
 abbrev pub Hears : List ℕ → List Step → Fact → Type 0
@@ -66,19 +66,19 @@ one_half_open o j k p q = let same : HalfOpen k ≡ HalfOpen j = cc in cc
 -- ---- the three tells
 
 pub keying_told : (setup : Setup) (begin past : List Stamped) (now : ℕ) (base : List Step) (from : AddressParts) (datagram : List ℕ) (draws : Draws) (offer : Offer) →
-    WasCarried setup begin base (Receive from datagram draws) → Admissible setup past now from datagram offer → WasSent (Keying offer.peer (own_of setup) offer.n offer.ni offer.far 0) base
+    WasCarried setup begin base (Receive from datagram draws) → Admissible setup past now from datagram offer → WasSent (Keying offer.peer (own_of setup) offer.n offer.ni offer.far no_generation) base
 keying_told setup begin past now base from datagram draws offer carried a =
     let plain : List ℕ = a.reads.plain in
     let id : sid_of datagram ≡ 0 = a.reads.opens.id in
     let opens : OpensUnder setup.secret Startup (sid_of datagram) datagram plain = subst (λ (s : ℕ). OpensUnder setup.secret Startup s datagram plain) (sym id) a.reads.opens in
     let there = carried Startup plain (inl (id, refl)) opens in
-    subst (λ (p : List ℕ). WasSent (Keying p (own_of setup) offer.n offer.ni offer.far 0) base) (sym a.peer)
+    subst (λ (p : List ℕ). WasSent (Keying p (own_of setup) offer.n offer.ni offer.far no_generation) base) (sym a.peer)
     (keying_carried setup.secret datagram base there (sid_of datagram) plain opens a.packet a.reads.reads a.chunk offer.far a.cookie a.cert offer.ni offer.n (own_of setup) a.sign
     (first_among a.chunk (chunks_of a.packet) a.first) a.spells a.nonce_size a.number)
 
 pub answer_told : (setup : Setup) (begin : List Stamped) (facts : List Fact) (base : List Step) (from : AddressParts) (datagram : List ℕ) (draws : Draws) (j : Joined) →
     WasCarried setup begin base (Receive from datagram draws) → IsCall (Receive from datagram draws) → held j.peer (facts_of begin) ≡ Some (Opening j.n j.near j.ni) → length j.peer ≡ 32 → length j.ni ≡ 16 →
-    AnswersAttempt setup.secret j datagram → WasSent (Answer j.near j.peer j.far j.nr j.k j.ni 0) base
+    AnswersAttempt setup.secret j datagram → WasSent (Answer j.near j.peer j.far j.nr j.k j.ni no_generation) base
 answer_told setup begin facts base from datagram draws j carried is_call is_held peer_size ni_size a =
     let plain : List ℕ = a.reads.plain in
     let id : sid_of datagram ≡ j.near = a.reads.opens.id in
@@ -88,7 +88,7 @@ answer_told setup begin facts base from datagram draws j carried is_call is_held
 
 pub under_told : (setup : Setup) (begin : List Stamped) (base : List Step) (from : AddressParts) (datagram : List ℕ) (draws : Draws) (peer : List ℕ) (near : ℕ) (j : Joined) →
     WasCarried setup begin base (Receive from datagram draws) → Comes (sid_of datagram) (facts_of begin) peer (Some (HalfOpen j)) → near ≡ j.near →
-    ((plain : List ℕ) × OpensUnder setup.secret (inward (own_of setup) (HalfOpen j)) near datagram plain) → WasSent (Under (as_responder (own_of setup) j) true 0) base
+    ((plain : List ℕ) × OpensUnder setup.secret (inward (own_of setup) (HalfOpen j)) near datagram plain) → WasSent (Under (as_responder (own_of setup) j) true no_generation) base
 under_told setup begin base from datagram draws peer near j carried (inl is_held) near_is by =
     let plain : List ℕ = by.0 in
     let context : Context = session_context (as_responder (own_of setup) j) true in
@@ -115,7 +115,7 @@ module _ (setup : Setup) (now : ℕ) (begin past : List Stamped) (base steps : L
   holds_it peer h e = subst (λ (o : Option Held). Holds (view own steps) peer o) (holding_is peer h e) (is.holds own peer)
 
   called_by : (peer : List ℕ) (near : ℕ) (why : Why) (j : Joined) → j.peer ≡ peer → seen j.peer (Ended peer near why ∷ facts_of past) < j.n →
-      IsCalledFor own (Told (Keying j.peer own j.n j.ni j.far 0) ∷ view own steps) (Ended peer near why)
+      IsCalledFor own (Told (Keying j.peer own j.n j.ni j.far no_generation) ∷ view own steps) (Ended peer near why)
   called_by peer near why j same above e =
       let more = seen_item peer (Did (Ended peer near why) no_generation) (view own steps) in
       let here : seen peer (Ended peer near why ∷ facts (view own steps)) < j.n =
@@ -124,27 +124,27 @@ module _ (setup : Setup) (now : ℕ) (begin past : List Stamped) (base steps : L
         n = j.n;
         ni = j.ni;
         near_i = j.far;
-        generation = 0;
-        told = inl (ap (λ (p : List ℕ). Told (Keying p own j.n j.ni j.far 0)) (sym same));
+        generation = no_generation;
+        told = inl (ap (λ (p : List ℕ). Told (Keying p own j.n j.ni j.far no_generation)) (sym same));
         above = omega (arith, more, here);
       }
 
   -- the keying of which a session is born
   bears : (call : Call) (before : List Stamped) (offer : Offer) (nr : List ℕ) → WasCarried setup begin base call → Bears setup before now call offer nr →
-      WasSent (Keying offer.peer own offer.n offer.ni offer.far 0) steps
+      WasSent (Keying offer.peer own offer.n offer.ni offer.far no_generation) steps
   bears call before offer nr carried by = in_receive (receive_in call) carried by
     where
-      in_receive : (o : Option ReceiveCall) → CarriedIn setup begin base o → BearsIn setup before now o offer nr → WasSent (Keying offer.peer own offer.n offer.ni offer.far 0) steps
+      in_receive : (o : Option ReceiveCall) → CarriedIn setup begin base o → BearsIn setup before now o offer nr → WasSent (Keying offer.peer own offer.n offer.ni offer.far no_generation) steps
       in_receive None sent bearing = absurd bearing
       in_receive (Some r) sent bearing =
-          grows (Keying offer.peer own offer.n offer.ni offer.far 0) (keying_told setup begin before now base r.from r.datagram r.draws offer sent bearing.0)
+          grows (Keying offer.peer own offer.n offer.ni offer.far no_generation) (keying_told setup begin before now base r.from r.datagram r.draws offer sent bearing.0)
 
   offer_of : Joined → Offer
   offer_of j = record { peer = j.peer; n = j.n; ni = j.ni; far = j.far }
 
   hears_born : (call : Call) (before : List Stamped) (j : Joined) → WasCarried setup begin base call → BornLine setup now call before j → Hears own steps (Born j)
   unfolding offer_of
-  hears_born call before j carried line = inr (Keying j.peer own j.n j.ni j.far 0, bears call line.before (offer_of j) j.nr carried line.by, (inl refl, tt))
+  hears_born call before j carried line = inr (Keying j.peer own j.n j.ni j.far no_generation, bears call line.before (offer_of j) j.nr carried line.by, (inl refl, tt))
 
   hears_opened : (call : Call) (j : Joined) → IsCall call → WasCarried setup begin base call → CameSince call start (facts_of past) → held j.peer (facts_of past) ≡ Some (Opening j.n j.near j.ni) →
       FactLine setup now call past [] (Opened j) → Hears own steps (Opened j)
@@ -153,7 +153,7 @@ module _ (setup : Setup) (now : ℕ) (begin past : List Stamped) (base steps : L
       in_receive : (o : Option ReceiveCall) → receive_in call ≡ o → CarriedIn setup begin base o → CameIn o start (facts_of past) → TakesAnswerIn setup o j → Hears own steps (Opened j)
       in_receive None e sent since answer = absurd answer
       in_receive (Some r) e sent since answer =
-          let t : Tell = Answer j.near j.peer j.far j.nr j.k j.ni 0 in
+          let t : Tell = Answer j.near j.peer j.far j.nr j.k j.ni no_generation in
           let sizes = (holds_it j.peer (Opening j.n j.near j.ni) stands).1 in
           let was = subst (λ (h : Option Held). Comes (sid_of r.datagram) start j.peer h) stands (since j.peer) in
           inr (t, grows t (answer_told setup begin (facts_of past) base r.from r.datagram r.draws j sent (subst IsCall (receives_alone call r e) is_call) was sizes.0 sizes.1 answer), (inl refl, tt))
@@ -168,11 +168,11 @@ module _ (setup : Setup) (now : ℕ) (begin past : List Stamped) (base steps : L
       in_receive : (o : Option ReceiveCall) → CarriedIn setup begin base o → CameIn o start (facts_of past) → TakesUnderIn setup o near (HalfOpen j) → Hears own steps (Confirmed peer near)
       in_receive None sent since by = absurd by
       in_receive (Some r) sent since by =
-          let t : Tell = Under (as_responder own j) true 0 in
+          let t : Tell = Under (as_responder own j) true no_generation in
           let same : stands.j ≡ j = one_half_open (held peer (facts_of past)) j stands.j line.session stands.session in
           let was = subst (λ (h : Option Held). Comes (sid_of r.datagram) start peer h) line.session (since peer) in
           let told = under_told setup begin base r.from r.datagram r.draws peer near j sent was (stands.id ∙ ap (λ (k : Joined). k.near) same) by in
-          inr (t, grows t told, (record { j = j; session = holding_is peer (HalfOpen j) line.session; generation = 0; born = inr (holds_it peer (HalfOpen j) line.session).0.1; told = inl refl }, tt))
+          inr (t, grows t told, (record { j = j; session = holding_is peer (HalfOpen j) line.session; generation = no_generation; born = inr (holds_it peer (HalfOpen j) line.session).0.1; told = inl refl }, tt))
 
   -- an Ended for Override has heard the keying of the Born that follows
   hears_way : (call : Call) (peer : List ℕ) (near : ℕ) (why : Why) (rest : List Entry) → WasCarried setup begin base call → BornFollows peer rest →
@@ -184,7 +184,7 @@ module _ (setup : Setup) (now : ℕ) (begin past : List Stamped) (base steps : L
       by : (o : Option Fact) (sent : Option Sending) (over : Option ℕ) → IsBornIn peer o → LineOf setup now call (stamped now (FactEntry (Ended peer near why)) ∷ past) rest o sent over → Hears own steps (Ended peer near why)
       by None sent over born line = absurd born
       by (Some (Born j)) sent over born line =
-          inr (Keying j.peer own j.n j.ni j.far 0, bears call line.1.before (offer_of j) j.nr carried line.1.by, (tt, called_by peer near why j born line.0.above))
+          inr (Keying j.peer own j.n j.ni j.far no_generation, bears call line.1.before (offer_of j) j.nr carried line.1.by, (tt, called_by peer near why j born line.0.above))
       by (Some (Started p n m ni)) sent over born line = absurd born
       by (Some (Opened j)) sent over born line = absurd born
       by (Some (Confirmed p m)) sent over born line = absurd born

@@ -14,10 +14,10 @@ use Rattle.endpoint_laws.specs.Agreed.{no_generation}
 
 -- the keying of an attempt, the answer of a session that was born here, and that a datagram goes under a session to its responder
 abbrev pub tell_of : List ℕ → List ℕ → Held → Tell
-tell_of own peer (Opening n near ni) = Keying own peer n ni near 0
-tell_of own peer (HalfOpen j) = Answer j.far own j.near j.nr j.k j.ni 0
-tell_of own peer (KeptAsResponder j) = Answer j.far own j.near j.nr j.k j.ni 0
-tell_of own peer (KeptAsInitiator j) = Under (as_initiator own j) true 0
+tell_of own peer (Opening n near ni) = Keying own peer n ni near no_generation
+tell_of own peer (HalfOpen j) = Answer j.far own j.near j.nr j.k j.ni no_generation
+tell_of own peer (KeptAsResponder j) = Answer j.far own j.near j.nr j.k j.ni no_generation
+tell_of own peer (KeptAsInitiator j) = Under (as_initiator own j) true no_generation
 
 -- ---- where a held session comes from
 
@@ -64,7 +64,7 @@ pub holds_stays : (item : Item) (log : List Item) (peer : List ℕ) (o : Option 
 holds_stays item log peer None h = tt
 holds_stays item log peer (Some thing) h = (fact_stays item log peer thing h.0, h.1)
 
-holds_after : (fact : Fact) (log : List Item) (peer : List ℕ) (o : Option Held) → peer_of fact ≡ peer → FactSizes fact → Holds log peer o → Holds (Did fact 0 ∷ log) peer (after fact o)
+holds_after : (fact : Fact) (log : List Item) (peer : List ℕ) (o : Option Held) → peer_of fact ≡ peer → FactSizes fact → Holds log peer o → Holds (Did fact no_generation ∷ log) peer (after fact o)
 holds_after (Started p n near ni) log peer o is sizes h = (tt, (sym (ap length is) ∙ sizes.0, sizes.1, sizes.2))
 holds_after (Born j) log peer o is sizes h = ((is, inl refl), sizes)
 holds_after (Opened j) log peer None is sizes h = tt
@@ -80,7 +80,7 @@ holds_after (Confirmed p near) log peer (Some (KeptAsInitiator t)) is sizes h = 
 holds_after (Ended p near why) log peer o is sizes h = tt
 
 -- after one fact more
-pub holds_did : (fact : Fact) (log : List Item) (peer : List ℕ) → FactSizes fact → Holds log peer (held peer (facts log)) → Holds (Did fact 0 ∷ log) peer (held peer (fact ∷ facts log))
+pub holds_did : (fact : Fact) (log : List Item) (peer : List ℕ) → FactSizes fact → Holds log peer (held peer (facts log)) → Holds (Did fact no_generation ∷ log) peer (held peer (fact ∷ facts log))
 holds_did fact log peer sizes h = elim (same_end (peer_of fact) peer) [
   | inl d ↦ rw d.1 (holds_after fact log peer (held peer (facts log)) d.0 sizes h)
   | inr d ↦ rw d.1 (holds_stays (Did fact no_generation) log peer (held peer (facts log)) h)

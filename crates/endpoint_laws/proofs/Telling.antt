@@ -82,7 +82,7 @@ pub record Grown (own : List ℕ) (fact : Fact) (steps : List Step) : Type 0 whe
   pub is : alone next ≡ step own (Did fact no_generation) ∷ alone steps
   pub grows : (t : Tell) → WasSent t steps → WasSent t next
 
-module _ (own : List ℕ) (fact : Fact) (steps : List Step) (is : Telling steps) (sound : FactSound own steps fact 0) (sizes : FactSizes fact) (count_fits : count (fact ∷ facts (view own steps)) < 2 ^ 64) where
+module _ (own : List ℕ) (fact : Fact) (steps : List Step) (is : Telling steps) (sound : FactSound own steps fact no_generation) (sizes : FactSizes fact) (count_fits : count (fact ∷ facts (view own steps)) < 2 ^ 64) where
   abbrev did : List Step
   did = step own (Did fact no_generation) ∷ steps
 
