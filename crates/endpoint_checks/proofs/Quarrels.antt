@@ -171,24 +171,24 @@ pub disagreed_refused : HistoriesRefuseDisagreed
 disagreed_refused ends s t differ ps pt = record {
   kept = λ apart h. not_one ends s t differ ps pt (one_kept ends s t differ ps pt _ (h _ (inl refl))) apart;
   kept_before = λ apart h. not_one ends s t differ ps pt (one_kept ends s t differ ps pt _ (h _ (inr (inl refl)))) (inr (inl apart));
-  unborn = λ h. let one = (h _ (inl refl)).opened (own_of (ends 0)) s 0 _ (inl refl) in no_birth s.peer one.t _ one.early _ (none_born ends s t differ ps pt) one.born;
-  born_later = λ h. let one = (h _ (inl refl)).opened (own_of (ends 0)) s 0 _ (inr (inl refl)) in no_birth s.peer one.t _ one.early _ (none_born ends s t differ ps pt) one.born;
+  unborn = λ h. let one = (h _ (inl refl)).opened (own_of (ends 0)) s no_generation _ (inl refl) in no_birth s.peer one.t _ one.early _ (none_born ends s t differ ps pt) one.born;
+  born_later = λ h. let one = (h _ (inl refl)).opened (own_of (ends 0)) s no_generation _ (inr (inl refl)) in no_birth s.peer one.t _ one.early _ (none_born ends s t differ ps pt) one.born;
   other_count = λ apart h.
-      let one = (h _ (inl refl)).opened (own_of (ends 0)) s 0 _ (inl refl) in
+      let one = (h _ (inl refl)).opened (own_of (ends 0)) s no_generation _ (inl refl) in
       apart (sym (ap (λ (j : Joined). j.k) (one_birth s.peer (own_of (ends 1)) one.t t _ one.early _ (none_born ends s t differ ps pt) one.born)) ∙ one.k);
   other_id = λ apart h.
-      let one = (h _ (inl refl)).opened (own_of (ends 0)) s 0 _ (inl refl) in
+      let one = (h _ (inl refl)).opened (own_of (ends 0)) s no_generation _ (inl refl) in
       apart (sym (ap (λ (j : Joined). j.near) (one_birth s.peer (own_of (ends 1)) one.t t _ one.early _ (none_born ends s t differ ps pt) one.born)) ∙ ap (λ (v : Values). v.near_r) one.values);
-  other_keys = λ to_responder n ni apart h. apart ((h _ (inl refl)).keys 0 1 s t 0 0 _ _ (inl refl) (inr (inl refl)) (inl refl) (inr (inl refl)) ps n ni to_responder);
+  other_keys = λ to_responder n ni apart h. apart ((h _ (inl refl)).keys 0 1 s t no_generation no_generation _ _ (inl refl) (inr (inl refl)) (inl refl) (inr (inl refl)) ps n ni to_responder);
   twice = λ u n ni peer un uni apart h.
-      apart ((h _ (inl refl)).started (own_of (ends 0)) s.peer s.n s.near s.ni 0 [] (inr (inr (inl refl))) (own_of (ends 1)) (own_of (ends 1)) t u 0 0 _ _ (inr (inl refl)) pt n ni (inl refl) (peer ∙ pt) un uni).1;
+      apart ((h _ (inl refl)).started (own_of (ends 0)) s.peer s.n s.near s.ni no_generation [] (inr (inr (inl refl))) (own_of (ends 1)) (own_of (ends 1)) t u no_generation no_generation _ _ (inr (inl refl)) pt n ni (inl refl) (peer ∙ pt) un uni).1;
   crossed = λ h.
-      let over = (h _ (inl refl)).over (own_of (ends 0)) (own_of (ends 1)) (attempt ends s t differ ps pt) (back ends s t differ ps pt) _ _ (inr (inl refl)) (crossing ends s t differ ps pt) (s, 0, inl refl, ps, refl) in
+      let over = (h _ (inl refl)).over (own_of (ends 0)) (own_of (ends 1)) (attempt ends s t differ ps pt) (back ends s t differ ps pt) _ _ (inr (inl refl)) (crossing ends s t differ ps pt) (s, no_generation, inl refl, ps, refl) in
       no_end (own_of (ends 1)) (own_of (ends 0)) over.0 over.1 over.2 over.3 _ (no_ends_yet ends s t differ ps pt) over.4;
   both = λ h.
-      (h _ (inl refl)).one (own_of (ends 0)) (own_of (ends 1)) (attempt ends s t differ ps pt) (back ends s t differ ps pt) _ _ _ (inr (inr (inl refl))) (crossing ends s t differ ps pt) (s, 0, inr (inl refl), ps, refl) (t, 0, inl refl, pt, refl);
-  spared = λ near above h. (h _ (inl refl)).spared (own_of (ends 0)) s.peer near 0 _ (inl refl) above;
+      (h _ (inl refl)).one (own_of (ends 0)) (own_of (ends 1)) (attempt ends s t differ ps pt) (back ends s t differ ps pt) _ _ _ (inr (inr (inl refl))) (crossing ends s t differ ps pt) (s, no_generation, inr (inl refl), ps, refl) (t, no_generation, inl refl, pt, refl);
+  spared = λ near above h. (h _ (inl refl)).spared (own_of (ends 0)) s.peer near no_generation _ (inl refl) above;
   overridden = λ near h.
-      let ended = (h _ (inl refl)).late (own_of (ends 0)) s.peer near 0 s _ (inl refl) (inl (x_kept ends s t differ ps pt)) in
+      let ended = (h _ (inl refl)).late (own_of (ends 0)) s.peer near no_generation s _ (inl refl) (inl (x_kept ends s t differ ps pt)) in
       no_end s.peer (own_of (ends 0)) ended.near ended.why ended.g ended.early _ (none_ended ends s t differ ps pt) ended.ended;
 }
