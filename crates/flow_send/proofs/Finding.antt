@@ -18,7 +18,7 @@ use Rattle.flow_send.specs.Finder.{is_pending, bit_of, block_at, Finds, NoneIn}
 -- ---- one mark
 
 abbrev slot_of : ℕ → ℕ
-slot_of block = block / 64 % 17
+slot_of block = block / 64 % 34
 
 abbrev marked : List ℕ → ℕ → List ℕ
 marked words block = set words (slot_of block) (bit_or (get_or words (slot_of block) 0) (1 * 2 ^ (block % 64) % 2 ^ 64))
@@ -26,12 +26,12 @@ marked words block = set words (slot_of block) (bit_or (get_or words (slot_of bl
 abbrev unmarked : List ℕ → ℕ → List ℕ
 unmarked words block = set words (slot_of block) (bit_and (get_or words (slot_of block) 0) (bit_not w64 (1 * 2 ^ (block % 64) % 2 ^ 64)))
 
-pub marked_own : (words : List ℕ) (block : ℕ) → length words ≡ 17 → bit_of (marked words block) block ≡ 1
+pub marked_own : (words : List ℕ) (block : ℕ) → length words ≡ 34 → bit_of (marked words block) block ≡ 1
 marked_own words block len =
     ap (λ x. bit_at x (block % 64)) (get_or-set_same words (slot_of block) (bit_or (get_or words (slot_of block) 0) (1 * 2 ^ (block % 64) % 2 ^ 64)) 0 (omega (arith, len)))
     ∙ bit_at_set_same w64 (get_or words (slot_of block) 0) (block % 64) (omega arith)
 
-pub marked_others : (words : List ℕ) (block b : ℕ) → length words ≡ 17 → bit_of words b ≡ 1 → bit_of (marked words block) b ≡ 1
+pub marked_others : (words : List ℕ) (block b : ℕ) → length words ≡ 34 → bit_of words b ≡ 1 → bit_of (marked words block) b ≡ 1
 marked_others words block b len e =
     let word : ℕ = bit_or (get_or words (slot_of block) 0) (1 * 2 ^ (block % 64) % 2 ^ 64) in
     elim (cases_eq (slot_of b) (slot_of block)) [
@@ -44,7 +44,7 @@ marked_others words block b len e =
       | inr other ↦ ap (λ x. bit_at x (b % 64)) (get_or-set_other words (slot_of block) (slot_of b) word 0 other) ∙ e
     ]
 
-pub unmarked_others : (words : List ℕ) (block b : ℕ) → length words ≡ 17 → b % 1088 ≢ block % 1088 → bit_of (unmarked words block) b ≡ bit_of words b
+pub unmarked_others : (words : List ℕ) (block b : ℕ) → length words ≡ 34 → b % 2176 ≢ block % 2176 → bit_of (unmarked words block) b ≡ bit_of words b
 unmarked_others words block b len differ =
     let word : ℕ = bit_and (get_or words (slot_of block) 0) (bit_not w64 (1 * 2 ^ (block % 64) % 2 ^ 64)) in
     elim (cases_eq (slot_of b) (slot_of block)) [
@@ -63,14 +63,14 @@ zeros_below n j small lt = elim (cases_eq n 0) [
   | inr nz ↦ (bit_at-trailing_zeros w64 n (let k : 0 < n = omega (arith, nz) in k) small).2 j lt
 ]
 
-pub quiet_bits : (words : List ℕ) (block b : ℕ) → get_or words (block / 64 % 17) 0 < 2 ^ 64 → block ≤ b → b < block + min (trailing_zeros w64 (get_or words (block / 64 % 17) 0 / 2 ^ (block % 64))) (64 - block % 64)
+pub quiet_bits : (words : List ℕ) (block b : ℕ) → get_or words (block / 64 % 34) 0 < 2 ^ 64 → block ≤ b → b < block + min (trailing_zeros w64 (get_or words (block / 64 % 34) 0 / 2 ^ (block % 64))) (64 - block % 64)
     → bit_of words b ≡ 0
 quiet_bits words block b fits lo hi =
     let word = get_or words (slot_of block) 0 in
     let k = block % 64 in
     let j = b - block in
     let rest = word / 2 ^ k in
-    let slot : slot_of b ≡ slot_of block = let h : b / 64 ≡ block / 64 = omega (arith, lo, hi) in ap (λ x. x % 17) h in
+    let slot : slot_of b ≡ slot_of block = let h : b / 64 ≡ block / 64 = omega (arith, lo, hi) in ap (λ x. x % 34) h in
     let bit : b % 64 ≡ k + j = omega (arith, lo, hi) in
     ap (λ s. bit_at (get_or words s 0) (b % 64)) slot
     ∙ (ap (λ i. bit_at word i) bit
@@ -141,7 +141,7 @@ none_in_block pending f rows at before to from b near g behind front i lt same =
   | inr ge ↦ behind i (omega (arith, ge)) (near i lt (omega (arith, b, same)))
 ]
 
-blocks_apart : (base at i count : ℕ) → at < count → i < count → count ≤ 69568 → (base + i) / 64 % 1088 ≡ (base + at) / 64 % 1088 → (base + i) / 64 ≡ (base + at) / 64
+blocks_apart : (base at i count : ℕ) → at < count → i < count → count ≤ 139200 → (base + i) / 64 % 2176 ≡ (base + at) / 64 % 2176 → (base + i) / 64 ≡ (base + at) / 64
 blocks_apart base at i count la li few e = elim (cases_lt ((base + i) / 64) ((base + at) / 64)) [
   | inl less ↦ absurd (omega (arith, less, la, li, few, e))
   | inr ge ↦ elim (cases_lt ((base + at) / 64) ((base + i) / 64)) [
@@ -150,8 +150,8 @@ blocks_apart base at i count la li few e = elim (cases_lt ((base + i) / 64) ((ba
   ]
 ]
 
-pub found_clear : (pending : Pending) (old new : Finder) (rows : List Row) (at : ℕ) → new.base ≡ old.base → at < length rows → length rows ≤ 69568
-    → ((b : ℕ) → b % 1088 ≢ block_at old at % 1088 → bit_of new.words b ≡ bit_of old.words b)
+pub found_clear : (pending : Pending) (old new : Finder) (rows : List Row) (at : ℕ) → new.base ≡ old.base → at < length rows → length rows ≤ 139200
+    → ((b : ℕ) → b % 2176 ≢ block_at old at % 2176 → bit_of new.words b ≡ bit_of old.words b)
     → ((i : ℕ) → i < length rows → block_at old i ≡ block_at old at → is_pending pending (row_at rows i).state ≡ false)
     → Finds pending old rows → Finds pending new rows
 found_clear pending old new rows at base there few others none h = λ i lt p.

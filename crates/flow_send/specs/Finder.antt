@@ -12,9 +12,9 @@ abbrev pub is_pending : Pending → State → Bool
 is_pending First state = is_unsent state
 is_pending Again state = is_lost state
 
--- blocks use the bits of 17 words in turn
+-- blocks use the bits of 34 words in turn
 abbrev pub bit_of : List ℕ → ℕ → ℕ
-bit_of words block = bit_at (get_or words (block / 64 % 17) 0) (block % 64)
+bit_of words block = bit_at (get_or words (block / 64 % 34) 0) (block % 64)
 
 -- the block of the row at an index
 abbrev pub block_at : Finder → ℕ → ℕ

@@ -13,16 +13,16 @@ use std::collections::VecDeque;
 const BLOCK: usize = 64;
 
 /// The words with a mark for each block.
-const WORDS: u64 = 17;
+const WORDS: u64 = 34;
 
 /// The marks of a word.
 const MARKS: u64 = 64;
 
 /// After so many rows blocks use the same marks again.
-const TURN: u64 = 69_632;
+const TURN: u64 = 139_264;
 
 /// No two blocks of so many rows share a mark, wherever the first of them begins.
-const APART: usize = 69_568;
+const APART: usize = 139_200;
 
 /// What a row waits for.
 #[derive(Clone, Copy, Debug, PartialEq, Eq)]
@@ -52,11 +52,11 @@ impl Pending {
 pub struct Finder {
     /// How many rows went from the front, less whole turns.
     base: u32,
-    words: [u64; 17],
+    words: [u64; 34],
 }
 
 /// Marks a block.
-fn mark(words: &mut [u64; 17], block: u64)
+fn mark(words: &mut [u64; 34], block: u64)
     ensures own { bit_of words.new block ≡ 1 }
     ensures others { (b : ℕ) → bit_of words.old b ≡ 1 → bit_of words.new b ≡ 1 }
 {
@@ -64,14 +64,14 @@ fn mark(words: &mut [u64; 17], block: u64)
 }
 
 /// Takes away the mark of a block.
-fn unmark(words: &mut [u64; 17], block: u64)
-    ensures { (b : ℕ) → b % 1088 ≢ block % 1088 → bit_of words.new b ≡ bit_of words.old b }
+fn unmark(words: &mut [u64; 34], block: u64)
+    ensures { (b : ℕ) → b % 2176 ≢ block % 2176 → bit_of words.new b ≡ bit_of words.old b }
 {
     words[(block / MARKS % WORDS) as usize] &= !(1 << (block % MARKS));
 }
 
 /// How many blocks from one on have no mark, as far as their word tells.
-fn quiet(words: &[u64; 17], block: u64) -> u64
+fn quiet(words: &[u64; 34], block: u64) -> u64
     ensures few { result ≤ 64 }
     ensures quiet { (b : ℕ) → block ≤ b → b < block + result → bit_of words.now b ≡ 0 }
 {
@@ -106,7 +106,7 @@ impl Finder {
     pub fn new() -> Finder {
         Finder {
             base: 0,
-            words: [0; 17],
+            words: [0; 34],
         }
     }
 
@@ -163,7 +163,8 @@ impl Finder {
         any_of(rows, pending, at.saturating_sub(before), at)
     }
 
-    /// A row waits no longer: the mark of its block goes, unless another row of it waits.
+    /// A row waits no longer: the mark of its block goes, unless another row of it waits. Where
+    /// there are more rows than marks tell apart, all stay.
     pub fn clear(&mut self, rows: &VecDeque<HeldRow>, pending: Pending, at: usize)
         requires { at < length rows.now.items }
         ensures { Finds pending self.old rows.now.items → Finds pending self.new rows.now.items }
