@@ -27,8 +27,8 @@ empty : (xs : List ℕ) (z i : ℕ) → length xs ≡ 0 → get_or xs i z ≡ z
 empty [] z i e = refl
 empty (x ∷ xs) z i e = absurd (omega (arith, e))
 
-pub made : (xs ys : List ℕ) (z i : ℕ) → length xs ≡ 0 → ys ≡ replicate 1028 z → get_or ys i z ≡ get_or xs i z
-made xs ys z i e f = ap (λ (zs : List ℕ). get_or zs i z) f ∙ (same_all z 1028 i ∙ sym (empty xs z i e))
+pub made : (xs ys : List ℕ) (z i : ℕ) → length xs ≡ 0 → ys ≡ replicate 2056 z → get_or ys i z ≡ get_or xs i z
+made xs ys z i e f = ap (λ (zs : List ℕ). get_or zs i z) f ∙ (same_all z 2056 i ∙ sym (empty xs z i e))
 
 pub inside : (xs : List ℕ) (i z : ℕ) → get_or xs i z < z → i < length xs
 inside [] i z lt = absurd (omega (arith, lt))
@@ -36,8 +36,8 @@ inside (x ∷ xs) zero z lt = omega arith
 inside (x ∷ xs) (suc i) z lt = let k = inside xs i z lt in omega (arith, k)
 
 -- a moment that is lowered at one place
-pub lowered : (old new : List ℕ) (block b low : ℕ) → low_at new block ≡ low → low ≤ low_at old block → ((c : ℕ) → c % 1028 ≢ block % 1028 → low_at new c ≡ low_at old c) → low_at new b ≤ low_at old b
-lowered old new block b low own le others = elim (cases_eq (b % 1028) (block % 1028)) [
+pub lowered : (old new : List ℕ) (block b low : ℕ) → low_at new block ≡ low → low ≤ low_at old block → ((c : ℕ) → c % 2056 ≢ block % 2056 → low_at new c ≡ low_at old c) → low_at new b ≤ low_at old b
+lowered old new block b low own le others = elim (cases_eq (b % 2056) (block % 2056)) [
   | inl e ↦
       let p = ap (λ i. get_or new i 18446744073709551615) e in
       let q = ap (λ i. get_or old i 18446744073709551615) e in
@@ -229,11 +229,11 @@ pub lows_without : (lows : List ℕ) (n : ℕ) (ws : List Waiting) → AreLows l
 lows_without lows n ws h = λ w i. h w (in_without n ws w i)
 
 -- a block's moment is found anew
-pub lows_raised : (old new : List ℕ) (from to block low : ℕ) (ws : List Waiting) → AreLows old ws → AllInBlocks from to ws → to - from ≤ 1028 → from ≤ block → block < to → IsLowIn block ws low → low_at new block ≡ low
-    → ((b : ℕ) → b % 1028 ≢ block % 1028 → low_at new b ≡ low_at old b) → AreLows new ws
+pub lows_raised : (old new : List ℕ) (from to block low : ℕ) (ws : List Waiting) → AreLows old ws → AllInBlocks from to ws → to - from ≤ 2056 → from ≤ block → block < to → IsLowIn block ws low → low_at new block ≡ low
+    → ((b : ℕ) → b % 2056 ≢ block % 2056 → low_at new b ≡ low_at old b) → AreLows new ws
 lows_raised old new from to block low ws h a few lo hi l own others = λ w i.
     let k = a w i in
-    elim (cases_eq (block_of w.number % 1028) (block % 1028)) [
+    elim (cases_eq (block_of w.number % 2056) (block % 2056)) [
       | inl e ↦
           let same : block_of w.number ≡ block = let k0 = k.0 in let k1 = k.1 in omega (arith, e, k0, k1, few, lo, hi) in
           subst (λ m. IsNotBefore m w.options.deadline) (sym (ap (low_at new) same ∙ own)) (l w i same)

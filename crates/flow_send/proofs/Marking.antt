@@ -106,10 +106,10 @@ covers_same old new ws n rows e c = covers_grown old new ws n rows (λ b h. e b 
 pub covers_quiet : (old new : Marked) (ws : List Waiting) (n : ℕ) (rows : List Row) → ((w : Waiting) → IsIn w ws → is_spent w.options.resends w n rows ≡ false) → Covers old ws n rows → Covers new ws n rows
 covers_quiet old new ws n rows h c = covers_by old new ws n rows (λ w i. inl (h w i)) c
 
-pub covers_cleared : (old new : Marked) (from to end block : ℕ) (ws : List Waiting) (n : ℕ) (rows : List Row) → AllInBlocks from to ws → to - from ≤ 1028 → from ≤ block → block < end → end ≤ to → NoneSpentBefore end n rows ws
-    → ((b : ℕ) → b % 1028 ≢ block % 1028 → marked_at old b ≡ true → marked_at new b ≡ true) → Covers old ws n rows → Covers new ws n rows
+pub covers_cleared : (old new : Marked) (from to end block : ℕ) (ws : List Waiting) (n : ℕ) (rows : List Row) → AllInBlocks from to ws → to - from ≤ 2056 → from ≤ block → block < end → end ≤ to → NoneSpentBefore end n rows ws
+    → ((b : ℕ) → b % 2056 ≢ block % 2056 → marked_at old b ≡ true → marked_at new b ≡ true) → Covers old ws n rows → Covers new ws n rows
 covers_cleared old new from to end block ws n rows a few lo hi le quiet others c =
-    covers_by old new ws n rows (λ w i. let k = a w i in elim (cases_eq (block_of w.number % 1028) (block % 1028)) [
+    covers_by old new ws n rows (λ w i. let k = a w i in elim (cases_eq (block_of w.number % 2056) (block % 2056)) [
       | inl e ↦ inl (quiet w i (let k0 = k.0 in let k1 = k.1 in omega (arith, e, k0, k1, few, lo, hi, le)))
       | inr ne ↦ inr (others (block_of w.number) ne)
     ]) c
@@ -163,8 +163,8 @@ empty : (xs : List Bool) (i : ℕ) → length xs ≡ 0 → get_or xs i false ≡
 empty [] i e = refl
 empty (x ∷ xs) i e = absurd (omega (arith, e))
 
-pub made : (all : Bool) (xs ys : List Bool) (i : ℕ) → length xs ≡ 0 → ys ≡ replicate 1028 false → (all || get_or ys i false) ≡ (all || get_or xs i false)
-made all xs ys i e f = ap (λ b. all || b) (ap (λ (zs : List Bool). get_or zs i false) f ∙ (same_all 1028 i ∙ sym (empty xs i e)))
+pub made : (all : Bool) (xs ys : List Bool) (i : ℕ) → length xs ≡ 0 → ys ≡ replicate 2056 false → (all || get_or ys i false) ≡ (all || get_or xs i false)
+made all xs ys i e f = ap (λ b. all || b) (ap (λ (zs : List Bool). get_or zs i false) f ∙ (same_all 2056 i ∙ sym (empty xs i e)))
 
 -- ---- the message of a number
 

@@ -8,26 +8,26 @@ use Rattle.flow_send.specs.Rows.{Row}
 use Rattle.flow_send.specs.Sender.{message_at, is_overdue}
 use Rattle.flow_send.specs.Deadlines.{IsNotBefore}
 
--- blocks have 64 numbers, and 1,028 places are used for them in turn; a moment that isn't there is
+-- blocks have 64 numbers, and 2,056 places are used for them in turn; a moment that isn't there is
 -- the last one
 abbrev pub block_of : ℕ → ℕ
 block_of n = n / 64
 
 abbrev pub low_at : List ℕ → ℕ → ℕ
-low_at lows block = get_or lows (block % 1028) 18446744073709551615
+low_at lows block = get_or lows (block % 2056) 18446744073709551615
 
 -- 32 places one after another are a group: a moment before which none of the group of a place is
 abbrev pub IsTop : ℕ → List ℕ → ℕ → Type 0
-IsTop place lows top = (i : ℕ) → i < 1028 → i / 32 ≡ place / 32 → top ≤ get_or lows i 18446744073709551615
+IsTop place lows top = (i : ℕ) → i < 2056 → i / 32 ≡ place / 32 → top ≤ get_or lows i 18446744073709551615
 
 -- before which none of the others of the group is
 abbrev pub IsTopBeside : ℕ → List ℕ → ℕ → Type 0
-IsTopBeside place lows top = (i : ℕ) → i < 1028 → i / 32 ≡ place / 32 → i ≢ place →
+IsTopBeside place lows top = (i : ℕ) → i < 2056 → i / 32 ≡ place / 32 → i ≢ place →
     top ≤ get_or lows i 18446744073709551615
 
 -- the moments of all groups
 abbrev pub AreTops : List ℕ → List ℕ → Type 0
-AreTops tops lows = (i : ℕ) → i < 1028 →
+AreTops tops lows = (i : ℕ) → i < 2056 →
     get_or tops (i / 32) 18446744073709551615 ≤ get_or lows i 18446744073709551615
 
 -- no deadline is before the moment of its message's block

@@ -11,26 +11,26 @@ use Rattle.flow_send.specs.Sender.{has_number, is_late, is_spent}
 use Rattle.flow_send.specs.Acks.{is_third}
 use Rattle.flow_send.specs.Lows.{block_of, low_at}
 
--- all: each block is marked; blocks use 1,028 places in turn
+-- all: each block is marked; blocks use 2,056 places in turn
 pub record Marked : Type 0 where
   pub all : Bool
   pub places : List Bool
 
 abbrev pub marked_at : Marked → ℕ → Bool
-marked_at m block = m.all || get_or m.places (block % 1028) false
+marked_at m block = m.all || get_or m.places (block % 2056) false
 
 -- 32 places one after another are a group: no place of the group of a place has a mark
 abbrev pub IsBare : ℕ → List Bool → Type 0
-IsBare place places = (i : ℕ) → i < 1028 → i / 32 ≡ place / 32 → get_or places i false ≡ false
+IsBare place places = (i : ℕ) → i < 2056 → i / 32 ≡ place / 32 → get_or places i false ≡ false
 
 -- no other one of the group has
 abbrev pub IsBareBeside : ℕ → List Bool → Type 0
-IsBareBeside place places = (i : ℕ) → i < 1028 → i / 32 ≡ place / 32 → i ≢ place →
+IsBareBeside place places = (i : ℕ) → i < 2056 → i / 32 ≡ place / 32 → i ≢ place →
     get_or places i false ≡ false
 
 -- a place with a mark is in a group that tells so
 abbrev pub AreGroups : List Bool → List Bool → Type 0
-AreGroups groups places = (i : ℕ) → i < 1028 → get_or groups (i / 32) false ≡ false →
+AreGroups groups places = (i : ℕ) → i < 2056 → get_or groups (i / 32) false ≡ false →
     get_or places i false ≡ false
 
 -- so many resends are as many as a limit allows

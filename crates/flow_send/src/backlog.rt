@@ -376,7 +376,7 @@ impl Backlog {
 
     fn raise_block(&mut self, from: u64, to: u64, moment: u64, block: u64)
         requires within { AllInBlocks from to self.old }
-        requires places { to - from ≤ 1028 }
+        requires places { to - from ≤ 2056 }
         requires low { from ≤ block }
         requires high { block < to }
         requires line { InLine 0 self.old }
@@ -422,7 +422,7 @@ impl Backlog {
         end: u64,
     )
         requires within { AllInBlocks from to self.now }
-        requires places { to - from ≤ 1028 }
+        requires places { to - from ≤ 2056 }
         requires end { end ≤ to }
         requires covers { Covers marks.old self.now (forward + 1) rows.now.rows }
         requires passed { NoneSpentBefore end (forward + 1) rows.now.rows self.now }

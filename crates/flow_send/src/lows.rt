@@ -14,13 +14,13 @@ use std::marker::Model;
 const BLOCK: u64 = 64;
 
 /// The places that blocks use in turn. Two blocks that use one place share its moment.
-pub const PLACES: u64 = 1_028;
+pub const PLACES: u64 = 2_056;
 
 /// So many places one after another are a group. The last group has fewer.
 pub const GROUP: u64 = 32;
 
 /// So many groups have all places.
-pub const GROUPS: u64 = 33;
+pub const GROUPS: u64 = 65;
 
 /// The moments of the places. Before there is a deadline there are no places.
 #[derive(Drop)]
@@ -38,8 +38,8 @@ impl Model for Lows {
 
     ghost view = { λ s. s.lows.items };
 
-    ghost invariant = { λ s. (0 < length s.lows.items → length s.lows.items ≡ 1028) ×
-        (0 < length s.lows.items → length s.tops.items ≡ 33) ×
+    ghost invariant = { λ s. (0 < length s.lows.items → length s.lows.items ≡ 2056) ×
+        (0 < length s.lows.items → length s.tops.items ≡ 65) ×
         AreTops s.tops.items s.lows.items };
 }
 
@@ -60,8 +60,8 @@ pub fn group_of(place: usize) -> usize
 /// How many blocks from one on have their places in one group, one after another.
 pub fn rest_of_group(block: u64) -> u64
     ensures some { 1 ≤ result }
-    ensures group { block % 1028 % 32 + result ≤ 32 }
-    ensures turn { block % 1028 + result ≤ 1028 }
+    ensures group { block % 2056 % 32 + result ≤ 32 }
+    ensures turn { block % 2056 + result ≤ 2056 }
 {
     let place = block % PLACES;
     (GROUP - place % GROUP).min(PLACES - place)
@@ -121,7 +121,7 @@ impl Lows {
 
     /// Makes the places.
     fn make(&mut self) -> Result<(), AllocError>
-        ensures made { OnOk result (1028 ≤ length self.new) }
+        ensures made { OnOk result (2056 ≤ length self.new) }
         ensures same { (b : ℕ) → low_at self.new b ≡ low_at self.old b }
     {
         if self.lows.len() > 0 {
@@ -136,7 +136,7 @@ impl Lows {
 
     /// A moment before which none of the group of a block's place is.
     fn top(&self, block: u64) -> u64
-        ensures { IsTop (block % 1028) self.now result }
+        ensures { IsTop (block % 2056) self.now result }
     {
         match self.tops.get(group_of((block % PLACES) as usize)) {
             Some(top) => *top,
@@ -146,7 +146,7 @@ impl Lows {
 
     /// Such a moment, where one place of the group will have this one.
     fn top_with(&self, place: usize, low: u64) -> u64
-        requires { place < 1028 }
+        requires { place < 2056 }
         ensures own { result ≤ low }
         ensures others { IsTopBeside place self.now result }
     {
@@ -162,11 +162,11 @@ impl Lows {
 
     /// Sets the moment of a block's place, which is there, and that of its group.
     fn put(&mut self, block: u64, low: u64, top: u64)
-        requires inside { block % 1028 < length self.old }
+        requires inside { block % 2056 < length self.old }
         requires own { top ≤ low }
-        requires others { IsTopBeside (block % 1028) self.old top }
+        requires others { IsTopBeside (block % 2056) self.old top }
         ensures own { low_at self.new block ≡ low }
-        ensures others { (b : ℕ) → b % 1028 ≢ block % 1028 →
+        ensures others { (b : ℕ) → b % 2056 ≢ block % 2056 →
             low_at self.new b ≡ low_at self.old b }
     {
         let place = (block % PLACES) as usize;
@@ -176,9 +176,9 @@ impl Lows {
 
     /// Sets the moment of a block's place, which is there.
     pub fn set(&mut self, block: u64, low: u64)
-        requires { block % 1028 < length self.old }
+        requires { block % 2056 < length self.old }
         ensures own { low_at self.new block ≡ low }
-        ensures others { (b : ℕ) → b % 1028 ≢ block % 1028 →
+        ensures others { (b : ℕ) → b % 2056 ≢ block % 2056 →
             low_at self.new b ≡ low_at self.old b }
     {
         let top = self.top_with((block % PLACES) as usize, low);

@@ -27,8 +27,8 @@ impl Model for Marks {
 
     ghost view = { λ m. record { all = m.all; places = m.places.items } };
 
-    ghost invariant = { λ m. (0 < length m.places.items → length m.places.items ≡ 1028) ×
-        (0 < length m.places.items → length m.groups.items ≡ 33) ×
+    ghost invariant = { λ m. (0 < length m.places.items → length m.places.items ≡ 2056) ×
+        (0 < length m.places.items → length m.groups.items ≡ 65) ×
         AreGroups m.groups.items m.places.items };
 }
 
@@ -79,7 +79,7 @@ impl Marks {
 
     /// Whether a place of a place's group has a mark, that one aside.
     fn any_beside(&self, place: usize) -> bool
-        requires { place < 1028 }
+        requires { place < 2056 }
         ensures { result ≡ false → IsBareBeside place self.now.places }
     {
         let first = group_of(place) * GROUP as usize;
@@ -95,7 +95,7 @@ impl Marks {
     /// itself tells.
     pub fn bare(&self, block: u64) -> u64
         ensures { (b : ℕ) → block ≤ b → b < block + result →
-            get_or self.now.places (b % 1028) false ≡ false }
+            get_or self.now.places (b % 2056) false ≡ false }
     {
         let place = (block % PLACES) as usize;
         if !self.group(place) {
@@ -154,7 +154,7 @@ impl Marks {
 
     /// Takes away the mark of a block, unless all are marked.
     pub fn clear(&mut self, block: u64)
-        ensures { (b : ℕ) → b % 1028 ≢ block % 1028 → marked_at self.old b ≡ true →
+        ensures { (b : ℕ) → b % 2056 ≢ block % 2056 → marked_at self.old b ≡ true →
             marked_at self.new b ≡ true }
     {
         let place = (block % PLACES) as usize;

@@ -4,7 +4,7 @@ use Rattle.flow_send.proofs.Lowest.{lows_raised, inside}
 use Rattle.flow_send.proofs.backlog.Backlog.raise_block.Goals as goal
 
 pub set-requires : goal.set-requires
-set-requires c = inside c.self.inside.lows (c.args.block % 1028) 18446744073709551615 (omega (arith, c.at.ensures, c.if-at-moment.false))
+set-requires c = inside c.self.inside.lows (c.args.block % 2056) 18446744073709551615 (omega (arith, c.at.ensures, c.if-at-moment.false))
 
 pub invariant_of-self : goal.invariant_of-self
 invariant_of-self c =
