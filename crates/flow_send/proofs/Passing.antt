@@ -1,5 +1,6 @@
 -- What is known of acknowledged rows, through each change of the rows.
-use Rattle.std.proofs.Common.{◌≡◌, ℕ, zero, suc, ◌+◌, ◌-◌, ◌<◌, ◌≤◌, nat_le, nat_lt, max, cond, Bool, true, false, ◌&&◌, List, [], ◌∷◌, ◌++◌, length, set, get_or, drop, refl, ap, sym, ◌∙◌, subst, arith}
+use Rattle.std.proofs.Common.{◌≡◌, ℕ, zero, suc, ◌+◌, ◌-◌, ◌<◌, ◌≤◌, nat_le, nat_lt, max, cond, Bool, true, false, ◌&&◌, List, [], ◌∷◌, ◌++◌, length, set, get_or, drop, refl, ap, sym, ◌∙◌, subst, arith, inl, inr}
+use Rattle.std.proofs.lemmas.Bool.{cases_lt}
 use Rattle.flow_send.specs.declared.state.State.{State}
 use Rattle.flow_send.specs.declared.state.State.TheVariants.{Unsent, Flying, Lost, Acknowledged, Abandoned}
 use Rattle.flow_send.specs.declared.totals.Totals.{Totals}
@@ -95,6 +96,13 @@ passed_note (c ∷ counts) zero k [] a h = (a, h.1)
 passed_note (c ∷ counts) zero k (r ∷ rows) a h = (a, h.1)
 passed_note (c ∷ counts) (suc at) k [] a h = (h.0, passed_note counts at k [] (subst (λ (xs : List Row). AllAcked k xs) (sym (drop_none at)) a) h.1)
 passed_note (c ∷ counts) (suc at) k (r ∷ rows) a h = (h.0, passed_note counts at k rows a h.1)
+
+-- the count gets as large as what was known there, or as what is known now, at most
+pub passed_raised : (counts : List ℕ) (at known k m : ℕ) (rows : List Row) → known ≡ get_or counts at 0 → m ≡ max known k → AllAcked k (drop at rows) → ArePassed counts rows → ArePassed (set counts at m) rows
+passed_raised counts at known k m rows is most a h = passed_note counts at m rows (elim (cases_lt k m) [
+  | inl more ↦ acked_less m (get_or counts at 0) (drop at rows) (omega (arith, more, is, most)) (passed_at counts at rows h)
+  | inr le ↦ acked_less m k (drop at rows) le a
+]) h
 
 -- ---- rows that are acknowledged
 

@@ -73,7 +73,8 @@ impl Passed {
     }
 
     /// The rows from one index to before another are acknowledged. Each of them that a later ack
-    /// may stop at leads to the end, so the way there gets shorter each time.
+    /// may stop at leads to the end, or further where more was known, so the way there gets shorter
+    /// each time.
     pub fn note(&mut self, from: usize, to: usize)
         ensures counts { (rows : List Row) → AllAcked (to - from) (drop from rows) →
             ArePassed self.old.counts rows → ArePassed self.new.counts rows }
@@ -82,7 +83,7 @@ impl Passed {
         let mut at = from;
         while at < to && at < self.counts.len() {
             let known = self.counts[at];
-            self.counts[at] = to - at;
+            self.counts[at] = known.max(to - at);
             at = at.saturating_add(known.max(1));
         }
     }

@@ -1,6 +1,7 @@
-use Rattle.std.proofs.Common.{◌-◌, sym, ap, subst, arith}
+use Rattle.std.proofs.Common.{◌≡◌, ℕ, ◌-◌, ◌<◌, length, get_or, sym, ap, subst, arith}
+use Rattle.std.proofs.lemmas.List.{get_or_read}
 use Rattle.flow_send.specs.Passed.{ArePassed, Known}
-use Rattle.flow_send.proofs.Passing.{acked_from, passed_note}
+use Rattle.flow_send.proofs.Passing.{acked_from, passed_raised}
 use Rattle.flow_send.proofs.passed.Passed.note.Goals as goal
 
 pub loop-at-init : goal.loop-at-init
@@ -14,9 +15,12 @@ pub loop-at-preserved : goal.loop-at-preserved
 loop-at-preserved c =
     let at = c.loop-at.at in
     let inv = c.loop-at.invariant in
+    let counts = c.loop-at.self-inside.counts in
+    let lt : at < length counts.items = omega (arith, c.if-at-len.true, c.len.ensures, counts.ok) in
+    let is : c.index-known.result.now ≡ get_or counts.items at 0 = get_or_read counts.items _ _ lt c.index-known.ensures 0 in
     record {
       from = omega (arith, inv.from, c.saturating_add-at.ensures);
-      counts = λ rows a h. passed_note c.loop-at.self-inside.counts.items at (c.args.to - at) rows (acked_from c.args.from at c.args.to rows inv.from (omega arith) a) (inv.counts rows a h);
+      counts = λ rows a h. passed_raised counts.items at c.index-known.result.now (c.args.to - at) c.max.result rows is c.max.ensures (acked_from c.args.from at c.args.to rows inv.from (omega arith) a) (inv.counts rows a h);
       room = inv.room;
     }
 
