@@ -8,9 +8,9 @@ use Rattle.std.proofs.lemmas.List.Sums.{sum_by-cons}
 use Rattle.rtmfp_data_chunks.specs.HandsOver.{IsIn}
 use Rattle.flow_send.specs.declared.state.State.{State}
 use Rattle.flow_send.specs.declared.state.State.TheVariants.{Unsent, Flying, Lost, Acknowledged, Abandoned}
-use Rattle.flow_send.specs.Rows.{Row, row_at, is_flying, is_lost, lost_of, map_rows, between, any_between}
+use Rattle.flow_send.specs.Rows.{Row, row_at, is_flying, any_flying, is_lost, lost_of, map_rows, between, any_between}
 use Rattle.flow_send.specs.Acks.{is_third, count_ack}
-use Rattle.flow_send.specs.Ordered.{Ordered, Rising, NonFalling, EndsBy, EndsBefore, AllThere, AllOther, Follows, IsAdded, count_sent, count_one, count_before}
+use Rattle.flow_send.specs.Ordered.{Ordered, IsComplete, Rising, NonFalling, EndsBy, EndsBefore, AllThere, AllOther, Follows, IsAdded, count_sent, count_one, count_before}
 use Rattle.flow_send.proofs.Sendings.{third_flies}
 use Rattle.flow_send.proofs.Numbered.{Stands_between, map_between}
 
@@ -348,6 +348,20 @@ still_there queue left e n (r ∷ rows) q a o = (λ f. here (o.0 f) (subst (IsIn
 
 pub pruned : (old new : Ordered) (e : ℕ × ℕ × ℕ) (n : ℕ) (rows : List Row) → new.whole ≡ old.whole → old.queue ≡ e ∷ new.queue → AllOther e n rows → Follows old n rows → Follows new n rows
 pruned old new e n rows w q o f = λ t. let c = f (sym w ∙ t) in record { rising = (subst Rising q c.rising).1; moments = (subst NonFalling q c.moments).1; there = still_there old.queue new.queue e n rows q c.there o }
+
+-- ---- a queue that begins anew
+
+none_there : (n : ℕ) (rows : List Row) → any_flying rows ≡ false → AllThere [] n rows
+none_there n [] none = tt
+none_there n (r ∷ rows) none = by (is_flying r.state) refl none (none_there (n + 1) rows)
+  where
+    by : (b : Bool) → is_flying r.state ≡ b → b || any_flying rows ≡ false → (any_flying rows ≡ false → AllThere [] (n + 1) rows) → AllThere [] n (r ∷ rows)
+    by false is rest later = (λ e. absurd (let no : true ≡ false = sym e ∙ is in cc), later rest)
+    by true is rest later = absurd (let no : true ≡ false = rest in cc)
+
+-- where no row is in flight, a queue with nothing in it is complete
+pub anew : (queue : List (ℕ × ℕ × ℕ)) (flying : Bool) (n : ℕ) (rows : List Row) → queue ≡ [] → flying ≡ any_flying rows → flying ≡ false → IsComplete queue n rows
+anew queue flying n rows empty is unflown = subst (λ (q : List (ℕ × ℕ × ℕ)). IsComplete q n rows) (sym empty) (record { rising = tt; moments = tt; there = none_there n rows (sym is ∙ unflown) })
 
 -- ---- what keeps the order
 

@@ -242,6 +242,11 @@ impl Backlog {
         }
     }
 
+    /// Whether a deadline may be before a moment.
+    pub fn is_past(&self, moment: u64) -> bool {
+        moment > self.soonest
+    }
+
     /// Whether no message can be overdue, as far as that can be told without looking at each.
     fn is_quiet(&self, rows: &Rows, moment: u64) -> bool
         ensures { result ≡ true → (n : ℕ) → first_overdue moment n rows.now.rows self.now ≡ None }

@@ -128,7 +128,9 @@ impl Sendings {
         ensures follows { Follows self.new (forward + 1) rows.new.rows }
     {
         if !self.whole {
-            return rows.lose_late(rows.len(), moment, resend_after);
+            let late = rows.lose_late(rows.len(), moment, resend_after);
+            self.prune(rows, forward);
+            return late;
         }
         self.lose_oldest(rows, forward, moment, resend_after)
     }
@@ -194,11 +196,24 @@ impl Sendings {
         }
     }
 
-    /// Takes away the oldest ones of numbers that aren't in flight since.
+    /// Begins anew, as if nothing had been sent.
+    fn begin_anew(&mut self)
+        ensures { self.new.queue ≡ [] }
+    {
+        self.queue.clear();
+        self.whole = true;
+    }
+
+    /// Takes away the oldest ones of numbers that aren't in flight since. Where no number is in
+    /// flight none is needed, and none is left out any more.
     pub fn prune(&mut self, rows: &Rows, forward: u64)
         ensures { Follows self.old (forward + 1) rows.now.rows →
             Follows self.new (forward + 1) rows.now.rows }
     {
+        if !rows.any_flying() {
+            self.begin_anew();
+            return;
+        }
         while let Some((sent, number, _)) = self.queue.front().copied() {
             if is_last(rows, forward, sent, number) {
                 break;

@@ -289,6 +289,7 @@ impl FlowSender {
         message.give_up(&mut self.rows, self.forward);
         self.waiting.remove(seq);
         self.forward += self.rows.settle();
+        self.sendings.prune(&self.rows, self.forward);
         true
     }
 
@@ -382,6 +383,18 @@ impl FlowSender {
             (lost_late moment resend_after self.old.sender) }
         ensures none_late { list_any (is_late moment resend_after) self.new.sender.rows ≡ false }
     {
+        let late = self.lose(moment, resend_after);
+        self.renew(moment);
+        late
+    }
+
+    /// Marks them, and leaves the moments of messages that went as they are.
+    fn lose(&mut self, moment: u64, resend_after: u64) -> bool
+        ensures late { result ≡ list_any (is_late moment resend_after) self.old.sender.rows }
+        ensures after { self.new ≡ with_sender self.old
+            (lost_late moment resend_after self.old.sender) }
+        ensures none_late { list_any (is_late moment resend_after) self.new.sender.rows ≡ false }
+    {
         self.sendings.mark(
             &self.rows,
             self.forward,
@@ -425,6 +438,19 @@ impl FlowSender {
             }
             Err(fault) => Err(fault),
         }
+    }
+
+    /// After a deadline that may be that of a message which went. The moments before which no
+    /// deadline is are found anew, so that a look doesn't stop at them again and again.
+    fn renew(&mut self, moment: u64)
+        ensures { self.new ≡ self.old }
+    {
+        if !self.waiting.is_past(moment) {
+            return;
+        }
+        let _ = self
+            .waiting
+            .first_overdue(&self.rows, self.forward, moment, &mut self.marks);
     }
 
     /// After a lost number was acknowledged. A mark for it is taken away.

@@ -12,10 +12,10 @@ pub returns-then-not-self-clause-rows : goal.returns-then-not-self-clause-rows
 returns-then-not-self-clause-rows c =
     let rows = c.args.rows.now.rows in
     let f = lost_if_late c.args.moment c.args.resend_after in
-    c.lose_late.ensures.rows ∙ (ap (λ i. between f 0 i rows) c.len.ensures ∙ between_all f rows)
+    c.lose_late-late.ensures.rows ∙ (ap (λ i. between f 0 i rows) c.len.ensures ∙ between_all f rows)
 
 pub returns-then-not-self-clause-late : goal.returns-then-not-self-clause-late
 returns-then-not-self-clause-late c =
     let rows = c.args.rows.now.rows in
     let f = is_late c.args.moment c.args.resend_after in
-    c.lose_late.ensures.late ∙ (ap (λ i. any_between f 0 i rows) c.len.ensures ∙ any_all f rows)
+    c.lose_late-late.ensures.late ∙ (ap (λ i. any_between f 0 i rows) c.len.ensures ∙ any_all f rows)

@@ -1,5 +1,5 @@
 use Rattle.std.proofs.Common.{◌≡◌, ◌+◌, ◌∷◌, refl, rules}
-use Rattle.flow_send.proofs.Orders.{pruned}
+use Rattle.flow_send.proofs.Orders.{pruned, anew}
 use Rattle.flow_send.proofs.ordered.Sendings.prune.Goals as goal
 
 pub loop-sent-preserved : goal.loop-sent-preserved
@@ -9,3 +9,7 @@ loop-sent-preserved c f =
   where
     q : c.loop-sent.self-inside.queue.items ≡ (c.in-Some.sent, c.in-Some.number, c.in-Some.field-0-2) ∷ c.pop_front.new.self.items
     q = search rules
+
+pub returns-then-not-any_flying : goal.returns-then-not-any_flying
+returns-then-not-any_flying c = λ f whole.
+    anew c.begin_anew.new.self.queue c.any_flying.result (c.args.forward + 1) c.args.rows.now.rows c.begin_anew.ensures c.any_flying.ensures c.if-not-any_flying.true

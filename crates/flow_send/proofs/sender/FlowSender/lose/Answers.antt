@@ -8,7 +8,7 @@ use Rattle.flow_send.proofs.Keepings.{lost_marks}
 use Rattle.flow_send.proofs.Sendings.{none_late}
 use Rattle.flow_send.proofs.Steadies.{steady_lost}
 use Rattle.flow_send.proofs.Walking.{in_line}
-use Rattle.flow_send.proofs.sender.FlowSender.find_lost.Goals as goal
+use Rattle.flow_send.proofs.sender.FlowSender.lose.Goals as goal
 
 abbrev At : goal.After-lose_late → Sender
 At c = let i = c.self.inside in sender_of i.forward i.rows.rows i.waiting i.finish i.sent i.upto i.told i.notice i.order
