@@ -1,7 +1,5 @@
 //! An end, and its calls timed.
 
-ghost use Rattle.std.specs.Prelude.{◌≤◌, length};
-
 use crate::calls::{Call, Kind, cert_of, draws, place_of, word_of};
 use crate::datagrams::{COOKIE_SECRET, GROUP};
 use endpoint::{Config, Endpoint, Entry, Outbox};

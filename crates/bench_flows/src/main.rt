@@ -23,7 +23,7 @@
 //! over, sent again, told, abandoned, found or refused.
 #![tactic(auto)]
 
-ghost use Rattle.std.specs.Prelude.{◌≡◌, ◌+◌, ◌<◌, ◌≤◌, false, true, length};
+ghost use Rattle.std.specs.Prelude.{◌≡◌, ◌+◌, ◌<◌, ◌≤◌, false, true};
 ghost use Rattle.flow_send.specs.Picked.{IsThere};
 
 use flow_recv::FlowReceiver;

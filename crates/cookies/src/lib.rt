@@ -6,7 +6,7 @@
 #![tactic(auto)]
 
 ghost use Rattle.std.specs.Prelude.{◌≡◌, ◌≤◌, length, take};
-ghost use Rattle.std.specs.Int.{w64, from_be_bytes};
+ghost use Rattle.std.specs.Int.{from_be_bytes};
 ghost use Rattle.cookies.specs.Cookie.{good_cookie_test, moment_of, test_of};
 
 use crypto_profile::{HmacKey, same_bytes};

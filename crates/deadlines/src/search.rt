@@ -1,6 +1,6 @@
 //! The search for the lowest near id among the entries that are due.
 
-ghost use Rattle.std.specs.Prelude.{◌≡◌, ◌<◌, ◌≤◌, ◌⊎◌, ℕ, length, IfSome, IfNone, Some};
+ghost use Rattle.std.specs.Prelude.{◌≡◌, ◌<◌, ◌≤◌, ◌⊎◌, length, IfSome, IfNone, Some};
 ghost use Rattle.deadlines.specs.Inside.{IsHeap, IsLowestBelow, NoneBelow, at_of, near_of};
 
 use crate::entry::Entry;

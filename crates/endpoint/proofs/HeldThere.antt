@@ -1,14 +1,12 @@
 -- What holds of each state that calls lead to, by the laws of all logs.
-use Rattle.std.proofs.Common.{◌≡◌, ℕ, ◌≤◌, List, [], ◌∷◌, Bool, true, false, cond, Option, Some, None, inl, inr, ◌⊎◌, sym, ap, subst, ◌∙◌}
-use Rattle.std.specs.Str.{bytes_eq}
-use Rattle.std.specs.FinMap.{get}
+use Rattle.std.proofs.Common.{◌≡◌, ℕ, ◌≤◌, List, [], ◌∷◌, Bool, cond, Option, Some, None, inl, inr, ◌⊎◌, sym, subst, ◌∙◌}
 use Rattle.glare_core.specs.declared.facts.Fact.{Fact}
 use Rattle.glare_core.specs.declared.facts.Fact.TheVariants.{Started, Born, Opened, Confirmed, Ended}
 use Rattle.glare_core.specs.declared.facts.Joined.{Joined}
 use Rattle.glare_core.specs.declared.facts.Held.{Held}
 use Rattle.glare_core.specs.declared.facts.Held.TheVariants.{Opening as AttemptHeld, HalfOpen, KeptAsResponder, KeptAsInitiator}
 use Rattle.glare_core.specs.Standing.{peer_of, opened, confirmed, after, held}
-use Rattle.glare_core.specs.Things.{IsSession, near_of}
+use Rattle.glare_core.specs.Things.{IsSession}
 use Rattle.glare_core.specs.Ledger.{held_with, row_count}
 use Rattle.glare_core.proofs.Tails.{same_end}
 use Rattle.session_core.specs.declared.stage.Role.{Role}
@@ -17,7 +15,6 @@ use Rattle.session_core.specs.declared.stage.Stage.{Stage}
 use Rattle.session_core.specs.declared.stage.Stage.TheVariants.{Opening, Open, NearClose, FarLinger, Closed}
 use Rattle.session_core.specs.Session.{SessionState}
 use Rattle.endpoint_model.specs.declared.config.Config.{Config}
-use Rattle.endpoint_model.specs.declared.row.Row.{Row}
 use Rattle.endpoint_model.specs.State.{State, uses}
 use Rattle.endpoint_laws.specs.Past.{Stamped, facts_of, past_of, last_moment}
 use Rattle.endpoint_laws.specs.OfTheLog.{IsThing, SessionStands, IsClosingStage, IsOfTheLog, TheStateIsOfTheLog}

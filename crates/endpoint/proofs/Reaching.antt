@@ -1,7 +1,7 @@
 -- Each call of an end that calls led to leads on to another.
-use Rattle.std.proofs.Common.{List, [], ◌∷◌, ◌++◌, refl}
+use Rattle.std.proofs.Common.{List, [], ◌∷◌, ◌++◌}
 use Rattle.endpoint_model.specs.Event.{Setup, Event}
-use Rattle.endpoint_model.specs.State.{State, fresh}
+use Rattle.endpoint_model.specs.State.{State}
 use Rattle.endpoint_model.specs.Log.{StandsFor, Extends}
 use Rattle.endpoint_laws.specs.Laws.{IsSetup, IsCall, AreCalls}
 use Rattle.endpoint.specs.Reached.{IsReached}

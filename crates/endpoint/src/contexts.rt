@@ -4,7 +4,6 @@ ghost use Rattle.std.specs.Prelude.{◌≡◌, ◌≤◌, ◌↔◌, IsTrue, Som
 ghost use Rattle.end_state.specs.NamedContext.{named_context};
 ghost use Rattle.endpoint_laws.specs.OpensIn.{OpensByTheLog, opens_in};
 ghost use Rattle.std.specs.Prelude.{option_copied};
-ghost use Rattle.std.specs.FinMap.{get};
 ghost use Rattle.endpoint.specs.StreamKeys.{sealer_of, stream_key, stream_key_in};
 
 use crate::endpoint::Endpoint;

@@ -2,7 +2,7 @@
 //! nothing: the contract of each states what the definitions that the other contracts cite are
 //! there. All of it is own.
 
-ghost use Rattle.std.specs.Prelude.{◌≡◌, ◌∷◌, ◌++◌, ◌-◌, ◌^◌, ℕ, List, [], false, true, Option, Some, None, replicate};
+ghost use Rattle.std.specs.Prelude.{◌≡◌, ◌∷◌, ◌++◌, ◌-◌, ◌^◌, ℕ, List, [], false, true, Some, None, replicate};
 ghost use Rattle.rtmfp_forms.specs.Address.{AddressParts};
 ghost use Rattle.rtmfp_chunks.specs.Chunk.{FIHello};
 ghost use Rattle.rtmfp_chunks.specs.Writing.{chunk_bytes};

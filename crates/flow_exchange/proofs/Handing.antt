@@ -7,7 +7,7 @@ use Rattle.std.proofs.lemmas.List.{append-nil}
 use Rattle.rtmfp_data_chunks.specs.Fragments.{Message}
 use Rattle.rtmfp_data_chunks.specs.Runs.{Chunk, Number, Missing, number_of, runs_of, is_whole, message_of, highest, through_of, handed_in_order, has_number}
 use Rattle.flow_exchange.proofs.Ends.{open_with, open_at, whole_with, whole_at, wholes_to}
-use Rattle.rtmfp_data_chunks.specs.HandsOver.{IsIn, Differ, HandsOver, HandsOnce}
+use Rattle.rtmfp_data_chunks.specs.HandsOver.{IsIn, Differ, HandsOver}
 use Rattle.flow_exchange.specs.Exchange.{World, start, Event, Queued, Abandoned, Finished, Sent, Taken, Told, Heard, Handed, after, May, IsRun, run}
 use Rattle.flow_exchange.proofs.Runs.{whole_is}
 use Rattle.flow_exchange.proofs.Wholes.{in_either, from_wholes, hands_over}

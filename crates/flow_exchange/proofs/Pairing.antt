@@ -5,7 +5,7 @@ use Rattle.std.specs.Option.{option_map}
 use Rattle.std.proofs.lemmas.Bool.{le-leb}
 use Rattle.flow_recv.specs.declared.spans.Span.{Span}
 use Rattle.rtmfp_data_chunks.specs.Fragments.{Message}
-use Rattle.rtmfp_data_chunks.specs.Runs.{Chunk, Number, Missing, number_of, is_missing, missing_of, Run, runs_of, is_whole, is_kept, has_number, message_of, handed_in_order}
+use Rattle.rtmfp_data_chunks.specs.Runs.{Chunk, Missing, number_of, is_missing, missing_of, Run, runs_of, is_whole, is_kept, has_number, message_of}
 use Rattle.flow_recv.specs.Receiver.{FromZero, covers, knows, taken, end_of_first, may_hand, through_in, first_of, next_run}
 use Rattle.flow_send.specs.declared.waiting.MessageOptions.{MessageOptions}
 use Rattle.flow_send.specs.Sender.{Sender, next_of, waits, first_number, overdue}

@@ -1,19 +1,16 @@
 -- What a receiver counts and refuses is what the chunks tell that it took.
-use Rattle.std.proofs.Common.{◌≡◌, ℕ, ◌+◌, ◌-◌, ◌<◌, ◌≤◌, ◌==◌, nat_le, nat_lt, not, cond, Bool, true, false, ◌&&◌, ◌||◌, List, [], ◌∷◌, Option, Some, None, length, refl, ap, sym, ◌∙◌, subst, arith, inl, inr}
-use Rattle.std.specs.List.{filter, sum_by}
+use Rattle.std.proofs.Common.{◌≡◌, ℕ, ◌+◌, ◌-◌, ◌==◌, nat_le, nat_lt, not, cond, Bool, true, false, ◌&&◌, ◌||◌, List, [], ◌∷◌, Option, Some, None, refl, ap, sym, ◌∙◌, arith, inl, inr}
+use Rattle.std.specs.List.{filter}
 use Rattle.std.proofs.lemmas.Bool.{cases_lt, cases_eq, lt-ltb, le-ltb, le-leb, eq-eqb, ne_eqb}
 use Rattle.rtmfp_data_chunks.specs.Fragments.{Message}
 use Rattle.rtmfp_data_chunks.specs.Runs.{Chunk, Run, missing_of, highest, is_dead, is_whole, is_kept, has_number, runs_of, through_of, bytes_held}
-use Rattle.rtmfp_data_chunks.specs.HandsOver.{IsIn}
-use Rattle.flow_recv.specs.declared.outcome.FlowRefusal.{FlowRefusal}
-use Rattle.flow_recv.specs.declared.outcome.FlowRefusal.TheVariants.{AfterFinal, BeyondBuffer}
 use Rattle.flow_recv.specs.declared.spans.Span.{Span}
-use Rattle.flow_recv.specs.Receiver.{Receiver, span, knows, covers, lacks, taken, add_span, spans_forward, runs_forward, living, held_in, end_of_first, through_in, after_last, passes_buffer, beyond_buffer, counted, hands, may_hand, first_of, next_run}
-use Rattle.flow_recv.specs.Outcome.{beyond, after_or, refusal}
+use Rattle.flow_recv.specs.Receiver.{Receiver, knows, lacks, taken, add_span, spans_forward, runs_forward, living, held_in, end_of_first, through_in, after_last, passes_buffer, beyond_buffer, counted, hands, first_of}
+use Rattle.flow_recv.specs.Outcome.{beyond, after_or}
 use Rattle.flow_recv.proofs.Knowing.{knows_add, apart_formed, apart_add, add_known}
-use Rattle.flow_exchange.specs.Stands.{StandsFor, last_of}
+use Rattle.flow_exchange.specs.Stands.{last_of}
 use Rattle.flow_recv.specs.Reached.{Call, Receiving, at_first, all_calls, AllProper}
-use Rattle.flow_exchange.specs.Receiving.{lowest_whole, HandsLowest, Counts, passes_last, forward_alone, own_bytes, is_full, full_by, refusal_with, refusal_by, RefusesBy}
+use Rattle.flow_exchange.specs.Receiving.{lowest_whole, HandsLowest, Counts, passes_last, forward_alone, is_full, full_by, refusal_with, RefusesBy}
 use Rattle.flow_exchange.proofs.Spreading.{end_is_through}
 use Rattle.flow_exchange.proofs.Standing.{Proper, Stood, stands_taken}
 use Rattle.flow_exchange.proofs.Following.{Sound, calls_sound, stood_first, dead_whole}

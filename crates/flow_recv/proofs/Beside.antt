@@ -6,7 +6,7 @@ use Rattle.std.proofs.lemmas.Bool.Decides.{nat_tests}
 use Rattle.rtmfp_data_chunks.specs.declared.user_data.Part.{Part}
 use Rattle.flow_recv.specs.declared.spans.Span.{Span}
 use Rattle.rtmfp_data_chunks.specs.Runs.{Chunk, Run, single, fits, joined}
-use Rattle.flow_recv.specs.Receiver.{Receiver, span, covers, knows, lacks, add_span, is_alive, is_beside, living, join_next, join_before, add_run, spans_forward, spans_after, runs_after, holds}
+use Rattle.flow_recv.specs.Receiver.{Receiver, span, covers, knows, lacks, is_alive, is_beside, living, join_next, join_before, add_run, spans_forward, spans_after, holds}
 use Rattle.flow_recv.specs.Sound.{AllAlive}
 use Rattle.flow_recv.proofs.Knowing.{Formed, knows_add, formed_add}
 use Rattle.flow_recv.proofs.Bounds.{alive_is, is_alive_from, fits_parts}

@@ -1,5 +1,5 @@
 -- The pairs of an ack, one after another.
-use Rattle.std.proofs.Common.{◌≡◌, ℕ, ◌+◌, ◌-◌, ◌<◌, ◌≤◌, List, [], ◌∷◌, ◌++◌, length, drop, get_or, refl, ap, sym, ◌∙◌, subst, arith, append_assoc}
+use Rattle.std.proofs.Common.{◌≡◌, ℕ, ◌+◌, ◌-◌, ◌<◌, ◌≤◌, List, ◌∷◌, ◌++◌, refl, ap, ◌∙◌, subst, arith, append_assoc}
 use Rattle.flow_recv.specs.declared.spans.Span.{Span}
 use Rattle.flow_recv.specs.Receiver.{Apart, span}
 use Rattle.flow_recv.specs.Above.{spans_of}

@@ -1,8 +1,7 @@
 //! The spans above the first one, as an ordered map from their first numbers to their last ones.
 
-ghost use Rattle.std.specs.Prelude.{◌≡◌, ◌+◌, ◌∷◌, [], OnOk, OnErr, IfSome, None, List, length};
+ghost use Rattle.std.specs.Prelude.{◌≡◌, ◌+◌, [], OnOk, OnErr, None, List};
 ghost use Rattle.std.specs.Prelude.{slice_get, drop};
-ghost use Rattle.std.specs.BTreeMap.{IsOrdered};
 ghost use Rattle.flow_recv.specs.declared.spans.Span.{Span};
 ghost use Rattle.flow_recv.specs.Above.{spans_of, last_from, end_of, without, with_end};
 ghost use Rattle.flow_recv.specs.Above.{with_number};

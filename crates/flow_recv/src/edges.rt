@@ -1,9 +1,8 @@
 //! The rules at their edges: what small receivers do at each limit and beside it. Each is a
 //! function that does nothing, whose contract tells the values.
 
-ghost use Rattle.std.specs.Prelude.{◌≡◌, ℕ, List, [], ◌∷◌, Option, Some, None, true, false, length};
-ghost use Rattle.rtmfp_data_chunks.specs.declared.user_data.Part.TheVariants.{Whole, Begin, Middle};
-ghost use Rattle.rtmfp_data_chunks.specs.declared.user_data.Part.TheVariants.{End};
+ghost use Rattle.std.specs.Prelude.{◌≡◌, ℕ, List, [], ◌∷◌, Some, None, true, false, length};
+ghost use Rattle.rtmfp_data_chunks.specs.declared.user_data.Part.TheVariants.{Whole, Middle};
 ghost use Rattle.flow_recv.specs.Receiver.{span, fresh, passes_buffer, beyond_buffer, taken};
 ghost use Rattle.flow_recv.specs.Receiver.{next_run};
 ghost use Rattle.flow_recv.specs.Outcome.{refusal, took};

@@ -1,6 +1,6 @@
 //! The runs of a flow as a map, by the number that each begins with.
 
-ghost use Rattle.std.specs.Prelude.{◌≡◌, ℕ, ◌<◌, ◌≤◌, ◌+◌, ◌∷◌, [], IfOk, IfSome, IsSome, OnOk};
+ghost use Rattle.std.specs.Prelude.{◌≡◌, ◌<◌, ◌+◌, [], IfSome, IsSome, OnOk};
 ghost use Rattle.std.specs.Prelude.{OnErr, IfErr, List, true, false, ◌==◌, if◌then◌else◌, ◌&&◌};
 ghost use Rattle.std.specs.Prelude.{◌^◌, length};
 ghost use Rattle.std.specs.Option.{option_copied, option_map, is_some, IsSomeAnd};

@@ -1,7 +1,7 @@
 //! The runs of a flow, of which the one that came last stands apart. As a rule the next fragment
 //! follows it, or its message is handed over before another one comes: then no map is searched.
 
-ghost use Rattle.std.specs.Prelude.{◌≡◌, ℕ, ◌<◌, ◌≤◌, ◌+◌, ◌^◌, [], IfOk, IfSome, IsSome, OnOk};
+ghost use Rattle.std.specs.Prelude.{◌≡◌, ◌<◌, ◌≤◌, ◌+◌, ◌^◌, [], IfSome, IsSome, OnOk};
 ghost use Rattle.std.specs.Prelude.{OnErr, List, None, Some, true, false, ◌==◌, length, ◌&&◌};
 ghost use Rattle.std.specs.Prelude.{if◌then◌else◌};
 ghost use Rattle.std.specs.Option.{option_copied, is_some, IsSomeAnd, option_map};

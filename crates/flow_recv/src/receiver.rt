@@ -1,7 +1,7 @@
 //! The receiver of a flow.
 
-ghost use Rattle.std.specs.Prelude.{◌≡◌, ◌≢◌, ◌+◌, ◌-◌, ◌<◌, ◌≤◌, ◌∷◌, ◌++◌, ◌↔◌, ℕ, IfOk, IsOk};
-ghost use Rattle.std.specs.Prelude.{IsErr, OnOk, OnErr, IfErr, MatchOption, List, length, Some};
+ghost use Rattle.std.specs.Prelude.{◌≡◌, ◌≢◌, ◌+◌, ◌-◌, ◌<◌, ◌≤◌, ◌∷◌, ◌++◌, ◌↔◌, IfOk, IsOk};
+ghost use Rattle.std.specs.Prelude.{IsErr, OnOk, OnErr, IfErr, MatchOption, length, Some};
 ghost use Rattle.std.specs.Prelude.{None, Ok, Err, false, true, ◌==◌, ◌^◌, ◌&&◌, ◌||◌, not, nat_lt};
 ghost use Rattle.std.specs.Prelude.{nat_le, max, if◌then◌else◌};
 ghost use Rattle.std.specs.List.{filter};

@@ -1,6 +1,6 @@
 //! A run: successive held fragments that fit, with their bytes.
 
-ghost use Rattle.std.specs.Prelude.{◌≡◌, ◌+◌, ◌<◌, ◌≤◌, ◌^◌, ◌∷◌, [], IfOk, OnOk, OnErr, List};
+ghost use Rattle.std.specs.Prelude.{◌≡◌, ◌+◌, ◌<◌, ◌∷◌, [], IfOk, OnOk, OnErr};
 ghost use Rattle.std.specs.Prelude.{◌++◌, length, false};
 ghost use Rattle.rtmfp_data_chunks.specs.Runs.{fits, joined, single, is_whole, has_front, has_rear};
 ghost use Rattle.flow_recv.specs.Receiver.{Apart, is_alive, span, lacks, hands};

@@ -1,10 +1,10 @@
 //! The runs of a flow: how a fragment joins them, which are dropped, and which is next.
 
-ghost use Rattle.std.specs.Prelude.{◌≡◌, ℕ, ◌+◌, ◌<◌, ◌≤◌, ◌^◌, ◌∷◌, [], IfOk, IfSome, IsSome};
-ghost use Rattle.std.specs.Prelude.{OnOk, OnErr, List, length, not, ◌||◌, ◌==◌, None, true};
+ghost use Rattle.std.specs.Prelude.{◌≡◌, ◌+◌, ◌<◌, ◌^◌, ◌∷◌, []};
+ghost use Rattle.std.specs.Prelude.{OnOk, OnErr, length, not, ◌||◌, ◌==◌, None, true};
 ghost use Rattle.std.specs.List.{filter};
 ghost use Rattle.std.specs.Option.{IsSomeAnd, is_some};
-ghost use Rattle.rtmfp_data_chunks.specs.Runs.{fits, joined, single};
+ghost use Rattle.rtmfp_data_chunks.specs.Runs.{fits, single};
 ghost use Rattle.flow_recv.specs.Order.{InOrder, AllOpen};
 ghost use Rattle.flow_recv.specs.Keyed.{run_at, IsFree, IsFollowed, IsFollowing, is_between, stays};
 ghost use Rattle.flow_recv.specs.Keyed.{stays_at, dead_bytes, Reaches, followed_at, following_at};

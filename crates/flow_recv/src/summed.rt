@@ -1,6 +1,6 @@
 //! The runs of a flow, with sums of the bytes of those that aren't whole.
 
-ghost use Rattle.std.specs.Prelude.{◌≡◌, ℕ, ◌<◌, ◌≤◌, ◌+◌, ◌^◌, ◌/◌, [], IfOk, IfSome, IsSome, OnOk};
+ghost use Rattle.std.specs.Prelude.{◌≡◌, ◌<◌, ◌+◌, ◌^◌, ◌/◌, [], IfSome, IsSome, OnOk};
 ghost use Rattle.std.specs.Prelude.{OnErr, IfErr, List, None, true, false, ◌==◌, length};
 ghost use Rattle.std.specs.Option.{option_copied, option_map, is_some, IsSomeAnd};
 ghost use Rattle.rtmfp_data_chunks.specs.Runs.{single, joined, fits, is_whole};

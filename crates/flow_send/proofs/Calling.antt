@@ -7,9 +7,9 @@ use Rattle.flow_send.specs.declared.waiting.MessageOptions.{MessageOptions}
 use Rattle.flow_send.specs.declared.waiting.Waiting.{Waiting}
 use Rattle.flow_send.specs.declared.outcome.QueueRefusal.{QueueRefusal}
 use Rattle.flow_send.specs.Rows.{Row, end_row, is_lost, is_unsent, map_rows, settled_front}
-use Rattle.flow_send.specs.Sender.{Sender, new_sender, next_of, with_rows, rows_of, queued, message_at, without_message, has_number, give_up, abandoned_with, abandoned, finished, lost_late}
+use Rattle.flow_send.specs.Sender.{Sender, next_of, rows_of, message_at, without_message, has_number, give_up, abandoned_with, abandoned}
 use Rattle.flow_send.specs.Choice.{Choice, Nothing, Send, Notify, choice, sent_after, put_at, sent_row, count_up}
-use Rattle.flow_send.specs.Acks.{Told, tells, greatest, beyond, rows_told, still_waits, told_by}
+use Rattle.flow_send.specs.Acks.{Told, tells, greatest, beyond, rows_told, still_waits}
 use Rattle.flow_send.specs.Flow.{queue_refusal, next_message}
 use Rattle.flow_send.specs.Steady.{Steady}
 use Rattle.flow_send.specs.Calls.{Call, Queue, Abandon, Finish, Lose, Next, Hear, Done, Queued, Abandoned, Finished, Sent, Noticed, Looked, Heard, Sending, begun, queues, abandons, finishes, sends, hears, calls, all_calls, is_told, is_given_up, is_over, sendings, times_sent, TellsLast, AllStand, AllSent, StandsFor}

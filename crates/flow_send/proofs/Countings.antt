@@ -9,7 +9,7 @@ use Rattle.flow_send.specs.declared.waiting.MessageOptions.{MessageOptions}
 use Rattle.flow_send.specs.declared.waiting.Waiting.{Waiting}
 use Rattle.flow_send.specs.declared.outcome.QueueRefusal.{QueueRefusal}
 use Rattle.flow_send.specs.Rows.{Row, end_row, is_flying, is_lost, is_acknowledged, let_go, map_rows, settled_front}
-use Rattle.flow_send.specs.Sender.{Sender, new_sender, next_of, with_rows, rows_of, message_at, without_message, has_number, give_up, abandoned_with, abandoned, is_late, lost_if_late}
+use Rattle.flow_send.specs.Sender.{Sender, next_of, rows_of, message_at, has_number, give_up, abandoned_with, abandoned, is_late, lost_if_late}
 use Rattle.flow_send.specs.Choice.{Choice, Nothing, Send, Notify, choice, put_at, sent_row, count_up}
 use Rattle.flow_send.specs.Acks.{Told, tells, beyond, new_ordinal, last_ordinal, acknowledge, count_ack, rows_acknowledged}
 use Rattle.flow_send.specs.Flow.{queue_refusal, next_message}

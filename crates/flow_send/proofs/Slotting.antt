@@ -7,7 +7,7 @@ use Rattle.std.proofs.lemmas.Bool.{cases_eq, cases_lt, ne_eqb, eq-eqb, le-leb}
 use Rattle.rtmfp_data_chunks.specs.HandsOver.{IsIn}
 use Rattle.flow_send.specs.declared.waiting.Waiting.{Waiting}
 use Rattle.flow_send.specs.declared.slots.Slot.{Slot}
-use Rattle.flow_send.specs.Sender.{message_at, without_message, first_number}
+use Rattle.flow_send.specs.Sender.{message_at, without_message}
 use Rattle.flow_send.specs.Steady.{Line}
 use Rattle.flow_send.specs.Messages.{InLine, IsFirstFrom, is_left, Reaches}
 use Rattle.flow_send.specs.Slots.{slot_of, gone_of, waiting_in, InSlots, GoneFor, AllGone, IsLine, LastWaits, AreBelow, AreFrom, IsPlace, IsStart, number_of}

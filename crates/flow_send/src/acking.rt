@@ -1,9 +1,9 @@
 //! What an ack does to the rows.
 
-ghost use Rattle.std.specs.Prelude.{◌≡◌, ℕ, ◌+◌, ◌-◌, ◌<◌, ◌≤◌, ◌^◌, List, length, nat_le, ◌&&◌};
+ghost use Rattle.std.specs.Prelude.{◌≡◌, ◌+◌, ◌-◌, ◌<◌, length, nat_le, ◌&&◌};
 ghost use Rattle.std.specs.Prelude.{if◌then◌else◌};
 ghost use Rattle.flow_send.specs.Rows.{map_rows, most_rows};
-ghost use Rattle.flow_send.specs.Acks.{Told, told, greatest, acknowledge, acknowledge_row};
+ghost use Rattle.flow_send.specs.Acks.{told, greatest, acknowledge, acknowledge_row};
 ghost use Rattle.flow_send.specs.Acks.{new_ordinal, last_ordinal, in_span};
 
 use crate::rows::Rows;

@@ -1,11 +1,10 @@
 //! The rules at their edges: what small senders do at each limit and beside it. Each is a function
 //! that does nothing, whose contract tells the values.
 
-ghost use Rattle.std.specs.Prelude.{◌≡◌, ℕ, List, [], ◌∷◌, Option, Some, None, true, false, length};
+ghost use Rattle.std.specs.Prelude.{◌≡◌, [], ◌∷◌, Some, None, true, false};
 ghost use Rattle.rtmfp_data_chunks.specs.FlowOptions.{flow_options};
-ghost use Rattle.flow_send.specs.Rows.{Row};
 ghost use Rattle.flow_send.specs.Sender.{new_sender, finished, overdue, waits, abandoned, is_late};
-ghost use Rattle.flow_send.specs.Sender.{lost_late, next_of};
+ghost use Rattle.flow_send.specs.Sender.{next_of};
 ghost use Rattle.flow_send.specs.Acks.{told, beyond, new_bytes, makes_lost, told_by};
 ghost use Rattle.flow_send.specs.Choice.{Nothing, Send, Notify, choice, within_limit, sent_after};
 ghost use Rattle.flow_send.specs.Choice.{sent_row};

@@ -1,7 +1,7 @@
 //! A number with its fragment.
 
-ghost use Rattle.std.specs.Prelude.{◌≡◌, ◌+◌, ◌<◌, ◌≤◌, IfOk, length, true, false};
-ghost use Rattle.flow_send.specs.Rows.{let_go, end_row, row_totals, is_settled, is_flying};
+ghost use Rattle.std.specs.Prelude.{◌≡◌, ◌+◌, ◌<◌, IfOk, true, false};
+ghost use Rattle.flow_send.specs.Rows.{let_go, end_row, row_totals};
 ghost use Rattle.flow_send.specs.Sender.{lost_if_late, is_late, give_up_row, is_spent_row};
 ghost use Rattle.flow_send.specs.Sender.{fresh_row};
 ghost use Rattle.flow_send.specs.Choice.{sent_row};

@@ -1,11 +1,11 @@
 //! The numbers of a sending flow above its forward number.
 
-ghost use Rattle.std.specs.Prelude.{◌≡◌, ◌+◌, ◌-◌, ◌<◌, ◌≤◌, ◌^◌, ◌∷◌, ◌++◌, [], IfOk, OnOk, OnErr};
-ghost use Rattle.std.specs.Prelude.{IfSome, IfNone, List, length, slice_set, drop, map, max, not};
-ghost use Rattle.std.specs.Prelude.{true, false, MatchOption, Some, None, position};
-ghost use Rattle.std.specs.List.{sum_by, list_any};
+ghost use Rattle.std.specs.Prelude.{◌≡◌, ◌+◌, ◌-◌, ◌<◌, ◌≤◌, ◌^◌, ◌∷◌, ◌++◌, [], IfOk, OnOk};
+ghost use Rattle.std.specs.Prelude.{length, slice_set, drop, max, not};
+ghost use Rattle.std.specs.Prelude.{true, false, Some, None};
+ghost use Rattle.std.specs.List.{sum_by};
 ghost use Rattle.std.specs.VecDeque.{deque_len, deque_capacity};
-ghost use Rattle.flow_send.specs.Rows.{Row, row_at, stored_of, totals_of, in_flight, any_flying};
+ghost use Rattle.flow_send.specs.Rows.{row_at, stored_of, totals_of, in_flight, any_flying};
 ghost use Rattle.flow_send.specs.Rows.{between, any_between, most_between, settled_front};
 ghost use Rattle.flow_send.specs.Rows.{front_settled, first_index, is_lost, is_unsent, is_settled};
 ghost use Rattle.flow_send.specs.Rows.{is_acknowledged, lost_of};

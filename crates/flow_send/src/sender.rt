@@ -1,17 +1,16 @@
 //! The sender of a flow.
 
-ghost use Rattle.std.specs.Prelude.{◌≡◌, ◌≢◌, ◌+◌, ◌-◌, ◌<◌, ◌≤◌, ◌^◌, ◌∷◌, ◌++◌, [], IfOk, IsOk};
-ghost use Rattle.std.specs.Prelude.{OnOk, OnErr, IfErr, IfSome, IfNone, List, length, Some, None};
-ghost use Rattle.std.specs.Prelude.{Ok, Err, nat_lt, MatchOption, MatchResult, true, false};
+ghost use Rattle.std.specs.Prelude.{◌≡◌, ◌≢◌, ◌+◌, ◌-◌, ◌<◌, ◌≤◌, [], IfOk, IsOk};
+ghost use Rattle.std.specs.Prelude.{OnOk, OnErr, IfErr, IfSome, length, Some, None};
+ghost use Rattle.std.specs.Prelude.{Ok, Err, nat_lt, MatchOption, true, false};
 ghost use Rattle.std.specs.Prelude.{if◌then◌else◌, ◌↔◌};
 ghost use Rattle.std.specs.Option.{is_some};
 ghost use Rattle.std.specs.List.{list_any};
 ghost use Rattle.rtmfp_vlu.specs.Vlu.{vlu};
-ghost use Rattle.rtmfp_data_chunks.specs.Fragments.{fragments_of_length};
 ghost use Rattle.rtmfp_data_chunks.specs.Taken.{chunk_of};
 ghost use Rattle.rtmfp_data_chunks.specs.FlowOptions.{flow_options};
-ghost use Rattle.flow_send.specs.Rows.{any_row, in_flight};
-ghost use Rattle.flow_send.specs.Sender.{Sender, new_sender, next_of, queued, waits, abandoned};
+ghost use Rattle.flow_send.specs.Rows.{in_flight};
+ghost use Rattle.flow_send.specs.Sender.{new_sender, next_of, queued, waits, abandoned};
 ghost use Rattle.flow_send.specs.Sender.{abandoned_if, first_number, overdue, finish_by, lost_late};
 ghost use Rattle.flow_send.specs.Sender.{is_late};
 ghost use Rattle.flow_send.specs.Acks.{told, beyond, new_bytes, makes_lost, told_by};

@@ -1,6 +1,6 @@
 //! Sums over the rows of a flow.
 
-ghost use Rattle.std.specs.Prelude.{◌≡◌, ◌+◌, ◌-◌, ◌<◌, ◌≤◌, ◌^◌};
+ghost use Rattle.std.specs.Prelude.{◌≡◌, ◌+◌, ◌-◌, ◌<◌};
 ghost use Rattle.flow_send.specs.Moved.{moved, IsWithin, Fit};
 
 /// The bytes and the number of rows in flight, the bytes that all rows hold, and how many rows are

@@ -2,18 +2,17 @@
 //! The functions do nothing: the contract of each states what the definitions that the other
 //! contracts cite are there. A fingerprint is a short list of bytes here.
 
-ghost use Rattle.std.specs.Prelude.{◌≡◌, ◌∷◌, ◌+◌, ◌-◌, ◌^◌, ℕ, List, [], Bool, true, false, Option, Some, None};
+ghost use Rattle.std.specs.Prelude.{◌≡◌, ◌∷◌, ◌-◌, ◌^◌, [], true, false, Option, Some, None};
 ghost use Rattle.std.specs.FinMap.{get, len};
 ghost use Rattle.glare_core.specs.declared.facts.Fact.{Fact};
 ghost use Rattle.glare_core.specs.declared.facts.Fact.TheVariants.{Started, Born, Opened, Confirmed, Ended};
-ghost use Rattle.glare_core.specs.declared.facts.Held.{Held};
 ghost use Rattle.glare_core.specs.declared.facts.Held.TheVariants.{Opening, HalfOpen, KeptAsResponder, KeptAsInitiator};
 ghost use Rattle.glare_core.specs.declared.facts.Why.{Why};
 ghost use Rattle.glare_core.specs.declared.facts.Why.TheVariants.{Near, Glare as ForGlare, Override as ForOverride};
 ghost use Rattle.glare_core.specs.declared.answers.StartRefusal.TheVariants.{OwnPrint, AttemptsSpent, Opening as AttemptHeld, Open as SessionHeld, PeersFull as NoRowToStart};
 ghost use Rattle.glare_core.specs.declared.answers.HearRefusal.TheVariants.{Stale, Glare, PeersFull, SessionsFull};
 ghost use Rattle.glare_core.specs.declared.answers.Heard.TheVariants.{Again, Birth};
-ghost use Rattle.glare_core.specs.Ledger.{Ledger, PeerRow, row_after};
+ghost use Rattle.glare_core.specs.Ledger.{Ledger, row_after};
 ghost use Rattle.glare_core.specs.Calls.{again_of, again_or, born_fact, confirmed_fact, ended_fact, glare_of, hear_refusal, is_born_of, opened_fact, start_held, start_refusal, started_fact, way_made};
 ghost use Rattle.glare_core.specs.Standing.{count, held, seen};
 ghost use Rattle.glare_core.specs.Edges.{keying, row, session};

@@ -2,7 +2,7 @@
 //! one beside. The functions do nothing: the contract of each states what the definitions that the
 //! other contracts cite are there.
 
-ghost use Rattle.std.specs.Prelude.{◌≡◌, ◌∷◌, ◌++◌, ℕ, List, [], Bool, true, false, Option, Some, None, replicate};
+ghost use Rattle.std.specs.Prelude.{◌≡◌, ◌∷◌, ◌++◌, [], true, false, Some, None, replicate};
 ghost use Rattle.identity.specs.declared.cert.CertFault.TheVariants.{Short, LongName, NotAscii};
 ghost use Rattle.identity.specs.Certificates.{certificate_fault};
 ghost use Rattle.identity.specs.Discriminators.{discriminator_of};

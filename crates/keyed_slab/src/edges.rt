@@ -1,7 +1,7 @@
 //! The last generations of a slot, each with the one beside it. The functions do nothing: the
 //! contract of each is a table.
 
-ghost use Rattle.std.specs.Prelude.{◌≡◌, ◌-◌, ◌^◌, ◌<◌, ℕ, Some, None};
+ghost use Rattle.std.specs.Prelude.{◌≡◌, ◌-◌, ◌^◌, ℕ, Some, None};
 ghost use Rattle.keyed_slab.specs.KeyedSlab.{named, generation_at, Seats};
 ghost use Rattle.keyed_slab.specs.Calls.{HasPut, HasRemoved};
 ghost use Rattle.keyed_slab.specs.Edges.{seat, key_of};

@@ -1,6 +1,6 @@
 //! Things in slots, each slot with the number of things that it had before.
 
-ghost use Rattle.std.specs.Prelude.{◌≡◌, ◌≢◌, ◌<◌, ◌≤◌, ◌+◌, ◌-◌, ◌^◌, ℕ, [], Some, None, IsSome, IfOk, OnOk, length, option_copied, slice_index_or, vec_capacity};
+ghost use Rattle.std.specs.Prelude.{◌≡◌, ◌≢◌, ◌<◌, ◌≤◌, ◌+◌, ◌-◌, ℕ, [], Some, None, IsSome, IfOk, OnOk, length, option_copied, slice_index_or, vec_capacity};
 ghost use Rattle.std.specs.Borrow.{Lends, sem};
 ghost use Rattle.keyed_slab.specs.KeyedSlab.{generation_at, named, thing_at, IsChangedAt};
 ghost use Rattle.keyed_slab.specs.Calls.{HasPut, HasRemoved, HasReserved};

@@ -1,6 +1,6 @@
 //! A set of slots that is gone through without a look at the others.
 
-ghost use Rattle.std.specs.Prelude.{◌≡◌, ◌<◌, ◌≤◌, ◌+◌, ℕ, [], true, false, OnOk, length, slice_set, vec_capacity, vec_len};
+ghost use Rattle.std.specs.Prelude.{◌≡◌, ◌<◌, ◌≤◌, ◌+◌, ℕ, [], true, false, OnOk, length, slice_set, vec_capacity};
 ghost use Rattle.std.specs.List.{SwappedAt};
 ghost use Rattle.keyed_slab.specs.SlotSet.{flag_of, flags_of, slot_at, AreListed, IsTied};
 

@@ -1,10 +1,10 @@
 //! Tests of an address at their edges and one beside. The functions do nothing: the contract of
 //! each states what the definitions that the other contracts cite are there.
 
-ghost use Rattle.std.specs.Prelude.{◌≡◌, ◌∷◌, ℕ, List, [], true, false, Some, None, Option, replicate};
+ghost use Rattle.std.specs.Prelude.{◌≡◌, ℕ, List, true, false, Some, None, Option, replicate};
 ghost use Rattle.rtmfp_forms.specs.Address.{AddressParts};
 ghost use Rattle.mobility.specs.declared.pending.Test.{Test};
-ghost use Rattle.mobility.specs.Tests.{address_for, after_reply, after_seen, asks, is_young, token_for};
+ghost use Rattle.mobility.specs.Tests.{address_for, after_reply, after_seen, asks, token_for};
 ghost use Rattle.mobility.specs.Edges.{v4, tested};
 
 /// A test is young for 1,000 ms. What asks at a moment before it finds it young, too.

@@ -2,7 +2,7 @@
 //! functions do nothing: the contract of each states what the definitions that the other contracts
 //! cite are there.
 
-ghost use Rattle.std.specs.Prelude.{◌≡◌, ◌∷◌, ◌++◌, ℕ, List, [], replicate};
+ghost use Rattle.std.specs.Prelude.{◌≡◌, ◌∷◌, ◌++◌, [], replicate};
 ghost use Rattle.packet_scramble.specs.Datagram.{datagram, scrambled, sid_of, unscrambled};
 
 /// A sealed part shorter than 8 bytes counts as padded with zeros; what stands behind 8 bytes

@@ -1,7 +1,5 @@
 //! A call of an end, which may be made again.
 
-ghost use Rattle.std.specs.Prelude.{◌≤◌, length};
-
 use endpoint::{CallRefusal, Draws, Endpoint, MessageOptions, OpenRefusal, Outbox, RowRefusal};
 use identity::Epd;
 use rtmfp_base::Message;

@@ -3,7 +3,7 @@ use Rattle.std.proofs.Common.{ℕ, sym, subst}
 use Rattle.endpoint_model.specs.Event.{Setup}
 use Rattle.endpoint_model.specs.Log.{StandsFor}
 use Rattle.endpoint_laws.specs.Laws.{IsSetup}
-use Rattle.endpoint_laws.specs.History.{History, log_of}
+use Rattle.endpoint_laws.specs.History.{log_of}
 use Rattle.endpoint_handing.specs.Laws.{IsOfEnds}
 use Rattle.endpoint_handing.proofs.AllFlows.{all_flows_hand}
 use Rattle.endpoint_handing.proofs.HandsOver.{every_history_hands_over, every_history_hands_once}

@@ -2,12 +2,12 @@
 //! the contract of each states what the definitions are there that the other contracts cite. All of
 //! it is own.
 
-ghost use Rattle.std.specs.Prelude.{◌≡◌, ℕ, List, [], ◌∷◌, replicate, Option, Some, None, true, false};
+ghost use Rattle.std.specs.Prelude.{◌≡◌, ℕ, List, [], ◌∷◌, replicate, Some, None, true, false};
 ghost use Rattle.sha2.specs.Sha256.{sha256};
 ghost use Rattle.rtmfp_forms.specs.Address.{AddressParts};
 ghost use Rattle.endpoint_model.specs.Event.{Setup};
 ghost use Rattle.endpoint_model.specs.State.{State};
-ghost use Rattle.rendezvous_world.specs.Seen.{EndSeen, Seen, group_secret};
+ghost use Rattle.rendezvous_world.specs.Seen.{EndSeen, group_secret};
 ghost use Rattle.rendezvous_world.specs.Draws.{draws_of};
 ghost use Rattle.rendezvous_world.specs.Datagrams.{nth, bent, forged_number};
 ghost use Rattle.rendezvous_world.specs.Faults.{is_bad, step_fault};

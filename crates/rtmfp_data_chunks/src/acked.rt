@@ -1,6 +1,6 @@
 //! The numbers that an ack acknowledges above its cumulative number.
 
-ghost use Rattle.std.specs.Prelude.{◌≡◌, ℕ, ◌+◌, ◌*◌, ◌<◌, ◌≤◌, ◌^◌, ◌⊎◌, [], ◌∷◌, List, true, false, length, drop, MatchOption, IfSome};
+ghost use Rattle.std.specs.Prelude.{◌≡◌, ℕ, ◌+◌, ◌*◌, ◌<◌, ◌⊎◌, [], ◌∷◌, List, true, false, length, MatchOption, IfSome};
 ghost use Rattle.std.specs.Iterator.{YieldsFirst, item_count};
 ghost use Rattle.rtmfp_data_chunks.specs.Chunk.{data_chunk};
 ghost use Rattle.rtmfp_data_chunks.specs.Acked.{AckTells, acked, is_set, spans_of_bits, spans_of_pairs};

@@ -1,6 +1,6 @@
 //! The fields that chunks of flows are made of. Each reader is told the size of the payload beside
 //! the bytes of it that are left, and gives what it read and the bytes after it.
-ghost use Rattle.std.specs.Prelude.{◌≡◌, ◌/◌, ◌%◌, ◌<◌, ◌≤◌, List, length, IfOk};
+ghost use Rattle.std.specs.Prelude.{◌≡◌, ◌/◌, ◌%◌, ◌<◌, ◌≤◌, length, IfOk};
 ghost use Rattle.rtmfp_data_chunks.specs.Fields.{flag};
 ghost use Rattle.rtmfp_data_chunks.specs.Chunk.{user_parts};
 ghost use Rattle.rtmfp_data_chunks.specs.Reader.{Shows, number_then, numbers_then, options_at, part_numbered, user_then};

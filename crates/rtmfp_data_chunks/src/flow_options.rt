@@ -1,9 +1,9 @@
 //! What the options of a user data chunk say of its flow (RFC 7016 section 2.3.11.1).
 
-ghost use Rattle.std.specs.Prelude.{◌≡◌, ◌++◌, ◌<◌, ℕ, OnOk, IfOk};
+ghost use Rattle.std.specs.Prelude.{◌≡◌, ◌++◌, ◌<◌, OnOk, IfOk};
 ghost use Rattle.std.specs.List.{flat_map};
 ghost use Rattle.std.specs.Option.{option_map};
-ghost use Rattle.rtmfp_forms.specs.Options.{OptionParts, PieceSpells, PiecesSpell, OptionsSpell};
+ghost use Rattle.rtmfp_forms.specs.Options.{PieceSpells, PiecesSpell, OptionsSpell};
 ghost use Rattle.rtmfp_forms.specs.Options.{option_bytes};
 ghost use Rattle.rtmfp_data_chunks.specs.FlowOptions.{associations, flow_options, metadata_in};
 ghost use Rattle.rtmfp_data_chunks.specs.FlowOptions.{Names, flow_named, is_below, all_known};

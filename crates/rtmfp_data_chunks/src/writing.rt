@@ -1,13 +1,13 @@
 //! Chunks of flows written, each in its shortest spelling.
-ghost use Rattle.std.specs.Prelude.{◌≡◌, ℕ, ◌+◌, ◌-◌, ◌^◌, ◌<◌, ◌≤◌, ◌↔◌, ◌++◌, ◌∷◌, min, length, Bool, Option, OnOk, OnErr, IsErr};
+ghost use Rattle.std.specs.Prelude.{◌≡◌, ◌+◌, ◌-◌, ◌^◌, ◌<◌, ◌≤◌, ◌↔◌, ◌++◌, ◌∷◌, min, length, Option, OnOk, OnErr, IsErr};
 ghost use Rattle.std.specs.Int.{to_be_bytes, w16};
 ghost use Rattle.rtmfp_vlu.specs.Vlu.{vlu};
 ghost use Rattle.rtmfp_forms.specs.Outgoing.{packet_limit};
 ghost use Rattle.rtmfp_data_chunks.specs.declared.user_data.Numbers.{Numbers};
 ghost use Rattle.rtmfp_data_chunks.specs.Chunk.{user_parts, data_chunk};
 ghost use Rattle.rtmfp_data_chunks.specs.Fields.{OptionsStand, part_number};
-ghost use Rattle.rtmfp_data_chunks.specs.Spelling.{IsBehind, PayloadSpells, DataSpells, kind_of};
-ghost use Rattle.rtmfp_data_chunks.specs.Writing.{IsDataChunk, CanFollow, bit, flags_of, list_bytes, body_bytes, payload_bytes, data_bytes};
+ghost use Rattle.rtmfp_data_chunks.specs.Spelling.{PayloadSpells, DataSpells, kind_of};
+ghost use Rattle.rtmfp_data_chunks.specs.Writing.{IsDataChunk, CanFollow, flags_of, list_bytes, body_bytes, payload_bytes, data_bytes};
 
 use crate::kinds;
 use crate::user_data::{Part, UserData};

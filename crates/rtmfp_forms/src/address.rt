@@ -1,4 +1,4 @@
-ghost use Rattle.std.specs.Prelude.{◌≡◌, ℕ, ◌+◌, ◌-◌, ◌^◌, ◌<◌, ◌≤◌, ◌↔◌, ◌++◌, Bool, false, if◌then◌else◌, List, length, take, drop, replicate, IsTrue, IfOk, IfErr, Ok};
+ghost use Rattle.std.specs.Prelude.{◌≡◌, ℕ, ◌+◌, ◌-◌, ◌<◌, ◌≤◌, ◌↔◌, ◌++◌, false, if◌then◌else◌, length, take, drop, replicate, IsTrue, IfOk, IfErr, Ok};
 ghost use Rattle.rtmfp_forms.specs.Address.{AddressParts, host_len, IsAddress, SamePlace, AddressSpells, address_bytes, IsCutAddress};
 ghost use Rattle.rtmfp_forms.specs.AddressReading.{address_at};
 

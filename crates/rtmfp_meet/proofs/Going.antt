@@ -1,11 +1,11 @@
 -- A run goes on step by step, and ends at one of them or behind the last.
-use Rattle.std.proofs.Common.{◌≡◌, ◌≢◌, ℕ, ◌⊎◌, inl, inr, Bool, true, false, List, [], ◌∷◌, ◌++◌, map, refl, sym, ap, ◌∙◌, append_assoc, append-nil, subst, Option, Some, None}
+use Rattle.std.proofs.Common.{◌≡◌, ℕ, inl, inr, true, List, [], ◌∷◌, ◌++◌, map, refl, sym, ap, ◌∙◌, append_assoc, append-nil, subst, Option, Some, None}
 use Rattle.std.specs.List.{flat_map}
 use Rattle.std.proofs.Common.{◌||◌}
 use Rattle.std.proofs.lemmas.List.Folds.{list_any-append}
 use Rattle.rtmfp_host.specs.Faults.{Rose}
 use Rattle.rtmfp_host.specs.Seen.{SinkSeen}
-use Rattle.rtmfp_host.specs.Spawning.{IsStarted, SpawnerSeen, gave, was_given}
+use Rattle.rtmfp_host.specs.Spawning.{IsStarted, gave, was_given}
 use Rattle.rtmfp_host.specs.Writing.{Appends}
 use Rattle.rtmfp_host.specs.declared.spawner.SpawnCall.{SpawnCall}
 use Rattle.rtmfp_lines.specs.declared.status.Status.{Status as RunStatus}
@@ -13,7 +13,7 @@ use Rattle.rtmfp_lines.specs.declared.status.Status.TheVariants as status
 use Rattle.rtmfp_lines.proofs.Streams.{appends_more, appends_none}
 use Rattle.rtmfp_meet.specs.declared.node.Node.{Node}
 use Rattle.rtmfp_meet.specs.declared.node.Node.TheVariants.{Introducer, Answerer, Caller}
-use Rattle.rtmfp_meet.specs.Meeting.{Adds, Course, EndsAt, EndsBehind, Fails, IsCalm, MeetEnds, Sides, Step, Starting, Waiting, call_at, failed_with, node_of, steps, written_at}
+use Rattle.rtmfp_meet.specs.Meeting.{Adds, EndsAt, EndsBehind, Fails, IsCalm, MeetEnds, Sides, Step, Starting, Waiting, call_at, node_of, steps, written_at}
 use Rattle.rtmfp_meet.specs.Steps.{Goes, Stops}
 
 -- ---- calls

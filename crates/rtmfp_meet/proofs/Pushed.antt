@@ -1,5 +1,5 @@
 -- Words that are added to a list, one after another.
-use Rattle.std.proofs.Common.{◌≡◌, ℕ, List, [], ◌∷◌, ◌++◌, refl, ap, ◌∙◌, append_assoc}
+use Rattle.std.proofs.Common.{◌≡◌, ℕ, List, ◌++◌, ap, ◌∙◌, append_assoc}
 
 -- the words were added
 pub record Pushed (old new words : List (List ℕ)) : Type 0 where

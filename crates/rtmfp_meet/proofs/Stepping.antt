@@ -9,7 +9,6 @@ use Rattle.rtmfp_host.specs.declared.spawner.Begun.TheVariants as begun
 use Rattle.rtmfp_host.specs.declared.spawner.SpawnCall.{SpawnCall}
 use Rattle.rtmfp_host.specs.declared.spawner.SpawnCall.TheVariants.{Start}
 use Rattle.rtmfp_host.proofs.Numbering.{started}
-use Rattle.rtmfp_lines.specs.declared.status.Status.{Status as RunStatus}
 use Rattle.rtmfp_lines.specs.declared.status.Status.TheVariants as status
 use Rattle.rtmfp_lines.proofs.Streams.{appends_none}
 use Rattle.rtmfp_meet.specs.declared.node.Node.{Node}

@@ -1,5 +1,5 @@
 -- What a sink took in several writes.
-use Rattle.std.proofs.Common.{◌≡◌, ℕ, zero, suc, List, [], ◌∷◌, ◌++◌, length, take, refl, sym, ap, ◌∙◌, append_assoc, append-nil, subst, Option, Some, None}
+use Rattle.std.proofs.Common.{◌≡◌, ℕ, zero, suc, List, [], ◌∷◌, ◌++◌, length, take, refl, sym, ap, ◌∙◌, append_assoc, append-nil, subst, Option}
 use Rattle.std.proofs.Math.Seq.{take-length}
 use Rattle.std.specs.Prelude.{codes}
 use Rattle.rtmfp_host.specs.Faults.{CountsWrote, Rose}
@@ -9,7 +9,7 @@ use Rattle.rtmfp_host.specs.declared.sink.Wrote.{Wrote}
 use Rattle.rtmfp_host.specs.declared.sink.Wrote.TheVariants.{Done, Failed}
 use Rattle.rtmfp_lines.specs.Lines.{lines_of}
 use Rattle.rtmfp_lines.specs.Reading.{Splits}
-use Rattle.rtmfp_lines.proofs.Streams.{appends_more, appends_none, appends_still}
+use Rattle.rtmfp_lines.proofs.Streams.{appends_more, appends_still}
 use Rattle.rtmfp_meet.specs.declared.node.Node.{Node}
 use Rattle.rtmfp_meet.specs.Nodes.{behind, marked, prefix_of}
 use Rattle.rtmfp_meet.specs.Steps.{HandsOver}

@@ -1,5 +1,5 @@
 //! Random bytes of a generator.
-ghost use Rattle.std.specs.Prelude.{◌≡◌, None, Some, IsNone, OnOk};
+ghost use Rattle.std.specs.Prelude.{◌≡◌, None, Some};
 ghost use Rattle.rtmfp_host.specs.Drawing.{DrawsFrom};
 ghost use Rattle.rtmfp_host.specs.Faults.{CountsDrawn};
 ghost use Rattle.rand_chacha.specs.ChaCha.{of_seed};

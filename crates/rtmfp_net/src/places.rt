@@ -1,5 +1,4 @@
 //! Addresses as the machine's sockets name them.
-ghost use Rattle.std.specs.Prelude.{◌≡◌};
 
 use rtmfp_forms::Address;
 use std::net::{IpAddr, Ipv4Addr, Ipv6Addr, SocketAddr};

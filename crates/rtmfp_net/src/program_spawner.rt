@@ -1,6 +1,5 @@
 //! Child programs.
 ghost use Rattle.std.specs.Prelude.{◌≡◌, None};
-ghost use Rattle.rtmfp_host.specs.Spawning.{kept_status};
 
 use rtmfp_base::Message;
 use rtmfp_host::{Begun, Ran, Spawner, first_status};

@@ -1,5 +1,5 @@
 //! A UDP socket.
-ghost use Rattle.std.specs.Prelude.{◌≡◌, ◌↔◌, IsTrue, None};
+ghost use Rattle.std.specs.Prelude.{◌≡◌, None};
 ghost use Rattle.rtmfp_host.specs.Faults.{Counted};
 ghost use Rattle.rtmfp_host.specs.Linking.{Fits};
 

@@ -15,12 +15,12 @@ use Rattle.rtmfp_words.specs.Node.{Serving}
 use Rattle.rtmfp_words.specs.declared.opening_words.OpeningWords.{OpeningWords}
 use Rattle.rtmfp_node.specs.declared.served.Served.{Served}
 use Rattle.rtmfp_node.specs.declared.served.Served.TheVariants.{Done, Memory, LinkFault, SinkFault, EntropyFault}
-use Rattle.rtmfp_node.specs.Outside.{Counted, Outside, outside, Told, Leaves}
+use Rattle.rtmfp_node.specs.Outside.{outside, Told, Leaves}
 use Rattle.rtmfp_node.specs.Report.{events_text, unsent_text}
 use Rattle.rtmfp_node.specs.Events.{AreOpened, AreTurnEvents, draws_of, entries_of}
 use Rattle.rtmfp_node.specs.Turn.{AreSends, outs_in, until_of}
 use Rattle.rtmfp_node.specs.Cut.{AreFirstSends, Broken, BrokenAtZero, IsPart, Untouched, Waited}
-use Rattle.rtmfp_node.specs.Acting.{Acted, ActedOn, Acts, DrawnAt, Drew, EmitEnds, EmittedAll, EmittedSome, Follows, Noted, OpensAll, OpensEnd, TurnDone, TurnEnds, ZeroDone, ZeroEnds}
+use Rattle.rtmfp_node.specs.Acting.{Acted, ActedOn, Acts, Drew, EmitEnds, EmittedAll, EmittedSome, Follows, Noted, OpensAll, OpensEnd, TurnDone, TurnEnds, ZeroDone, ZeroEnds}
 use Rattle.rtmfp_node.proofs.Openings.{by_opens}
 use Rattle.rtmfp_node.proofs.Told.{By, by_draw, by_emit, by_leaves, by_moment, by_receive, by_then, emitted, leaves_drawing, leaves_map, leaves_wait, by_after}
 

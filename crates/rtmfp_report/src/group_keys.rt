@@ -1,5 +1,5 @@
 //! The keys by which the datagrams of a group are read.
-ghost use Rattle.std.specs.Prelude.{◌≡◌, List, ℕ, true};
+ghost use Rattle.std.specs.Prelude.{◌≡◌, List, ℕ};
 ghost use Rattle.rtmfp_report.specs.KeptKeys.{AreUnder};
 
 use crypto_profile::{Context, HmacKey, decipher_in_place, stream_key};

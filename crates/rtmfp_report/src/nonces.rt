@@ -1,6 +1,5 @@
 //! The text of nonces.
 ghost use Rattle.std.specs.Prelude.{◌≡◌, ◌++◌, OnOk};
-ghost use Rattle.hex.specs.Hex.{encode_lower};
 ghost use Rattle.rtmfp_report.specs.NonceText.{nonce_text, without_zeros};
 
 use rtmfp_text::Text;

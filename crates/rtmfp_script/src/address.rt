@@ -1,5 +1,5 @@
 //! Addresses.
-ghost use Rattle.std.specs.Prelude.{◌≡◌, length, slice_index, ◌==◌};
+ghost use Rattle.std.specs.Prelude.{◌≡◌, ◌==◌};
 ghost use Rattle.rtmfp_script.specs.Fields.{address_at, address_of, addresses_of, v4_of, v6_address, v6_of};
 
 use crate::bytes::sixteen;

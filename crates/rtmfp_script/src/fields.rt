@@ -1,5 +1,5 @@
 //! The fields of a line, each read whole.
-ghost use Rattle.std.specs.Prelude.{◌≡◌, ◌≤◌, ◌<◌, ◌^◌, ◌*◌, ◌%◌, ◌==◌, ℕ, nat_le, nat_lt, length, Some, None, MatchOption, IfOk, IfSome, Ok};
+ghost use Rattle.std.specs.Prelude.{◌≡◌, ◌<◌, ◌^◌, ◌*◌, ◌%◌, ◌==◌, ℕ, nat_lt, Some, None, MatchOption, IfSome};
 ghost use Rattle.std.specs.Fmt.{decimal};
 ghost use Rattle.std.specs.List.{list_all};
 ghost use Rattle.rtmfp_script.specs.Grammar.{is_name_byte};

@@ -2,7 +2,6 @@
 ghost use Rattle.std.specs.Prelude.{◌≡◌, ◌++◌, ◌-◌, suc, OnOk, decimal, map};
 ghost use Rattle.std.specs.List.{flat_map};
 ghost use Rattle.rtmfp_forms.specs.OptionReading.{option_parts};
-ghost use Rattle.rtmfp_data_chunks.specs.Acked.{spans_of_bits, spans_of_pairs};
 ghost use Rattle.rtmfp_data_chunks.specs.Chunk.{AckBitmap, AckRanges, Exception, data_chunk, user_parts};
 ghost use Rattle.rtmfp_text.specs.Words.{behind_commas, list_text};
 ghost use Rattle.rtmfp_show.specs.DataText.{ack_text, count_up, data_text, marks_text, numbers_of, numbers_text, option_text, options_text, part_text, span_text, user_text};

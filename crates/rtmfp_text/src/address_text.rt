@@ -1,5 +1,5 @@
 //! The text of addresses.
-ghost use Rattle.std.specs.Prelude.{◌≡◌, ◌++◌, length, OnOk};
+ghost use Rattle.std.specs.Prelude.{◌≡◌, ◌++◌, OnOk};
 ghost use Rattle.rtmfp_text.specs.AddressText.{address_text, host_text, v4_host_text, v6_host_text};
 
 use crate::text::Text;

@@ -1,5 +1,5 @@
 //! The names that texts give to ends.
-ghost use Rattle.std.specs.Prelude.{◌≡◌, ◌++◌, ◌≤◌, ◌↔◌, [], length, IfSome, IsSome, IsTrue, OnOk};
+ghost use Rattle.std.specs.Prelude.{◌≡◌, ◌++◌, ◌≤◌, ◌↔◌, [], length, IfSome, IsSome, OnOk};
 ghost use Rattle.rtmfp_text.specs.Names.{peer_text};
 
 use crate::text::Text;

@@ -1,4 +1,4 @@
-ghost use Rattle.std.specs.Prelude.{◌≡◌, ℕ, ◌<◌, ◌≤◌, ◌++◌, List, length, take, drop};
+ghost use Rattle.std.specs.Prelude.{◌≡◌, ℕ, ◌≤◌, ◌++◌, List, length, take, drop};
 ghost use Rattle.rtmfp_vlu.specs.Vlu.{Shortest, vlu};
 
 /// The length of a number's shortest spelling, 1 to 10.

@@ -6,7 +6,7 @@ use Rattle.std.proofs.Common.{subst}
 use Rattle.std.specs.Str.{bytes_eq}
 use Rattle.rtmfp_script.proofs.Splits.{some_some}
 use Rattle.std.proofs.lemmas.Slice.Eq.{bytes_eq-Decides}
-use Rattle.rtmfp_words.specs.CommandLine.{BeginsWith, IsFaulty, NamesNode, Says, SaysNode}
+use Rattle.rtmfp_words.specs.CommandLine.{BeginsWith, IsFaulty, Says, SaysNode}
 use Rattle.rtmfp_words.specs.Node.{IsMeet, IsServe, Serving}
 use Rattle.rtmfp_words.specs.Reading.{head_of}
 use Rattle.rtmfp_words.specs.Words.{IsGenerate, IsOther, IsReplay, IsShow, Reads}

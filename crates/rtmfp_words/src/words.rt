@@ -1,5 +1,5 @@
 //! The next word, and the texts of words.
-ghost use Rattle.std.specs.Prelude.{◌≡◌, ◌++◌, map, string_bytes, None, Some, MatchOption};
+ghost use Rattle.std.specs.Prelude.{◌≡◌, map, string_bytes, None, Some, MatchOption};
 ghost use Rattle.rtmfp_words.specs.Reading.{head_of, is_empty, behind_of};
 
 /// The next word, and the words behind it.

@@ -1,5 +1,5 @@
 -- What is due of a session is past its deadline.
-use Rattle.std.proofs.Common.{◌≡◌, ℕ, ◌+◌, ◌-◌, ◌^◌, ◌<◌, [], ◌∷◌, Bool, true, false, ◌||◌, ◌&&◌, is_some, min, max, Option, None, Some, refl, ap, ◌∙◌, arith}
+use Rattle.std.proofs.Common.{◌≡◌, ℕ, ◌+◌, ◌^◌, ◌<◌, [], ◌∷◌, Bool, true, false, ◌||◌, ◌&&◌, is_some, min, max, Option, None, Some, refl, ap, ◌∙◌, arith}
 use Rattle.std.specs.Prelude.{nat_le}
 use Rattle.std.proofs.lemmas.Bool.Decides.{nat_tests}
 use Rattle.glare_core.specs.Calls.{where_true, first_that_stands}

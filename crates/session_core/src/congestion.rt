@@ -1,7 +1,7 @@
 //! The window of the bytes in flight (own).
 
 ghost use Rattle.std.specs.Prelude.{◌≡◌, ◌≤◌};
-ghost use Rattle.session_core.specs.Congestion.{first_congestion, growth, grown, halved, shrunk, IsCongestion};
+ghost use Rattle.session_core.specs.Congestion.{first_congestion, growth, grown, halved, shrunk};
 
 /// The window at first, and its least value.
 const LEAST: u64 = 4380;

@@ -2,7 +2,7 @@
 //! contract of each states what the definitions that the other contracts cite are there. All
 //! numbers are own but the units of a timestamp (RFC 7016 section 2.2.4).
 
-ghost use Rattle.std.specs.Prelude.{◌≡◌, ◌∷◌, ◌++◌, ◌-◌, ◌^◌, ℕ, List, [], Bool, true, false, Option, Some, None, replicate, length};
+ghost use Rattle.std.specs.Prelude.{◌≡◌, ◌∷◌, ◌++◌, ◌-◌, ◌^◌, ℕ, List, [], true, false, Option, Some, None, replicate};
 ghost use Rattle.rtmfp_forms.specs.Address.{AddressParts};
 ghost use Rattle.rtmfp_packet.specs.declared.head.Mode.TheVariants.{Initiator as FromInitiator, Responder as FromResponder};
 ghost use Rattle.crypto_profile.specs.declared.keys.Context.TheVariants.{Session as SessionContext};

@@ -1,7 +1,7 @@
 //! Why a sealed part isn't heard, and the numbers that sealed parts carry.
 
-ghost use Rattle.std.specs.Prelude.{◌≡◌, ◌≤◌, length, drop};
-ghost use Rattle.std.specs.Int.{w64, from_be_bytes};
+ghost use Rattle.std.specs.Prelude.{◌≡◌, ◌≤◌, length};
+ghost use Rattle.std.specs.Int.{from_be_bytes};
 ghost use Rattle.crypto_profile.specs.Sealing.{number_of};
 ghost use Rattle.session_core.specs.Hearing.{count_of, is_session_number, opens_under};
 

@@ -2,7 +2,6 @@
 
 ghost use Rattle.std.specs.Prelude.{◌≡◌, ◌<◌, ◌∷◌, [], length, Some, None, Ok, Err, IfOk, OnErr};
 ghost use Rattle.std.specs.Prelude.{IfErr, MatchOption, slice_get, IsOk};
-ghost use Rattle.flow_send.specs.Sender.{next_of};
 ghost use Rattle.flow_send.specs.declared.outcome.QueueRefusal.{QueueRefusal};
 ghost use Rattle.session_flows.specs.Keeping.{no_flows, sends, Opened, Queued, Abandoned, Finished};
 ghost use Rattle.session_flows.specs.Calling.{open_refusal, opening, queue_refused, queueing};

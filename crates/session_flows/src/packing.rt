@@ -10,7 +10,7 @@ ghost use Rattle.rtmfp_data_chunks.specs.Writing.{data_bytes};
 ghost use Rattle.session_flows.specs.Keeping.{with_sending};
 ghost use Rattle.session_flows.specs.Packing.{packed, packing_with, pace_of, may_send, chosen};
 ghost use Rattle.session_flows.specs.Packing.{first_to_send, session_flight, follows, as_chunk};
-ghost use Rattle.session_flows.specs.Packing.{numbers_in, marked, flow_packed, packed_once, packs};
+ghost use Rattle.session_flows.specs.Packing.{numbers_in, marked, flow_packed, packed_once};
 ghost use Rattle.session_flows.specs.Packing.{filled, goes, is_data_due, Goes, IsNextFrom};
 ghost use Rattle.session_flows.specs.Packing.{left_to_send};
 ghost use Rattle.session_flows.specs.Waiting.{waiting_in};

@@ -16,7 +16,7 @@ use Rattle.keyed_slab.specs.SlotSet.{Flags}
 use Rattle.keyed_slab.proofs.Seated.{set_loose}
 use Rattle.session_table.specs.Table.{near_of, with_changed, in_row, of_session}
 use Rattle.session_table.specs.Inside.{IsKept, IsLoose, due_from, rows_in, sends_of, slot_of}
-use Rattle.session_table.proofs.Rows.{IsThere, row_there, put_at, found_at, found_nowhere}
+use Rattle.session_table.proofs.Rows.{row_there, put_at, found_at, found_nowhere}
 
 pub record IsChanged (change : Row → Row) (rows : Seats Row) (keys : KeyTable) (deadlines : Slots) (sending : Flags) (near slot : ℕ) (new : Row) : Type 0 where
   pub table : rows_in (with_thing rows slot new) ≡ in_row change (rows_in rows) near

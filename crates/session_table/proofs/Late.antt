@@ -1,5 +1,5 @@
 -- Rows whose numbers that are lost by time are marked, and that they are what all sessions of an end are then.
-use Rattle.std.proofs.Common.{ℕ, ◌≡◌, ◌<◌, ◌+◌, ◌&&◌, List, [], ◌∷◌, map, length, Bool, true, false, cond, if◌then◌else◌, Option, Some, None, T, inl, inr, refl, sym, ap, ◌∙◌, arith}
+use Rattle.std.proofs.Common.{ℕ, ◌≡◌, ◌<◌, ◌+◌, ◌&&◌, List, [], ◌∷◌, map, Bool, true, false, cond, if◌then◌else◌, Option, Some, None, T, inl, inr, refl, sym, ap, ◌∙◌, arith}
 use Rattle.std.specs.Option.{option_map}
 use Rattle.std.specs.Ordering.{nat_cmp, eq_by_cmp, is_lt}
 use Rattle.std.specs.FinMap.{get, keys, entries, entries_sorted, get-entries, is_sorted}

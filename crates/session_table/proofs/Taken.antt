@@ -1,5 +1,5 @@
 -- A row in which a chunk of flows was taken, or whose acks were sealed.
-use Rattle.std.proofs.Common.{ℕ, List, ◌≡◌, ◌<◌, ◌+◌, Bool, true, false, Option, Some, None, Result, Ok, Err, OnOk, OnErr, MatchOption, refl, sym, ap, subst, ◌∙◌}
+use Rattle.std.proofs.Common.{ℕ, ◌≡◌, ◌<◌, ◌+◌, Bool, true, false, Option, Some, None, Result, Ok, Err, OnOk, OnErr, MatchOption, refl, sym, ap, subst, ◌∙◌}
 use Rattle.std.specs.FinMap.{get}
 use Rattle.flow_send.specs.Flow.{Flow}
 use Rattle.flow_send.specs.Acks.{Told, makes_lost, new_bytes}

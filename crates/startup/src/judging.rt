@@ -1,7 +1,7 @@
 //! What a keying is found to be before anything changes, and what it then does. Each is read, and
 //! its signature and cookie are tested, once.
 
-ghost use Rattle.std.specs.Prelude.{ℕ, [], ◌∷◌, Option, ◌≡◌, length, IfOk, IfErr, OnErr, IsTrue};
+ghost use Rattle.std.specs.Prelude.{ℕ, [], ◌∷◌, Option, ◌≡◌, IfOk, IfErr, OnErr, IsTrue};
 ghost use Rattle.std.specs.Prelude.{Ok, Some, None};
 ghost use Rattle.std.specs.FinMap.{get};
 ghost use Rattle.std.specs.Option.{option_copied};

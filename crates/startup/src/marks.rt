@@ -1,6 +1,6 @@
 //! Which attempts have a cookie: marks in order, where one is sought by halves.
 
-ghost use Rattle.std.specs.Prelude.{◌≡◌, ◌<◌, ◌≤◌, ◌⊎◌, true, false, List, [], OnOk, length};
+ghost use Rattle.std.specs.Prelude.{◌≡◌, ◌<◌, ◌≤◌, ◌⊎◌, true, false, [], OnOk, length};
 ghost use Rattle.startup.specs.declared.marks.Mark.{Mark};
 ghost use Rattle.startup.specs.Marks.{IsBefore, IsUpTo, IsAscending, IsPlace, Stands, is_whole_then, mark_at};
 

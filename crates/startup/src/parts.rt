@@ -1,7 +1,7 @@
 //! The parts of the session key that the two ends send in their keyings, and the signatures of
 //! keyings (own profile).
 
-ghost use Rattle.std.specs.Prelude.{◌≡◌, ◌≤◌, IfSome, length};
+ghost use Rattle.std.specs.Prelude.{◌≡◌, IfSome};
 ghost use Rattle.startup.specs.Packets.{initiator_part, responder_part, initiator_part_in, responder_part_in, is_signed_by};
 
 use crypto_profile::{HmacKey, same_bytes};

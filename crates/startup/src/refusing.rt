@@ -2,7 +2,7 @@
 
 ghost use Rattle.std.specs.Prelude.{◌≡◌};
 ghost use Rattle.startup.specs.Refusals.{rhello_refusal_with, rhello_refusal, cookie_change_refusal, redirect_refusal, refusal};
-ghost use Rattle.startup.specs.Attempts.{rhello_cause, cookie_change_cause};
+ghost use Rattle.startup.specs.Attempts.{cookie_change_cause};
 ghost use Rattle.startup.specs.Redirects.{redirect_cause};
 
 use crate::cause::Cause;

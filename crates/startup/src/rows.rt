@@ -1,6 +1,6 @@
 //! What is asked of an attempt, and how one ends.
 
-ghost use Rattle.std.specs.Prelude.{◌≡◌, ◌+◌, ℕ, Some, IsSome};
+ghost use Rattle.std.specs.Prelude.{◌≡◌, ◌+◌, Some, IsSome};
 ghost use Rattle.std.specs.FinMap.{get, remove};
 ghost use Rattle.glare_core.specs.declared.facts.Held.TheVariants.{Opening};
 ghost use Rattle.glare_core.specs.Ledger.{held_with, noted};

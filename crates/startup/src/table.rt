@@ -1,6 +1,6 @@
 //! The attempts of an end, by their near ids.
 
-ghost use Rattle.std.specs.Prelude.{◌≡◌, ◌<◌, ◌≤◌, ◌^◌, ℕ, true, Some, None, IsSome, IfNone, IfSome, OnOk};
+ghost use Rattle.std.specs.Prelude.{◌≡◌, ◌<◌, ◌^◌, true, Some, None, IsSome, IfNone, IfSome, OnOk};
 ghost use Rattle.std.specs.Option.{option_copied};
 ghost use Rattle.std.specs.FinMap.{empty, get, insert, len, remove};
 ghost use Rattle.keyed_slab.specs.KeyedSlab.{thing_at};

@@ -1,4 +1,4 @@
-use Rattle.std.proofs.Common.{◌≡◌, ◌≢◌, Bool, true, length, [], ap, eq-eqb}
+use Rattle.std.proofs.Common.{◌≡◌, ◌≢◌, true, length, [], ap, eq-eqb}
 use Rattle.std.specs.Prelude.{◌==◌}
 use Rattle.rtmfp_lines.proofs.LfLaws.{split_first, split_last}
 use Rattle.rtmfp_lines.proofs.lines.first_line.Goals as goal

@@ -1,4 +1,4 @@
-use Rattle.std.proofs.Common.{ℕ, List, ◌++◌, ap, ◌∙◌}
+use Rattle.std.proofs.Common.{◌++◌, ap, ◌∙◌}
 use Rattle.std.specs.Prelude.{codes}
 use Rattle.rtmfp_meet.specs.Nodes.{place}
 use Rattle.rtmfp_meet.proofs.child_words.place.Goals as goal

@@ -1,4 +1,4 @@
-use Rattle.std.proofs.Common.{◌≡◌, refl, sym, ap, ◌∙◌, None}
+use Rattle.std.proofs.Common.{◌≡◌, refl, ap, ◌∙◌, None}
 use Rattle.std.specs.Prelude.{Ok}
 use Rattle.sha2.specs.Sha256.{sha256}
 use Rattle.identity.specs.Certificates.{certificate_fault}

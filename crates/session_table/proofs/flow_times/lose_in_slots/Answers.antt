@@ -1,4 +1,4 @@
-use Rattle.std.proofs.Common.{◌≡◌, ◌<◌, ◌∙◌, Some, length, set, sym, ap, subst, arith}
+use Rattle.std.proofs.Common.{◌<◌, ◌∙◌, Some, length, set, sym, subst, arith}
 use Rattle.endpoint_model.specs.declared.row.Row.{Row}
 use Rattle.endpoint_model.specs.FlowTimes.{late_marked}
 use Rattle.keyed_slab.specs.KeyedSlab.{IsChangedAt}

@@ -1,4 +1,4 @@
-use Rattle.std.proofs.Common.{◌≡◌, ◌+◌, ◌<◌, ◌≤◌, ℕ, false, arith, inl, inr}
+use Rattle.std.proofs.Common.{◌+◌, ◌<◌, arith, inl, inr}
 use Rattle.std.proofs.lemmas.Bool.{cases_lt}
 use Rattle.flow_send.proofs.lows.Lows.first_block.Goals as goal
 

@@ -1,4 +1,4 @@
-use Rattle.std.proofs.Common.{ℕ, ◌≡◌, ◌≢◌, ◌≤◌, ◌<◌, get_or}
+use Rattle.std.proofs.Common.{ℕ, ◌≢◌, ◌≤◌, ◌<◌, get_or}
 use Rattle.flow_send.proofs.lows.Lows.top_with.Given as goal
 
 abbrev pub invariant-loop-other : goal.invariant-loop-other

@@ -1,4 +1,4 @@
-use Rattle.std.proofs.Common.{◌≡◌, ◌∙◌, ◌%◌, ◌/◌, List, Bool, false, get_or, length, ap, sym, arith}
+use Rattle.std.proofs.Common.{◌≡◌, ◌∙◌, ◌%◌, ◌/◌, List, Bool, false, get_or, length, ap, arith}
 use Rattle.std.proofs.lemmas.List.{length-replicate}
 use Rattle.flow_send.specs.Marks.{Marked, marked_at}
 use Rattle.flow_send.proofs.Marking.{made, same_all}

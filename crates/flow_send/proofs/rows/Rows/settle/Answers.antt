@@ -1,4 +1,4 @@
-use Rattle.std.proofs.Common.{◌≡◌, ◌+◌, ◌≤◌, List, length, drop, ap, ◌∙◌, arith, length-drop}
+use Rattle.std.proofs.Common.{◌+◌, List, length, drop, ap, ◌∙◌, arith, length-drop}
 use Rattle.flow_send.specs.Rows.{Row, settled_front}
 use Rattle.flow_send.proofs.Between.{front_next, drop_next, front_there}
 use Rattle.flow_send.proofs.rows.Rows.settle.Goals as goal

@@ -1,4 +1,4 @@
-use Rattle.std.proofs.Common.{◌≡◌, ℕ, ◌<◌, ◌≤◌, not, true, false, length, ap, sym, ◌∙◌, subst, arith}
+use Rattle.std.proofs.Common.{◌≡◌, ◌<◌, not, true, false, length, ap, sym, ◌∙◌, arith}
 use Rattle.flow_send.specs.Rows.{is_settled}
 use Rattle.flow_send.specs.Rows.{Row, Roomy, row_at, end_row}
 use Rattle.flow_send.proofs.Summing.{default_row}

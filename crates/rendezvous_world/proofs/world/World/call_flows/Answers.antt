@@ -1,4 +1,4 @@
-use Rattle.std.proofs.Common.{◌≡◌, ℕ, [], None, sym, ap, ◌∙◌, subst}
+use Rattle.std.proofs.Common.{ℕ, [], None, sym, ap, ◌∙◌, subst}
 use Rattle.rendezvous_world.specs.Entering.{IsEntering}
 use Rattle.rendezvous_world.specs.Faults.{is_missing}
 use Rattle.rendezvous_world.proofs.Refusing.{flows_end, lacking_done, entered_done, entering_flows}

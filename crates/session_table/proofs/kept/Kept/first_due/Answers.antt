@@ -1,5 +1,4 @@
-use Rattle.std.proofs.Common.{ℕ, ◌≡◌, ◌<◌, ◌+◌, ◌^◌, Option, length, refl, sym, ap, subst, ◌∙◌, arith}
-use Rattle.endpoint_model.specs.declared.row.Row.{Row}
+use Rattle.std.proofs.Common.{ℕ, ◌≡◌, ◌<◌, ◌+◌, ◌^◌, Option, length, refl, sym, subst, arith}
 use Rattle.endpoint_model.specs.FlowTimes.{is_row_due}
 use Rattle.keyed_slab.specs.SlotSet.{slot_at}
 use Rattle.keyed_slab.specs.Walks.{IsBestOf, IsLookedAt}

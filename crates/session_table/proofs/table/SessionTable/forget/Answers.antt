@@ -3,7 +3,7 @@ use Rattle.std.specs.FinMap.{remove}
 use Rattle.rtmfp_base.proofs.Maps.{removed_none}
 use Rattle.session_table.specs.Table.{Table}
 use Rattle.session_table.specs.Inside.{rows_in}
-use Rattle.session_table.proofs.Rows.{IsThere, row_there, found_nowhere}
+use Rattle.session_table.proofs.Rows.{row_there, found_nowhere}
 use Rattle.session_table.proofs.table.SessionTable.forget.Goals as goal
 
 pub returns-in-Some-clause-rows : goal.returns-in-Some-clause-rows

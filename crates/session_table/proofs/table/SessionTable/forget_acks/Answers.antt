@@ -1,4 +1,4 @@
-use Rattle.std.proofs.Common.{◌∙◌, refl}
+use Rattle.std.proofs.Common.{◌∙◌}
 use Rattle.session_flows.specs.Owing.{owing_none}
 use Rattle.session_table.specs.Chunks.{of_flows}
 use Rattle.session_table.proofs.Called.{stays_loose}

@@ -1,4 +1,4 @@
-use Rattle.std.proofs.Common.{refl, sym, ap, ◌∙◌}
+use Rattle.std.proofs.Common.{sym, ap, ◌∙◌}
 use Rattle.session_flows.specs.Keeping.{Did}
 use Rattle.session_flows.specs.Handing.{hands_once}
 use Rattle.session_table.specs.Chunks.{of_flows, handed_in}

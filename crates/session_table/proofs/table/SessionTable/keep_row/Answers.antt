@@ -1,10 +1,10 @@
-use Rattle.std.proofs.Common.{◌≡◌, sym, ap, ◌∙◌}
+use Rattle.std.proofs.Common.{sym, ap, ◌∙◌}
 use Rattle.std.specs.FinMap.{insert}
 use Rattle.std.proofs.lemmas.Option.{same_Some}
 use Rattle.keyed_slab.proofs.Seated.{set_loose}
 use Rattle.session_table.specs.Table.{Table, near_of}
 use Rattle.session_table.specs.Inside.{due_from, sends_of, slot_of}
-use Rattle.session_table.proofs.Rows.{IsThere, row_there, put_at, no_key}
+use Rattle.session_table.proofs.Rows.{row_there, put_at, no_key}
 use Rattle.session_table.proofs.table.SessionTable.keep_row.Goals as goal
 
 pub settle-requires : goal.settle-requires

@@ -1,4 +1,4 @@
-use Rattle.std.proofs.Common.{refl, sym, ap, ◌∙◌}
+use Rattle.std.proofs.Common.{sym, ap, ◌∙◌}
 use Rattle.session_core.specs.Closing.{asked_to_close}
 use Rattle.session_table.specs.Table.{Table, in_session, of_session}
 use Rattle.session_table.proofs.Changing.{session_changed, unchanged, lingering_keeps}

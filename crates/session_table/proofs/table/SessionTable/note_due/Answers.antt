@@ -1,4 +1,4 @@
-use Rattle.std.proofs.Common.{refl, sym, Option, ap, ◌∙◌}
+use Rattle.std.proofs.Common.{sym, Option, ap, ◌∙◌}
 use Rattle.session_core.specs.declared.stage.SessionDue.{SessionDue}
 use Rattle.session_core.specs.Closing.{after_due, first_due}
 use Rattle.session_core.specs.Session.{SessionState}

@@ -1,4 +1,4 @@
-use Rattle.std.proofs.Common.{refl, ◌≡◌, Some, None, Option, sym, ap, ◌∙◌}
+use Rattle.std.proofs.Common.{◌≡◌, Some, None, Option, sym, ap, ◌∙◌}
 use Rattle.std.specs.FinMap.{get}
 use Rattle.rtmfp_chunks.specs.Chunk.{chunk_of}
 use Rattle.rtmfp_chunks.specs.Writing.{chunk_bytes}

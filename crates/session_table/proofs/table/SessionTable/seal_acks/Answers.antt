@@ -1,4 +1,4 @@
-use Rattle.std.proofs.Common.{refl, sym, ap, ◌∙◌, ◌<◌, subst}
+use Rattle.std.proofs.Common.{sym, ap, ◌∙◌, ◌<◌, subst}
 use Rattle.session_table.specs.Table.{near_of}
 use Rattle.session_flows.specs.Owing.{owed_count}
 use Rattle.endpoint_model.specs.declared.row.Row.{Row}
