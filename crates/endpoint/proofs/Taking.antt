@@ -1,8 +1,7 @@
 -- A datagram is taken or refused as its admission says.
-use Rattle.std.proofs.Common.{ℕ, ◌≡◌, ◌≤◌, ◌<◌, List, length, drop, take, nat_lt, Bool, true, false, if◌then◌else◌, Option, None, Some, Result, Ok, Err, OnOk, IfErr, IsOk, refl, sym, ap, ◌∙◌, subst, arith}
+use Rattle.std.proofs.Common.{ℕ, ◌≡◌, ◌<◌, List, drop, take, Bool, true, false, if◌then◌else◌, Option, None, Some, Result, Ok, Err, OnOk, IfErr, IsOk, refl, sym, ap, ◌∙◌, subst, arith}
 use Rattle.std.specs.Int.{w64, from_be_bytes}
 use Rattle.std.proofs.lemmas.List.{drop-take}
-use Rattle.std.proofs.lemmas.Bool.Decides.{nat_tests}
 use Rattle.std.specs.FinMap.{get}
 use Rattle.crypto_profile.specs.Window.{window_after}
 use Rattle.crypto_profile.specs.Sealing.{number_of}
@@ -129,9 +128,6 @@ counted_alike s (Session near) a b e = counted_alike_by s near a b (get s.sessio
 long_by : (b : Bool) (x : Result (Place × List ℕ) Cause) (place : Place) (plain : List ℕ) → (if b then Err ShortCause else x) ≡ Ok (place, plain) → b ≡ false
 long_by true x place plain e = cc
 long_by false x place plain e = refl
-
-pub opened_long : (s : State) (d plain : List ℕ) (place : Place) → opened_datagram s d ≡ Ok (place, plain) → 36 ≤ length d
-opened_long s d plain place e = grind (arith, nat_tests, long_by (nat_lt (length d) 36) _ place plain e)
 
 datagram_taken : (s : State) (from : AddressParts) (draws : Draws) (old new : List ℕ) (place : Place) (r : Result (Unit {0}) Stopped) (t : State) (before after : Added) →
     opened_datagram s old ≡ Ok (place, drop 36 new) → take 36 new ≡ take 36 old →

@@ -266,11 +266,6 @@ module _ (e : End) (facts : List Fact) where
       Does e (facts_onto d.entries facts) d.state (next d.state) → Does e facts s (then_do d next)
   does_then s d next first later = does_after s d.state d.entries (next d.state) first later
 
-  pub does_if : (s : State) (b : Bool) (d f : Did) → Does e facts s d → Does e facts s f →
-      Does e facts s (if b then d else f)
-  does_if s true d f p q = p
-  does_if s false d f p q = q
-
   pub does_nothing : (s : State) → Does e facts s (nothing s)
   does_nothing s h stands new = record {
     after = h;

@@ -168,9 +168,6 @@ heard_then past s d next f g =
       moment = g.moment ∙ f.moment;
     }
 
-pub keeps_then : (s : State) (d : Did) (next : State → Did) → KeepsHeard s d → ((t : State) → KeepsHeard t (next t)) → KeepsHeard s (then_do d next)
-keeps_then s d next first later = λ past h. let f = first past h in heard_then past s d next f (later d.state (onto s.moment d.entries past) f.well)
-
 -- ---- things after which each session was there before
 
 -- It descends from a session that was there.
@@ -209,10 +206,6 @@ follows_then s d next f g = record {
       record { old = one.old; there = one.there; descends = descends_then one.old.session two.old.session row.session one.descends two.descends };
   moment = g.moment ∙ f.moment;
 }
-
-pub follows_if : (s : State) (b : Bool) (d e : Did) → Follows s d → Follows s e → Follows s (if b then d else e)
-follows_if s true d e f g = f
-follows_if s false d e f g = g
 
 pub heard_follows : (s : State) (d : Did) → Follows s d → KeepsHeard s d
 heard_follows s d f = λ past h. record {

@@ -1,18 +1,16 @@
 -- One thing after another.
-use Rattle.std.proofs.Common.{ℕ, ◌≡◌, ◌≤◌, ◌+◌, ◌==◌, List, [], ◌∷◌, ◌++◌, Bool, true, false, length, if◌then◌else◌, sym, ap, refl, ◌∙◌, subst, arith, append_assoc, length-append, zero, suc, take, drop, add-one}
+use Rattle.std.proofs.Common.{ℕ, ◌≡◌, ◌+◌, List, [], ◌∷◌, ◌++◌, length, sym, ap, refl, ◌∙◌, subst, arith, append_assoc, length-append, zero, suc, take, drop, add-one}
 use Rattle.std.proofs.lemmas.List.{append-nil, take-append-drop}
 use Rattle.rtmfp_forms.specs.Address.{AddressParts}
 use Rattle.endpoint_model.specs.declared.entry.Entry.{Entry}
-use Rattle.endpoint_model.specs.declared.entry.Entry.TheVariants.{Out}
-use Rattle.crypto_profile.specs.declared.keys.Context.TheVariants.{Startup}
 use Rattle.rtmfp_packet.specs.Walk.{Placed}
 use Rattle.endpoint_model.specs.declared.config.Draws.{Draws}
 use Rattle.endpoint_model.specs.declared.place.Place.{Place}
 use Rattle.endpoint_model.specs.declared.walk.Walk.{Walk}
 use Rattle.endpoint_model.specs.Added.{Added}
 use Rattle.endpoint_model.specs.Effects.{chunk_did, chunks_did, outset, walked}
-use Rattle.endpoint_model.specs.State.{State, Did, Done, nothing, after_entries, then_do, with_sealed}
-use Rattle.endpoint_model.specs.Sending.{last_count, sent_each, sent_startup, startup_datagram}
+use Rattle.endpoint_model.specs.State.{State, Did, Done, nothing, after_entries, then_do}
+use Rattle.endpoint_model.specs.Sending.{sent_each, sent_startup}
 
 -- ---- what is done
 
@@ -60,14 +58,6 @@ each_more s plain [] to = then_nothing (sent_startup s to 0 plain)
 each_more s plain (first ∷ rest) to =
     let d : Did = sent_startup s first 0 plain in
     ap (after_entries d.entries) (each_more d.state plain rest to) ∙ sym (then_then d (λ t. sent_each t plain rest) (λ t. sent_startup t to 0 plain))
-
-one_at_most : (b : Bool) (s : State) (entry : Entry) → length (if b then nothing s else record { state = with_sealed s (s.sealed + 1); entries = entry ∷ [] }).entries ≤ 1
-one_at_most true s entry = omega arith
-one_at_most false s entry = omega arith
-
--- a startup packet is one entry, or none
-pub startup_entry : (s : State) (to : AddressParts) (sid : ℕ) (plain : List ℕ) → length (sent_startup s to sid plain).entries ≤ 1
-startup_entry s to sid plain = one_at_most (s.sealed == last_count) s (Out to (startup_datagram s sid plain) Startup)
 
 -- ---- the chunks of a datagram, one more
 

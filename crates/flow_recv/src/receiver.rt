@@ -102,7 +102,7 @@ impl FlowReceiver {
         ensures refused { MatchOption (refusal self.old (chunk_of chunk.now))
             (IfErr result (λ e. e ≡ FlowRefusal.Memory)) (λ e. result ≡ Err e) }
         ensures err { OnErr result (self.new ≡ self.old) }
-        // A chunk whose number isn't missing takes no memory.
+        // A chunk whose number isn't missing is never refused for want of memory.
         ensures again { lacks self.old.spans chunk.now.seq ≡ false →
             result ≢ Err FlowRefusal.Memory }
         // At most 3,145,728 bytes are held, and at most 65,536 numbers above the lowest missing one

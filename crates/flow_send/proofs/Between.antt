@@ -1,7 +1,7 @@
 -- Rows from one index to before another, changed one after another.
 use Rattle.std.proofs.Common.{◌≡◌, ℕ, zero, suc, ◌+◌, ◌<◌, ◌≤◌, max, cond, Bool, true, false, ◌||◌, Option, Some, List, [], ◌∷◌, length, set, drop, refl, ap, sym, ◌∙◌, arith}
 use Rattle.flow_send.specs.declared.state.State.{State}
-use Rattle.flow_send.specs.Rows.{Row, first_index, front_settled, settled_front, is_settled, row_at, between, any_between, most_between}
+use Rattle.flow_send.specs.Rows.{Row, front_settled, settled_front, is_settled, row_at, between, any_between, most_between}
 
 pub between_length : (f : Row → Row) (lo hi : ℕ) (rows : List Row) → length (between f lo hi rows) ≡ length rows
 between_length f lo hi [] = refl
@@ -90,11 +90,6 @@ most_step f lo at rows le lt = let n : at + 1 ≡ suc at = omega arith in ap (λ
 found_if : (n : ℕ) (o : Option ℕ) (b : Bool) → b ≡ true → cond b (Some n) o ≡ Some n
 found_if n o true e = refl
 found_if n o false e = absurd cc
-
-pub index_found : (test : State → Bool) (n at : ℕ) (rows : List Row) → at < length rows → test (row_at rows at).state ≡ true → first_index test n (drop at rows) ≡ Some n
-index_found test n at [] lt e = absurd (omega arith)
-index_found test n zero (r ∷ rows) lt e = found_if n (first_index test (n + 1) rows) (test r.state) e
-index_found test n (suc at) (r ∷ rows) lt e = index_found test n at rows (omega arith) e
 
 -- one more row is taken from the front
 front_if : (b : Bool) (n : ℕ) → b ≡ true → cond b (n + 1) 0 ≡ n + 1

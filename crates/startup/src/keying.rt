@@ -47,11 +47,17 @@ impl Startup {
         if let Some(cause) = wide(tag) {
             return Some(cause);
         }
-        if is_selected(Epd::read(epd), &self.print) {
-            None
-        } else {
-            Some(Cause::NotSelected)
+        match Epd::read(epd) {
+            Some(selected) if self.is_selected_by(&selected) => None,
+            _ => Some(Cause::NotSelected),
         }
+    }
+
+    /// Whether a discriminator that was read selects the own certificate.
+    pub fn is_selected_by(&self, selected: &Epd) -> bool
+        ensures { result ≡ selects (Some selected.now) (sha256 self.now.cert) }
+    {
+        selected.print == self.print
     }
 
     /// Answers an initiator's hello, which came from an address or has it as its reply address, by
@@ -234,15 +240,5 @@ impl Startup {
             Ok(peer) => Ok(self.apply_responder_keying(near, &peer, &fields)),
             Err(cause) => Err(cause),
         }
-    }
-}
-
-/// Whether a discriminator is one of an end by its fingerprint, and of the end with this one.
-fn is_selected(epd: Option<Epd>, print: &[u8; 32]) -> bool
-    ensures { result ≡ selects epd print.now }
-{
-    match epd {
-        Some(epd) => epd.print == *print,
-        None => false,
     }
 }

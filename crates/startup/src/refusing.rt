@@ -6,7 +6,6 @@ ghost use Rattle.startup.specs.Attempts.{cookie_change_cause};
 ghost use Rattle.startup.specs.Redirects.{redirect_cause};
 
 use crate::cause::Cause;
-use crate::choosing::{answered_near, changed_near};
 use crate::reading::fault_cause;
 use crate::startup::Startup;
 use identity::Certificate;
@@ -62,7 +61,7 @@ impl Startup {
         ensures { result ≡ rhello_refusal_with self.now payload.now tag.now cookie.now cert.now }
     {
         match Certificate::read(cert) {
-            Ok(cert) => match answered_near(&self.attempts, tag, cookie, &cert.print()) {
+            Ok(_) => match self.judge_responder_hello(tag, cookie, cert) {
                 Ok(_) => None,
                 Err(cause) => Some(cause),
             },
@@ -108,7 +107,7 @@ impl Startup {
     fn change_refusal(&self, sid: u32, old: &[u8], new: &[u8]) -> Option<Cause>
         ensures { result ≡ cookie_change_cause self.now sid old.now new.now }
     {
-        match changed_near(&self.attempts, sid, old, new) {
+        match self.judge_cookie_change(sid, old, new) {
             Ok(_) => None,
             Err(cause) => Some(cause),
         }
