@@ -255,13 +255,8 @@ once_stopped s from draws a stop acks = by stop.taken
 
 abbrev pub MayDraw : Call → List Entry → Type 0
 MayDraw (Open peer candidates draws) entries = Once draws.nonce entries
-MayDraw (Cancel n) entries = drawn entries ≡ []
-MayDraw (Close near) entries = drawn entries ≡ []
-MayDraw (AddRow print addresses) entries = drawn entries ≡ []
-MayDraw Introduce entries = drawn entries ≡ []
-MayDraw (OnFlows near call) entries = drawn entries ≡ []
 MayDraw (Receive from datagram draws) entries = Once draws.nonce entries
-MayDraw (Tick draws) entries = drawn entries ≡ []
+MayDraw call entries = drawn entries ≡ []
 
 none_of : (d : Did) (t : State) (entries : List Entry) → Does d t [] entries → drawn d.entries ≡ [] → drawn entries ≡ []
 none_of d t entries does none = ap drawn does.entries ∙ none
