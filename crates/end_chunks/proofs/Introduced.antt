@@ -18,7 +18,7 @@ use Rattle.endpoint_laws.proofs.Replies.{discriminator_length}
 
 -- ---- a hello that is forwarded fits
 
-narrow_tag : (tag : List ℕ) → wide tag ≡ None → length tag ≤ 128
+pub narrow_tag : (tag : List ℕ) → wide tag ≡ None → length tag ≤ 128
 narrow_tag tag narrow = by (nat_lt 128 (length tag)) refl narrow
   where
     by : (b : Bool) → nat_lt 128 (length tag) ≡ b → where_true b (Wide (length tag)) ≡ None → length tag ≤ 128

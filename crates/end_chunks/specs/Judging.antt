@@ -5,11 +5,13 @@ use Rattle.std.specs.FinMap.{get}
 use Rattle.rtmfp_forms.specs.Address.{AddressParts}
 use Rattle.rtmfp_chunks.specs.Chunk.{chunk_of, Chunk}
 use Rattle.rtmfp_chunks.specs.Chunk.{Close as CloseChunk, CloseAck as CloseAckChunk}
-use Rattle.rtmfp_chunks.specs.Chunk.{PingReply as PingReplyChunk}
+use Rattle.rtmfp_chunks.specs.Chunk.{FIHello, PingReply as PingReplyChunk}
 use Rattle.rtmfp_chunks.specs.FieldReading.{chunk_reading}
 use Rattle.rtmfp_chunks.specs.declared.kinds.TheConstants.{FRAGMENT, CLOSE, CLOSE_ACK}
 use Rattle.rtmfp_packet.specs.Walk.{Placed}
+use Rattle.identity.specs.declared.discriminator.Epd.{Epd}
 use Rattle.identity.specs.Discriminators.{discriminator_of}
+use Rattle.cookies.specs.Cookie.{observed}
 use Rattle.rtmfp_chunks.specs.Writing.{IsWritable, chunk_bytes}
 use Rattle.glare_core.specs.Calls.{where_true, first_that_stands}
 use Rattle.startup.specs.declared.cause.Cause.{Cause}
@@ -24,7 +26,7 @@ use Rattle.startup.specs.Judging.{judged_initiator, IsFound, found_in, Extends}
 use Rattle.startup.specs.Judging.{after_extension_of, extension_spread}
 use Rattle.endpoint_model.specs.declared.config.Draws.{Draws}
 use Rattle.endpoint_model.specs.declared.place.Place.{Place}
-use Rattle.endpoint_model.specs.State.{State, Did, nothing, with_startup, full}
+use Rattle.endpoint_model.specs.State.{State, Did, nothing, then_do, with_startup, full}
 use Rattle.endpoint_model.specs.Sending.{sent_answer, sent_if, sent_in_session}
 use Rattle.endpoint_model.specs.Admission.{sid_at}
 use Rattle.session_core.specs.declared.stage.Stage.{Stage}
@@ -33,8 +35,9 @@ use Rattle.endpoint_model.specs.InSessions.{answers_by, close_taken_by, closed, 
 use Rattle.endpoint_model.specs.InSessions.{told_in_session}
 use Rattle.endpoint_model.specs.Causes.{has_state_for, read_cause, takes}
 use Rattle.endpoint_model.specs.Effects.{initiator_keyed, responder_keyed, read_done}
-use Rattle.endpoint_model.specs.Effects.{adds_nothing, introduction, is_told_in_session}
-use Rattle.endpoint_model.specs.Effects.{replied, sent_spread_if}
+use Rattle.endpoint_model.specs.Effects.{adds_nothing, forwarded, is_told_in_session}
+use Rattle.endpoint_model.specs.Effects.{sent_spread_if}
+use Rattle.endpoint_model.specs.Introducing.{redirect_of}
 use Rattle.end_chunks.specs.declared.judging.Verdict.{Verdict}
 use Rattle.end_chunks.specs.declared.judging.Verdict.TheVariants.{Hello, ResponderHello}
 use Rattle.end_chunks.specs.declared.judging.Verdict.TheVariants.{CookieChange}
@@ -91,8 +94,9 @@ verdict_did s place from draws (ResponderHello found cookie) =
     sent_if (with_startup s
     (after_answer s.startup (found_in s.startup found) from cookie.now s.moment))
     (answer_keying s.startup (found_in s.startup found) from cookie.now)
-verdict_did s place from draws (Introduction epd tag selected) =
-    replied s place from (introduction s (Some selected) epd.now tag.now from)
+verdict_did s place from draws (Introduction epd tag near row) =
+    then_do (forwarded s near (chunk_bytes (FIHello epd.now (observed from) tag.now)))
+    (λ t. sent_if t (redirect_of tag.now from row))
 verdict_did s place from draws (Redirect extension) =
     sent_spread_if (with_startup s
     (after_extension_of s.startup (found_in s.startup extension.found) extension.new s.moment))
@@ -119,8 +123,8 @@ IsSo s place from (Hello tag to) = wide tag.now ≡ None
 IsSo s place from (ResponderHello found cookie) =
     ((chosen : Option (ℕ × AttemptState)) × IsFound s.startup found chosen)
     × (length cookie.now ≤ 128)
-IsSo s place from (Introduction epd tag selected) = (wide tag.now ≡ None)
-    × (discriminator_of epd.now ≡ Some selected)
+IsSo s place from (Introduction epd tag near row) = (wide tag.now ≡ None)
+    × ((selected : Epd) × (discriminator_of epd.now ≡ Some selected))
 IsSo s place from (Redirect extension) = Extends s.startup extension
 IsSo s place from (CookieChange found new) =
     ((sid : ℕ) × ((old : List ℕ) × IsFound s.startup found (changed s.startup.attempts sid old)))

@@ -19,7 +19,7 @@ ghost use Rattle.end_chunks.specs.Judging.{IsSo, verdict_did};
 
 use crate::closing::take_close;
 use crate::flows::{Untaken, is_of_flows, take_read};
-use crate::introducing::{introduce_to, take_redirect};
+use crate::introducing::{introduce, take_redirect};
 use crate::judging::{Verdict, judge, sid_at};
 use crate::keyings::{initiator_keyed, responder_keyed};
 use crate::moving::take_ping_reply;
@@ -49,9 +49,12 @@ fn apply(
 {
     match verdict {
         Verdict::Hello { tag, to } => answer_hello(end, tag, to, out),
-        Verdict::Introduction { epd, tag, selected } => {
-            introduce_to(end, selected, epd, tag, from, out)
-        }
+        Verdict::Introduction {
+            epd,
+            tag,
+            near,
+            row,
+        } => introduce(end, *near, row, epd, tag, from, out),
         Verdict::Redirect { extension } => take_redirect(end, extension, out),
         Verdict::ResponderHello { found, cookie } => take_hello(end, *found, cookie, from, out),
         Verdict::CookieChange { found, new } => change_cookie(end, *found, new, out),

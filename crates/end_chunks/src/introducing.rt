@@ -2,6 +2,7 @@
 
 ghost use Rattle.std.specs.Prelude.{◌≡◌, ◌<◌, ◌≤◌, ◌+◌, IfErr, IfOk, None, Ok, OnErr, OnOk};
 ghost use Rattle.std.specs.Prelude.{Some, length};
+ghost use Rattle.identity.specs.declared.discriminator.Epd.{Epd};
 ghost use Rattle.identity.specs.Discriminators.{discriminator_of};
 ghost use Rattle.cookies.specs.Cookie.{observed};
 ghost use Rattle.rtmfp_chunks.specs.Chunk.{FIHello, Redirect};
@@ -11,19 +12,18 @@ ghost use Rattle.startup.specs.Redirects.{adds, redirect_cause};
 ghost use Rattle.startup.specs.Judging.{after_extension_of, extension_spread, Extends, found_in};
 ghost use Rattle.endpoint_model.specs.Effects.{forwarded, hello_reply, read_done, replied};
 ghost use Rattle.endpoint_model.specs.Effects.{sent_spread_if};
-ghost use Rattle.endpoint_model.specs.Introducing.{forwarded_to, hello_cause};
-ghost use Rattle.endpoint_model.specs.Introducing.{redirect_of, redirected_to};
+ghost use Rattle.endpoint_model.specs.Introducing.{hello_cause, redirect_of};
 ghost use Rattle.endpoint_model.specs.Sending.{sent_if};
 ghost use Rattle.endpoint_model.specs.State.{Done, nothing, then_do, with_startup};
 ghost use Rattle.end_chunks.specs.Judging.{Stands};
 
 use crate::judging::Verdict;
-use end_state::{EndState, Outbox, blank, blanks};
+use end_state::{EndState, Outbox, RowAddresses, blank, blanks};
 use endpoint_model::Place;
 use identity::Epd;
 use rtmfp_chunks::ChunkView;
 use rtmfp_forms::Address;
-use startup::{Cause, Extension, wide};
+use startup::{Cause, Extension, redirect_answer, wide};
 use std::alloc::AllocError;
 
 /// The origin of an address that an end observed.
@@ -60,17 +60,23 @@ pub(crate) fn judge_hello<'a>(
     if let Some(cause) = wide(tag) {
         return Err(cause);
     }
-    if end.startup.initiator_hello_cause(epd, tag).is_none() {
-        return Ok(Verdict::Hello { tag, to: *from });
-    }
     let Some(selected) = Epd::read(epd) else {
         return Err(Cause::NotSelected);
     };
-    if end.introduces_to(&selected) {
-        Ok(Verdict::Introduction { epd, tag, selected })
-    } else {
-        Err(Cause::NotSelected)
+    if end.startup.is_selected_by(&selected) {
+        return Ok(Verdict::Hello { tag, to: *from });
     }
+    let near = end.forwarded_to(&selected.print);
+    let row = end.redirected_to(&selected);
+    if near.is_none() && row.is_none() {
+        return Err(Cause::NotSelected);
+    }
+    Ok(Verdict::Introduction {
+        epd,
+        tag,
+        near,
+        row,
+    })
 }
 
 /// What a redirect does, which came from an address, or why it is discarded.
@@ -102,11 +108,11 @@ pub(crate) fn judge_redirect<'a>(
     }
 }
 
-/// Forwards a hello for this end, with the address that it came from, where it is forwarded.
+/// Forwards a hello, with the address that it came from, where there is a session to forward it in.
 fn forward(
     end: &mut EndState,
     blank: Vec<u8>,
-    selected: &Epd,
+    near: Option<u32>,
     epd: &[u8],
     tag: &[u8],
     from: &Address,
@@ -115,12 +121,12 @@ fn forward(
     requires blank { length blank.items ≡ 1200 }
     requires room { 0 < out.old.free }
     requires tag { wide tag.now ≡ None }
-    requires selected { discriminator_of epd.now ≡ Some selected.now }
-    ensures done { Done (forwarded end.old (forwarded_to end.old selected.now.print)
+    requires selected { (selected : Epd) × (discriminator_of epd.now ≡ Some selected) }
+    ensures done { Done (forwarded end.old near
         (chunk_bytes (FIHello epd.now (observed from.now) tag.now))) end.new out.old out.new }
     ensures room { out.old.free ≤ out.new.free + 1 }
 {
-    let Some(near) = end.forwarded_to(&selected.print) else {
+    let Some(near) = near else {
         return;
     };
     let chunk = ChunkView::FIHello {
@@ -131,31 +137,30 @@ fn forward(
     end.send_home(blank, near, &chunk, out);
 }
 
-/// Does what a hello with this tag asks that came from an address and selects another end: it
-/// is forwarded to that end, and then answered with the addresses of its row.
-pub(crate) fn introduce_to(
+/// Does what a hello asks that came from an address and selects another end: it is forwarded in
+/// this session of that end, and then answered with the addresses of its row.
+pub(crate) fn introduce(
     end: &mut EndState,
-    selected: &Epd,
+    near: Option<u32>,
+    row: &Option<RowAddresses>,
     epd: &[u8],
     tag: &[u8],
     from: &Address,
     out: &mut Outbox,
 ) -> Result<(), AllocError>
     requires tag { wide tag.now ≡ None }
-    requires selected { discriminator_of epd.now ≡ Some selected.now }
-    ensures ok { OnOk result (Done (then_do (forwarded end.old
-        (forwarded_to end.old selected.now.print)
+    requires selected { (selected : Epd) × (discriminator_of epd.now ≡ Some selected) }
+    ensures ok { OnOk result (Done (then_do (forwarded end.old near
         (chunk_bytes (FIHello epd.now (observed from.now) tag.now)))
-        (λ t. sent_if t (redirect_of tag.now from.now
-        (redirected_to end.old selected.now.print)))) end.new out.old out.new) }
+        (λ t. sent_if t (redirect_of tag.now from.now row.now))) end.new out.old out.new) }
     ensures err { OnErr result (Done (nothing end.old) end.new out.old out.new) }
 {
     out.make_room(2)?;
     let first = blank(end.alloc)?;
     let second = blank(end.alloc)?;
-    let redirect = end.redirect_to(selected, tag, from);
-    forward(end, first, selected, epd, tag, from, out);
-    if let Some(answer) = redirect {
+    forward(end, first, near, epd, tag, from, out);
+    if let Some(row) = row {
+        let answer = redirect_answer(tag, row.addresses(), from);
         end.send_answer(second, &answer, out);
     }
     Ok(())

@@ -23,9 +23,9 @@ ghost use Rattle.end_chunks.specs.Judging.{stage_takes, Stands, view_done};
 use crate::flows::is_of_flows;
 use crate::introducing::{judge_hello, judge_redirect};
 use crate::moving::is_answered;
-use end_state::EndState;
+use end_state::{EndState, RowAddresses};
 use endpoint_model::{Place, Walk};
-use identity::{Certificate, Epd};
+use identity::Certificate;
 use rtmfp_chunks::kinds::*;
 use rtmfp_chunks::{ChunkFault, ChunkView, read_chunk};
 use rtmfp_forms::Address;
@@ -48,11 +48,12 @@ pub(crate) enum Verdict<'a> {
         to: Address,
     },
     /// The hello of an initiator with this discriminator and tag, which selects another end that is
-    /// introduced.
+    /// introduced: the session that it is forwarded in, and the addresses that answer it.
     Introduction {
         epd: &'a [u8],
         tag: &'a [u8],
-        selected: Epd,
+        near: Option<u32>,
+        row: Option<RowAddresses>,
     },
     /// A redirect, as what it adds to its attempt.
     Redirect {

@@ -1,14 +1,58 @@
-//! Whom an end introduces: in which session a hello is forwarded, and which redirect answers it.
+//! Whom an end introduces: in which session a hello is forwarded, and which addresses answer it.
 
 ghost use Rattle.std.specs.Prelude.{◌≡◌, ◌≤◌, Some, length};
-ghost use Rattle.endpoint_model.specs.Introducing.{forwarded_to, introduces_to};
-ghost use Rattle.endpoint_model.specs.Introducing.{redirect_of, redirected_to};
+ghost use Rattle.endpoint_model.specs.Introducing.{forwarded_to, redirected_to};
 
 use crate::end_state::EndState;
 use glare_core::Held;
 use identity::Epd;
 use rtmfp_forms::Address;
-use startup::{Answer, redirect_answer};
+use std::marker::Model;
+
+/// The most addresses of a row.
+const MOST: usize = 16;
+
+/// The addresses of a row, with which a hello is answered: the first `count` of these.
+///
+/// Contracts see them as their list.
+#[derive(Drop)]
+pub struct RowAddresses {
+    to: [Address; MOST],
+    count: usize,
+}
+
+impl Model for RowAddresses {
+    ghost use Rattle.std.specs.Prelude.{◌≤◌, List, take};
+    ghost use Rattle.rtmfp_forms.specs.Address.{AddressParts};
+
+    ghost Value = { List AddressParts };
+
+    ghost view = { λ row. take row.count row.to };
+
+    ghost invariant = { λ row. row.count ≤ 16 };
+}
+
+impl RowAddresses {
+    fn copy_of(addresses: &[Address]) -> RowAddresses
+        requires { length addresses.now ≤ 16 }
+        ensures { result ≡ addresses.now }
+    {
+        let mut to = [Address::v4([0; 4], 0); MOST];
+        to[..addresses.len()].copy_from_slice(addresses);
+        RowAddresses {
+            to,
+            count: addresses.len(),
+        }
+    }
+
+    /// The addresses, in order.
+    pub fn addresses(&self) -> &[Address]
+        ensures addresses { result.now ≡ self.now }
+        ensures few { length result.now ≤ 16 }
+    {
+        &self.to[..self.count]
+    }
+}
 
 impl EndState {
     /// The session that a hello for the end of this fingerprint is forwarded in.
@@ -27,22 +71,14 @@ impl EndState {
         }
     }
 
-    /// The redirect that answers a hello with this tag for this end, to where it came from.
-    pub fn redirect_to(&self, selected: &Epd, tag: &[u8], to: &Address) -> Option<Answer>
-        requires { length tag.now ≤ 128 }
-        ensures { result ≡ redirect_of tag.now to.now (redirected_to self.now selected.now.print) }
+    /// The addresses that a hello for this end is answered with, whether or not it is forwarded. It
+    /// takes no memory.
+    pub fn redirected_to(&self, selected: &Epd) -> Option<RowAddresses>
+        ensures { result ≡ redirected_to self.now selected.now.print }
     {
         match self.settings.directory.redirect(selected) {
-            Some(addresses) => Some(redirect_answer(tag, addresses, to)),
+            Some(addresses) => Some(RowAddresses::copy_of(addresses)),
             None => None,
         }
-    }
-
-    /// Whether a hello for this end is forwarded, or answered with a redirect.
-    pub fn introduces_to(&self, selected: &Epd) -> bool
-        ensures { result ≡ introduces_to self.now (Some selected.now) }
-    {
-        self.forwarded_to(&selected.print).is_some()
-            || self.settings.directory.redirect(selected).is_some()
     }
 }

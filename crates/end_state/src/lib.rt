@@ -17,6 +17,7 @@ mod taking;
 
 pub use contexts::{PLAIN_AT, word_of};
 pub use end_state::EndState;
+pub use introducing::RowAddresses;
 pub use outbox::{Outbox, add_fact};
 pub use sealing::blank;
 pub use sending::blanks;

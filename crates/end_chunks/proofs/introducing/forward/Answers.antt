@@ -2,4 +2,4 @@ use Rattle.end_chunks.proofs.Introduced.{forwarded_length}
 use Rattle.end_chunks.proofs.introducing.forward.Goals as goal
 
 pub send_home-requires-clause-short : goal.send_home-requires-clause-short
-send_home-requires-clause-short c = forwarded_length c.args.epd.now c.args.tag.now c.observed.result c.args.selected.now c.requires.tag c.requires.selected
+send_home-requires-clause-short c = forwarded_length c.args.epd.now c.args.tag.now c.observed.result c.requires.selected.0 c.requires.tag c.requires.selected.1
