@@ -1,26 +1,44 @@
 //! Moves messages from a sender to a receiver in memory, as `scripts/bench-flows` tells it, which
-//! takes the time. A line is a word and five numbers: `move SIZE COUNT WAITING LOST WINDOW` moves
-//! so many messages of a size, of which so many wait at once, within a window of so many bytes, and
-//! every LOST-th chunk is lost (0: none). Each turn the sender hears the acks of the turn before
-//! and sends what the window allows, and the receiver acks every second chunk. `holes COUNT` has a
-//! receiver take the odd numbers of so many, and then the even ones. `halves COUNT` has one in
-//! arrival order take the beginnings of messages of two fragments, so many fragments in all, and
-//! then their ends, each of which makes a message ready. `passed COUNT` has one take the same
-//! beginnings, and then forward numbers that pass them, one after another. `descending COUNT` has
-//! one take the fragments of one message, so many of 32 bytes, the last one first, and `joined
-//! COUNT` in pairs from the last one on, each pair the lower one first, so that the upper one joins
-//! two runs. `late COUNT` has a sender send so many messages of a byte, lose them all by time at
-//! once, and send them again. `wide COUNT` has one hear acks of 250 stretches each, which newly
-//! tell a number each. `abandons COUNT` has one abandon its messages from the middle on, and in
-//! `deadlines COUNT` they become overdue one after another, the last one first. `limits COUNT` has a
-//! sender lose so many messages by time twice, every second of which may be sent again once, and
-//! ask before each sending which message is overdue. `unsent COUNT` has a sender with one number in
-//! flight abandon the messages behind it, which were never sent, and look after each for the next
-//! chunk, and `early COUNT` has one lose the highest of so many numbers in flight, and then lose
-//! the lower ones in turn and send them again, and look as often. `full COUNT` has a receiver with a
-//! full buffer refuse as many chunks as there are beginnings of messages that each of them would
-//! pass. The answer is the word, how many chunks there were, and how many messages were handed
-//! over, sent again, told, abandoned, found or refused.
+//! takes the time. A line is a word and five numbers, and the answer to it is the word, how many
+//! chunks there were, and how many messages were handed over, sent again, told, abandoned, found or
+//! refused.
+//!
+//! - `move SIZE COUNT WAITING LOST WINDOW` moves so many messages of a size, of which so many wait
+//!   at once, within a window of so many bytes, and every LOST-th chunk is lost (0: none). Each turn
+//!   the sender hears the acks of the turn before and sends what the window allows, and the receiver
+//!   acks every second chunk.
+//!
+//! A receiver takes so many chunks (`COUNT` is the second word of the line):
+//!
+//! - `holes`: the odd numbers, and then the even ones.
+//! - `halves`: in arrival order the beginnings of messages of two fragments, and then their ends,
+//!   each of which makes a message ready.
+//! - `passed`: the same beginnings, and then forward numbers that pass them, one after another.
+//! - `descending`: the fragments of one message, of 32 bytes, the last one first.
+//! - `joined`: those in pairs from the last one on, each pair the lower one first, so that the upper
+//!   one joins two runs.
+//! - `full`: with a full buffer, chunks that it refuses, each of which would pass as many beginnings
+//!   of messages. These are at most 31,000: each second number is one, and no number is taken that is
+//!   65,536 above the lowest missing one.
+//!
+//! A sender has so many messages of a byte:
+//!
+//! - `late`: all are lost by time at once, and sent again.
+//! - `renewed`: the same, after as many that were sent and abandoned one after another.
+//! - `beyond`: the same, behind as many that were told, while number 1 stays missing.
+//! - `wide`: they are told in acks of 250 stretches, of which each newly tells a number.
+//! - `abandons`: they are in flight, and are abandoned from the middle on.
+//! - `deadlines`: they become overdue one after another, the last one first.
+//! - `limits`: all are lost by time twice, every second of which may be sent again once, and before
+//!   each sending it is asked which is overdue.
+//! - `unsent`: behind one in flight they are abandoned unsent, and after each the next chunk is
+//!   looked for.
+//! - `early`: the highest in flight is lost; then the lower ones are, one after another, and are sent
+//!   again, with such a look after each.
+//! - `stale`: all are lost by time, each 64th is abandoned, which may not be sent again, and it is
+//!   asked as often whether one is overdue.
+//! - `cut`: so many acks of 250 single numbers of a message of 1,049 fragments are heard, whose first
+//!   half was told.
 #![tactic(auto)]
 
 ghost use Rattle.std.specs.Prelude.{◌≡◌, ◌+◌, ◌<◌, ◌≤◌, false, true};
@@ -142,6 +160,18 @@ fn moved_by(
     }
     if word == "early" {
         return early(rt, size);
+    }
+    if word == "renewed" {
+        return renewed(rt, size);
+    }
+    if word == "beyond" {
+        return beyond(rt, size);
+    }
+    if word == "stale" {
+        return stale(rt, size);
+    }
+    if word == "cut" {
+        return cut(rt, size, bytes);
     }
     let job = Job {
         size: size.min(1_048_576) as usize,
@@ -388,9 +418,7 @@ fn send_all(from: &mut FlowSender, moment: u64) -> u64 {
 /// All numbers are lost by time at once, and sent again.
 fn late(rt: &impl AllocGlobal, count: u64) -> Result<Moved, Memory> {
     let mut from = sender_of(rt, count.min(65_000))?;
-    let first = send_all(&mut from, 0);
-    let _ = from.find_lost(RESEND_AFTER, RESEND_AFTER);
-    let again = send_all(&mut from, RESEND_AFTER);
+    let (first, again) = send_twice(&mut from, 0);
     Ok(Moved {
         queued: 0,
         chunks: first.wrapping_add(again),
@@ -414,10 +442,7 @@ fn wide(rt: &impl AllocGlobal, count: u64) -> Result<Moved, Memory> {
                 Part::Whole,
             );
         }
-        let mut out = Outgoing::new(0);
-        if to.ack_into(FLOW, &mut out).is_ok() {
-            hear_one(&mut from, out.bytes());
-        }
+        hear_all(&mut from, &mut to, 1);
     }
     Ok(Moved {
         queued: 0,
@@ -426,10 +451,11 @@ fn wide(rt: &impl AllocGlobal, count: u64) -> Result<Moved, Memory> {
     })
 }
 
-/// Messages are abandoned from the middle on.
+/// Messages in flight are abandoned from the middle on.
 fn abandons(rt: &impl AllocGlobal, count: u64) -> Result<Moved, Memory> {
     let count = count.min(65_000);
     let mut from = sender_of(rt, count)?;
+    let _ = send_all(&mut from, 0);
     let middle = count / 2;
     for at in 0..middle {
         let _ = from.abandon(middle + 1 + at);
@@ -545,6 +571,133 @@ fn early(rt: &impl AllocGlobal, count: u64) -> Result<Moved, Memory> {
         chunks,
         handed: again,
     })
+}
+
+/// Queues so many messages of a byte.
+fn queue_bytes(from: &mut FlowSender, count: u64) {
+    for _ in 0..count {
+        let _ = from.queue(&[0x55], PLAIN);
+    }
+}
+
+/// Sends all that waits, which is lost by time at once, and sends it again. Tells how many chunks
+/// were sent first, and how many again.
+fn send_twice(from: &mut FlowSender, moment: u64) -> (u64, u64) {
+    let first = send_all(from, moment);
+    let late = moment.saturating_add(RESEND_AFTER);
+    let _ = from.find_lost(late, RESEND_AFTER);
+    (first, send_all(from, late))
+}
+
+/// Messages are sent and abandoned, one after another, so that nothing is in flight after each.
+/// Then as many are lost by time at once, and sent again.
+fn renewed(rt: &impl AllocGlobal, count: u64) -> Result<Moved, Memory> {
+    let count = count.min(65_000);
+    let mut from = FlowSender::new(rt.alloc(), FLOW, &[], None, 0, 1)?;
+    for at in 0..count {
+        queue_bytes(&mut from, 1);
+        let _ = from.next_chunk(false, 1164, 0, u64::MAX, at, RESEND_AFTER);
+        let _ = from.abandon(at + 1);
+    }
+    queue_bytes(&mut from, count);
+    let (first, again) = send_twice(&mut from, count);
+    Ok(Moved {
+        queued: 0,
+        chunks: count.wrapping_add(first).wrapping_add(again),
+        handed: again,
+    })
+}
+
+/// All numbers but the first are told. Then as many behind them are lost by time with it, and sent
+/// again.
+fn beyond(rt: &impl AllocGlobal, count: u64) -> Result<Moved, Memory> {
+    let count = count.min(65_000);
+    let mut from = FlowSender::new(rt.alloc(), FLOW, &[], None, 0, 1)?;
+    let mut to = FlowReceiver::new(rt.alloc(), 0);
+    queue_bytes(&mut from, count);
+    let told = send_all(&mut from, 0);
+    for at in 1..count {
+        take_byte(&mut to, at + 1, Part::Whole);
+    }
+    hear_all(&mut from, &mut to, 1);
+    queue_bytes(&mut from, count);
+    let (first, again) = send_twice(&mut from, 0);
+    Ok(Moved {
+        queued: 0,
+        chunks: told.wrapping_add(first).wrapping_add(again),
+        handed: again,
+    })
+}
+
+/// All numbers are lost by time. Each 64th message may not be sent again, and is abandoned by its
+/// number. After a look for what is late it is asked as often whether a message is overdue.
+fn stale(rt: &impl AllocGlobal, count: u64) -> Result<Moved, Memory> {
+    let count = count.min(65_000);
+    let mut from = FlowSender::new(rt.alloc(), FLOW, &[], None, 0, 1)?;
+    for at in 0..count {
+        let options = MessageOptions {
+            deadline: None,
+            resends: if at % 64 == 0 { Some(0) } else { None },
+        };
+        let _ = from.queue(&[0x55], options);
+    }
+    let _ = send_all(&mut from, 0);
+    let _ = from.find_lost(RESEND_AFTER, RESEND_AFTER);
+    for at in 0..count / 64 + 1 {
+        let _ = from.abandon(64 * at + 1);
+    }
+    let _ = from.find_lost(RESEND_AFTER, RESEND_AFTER);
+    let mut found: u64 = 0;
+    for _ in 0..count {
+        if from.any_overdue(RESEND_AFTER) {
+            found = found.wrapping_add(1);
+        }
+    }
+    Ok(Moved {
+        queued: 0,
+        chunks: count,
+        handed: found,
+    })
+}
+
+/// Number 1 stays missing, and behind it is a message of 1,049 fragments. Its first half is told,
+/// and then again and again 250 single numbers of the rest.
+fn cut(rt: &impl AllocGlobal, count: u64, bytes: &[u8]) -> Result<Moved, Memory> {
+    let count = count.min(65_000);
+    let mut from = FlowSender::new(rt.alloc(), FLOW, &[], None, 0, 1)?;
+    let mut to = FlowReceiver::new(rt.alloc(), 0);
+    queue_bytes(&mut from, 1);
+    let _ = from.queue(bytes, PLAIN);
+    let mut sent: u64 = 0;
+    for seq in 2..522u64 {
+        // The first ack tells how much more the receiver takes.
+        sent = sent.wrapping_add(send_all(&mut from, 0));
+        take_byte(
+            &mut to,
+            seq,
+            if seq == 2 { Part::Begin } else { Part::Middle },
+        );
+        hear_all(&mut from, &mut to, 1);
+    }
+    for at in 0..250u64 {
+        take_byte(&mut to, 523 + 2 * at, Part::Middle);
+    }
+    hear_all(&mut from, &mut to, count);
+    Ok(Moved {
+        queued: 0,
+        chunks: count * 250,
+        handed: sent,
+    })
+}
+
+/// A sender hears the receiver's ack so often.
+fn hear_all(from: &mut FlowSender, to: &mut FlowReceiver, times: u64) {
+    let mut out = Outgoing::new(0);
+    if to.ack_into(FLOW, &mut out).is_ok() {
+        for _ in 0..times {
+            hear_one(from, out.bytes());
+        }
+    }
 }
 
 /// A receiver whose buffer a whole message fills holds so many beginnings of others, and refuses as

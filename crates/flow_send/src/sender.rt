@@ -439,12 +439,13 @@ impl FlowSender {
         }
     }
 
-    /// After a deadline that may be that of a message which went. The moments before which no
-    /// deadline is are found anew, so that a look doesn't stop at them again and again.
+    /// The moments before which no deadline is are found anew where one is past, since it may be that
+    /// of a message which went, and marks are taken away that stand for nothing any more, as those
+    /// of messages that were told since or given up. So looks don't stop at them again and again.
     fn renew(&mut self, moment: u64)
         ensures { self.new ≡ self.old }
     {
-        if !self.waiting.is_past(moment) {
+        if !self.waiting.is_past(moment) && !self.waiting.is_limited() {
             return;
         }
         let _ = self
