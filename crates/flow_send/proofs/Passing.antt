@@ -1,11 +1,11 @@
 -- What is known of acknowledged rows, through each change of the rows.
-use Rattle.std.proofs.Common.{◌≡◌, ℕ, zero, suc, ◌+◌, ◌-◌, ◌<◌, ◌≤◌, nat_le, nat_lt, max, cond, Bool, true, false, ◌&&◌, List, [], ◌∷◌, ◌++◌, length, set, get_or, drop, refl, ap, sym, ◌∙◌, subst, arith, inl, inr}
+use Rattle.std.proofs.Common.{◌≡◌, ℕ, zero, suc, ◌+◌, ◌-◌, ◌<◌, ◌≤◌, nat_le, nat_lt, max, cond, Bool, true, false, not, ◌||◌, ◌&&◌, List, [], ◌∷◌, ◌++◌, length, set, get_or, drop, refl, ap, sym, ◌∙◌, subst, arith, inl, inr}
 use Rattle.std.proofs.lemmas.Bool.{cases_lt}
 use Rattle.flow_send.specs.declared.state.State.{State}
 use Rattle.flow_send.specs.declared.state.State.TheVariants.{Unsent, Flying, Lost, Acknowledged, Abandoned}
 use Rattle.flow_send.specs.declared.totals.Totals.{Totals}
 use Rattle.flow_send.specs.Moved.{moved}
-use Rattle.flow_send.specs.Rows.{Row, row_at, end_row, is_acknowledged, is_flying, is_lost, let_go, totals_of, row_totals, between, most_between}
+use Rattle.flow_send.specs.Rows.{Row, row_at, end_row, is_acknowledged, is_abandoned, is_settled, is_flying, is_lost, let_go, totals_of, row_totals, between, any_between, most_between}
 use Rattle.flow_send.specs.Sender.{give_up_row, lost_if_late}
 use Rattle.flow_send.specs.Acks.{acknowledge_row, new_ordinal, count_ack}
 use Rattle.flow_send.specs.Passed.{AllAcked, ArePassed}
@@ -45,6 +45,20 @@ acked_from from at to rows le lt h =
     let f : from + (at - from) ≡ at = omega arith in
     subst (λ (xs : List Row). AllAcked (to - at) xs) (drop_drop (at - from) from rows ∙ ap (λ i. drop i rows) f)
     (acked_sum (at - from) (to - at) (drop from rows) (subst (λ (i : ℕ). AllAcked i (drop from rows)) e h))
+
+acked_then : (a k : ℕ) (rows : List Row) → AllAcked a rows → AllAcked k (drop a rows) → AllAcked (a + k) rows
+acked_then zero k [] f g = let e : zero + k ≡ k = omega arith in subst (λ (i : ℕ). AllAcked i []) (sym e) g
+acked_then zero k (r ∷ rows) f g = let e : zero + k ≡ k = omega arith in subst (λ (i : ℕ). AllAcked i (r ∷ rows)) (sym e) g
+acked_then (suc a) k [] f g = absurd f
+acked_then (suc a) k (r ∷ rows) f g = let e : suc a + k ≡ suc (a + k) = omega arith in subst (λ (i : ℕ). AllAcked i (r ∷ rows)) (sym e) (f.0, acked_then a k rows f.1 g)
+
+-- up to a later row
+pub acked_join : (from at to : ℕ) (rows : List Row) → from ≤ at → at ≤ to → AllAcked (at - from) (drop from rows) → AllAcked (to - at) (drop at rows) → AllAcked (to - from) (drop from rows)
+acked_join from at to rows le lt f g =
+    let e : to - from ≡ at - from + (to - at) = omega arith in
+    let s : from + (at - from) ≡ at = omega arith in
+    subst (λ (i : ℕ). AllAcked i (drop from rows)) (sym e)
+    (acked_then (at - from) (to - at) (drop from rows) f (subst (λ (xs : List Row). AllAcked (to - at) xs) (sym (drop_drop (at - from) from rows ∙ ap (λ i. drop i rows) s)) g))
 
 acked_more : (k : ℕ) (rows more : List Row) → AllAcked k rows → AllAcked k (rows ++ more)
 acked_more zero rows more h = tt
@@ -146,6 +160,29 @@ same_most (suc lo) zero k (r ∷ rows) le h = absurd (omega arith)
 same_most (suc lo) (suc at) k (r ∷ rows) le h =
     let e : suc at + k ≡ suc (at + k) = omega arith in
     same_most lo at k rows (omega arith) h ∙ ap (λ i. most_between new_ordinal (suc lo) i (r ∷ rows)) (sym e)
+
+-- none of them waits
+abbrev open_row : Row → Bool
+open_row r = not (is_settled r.state)
+
+any_whole : (k hi : ℕ) (rows : List Row) → k ≤ hi → AllAcked k rows → any_between open_row zero hi rows ≡ any_between open_row k hi rows
+any_whole zero hi rows le h = refl
+any_whole (suc k) hi [] le h = absurd h
+any_whole (suc k) zero (r ∷ rows) le h = absurd (omega (arith, le))
+any_whole (suc k) (suc hi) (r ∷ rows) le h = ap (λ b. not (b || is_abandoned r.state) || any_between open_row zero hi rows) h.0 ∙ any_whole k hi rows (omega (arith, le)) h.1
+
+any_sum : (lo k hi : ℕ) (rows : List Row) → lo + k ≤ hi → AllAcked k (drop lo rows) → any_between open_row lo hi rows ≡ any_between open_row (lo + k) hi rows
+any_sum lo k hi [] le h = refl
+any_sum zero k hi (r ∷ rows) le h = let e : zero + k ≡ k = omega arith in any_whole k hi (r ∷ rows) (omega (arith, le)) h ∙ ap (λ i. any_between open_row i hi (r ∷ rows)) (sym e)
+any_sum (suc lo) k zero (r ∷ rows) le h = absurd (omega (arith, le))
+any_sum (suc lo) k (suc hi) (r ∷ rows) le h =
+    let e : suc lo + k ≡ suc (lo + k) = omega arith in
+    any_sum lo k hi rows (omega (arith, le)) h ∙ ap (λ i. any_between open_row i (suc hi) (r ∷ rows)) (sym e)
+
+pub any_behind : (from at to : ℕ) (rows : List Row) → from ≤ at → at ≤ to → AllAcked (at - from) (drop from rows) → any_between (λ r. not (is_settled r.state)) at to rows ≡ any_between (λ r. not (is_settled r.state)) from to rows
+any_behind from at to rows le lt h =
+    let s : from + (at - from) ≡ at = omega arith in
+    sym (any_sum from (at - from) to rows (omega (arith, s, lt)) h ∙ ap (λ i. any_between open_row i to rows) s)
 
 acked_if : (r : Row) (t : Bool) → is_acknowledged r.state ≡ t → is_acknowledged (cond t r (let_go Acknowledged r)).state ≡ true
 acked_if r true e = e

@@ -141,10 +141,11 @@ impl Backlog {
 
     /// Takes away the messages that don't wait any more, of which each has a number that an ack
     /// tells. So only those that have one are looked at.
-    pub fn drop_done(&mut self, rows: &Rows, forward: u64, upto: u64, spans: &AckedSpans<'_>)
-        requires inside { Line 0 (forward + 1 + length rows.now.rows) self.old }
-        requires others { OthersWait upto spans.now (forward + 1) rows.now.rows self.old }
-        ensures { self.new ≡ filter (still_waits (forward + 1) rows.now.rows) self.old }
+    pub fn drop_done(&mut self, rows: &mut Rows, forward: u64, upto: u64, spans: &AckedSpans<'_>)
+        requires inside { Line 0 (forward + 1 + length rows.old.rows) self.old }
+        requires others { OthersWait upto spans.now (forward + 1) rows.old.rows self.old }
+        ensures left { self.new ≡ filter (still_waits (forward + 1) rows.old.rows) self.old }
+        ensures same { rows.new ≡ rows.old }
     {
         self.drop_upto(rows, forward, upto);
         let mut left = spans.iter();
@@ -155,9 +156,10 @@ impl Backlog {
 
     /// Takes away those messages with a number up to one that don't wait any more. As a rule these
     /// are the first ones, and the message after them passes that number or begins behind it.
-    fn drop_upto(&mut self, rows: &Rows, forward: u64, upto: u64)
-        requires { Line 0 (forward + 1 + length rows.now.rows) self.old }
-        ensures { self.new ≡ filter (keeps (forward + 1) rows.now.rows 0 upto) self.old }
+    fn drop_upto(&mut self, rows: &mut Rows, forward: u64, upto: u64)
+        requires { Line 0 (forward + 1 + length rows.old.rows) self.old }
+        ensures left { self.new ≡ filter (keeps (forward + 1) rows.old.rows 0 upto) self.old }
+        ensures same { rows.new ≡ rows.old }
     {
         while let Some(message) = self.messages.front() {
             if message.number > upto {
@@ -175,9 +177,10 @@ impl Backlog {
     }
 
     /// Takes away those messages with a number between two that don't wait any more.
-    fn drop_told(&mut self, rows: &Rows, forward: u64, low: u64, high: u64)
-        requires { Line 0 (forward + 1 + length rows.now.rows) self.old }
-        ensures { self.new ≡ filter (keeps (forward + 1) rows.now.rows low high) self.old }
+    fn drop_told(&mut self, rows: &mut Rows, forward: u64, low: u64, high: u64)
+        requires { Line 0 (forward + 1 + length rows.old.rows) self.old }
+        ensures left { self.new ≡ filter (keeps (forward + 1) rows.old.rows low high) self.old }
+        ensures same { rows.new ≡ rows.old }
     {
         let mut next = self.messages.reaching(low);
         while let Some(number) = next {
@@ -191,10 +194,11 @@ impl Backlog {
 
     /// Takes away the message that begins at a number, where it has a number between two and
     /// doesn't wait any more.
-    fn drop_unless_kept(&mut self, rows: &Rows, forward: u64, low: u64, high: u64, number: u64)
-        requires { Line 0 (forward + 1 + length rows.now.rows) self.old }
-        ensures { self.new ≡ filter (λ y. not (y.number == number)
-            || keeps (forward + 1) rows.now.rows low high y) self.old }
+    fn drop_unless_kept(&mut self, rows: &mut Rows, forward: u64, low: u64, high: u64, number: u64)
+        requires { Line 0 (forward + 1 + length rows.old.rows) self.old }
+        ensures left { self.new ≡ filter (λ y. not (y.number == number)
+            || keeps (forward + 1) rows.old.rows low high y) self.old }
+        ensures same { rows.new ≡ rows.old }
     {
         if self.is_kept(rows, forward, low, high, number) {
             return;
@@ -203,15 +207,19 @@ impl Backlog {
     }
 
     /// Whether the message that begins at a number has none of the numbers between two, or waits.
-    fn is_kept(&self, rows: &Rows, forward: u64, low: u64, high: u64, number: u64) -> bool
-        requires { Line 0 (forward + 1 + length rows.now.rows) self.now }
-        ensures { result ≡ keeps_at (forward + 1) rows.now.rows low high
+    fn is_kept(&self, rows: &mut Rows, forward: u64, low: u64, high: u64, number: u64) -> bool
+        requires { Line 0 (forward + 1 + length rows.old.rows) self.now }
+        ensures kept { result ≡ keeps_at (forward + 1) rows.old.rows low high
             (message_at number self.now) }
+        ensures same { rows.new ≡ rows.old }
     {
-        match self.messages.at(number) {
-            Some(message) => !message.touches(low, high) || message.waits(rows, forward),
-            None => true,
+        let Some(message) = self.messages.at(number) else {
+            return true;
+        };
+        if !message.touches(low, high) {
+            return true;
         }
+        message.waits(rows, forward)
     }
 
     /// Whether a message may have a limit of resends.

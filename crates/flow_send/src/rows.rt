@@ -389,8 +389,45 @@ impl Rows {
         &self.rows[at]
     }
 
-    /// Whether a row from one index to before another isn't settled.
-    pub fn waits(&self, from: usize, to: usize) -> bool
+    /// Whether a row from one index to before another isn't settled. The way over those that are
+    /// known to be acknowledged is kept where one behind them may wait. So looks at the same rows
+    /// are few steps each, however many of them are told one by one.
+    pub fn waits(&mut self, from: usize, to: usize) -> bool
+        requires order { from ≤ to }
+        requires inside { to ≤ length self.old.rows }
+        ensures waits { result ≡ any_between (λ r. not (is_settled r.state)) from to
+            self.old.rows }
+        ensures same { self.new ≡ self.old }
+    {
+        let end = self.known_to(from, to);
+        if end == to {
+            return false;
+        }
+        self.note(from, end);
+        self.waits_from(end, to)
+    }
+
+    /// Where the rows from one index on that are known to be acknowledged end, at another one at
+    /// the latest.
+    fn known_to(&self, from: usize, to: usize) -> usize
+        requires { from ≤ to }
+        ensures order { from ≤ result }
+        ensures inside { result ≤ to }
+        ensures acked { AllAcked (result - from) (drop from self.now.rows) }
+    {
+        let mut at = from;
+        while at < to {
+            let known = self.known(at);
+            if known == 0 {
+                return at;
+            }
+            at = at.saturating_add(known).min(to);
+        }
+        to
+    }
+
+    /// The same, where nothing is known of the first of them. As a rule that one waits.
+    fn waits_from(&self, from: usize, to: usize) -> bool
         requires order { from ≤ to }
         requires inside { to ≤ length self.now.rows }
         ensures { result ≡ any_between (λ r. not (is_settled r.state)) from to self.now.rows }

@@ -499,7 +499,7 @@ impl FlowSender {
             .count_acks(&mut self.rows, self.forward, to, ordinal);
         self.sendings.prune(&self.rows, self.forward);
         self.waiting
-            .drop_done(&self.rows, self.forward, upto, &spans);
+            .drop_done(&mut self.rows, self.forward, upto, &spans);
         self.forward += self.rows.settle();
         self.upto = upto;
         self.told = Some(blocks);

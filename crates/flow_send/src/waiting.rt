@@ -49,9 +49,10 @@ impl Waiting {
     }
 
     /// Whether one of its numbers isn't settled.
-    pub fn waits(&self, rows: &Rows, forward: u64) -> bool
-        requires { self.now.number + self.now.count ≤ forward + 1 + length rows.now.rows }
-        ensures { result ≡ still_waits (forward + 1) rows.now.rows self.now }
+    pub fn waits(&self, rows: &mut Rows, forward: u64) -> bool
+        requires { self.now.number + self.now.count ≤ forward + 1 + length rows.old.rows }
+        ensures waits { result ≡ still_waits (forward + 1) rows.old.rows self.now }
+        ensures same { rows.new ≡ rows.old }
     {
         // Read for the prover alone: so many rows fit a `usize`.
         let _all = rows.len();

@@ -1,6 +1,6 @@
-use Rattle.std.proofs.Common.{◌≡◌, ℕ, ◌+◌, ◌-◌, ◌≤◌, List, length, map, Some, ap, sym, ◌∙◌, subst, arith}
+use Rattle.std.proofs.Common.{◌≡◌, ℕ, ◌+◌, ◌-◌, ◌≤◌, List, length, map, drop, Some, ap, sym, ◌∙◌, subst, arith}
 use Rattle.std.specs.List.{sum_by}
-use Rattle.flow_send.specs.Rows.{Row, stored_of}
+use Rattle.flow_send.specs.Rows.{Row, Roomy, stored_of, settled_front}
 use Rattle.flow_send.specs.Sender.{sender_of, Sender}
 use Rattle.flow_send.specs.Acks.{told, last_ordinal, greatest, acknowledge, new_bytes, rows_acknowledged, rows_told, makes_lost, told_by, count_ack, still_waits}
 use Rattle.flow_send.specs.Messages.{OthersWait}
@@ -97,7 +97,7 @@ overflow_add-self c =
     let e : c.acknowledge-ordinal.new.rows.rows ≡ rows_acknowledged a s = c.acknowledge-ordinal.ensures.rows in
     let to : c.sent_rows-to.result ≡ s.sent - s.forward = c.sent_rows-to.ensures.count ∙ ap (λ (f : Flow). f.sender.sent - f.sender.forward) (sym c.self.view_is) in
     let rows : c.count_acks-lost.new.rows.rows ≡ rows_told a s = counted_rows a s c.acknowledge-ordinal.result c.sent_rows-to.result c.acknowledge-ordinal.new.rows.rows c.count_acks-lost.new.rows.rows k g e c.acknowledge-ordinal.ensures.ordinal to c.count_acks-lost.ensures.rows in
-    omega (arith, c.settle.ensures.count, front_fits c.count_acks-lost.new.rows.rows, ap (λ (xs : List Row). length xs) rows, told_length a s, next_small s k)
+    omega (arith, c.settle.ensures.count, ap (λ (q : Roomy). settled_front q.rows) c.drop_done.ensures.same, front_fits c.count_acks-lost.new.rows.rows, ap (λ (xs : List Row). length xs) rows, told_length a s, next_small s k)
 
 pub invariant_of-self : goal.invariant_of-self
 invariant_of-self c =
@@ -109,13 +109,15 @@ invariant_of-self c =
     let e : c.acknowledge-ordinal.new.rows.rows ≡ rows_acknowledged a s = c.acknowledge-ordinal.ensures.rows in
     let to : c.sent_rows-to.result ≡ s.sent - s.forward = c.sent_rows-to.ensures.count ∙ ap (λ (f : Flow). f.sender.sent - f.sender.forward) (sym c.self.view_is) in
     let rows : c.count_acks-lost.new.rows.rows ≡ rows_told a s = counted_rows a s c.acknowledge-ordinal.result c.sent_rows-to.result c.acknowledge-ordinal.new.rows.rows c.count_acks-lost.new.rows.rows k g e c.acknowledge-ordinal.ensures.ordinal to c.count_acks-lost.ensures.rows in
-    let is = told_eq a s c.count_acks-lost.new.rows.rows c.settle.new.self.rows (i.forward + c.settle.result) c.drop_done.new.self rows (ap (λ j. i.forward + j) c.settle.ensures.count) c.settle.ensures.rows c.drop_done.ensures in (
+    let count : c.settle.result ≡ settled_front c.count_acks-lost.new.rows.rows = c.settle.ensures.count ∙ ap (λ (q : Roomy). settled_front q.rows) c.drop_done.ensures.same in
+    let left : c.settle.new.self.rows ≡ drop (settled_front c.count_acks-lost.new.rows.rows) c.count_acks-lost.new.rows.rows = c.settle.ensures.rows ∙ ap (λ (q : Roomy). drop (settled_front q.rows) q.rows) c.drop_done.ensures.same in
+    let is = told_eq a s c.count_acks-lost.new.rows.rows c.settle.new.self.rows (i.forward + c.settle.result) c.drop_done.new.self rows (ap (λ j. i.forward + j) count) left c.drop_done.ensures.left in (
       subst Steady (sym is) (steady_told s a k g),
       c.self.invariant.1,
-      λ none. let r = c.self.invariant.2 none in omega (arith, r, c.acknowledge-ordinal.ensures.room, c.count_acks-lost.ensures.room, c.settle.ensures.room),
-      settled_on c.prune.new.self i.forward c.settle.result c.count_acks-lost.new.rows.rows c.settle.new.self.rows c.settle.ensures.count c.settle.ensures.rows
+      λ none. let r = c.self.invariant.2 none in omega (arith, r, c.acknowledge-ordinal.ensures.room, c.count_acks-lost.ensures.room, ap (λ (q : Roomy). q.room) c.drop_done.ensures.same, c.settle.ensures.room),
+      settled_on c.prune.new.self i.forward c.settle.result c.count_acks-lost.new.rows.rows c.settle.new.self.rows count left
           (c.prune.ensures (told_on i.sendings a (last_ordinal a (s.forward + 1) s.rows) (i.forward + 1) i.rows.rows c.count_acks-lost.new.rows.rows rows c.self.invariant.3)),
-      told_marks c.mark.new.marks i.waiting c.drop_done.new.self (still_waits (i.forward + 1) c.count_acks-lost.new.rows.rows) i.forward c.settle.result c.count_acks-lost.new.rows.rows c.settle.new.self.rows c.drop_done.ensures c.settle.ensures.count c.settle.ensures.rows
+      told_marks c.mark.new.marks i.waiting c.drop_done.new.self (still_waits (i.forward + 1) c.count_acks-lost.new.rows.rows) i.forward c.settle.result c.count_acks-lost.new.rows.rows c.settle.new.self.rows c.drop_done.ensures.left count left
           (counted_marks i.marks c.mark.new.marks i.waiting c.acknowledge-ordinal.result (i.forward + 1) c.acknowledge-ordinal.new.rows.rows c.count_acks-lost.new.rows.rows
           (rows ∙ (ap (λ o. map (count_ack o) (rows_acknowledged a s)) (sym c.acknowledge-ordinal.ensures.ordinal) ∙ ap (λ (xs : List Row). map (count_ack c.acknowledge-ordinal.result) xs) (sym e)))
           c.mark.ensures.grows c.mark.ensures.covers (acked_marks i.marks i.waiting a (i.forward + 1) i.rows.rows c.acknowledge-ordinal.new.rows.rows e c.self.invariant.4)),
@@ -156,7 +158,9 @@ returns-clause-ok c =
     let e : c.acknowledge-ordinal.new.rows.rows ≡ rows_acknowledged a s = c.acknowledge-ordinal.ensures.rows in
     let to : c.sent_rows-to.result ≡ s.sent - s.forward = c.sent_rows-to.ensures.count ∙ ap (λ (f : Flow). f.sender.sent - f.sender.forward) (sym c.self.view_is) in
     let rows : c.count_acks-lost.new.rows.rows ≡ rows_told a s = counted_rows a s c.acknowledge-ordinal.result c.sent_rows-to.result c.acknowledge-ordinal.new.rows.rows c.count_acks-lost.new.rows.rows k g e c.acknowledge-ordinal.ensures.ordinal to c.count_acks-lost.ensures.rows in
-    let is = told_eq a s c.count_acks-lost.new.rows.rows c.settle.new.self.rows (i.forward + c.settle.result) c.drop_done.new.self rows (ap (λ j. i.forward + j) c.settle.ensures.count) c.settle.ensures.rows c.drop_done.ensures in
+    let count : c.settle.result ≡ settled_front c.count_acks-lost.new.rows.rows = c.settle.ensures.count ∙ ap (λ (q : Roomy). settled_front q.rows) c.drop_done.ensures.same in
+    let left : c.settle.new.self.rows ≡ drop (settled_front c.count_acks-lost.new.rows.rows) c.count_acks-lost.new.rows.rows = c.settle.ensures.rows ∙ ap (λ (q : Roomy). drop (settled_front q.rows) q.rows) c.drop_done.ensures.same in
+    let is = told_eq a s c.count_acks-lost.new.rows.rows c.settle.new.self.rows (i.forward + c.settle.result) c.drop_done.new.self rows (ap (λ j. i.forward + j) count) left c.drop_done.ensures.left in
     let F : Sender → Flow = λ v. record { id = i.id; options = Rattle.rtmfp_forms.specs.OptionReading.options_in i.options.items; priority = i.priority; sender = v } in
     let v : Sender = sender_of (i.forward + c.settle.result) c.settle.new.self.rows c.drop_done.new.self i.finish i.sent c.args.upto (Some c.args.blocks) i.notice i.order in
     subst (λ (f : Flow). F v ≡ with_sender f (told_by a f.sender)) c.self.view_is (ap F is)
