@@ -141,22 +141,13 @@ none_in_block pending f rows at before to from b near g behind front i lt same =
   | inr ge ↦ behind i (omega (arith, ge)) (near i lt (omega (arith, b, same)))
 ]
 
-blocks_apart : (base at i count : ℕ) → at < count → i < count → count ≤ 139200 → (base + i) / 64 % 2176 ≡ (base + at) / 64 % 2176 → (base + i) / 64 ≡ (base + at) / 64
-blocks_apart base at i count la li few e = elim (cases_lt ((base + i) / 64) ((base + at) / 64)) [
-  | inl less ↦ absurd (omega (arith, less, la, li, few, e))
-  | inr ge ↦ elim (cases_lt ((base + at) / 64) ((base + i) / 64)) [
-    | inl more ↦ absurd (omega (arith, more, la, li, few, e))
-    | inr le ↦ omega (arith, ge, le)
-  ]
-]
-
-pub found_clear : (pending : Pending) (old new : Finder) (rows : List Row) (at : ℕ) → new.base ≡ old.base → at < length rows → length rows ≤ 139200
+pub found_clear : (pending : Pending) (old new : Finder) (rows : List Row) (at : ℕ) → new.base ≡ old.base
     → ((b : ℕ) → b % 2176 ≢ block_at old at % 2176 → bit_of new.words b ≡ bit_of old.words b)
-    → ((i : ℕ) → i < length rows → block_at old i ≡ block_at old at → is_pending pending (row_at rows i).state ≡ false)
+    → ((i : ℕ) → i < length rows → block_at old i % 2176 ≡ block_at old at % 2176 → is_pending pending (row_at rows i).state ≡ false)
     → Finds pending old rows → Finds pending new rows
-found_clear pending old new rows at base there few others none h = λ i lt p.
+found_clear pending old new rows at base others none h = λ i lt p.
     ap (λ n. bit_of new.words ((n + i) / 64)) base
-    ∙ (others (block_at old i) (λ e. let no : true ≡ false = sym p ∙ none i lt (blocks_apart old.base at i (length rows) there lt few e) in cc) ∙ h i lt p)
+    ∙ (others (block_at old i) (λ e. let no : true ≡ false = sym p ∙ none i lt e in cc) ∙ h i lt p)
 
 -- ---- the first that waits
 

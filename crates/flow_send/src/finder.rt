@@ -21,8 +21,8 @@ const MARKS: u64 = 64;
 /// After so many rows blocks use the same marks again.
 const TURN: u64 = 139_264;
 
-/// No two blocks of so many rows share a mark, wherever the first of them begins.
-const APART: usize = 139_200;
+/// After so many blocks the next one has the same mark.
+const SHARED: u64 = 2_176;
 
 /// What a row waits for.
 #[derive(Clone, Copy, Debug, PartialEq, Eq)]
@@ -163,16 +163,52 @@ impl Finder {
         any_of(rows, pending, at.saturating_sub(before), at)
     }
 
-    /// A row waits no longer: the mark of its block goes, unless another row of it waits. Where
-    /// there are more rows than marks tell apart, all stay.
+    /// Whether a row of a block waits so. What isn't among the rows, before them or behind them,
+    /// is cut off.
+    fn any_of_block(&self, rows: &VecDeque<HeldRow>, pending: Pending, block: u64) -> bool
+        ensures { result ≡ false → (i : ℕ) → i < length rows.now.items →
+            block_at self.now i ≡ block →
+            is_pending pending (row_at rows.now.items i).state ≡ false }
+    {
+        let begin = u128::from(block) * BLOCK as u128;
+        let base = u128::from(self.base);
+        let all = rows.len() as u128;
+        let from = begin.saturating_sub(base).min(all) as usize;
+        let to = (begin + BLOCK as u128).saturating_sub(base).min(all) as usize;
+        any_of(rows, pending, from, to)
+    }
+
+    /// Whether a row waits so of any block that has the mark of a row's block. Its own block is
+    /// looked at first, and then each other one, of which there is none among 139,200 rows.
+    fn any_with_mark(&self, rows: &VecDeque<HeldRow>, pending: Pending, at: usize) -> bool
+        requires { at < length rows.now.items }
+        ensures { result ≡ false → (i : ℕ) → i < length rows.now.items →
+            block_at self.now i % 2176 ≡ block_at self.now at % 2176 →
+            is_pending pending (row_at rows.now.items i).state ≡ false }
+    {
+        if self.any_in_block(rows, pending, at) {
+            return true;
+        }
+        let own = self.block(at);
+        let first = self.block(0);
+        let last = self.block(rows.len() - 1);
+        let mut block = first + (own - first) % SHARED;
+        while block <= last {
+            if block != own && self.any_of_block(rows, pending, block) {
+                return true;
+            }
+            block += SHARED;
+        }
+        false
+    }
+
+    /// A row waits no longer: the mark of its block goes, unless another row waits of it, or of
+    /// another block that has the same mark.
     pub fn clear(&mut self, rows: &VecDeque<HeldRow>, pending: Pending, at: usize)
         requires { at < length rows.now.items }
         ensures { Finds pending self.old rows.now.items → Finds pending self.new rows.now.items }
     {
-        if rows.len() > APART {
-            return;
-        }
-        if self.any_in_block(rows, pending, at) {
+        if self.any_with_mark(rows, pending, at) {
             return;
         }
         let block = self.block(at);
