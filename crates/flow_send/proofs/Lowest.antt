@@ -10,7 +10,7 @@ use Rattle.flow_send.specs.Sender.{message_at, without_message, first_number, is
 use Rattle.flow_send.specs.Deadlines.{IsNotBefore}
 use Rattle.flow_send.specs.Steady.{Line}
 use Rattle.flow_send.specs.Messages.{IsFirstFrom, InLine, is_left}
-use Rattle.flow_send.specs.Lows.{block_of, low_at, AreLows, IsFoundIn, IsLowIn, AllInBlocks, overdue_in}
+use Rattle.flow_send.specs.Lows.{block_of, low_at, AreLows, IsFoundIn, IsLowFrom, AllInBlocks, overdue_in}
 use Rattle.flow_send.specs.Marks.{Marked, marked_at, Covers, IsFirstBlock, NoneSpentBefore}
 use Rattle.flow_send.proofs.Marking.{covered}
 use Rattle.flow_send.proofs.Quiet.{not_past, neither, not_before_lower}
@@ -228,15 +228,15 @@ in_without n (x ∷ ws) w i = without_if (x.number == n) i (in_without n ws w)
 pub lows_without : (lows : List ℕ) (n : ℕ) (ws : List Waiting) → AreLows lows ws → AreLows lows (without_message n ws)
 lows_without lows n ws h = λ w i. h w (in_without n ws w i)
 
--- a block's moment is found anew
-pub lows_raised : (old new : List ℕ) (from to block low : ℕ) (ws : List Waiting) → AreLows old ws → AllInBlocks from to ws → to - from ≤ 2056 → from ≤ block → block < to → IsLowIn block ws low → low_at new block ≡ low
+-- a place's moment is found anew, by the first block that uses it
+pub lows_raised : (old new : List ℕ) (from to block low : ℕ) (ws : List Waiting) → AreLows old ws → AllInBlocks from to ws → block < from + 2056 → IsLowFrom block to ws low → low_at new block ≡ low
     → ((b : ℕ) → b % 2056 ≢ block % 2056 → low_at new b ≡ low_at old b) → AreLows new ws
-lows_raised old new from to block low ws h a few lo hi l own others = λ w i.
+lows_raised old new from to block low ws h a first l own others = λ w i.
     let k = a w i in
     elim (cases_eq (block_of w.number % 2056) (block % 2056)) [
       | inl e ↦
-          let same : block_of w.number ≡ block = let k0 = k.0 in let k1 = k.1 in omega (arith, e, k0, k1, few, lo, hi) in
-          subst (λ m. IsNotBefore m w.options.deadline) (sym (ap (low_at new) same ∙ own)) (l w i same)
+          let behind : block ≤ block_of w.number = let k0 = k.0 in omega (arith, e, k0, first) in
+          subst (λ m. IsNotBefore m w.options.deadline) (sym (ap (λ p. get_or new p 18446744073709551615) e ∙ own)) (l w i behind k.1 e)
       | inr ne ↦ subst (λ m. IsNotBefore m w.options.deadline) (sym (others (block_of w.number) ne)) (h w i)
     ]
 

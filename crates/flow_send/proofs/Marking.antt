@@ -13,7 +13,7 @@ use Rattle.flow_send.specs.Messages.{InLine, Reaches, touches, is_left}
 use Rattle.flow_send.specs.Ordered.{AllThere, Rising, NonFalling}
 use Rattle.flow_send.specs.Deadlines.{NoneLimited}
 use Rattle.flow_send.specs.Lows.{block_of, AllInBlocks}
-use Rattle.flow_send.specs.Marks.{Marked, marked_at, is_reached, Noted, AllRows, Covers, is_losing, WillCover, may_lose, Grows, NoneSpentBefore}
+use Rattle.flow_send.specs.Marks.{Marked, marked_at, is_reached, Noted, AllRows, Covers, is_losing, WillCover, may_lose, Grows, NoneSpentBefore, NoneSpentBeside}
 use Rattle.flow_send.proofs.Walking.{in_apart, in_at, at_in}
 
 -- ---- all rows
@@ -106,13 +106,17 @@ covers_same old new ws n rows e c = covers_grown old new ws n rows (λ b h. e b 
 pub covers_quiet : (old new : Marked) (ws : List Waiting) (n : ℕ) (rows : List Row) → ((w : Waiting) → IsIn w ws → is_spent w.options.resends w n rows ≡ false) → Covers old ws n rows → Covers new ws n rows
 covers_quiet old new ws n rows h c = covers_by old new ws n rows (λ w i. inl (h w i)) c
 
-pub covers_cleared : (old new : Marked) (from to end block : ℕ) (ws : List Waiting) (n : ℕ) (rows : List Row) → AllInBlocks from to ws → to - from ≤ 2056 → from ≤ block → block < end → end ≤ to → NoneSpentBefore end n rows ws
+pub covers_cleared : (old new : Marked) (from end block : ℕ) (ws : List Waiting) (n : ℕ) (rows : List Row) → from ≤ block → block < end → NoneSpentBeside from end n rows ws
     → ((b : ℕ) → b % 2056 ≢ block % 2056 → marked_at old b ≡ true → marked_at new b ≡ true) → Covers old ws n rows → Covers new ws n rows
-covers_cleared old new from to end block ws n rows a few lo hi le quiet others c =
-    covers_by old new ws n rows (λ w i. let k = a w i in elim (cases_eq (block_of w.number % 2056) (block % 2056)) [
-      | inl e ↦ inl (quiet w i (let k0 = k.0 in let k1 = k.1 in omega (arith, e, k0, k1, few, lo, hi, le)))
+covers_cleared old new from end block ws n rows lo hi quiet others c =
+    covers_by old new ws n rows (λ w i. elim (cases_eq (block_of w.number % 2056) (block % 2056)) [
+      | inl e ↦ inl (quiet w i block lo hi e)
       | inr ne ↦ inr (others (block_of w.number) ne)
     ]) c
+
+-- behind a block of the last ones, as many as there are places, none uses its place
+pub none_beside : (low from to end : ℕ) (ws : List Waiting) (n : ℕ) (rows : List Row) → AllInBlocks low to ws → to - from ≤ 2056 → NoneSpentBefore end n rows ws → NoneSpentBeside from end n rows ws
+none_beside low from to end ws n rows a few quiet = λ w i b lo hi e. quiet w i (let k = (a w i).1 in omega (arith, e, k, few, lo, hi))
 
 -- ---- other messages
 

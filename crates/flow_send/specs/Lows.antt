@@ -54,6 +54,11 @@ abbrev pub IsLowIn : ℕ → List Waiting → ℕ → Type 0
 IsLowIn block ws low = (w : Waiting) → IsIn w ws → block_of w.number ≡ block →
     IsNotBefore low w.options.deadline
 
+-- nor of those of the blocks behind it and before another that use its place
+abbrev pub IsLowFrom : ℕ → ℕ → List Waiting → ℕ → Type 0
+IsLowFrom block to ws low = (w : Waiting) → IsIn w ws → block ≤ block_of w.number →
+    block_of w.number < to → block_of w.number % 2056 ≡ block % 2056 → IsNotBefore low w.options.deadline
+
 -- each message begins in a block from one to before another
 abbrev pub AllInBlocks : ℕ → ℕ → List Waiting → Type 0
 AllInBlocks from to ws = (w : Waiting) → IsIn w ws →

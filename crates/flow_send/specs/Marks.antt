@@ -81,3 +81,8 @@ IsFirstBlock lows m from to moment (Some g) = (from ≤ g) × (g < to) ×
 abbrev pub NoneSpentBefore : ℕ → ℕ → List Row → List Waiting → Type 0
 NoneSpentBefore end n rows ws = (w : Waiting) → IsIn w ws → block_of w.number < end →
     is_spent w.options.resends w n rows ≡ false
+
+-- of none whose block uses the place of one from one to before another
+abbrev pub NoneSpentBeside : ℕ → ℕ → ℕ → List Row → List Waiting → Type 0
+NoneSpentBeside from end n rows ws = (w : Waiting) → IsIn w ws → (b : ℕ) → from ≤ b → b < end →
+    block_of w.number % 2056 ≡ b % 2056 → is_spent w.options.resends w n rows ≡ false

@@ -7,10 +7,10 @@ ghost use Rattle.std.specs.Option.{is_some};
 ghost use Rattle.flow_send.specs.Sender.{message_at, without_message, first_number, first_overdue};
 ghost use Rattle.flow_send.specs.Acks.{still_waits};
 ghost use Rattle.flow_send.specs.Deadlines.{IsNotBefore, NoneLimited, Unspent, Reach};
-ghost use Rattle.flow_send.specs.Marks.{Covers, Grows, Noted, NoneSpentBefore};
+ghost use Rattle.flow_send.specs.Marks.{Covers, Grows, Noted, NoneSpentBefore, NoneSpentBeside};
 ghost use Rattle.flow_send.specs.Steady.{Line};
 ghost use Rattle.flow_send.specs.Messages.{InLine, OthersWait, keeps, keeps_at};
-ghost use Rattle.flow_send.specs.Lows.{IsFoundIn, IsLowIn, AllInBlocks, overdue_in};
+ghost use Rattle.flow_send.specs.Lows.{IsFoundIn, IsLowIn, IsLowFrom, AllInBlocks, overdue_in};
 
 use crate::lows::{Lows, PLACES, block_of};
 use crate::marks::Marks;
@@ -365,9 +365,25 @@ impl Backlog {
         }
     }
 
-    /// Finds anew the moments of the blocks from one to before another that are before a moment, so
-    /// that they are passed over until the next deadline. Where two blocks may use one place, all
-    /// stays.
+    /// A moment before which no deadline is of the messages of a block, and of those before another
+    /// that use its place after it.
+    fn low_from(&self, to: u64, block: u64) -> u64
+        requires line { InLine 0 self.now }
+        requires few { to < 2 ^ 60 }
+        ensures { IsLowFrom block to self.now result }
+    {
+        let mut low = u64::MAX;
+        let mut sharer = block;
+        while sharer < to {
+            low = low.min(self.low_in(sharer));
+            sharer += PLACES;
+        }
+        low
+    }
+
+    /// Finds anew the moments of the blocks before one that are before a moment, so that they are
+    /// passed over until the next deadline. As many first blocks as there are places use each place,
+    /// so no others are gone through.
     fn raise(&mut self, rows: &Rows, forward: u64, moment: u64, end: u64)
         requires { Line 0 (forward + 1 + length rows.now.rows) self.old }
         ensures { self.new ≡ self.old }
@@ -376,10 +392,7 @@ impl Backlog {
             return;
         }
         let (from, to) = self.blocks(rows, forward);
-        if to.saturating_sub(from) > PLACES {
-            return;
-        }
-        let last = end.min(to);
+        let last = end.min(to).min(from.saturating_add(PLACES));
         let mut block = from;
         while block < last {
             self.raise_block(from, to, moment, block);
@@ -387,23 +400,25 @@ impl Backlog {
         }
     }
 
+    /// Finds anew the moment of a block's place, where it is before one. No block that messages begin
+    /// in uses that place before this block.
     fn raise_block(&mut self, from: u64, to: u64, moment: u64, block: u64)
         requires within { AllInBlocks from to self.old }
-        requires places { to - from ≤ 2056 }
-        requires low { from ≤ block }
-        requires high { block < to }
+        requires few { to < 2 ^ 60 }
+        requires first { block < from + 2056 }
         requires line { InLine 0 self.old }
         ensures { self.new ≡ self.old }
     {
         if self.lows.at(block) >= moment {
             return;
         }
-        let low = self.low_in(block);
+        let low = self.low_from(to, block);
         self.lows.set(block, low);
     }
 
-    /// Takes away the marks of the blocks from one to before another, of which no message was sent
-    /// again as often as its limit allows. Where two blocks may use one place, all stay.
+    /// Takes away the marks of blocks before one, before which no message was sent again as often as
+    /// its limit allows. A mark stays where a block behind that one may use its place, so only the
+    /// last blocks are gone through, as many as there are places.
     fn clear(&self, rows: &Rows, forward: u64, marks: &mut Marks, end: u64)
         requires line { Line 0 (forward + 1 + length rows.now.rows) self.now }
         requires covers { Covers marks.old self.now (forward + 1) rows.now.rows }
@@ -413,32 +428,21 @@ impl Backlog {
         if !marks.any() {
             return;
         }
-        let (from, to) = self.blocks(rows, forward);
-        if to.saturating_sub(from) > PLACES {
-            return;
-        }
+        let (first, to) = self.blocks(rows, forward);
+        let from = first.max(to.saturating_sub(PLACES));
         if end >= to {
             marks.forget_all();
-            self.clear_blocks(rows, forward, marks, from, to, to);
+            self.clear_blocks(rows, forward, marks, from, to);
             return;
         }
-        self.clear_blocks(rows, forward, marks, from, to, end);
+        self.clear_blocks(rows, forward, marks, from, end);
     }
 
-    fn clear_blocks(
-        &self,
-        rows: &Rows,
-        forward: u64,
-        marks: &mut Marks,
-        from: u64,
-        to: u64,
-        end: u64,
-    )
-        requires within { AllInBlocks from to self.now }
-        requires places { to - from ≤ 2056 }
-        requires end { end ≤ to }
+    /// Takes away the marks of the blocks from one to before another, whose places no block uses of
+    /// which a message was sent again as often as its limit allows.
+    fn clear_blocks(&self, rows: &Rows, forward: u64, marks: &mut Marks, from: u64, end: u64)
         requires covers { Covers marks.old self.now (forward + 1) rows.now.rows }
-        requires passed { NoneSpentBefore end (forward + 1) rows.now.rows self.now }
+        requires passed { NoneSpentBeside from end (forward + 1) rows.now.rows self.now }
         ensures { Covers marks.new self.now (forward + 1) rows.now.rows }
     {
         let mut block = from;

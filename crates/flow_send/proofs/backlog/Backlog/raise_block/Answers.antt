@@ -1,5 +1,5 @@
 use Rattle.std.proofs.Common.{◌%◌, sym, subst, arith}
-use Rattle.flow_send.specs.Lows.{AllInBlocks, IsLowIn}
+use Rattle.flow_send.specs.Lows.{AllInBlocks, IsLowFrom}
 use Rattle.flow_send.proofs.Lowest.{lows_raised, inside}
 use Rattle.flow_send.proofs.backlog.Backlog.raise_block.Goals as goal
 
@@ -9,10 +9,10 @@ set-requires c = inside c.self.inside.lows (c.args.block % 2056) 184467440737095
 pub invariant_of-self : goal.invariant_of-self
 invariant_of-self c =
     let i = c.self.inside in
-    let low = subst (λ ws. IsLowIn c.args.block ws c.low_in-low.result) (sym c.self.view_is) c.low_in-low.ensures in
+    let low = subst (λ ws. IsLowFrom c.args.block c.args.to ws c.low_from-low.result) (sym c.self.view_is) c.low_from-low.ensures in
     let within = subst (AllInBlocks c.args.from c.args.to) (sym c.self.view_is) c.requires.within in (
       c.self.invariant.0,
       c.self.invariant.1,
       c.self.invariant.2,
-      lows_raised i.lows c.set.new.self c.args.from c.args.to c.args.block c.low_in-low.result i.messages c.self.invariant.3 within c.requires.places c.requires.low c.requires.high low c.set.ensures.own c.set.ensures.others,
+      lows_raised i.lows c.set.new.self c.args.from c.args.to c.args.block c.low_from-low.result i.messages c.self.invariant.3 within c.requires.first low c.set.ensures.own c.set.ensures.others,
     )
